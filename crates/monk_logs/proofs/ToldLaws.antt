@@ -10,18 +10,15 @@ use Rattle.monk_history.specs.declared.event.Next.TheVariants.{Stay}
 use Rattle.monk_history.specs.Meaning.Choice.{must_stay}
 use Rattle.monk_history.specs.Meaning.Events.{next_of}
 use Rattle.monk_history.specs.Meaning.Monitor.{Monitor}
-use Rattle.monk_history.specs.Meaning.Reasons.{reason_before}
-use Rattle.monk_history.specs.Meaning.Release.{MayCallIn, with_next}
+use Rattle.monk_history.specs.Meaning.Release.{with_next}
 use Rattle.monk_logs.specs.Board.{Board, board_after, board_reason, sight}
 use Rattle.monk_logs.specs.BoardCourse.{BoardCourse, board_told, board_told_next}
-use Rattle.monk_logs.specs.BoardMoves.{board_moved, board_served, chances_on, served_reason, told_on}
+use Rattle.monk_logs.specs.BoardMoves.{board_moved, board_served, served_reason, told_on}
 use Rattle.monk_logs.specs.BoardStand.{board_chosen, board_line_over, board_release_blame, board_told_over}
-use Rattle.monk_logs.specs.Chances.{permits_by}
 use Rattle.monk_logs.specs.declared.blame.Blame.{Blame}
 use Rattle.monk_logs.specs.declared.text.line.LogLine.{LogLine}
 use Rattle.monk_logs.specs.declared.text.line.LogLine.TheVariants as line
 use Rattle.monk_logs.specs.declared.order.Order.{Order}
-use Rattle.monk_logs.proofs.CourseLaws.Tests.{called_with, names_seats, tests_from_called}
 use Rattle.monk_logs.proofs.MoveLaws.{moved_is, reason_is}
 use Rattle.monk_logs.proofs.StepLaws.{no_act}
 
@@ -51,38 +48,6 @@ stays_with o b x (event.Until s p y) = refl
 stays_with o b x (event.Resume s q) = refl
 stays_with o b x (event.SignalAll s c) = refl
 stays_with o b x (event.SignalWait s c d y) = refl
-
--- ---- what may be called
-
--- a release that may be called may still be called once it has served
-pub served_called : (m : Monitor) (b : Board) (e : Event) → next_of e ≡ Some Stay → MayCallIn m (sight b) e
-    → MayCallIn m (sight (board_served b e)) e
-served_called m b (event.Enter s via) h a = absurd cc
-served_called m b (event.Act s op r) h a = absurd cc
-served_called m b (event.Leave s y) h a =
-    record { in_range = a.in_range; offered = a.offered; in_turn = a.in_turn; in_place = a.in_place }
-served_called m b (event.Wait s c y) h a =
-    record { in_range = a.in_range; offered = a.offered; in_turn = a.in_turn; in_place = a.in_place }
-served_called m b (event.Signal s c y) h a =
-    record { in_range = a.in_range; offered = a.offered; in_turn = a.in_turn; in_place = a.in_place }
-served_called m b (event.SignalLeave s c y) h a =
-    record { in_range = a.in_range; offered = a.offered; in_turn = a.in_turn; in_place = a.in_place }
-served_called m b (event.Until s p y) h a =
-    record { in_range = a.in_range; offered = a.offered; in_turn = a.in_turn; in_place = a.in_place }
-served_called m b (event.Resume s q) h a = absurd cc
-served_called m b (event.SignalAll s c) h a = absurd cc
-served_called m b (event.SignalWait s c d y) h a =
-    record { in_range = a.in_range; offered = a.offered; in_turn = a.in_turn; in_place = a.in_place }
-
--- with a choice that is permitted it fails no test
-pub told_allowed : (o : Order) (m : Monitor) (b : Board) (e f : Event) (x : Next) (stays : Bool)
-    → MayCallIn m (sight b) e → names_seats m x ≡ true → f ≡ with_next x e
-    → true ≡ permits_by m.kind stays (chances_on o m.object b) f → 0 ≡ served_reason o m stays b (with_next x e)
-told_allowed o m b e f x stays called names is permitted =
-    sym (tests_from_called m (sight b) (with_next x e) (called_with m (sight b) e x called names))
-    ∙ ap (λ (p : Bool). reason_before (cond p 0 6) m (sight b) (with_next x e)) permitted
-    ∙ ap (λ (h : Event). reason_before (cond (permits_by m.kind stays (chances_on o m.object b) h) 0 6) m
-    (sight b) (with_next x e)) is
 
 -- ---- the choice that the line tells
 

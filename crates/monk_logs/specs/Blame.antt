@@ -67,6 +67,10 @@ blame_of n =
     else if n == 5 then Reply
     else Choice
 
+-- the same of the tests of range and of the call alone, which ask for nothing but the event
+abbrev pub early_blame_of : ℕ → Option Blame
+early_blame_of n = if n == 1 then Some Range else if n == 2 then Some Call else None
+
 -- no seat's timed wait runs out while somebody is active
 abbrev pub lapse_blame : ℕ → ℕ → Blame
 lapse_blame seats s = if nat_lt s seats then Turn else Range

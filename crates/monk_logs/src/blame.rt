@@ -1,10 +1,11 @@
 //! Why a line of a log can't be of a monitor.
 
 ghost use Rattle.std.specs.Prelude.{◌≡◌};
-ghost use Rattle.monk_logs.specs.Blame.{blame_number, blame_of, blame_word};
+ghost use Rattle.monk_audit.specs.Reasons.{number_of};
+ghost use Rattle.monk_logs.specs.Blame.{blame_number, blame_of, blame_word, early_blame_of};
 
 use crate::board::pending::Pending;
-use monk_audit::Verdict;
+use monk_audit::Reason;
 
 /// Why a line can't follow the lines before it: the first of these that applies. They stand in the
 /// order in which a line is tested.
@@ -68,11 +69,25 @@ impl Blame {
         }
     }
 
-    /// The reason that an audit gives against an event.
-    pub(crate) fn of_reason(reason: u8) -> Blame
-        ensures { result ≡ blame_of reason }
+    /// What is to blame if that is the first reason against an event, as far as the event alone tells.
+    pub(crate) fn of_early_reason(reason: Reason) -> Option<Blame>
+        ensures { result ≡ early_blame_of (number_of reason) }
     {
-        match Reason::numbered(reason) {
+        match reason {
+            Reason::Range => Some(Blame::Range),
+            Reason::Call => Some(Blame::Call),
+            Reason::Turn => None,
+            Reason::Place => None,
+            Reason::Reply => None,
+            Reason::Choice => None,
+        }
+    }
+
+    /// The reason that an audit gives against an event.
+    pub(crate) fn of_reason(reason: Reason) -> Blame
+        ensures { result ≡ blame_of (number_of reason) }
+    {
+        match reason {
             Reason::Range => Blame::Range,
             Reason::Call => Blame::Call,
             Reason::Turn => Blame::Turn,

@@ -11,7 +11,7 @@ ghost use Rattle.monk_logs.specs.Stand.{monitor_in};
 use crate::blame::Blame;
 use crate::setting::Setting;
 use crate::text::line::LogLine;
-use monk_audit::{Replay, Verdict};
+use monk_audit::Replay;
 use monk_history::{Event, From3, Next, Via};
 use monk_kinds::Mode;
 use monk_object::Guarded;
@@ -55,9 +55,8 @@ pub(crate) fn early_blame<T: Guarded>(
     ensures { result ≡ early_blame (monitor_in setting T.meaning) event }
 {
     match replay.call_reason(setting.rules, object, setting.conds, event) {
-        Some(Reason::Range) => Some(Blame::Range),
-        Some(Reason::Call) => Some(Blame::Call),
-        Some(Reason::Turn | Reason::Place | Reason::Reply | Reason::Choice) | None => None,
+        Some(reason) => Blame::of_early_reason(reason),
+        None => None,
     }
 }
 

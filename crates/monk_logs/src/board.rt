@@ -7,6 +7,7 @@ ghost use Rattle.monk_history.specs.Meaning.Events.{via_of, seat_of};
 ghost use Rattle.monk_history.specs.Meaning.Monitor.{monitor};
 ghost use Rattle.monk_history.specs.Meaning.Reasons.{fits_object, reason_before};
 ghost use Rattle.monk_history.specs.Meaning.Signallers.{is_empty};
+ghost use Rattle.monk_audit.specs.Reasons.{number_or_0};
 ghost use Rattle.monk_audit.specs.Replay.{seats_in};
 ghost use Rattle.monk_logs.specs.Board as boards;
 ghost use Rattle.monk_logs.specs.Board.{sight};
@@ -37,7 +38,7 @@ use crate::board::item::Item;
 use crate::board::items::unserved_at;
 use crate::board::items_moves::{join, lapse, serve, take_chosen};
 use crate::setting::Setting;
-use monk_audit::Replay;
+use monk_audit::{Reason, Replay};
 use monk_history::Event;
 use monk_object::Guarded;
 use std::alloc::{AllocError, Global};
@@ -66,21 +67,21 @@ impl Board {
         })
     }
 
-    /// The first of the reasons 1 to 4 against an event, or 0.
+    /// The first of the first four reasons against an event, if there is one.
     #[inline(always)]
-    pub(crate) fn call_reason<T: Guarded>(&self, setting: Setting, object: &T, event: Event) -> u8
+    pub(crate) fn call_reason<T: Guarded>(
+        &self,
+        setting: Setting,
+        object: &T,
+        event: Event,
+    ) -> Option<Reason>
         requires sound { IsBoardOf setting.seats setting.conds T.PREDICATES self.now }
         requires first { (via : Via) → via_of event ≡ Some via → via ≡ board_via (board_shown self.now []) }
-        ensures { result ≡ reason_before 0 (monitor_in setting T.meaning)
+        ensures { number_or_0 result ≡ reason_before 0 (monitor_in setting T.meaning)
             (sight (board_shown self.now (T.state object.now))) event }
     {
-        let found = self
-            .rest
-            .call_reason(setting.rules, object, setting.conds, event);
-        match found {
-            Some(reason) => reason.number(),
-            None => 0,
-        }
+        self.rest
+            .call_reason(setting.rules, object, setting.conds, event)
     }
 
     /// Whether nobody waits unserved on the condition.

@@ -4,6 +4,7 @@ ghost use Rattle.std.specs.Prelude.{◌≡◌, ◌==◌, ◌&&◌, ◌++◌, ℕ
 ghost use Rattle.monk_history.specs.Meaning.Events.{next_of};
 ghost use Rattle.monk_history.specs.Meaning.Reasons.{is_open};
 ghost use Rattle.monk_history.specs.Meaning.Release.{MayCallIn};
+ghost use Rattle.monk_audit.specs.Reasons.{number_or_0};
 ghost use Rattle.monk_logs.specs.Board.{sight, waiting_item};
 ghost use Rattle.monk_logs.specs.BoardMoves as moves;
 ghost use Rattle.monk_logs.specs.BoardShown.{IsBoardOf, board_shown, course_or};
@@ -28,12 +29,13 @@ use crate::board::items_moves::join;
 use crate::board::lines::{can_lapse, line_settled};
 use crate::board::needs::Needs;
 use crate::board::pending::Pending;
-use crate::board::steps::{ALLOWED, served_reason};
+use crate::board::steps::served_reason;
 use crate::board::telling::{release_blame, standing_choice, with_next};
 use crate::lapses::Lapses;
 use crate::order::Order;
 use crate::setting::Setting;
 use crate::text::line::LogLine;
+use monk_audit::Reason;
 use monk_history::{Event, Next};
 use monk_object::Guarded;
 use std::alloc::AllocError;
@@ -67,10 +69,10 @@ fn is_gone(order: Order, board: &mut Board, event: Event, seat: u8) -> Result<bo
 }
 
 /// Whether a seat goes on as one whose wait ran out: it can have, and the release may have chosen entry.
-fn is_lapse(is_gone: bool, reason: u8) -> bool
-    ensures { result ≡ (is_gone && reason == 0) }
+fn is_lapse(is_gone: bool, reason: Option<Reason>) -> bool
+    ensures { result ≡ (is_gone && number_or_0 reason == 0) }
 {
-    is_gone && reason == ALLOWED
+    is_gone && reason.is_none()
 }
 
 /// What is to blame of a seat that can't have gone on, by what is to blame of it as it stands and
@@ -133,7 +135,7 @@ fn resume_told<T: Guarded>(
     let stays = board.must_stay(object, event);
     board.serve(event)?;
     let told = with_next(event, standing_choice(board, seat));
-    if served_reason(order, setting, board, object, told, stays) == ALLOWED {
+    if served_reason(order, setting, board, object, told, stays).is_none() {
         return line_chosen(
             order,
             setting,

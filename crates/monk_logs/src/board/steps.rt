@@ -4,6 +4,7 @@ ghost use Rattle.std.specs.Prelude.{◌≡◌, ◌==◌, Ok, Err, Some, None, []
 ghost use Rattle.monk_history.specs.declared.event.Via.{Via};
 ghost use Rattle.monk_history.specs.Meaning.Events.{answered_act, via_of};
 ghost use Rattle.monk_history.specs.Meaning.Reasons.{fits_object};
+ghost use Rattle.monk_audit.specs.Reasons.{number_or_0};
 ghost use Rattle.monk_logs.specs.BoardCourse.{board_via};
 ghost use Rattle.monk_logs.specs.BoardMoves as moves;
 ghost use Rattle.monk_logs.specs.BoardShown.{IsBoardOf, board_shown, course_or};
@@ -16,15 +17,12 @@ use crate::board::choices::permits;
 use crate::board::pending::Pending;
 use crate::order::Order;
 use crate::setting::Setting;
-use monk_audit::{Verdict, replies};
+use monk_audit::{Reason, replies};
 use monk_history::Event;
 use monk_object::Guarded;
 use std::alloc::AllocError;
 
-/// What stands for no test that an event fails.
-pub(crate) const ALLOWED: u8 = 0;
-
-/// The first test that an event fails, or 0, on a board that has served, where it is known whether
+/// The first test that an event fails, if it fails one, on a board that has served, where it is known whether
 /// the event must stay. The reply of an act is not tested.
 #[inline(always)]
 pub(crate) fn served_reason<T: Guarded>(
@@ -34,25 +32,25 @@ pub(crate) fn served_reason<T: Guarded>(
     object: &T,
     event: Event,
     stays: bool,
-) -> u8
+) -> Option<Reason>
     requires sound { IsBoardOf setting.seats setting.conds T.PREDICATES board.now }
     requires first { (via : Via) → via_of event ≡ Some via → via ≡ board_via (board_shown board.now []) }
-    ensures { result ≡ moves.served_reason order (monitor_in setting T.meaning) stays
+    ensures { number_or_0 result ≡ moves.served_reason order (monitor_in setting T.meaning) stays
         (board_shown board.now (T.state object.now)) event }
 {
     let early = board.call_reason(setting, object, event);
-    if early != ALLOWED {
+    if early.is_some() {
         return early;
     }
     if permits(order, setting.rules, board, object, event, stays) {
-        ALLOWED
+        None
     } else {
-        Reason::Choice.number()
+        Some(Reason::Choice)
     }
 }
 
-/// Adds an event that is no act, if it is allowed. Gives the first test that it fails, or 0; where
-/// it fails one, the board is of no further use.
+/// Adds an event that is no act, if it is allowed. Gives the first test that it fails, if it fails
+/// one; then the board is of no further use.
 #[inline(always)]
 fn choose<T: Guarded>(
     order: Order,
@@ -60,24 +58,24 @@ fn choose<T: Guarded>(
     board: &mut Board,
     object: &T,
     event: Event,
-) -> Result<u8, AllocError>
+) -> Result<Option<Reason>, AllocError>
     requires sound { IsBoardOf setting.seats setting.conds T.PREDICATES board.old }
     requires first { (via : Via) → via_of event ≡ Some via → via ≡ board_via (board_shown board.old []) }
     requires fits { fits_object T.CODES T.PREDICATES event ≡ true }
     requires no_act { answered_act event ≡ None }
     ensures chosen { IfOk result
-        (λ r. (if r == 0 then Ok (board_shown board.new (T.state object.now)) else Err r)
+        (λ r. (if number_or_0 r == 0 then Ok (board_shown board.new (T.state object.now)) else Err (number_or_0 r))
         ≡ stands.board_add order (monitor_in setting T.meaning) (board_shown board.old (T.state object.now)) event) }
     ensures sound { OnOk result (IsBoardOf setting.seats setting.conds T.PREDICATES board.new) }
 {
     let stays = board.must_stay(object, event);
     board.serve(event)?;
     let reason = served_reason(order, setting, board, object, event, stays);
-    if reason != ALLOWED {
+    if reason.is_some() {
         return Ok(reason);
     }
     board.settle(setting.alloc, event, stays)?;
-    Ok(ALLOWED)
+    Ok(None)
 }
 
 /// The same of an act, whose reply is tested too.
@@ -88,35 +86,34 @@ fn act<T: Guarded>(
     board: &mut Board,
     object: &mut T,
     event: Event,
-) -> Result<u8, AllocError>
+) -> Result<Option<Reason>, AllocError>
     requires sound { IsBoardOf setting.seats setting.conds T.PREDICATES board.old }
     requires act { is_some (answered_act event) ≡ true }
     ensures done { IfOk result
-        (λ r. (if r == 0 then Ok (board_shown board.new (T.state object.new)) else Err r)
+        (λ r. (if number_or_0 r == 0 then Ok (board_shown board.new (T.state object.new)) else Err (number_or_0 r))
         ≡ stands.board_add order (monitor_in setting T.meaning) (board_shown board.old (T.state object.old)) event) }
     ensures sound { OnOk result (IsBoardOf setting.seats setting.conds T.PREDICATES board.new) }
 {
     let early = board.call_reason(setting, object, event);
-    if early != ALLOWED {
+    if early.is_some() {
         return Ok(early);
     }
     if !replies(object, event) {
-        return Ok(Reason::Reply.number());
+        return Ok(Some(Reason::Reply));
     }
     board.serve(event)?;
     board.settle(setting.alloc, event, false)?;
-    Ok(ALLOWED)
+    Ok(None)
 }
 
 /// What is found of a line that tells an event of which nothing is left to be known.
 #[inline(always)]
-fn settled_by(reason: u8) -> LineVerdict
-    ensures { result ≡ moves.verdict_by reason }
+fn settled_by(reason: Option<Reason>) -> LineVerdict
+    ensures { result ≡ moves.verdict_by (number_or_0 reason) }
 {
-    if reason == ALLOWED {
-        LineVerdict::Fits(Pending::Settled)
-    } else {
-        LineVerdict::Misfits(Blame::of_reason(reason))
+    match reason {
+        None => LineVerdict::Fits(Pending::Settled),
+        Some(reason) => LineVerdict::Misfits(Blame::of_reason(reason)),
     }
 }
 
@@ -177,11 +174,9 @@ pub(crate) fn hold<T: Guarded>(
         ≡ stands.board_hold_over (monitor_in setting T.meaning)
         (board_shown board.now (T.state object.now)) event pending }
 {
-    let reason = board.call_reason(setting, object, event);
-    if reason == ALLOWED {
-        LineVerdict::Fits(pending)
-    } else {
-        LineVerdict::Misfits(Blame::of_reason(reason))
+    match board.call_reason(setting, object, event) {
+        None => LineVerdict::Fits(pending),
+        Some(reason) => LineVerdict::Misfits(Blame::of_reason(reason)),
     }
 }
 

@@ -1,8 +1,7 @@
 //! The line behind a release, whose choice it tells, over a board.
 
-ghost use Rattle.std.specs.Prelude.{◌≡◌, ◌<◌, ℕ, List, Some, Ok, [], All, true, IfOk, nat_lt};
-ghost use Rattle.std.specs.List.{list_all};
-ghost use Rattle.monk_history.specs.Meaning.Events.{named_seat, next_of};
+ghost use Rattle.std.specs.Prelude.{◌≡◌, ◌<◌, ℕ, List, Some, Ok, [], All, true, IfOk};
+ghost use Rattle.monk_history.specs.Meaning.Events.{next_of};
 ghost use Rattle.monk_history.specs.declared.event.Event.{Event};
 ghost use Rattle.monk_history.specs.Meaning.Reasons.{fits_object};
 ghost use Rattle.monk_history.specs.Meaning.Release as releases;
@@ -21,12 +20,12 @@ ghost use Rattle.monk_logs.specs.declared.board.pending.Pending.{Pending};
 use crate::blame::{Blame, LineVerdict};
 use crate::blaming::{early_blame, is_in_place, line_event, may_be_its_turn};
 use crate::board::Board;
-use crate::board::choices::{may_come_ready, may_go, permits};
+use crate::board::choices::{may_come_ready, may_go};
 use crate::board::items::{may_lapse, may_resume, waits, was_served};
 use crate::board::items_moves::join;
 use crate::board::lines::line_settled;
 use crate::board::needs::{Needs, event_needs};
-use crate::board::steps::{ALLOWED, served_reason};
+use crate::board::steps::served_reason;
 use crate::order::Order;
 use crate::setting::Setting;
 use crate::text::line::LogLine;
@@ -215,46 +214,6 @@ pub(crate) fn release_blame<T: Guarded>(
     }
 }
 
-/// Whether each seat that the choice names is one of so many.
-#[inline(always)]
-fn names_seats(seats: u8, next: Next) -> bool
-    ensures { result ≡ list_all (λ j. nat_lt j seats) (named_seat (Some next)) }
-{
-    match next {
-        Next::Stay | Next::Entry => true,
-        Next::Signaller(seat) | Next::Waiter(seat) | Next::Until(seat) => seat < seats,
-    }
-}
-
-/// The first test that a release fails with this choice, or 0. It may be called, so where it may
-/// choose so no other test is left.
-#[inline(always)]
-#[tactic(auto, using(crate::proofs::ToldLaws::told_allowed))]
-fn told_reason<T: Guarded>(
-    order: Order,
-    setting: Setting,
-    board: &Board,
-    object: &T,
-    event: Event,
-    next: Next,
-    stays: bool,
-) -> u8
-    requires sound { IsBoardOf setting.seats setting.conds T.PREDICATES board.now }
-    requires called { MayCallIn (monitor_in setting T.meaning)
-        (sight (board_shown board.now (T.state object.now))) event }
-    requires release { next_of event ≡ Some Next.Stay }
-    ensures { result ≡ moves.served_reason order (monitor_in setting T.meaning) stays
-        (board_shown board.now (T.state object.now)) (releases.with_next next event) }
-{
-    let told = with_next(event, next);
-    if names_seats(setting.seats, next)
-        && permits(order, setting.rules, board, object, told, stays)
-    {
-        return ALLOWED;
-    }
-    served_reason(order, setting, board, object, told, stays)
-}
-
 /// Carries out a release with the choice that the line tells, and gives it so; or else what is to
 /// blame. Then the board and the object are of no further use.
 #[inline(always)]
@@ -287,9 +246,8 @@ pub(crate) fn choose_told<T: Guarded>(
 {
     let stays = board.must_stay(object, event);
     board.serve(event)?;
-    let next = told_next(board, line);
-    let told = with_next(event, next);
-    if told_reason(order, setting, board, object, event, next, stays) != ALLOWED {
+    let told = with_next(event, told_next(board, line));
+    if served_reason(order, setting, board, object, told, stays).is_some() {
         let blame = release_blame(order, setting, board, object, event, stays, line)?;
         return Ok(Err(blame));
     }

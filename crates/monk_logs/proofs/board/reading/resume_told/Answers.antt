@@ -2,6 +2,8 @@ use Rattle.std.proofs.Common.{◌∙◌, sym, ap}
 use Rattle.std.specs.Prelude.{Err}
 use Rattle.monk_history.specs.declared.event.Next.{Next}
 use Rattle.monk_history.specs.Meaning.Release.{with_next}
+use Rattle.monk_audit.specs.Reasons.{number_or_0}
+use Rattle.monk_audit.proofs.PublicLaws.{none_is_0, some_is_not_0}
 use Rattle.monk_logs.specs.Board.{Board}
 use Rattle.monk_logs.specs.BoardMoves.{board_moved, blame_on, choice_on, served_reason}
 use Rattle.monk_logs.specs.BoardShown.{board_shown}
@@ -21,8 +23,8 @@ pub line_chosen-requires-clause-sound : goal.line_chosen-requires-clause-sound
 line_chosen-requires-clause-sound g c = λ lives outlives.
     c.in_ok-serve.ensures.sound c.args.setting.seats c.args.setting.conds g.T.Guarded.PREDICATES c.requires.sound
 
-pub returns-then-served_reason-eq-ALLOWED-clause-judged : goal.returns-then-served_reason-eq-ALLOWED-clause-judged
-returns-then-served_reason-eq-ALLOWED-clause-judged g c =
+pub returns-then-is_none-clause-judged : goal.returns-then-is_none-clause-judged
+returns-then-is_none-clause-judged g c =
     let o = g.T.Guarded.meaning in
     let m = monitor_in c.args.setting o in
     let state = g.T.Guarded.state c.args.object.now in
@@ -35,7 +37,7 @@ returns-then-served_reason-eq-ALLOWED-clause-judged g c =
     ok_same c.line_chosen.result _ _ _
     (told_leads c.args.order m b now c.args.event c.with_next-told.result c.args.seat c.must_stay-stays.result
     served c.requires.release
-    c.must_stay-stays.ensures is c.served_reason.result c.served_reason.ensures c.if-served_reason-eq-ALLOWED.true)
+    c.must_stay-stays.ensures is (number_or_0 c.served_reason.result) c.served_reason.ensures (none_is_0 _ c.if-is_none.ensures))
     c.line_chosen.ensures.judged
 
 pub served_reason-reason-requires-clause-sound : goal.served_reason-reason-requires-clause-sound
@@ -65,10 +67,10 @@ returns-then-is_lapse-clause-judged g c =
     ok_same c.line_chosen-then-is_lapse.result _ _ _
     (ap (λ (y : Board). board_line_over c.args.order m (board_moved stays y entry) (Lapse c.args.seat)) same
     ∙ lapse_leads c.args.order m b now c.args.event c.with_next-told.result c.args.seat stays served c.requires.release
-    c.must_stay-stays.ensures is c.served_reason.result c.served_reason.ensures entry c.with_next-entry.ensures
-    c.served_reason-reason.result c.in_ok-gone.gone c.in_ok-gone.ensures.tells
+    c.must_stay-stays.ensures is (number_or_0 c.served_reason.result) c.served_reason.ensures entry c.with_next-entry.ensures
+    (number_or_0 c.served_reason-reason.result) c.in_ok-gone.gone c.in_ok-gone.ensures.tells
     (c.served_reason-reason.ensures ∙ ap (λ (y : Board). served_reason c.args.order m stays y entry) same)
-    c.if-served_reason-eq-ALLOWED.false (sym c.is_lapse.ensures ∙ c.if-is_lapse.true))
+    (some_is_not_0 _ c.if-is_none.ensures) (sym c.is_lapse.ensures ∙ c.if-is_lapse.true))
     c.line_chosen-then-is_lapse.ensures.judged
 
 pub release_blame-requires-clause-sound : goal.release_blame-requires-clause-sound
@@ -92,8 +94,8 @@ returns-clause-judged g c =
     let stays = c.must_stay-stays.result in
     ap (λ (y : Blame). Err y) c.either_blame.ensures
     ∙ none_leads c.args.order m b now c.args.event c.with_next-told.result c.args.seat stays served c.requires.release
-    c.must_stay-stays.ensures is c.served_reason.result c.served_reason.ensures entry c.with_next-entry.ensures
-    c.served_reason-reason.result c.in_ok-gone.gone c.in_ok-gone.ensures.tells
+    c.must_stay-stays.ensures is (number_or_0 c.served_reason.result) c.served_reason.ensures entry c.with_next-entry.ensures
+    (number_or_0 c.served_reason-reason.result) c.in_ok-gone.gone c.in_ok-gone.ensures.tells
     (c.served_reason-reason.ensures ∙ ap (λ (y : Board). served_reason c.args.order m stays y entry) same)
-    c.if-served_reason-eq-ALLOWED.false c.in_ok-blame.blame (sym c.is_lapse.ensures ∙ c.if-is_lapse.false)
+    (some_is_not_0 _ c.if-is_none.ensures) c.in_ok-blame.blame (sym c.is_lapse.ensures ∙ c.if-is_lapse.false)
     (c.in_ok-blame.ensures ∙ ap (λ (y : Board). blame_on c.args.order m stays y c.args.event (Resume c.args.seat)) same)

@@ -1,5 +1,7 @@
 use Rattle.std.proofs.Common.{◌<◌, ◌∙◌, ℕ, [], false, refl, sym, ap, subst}
 use Rattle.monk_history.specs.Meaning.Events.{seat_of}
+use Rattle.monk_audit.specs.Reasons.{number_or_0}
+use Rattle.monk_audit.proofs.PublicLaws.{none_is_0, some_is_not_0}
 use Rattle.monk_logs.specs.Board.{Board, board_after, board_reason, sight}
 use Rattle.monk_logs.specs.BoardMoves.{board_moved}
 use Rattle.monk_logs.specs.BoardShown.{board_shown}
@@ -12,15 +14,15 @@ pub call_reason-early-requires-clause-first : goal.call_reason-early-requires-cl
 call_reason-early-requires-clause-first g c = λ lives outlives via h.
     no_entrance c.args.event via (board_shown c.args.board.now []) c.requires.act h
 
-pub returns-then-early-ne-ALLOWED-clause-done : goal.returns-then-early-ne-ALLOWED-clause-done
-returns-then-early-ne-ALLOWED-clause-done g c =
+pub returns-then-is_some-clause-done : goal.returns-then-is_some-clause-done
+returns-then-is_some-clause-done g c =
     let o = g.T.Guarded.meaning in
     let m = monitor_in c.args.setting o in
     let b = board_shown c.args.board.now (g.T.Guarded.state c.args.object.now) in
-    not_added c.call_reason-early.result (board_reason c.args.order m b c.args.event) b (board_after o b c.args.event)
-    (early_found c.args.order m b c.args.event c.call_reason-early.result c.call_reason-early.ensures
-    c.if-early-ne-ALLOWED.true)
-    c.if-early-ne-ALLOWED.true
+    not_added (number_or_0 c.call_reason-early.result) (board_reason c.args.order m b c.args.event) b (board_after o b c.args.event)
+    (early_found c.args.order m b c.args.event (number_or_0 c.call_reason-early.result) c.call_reason-early.ensures
+    (some_is_not_0 _ (sym c.if-is_some.ensures)))
+    (some_is_not_0 _ (sym c.if-is_some.ensures))
 
 pub returns-then-not-replies-clause-done : goal.returns-then-not-replies-clause-done
 returns-then-not-replies-clause-done g c =
@@ -28,8 +30,8 @@ returns-then-not-replies-clause-done g c =
     let m = monitor_in c.args.setting o in
     let b = board_shown c.args.board.now (g.T.Guarded.state c.args.object.now) in
     not_added 5 (board_reason c.args.order m b c.args.event) b (board_after o b c.args.event)
-    (reply_found c.args.order m b c.args.event c.call_reason-early.result c.call_reason-early.ensures
-    c.if-early-ne-ALLOWED.false
+    (reply_found c.args.order m b c.args.event (number_or_0 c.call_reason-early.result) c.call_reason-early.ensures
+    (none_is_0 _ (sym c.if-is_some.ensures))
     (sym c.replies.ensures.reply ∙ c.if-not-replies.true)) (λ z. absurd cc)
 
 pub settle-requires : goal.settle-requires
@@ -39,7 +41,7 @@ settle-requires g c =
     let sound =
     c.in_ok-serve.ensures.sound c.args.setting.seats c.args.setting.conds g.T.Guarded.PREDICATES c.requires.sound in
     subst (λ (n : ℕ). seat_of c.args.event < n) (sym sound.rest.has_seats)
-    (seat_there m (sight b) c.args.event 0 (sym c.call_reason-early.ensures ∙ c.if-early-ne-ALLOWED.false))
+    (seat_there m (sight b) c.args.event 0 (sym c.call_reason-early.ensures ∙ (none_is_0 _ (sym c.if-is_some.ensures))))
 
 pub returns-clause-done : goal.returns-clause-done
 returns-clause-done g c =
@@ -50,8 +52,8 @@ returns-clause-done g c =
     let b = board_shown c.args.board.now state in
     added 0 (board_reason c.args.order m b c.args.event) (board_shown c.settle.new.self later)
     (board_after o b c.args.event)
-    (act_found c.args.order m b c.args.event c.call_reason-early.result c.call_reason-early.ensures
-    c.if-early-ne-ALLOWED.false
+    (act_found c.args.order m b c.args.event (number_or_0 c.call_reason-early.result) c.call_reason-early.ensures
+    (none_is_0 _ (sym c.if-is_some.ensures))
     c.requires.act (sym c.replies.ensures.reply ∙ c.if-not-replies.false))
     refl
     (c.in_ok-settle.ensures.moved later

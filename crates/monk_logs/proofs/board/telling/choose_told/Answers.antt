@@ -1,13 +1,14 @@
 use Rattle.std.proofs.Common.{◌≡◌, ◌<◌, ◌∙◌, ℕ, true, cond, rules, sym, ap, subst}
 use Rattle.std.specs.Prelude.{Ok}
-use Rattle.monk_history.specs.declared.event.Event.{Event}
 use Rattle.monk_history.specs.declared.event.Next.{Next}
 use Rattle.monk_history.specs.Meaning.Events.{seat_of}
 use Rattle.monk_history.specs.Meaning.Reasons.{fits_object}
-use Rattle.monk_history.specs.Meaning.Release.{MayCallIn, with_next}
+use Rattle.monk_history.specs.Meaning.Release.{with_next}
+use Rattle.monk_audit.specs.Reasons.{number_or_0}
+use Rattle.monk_audit.proofs.PublicLaws.{none_is_0, some_is_not_0}
 use Rattle.monk_logs.specs.Board.{Board, board_after, board_reason, sight}
 use Rattle.monk_logs.specs.BoardCourse.{board_told}
-use Rattle.monk_logs.specs.BoardMoves.{blame_on, board_served, chances_on, served_reason, told_on}
+use Rattle.monk_logs.specs.BoardMoves.{blame_on, board_served, chances_on, told_on}
 use Rattle.monk_logs.specs.BoardShown.{board_shown}
 use Rattle.monk_logs.specs.BoardStand.{board_release_blame}
 use Rattle.monk_logs.specs.Chances.{permits_by}
@@ -15,12 +16,12 @@ use Rattle.monk_logs.specs.Stand.{monitor_in}
 use Rattle.monk_logs.specs.declared.order.Order.TheVariants.{Any}
 use Rattle.monk_logs.proofs.MoveLaws.{object_there, seat_there}
 use Rattle.monk_logs.proofs.NeedLaws.Told.{needs_told}
-use Rattle.monk_logs.proofs.ToldLaws.{served_called, told_found, told_goes, told_here, told_moved, told_stops}
+use Rattle.monk_logs.proofs.ToldLaws.{told_found, told_goes, told_here, told_moved, told_stops}
 use Rattle.monk_logs.proofs.board.telling.choose_told.Goals as goal
-use Rattle.monk_logs.proofs.board.telling.choose_told.Goals.{After-told_reason, After-with_next-told}
+use Rattle.monk_logs.proofs.board.telling.choose_told.Goals.{After-served_reason, After-with_next-told}
 
-pub told_reason-requires-clause-sound : goal.told_reason-requires-clause-sound
-told_reason-requires-clause-sound g c = λ lives outlives.
+pub served_reason-requires-clause-sound : goal.served_reason-requires-clause-sound
+served_reason-requires-clause-sound g c = λ lives outlives.
     c.in_ok-serve.ensures.sound c.args.setting.seats c.args.setting.conds g.T.Guarded.PREDICATES c.requires.sound
 
 pub release_blame-requires-clause-sound : goal.release_blame-requires-clause-sound
@@ -33,48 +34,32 @@ told g c =
     let state = g.T.Guarded.state c.args.object.now in
     c.with_next-told.ensures
     ∙ ap (λ (x : Next). with_next x c.args.event)
-    (c.told_next-next.ensures state ∙ ap (λ (y : Board). told_on y c.args.line) (c.in_ok-serve.ensures.served state)
+    (c.told_next.ensures state ∙ ap (λ (y : Board). told_on y c.args.line) (c.in_ok-serve.ensures.served state)
     ∙ told_here (board_shown c.args.board.now state) c.args.event c.args.line)
 
-reason : (g : _) (c : After-told_reason g) → c.told_reason.result ≡ served_reason c.args.order
-    (monitor_in c.args.setting g.T.Guarded.meaning) c.must_stay-stays.result
-    (board_shown c.serve.new.self (g.T.Guarded.state c.args.object.now)) c.with_next-told.result
-reason g c =
-    c.told_reason.ensures
-    ∙ ap (λ (e : Event). served_reason c.args.order (monitor_in c.args.setting g.T.Guarded.meaning)
-    c.must_stay-stays.result (board_shown c.serve.new.self (g.T.Guarded.state c.args.object.now)) e)
-    (sym c.with_next-told.ensures)
-
-pub told_reason-requires-clause-called : goal.told_reason-requires-clause-called
-told_reason-requires-clause-called g c = λ lives outlives.
-    let m = monitor_in c.args.setting g.T.Guarded.meaning in
-    let state = g.T.Guarded.state c.args.object.now in
-    subst (λ (y : Board). MayCallIn m (sight y) c.args.event) (sym (c.in_ok-serve.ensures.served state))
-    (served_called m (board_shown c.args.board.now state) c.args.event c.requires.release c.requires.called)
-
-found : (g : _) (c : After-told_reason g) → c.with_next-told.result
+found : (g : _) (c : After-served_reason g) → c.with_next-told.result
     ≡ board_told (board_shown c.args.board.now (g.T.Guarded.state c.args.object.now)) c.args.event c.args.line
-    → c.told_reason.result ≡ board_reason c.args.order (monitor_in c.args.setting g.T.Guarded.meaning)
+    → (number_or_0 c.served_reason.result) ≡ board_reason c.args.order (monitor_in c.args.setting g.T.Guarded.meaning)
     (board_shown c.args.board.now (g.T.Guarded.state c.args.object.now))
     (board_told (board_shown c.args.board.now (g.T.Guarded.state c.args.object.now)) c.args.event c.args.line)
 found g c is =
     let state = g.T.Guarded.state c.args.object.now in
     told_found c.args.order (monitor_in c.args.setting g.T.Guarded.meaning) (board_shown c.args.board.now state)
     (board_shown c.serve.new.self state) c.args.event c.with_next-told.result c.args.line c.must_stay-stays.result
-    c.told_reason.result (c.in_ok-serve.ensures.served state) is c.requires.release c.must_stay-stays.ensures
-    (reason g c)
+    (number_or_0 c.served_reason.result) (c.in_ok-serve.ensures.served state) is c.requires.release c.must_stay-stays.ensures
+    c.served_reason.ensures
 
-pub returns-then-told_reason-ne-ALLOWED-clause-chosen : goal.returns-then-told_reason-ne-ALLOWED-clause-chosen
-returns-then-told_reason-ne-ALLOWED-clause-chosen g c =
-    let at = goal.at.returns-then-told_reason-ne-ALLOWED-clause-chosen g c in
+pub returns-then-is_some-clause-chosen : goal.returns-then-is_some-clause-chosen
+returns-then-is_some-clause-chosen g c =
+    let at = goal.at.returns-then-is_some-clause-chosen g c in
     let o = g.T.Guarded.meaning in
     let m = monitor_in c.args.setting o in
     let state = g.T.Guarded.state c.args.object.now in
     let b = board_shown c.args.board.now state in
-    told_stops c.told_reason.result (board_reason c.args.order m b (board_told b c.args.event c.args.line))
+    told_stops (number_or_0 c.served_reason.result) (board_reason c.args.order m b (board_told b c.args.event c.args.line))
     (Ok (board_after o b (board_told b c.args.event c.args.line)))
     c.in_ok-blame.blame (board_release_blame c.args.order m b c.args.event c.args.line)
-    (found g at.After-told_reason (told g at.After-with_next-told)) c.if-told_reason-ne-ALLOWED.true
+    (found g at.After-served_reason (told g at.After-with_next-told)) (some_is_not_0 _ (sym c.if-is_some.ensures))
     (c.in_ok-blame.ensures
     ∙ ap (λ (y : Board). blame_on c.args.order m c.must_stay-stays.result y c.args.event c.args.line)
     (c.in_ok-serve.ensures.served state)
@@ -90,7 +75,7 @@ settle-requires g c =
     subst (λ (n : ℕ). seat_of c.with_next-told.result < n) (sym sound.rest.has_seats)
     (seat_there m (sight b) c.with_next-told.result
     (cond (permits_by m.kind c.must_stay-stays.result (chances_on c.args.order m.object b) c.with_next-told.result) 0 6)
-    (sym (reason g (goal.at.settle-requires g c).After-told_reason) ∙ c.if-told_reason-ne-ALLOWED.false))
+    (sym c.served_reason.ensures ∙ (none_is_0 _ (sym c.if-is_some.ensures))))
 
 pub returns-clause-chosen : goal.returns-clause-chosen
 returns-clause-chosen g c =
@@ -105,10 +90,10 @@ returns-clause-chosen g c =
     ∙ told_moved o b (board_shown c.serve.new.self state) c.args.event c.with_next-told.result c.args.line
     c.must_stay-stays.result
     (c.in_ok-serve.ensures.served state) is c.requires.release c.must_stay-stays.ensures)
-    ∙ told_goes c.told_reason.result (board_reason c.args.order m b (board_told b c.args.event c.args.line))
+    ∙ told_goes (number_or_0 c.served_reason.result) (board_reason c.args.order m b (board_told b c.args.event c.args.line))
     (Ok (board_after o b (board_told b c.args.event c.args.line)))
     (board_release_blame c.args.order m b c.args.event c.args.line)
-    (found g at.After-told_reason is) c.if-told_reason-ne-ALLOWED.false
+    (found g at.After-served_reason is) (none_is_0 _ (sym c.if-is_some.ensures))
 
 pub returns-clause-told : goal.returns-clause-told
 returns-clause-told g c = λ told_event is.
@@ -124,7 +109,7 @@ returns-clause-sound g c = λ told_event is.
     (subst (λ (n : ℕ). fits_object m.object.codes n c.with_next-told.result ≡ true) g.T.Guarded.predicates
     (object_there m (sight b) c.with_next-told.result
     (cond (permits_by m.kind c.must_stay-stays.result (chances_on c.args.order m.object b) c.with_next-told.result) 0 6)
-    (sym (reason g (goal.at.returns-clause-sound g c).After-told_reason) ∙ c.if-told_reason-ne-ALLOWED.false)))
+    (sym c.served_reason.ensures ∙ (none_is_0 _ (sym c.if-is_some.ensures)))))
 
 pub event_needs-requires : goal.event_needs-requires
 event_needs-requires g c =
