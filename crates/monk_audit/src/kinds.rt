@@ -1,8 +1,10 @@
-//! The rules of a kind that is known by its name alone.
+//! Kinds that are known by their names alone: the rules of one, and a header with another.
 
 ghost use Rattle.std.specs.Prelude.{◌≡◌};
 ghost use Rattle.monk_kinds.specs.Names.{rules_named};
+ghost use Rattle.monk_audit.specs.Under.{under};
 
+use monk_history::Header;
 use monk_kinds::{KindName, Npb, Npir, Npis, Npnb, Npqb, Pb, Pir, Pis, Pnb, Pqb, Rules, rules_of};
 
 /// The rules of the kind of that name.
@@ -20,5 +22,18 @@ pub fn rules_by_name(kind: KindName) -> Rules
         KindName::Npir => rules_of::<Npir>(),
         KindName::Pis => rules_of::<Pis>(),
         KindName::Npis => rules_of::<Npis>(),
+    }
+}
+
+/// The header with another kind, by which the same events are judged under that kind.
+///
+/// Its version is that of a new header: what judges takes no notice of it.
+pub fn under(header: &Header, kind: KindName) -> Header
+    ensures { result ≡ under kind header.now }
+{
+    let (seats, conds) = (header.seats(), header.conds());
+    match Header::new(kind, seats, conds, header.object(), header.size()) {
+        Some(header) => header,
+        None => unreachable!(),
     }
 }

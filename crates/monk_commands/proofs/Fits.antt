@@ -22,7 +22,8 @@ use Rattle.monk_audit.specs.Verdict.{IsVerdict, verdict_of}
 use Rattle.monk_audit.specs.declared.verdict.Verdict.{Verdict}
 use Rattle.monk_audit.specs.declared.verdict.Verdict.TheVariants.{Legal, Forbidden}
 use Rattle.monk_commands.specs.Answer.{too_big}
-use Rattle.monk_commands.specs.Fitted.{IsFitText, fit_line, fit_lines, fit_of, fit_reading, fits_some, is_fit, under, verdict_under}
+use Rattle.monk_commands.specs.Fitted.{IsFitText, fit_line, fit_lines, fit_of, fit_reading, fits_some, is_fit, verdict_under}
+use Rattle.monk_audit.specs.Under.{under}
 use Rattle.monk_commands.specs.Legal.{IsTextOf}
 
 -- one of a list that passes the test

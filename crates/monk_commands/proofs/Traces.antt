@@ -1,5 +1,5 @@
 -- Traces grow by a line for each command
-use Rattle.std.proofs.Common.{◌≡◌, ℕ, suc, ◌+◌, List, [], ◌∷◌, ◌++◌, length, refl, sym, ap, subst, ◌∙◌, append_assoc, arith}
+use Rattle.std.proofs.Common.{◌≡◌, ℕ, suc, ◌+◌, List, [], ◌∷◌, ◌++◌, refl, sym, ap, subst, ◌∙◌, append_assoc, arith}
 use Rattle.std.specs.Prelude.{Result, Ok, Err, OnOk, is_ok, if◌then◌else◌}
 use Rattle.std.proofs.lemmas.List.{append-nil}
 use Rattle.monk_object.specs.declared.name.ObjectName.{ObjectName}
@@ -32,50 +32,24 @@ in_line page front shown places end = simp append_assoc
 pub with_seat : (page places seat more : List ℕ) → more ≡ places ++ seat → (page ++ places) ++ seat ≡ page ++ more
 with_seat page places seat more is = append_assoc page places seat ∙ ap (λ (all : List ℕ). page ++ all) (sym is)
 
--- behind these commands and their lines, one more
-pub traced_more : (name : ObjectName) (m : Monitor) (before : ℕ) (s : State) (cs : List (ℕ × Command))
-    (t : State) (lines : List ℕ)
-    (c : ℕ × Command) (a : Answer) (u : State) (number : ℕ)
-    → AreTraced name m before s cs t lines → IsStep m.kind m.object t c.0 c.1 a u → number ≡ before + length cs + 1
-    → AreTraced name m before s (cs ++ c ∷ []) u
-    (lines ++ trace_line name m.conds number c a u (situation m u.floor.history))
-traced_more name m before s [] t lines c a u number are step at =
-    let at_first : number ≡ before + 1 = omega (arith, at) in (
-      a,
-      (
-        u,
-        (
-          [],
-          (
-            subst (λ (w : State). IsStep m.kind m.object w c.0 c.1 a u) are.0 step,
-            (
-              ap (λ (front : List ℕ). front ++ trace_line name m.conds number c a u (situation m u.floor.history)) are.1
-                  ∙ (ap (λ (n : ℕ). trace_line name m.conds n c a u (situation m u.floor.history)) at_first
-                  ∙ sym (append-nil (trace_line name m.conds (before + 1) c a u (situation m u.floor.history)))),
-              (refl, refl),
-            ),
-          ),
-        ),
-      ),
-    )
-traced_more name m before s (d ∷ cs) t lines c a u number are step at =
-    let first = are.1.1.1 in
-    let line = trace_line name m.conds number c a u (situation m u.floor.history) in (
-      are.0,
-      (
-        are.1.0,
-        (
-          are.1.1.0 ++ trace_line name m.conds number c a u (situation m u.floor.history),
-          (
-            first.0,
-            (
-              ap (λ (front : List ℕ). front ++ line) first.1.0
-                  ∙ append_assoc (trace_line name m.conds (before + 1) d are.0 are.1.0
-                  (situation m are.1.0.floor.history))
-                  are.1.1.0 line,
-              traced_more name m (before + 1) are.1.0 cs t are.1.1.0 c a u number first.1.1 step (omega (arith, at)),
-            ),
-          ),
-        ),
-      ),
-    )
+-- the line of a command stands before those of the commands behind it
+pub traced_on : (name : ObjectName) (m : Monitor) (before : ℕ) (s : State) (all cs : List (ℕ × Command))
+    (c : ℕ × Command) (a : Answer) (u last : State) (rest : List ℕ)
+    → all ≡ c ∷ cs → IsStep m.kind m.object s c.0 c.1 a u → AreTraced name m (before + 1) u cs last rest
+    → AreTraced name m before s all last
+    (trace_line name m.conds (before + 1) c a u (situation m u.floor.history) ++ rest)
+traced_on name m before s all cs c a u last rest is step are =
+    subst (λ (l : List (ℕ × Command)). AreTraced name m before s l last
+    (trace_line name m.conds (before + 1) c a u (situation m u.floor.history) ++ rest)) (sym is)
+    (a, (u, (rest, (step, (refl, are)))))
+
+-- where no command is left, the lines are all there are
+pub traced_all : (name : ObjectName) (m : Monitor) (before : ℕ) (s last : State) (all left : List (ℕ × Command))
+    (page : List ℕ)
+    → left ≡ []
+    → ((rest : List ℕ) → AreTraced name m before last left last rest
+    → AreTraced name m 0 s all last (page ++ rest))
+    → AreTraced name m 0 s all last page
+traced_all name m before s last all left page none on =
+    subst (λ (text : List ℕ). AreTraced name m 0 s all last text) (append-nil page)
+    (on [] (subst (λ (l : List (ℕ × Command)). AreTraced name m before last l last []) (sym none) (refl, refl)))

@@ -8,16 +8,13 @@ use Rattle.monk_history.specs.declared.event.Event.{Event}
 use Rattle.monk_history.specs.declared.text.fault.ReadFault.{ReadFault}
 use Rattle.monk_history.specs.Meaning.Legal.{IsLegal}
 use Rattle.monk_history.specs.Meaning.Named.{named_monitor}
-use Rattle.monk_history.specs.Text.{Heading, heading, object_version}
+use Rattle.monk_history.specs.Text.{Heading}
 use Rattle.monk_history.specs.Text.Reading.{History, text_at}
+use Rattle.monk_audit.specs.Under.{under}
 use Rattle.monk_audit.specs.Verdict.{verdict_of}
 use Rattle.monk_audit.specs.declared.verdict.Verdict.{Verdict}
 use Rattle.monk_commands.specs.Answer.{Answer, too_big, unreadable, verdict_answer}
 use Rattle.monk_commands.specs.Legal.{IsTextOf}
-
--- the header with another kind; what judges takes no notice of the version
-abbrev pub under : KindName → Heading → Heading
-under k h = heading (object_version h.object) k h.seats h.conds h.object h.size
 
 -- the verdict on the events under a kind, whatever kind the header names
 abbrev pub verdict_under : Heading → List Event → KindName → Verdict

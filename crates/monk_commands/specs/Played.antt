@@ -12,7 +12,9 @@ use Rattle.monk_history.specs.Meaning.Monitor.{monitor}
 use Rattle.monk_audit.specs.declared.verdict.Verdict.TheVariants.{Legal}
 use Rattle.monk_world.specs.declared.command.Command.{Command}
 use Rattle.monk_world.specs.Play.{HasPlayText, playtext}
+use Rattle.monk_floor.specs.Making.{make_refusal}
 use Rattle.monk_world.specs.Play.Reading.{Play, play_at}
+use Rattle.monk_world.specs.Records.{AreToldIn}
 use Rattle.monk_world.specs.Runs.{opening_state}
 use Rattle.monk_world.specs.State.{State}
 use Rattle.monk_world.specs.Telling.{IsLed}
@@ -27,6 +29,12 @@ pub record IsPlayOf (input : List ℕ) (h : Heading) (budget : ℕ) (commands : 
   pub few : length commands ≤ 2 ^ 25
   pub whole : input ≡ playtext h budget commands
   pub size : h.size ≤ most h.object
+
+-- what was read of a text can be played: a world can be made for it, whose version has its commands
+pub record IsPlayable (p : Play) : Type 0 where
+  pub in_range : make_refusal p.0.seats p.0.conds p.1 ≡ None
+  pub told : AreToldIn p.0.version p.2
+  pub few : length p.2 ≤ 2 ^ 25
 
 -- the input is the text of a play
 abbrev pub IsPlayText : List ℕ → Type 0

@@ -1,6 +1,6 @@
 -- The answer to a history that is shown, by a picture or by a page: with the status of its audit
-use Rattle.std.specs.Prelude.{◌≡◌, ◌≢◌, ℕ, ◌<◌, ◌≤◌, ◌^◌, ◌⊎◌, ◌==◌, Bool, false, true, List, [], ◌++◌, length}
-use Rattle.std.specs.Prelude.{Option, Some, None, Result, Ok, Err, if◌then◌else◌, codes}
+use Rattle.std.specs.Prelude.{◌≡◌, ◌≢◌, ℕ, ◌<◌, ◌≤◌, ◌^◌, ◌⊎◌, Bool, false, true, List, [], ◌++◌, length}
+use Rattle.std.specs.Prelude.{Option, Some, None, Result, Ok, Err, codes}
 use Rattle.std.specs.Fmt.{decimal}
 use Rattle.monk_object.specs.Names.{most}
 use Rattle.monk_history.specs.declared.event.Event.{Event}
@@ -8,6 +8,9 @@ use Rattle.monk_history.specs.declared.text.fault.ReadFault.{ReadFault}
 use Rattle.monk_history.specs.Meaning.Named.{named_monitor}
 use Rattle.monk_history.specs.Text.{Heading}
 use Rattle.monk_history.specs.Text.Reading.{History, text_at}
+use Rattle.monk_audit.specs.Reasons.{numbered}
+use Rattle.monk_audit.specs.declared.reason.Reason.{Reason}
+use Rattle.monk_audit.specs.declared.reason.Reason.TheVariants.{Range, Call, Turn, Place, Reply, Choice}
 use Rattle.monk_audit.specs.Verdict.{verdict_of}
 use Rattle.monk_audit.specs.declared.verdict.Verdict.{Verdict}
 use Rattle.monk_audit.specs.declared.verdict.Verdict.TheVariants.{Legal, Forbidden}
@@ -26,19 +29,18 @@ forbidden_step (Legal n) = None
 forbidden_step (Forbidden step reason) = Some step
 
 -- why a step is forbidden, as a picture says it
-abbrev pub why : ℕ → List ℕ
-why reason =
-    if reason == 1 then codes "range, a number that the monitor doesn't have"
-    else if reason == 2 then codes "call, this kind has no such call"
-    else if reason == 3 then codes "turn, it is not this seat's turn"
-    else if reason == 4 then codes "place, this seat may not come in here"
-    else if reason == 5 then codes "reply, the object replies otherwise"
-    else codes "choice, this kind lets another seat go on"
+abbrev pub why : Reason → List ℕ
+why Range = codes "range, a number that the monitor doesn't have"
+why Call = codes "call, this kind has no such call"
+why Turn = codes "turn, it is not this seat's turn"
+why Place = codes "place, this seat may not come in here"
+why Reply = codes "reply, the object replies otherwise"
+why Choice = codes "choice, this kind lets another seat go on"
 
 -- why a verdict forbids one
 abbrev pub why_of : Verdict → List ℕ
 why_of (Legal n) = []
-why_of (Forbidden step reason) = why reason
+why_of (Forbidden step reason) = why (numbered reason)
 
 -- the answer where the events that are asked for are behind the last that can be shown: which one that is
 abbrev pub behind : ℕ → Answer

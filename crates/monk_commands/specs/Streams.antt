@@ -1,9 +1,11 @@
 -- What a stream does to what its reader has left and its writer holds.
-use Rattle.std.specs.Prelude.{◌≡◌, ℕ, ◌+◌, ◌<◌, ◌≤◌, ◌^◌, ◌⊎◌, List, Option, IfSome}
-use Rattle.std.specs.Io.KnownBytes.{Appends}
+use Rattle.std.specs.Prelude.{◌≡◌, ℕ, ◌+◌, ◌<◌, ◌≤◌, ◌^◌, ◌⊎◌, false, true, List, Option, IfSome, Result, OnOk, IsErrOf}
+use Rattle.std.specs.Io.KnownBytes.{Appends, IsAtEnd}
 use Rattle.monk_history.specs.declared.text.device.Device.{Device}
-use Rattle.monk_history.specs.Text.Device.{reads_of, bytes_of}
+use Rattle.monk_history.specs.Text.Device.{reads_of, bytes_of, has_failed, inner_of}
 use Rattle.monk_commands.specs.Answer.{Answer}
+use Rattle.monk_commands.specs.declared.fault.StreamFault.{StreamFault}
+use Rattle.monk_commands.specs.declared.fault.StreamFault.TheVariants.{File, Memory}
 
 -- known input and output: the status and the appended line are the answer's
 abbrev pub Answers : (List ℕ → Answer) → Option (List ℕ) → Option (List ℕ) → Option (List ℕ) → ℕ → Type 0
@@ -18,3 +20,30 @@ pub record IsYoung {R : Type 0} (d : Device R) : Type 0 where
 -- the reads or the bytes that an input may take were used up
 abbrev pub IsPastBound : {R : Type 0} → Device R → Device R → Type 0
 IsPastBound old new = (reads_of old + 2 ^ 31 ≤ reads_of new) ⊎ (bytes_of old + 2 ^ 31 < bytes_of new)
+
+-- how a call leaves a reader of which nothing had failed: it has read all where it went well; where
+-- it tells of a file, a read failed or the input was too long, and where of memory, no read failed
+pub record IsReading {R T : Type 0} (remaining : R → Option (List ℕ)) (old new : Device R)
+    (result : Result T StreamFault) : Type 0 where
+  pub all_read : OnOk result (IsAtEnd (remaining (inner_of new)))
+  pub sound : OnOk result (has_failed new ≡ false)
+  pub file : IsErrOf result File → IsYoung old → (has_failed new ≡ true) ⊎ IsPastBound old new
+  pub memory : IsErrOf result Memory → has_failed new ≡ false
+  pub reads : reads_of new ≤ reads_of old + 2 ^ 31
+
+-- how a call leaves a writer of which nothing had failed: where it tells of a file, a write failed,
+-- and where of memory, nothing was written
+pub record IsWriting {W T : Type 0} (old new : Device W) (result : Result T StreamFault) : Type 0 where
+  pub file : IsErrOf result File → has_failed new ≡ true
+  pub memory : IsErrOf result Memory → new ≡ old
+
+-- how a stream leaves its reader and its writer, of which nothing had failed: it has read all where
+-- it answers; where it tells of a file, a read or a write failed or the input was too long, and
+-- where of memory, no call failed and nothing was written
+pub record IsStreamOutcome {R W : Type 0} (remaining : R → Option (List ℕ)) (reader reader_after : Device R)
+    (writer writer_after : Device W) (result : Result ℕ StreamFault) : Type 0 where
+  pub all_read : OnOk result (IsAtEnd (remaining (inner_of reader_after)))
+  pub file : IsErrOf result File → IsYoung reader
+      → (has_failed reader_after ≡ true) ⊎ (has_failed writer_after ≡ true) ⊎ IsPastBound reader reader_after
+  pub memory : IsErrOf result Memory → (has_failed reader_after ≡ false) × (writer_after ≡ writer)
+  pub reads : reads_of reader_after ≤ reads_of reader + 2 ^ 31

@@ -1,59 +1,38 @@
 //! The auditor's stream: all of a reader in, by pieces, and one line out.
 
-ghost use Rattle.std.specs.Prelude.{◌≡◌, ◌+◌, ◌<◌, ◌≤◌, ◌^◌, ◌⊎◌, [], false, true, length, IfOk, OnOk, IfSome, IsErrOf, ◌↔◌};
-ghost use Rattle.std.specs.Io.KnownBytes.{IsAtEnd};
+ghost use Rattle.std.specs.Prelude.{◌≡◌, ◌≤◌, false, IfOk, IfSome, ◌↔◌};
 ghost use Rattle.monk_audit.specs.Audits.{owes, IsGoingOn};
 ghost use Rattle.monk_audit.specs.Reading.{same, text_verdict};
 ghost use Rattle.monk_history.specs.Text.Lines.{Gives};
-ghost use Rattle.monk_history.specs.Text.Device.{inner_of, has_failed, reads_of};
+ghost use Rattle.monk_history.specs.Text.Device.{inner_of, has_failed};
 ghost use Rattle.monk_commands.specs.Answer.{answer_of};
 ghost use Rattle.monk_commands.specs.Legal.{IsLegalText, IsForbiddenText};
-ghost use Rattle.monk_commands.specs.Streams.{Answers, IsYoung, IsPastBound};
+ghost use Rattle.monk_commands.specs.Streams.{Answers, IsReading, IsStreamOutcome};
 
 use crate::answer::{answer_to, put};
 use crate::fault::StreamFault;
-use crate::input::{CHUNK, MOST, zeroes};
+use crate::input::{Taker, take_all};
 use monk_audit::{TextAudit, TextVerdict};
 use monk_history::{Device, ReadFault};
-use std::alloc::Global;
+use std::alloc::{AllocError, Global};
 use std::io::{Read, Write};
 
-/// The audit takes all that the reader has, at most 2^31 bytes in at most 2^31 reads, a piece of at
-/// most the chunk's length at a time.
-fn take_all<R: Read>(
-    alloc: Global,
-    reader: &mut Device<R>,
-    chunk: &mut [u8],
-    audit: &mut TextAudit,
-) -> Result<(), StreamFault>
-    requires sound { has_failed reader.old ≡ false }
-    requires room { 0 < length chunk.old }
-    requires goes_on { IsGoingOn audit.old }
-    ensures owed { OnOk result (IfSome (R.remaining (inner_of reader.old))
-        (λ input. owes audit.old input ≡ owes audit.new [])) }
-    ensures goes_on { OnOk result (IsGoingOn audit.new) }
-    ensures end { OnOk result (IsAtEnd (R.remaining (inner_of reader.new))) }
-    ensures file { IsErrOf result StreamFault.File → IsYoung reader.old → (has_failed reader.new ≡ true)
-        ⊎ IsPastBound reader.old reader.new }
-    ensures sound { OnOk result (has_failed reader.new ≡ false) }
-    ensures memory { IsErrOf result StreamFault.Memory → has_failed reader.new ≡ false }
-    ensures reads { reads_of reader.new ≤ reads_of reader.old + 2 ^ 31 }
-{
-    let mut count = 0;
-    for _ in 0..MOST {
-        let Ok(taken) = reader.read(chunk) else {
-            return Err(StreamFault::File);
-        };
-        if taken == 0 {
-            return Ok(());
-        }
-        if taken > MOST - count {
-            return Err(StreamFault::File);
-        }
-        count += taken;
-        audit.push(alloc, &chunk[..taken])?;
+/// What an audit of all bytes answers.
+impl Taker for TextAudit {
+    ghost use Rattle.std.specs.Prelude.{Result};
+    ghost use Rattle.monk_history.specs.declared.text.fault.ReadFault.{ReadFault};
+    ghost use Rattle.monk_audit.specs.declared.text_verdict.TextVerdict.{TextVerdict};
+    ghost use Rattle.monk_audit.specs.Audits.{owes, IsGoingOn};
+
+    ghost Told = { Result TextVerdict ReadFault };
+
+    ghost tells = { owes };
+
+    ghost is_sound = { IsGoingOn };
+
+    fn take(&mut self, alloc: Global, piece: &[u8]) -> Result<(), AllocError> {
+        self.push(alloc, piece)
     }
-    Err(StreamFault::File)
 }
 
 /// Audits the text that the reader has, at most 2^31 bytes in at most 2^31 reads: what
@@ -66,16 +45,10 @@ fn audit_all<R: Read>(
     requires { has_failed reader.old ≡ false }
     ensures verdict { IfOk result (λ r. IfSome (R.remaining (inner_of reader.old))
         (λ input. Gives same r (text_verdict input))) }
-    ensures end { OnOk result (IsAtEnd (R.remaining (inner_of reader.new))) }
-    ensures file { IsErrOf result StreamFault.File → IsYoung reader.old → (has_failed reader.new ≡ true)
-        ⊎ IsPastBound reader.old reader.new }
-    ensures sound { OnOk result (has_failed reader.new ≡ false) }
-    ensures memory { IsErrOf result StreamFault.Memory → has_failed reader.new ≡ false }
-    ensures reads { reads_of reader.new ≤ reads_of reader.old + 2 ^ 31 }
+    ensures reading { IsReading R.remaining reader.old reader.new result }
 {
-    let mut chunk = zeroes(alloc, CHUNK)?;
     let mut audit = TextAudit::new(alloc);
-    take_all(alloc, reader, &mut chunk, &mut audit)?;
+    take_all(alloc, reader, &mut audit)?;
     Ok(audit.end(alloc))
 }
 
@@ -111,13 +84,7 @@ pub fn audit_stream<R: Read, W: Write>(
     ensures forbidden { IfOk result
         (λ status. IfSome (R.remaining (inner_of reader.old)) (λ input. (status ≡ 1) ↔ IsForbiddenText input)) }
     ensures statuses { IfOk result (λ status. status ≤ 2) }
-    ensures all_read { OnOk result (IsAtEnd (R.remaining (inner_of reader.new))) }
-
-    ensures file { IsErrOf result StreamFault.File → IsYoung reader.old → (has_failed reader.new ≡ true)
-        ⊎ (has_failed writer.new ≡ true) ⊎ IsPastBound reader.old reader.new }
-    // Where memory is told for, no call has failed, and nothing was written.
-    ensures memory { IsErrOf result StreamFault.Memory → (has_failed reader.new ≡ false) × (writer.new ≡ writer.old) }
-    ensures reads { reads_of reader.new ≤ reads_of reader.old + 2 ^ 31 }
+    ensures outcome { IsStreamOutcome R.remaining reader.old reader.new writer.old writer.new result }
 {
     let found = audit_all(alloc, reader)?;
     let answer = answer_to(alloc, found)?;

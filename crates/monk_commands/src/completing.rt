@@ -1,16 +1,16 @@
 //! The completing stream: the text of a log in, the text of a legal history that tells it out, or why there is none.
 
-ghost use Rattle.std.specs.Prelude.{◌≡◌, ◌+◌, ◌≤◌, ◌^◌, ◌⊎◌, ◌↔◌, false, true, length, IfOk, OnOk, IfSome, IsErrOf, Err, OnErr};
+ghost use Rattle.std.specs.Prelude.{◌≡◌, ◌≤◌, ◌^◌, ◌↔◌, false, true, length, IfOk, IfSome, IsErrOf, Err, OnErr};
 ghost use Rattle.std.specs.Prelude.{IsTrue, List};
-ghost use Rattle.std.specs.Io.KnownBytes.{Appends, IsAtEnd};
+ghost use Rattle.std.specs.Io.KnownBytes.{Appends};
 ghost use Rattle.monk_history.specs.declared.event.Event.{Event};
 ghost use Rattle.monk_history.specs.Text.{HasText, is_writable, text};
-ghost use Rattle.monk_history.specs.Text.Device.{inner_of, has_failed, reads_of};
+ghost use Rattle.monk_history.specs.Text.Device.{inner_of, has_failed};
 ghost use Rattle.monk_logs.specs.Log.Reading.{log};
 ghost use Rattle.monk_commands.specs.Completed.{IsAnswerToLog, IsLogAnswer, IsMisfitText, IsOpenText};
 ghost use Rattle.monk_commands.specs.Completed.{completed_heading, misfit_answer};
 ghost use Rattle.monk_commands.specs.Played.{IsFoundLegal};
-ghost use Rattle.monk_commands.specs.Streams.{IsYoung, IsPastBound};
+ghost use Rattle.monk_commands.specs.Streams.{IsStreamOutcome, IsWriting};
 
 use crate::answer::{put, too_big, unreadable};
 use crate::fault::StreamFault;
@@ -100,8 +100,7 @@ fn complete_log<W: Write>(
     ensures answer { IfOk result
         (λ status. IsLogAnswer kind (log header.now lines.now) status
         (Appends (W.contents (inner_of writer.old)) (W.contents (inner_of writer.new)))) }
-    ensures file { IsErrOf result StreamFault.File → has_failed writer.new ≡ true }
-    ensures memory { IsErrOf result StreamFault.Memory → writer.new ≡ writer.old }
+    ensures writing { IsWriting writer.old writer.new result }
 {
     match complete(alloc, header, lines, kind) {
         Ok(Completion::History(events)) => put_history(&header_of(kind, header), &events, writer),
@@ -124,8 +123,7 @@ fn complete_text<W: Write>(
     ensures answer { IfOk result
         (λ status. IsAnswerToLog kind bytes.now status
         (Appends (W.contents (inner_of writer.old)) (W.contents (inner_of writer.new)))) }
-    ensures file { IsErrOf result StreamFault.File → has_failed writer.new ≡ true }
-    ensures memory { IsErrOf result StreamFault.Memory → writer.new ≡ writer.old }
+    ensures writing { IsWriting writer.old writer.new result }
 {
     match read_log(alloc, bytes) {
         Ok((header, lines)) => complete_log(alloc, kind, &header, &lines, writer),
@@ -184,13 +182,7 @@ pub fn complete_stream<R: Read, W: Write>(
         (λ status. status ≡ 0
         → IsFoundLegal (Appends (W.contents (inner_of writer.old)) (W.contents (inner_of writer.new)))) }
     ensures statuses { IfOk result (λ status. status ≤ 2) }
-    ensures all_read { OnOk result (IsAtEnd (R.remaining (inner_of reader.new))) }
-
-    ensures file { IsErrOf result StreamFault.File → IsYoung reader.old → (has_failed reader.new ≡ true)
-        ⊎ (has_failed writer.new ≡ true) ⊎ IsPastBound reader.old reader.new }
-    // Where memory is told for, no call has failed, and nothing was written.
-    ensures memory { IsErrOf result StreamFault.Memory → (has_failed reader.new ≡ false) × (writer.new ≡ writer.old) }
-    ensures reads { reads_of reader.new ≤ reads_of reader.old + 2 ^ 31 }
+    ensures outcome { IsStreamOutcome R.remaining reader.old reader.new writer.old writer.new result }
 {
     let bytes = read_all(alloc, reader)?;
     complete_text(alloc, kind, &bytes, writer)

@@ -1,13 +1,13 @@
 //! The explaining stream: the text of a history in, its verdict, how the monitor stands and what is wrong out.
 
-ghost use Rattle.std.specs.Prelude.{◌≡◌, ◌+◌, ◌≤◌, ◌^◌, ◌⊎◌, false, true, length, IfOk, OnOk, IfSome, IsErrOf, ◌↔◌, Ok, string_bytes};
-ghost use Rattle.std.specs.Io.KnownBytes.{Appends, IsAtEnd};
-ghost use Rattle.monk_history.specs.Text.Device.{inner_of, has_failed, reads_of};
+ghost use Rattle.std.specs.Prelude.{◌≡◌, ◌≤◌, ◌^◌, false, length, IfOk, IfSome, IsErrOf, ◌↔◌, Ok, string_bytes};
+ghost use Rattle.std.specs.Io.KnownBytes.{Appends};
+ghost use Rattle.monk_history.specs.Text.Device.{inner_of, has_failed};
 ghost use Rattle.monk_history.specs.Text.Reading.{history};
 ghost use Rattle.monk_tell.specs.Told.{telling_of};
 ghost use Rattle.monk_commands.specs.Explained.{BeginsAsAudit, IsExplained, IsExplanationOf, told_answer};
 ghost use Rattle.monk_commands.specs.Legal.{IsLegalText, IsForbiddenText};
-ghost use Rattle.monk_commands.specs.Streams.{IsYoung, IsPastBound};
+ghost use Rattle.monk_commands.specs.Streams.{IsStreamOutcome};
 
 use crate::answer::{Answer, put, too_big, unreadable, verdict_answer};
 use crate::fault::StreamFault;
@@ -95,13 +95,7 @@ pub fn explain_stream<R: Read, W: Write>(
     ensures forbidden { IfOk result
         (λ status. IfSome (R.remaining (inner_of reader.old)) (λ input. (status ≡ 1) ↔ IsForbiddenText input)) }
     ensures statuses { IfOk result (λ status. status ≤ 2) }
-    ensures all_read { OnOk result (IsAtEnd (R.remaining (inner_of reader.new))) }
-
-    ensures file { IsErrOf result StreamFault.File → IsYoung reader.old → (has_failed reader.new ≡ true)
-        ⊎ (has_failed writer.new ≡ true) ⊎ IsPastBound reader.old reader.new }
-    // Where memory is told for, no call has failed, and nothing was written.
-    ensures memory { IsErrOf result StreamFault.Memory → (has_failed reader.new ≡ false) × (writer.new ≡ writer.old) }
-    ensures reads { reads_of reader.new ≤ reads_of reader.old + 2 ^ 31 }
+    ensures outcome { IsStreamOutcome R.remaining reader.old reader.new writer.old writer.new result }
 {
     let bytes = read_all(alloc, reader)?;
     put(&answer_to_text(alloc, &bytes)?, writer)

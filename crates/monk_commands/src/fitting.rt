@@ -1,35 +1,24 @@
 //! The fitting stream: the text of a history or of a log in, what it is under each of the ten kinds out.
 
-ghost use Rattle.std.specs.Prelude.{◌≡◌, ◌+◌, ◌≤◌, ◌^◌, ◌⊎◌, ◌++◌, false, true, length, IfOk, OnOk, IfSome, IsErrOf, ◌↔◌};
-ghost use Rattle.std.specs.Io.KnownBytes.{Appends, IsAtEnd};
+ghost use Rattle.std.specs.Prelude.{◌≡◌, ◌≤◌, ◌^◌, ◌⊎◌, ◌++◌, false, length, IfOk, OnOk, IfSome, IsErrOf, ◌↔◌};
+ghost use Rattle.std.specs.Io.KnownBytes.{Appends};
 ghost use Rattle.monk_object.specs.Names.{most};
-ghost use Rattle.monk_history.specs.Text.Device.{inner_of, has_failed, reads_of};
+ghost use Rattle.monk_history.specs.Text.Device.{inner_of, has_failed};
 ghost use Rattle.monk_kinds.specs.Names.{kinds};
-ghost use Rattle.monk_commands.specs.Fitted.{IsFitText, fit_answer, fit_line, fit_lines, fit_of, fits_some, is_fit, under, verdict_under};
+ghost use Rattle.monk_commands.specs.Fitted.{IsFitText, fit_answer, fit_line, fit_lines, fit_of, fits_some, is_fit, verdict_under};
 ghost use Rattle.monk_commands.specs.LogFitted.{IsFitLogText, fit_answer_of, is_log_text};
-ghost use Rattle.monk_commands.specs.Streams.{Answers, IsYoung, IsPastBound};
+ghost use Rattle.monk_commands.specs.Streams.{Answers, IsStreamOutcome, IsWriting};
 
 use crate::answer::{put, too_big, unreadable, verdict_answer};
 use crate::fault::StreamFault;
 use crate::input::read_all;
 use crate::log_fitting::fit_log_text;
-use monk_audit::{AuditFault, Verdict, audit};
+use monk_audit::{AuditFault, Verdict, audit, under};
 use monk_history::{Device, Event, Header, read};
 use monk_kinds::KindName;
 use monk_logs::{Lapses, WaitsFor};
 use std::alloc::Global;
 use std::io::{Read, Write};
-
-/// The header with another kind.
-fn under(header: &Header, kind: KindName) -> Header
-    ensures { result ≡ under kind header.now }
-{
-    let (seats, conds) = (header.seats(), header.conds());
-    match Header::new(kind, seats, conds, header.object(), header.size()) {
-        Some(header) => header,
-        None => unreachable!(),
-    }
-}
 
 /// The verdict on the events under the kind, whatever kind the header names.
 fn verdict_under(
@@ -107,8 +96,7 @@ fn fit<W: Write>(
         (λ status. (status ≡ (fit_answer header.now events.now).status)
         × Appends (W.contents (inner_of writer.old)) (W.contents (inner_of writer.new))
         (fit_answer header.now events.now).text) }
-    ensures file { IsErrOf result StreamFault.File → has_failed writer.new ≡ true }
-    ensures memory { IsErrOf result StreamFault.Memory → writer.new ≡ writer.old }
+    ensures writing { IsWriting writer.old writer.new result }
 {
     if header.size() > header.object().greatest_size() {
         return put(&too_big(alloc)?, writer);
@@ -130,8 +118,7 @@ fn fit_history<W: Write>(
     ensures answer { IfOk result
         (λ status. (status ≡ (fit_of bytes.now).status)
         × Appends (W.contents (inner_of writer.old)) (W.contents (inner_of writer.new)) (fit_of bytes.now).text) }
-    ensures file { IsErrOf result StreamFault.File → has_failed writer.new ≡ true }
-    ensures memory { IsErrOf result StreamFault.Memory → writer.new ≡ writer.old }
+    ensures writing { IsWriting writer.old writer.new result }
 {
     match read(alloc, bytes) {
         Ok((header, events)) => fit(alloc, &header, &events, writer),
@@ -159,8 +146,7 @@ fn fit_text<W: Write>(
         (λ status. (status ≡ (fit_answer_of lapses means.now bytes.now).status)
         × Appends (W.contents (inner_of writer.old)) (W.contents (inner_of writer.new))
         (fit_answer_of lapses means.now bytes.now).text) }
-    ensures file { IsErrOf result StreamFault.File → has_failed writer.new ≡ true }
-    ensures memory { IsErrOf result StreamFault.Memory → writer.new ≡ writer.old }
+    ensures writing { IsWriting writer.old writer.new result }
 {
     if is_log(bytes) {
         fit_log_text(alloc, lapses, means, bytes, writer)
@@ -218,13 +204,7 @@ pub fn fit_stream<R: Read, W: Write>(
         (λ status. IfSome (R.remaining (inner_of reader.old))
         (λ input. (status ≡ 0) ↔ (IsFitText input ⊎ IsFitLogText lapses input))) }
     ensures statuses { IfOk result (λ status. status ≤ 2) }
-    ensures all_read { OnOk result (IsAtEnd (R.remaining (inner_of reader.new))) }
-
-    ensures file { IsErrOf result StreamFault.File → IsYoung reader.old → (has_failed reader.new ≡ true)
-        ⊎ (has_failed writer.new ≡ true) ⊎ IsPastBound reader.old reader.new }
-    // Where memory is told for, no call has failed, and nothing was written.
-    ensures memory { IsErrOf result StreamFault.Memory → (has_failed reader.new ≡ false) × (writer.new ≡ writer.old) }
-    ensures reads { reads_of reader.new ≤ reads_of reader.old + 2 ^ 31 }
+    ensures outcome { IsStreamOutcome R.remaining reader.old reader.new writer.old writer.new result }
 {
     let bytes = read_all(alloc, reader)?;
     fit_text(alloc, lapses, means, &bytes, writer)

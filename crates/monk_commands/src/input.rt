@@ -1,9 +1,8 @@
 //! All that a reader has, within bounds.
 
-ghost use Rattle.std.specs.Prelude.{◌≡◌, ◌+◌, ◌<◌, ◌≤◌, ◌^◌, ◌⊎◌, [], false, true, length, IfOk, OnOk, IfSome, IsErrOf};
-ghost use Rattle.std.specs.Io.KnownBytes.{IsAtEnd};
-ghost use Rattle.monk_history.specs.Text.Device.{inner_of, has_failed, reads_of};
-ghost use Rattle.monk_commands.specs.Streams.{IsYoung, IsPastBound};
+ghost use Rattle.std.specs.Prelude.{◌≡◌, ◌<◌, [], false, length, IfOk, OnOk, IfSome};
+ghost use Rattle.monk_history.specs.Text.Device.{inner_of, has_failed};
+ghost use Rattle.monk_commands.specs.Streams.{IsReading};
 
 use crate::fault::StreamFault;
 use monk_history::Device;
@@ -11,34 +10,69 @@ use std::alloc::{AllocError, Global};
 use std::io::Read;
 
 /// The most bytes of an input, and the most reads for it.
-pub(crate) const MOST: usize = 1 << 31;
+const MOST: usize = 1 << 31;
 
 /// How many bytes are asked for at a time.
-pub(crate) const CHUNK: usize = 1 << 16;
+const CHUNK: usize = 1 << 16;
 
-pub(crate) fn zeroes(alloc: Global, count: usize) -> Result<Vec<u8>, AllocError>
+fn zeroes(alloc: Global, count: usize) -> Result<Vec<u8>, AllocError>
     ensures { IfOk result (λ v. length v.items ≡ count) }
 {
     vec![in alloc; 0u8; count]
 }
 
-/// Reads to the end, at most 2^31 bytes in at most 2^31 reads, a piece of at most the chunk's length at a time.
-fn read_into<R: Read>(
+/// What takes the bytes of an input, by pieces.
+pub(crate) trait Taker {
+    ghost use Rattle.std.specs.Prelude.{ℕ, List, [], OnOk};
+    ghost use Rattle.monk_audit.specs.Pieces.{IsCarried};
+
+    ghost Told: { Type 0 };
+
+    // what it comes to, where these bytes still come
+    ghost tells: { Self → List ℕ → Told };
+
+    // it can take more
+    ghost is_sound: { Self → Type 0 };
+
+    /// Takes the next piece, wherever the input is cut.
+    fn take(&mut self, alloc: Global, piece: &[u8]) -> Result<(), AllocError>
+        requires { is_sound self.old }
+        ensures carried { OnOk result (IsCarried (tells self.old) piece.now (tells self.new) []) }
+        ensures sound { OnOk result (is_sound self.new) };
+}
+
+/// The bytes themselves.
+impl Taker for Vec<u8> {
+    ghost use Rattle.std.specs.Prelude.{ℕ, List, ◌++◌, ⊤};
+
+    ghost Told = { List ℕ };
+
+    ghost tells = { λ v more. v.items ++ more };
+
+    ghost is_sound = { λ _. ⊤ };
+
+    fn take(&mut self, _alloc: Global, piece: &[u8]) -> Result<(), AllocError> {
+        self.extend_from_slice(piece)
+    }
+}
+
+/// Hands on all that the reader has, at most 2^31 bytes in at most 2^31 reads, a piece of at most
+/// the chunk's length at a time.
+fn hand_on<R: Read, T: Taker>(
+    alloc: Global,
     reader: &mut Device<R>,
     chunk: &mut [u8],
-    bytes: &mut Vec<u8>,
+    taker: &mut T,
 ) -> Result<(), StreamFault>
-    requires sound { has_failed reader.old ≡ false }
+    requires works { has_failed reader.old ≡ false }
     requires room { 0 < length chunk.old }
-    requires empty { bytes.old.items ≡ [] }
-    ensures bytes { OnOk result (IfSome (R.remaining (inner_of reader.old)) (λ input. bytes.new.items ≡ input)) }
-    ensures end { OnOk result (IsAtEnd (R.remaining (inner_of reader.new))) }
-    ensures file { IsErrOf result StreamFault.File → IsYoung reader.old → (has_failed reader.new ≡ true)
-        ⊎ IsPastBound reader.old reader.new }
-    ensures sound { OnOk result (has_failed reader.new ≡ false) }
-    ensures memory { IsErrOf result StreamFault.Memory → has_failed reader.new ≡ false }
-    ensures reads { reads_of reader.new ≤ reads_of reader.old + 2 ^ 31 }
+    requires sound { T.is_sound taker.old }
+    ensures told { OnOk result (IfSome (R.remaining (inner_of reader.old))
+        (λ input. T.tells taker.old input ≡ T.tells taker.new [])) }
+    ensures sound { OnOk result (T.is_sound taker.new) }
+    ensures reading { IsReading R.remaining reader.old reader.new result }
 {
+    let mut count = 0;
     for _ in 0..MOST {
         let Ok(taken) = reader.read(chunk) else {
             return Err(StreamFault::File);
@@ -46,12 +80,30 @@ fn read_into<R: Read>(
         if taken == 0 {
             return Ok(());
         }
-        if taken > MOST - bytes.len() {
+        if taken > MOST - count {
             return Err(StreamFault::File);
         }
-        bytes.extend_from_slice(&chunk[..taken])?;
+        count += taken;
+        taker.take(alloc, &chunk[..taken])?;
     }
     Err(StreamFault::File)
+}
+
+/// The taker takes all that the reader has, at most 2^31 bytes in at most 2^31 reads.
+pub(crate) fn take_all<R: Read, T: Taker>(
+    alloc: Global,
+    reader: &mut Device<R>,
+    taker: &mut T,
+) -> Result<(), StreamFault>
+    requires works { has_failed reader.old ≡ false }
+    requires sound { T.is_sound taker.old }
+    ensures told { OnOk result (IfSome (R.remaining (inner_of reader.old))
+        (λ input. T.tells taker.old input ≡ T.tells taker.new [])) }
+    ensures sound { OnOk result (T.is_sound taker.new) }
+    ensures reading { IsReading R.remaining reader.old reader.new result }
+{
+    let mut chunk = zeroes(alloc, CHUNK)?;
+    hand_on(alloc, reader, &mut chunk, taker)
 }
 
 /// All that the reader has, at most 2^31 bytes in at most 2^31 reads.
@@ -61,15 +113,9 @@ pub(crate) fn read_all<R: Read>(
 ) -> Result<Vec<u8>, StreamFault>
     requires { has_failed reader.old ≡ false }
     ensures bytes { IfOk result (λ v. IfSome (R.remaining (inner_of reader.old)) (λ input. v.items ≡ input)) }
-    ensures end { OnOk result (IsAtEnd (R.remaining (inner_of reader.new))) }
-    ensures file { IsErrOf result StreamFault.File → IsYoung reader.old → (has_failed reader.new ≡ true)
-        ⊎ IsPastBound reader.old reader.new }
-    ensures sound { OnOk result (has_failed reader.new ≡ false) }
-    ensures memory { IsErrOf result StreamFault.Memory → has_failed reader.new ≡ false }
-    ensures reads { reads_of reader.new ≤ reads_of reader.old + 2 ^ 31 }
+    ensures reading { IsReading R.remaining reader.old reader.new result }
 {
-    let mut chunk = zeroes(alloc, CHUNK)?;
     let mut bytes = Vec::new(alloc);
-    read_into(reader, &mut chunk, &mut bytes)?;
+    take_all(alloc, reader, &mut bytes)?;
     Ok(bytes)
 }

@@ -1,6 +1,6 @@
 //! The answer to a log that is judged under each of the ten kinds.
 
-ghost use Rattle.std.specs.Prelude.{◌≡◌, ◌≤◌, ◌++◌, false, true, IfOk, OnOk, IsErrOf, string_bytes};
+ghost use Rattle.std.specs.Prelude.{◌≡◌, ◌≤◌, ◌++◌, false, IfOk, OnOk, IsErrOf, string_bytes};
 ghost use Rattle.std.specs.Io.KnownBytes.{Appends};
 ghost use Rattle.monk_kinds.specs.Names.{kinds};
 ghost use Rattle.monk_object.specs.Names.{most};
@@ -11,6 +11,7 @@ ghost use Rattle.monk_commands.specs.LogFitted.{counts_lines, fits_some_kind, lo
 ghost use Rattle.monk_commands.specs.LogFitted.{gone_line, inside_words, log_fit_line, log_fit_lines, log_fit_of, missed_line};
 ghost use Rattle.monk_commands.specs.LogFitted.{missed_words};
 ghost use Rattle.monk_commands.specs.LogFitted.{counts_text, waiting_words};
+ghost use Rattle.monk_commands.specs.Streams.{IsWriting};
 
 use crate::answer::{put, too_big, unreadable};
 use crate::completing::misfit_line;
@@ -215,8 +216,7 @@ fn fit_log<W: Write>(
         (λ status. (status ≡ (log_fit_answer lapses means.now log.now.0 log.now.1).status)
         × Appends (W.contents (inner_of writer.old)) (W.contents (inner_of writer.new))
         (log_fit_answer lapses means.now log.now.0 log.now.1).text) }
-    ensures file { IsErrOf result StreamFault.File → has_failed writer.new ≡ true }
-    ensures memory { IsErrOf result StreamFault.Memory → writer.new ≡ writer.old }
+    ensures writing { IsWriting writer.old writer.new result }
 {
     let header = log.header();
     if header.size() > header.object().greatest_size() {
@@ -244,8 +244,7 @@ pub(crate) fn fit_log_text<W: Write>(
         (λ status. (status ≡ (log_fit_of lapses means.now bytes.now).status)
         × Appends (W.contents (inner_of writer.old)) (W.contents (inner_of writer.new))
         (log_fit_of lapses means.now bytes.now).text) }
-    ensures file { IsErrOf result StreamFault.File → has_failed writer.new ≡ true }
-    ensures memory { IsErrOf result StreamFault.Memory → writer.new ≡ writer.old }
+    ensures writing { IsWriting writer.old writer.new result }
 {
     match LogLines::check(bytes) {
         Ok(log) => fit_log(alloc, lapses, means, &log, writer),

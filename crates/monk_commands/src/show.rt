@@ -1,8 +1,11 @@
 /// What shows a history.
-#[derive(Clone, Copy)]
-pub(crate) enum Show {
-    /// A picture.
+#[derive(Clone, Copy, Debug, PartialEq, Eq)]
+pub enum Show {
+    /// A picture: an SVG text that stands alone, with a lane for each seat and a column for each
+    /// event, where each seat was, and who went on by a release. The first forbidden event is
+    /// framed, with its reason.
     Picture,
-    /// A page with the picture, and with the data of each step.
+    /// A page: an HTML text that stands alone, with that picture, and for each of its steps the
+    /// event, how the monitor stands, and of a release whom it might have chosen.
     Page,
 }

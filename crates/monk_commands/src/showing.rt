@@ -1,22 +1,24 @@
-//! What shows a history: its picture, or its page.
+//! The showing stream: the text of a history in, a picture of it or a page out.
 
-ghost use Rattle.std.specs.Prelude.{◌≡◌, ◌≤◌, ◌^◌, false, true, length, IfOk, IsErrOf, string_bytes};
+ghost use Rattle.std.specs.Prelude.{◌≡◌, ◌≤◌, ◌^◌, false, length, IfOk, IfSome, IsErrOf, string_bytes};
 ghost use Rattle.std.specs.Io.KnownBytes.{Appends};
 ghost use Rattle.monk_object.specs.Names.{most};
 ghost use Rattle.monk_history.specs.Text.Device.{inner_of, has_failed};
 ghost use Rattle.monk_commands.specs.Answer.{verdict_answer};
-ghost use Rattle.monk_commands.specs.Shown.{IsAnsweredBy, IsShowingOf, IsShown, IsShownBy, behind, forbidden_step, shown_text};
-ghost use Rattle.monk_commands.specs.Shown.{why, why_of};
+ghost use Rattle.monk_commands.specs.Shown.{HasAuditStatus, IsAnsweredBy, IsShowingOf, IsShown, IsShownBy, behind};
+ghost use Rattle.monk_commands.specs.Shown.{forbidden_step, shown_text, why, why_of};
+ghost use Rattle.monk_commands.specs.Streams.{IsStreamOutcome, IsWriting};
 
 use crate::answer::{Answer, put, too_big, unreadable};
 use crate::fault::StreamFault;
+use crate::input::read_all;
 use crate::show::Show;
-use monk_audit::{AuditFault, Verdict, audit};
+use monk_audit::{AuditFault, Reason, Verdict, audit};
 use monk_draw::{Window, draw, is_behind, showable};
 use monk_history::{Device, Event, Header, read};
 use monk_page::page;
 use std::alloc::Global;
-use std::io::Write;
+use std::io::{Read, Write};
 
 /// The step that the verdict forbids.
 fn forbidden_step(verdict: Verdict) -> Option<u32>
@@ -29,16 +31,16 @@ fn forbidden_step(verdict: Verdict) -> Option<u32>
 }
 
 /// Why a step is forbidden, as a picture says it.
-fn why(reason: u8) -> &'static str
+fn why(reason: Reason) -> &'static str
     ensures { result.now ≡ why reason }
 {
     match reason {
-        Verdict::RANGE => "range, a number that the monitor doesn't have",
-        Verdict::CALL => "call, this kind has no such call",
-        Verdict::TURN => "turn, it is not this seat's turn",
-        Verdict::PLACE => "place, this seat may not come in here",
-        Verdict::REPLY => "reply, the object replies otherwise",
-        _ => "choice, this kind lets another seat go on",
+        Reason::Range => "range, a number that the monitor doesn't have",
+        Reason::Call => "call, this kind has no such call",
+        Reason::Turn => "turn, it is not this seat's turn",
+        Reason::Place => "place, this seat may not come in here",
+        Reason::Reply => "reply, the object replies otherwise",
+        Reason::Choice => "choice, this kind lets another seat go on",
     }
 }
 
@@ -48,7 +50,7 @@ fn why_of(verdict: Verdict) -> &'static str
 {
     match verdict {
         Verdict::Legal(_) => "",
-        Verdict::Forbidden { reason, .. } => why(reason),
+        Verdict::Forbidden { reason, .. } => why(Reason::numbered(reason)),
     }
 }
 
@@ -114,8 +116,7 @@ fn put_shown<W: Write>(
     ensures answer { IfOk result
         (λ status. IsShownBy show window verdict header.now events.now status
         (Appends (W.contents (inner_of writer.old)) (W.contents (inner_of writer.new)))) }
-    ensures file { IsErrOf result StreamFault.File → has_failed writer.new ≡ true }
-    ensures memory { IsErrOf result StreamFault.Memory → writer.new ≡ writer.old }
+    ensures writing { IsWriting writer.old writer.new result }
 {
     let text = shown_text(alloc, show, header, events, window, verdict)?;
     match writer.write_all(text.as_bytes()) {
@@ -140,8 +141,7 @@ fn put_answer<W: Write>(
     ensures answer { IfOk result
         (λ status. IsAnsweredBy show window verdict header.now events.now status
         (Appends (W.contents (inner_of writer.old)) (W.contents (inner_of writer.new)))) }
-    ensures file { IsErrOf result StreamFault.File → has_failed writer.new ≡ true }
-    ensures memory { IsErrOf result StreamFault.Memory → writer.new ≡ writer.old }
+    ensures writing { IsWriting writer.old writer.new result }
 {
     let last = showable(forbidden_step(verdict), events.len());
     if is_behind(window, last) {
@@ -165,8 +165,7 @@ fn show_history<W: Write>(
     ensures answer { IfOk result
         (λ status. IsShown show window header.now events.now status
         (Appends (W.contents (inner_of writer.old)) (W.contents (inner_of writer.new)))) }
-    ensures file { IsErrOf result StreamFault.File → has_failed writer.new ≡ true }
-    ensures memory { IsErrOf result StreamFault.Memory → writer.new ≡ writer.old }
+    ensures writing { IsWriting writer.old writer.new result }
 {
     match audit(alloc, header, events) {
         Ok(verdict) => put_answer(alloc, show, header, events, window, verdict, writer),
@@ -176,7 +175,7 @@ fn show_history<W: Write>(
 }
 
 /// Answers a text.
-pub(crate) fn show_text<W: Write>(
+fn show_text<W: Write>(
     alloc: Global,
     show: Show,
     bytes: &[u8],
@@ -187,11 +186,55 @@ pub(crate) fn show_text<W: Write>(
     ensures answer { IfOk result
         (λ status. IsShowingOf show window bytes.now status
         (Appends (W.contents (inner_of writer.old)) (W.contents (inner_of writer.new)))) }
-    ensures file { IsErrOf result StreamFault.File → has_failed writer.new ≡ true }
-    ensures memory { IsErrOf result StreamFault.Memory → writer.new ≡ writer.old }
+    ensures writing { IsWriting writer.old writer.new result }
 {
     match read(alloc, bytes) {
         Ok((header, events)) => show_history(alloc, show, &header, &events, window, writer),
         Err(fault) => put(&unreadable(alloc, fault)?, writer),
     }
+}
+
+/// Reads all of the reader, and writes what shows its history. What comes behind the first
+/// forbidden event is not shown. Of the events up to it, or up to the end, those of the window are
+/// shown; without a window the last 200. The status is that of an audit: 0 where the history is
+/// legal, else 1.
+///
+/// Where the reader has no text of a history, the line `unreadable LINE NUMBER WORD` is written
+/// with status 2, where the size is above the object's greatest, `object` with status 2, and where
+/// the window begins behind the last event that can be shown, `window LAST` with status 2 and the
+/// number of that event, which is 0 where there is none.
+///
+/// # Errors
+///
+/// [`StreamFault::File`] where the reader or the writer failed, or where the input has more than 2^31 bytes or takes
+/// more than 2^31 reads. [`StreamFault::Memory`] where a growth was refused.
+///
+/// # Cost
+///
+/// One pass over the text, and two over the events for a picture, or for a page that of
+/// [`monk_page::page`]; memory for the text, for the events and for what is written.
+pub fn show_stream<R: Read, W: Write>(
+    alloc: Global,
+    show: Show,
+    window: Option<Window>,
+    reader: &mut Device<R>,
+    writer: &mut Device<W>,
+) -> Result<u8, StreamFault>
+    requires reader_works { has_failed reader.old ≡ false }
+    requires writer_works { has_failed writer.old ≡ false }
+
+    // What is written, and its status, are the answer to what the reader had: of a history its
+    // picture or its page, byte for byte.
+    ensures answer { IfOk result
+        (λ status. IfSome (R.remaining (inner_of reader.old))
+        (λ input. IsShowingOf show window input status
+        (Appends (W.contents (inner_of writer.old)) (W.contents (inner_of writer.new))))) }
+    // The status is that of an audit, unless events are asked for that can't be shown.
+    ensures status { IfOk result
+        (λ status. IfSome (R.remaining (inner_of reader.old)) (λ input. HasAuditStatus window input status)) }
+    ensures statuses { IfOk result (λ status. status ≤ 2) }
+    ensures outcome { IsStreamOutcome R.remaining reader.old reader.new writer.old writer.new result }
+{
+    let bytes = read_all(alloc, reader)?;
+    show_text(alloc, show, &bytes, window, writer)
 }

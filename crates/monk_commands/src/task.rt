@@ -1,17 +1,17 @@
-ghost use Rattle.std.specs.Prelude.{◌≡◌, ◌+◌, ◌≤◌, ◌^◌, ◌⊎◌, false, true, IfOk, OnOk, IfSome, IsErrOf};
-ghost use Rattle.std.specs.Io.KnownBytes.{Appends, IsAtEnd};
-ghost use Rattle.monk_history.specs.Text.Device.{inner_of, has_failed, reads_of};
-ghost use Rattle.monk_commands.specs.Streams.{IsYoung, IsPastBound};
+ghost use Rattle.std.specs.Prelude.{◌≡◌, ◌≤◌, false, IfOk, IfSome};
+ghost use Rattle.std.specs.Io.KnownBytes.{Appends};
+ghost use Rattle.monk_history.specs.Text.Device.{inner_of, has_failed};
+ghost use Rattle.monk_commands.specs.Streams.{IsStreamOutcome};
 ghost use Rattle.monk_commands.specs.Tasks.{IsTaskAnswer};
 
 use crate::auditing::audit_stream;
 use crate::completing::complete_stream;
-use crate::drawing::draw_stream;
 use crate::explaining::explain_stream;
 use crate::fault::StreamFault;
 use crate::fitting::fit_stream;
-use crate::paging::page_stream;
 use crate::playing::play_stream;
+use crate::show::Show;
+use crate::showing::show_stream;
 use crate::tracing::trace_stream;
 use crate::upgrading::upgrade_stream;
 use monk_draw::Window;
@@ -37,9 +37,9 @@ pub enum Task<'a> {
     Trace,
     /// The verdict on a history, and why, by [`explain_stream`].
     Explain,
-    /// The picture of a history, by [`draw_stream`]: of the events that are asked for.
+    /// The picture of a history, by [`show_stream`]: of the events that are asked for.
     Draw(Option<Window>),
-    /// The page of a history, by [`page_stream`]: of the events that are asked for.
+    /// The page of a history, by [`show_stream`]: of the events that are asked for.
     Page(Option<Window>),
     /// A legal history of a monitor of the kind that tells a log, by [`complete_stream`].
     Complete(KindName),
@@ -73,14 +73,7 @@ impl Task<'_> {
             (λ input. IsTaskAnswer self.entry input status
             (Appends (W.contents (inner_of writer.old)) (W.contents (inner_of writer.new))))) }
         ensures statuses { IfOk result (λ status. status ≤ 2) }
-        ensures all_read { OnOk result (IsAtEnd (R.remaining (inner_of reader.new))) }
-
-        ensures file { IsErrOf result StreamFault.File → IsYoung reader.old → (has_failed reader.new ≡ true)
-            ⊎ (has_failed writer.new ≡ true) ⊎ IsPastBound reader.old reader.new }
-        // Where memory is told for, no call has failed, and nothing was written.
-        ensures memory { IsErrOf result StreamFault.Memory
-            → (has_failed reader.new ≡ false) × (writer.new ≡ writer.old) }
-        ensures reads { reads_of reader.new ≤ reads_of reader.old + 2 ^ 31 }
+        ensures outcome { IsStreamOutcome R.remaining reader.old reader.new writer.old writer.new result }
     {
         match self {
             Task::Audit => audit_stream(alloc, reader, writer),
@@ -89,8 +82,8 @@ impl Task<'_> {
             Task::Fit(lapses, means) => fit_stream(alloc, lapses, means, reader, writer),
             Task::Trace => trace_stream(alloc, reader, writer),
             Task::Explain => explain_stream(alloc, reader, writer),
-            Task::Draw(window) => draw_stream(alloc, window, reader, writer),
-            Task::Page(window) => page_stream(alloc, window, reader, writer),
+            Task::Draw(window) => show_stream(alloc, Show::Picture, window, reader, writer),
+            Task::Page(window) => show_stream(alloc, Show::Page, window, reader, writer),
             Task::Complete(kind) => complete_stream(alloc, kind, reader, writer),
         }
     }

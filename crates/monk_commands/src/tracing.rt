@@ -1,262 +1,20 @@
 //! The tracer's stream: the text of a play in, a line for each of its commands out.
 
-ghost use Rattle.std.specs.Prelude.{◌≡◌, ◌+◌, ◌≤◌, ◌^◌, ◌⊎◌, ◌++◌, false, true, IfOk, OnOk, IfSome, IsErrOf, ◌↔◌, ℕ, List, []};
-ghost use Rattle.std.specs.Prelude.{string_bytes};
-ghost use Rattle.std.specs.Io.KnownBytes.{Appends, IsAtEnd};
+ghost use Rattle.std.specs.Prelude.{◌≡◌, ◌⊎◌, false, IfOk, IfSome, ◌↔◌, ℕ, List};
+ghost use Rattle.std.specs.Io.KnownBytes.{Appends};
 ghost use Rattle.monk_history.specs.Text.{Heading};
-ghost use Rattle.monk_history.specs.Text.Device.{inner_of, has_failed, reads_of};
-ghost use Rattle.monk_world.specs.Board.{state_of_view};
+ghost use Rattle.monk_history.specs.Text.Device.{inner_of, has_failed};
 ghost use Rattle.monk_world.specs.declared.command.Command.{Command};
 ghost use Rattle.monk_commands.specs.Played.{IsAnswerTo, IsPlayOf, IsPlayText, IsTraced};
-ghost use Rattle.monk_commands.specs.Streams.{IsYoung, IsPastBound};
-ghost use Rattle.monk_history.specs.Meaning.Monitor.{monitor};
-ghost use Rattle.monk_audit.specs.Replay.{IsReplayOf, replay_situation};
-ghost use Rattle.monk_floor.specs.View.{empty_floor, monitor_of};
-ghost use Rattle.monk_tell.specs.Standing.{stand};
-ghost use Rattle.monk_tell.specs.declared.stand.Stand.{Stand};
-ghost use Rattle.monk_commands.specs.Following.{IsBehind};
-ghost use Rattle.monk_commands.specs.Traced.{AreTraced, data_part, line_front, places_text, refusal_text};
-ghost use Rattle.monk_commands.specs.Traced.{seat_text, trace_line};
+ghost use Rattle.monk_commands.specs.Streams.{IsStreamOutcome};
 
 use crate::fault::StreamFault;
-use crate::following::step_followed;
 use crate::input::read_all;
-use crate::playing::play_text;
 use crate::report::Report;
-use monk_audit::Replay;
+use crate::reporting::play_text;
 use monk_history::Device;
-use monk_kinds::Kind;
-use monk_object::{Guarded, Listed, ObjectName};
-use monk_tell::{Data, Numbers, Stand, data_numbers, stand_of};
-use monk_world::{Answer, Command, PlayLines, World};
-use std::alloc::{AllocError, Global};
-use std::fmt;
+use std::alloc::Global;
 use std::io::{Read, Write};
-
-/// What is said behind an answer: that the object refused an act, if it did.
-fn refusal(answer: Answer) -> &'static str
-    ensures { result.now ≡ refusal_text answer }
-{
-    match answer {
-        Answer::Reply(0) => " (refused by the object)",
-        _ => "",
-    }
-}
-
-/// What a seat was told, and what it answered.
-#[derive(Drop)]
-struct Told {
-    seat: u8,
-    command: Command,
-    answer: Answer,
-}
-
-impl fmt::Display for Told {
-    ghost use Rattle.std.specs.Prelude.{Some};
-    ghost use Rattle.monk_commands.specs.Traced.{told_text};
-
-    ghost output = { λ t. Some (told_text (t.seat, t.command) t.answer) };
-
-    fn fmt<W: fmt::Write>(&self, f: &mut fmt::Formatter<W>) -> fmt::Result {
-        let refusal = refusal(self.answer);
-        write!(
-            f,
-            "{} {} | {}{refusal}",
-            self.seat, self.command, self.answer
-        )
-    }
-}
-
-/// Where a seat stands, on which queue if it waits inside, and whether the grant is there that it looks for.
-fn put_place<K: Kind, T: Guarded>(
-    page: &mut String,
-    world: &World<K, T>,
-    stand: Stand,
-    seat: u8,
-) -> Result<(), AllocError>
-    ensures { OnOk result
-        ((stands : ℕ → Stand) → stand ≡ stands seat
-        → string_bytes page.new ≡ string_bytes page.old ++ seat_text (state_of_view world.now) stands seat) }
-{
-    if seat > 0 {
-        page.push_str(", ")?;
-    }
-    write!(page, "{}{stand}", world.place(seat))?;
-    if world.is_granted(seat) {
-        page.push_str(" granted")?;
-    }
-    Ok(())
-}
-
-/// The same of each seat.
-#[tactic(auto, unfolding(crate::specs::Traced::places_text))]
-fn put_places<K: Kind, T: Guarded>(
-    alloc: Global,
-    page: &mut String,
-    world: &World<K, T>,
-    replay: &Replay,
-    conds: u8,
-) -> Result<(), AllocError>
-    ensures { OnOk result
-        (string_bytes page.new ≡ string_bytes page.old
-        ++ places_text (state_of_view world.now) (stand conds (replay_situation replay.now []))
-        (state_of_view world.now).floor.seats) }
-{
-    for seat in 0..world.seats() {
-        let stand = stand_of(alloc, replay, conds, seat)?;
-        put_place(page, world, stand, seat)?;
-    }
-    Ok(())
-}
-
-/// The data.
-#[tactic(auto, unfolding(crate::specs::Traced::data_part))]
-fn put_data<T: Listed>(
-    alloc: Global,
-    page: &mut String,
-    name: ObjectName,
-    object: &T,
-) -> Result<(), AllocError>
-    ensures { OnOk result (string_bytes page.new ≡ string_bytes page.old ++ data_part name (T.state object.now)) }
-{
-    let numbers = Numbers(data_numbers(alloc, object)?);
-    write!(page, "data:{} | ", Data(name, &numbers))
-}
-
-/// What stands in a line before the places: the command's number, what it came to, and the words after it.
-#[tactic(auto, unfolding(crate::specs::Traced::line_front))]
-fn put_front<K: Kind, T: Guarded>(
-    page: &mut String,
-    number: usize,
-    told: &Told,
-    world: &World<K, T>,
-) -> Result<(), AllocError>
-    ensures { OnOk result
-        (string_bytes page.new ≡ string_bytes page.old
-        ++ line_front number (told.now.seat, told.now.command) told.now.answer (state_of_view world.now)) }
-{
-    let (drawn, unpassed) = (world.drawn(), world.unpassed());
-    write!(page, "{number} | {told} | t={drawn} n={unpassed} | ")
-}
-
-/// The line of the command of that number, which has brought the world to where it is.
-fn put_line<K: Kind, T: Listed>(
-    alloc: Global,
-    page: &mut String,
-    number: usize,
-    told: &Told,
-    world: &World<K, T>,
-    replay: &Replay,
-    object: &T,
-    name: ObjectName,
-    conds: u8,
-) -> Result<(), AllocError>
-    ensures { OnOk result
-        (string_bytes page.new ≡ string_bytes page.old
-        ++ trace_line name conds number (told.now.seat, told.now.command) told.now.answer (state_of_view world.now)
-        (replay_situation replay.now (T.state object.now))) }
-{
-    put_front(page, number, told, world)?;
-    put_data(alloc, page, name, object)?;
-    put_places(alloc, page, world, replay, conds)?;
-    page.push_str("\n")
-}
-
-/// Carries out the commands in order, and gives the lines of all of them. The replay follows the
-/// world, over an object of its own.
-fn lines_of<K: Kind, T: Listed>(
-    alloc: Global,
-    world: &mut World<K, T>,
-    replay: &mut Replay,
-    object: &mut T,
-    name: ObjectName,
-    conds: u8,
-    commands: &[(u8, Command)],
-) -> Result<String, AllocError>
-    requires behind { IsBehind (monitor_of K.rules T.meaning (state_of_view world.old).floor) replay.old
-        (T.state object.old)
-        (state_of_view world.old).floor.history }
-    requires sound { IsReplayOf (state_of_view world.old).floor.seats conds T.PREDICATES replay.old }
-    requires conds { conds ≡ (state_of_view world.old).floor.conds }
-    ensures { IfOk result
-        (λ page. AreTraced name (monitor_of K.rules T.meaning (state_of_view world.old).floor) 0
-        (state_of_view world.old)
-        commands.now (state_of_view world.new) (string_bytes page)) }
-{
-    let mut page = String::new(alloc);
-    for (index, (seat, command)) in commands.iter().enumerate() {
-        let answer = step_followed(alloc, world, replay, object, conds, *seat, *command)?;
-        let told = Told {
-            seat: *seat,
-            command: *command,
-            answer,
-        };
-        put_line(
-            alloc,
-            &mut page,
-            index + 1,
-            &told,
-            world,
-            replay,
-            object,
-            name,
-            conds,
-        )?;
-    }
-    Ok(page)
-}
-
-/// The commands that are left of a play.
-fn commands_of(alloc: Global, play: PlayLines<'_>) -> Result<Vec<(u8, Command)>, AllocError>
-    ensures { IfOk result (λ v. v.items ≡ play.entry.2) }
-{
-    let mut play = play;
-    let mut commands = Vec::new(alloc);
-    while let Some(told) = play.next() {
-        commands.push(told)?;
-    }
-    Ok(commands)
-}
-
-/// Carries out the commands of the play in order, and writes the lines of all of them. The world
-/// hasn't begun, and the object is one as the world's own is.
-pub(crate) fn put_trace<K: Kind, T: Listed, W: Write>(
-    alloc: Global,
-    world: &mut World<K, T>,
-    object: T,
-    play: PlayLines<'_>,
-    writer: &mut Device<W>,
-) -> Result<(), StreamFault>
-    requires works { has_failed writer.old ≡ false }
-    requires floor { (state_of_view world.old).floor ≡ empty_floor (T.state object) play.0.seats play.0.conds play.1 }
-    ensures traced { OnOk result
-        ((text : List ℕ)
-        × (AreTraced play.entry.0.object
-        (monitor K.rules play.entry.0.seats play.entry.0.conds T.meaning (T.state object)) 0
-        (state_of_view world.old) play.entry.2 (state_of_view world.new) text
-        × Appends (W.contents (inner_of writer.old)) (W.contents (inner_of writer.new)) text)) }
-    ensures file { IsErrOf result StreamFault.File → has_failed writer.new ≡ true }
-    ensures memory { IsErrOf result StreamFault.Memory → writer.new ≡ writer.old }
-{
-    let header = play.header();
-    let commands = commands_of(alloc, play)?;
-    let mut object = object;
-    let (name, seats, conds) = (header.object(), header.seats(), header.conds());
-    let mut replay = Replay::opening(alloc, seats, conds)?;
-    let page = lines_of(
-        alloc,
-        world,
-        &mut replay,
-        &mut object,
-        name,
-        conds,
-        &commands,
-    )?;
-    match writer.write_all(page.as_bytes()) {
-        Ok(()) => Ok(()),
-        Err(_) => Err(StreamFault::File),
-    }
-}
 
 /// Reads all of the reader, plays its commands in order from the start, and writes a line for each
 /// of them, with status 0:
@@ -283,8 +41,8 @@ pub(crate) fn put_trace<K: Kind, T: Listed, W: Write>(
 /// # Cost
 ///
 /// That of [`play_stream`](crate::play_stream), and for each command a line with the place of each
-/// seat, for which each queue is looked through; memory for the list of commands, for all lines and
-/// for the queues beside that of the play.
+/// seat, for which each queue is looked through; memory for all lines and for the queues beside that
+/// of the play.
 pub fn trace_stream<R: Read, W: Write>(
     alloc: Global,
     reader: &mut Device<R>,
@@ -307,13 +65,7 @@ pub fn trace_stream<R: Read, W: Write>(
         (λ input. (h : Heading) (budget : ℕ) (commands : List (ℕ × Command)) → IsPlayOf input h budget commands
         → IsTraced h budget commands (Appends (W.contents (inner_of writer.old)) (W.contents (inner_of writer.new))))) }
     ensures statuses { IfOk result (λ status. (status ≡ 0) ⊎ (status ≡ 2)) }
-    ensures all_read { OnOk result (IsAtEnd (R.remaining (inner_of reader.new))) }
-
-    ensures file { IsErrOf result StreamFault.File → IsYoung reader.old → (has_failed reader.new ≡ true)
-        ⊎ (has_failed writer.new ≡ true) ⊎ IsPastBound reader.old reader.new }
-    // Where memory is told for, no call has failed, and nothing was written.
-    ensures memory { IsErrOf result StreamFault.Memory → (has_failed reader.new ≡ false) × (writer.new ≡ writer.old) }
-    ensures reads { reads_of reader.new ≤ reads_of reader.old + 2 ^ 31 }
+    ensures outcome { IsStreamOutcome R.remaining reader.old reader.new writer.old writer.new result }
 {
     let bytes = read_all(alloc, reader)?;
     play_text(alloc, Report::Trace, &bytes, writer)

@@ -1,11 +1,11 @@
 //! The upgrading stream: the text of a history in, the text of the same events in a version that has every event out.
 
-ghost use Rattle.std.specs.Prelude.{◌≡◌, ◌+◌, ◌≤◌, ◌^◌, ◌⊎◌, ◌↔◌, false, true, IfOk, OnOk, IfSome, IsErrOf, List};
-ghost use Rattle.std.specs.Io.KnownBytes.{Appends, IsAtEnd};
+ghost use Rattle.std.specs.Prelude.{◌≡◌, ◌⊎◌, ◌↔◌, false, IfOk, IfSome, List};
+ghost use Rattle.std.specs.Io.KnownBytes.{Appends};
 ghost use Rattle.monk_history.specs.declared.event.Event.{Event};
 ghost use Rattle.monk_history.specs.Text.{Heading, text, upgraded_heading};
-ghost use Rattle.monk_history.specs.Text.Device.{inner_of, has_failed, reads_of};
-ghost use Rattle.monk_commands.specs.Streams.{Answers, IsYoung, IsPastBound};
+ghost use Rattle.monk_history.specs.Text.Device.{inner_of, has_failed};
+ghost use Rattle.monk_commands.specs.Streams.{Answers, IsStreamOutcome, IsWriting};
 ghost use Rattle.monk_commands.specs.Upgraded.{IsHistoryOf, IsHistoryText, IsUpgraded, upgrade_of};
 
 use crate::answer::{put, unreadable};
@@ -26,8 +26,7 @@ fn upgrade_text<W: Write>(
     ensures answer { IfOk result
         (λ status. (status ≡ (upgrade_of bytes.now).status)
         × Appends (W.contents (inner_of writer.old)) (W.contents (inner_of writer.new)) (upgrade_of bytes.now).text) }
-    ensures file { IsErrOf result StreamFault.File → has_failed writer.new ≡ true }
-    ensures memory { IsErrOf result StreamFault.Memory → writer.new ≡ writer.old }
+    ensures writing { IsWriting writer.old writer.new result }
 {
     match CheckedLines::<Header, Event>::check(bytes, MOST_EVENTS) {
         Ok(lines) => match write_lines(&lines.header().upgraded(), lines, writer) {
@@ -79,13 +78,7 @@ pub fn upgrade_stream<R: Read, W: Write>(
         (λ status. status ≡ 0
         → IsUpgraded (Appends (W.contents (inner_of writer.old)) (W.contents (inner_of writer.new)))) }
     ensures statuses { IfOk result (λ status. (status ≡ 0) ⊎ (status ≡ 2)) }
-    ensures all_read { OnOk result (IsAtEnd (R.remaining (inner_of reader.new))) }
-
-    ensures file { IsErrOf result StreamFault.File → IsYoung reader.old → (has_failed reader.new ≡ true)
-        ⊎ (has_failed writer.new ≡ true) ⊎ IsPastBound reader.old reader.new }
-    // Where memory is told for, no call has failed, and nothing was written.
-    ensures memory { IsErrOf result StreamFault.Memory → (has_failed reader.new ≡ false) × (writer.new ≡ writer.old) }
-    ensures reads { reads_of reader.new ≤ reads_of reader.old + 2 ^ 31 }
+    ensures outcome { IsStreamOutcome R.remaining reader.old reader.new writer.old writer.new result }
 {
     let bytes = read_all(alloc, reader)?;
     upgrade_text(alloc, &bytes, writer)

@@ -25,7 +25,8 @@ use Rattle.serde_json.specs.Written.{has_float, items_have_float, members_have_f
 use Rattle.monk_page.specs.Blame.{blame_json}
 use Rattle.monk_page.specs.Choice.{choice_json, front_json, next_json}
 use Rattle.monk_page.specs.Json.{list_json, number_json, numbers_json, option_json, pair_json}
-use Rattle.monk_page.specs.Kinds.{kind_json, kinds_json, under, verdict_json}
+use Rattle.monk_audit.specs.Under.{under}
+use Rattle.monk_page.specs.Kinds.{kind_json, kinds_json, verdict_json}
 use Rattle.monk_page.specs.Page.{forbidden_json, page_json, shown_blame_json, steps_json, with_counts, with_heading, with_kind, with_steps}
 use Rattle.monk_page.specs.Step.{conditions_json, event_json, ready_json, signallers_json, step_json, untils_json, wait_json}
 use Rattle.monk_page.specs.Step.{waiters_json, with_queues, with_standing}

@@ -2,8 +2,9 @@
 use Rattle.std.specs.Prelude.{codes, List}
 use Rattle.monk_kinds.specs.Names.{kind_word, kinds}
 use Rattle.monk_kinds.specs.declared.name.KindName.{KindName}
+use Rattle.monk_audit.specs.Under.{under}
 use Rattle.monk_audit.specs.Words.{verdict_text}
-use Rattle.monk_history.specs.Text.{Heading, heading, object_version}
+use Rattle.monk_history.specs.Text.{Heading}
 use Rattle.monk_history.specs.declared.event.Event.{Event}
 use Rattle.monk_tell.specs.Told.{Account, account}
 use Rattle.monk_tell.specs.Why.{why_text}
@@ -16,10 +17,6 @@ verdict_json k a =
     object (member (codes "kind") (string (kind_word k))
     (member (codes "verdict") (string (verdict_text a.verdict))
     (member (codes "why") (option_json (λ b. string (why_text b.why)) a.blame) no_members)))
-
--- the heading with another kind; what judges takes no notice of the version
-abbrev pub under : KindName → Heading → Heading
-under k h = heading (object_version h.object) k h.seats h.conds h.object h.size
 
 -- what an audit finds if the monitor is of that kind
 abbrev pub kind_json : Heading → List Event → KindName → Data

@@ -4,25 +4,14 @@ ghost use Rattle.std.specs.Prelude.{◌≡◌, ◌≤◌, ◌<◌, ◌^◌, IfOk
 ghost use Rattle.monk_object.specs.Names.{most};
 ghost use Rattle.monk_tell.specs.Told.{telling_of};
 ghost use Rattle.serde_json.specs.View.{view};
-ghost use Rattle.monk_page.specs.Kinds.{kind_json, kinds_json, under, verdict_json};
+ghost use Rattle.monk_page.specs.Kinds.{kind_json, kinds_json, verdict_json};
 
-use monk_audit::AuditFault;
+use monk_audit::{AuditFault, under};
 use monk_history::{Event, Header};
 use monk_kinds::KindName;
 use monk_tell::{Telling, tell};
 use serde_json::{Value, json};
 use std::alloc::{AllocError, Global};
-
-/// The header with another kind.
-pub(crate) fn under(header: &Header, kind: KindName) -> Header
-    ensures { result ≡ under kind header.now }
-{
-    let (seats, conds) = (header.seats(), header.conds());
-    match Header::new(kind, seats, conds, header.object(), header.size()) {
-        Some(header) => header,
-        None => unreachable!(),
-    }
-}
 
 /// The verdict on a monitor of that kind, and why an event is forbidden.
 fn verdict(alloc: Global, kind: KindName, telling: &Telling) -> Result<Value, AllocError>

@@ -2,7 +2,7 @@
 ghost use Rattle.std.specs.Prelude.{◌<◌};
 
 use super::jobs::Job;
-use monk_commands::{StreamFault, Task, classify_stream, draw_stream, run_stream};
+use monk_commands::{Show, StreamFault, Task, classify_stream, run_stream, show_stream};
 use monk_history::Device;
 use monk_kinds::KindName;
 use monk_logs::Lapses;
@@ -233,8 +233,9 @@ fn pictures_fail_in_turn(rt: HostRuntime) -> Result<(), Fail> {
     let alloc = rt.alloc();
     let input: &[u8] = b"monk 1 PB 1 0 buffer 1\nenter 0 free\nleave 0 entry\n";
     let mut page = Vec::new(alloc);
-    let status = draw_stream(
+    let status = show_stream(
         alloc,
+        Show::Picture,
         None,
         &mut Device::new(input),
         &mut Device::new(&mut page),

@@ -1,6 +1,6 @@
 //! Pictures of known histories.
 
-use monk_commands::draw_stream;
+use monk_commands::{Show, show_stream};
 use monk_draw::Window;
 use monk_history::Device;
 use std::alloc::Global;
@@ -150,7 +150,8 @@ fn is_drawn_from<R: Abort + AllocGlobal>(
     let alloc = rt.alloc();
     let mut page = Vec::new(alloc);
     let mut reader = Device::new(drawing.input);
-    let status = draw_stream(alloc, window, &mut reader, &mut Device::new(&mut page))?;
+    let mut writer = Device::new(&mut page);
+    let status = show_stream(alloc, Show::Picture, window, &mut reader, &mut writer)?;
     Ok(status == drawing.status && shows(str::from_utf8(&page)?, drawing))
 }
 

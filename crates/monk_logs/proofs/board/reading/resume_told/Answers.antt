@@ -37,7 +37,8 @@ returns-then-is_none-clause-judged g c =
     ok_same c.line_chosen.result _ _ _
     (told_leads c.args.order m b now c.args.event c.with_next-told.result c.args.seat c.must_stay-stays.result
     served c.requires.release
-    c.must_stay-stays.ensures is (number_or_0 c.served_reason.result) c.served_reason.ensures (none_is_0 _ c.if-is_none.ensures))
+    c.must_stay-stays.ensures is (number_or_0 c.served_reason.result) c.served_reason.ensures
+    (none_is_0 _ c.if-is_none.ensures))
     c.line_chosen.ensures.judged
 
 pub served_reason-reason-requires-clause-sound : goal.served_reason-reason-requires-clause-sound
@@ -67,7 +68,8 @@ returns-then-is_lapse-clause-judged g c =
     ok_same c.line_chosen-then-is_lapse.result _ _ _
     (ap (λ (y : Board). board_line_over c.args.order m (board_moved stays y entry) (Lapse c.args.seat)) same
     ∙ lapse_leads c.args.order m b now c.args.event c.with_next-told.result c.args.seat stays served c.requires.release
-    c.must_stay-stays.ensures is (number_or_0 c.served_reason.result) c.served_reason.ensures entry c.with_next-entry.ensures
+    c.must_stay-stays.ensures is
+    (number_or_0 c.served_reason.result) c.served_reason.ensures entry c.with_next-entry.ensures
     (number_or_0 c.served_reason-reason.result) c.in_ok-gone.gone c.in_ok-gone.ensures.tells
     (c.served_reason-reason.ensures ∙ ap (λ (y : Board). served_reason c.args.order m stays y entry) same)
     (some_is_not_0 _ c.if-is_none.ensures) (sym c.is_lapse.ensures ∙ c.if-is_lapse.true))
@@ -94,7 +96,8 @@ returns-clause-judged g c =
     let stays = c.must_stay-stays.result in
     ap (λ (y : Blame). Err y) c.either_blame.ensures
     ∙ none_leads c.args.order m b now c.args.event c.with_next-told.result c.args.seat stays served c.requires.release
-    c.must_stay-stays.ensures is (number_or_0 c.served_reason.result) c.served_reason.ensures entry c.with_next-entry.ensures
+    c.must_stay-stays.ensures is
+    (number_or_0 c.served_reason.result) c.served_reason.ensures entry c.with_next-entry.ensures
     (number_or_0 c.served_reason-reason.result) c.in_ok-gone.gone c.in_ok-gone.ensures.tells
     (c.served_reason-reason.ensures ∙ ap (λ (y : Board). served_reason c.args.order m stays y entry) same)
     (some_is_not_0 _ c.if-is_none.ensures) c.in_ok-blame.blame (sym c.is_lapse.ensures ∙ c.if-is_lapse.false)

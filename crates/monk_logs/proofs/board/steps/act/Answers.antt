@@ -19,7 +19,8 @@ returns-then-is_some-clause-done g c =
     let o = g.T.Guarded.meaning in
     let m = monitor_in c.args.setting o in
     let b = board_shown c.args.board.now (g.T.Guarded.state c.args.object.now) in
-    not_added (number_or_0 c.call_reason-early.result) (board_reason c.args.order m b c.args.event) b (board_after o b c.args.event)
+    not_added (number_or_0 c.call_reason-early.result) (board_reason c.args.order m b c.args.event) b
+    (board_after o b c.args.event)
     (early_found c.args.order m b c.args.event (number_or_0 c.call_reason-early.result) c.call_reason-early.ensures
     (some_is_not_0 _ (sym c.if-is_some.ensures)))
     (some_is_not_0 _ (sym c.if-is_some.ensures))

@@ -21,7 +21,8 @@ served_reason-reason-requires-clause-first g c = λ lives outlives via h.
     c.requires.first via h ∙ ap board_via (sym (c.in_ok-serve.ensures.served []))
 
 found : (g : _) (c : After-served_reason-reason g)
-    → (number_or_0 c.served_reason-reason.result) ≡ board_reason c.args.order (monitor_in c.args.setting g.T.Guarded.meaning)
+    → (number_or_0 c.served_reason-reason.result) ≡ board_reason c.args.order
+    (monitor_in c.args.setting g.T.Guarded.meaning)
     (board_shown c.args.board.now (g.T.Guarded.state c.args.object.now)) c.args.event
 found g c =
     let m = monitor_in c.args.setting g.T.Guarded.meaning in

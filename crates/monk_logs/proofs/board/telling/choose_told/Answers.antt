@@ -46,7 +46,8 @@ found g c is =
     let state = g.T.Guarded.state c.args.object.now in
     told_found c.args.order (monitor_in c.args.setting g.T.Guarded.meaning) (board_shown c.args.board.now state)
     (board_shown c.serve.new.self state) c.args.event c.with_next-told.result c.args.line c.must_stay-stays.result
-    (number_or_0 c.served_reason.result) (c.in_ok-serve.ensures.served state) is c.requires.release c.must_stay-stays.ensures
+    (number_or_0 c.served_reason.result)
+    (c.in_ok-serve.ensures.served state) is c.requires.release c.must_stay-stays.ensures
     c.served_reason.ensures
 
 pub returns-then-is_some-clause-chosen : goal.returns-then-is_some-clause-chosen
@@ -56,7 +57,8 @@ returns-then-is_some-clause-chosen g c =
     let m = monitor_in c.args.setting o in
     let state = g.T.Guarded.state c.args.object.now in
     let b = board_shown c.args.board.now state in
-    told_stops (number_or_0 c.served_reason.result) (board_reason c.args.order m b (board_told b c.args.event c.args.line))
+    told_stops (number_or_0 c.served_reason.result)
+    (board_reason c.args.order m b (board_told b c.args.event c.args.line))
     (Ok (board_after o b (board_told b c.args.event c.args.line)))
     c.in_ok-blame.blame (board_release_blame c.args.order m b c.args.event c.args.line)
     (found g at.After-served_reason (told g at.After-with_next-told)) (some_is_not_0 _ (sym c.if-is_some.ensures))
@@ -90,7 +92,8 @@ returns-clause-chosen g c =
     ∙ told_moved o b (board_shown c.serve.new.self state) c.args.event c.with_next-told.result c.args.line
     c.must_stay-stays.result
     (c.in_ok-serve.ensures.served state) is c.requires.release c.must_stay-stays.ensures)
-    ∙ told_goes (number_or_0 c.served_reason.result) (board_reason c.args.order m b (board_told b c.args.event c.args.line))
+    ∙ told_goes (number_or_0 c.served_reason.result)
+    (board_reason c.args.order m b (board_told b c.args.event c.args.line))
     (Ok (board_after o b (board_told b c.args.event c.args.line)))
     (board_release_blame c.args.order m b c.args.event c.args.line)
     (found g at.After-served_reason is) (none_is_0 _ (sym c.if-is_some.ensures))

@@ -6,7 +6,7 @@ use Rattle.monk_world.specs.Board.{state_of_view}
 use Rattle.monk_tell.specs.Standing.{stand}
 use Rattle.monk_commands.specs.Traced.{data_part, line_front, places_text}
 use Rattle.monk_commands.proofs.Traces.{in_line, on_ok_if}
-use Rattle.monk_commands.proofs.tracing.put_line.Goals as goal
+use Rattle.monk_commands.proofs.trace_lines.put_line.Goals as goal
 
 pub returns : goal.returns
 returns g c =

@@ -7,7 +7,7 @@ use Rattle.monk_history.proofs.PublicLaws.Meaning.{situation-none}
 use Rattle.monk_audit.specs.Replay.{IsReplayOf, replay_situation}
 use Rattle.monk_floor.specs.View.{FloorView, monitor_of}
 use Rattle.monk_commands.specs.Following.{IsBehind}
-use Rattle.monk_commands.proofs.tracing.put_trace.Goals as goal
+use Rattle.monk_commands.proofs.trace_lines.put_trace.Goals as goal
 
 pub lines_of-requires-clause-behind : goal.lines_of-requires-clause-behind
 lines_of-requires-clause-behind g c κs within =

@@ -1,18 +1,18 @@
 use Rattle.std.proofs.Common.{◌≡◌, ◌+◌, ◌^◌, ◌<◌, ◌≤◌, length, false}
 use Rattle.monk_history.specs.Text.Device.{inner_of, has_failed, reads_of, bytes_of}
-use Rattle.monk_audit.specs.Audits.{IsGoingOn}
 use Rattle.monk_commands.specs.Streams.{IsYoung}
-use Rattle.monk_commands.proofs.Taken.{IsOwed}
-use Rattle.monk_commands.proofs.auditing.take_all.Given as goal
+use Rattle.monk_commands.proofs.Taken.{IsTold}
+use Rattle.monk_commands.proofs.input.hand_on.Given as goal
 
 abbrev pub invariant-loop : goal.invariant-loop
 invariant-loop g l = record {
-  sound : has_failed l.reader ≡ false;
+  works : has_failed l.reader ≡ false;
   within : l.count ≤ 2 ^ 31;
   counted : IsYoung l.fn.reader → reads_of l.reader ≡ reads_of l.fn.reader + l.counter;
   few : reads_of l.reader ≤ reads_of l.fn.reader + l.counter;
   given : IsYoung l.fn.reader → bytes_of l.reader ≡ bytes_of l.fn.reader + l.count;
-  owed : IsOwed (g.R.Read.remaining (inner_of l.fn.reader)) (g.R.Read.remaining (inner_of l.reader)) l.fn.audit l.audit;
-  going : IsGoingOn l.audit;
+  told : IsTold g.T.Taker.tells (g.R.Read.remaining (inner_of l.fn.reader)) (g.R.Read.remaining (inner_of l.reader))
+      l.fn.taker l.taker;
+  sound : g.T.Taker.is_sound l.taker;
   room : 0 < length l.chunk;
 }

@@ -4,7 +4,7 @@ use Rattle.monk_audit.specs.Replay.{replay_situation}
 use Rattle.monk_world.specs.Board.{state_of_view}
 use Rattle.monk_tell.specs.Standing.{stand}
 use Rattle.monk_commands.specs.Traced.{places_text}
-use Rattle.monk_commands.proofs.tracing.put_places.Given as goal
+use Rattle.monk_commands.proofs.trace_lines.put_places.Given as goal
 
 -- the places of the seats so far stand behind the page
 abbrev pub invariant-loop-seat : goal.invariant-loop-seat

@@ -5,7 +5,7 @@ use Rattle.monk_world.specs.Board.{state_of_view}
 use Rattle.monk_tell.specs.Standing.{stand}
 use Rattle.monk_commands.specs.Traced.{places_text, seat_text}
 use Rattle.monk_commands.proofs.Traces.{places_more, with_seat}
-use Rattle.monk_commands.proofs.tracing.put_places.Goals as goal
+use Rattle.monk_commands.proofs.trace_lines.put_places.Goals as goal
 
 pub loop-seat-preserved : goal.loop-seat-preserved
 loop-seat-preserved g c =

@@ -4,8 +4,7 @@ use Rattle.std.specs.Io.KnownBytes.{Appends}
 use Rattle.std.proofs.lemmas.Result.{IfOk-weaker}
 use Rattle.monk_history.specs.Text.Device.{inner_of}
 use Rattle.monk_commands.proofs.Showings.{few_statuses, shown_known, status_known}
-use Rattle.monk_commands.specs.declared.show.Show.TheVariants.{Page}
-use Rattle.monk_commands.proofs.paging.page_stream.Goals as goal
+use Rattle.monk_commands.proofs.showing.show_stream.Goals as goal
 
 pub returns-clause-answer : goal.returns-clause-answer
 returns-clause-answer g c =
@@ -14,7 +13,7 @@ returns-clause-answer g c =
     Appends (g.W.Write.contents (inner_of c.args.writer.now))
     (g.W.Write.contents (inner_of c.show_text.new.writer)) in
     IfOk-weaker c.show_text.result _ _ (λ status a.
-    shown_known Page c.args.window known c.deref.result.now status puts
+    shown_known c.args.show c.args.window known c.deref.result.now status puts
     (subst (λ (bytes : List ℕ). IfSome known (λ input. bytes ≡ input)) (sym c.deref.ensures.value)
     c.in_ok-bytes.ensures.bytes) a)
     c.show_text.ensures.answer
@@ -26,7 +25,7 @@ returns-clause-status g c =
     Appends (g.W.Write.contents (inner_of c.args.writer.now))
     (g.W.Write.contents (inner_of c.show_text.new.writer)) in
     IfOk-weaker c.show_text.result _ _ (λ status a.
-    status_known Page c.args.window known c.deref.result.now status puts
+    status_known c.args.show c.args.window known c.deref.result.now status puts
     (subst (λ (bytes : List ℕ). IfSome known (λ input. bytes ≡ input)) (sym c.deref.ensures.value)
     c.in_ok-bytes.ensures.bytes) a)
     c.show_text.ensures.answer
@@ -36,5 +35,6 @@ returns-clause-statuses g c =
     let puts =
     Appends (g.W.Write.contents (inner_of c.args.writer.now))
     (g.W.Write.contents (inner_of c.show_text.new.writer)) in
-    IfOk-weaker c.show_text.result _ _ (λ status a. few_statuses Page c.args.window c.deref.result.now status puts a)
+    IfOk-weaker c.show_text.result _ _
+    (λ status a. few_statuses c.args.show c.args.window c.deref.result.now status puts a)
     c.show_text.ensures.answer

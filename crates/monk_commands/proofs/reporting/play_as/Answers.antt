@@ -11,7 +11,7 @@ use Rattle.monk_commands.specs.Traced.{AreTraced}
 use Rattle.monk_commands.specs.Played.{IsPlayedBy, IsReportedBy, report_with}
 use Rattle.monk_commands.specs.declared.report.Report.{Report}
 use Rattle.monk_commands.proofs.PlayExact.{led_to}
-use Rattle.monk_commands.proofs.playing.play_as.Goals as goal
+use Rattle.monk_commands.proofs.reporting.play_as.Goals as goal
 
 pub returns-in-Ok-write-clause-played : goal.returns-in-Ok-write-clause-played
 returns-in-Ok-write-clause-played g c =
