@@ -23,7 +23,8 @@ loop-event-preserved g c =
       behind = λ opening before legal stands.
           followed_more c.args.rules n conds o opening before c.args.events.now c.loop-event.event-index
           (Enter 0 Free) t
-          (replay_situation c.carry_out.new.self (g.T.Guarded.state c.carry_out.new.object)) (number_or_0 c.in_ok-carry_out.field-0)
+          (replay_situation c.carry_out.new.self (g.T.Guarded.state c.carry_out.new.object))
+          (number_or_0 c.in_ok-carry_out.field-0)
           c.loop-event-test.true legal (c.loop-event.invariant.behind opening before legal stands)
           (carried.reason ∙ ap (λ (s : ℕ). reason_in (monitor c.args.rules s conds o []) t
           (get_or c.args.events.now c.loop-event.event-index (Enter 0 Free))) seats)
