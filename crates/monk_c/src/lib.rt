@@ -35,6 +35,7 @@ mod reply;
 mod room;
 mod seat;
 mod taking;
+mod told;
 mod token;
 
 use crate::any_seat::AnySeat;

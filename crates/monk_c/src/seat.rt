@@ -18,7 +18,7 @@ use crate::call::Call;
 use crate::fault::Fault;
 use crate::reply::Reply;
 use crate::room::Room;
-use crate::taking::told;
+use crate::told::told;
 use crate::token::SeatToken;
 use core::mem;
 use monk_history::Header;

@@ -6,25 +6,16 @@ ghost use Rattle.monk_c.specs.Answers.{place_number};
 ghost use Rattle.monk_c.specs.Refusal.{IsReady};
 ghost use Rattle.monk_c.specs.Stands.{IsAtHome};
 ghost use Rattle.monk_c.specs.Tokens.{at_after, at_of};
-ghost use Rattle.monk_c.specs.Taken.{Answers, told_word};
+ghost use Rattle.monk_c.specs.Taken.{Answers};
 
 use crate::call::Call;
 use crate::reply::Reply;
 use crate::seat::{Seat, Shared};
+use crate::told::told;
 use crate::token::SeatToken;
-use monk_hall::{After, Granted};
+use monk_hall::After;
 use monk_kinds::{ImmediateReturn, Kind, NonBlocking, Pick};
 use monk_object::{Flags, Op};
-
-/// The word that was granted, or 0.
-pub fn told<K: Kind>(granted: Option<Granted<K, Flags>>) -> usize
-    ensures { result ≡ told_word granted }
-{
-    match granted {
-        None => 0,
-        Some(granted) => granted.into_word(),
-    }
-}
 
 /// A seat that stands there now, and what C is told of it.
 fn stands<K: Kind>(room: Shared<K>, token: SeatToken<K>, granted: usize) -> (Seat<K>, Reply)

@@ -22,6 +22,22 @@ pub enum Place {
     Inner,
 }
 
+impl Place {
+    ghost use Rattle.std.specs.Prelude.{◌≡◌};
+    ghost use Rattle.monk_world.specs.Places.{place_of};
+
+    /// Where a seat with this home stands once it has handed the right on.
+    #[inline(always)]
+    pub fn of_home(home: Home) -> Place
+        ensures { result ≡ place_of home }
+    {
+        match home {
+            Home::Idle => Place::Idle,
+            Home::Inner => Place::Inner,
+        }
+    }
+}
+
 /// In words: `idle`, `ticket 3`, `due`, `active`, `back entry`, `passing 3` or `inner`.
 impl fmt::Display for Place {
     ghost use Rattle.std.specs.Prelude.{Some};

@@ -180,7 +180,7 @@ impl Board {
             self.new }
     {
         self.ticket_places[ticket as usize % self.seats as usize] = ticket + 1;
-        self.places[seat as usize] = home.place();
+        self.places[seat as usize] = Place::of_home(home);
         Answer::GrantedTicket(ticket)
     }
 
@@ -193,7 +193,7 @@ impl Board {
         ensures shows { Shows self.old (after_seat_grant (world_on self.old) seat called home) self.new }
     {
         self.seat_places[called as usize] += 1;
-        self.places[seat as usize] = home.place();
+        self.places[seat as usize] = Place::of_home(home);
         Answer::GrantedSeat(called)
     }
 }
@@ -247,7 +247,7 @@ fn place_after_drop(drawn: u32, found: u32, home: Home) -> Place
     ensures { result ≡ becomes.place_after_drop drawn found home }
 {
     if found == 1 {
-        home.place()
+        Place::of_home(home)
     } else {
         Place::Passing(drawn - found + 1, home)
     }

@@ -1,11 +1,10 @@
-//! Which events and objects the versions of a text have.
+//! Which events the versions of a text have.
 
 ghost use Rattle.std.specs.Prelude.{◌≡◌};
-ghost use Rattle.monk_history.specs.Text.{first_version, object_version, is_writable};
+ghost use Rattle.monk_history.specs.Text.{first_version, is_writable};
 
 use crate::event::Event;
 use crate::text::header::Header;
-use monk_object::ObjectName;
 
 /// The first version of a text that has a line of the event.
 fn first_version(event: Event) -> u8
@@ -21,16 +20,6 @@ fn first_version(event: Event) -> u8
         | Event::Until(..)
         | Event::Resume(..) => 1,
         Event::SignalAll(..) | Event::SignalWait(..) => 2,
-    }
-}
-
-/// The first version of a text that names the object.
-pub(crate) fn object_version(object: ObjectName) -> u8
-    ensures { result ≡ object_version object }
-{
-    match object {
-        ObjectName::Buffer | ObjectName::Book | ObjectName::Shop => 1,
-        ObjectName::Flags => 3,
     }
 }
 
