@@ -12,4 +12,4 @@ pub mod Stands
 pub mod Taken
 pub mod Texts
 pub mod Tokens
-pub mod Told
+pub mod SeatQuestions

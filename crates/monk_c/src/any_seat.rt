@@ -5,7 +5,7 @@ ghost use Rattle.monk_c.specs.Handles.{IfRefusedAt, IfTakenAt, IfUntoldAt, booke
 ghost use Rattle.monk_c.specs.Looking.{IsCountOf};
 ghost use Rattle.monk_c.specs.Refusal.{is_plain};
 ghost use Rattle.monk_c.specs.Texts.{HasTextBooked, IsTextFaultOf};
-ghost use Rattle.monk_c.specs.Told.{IsLeft, place_at, word_at};
+ghost use Rattle.monk_c.specs.SeatQuestions.{IsLeft, place_at, word_at};
 
 use crate::call::Call;
 use crate::fault::Fault;

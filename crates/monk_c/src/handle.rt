@@ -6,7 +6,7 @@ ghost use Rattle.monk_c.specs.Handles.{IfRefusedAt, IfTakenAt, IfUntoldAt, booke
 ghost use Rattle.monk_c.specs.Looking.{IsCountOf};
 ghost use Rattle.monk_c.specs.Refusal.{is_plain, refusal_at};
 ghost use Rattle.monk_c.specs.Texts.{HasTextBooked, IsTextFaultOf};
-ghost use Rattle.monk_c.specs.Told.{IsLeft, place_at, word_at};
+ghost use Rattle.monk_c.specs.SeatQuestions.{IsLeft, place_at, word_at};
 ghost use Rattle.monk_c.specs.declared.any_seat.AnySeat.{AnySeat as Held};
 
 use crate::any_seat::AnySeat;

@@ -15,7 +15,7 @@ ghost use Rattle.monk_c.specs.Looking.{IsCountOf};
 ghost use Rattle.monk_c.specs.Making.{IsMade};
 ghost use Rattle.monk_c.specs.Taken.{wish_of};
 ghost use Rattle.monk_c.specs.Texts.{IsPut, IsTold};
-ghost use Rattle.monk_c.specs.Told.{IsLeft, place_at, word_at};
+ghost use Rattle.monk_c.specs.SeatQuestions.{IsLeft, place_at, word_at};
 ghost use Rattle.monk_c.specs.declared.any_seat.AnySeat.TheVariants as any;
 ghost use Rattle.monk_kinds.specs.declared.mode.Pick.TheVariants as pick;
 
@@ -35,8 +35,8 @@ mod reply;
 mod room;
 mod seat;
 mod taking;
-mod told;
 mod token;
+mod told;
 
 use crate::any_seat::AnySeat;
 use crate::call::Call;

@@ -12,14 +12,14 @@ ghost use Rattle.monk_c.specs.Refusal.{IsReady, is_plain, refusal_of};
 ghost use Rattle.monk_c.specs.Stands.{IsAtHome, me_of};
 ghost use Rattle.monk_c.specs.Tokens.{at_of};
 ghost use Rattle.monk_c.specs.Taken.{Answers, IfRefused, IfTaken, IfUntold};
-ghost use Rattle.monk_c.specs.Told.{word_of};
+ghost use Rattle.monk_c.specs.SeatQuestions.{word_of};
 
 use crate::call::Call;
 use crate::fault::Fault;
 use crate::reply::Reply;
 use crate::room::Room;
-use crate::told::told;
 use crate::token::SeatToken;
+use crate::told::told;
 use core::mem;
 use monk_history::Header;
 use monk_kinds::{ImmediateReturn, Kind, NonBlocking, Pick, rules_of};

@@ -19,7 +19,7 @@ use Rattle.monk_audit.specs.Reading.{same, text_verdict}
 use Rattle.monk_audit.specs.declared.text_verdict.TextVerdict.{TextVerdict}
 use Rattle.monk_audit.specs.declared.verdict.Verdict.{Verdict}
 use Rattle.monk_audit.specs.declared.verdict.Verdict.TheVariants.{Legal, Forbidden}
-use Rattle.monk_commands.specs.Answer.{Answer, answer_of, reading_answer, too_big, verdict_answer}
+use Rattle.monk_commands.specs.Answer.{LineAnswer, answer_of, reading_answer, too_big, verdict_answer}
 use Rattle.monk_commands.specs.Legal.{IsTextOf, IsLegalText, HasFault, IsForbiddenText}
 
 -- what an answer with status 0 or 1 says of the size and the verdict
@@ -95,12 +95,12 @@ legal_found input h es t legal =
     (is_legal (named_monitor h) es (verdict_of (named_monitor h) es) (is_verdict (named_monitor h) es) legal)
 
 legal_answer : (input : List ℕ) → IsLegalText input → (answer_of input).status ≡ 0
-legal_answer input t = ap (λ (a : Answer). a.status) (legal_found input t.0 t.1.0 t.1.1.0 t.1.1.1)
+legal_answer input t = ap (λ (a : LineAnswer). a.status) (legal_found input t.0 t.1.0 t.1.1.0 t.1.1.1)
 
 forbidden_answer : (input : List ℕ) → IsForbiddenText input → (answer_of input).status ≡ 1
 forbidden_answer input t =
     let f = t.1.1.1 in
-    ap (λ (a : Answer). a.status)
+    ap (λ (a : LineAnswer). a.status)
     (answered_by input t.0 t.1.0 (Forbidden f.step f.reason) t.1.1.0
     (is_fault (named_monitor t.0) t.1.0 (verdict_of (named_monitor t.0) t.1.0) f.step f.reason
     (is_verdict (named_monitor t.0) t.1.0) f.first))

@@ -19,7 +19,7 @@ use Rattle.monk_audit.specs.declared.verdict.Verdict.{Verdict}
 use Rattle.monk_audit.specs.declared.verdict.Verdict.TheVariants.{Legal, Forbidden}
 use Rattle.monk_tell.specs.Told.{Account, account, account_by}
 use Rattle.monk_tell.specs.Words.{telling_text}
-use Rattle.monk_commands.specs.Answer.{Answer, answer_of, reading_answer, too_big, unreadable, verdict_answer}
+use Rattle.monk_commands.specs.Answer.{LineAnswer, answer_of, reading_answer, too_big, unreadable, verdict_answer}
 use Rattle.monk_commands.specs.Explained.{BeginsAsAudit, IsExplained, IsExplanationOf, explain_reading, told_answer}
 
 -- the verdict that is told is that of the audit
@@ -29,10 +29,10 @@ verdict_told k o m es (Legal n) = refl
 verdict_told k o m es (Forbidden step reason) = refl
 
 -- the same status, and the other text first
-abbrev Begins : Answer → Answer → Type 0
+abbrev Begins : LineAnswer → LineAnswer → Type 0
 Begins a b = (a.status ≡ b.status) × ((rest : List ℕ) × (a.text ≡ b.text ++ rest))
 
-begins_self : (a : Answer) → Begins a a
+begins_self : (a : LineAnswer) → Begins a a
 begins_self a = (refl, ([], sym (append-nil a.text)))
 
 begins_told : (h : Heading) (es : List Event)
@@ -42,7 +42,7 @@ begins_told h es =
     (verdict_told h.kind h.object (named_monitor h) es (verdict_of (named_monitor h) es))
     (refl, (telling_text (account h es), refl))
 
-begins_by : (b : Bool) (x y : Answer) → Begins x y → Begins (cond b too_big x) (cond b too_big y)
+begins_by : (b : Bool) (x y : LineAnswer) → Begins x y → Begins (cond b too_big x) (cond b too_big y)
 begins_by true x y begins = begins_self too_big
 begins_by false x y begins = begins
 
@@ -63,7 +63,7 @@ explained_told h es t status Puts is fits same put =
     let small : ltb (most h.object) h.size ≡ false = le-ltb _ _ fits in
     let given : cond (ltb (most h.object) h.size) too_big (told_answer (account h es)) ≡ told_answer t =
     ap (λ (b : Bool). cond b too_big (told_answer (account h es))) small ∙ ap told_answer (sym is) in
-    (same ∙ sym (ap (λ (a : Answer). a.status) given), subst (λ (a : Answer). Puts a.text) (sym given) put)
+    (same ∙ sym (ap (λ (a : LineAnswer). a.status) given), subst (λ (a : LineAnswer). Puts a.text) (sym given) put)
 
 -- the size is too great
 pub explained_too_big : (h : Heading) (es : List Event) (status : ℕ) (Puts : List ℕ → Type 0) → most h.object < h.size
@@ -72,7 +72,7 @@ explained_too_big h es status Puts big same put =
     let great : ltb (most h.object) h.size ≡ true = lt-ltb _ _ big in
     let given : cond (ltb (most h.object) h.size) too_big (told_answer (account h es)) ≡ too_big =
     ap (λ (b : Bool). cond b too_big (told_answer (account h es))) great in
-    (same ∙ sym (ap (λ (a : Answer). a.status) given), subst (λ (a : Answer). Puts a.text) (sym given) put)
+    (same ∙ sym (ap (λ (a : LineAnswer). a.status) given), subst (λ (a : LineAnswer). Puts a.text) (sym given) put)
 
 -- of no history
 pub refused_explained : (bytes : List ℕ) (f : ReadFault) (status : ℕ) (Puts : List ℕ → Type 0)

@@ -8,7 +8,7 @@ use Rattle.monk_history.specs.declared.text.fault.ReadFault.{ReadFault}
 use Rattle.monk_history.specs.Text.{Heading, heading, text, upgraded_heading}
 use Rattle.monk_history.specs.Text.Reading.{History, history, text_at}
 use Rattle.monk_history.proofs.PublicLaws.Texts.{text_again, text_read, upgraded_text}
-use Rattle.monk_commands.specs.Answer.{Answer}
+use Rattle.monk_commands.specs.Answer.{LineAnswer}
 use Rattle.monk_commands.specs.Upgraded.{IsHistoryOf, IsHistoryText, IsUpgraded, upgrade_answer, upgrade_of}
 
 history_read : (input : List ℕ) (x : History) → text_at (2 ^ 25) input ≡ Ok x → IsHistoryOf input x.0 x.1
@@ -41,7 +41,7 @@ zero_exactly (Some input) status bytes same h =
     subst (λ (x : List ℕ). (status ≡ 0) ↔ IsHistoryText x) same (
       λ e. is_read bytes (text_at (2 ^ 25) bytes) refl (sym h ∙ e),
       λ t.
-          h ∙ ap (λ (a : Answer). a.status) (text_upgraded bytes t.0 t.1.0 t.1.1),
+          h ∙ ap (λ (a : LineAnswer). a.status) (text_upgraded bytes t.0 t.1.0 t.1.1),
     )
 
 pub upgraded_known : (known : Option (List ℕ)) (bytes : List ℕ) (Puts : List ℕ → Type 0)
@@ -53,7 +53,7 @@ upgraded_known None bytes Puts same puts = tt
 upgraded_known (Some input) bytes Puts same puts =
     subst (λ (x : List ℕ). (h : Heading) (events : List Event) → IsHistoryOf x h events
     → Puts (text (upgraded_heading h) events)) same
-    (λ h events t. subst (λ (a : Answer). Puts a.text) (text_upgraded bytes h events t) puts)
+    (λ h events t. subst (λ (a : LineAnswer). Puts a.text) (text_upgraded bytes h events t) puts)
 
 -- what was upgraded stays as it is
 twice_by : (v : ℕ) (b : Bool) → nat_le all_events_version v ≡ b → let u = cond b v all_events_version in
@@ -66,7 +66,7 @@ upgraded_twice h =
     ap (λ (v : ℕ). heading v h.kind h.seats h.conds h.object h.size)
     (twice_by h.version (nat_le all_events_version h.version) refl)
 
-abbrev answer_with : List Event → Heading → Answer
+abbrev answer_with : List Event → Heading → LineAnswer
 answer_with events h = record { status = 0; text = text h events }
 
 -- the text of an upgraded history is its own answer

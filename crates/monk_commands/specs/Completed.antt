@@ -19,7 +19,7 @@ use Rattle.monk_logs.specs.declared.blame.Blame.{Blame}
 use Rattle.monk_logs.specs.declared.text.line.LogLine.{LogLine}
 use Rattle.monk_logs.specs.declared.verdict.LogVerdict.{LogVerdict}
 use Rattle.monk_logs.specs.declared.verdict.LogVerdict.TheVariants.{Fits, Misfit}
-use Rattle.monk_commands.specs.Answer.{Answer, too_big, unreadable}
+use Rattle.monk_commands.specs.Answer.{LineAnswer, too_big, unreadable}
 
 -- ---- the texts of logs
 
@@ -60,7 +60,7 @@ misfit_words n why =
     ++ codes "\n"
 
 -- the answer to a log that no monitor of the kind allows
-abbrev pub misfit_answer : KindName → ℕ → Blame → Answer
+abbrev pub misfit_answer : KindName → ℕ → Blame → LineAnswer
 misfit_answer kind n why = record { status = 1; text = kind_word kind ++ misfit_words n why }
 
 -- the answer to a log with that verdict

@@ -8,21 +8,21 @@ use Rattle.monk_history.specs.Text.{Heading}
 use Rattle.monk_history.specs.Text.Reading.{History, text_at}
 use Rattle.monk_tell.specs.Told.{Account, account}
 use Rattle.monk_tell.specs.Words.{telling_text}
-use Rattle.monk_commands.specs.Answer.{Answer, answer_of, too_big, unreadable, verdict_answer}
+use Rattle.monk_commands.specs.Answer.{LineAnswer, answer_of, too_big, unreadable, verdict_answer}
 
 -- the line of the verdict, and what is told behind it
-abbrev pub told_answer : Account → Answer
+abbrev pub told_answer : Account → LineAnswer
 told_answer t = record {
   status = (verdict_answer t.verdict).status;
   text = (verdict_answer t.verdict).text ++ telling_text t;
 }
 
 -- the answer of an explanation to a history
-abbrev pub explain_answer : Heading → List Event → Answer
+abbrev pub explain_answer : Heading → List Event → LineAnswer
 explain_answer h events = if nat_lt (most h.object) h.size then too_big else told_answer (account h events)
 
 -- the answer of an explanation to what was read
-abbrev pub explain_reading : Result History ReadFault → Answer
+abbrev pub explain_reading : Result History ReadFault → LineAnswer
 explain_reading (Ok h) = explain_answer h.0 h.1
 explain_reading (Err f) = unreadable f
 

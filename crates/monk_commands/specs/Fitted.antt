@@ -13,7 +13,7 @@ use Rattle.monk_history.specs.Text.Reading.{History, text_at}
 use Rattle.monk_audit.specs.Under.{under}
 use Rattle.monk_audit.specs.Verdict.{verdict_of}
 use Rattle.monk_audit.specs.declared.verdict.Verdict.{Verdict}
-use Rattle.monk_commands.specs.Answer.{Answer, too_big, unreadable, verdict_answer}
+use Rattle.monk_commands.specs.Answer.{LineAnswer, too_big, unreadable, verdict_answer}
 use Rattle.monk_commands.specs.Legal.{IsTextOf}
 
 -- the verdict on the events under a kind, whatever kind the header names
@@ -37,18 +37,18 @@ abbrev pub fits_some : Heading → List Event → List KindName → Bool
 fits_some h events ks = list_any (λ k. is_fit (verdict_under h events k)) ks
 
 -- the answer of a fit to a history
-abbrev pub fit_answer : Heading → List Event → Answer
+abbrev pub fit_answer : Heading → List Event → LineAnswer
 fit_answer h events =
     if nat_lt (most h.object) h.size then too_big
     else record { status = if fits_some h events kinds then 0 else 1; text = fit_lines h events kinds }
 
 -- the answer of a fit to what was read
-abbrev pub fit_reading : Result History ReadFault → Answer
+abbrev pub fit_reading : Result History ReadFault → LineAnswer
 fit_reading (Ok h) = fit_answer h.0 h.1
 fit_reading (Err f) = unreadable f
 
 -- the answer of a fit to an input
-abbrev pub fit_of : List ℕ → Answer
+abbrev pub fit_of : List ℕ → LineAnswer
 fit_of input = fit_reading (text_at (2 ^ 25) input)
 
 -- the text of a history, of a size within the object's greatest, that is legal under one of the kinds

@@ -22,7 +22,7 @@ use Rattle.monk_logs.specs.declared.lapses.Lapses.{Lapses}
 use Rattle.monk_logs.specs.declared.text.line.LogLine.{LogLine}
 use Rattle.monk_logs.specs.declared.order.Order.{Order}
 use Rattle.monk_logs.specs.declared.counts.waits_for.WaitsFor.{WaitsFor}
-use Rattle.monk_commands.specs.Answer.{Answer, too_big, unreadable}
+use Rattle.monk_commands.specs.Answer.{LineAnswer, too_big, unreadable}
 use Rattle.monk_commands.specs.Completed.{IsLogOf, misfit_words}
 use Rattle.monk_commands.specs.Fitted.{fit_of as fit_of_history}
 
@@ -90,7 +90,7 @@ counts_lines h means log = counts_text means (log_counts h means log)
 -- ---- an answer
 
 -- the answer of a fit to a log
-abbrev pub log_fit_answer : Lapses → List WaitsFor → LogHeading → List LogLine → Answer
+abbrev pub log_fit_answer : Lapses → List WaitsFor → LogHeading → List LogLine → LineAnswer
 log_fit_answer x means h log =
     if nat_lt (most h.object) h.size then too_big
     else record {
@@ -99,12 +99,12 @@ log_fit_answer x means h log =
     }
 
 -- the answer of a fit to what was read as a log
-abbrev pub log_fit_reading : Lapses → List WaitsFor → Result Log ReadFault → Answer
+abbrev pub log_fit_reading : Lapses → List WaitsFor → Result Log ReadFault → LineAnswer
 log_fit_reading x means (Ok l) = log_fit_answer x means l.0 l.1
 log_fit_reading x means (Err f) = unreadable f
 
 -- the answer of a fit to a log as input
-abbrev pub log_fit_of : Lapses → List WaitsFor → List ℕ → Answer
+abbrev pub log_fit_of : Lapses → List WaitsFor → List ℕ → LineAnswer
 log_fit_of x means input = log_fit_reading x means (log_at (2 ^ 25) input)
 
 -- ---- logs, among texts
@@ -114,7 +114,7 @@ abbrev pub is_log_text : List ℕ → Bool
 is_log_text input = starts_with (λ (a b : ℕ). a == b) input (codes "log ")
 
 -- the answer to a log, or to a history
-abbrev pub fit_answer_of : Lapses → List WaitsFor → List ℕ → Answer
+abbrev pub fit_answer_of : Lapses → List WaitsFor → List ℕ → LineAnswer
 fit_answer_of x means input = if is_log_text input then log_fit_of x means input else fit_of_history input
 
 -- the text of a log, of a size within the object's greatest, that is open under one of the kinds in some order

@@ -18,7 +18,7 @@ use Rattle.monk_draw.specs.Picture.{picture}
 use Rattle.monk_draw.specs.Window.{is_behind, showable}
 use Rattle.monk_draw.specs.declared.window.Window.{Window}
 use Rattle.monk_page.specs.Html.{page_text}
-use Rattle.monk_commands.specs.Answer.{Answer, answer_of, too_big, unreadable, verdict_answer}
+use Rattle.monk_commands.specs.Answer.{LineAnswer, answer_of, too_big, unreadable, verdict_answer}
 use Rattle.monk_commands.specs.Given.{IsGiven}
 use Rattle.monk_commands.specs.declared.show.Show.{Show}
 use Rattle.monk_commands.specs.declared.show.Show.TheVariants.{Picture, Page}
@@ -43,7 +43,7 @@ why_of (Legal n) = []
 why_of (Forbidden step reason) = why (numbered reason)
 
 -- the answer where the events that are asked for are behind the last that can be shown: which one that is
-abbrev pub behind : ℕ → Answer
+abbrev pub behind : ℕ → LineAnswer
 behind last = record { status = 2; text = codes "window " ++ (decimal last ++ codes "\n") }
 
 -- whether they are, by a verdict

@@ -3,12 +3,12 @@ use Rattle.std.specs.Prelude.{◌≡◌, ℕ, ◌+◌, ◌<◌, ◌≤◌, ◌^�
 use Rattle.std.specs.Io.KnownBytes.{Appends, IsAtEnd}
 use Rattle.monk_history.specs.declared.text.device.Device.{Device}
 use Rattle.monk_history.specs.Text.Device.{reads_of, bytes_of, has_failed, inner_of}
-use Rattle.monk_commands.specs.Answer.{Answer}
+use Rattle.monk_commands.specs.Answer.{LineAnswer}
 use Rattle.monk_commands.specs.declared.fault.StreamFault.{StreamFault}
 use Rattle.monk_commands.specs.declared.fault.StreamFault.TheVariants.{File, Memory}
 
 -- known input and output: the status and the appended line are the answer's
-abbrev pub Answers : (List ℕ → Answer) → Option (List ℕ) → Option (List ℕ) → Option (List ℕ) → ℕ → Type 0
+abbrev pub Answers : (List ℕ → LineAnswer) → Option (List ℕ) → Option (List ℕ) → Option (List ℕ) → ℕ → Type 0
 Answers answer input before after status =
     IfSome input (λ bytes. (status ≡ (answer bytes).status) × Appends before after (answer bytes).text)
 

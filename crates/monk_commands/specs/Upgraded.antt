@@ -4,15 +4,15 @@ use Rattle.monk_history.specs.declared.event.Event.{Event}
 use Rattle.monk_history.specs.declared.text.fault.ReadFault.{ReadFault}
 use Rattle.monk_history.specs.Text.{Heading, HasText, text, upgraded_heading}
 use Rattle.monk_history.specs.Text.Reading.{History, text_at}
-use Rattle.monk_commands.specs.Answer.{Answer, unreadable}
+use Rattle.monk_commands.specs.Answer.{LineAnswer, unreadable}
 
 -- the answer of an upgrade to what was read
-abbrev pub upgrade_answer : Result History ReadFault → Answer
+abbrev pub upgrade_answer : Result History ReadFault → LineAnswer
 upgrade_answer (Ok h) = record { status = 0; text = text (upgraded_heading h.0) h.1 }
 upgrade_answer (Err f) = unreadable f
 
 -- the answer of an upgrade to an input
-abbrev pub upgrade_of : List ℕ → Answer
+abbrev pub upgrade_of : List ℕ → LineAnswer
 upgrade_of input = upgrade_answer (text_at (2 ^ 25) input)
 
 -- the text of a history, of whatever size and legal or not

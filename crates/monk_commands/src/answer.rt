@@ -16,7 +16,7 @@ use std::io::Write;
 
 /// A line, and the status that goes with it.
 #[derive(Drop)]
-pub(crate) struct Answer {
+pub(crate) struct LineAnswer {
     pub(crate) status: u8,
     pub(crate) text: String,
 }
@@ -25,7 +25,7 @@ pub(crate) struct Answer {
 pub(crate) fn answer_to(
     alloc: Global,
     found: Result<TextVerdict, ReadFault>,
-) -> Result<Answer, StreamFault>
+) -> Result<LineAnswer, StreamFault>
     ensures answer { (input : List ℕ) → Gives same found (text_verdict input) → IfOk result
         (λ a. (a.status ≡ (answer_of input).status) × (string_bytes a.text ≡ (answer_of input).text)) }
     ensures status { IfOk result (λ a. a.status ≤ 2) }
@@ -39,7 +39,7 @@ pub(crate) fn answer_to(
 }
 
 /// The answer to a text with a fault; where the fault is want of memory, there is none.
-pub(crate) fn unreadable(alloc: Global, fault: ReadFault) -> Result<Answer, StreamFault>
+pub(crate) fn unreadable(alloc: Global, fault: ReadFault) -> Result<LineAnswer, StreamFault>
     ensures answer { IfOk result
         (λ a. (fault ≢ memory) × (a.status ≡ (unreadable fault).status)
         × (string_bytes a.text ≡ (unreadable fault).text)) }
@@ -51,21 +51,21 @@ pub(crate) fn unreadable(alloc: Global, fault: ReadFault) -> Result<Answer, Stre
     }
     let word = fault_word(fault.number);
     let text = format!(in alloc; "unreadable {} {} {word}\n", fault.line, fault.number)?;
-    Ok(Answer { status: 2, text })
+    Ok(LineAnswer { status: 2, text })
 }
 
 /// The answer to a size above the object's greatest.
-pub(crate) fn too_big(alloc: Global) -> Result<Answer, StreamFault>
+pub(crate) fn too_big(alloc: Global) -> Result<LineAnswer, StreamFault>
     ensures answer { IfOk result (λ a. (a.status ≡ too_big.status) × (string_bytes a.text ≡ too_big.text)) }
     ensures status { IfOk result (λ a. a.status ≤ 2) }
     ensures no_file { IsErrOf result StreamFault.File → ⊥ }
 {
     let text = String::from_str(alloc, "object\n")?;
-    Ok(Answer { status: 2, text })
+    Ok(LineAnswer { status: 2, text })
 }
 
 /// Writes the answer's line; the result is its status.
-pub(crate) fn put<W: Write>(answer: &Answer, writer: &mut Device<W>) -> Result<u8, StreamFault>
+pub(crate) fn put<W: Write>(answer: &LineAnswer, writer: &mut Device<W>) -> Result<u8, StreamFault>
     requires { has_failed writer.old ≡ false }
     ensures line { IfOk result
         (λ status. (status ≡ answer.now.status)
@@ -91,7 +91,7 @@ fn fault_word(number: u8) -> &'static str
     }
 }
 
-pub(crate) fn verdict_answer(alloc: Global, verdict: Verdict) -> Result<Answer, StreamFault>
+pub(crate) fn verdict_answer(alloc: Global, verdict: Verdict) -> Result<LineAnswer, StreamFault>
     ensures answer { IfOk result (λ a. let j = verdict_answer verdict in
         (a.status ≡ j.status) × (string_bytes a.text ≡ j.text)) }
     ensures status { IfOk result (λ a. a.status ≤ 2) }
@@ -102,5 +102,5 @@ pub(crate) fn verdict_answer(alloc: Global, verdict: Verdict) -> Result<Answer, 
         Verdict::Legal(_) => 0,
         Verdict::Forbidden { .. } => 1,
     };
-    Ok(Answer { status, text })
+    Ok(LineAnswer { status, text })
 }

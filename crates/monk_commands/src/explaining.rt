@@ -9,7 +9,7 @@ ghost use Rattle.monk_commands.specs.Explained.{BeginsAsAudit, IsExplained, IsEx
 ghost use Rattle.monk_commands.specs.Legal.{IsLegalText, IsForbiddenText};
 ghost use Rattle.monk_commands.specs.Streams.{IsStreamOutcome};
 
-use crate::answer::{Answer, put, too_big, unreadable, verdict_answer};
+use crate::answer::{LineAnswer, put, too_big, unreadable, verdict_answer};
 use crate::fault::StreamFault;
 use crate::input::read_all;
 use monk_audit::AuditFault;
@@ -19,7 +19,7 @@ use std::alloc::Global;
 use std::io::{Read, Write};
 
 /// The line of the verdict, and what is told behind it.
-fn told(alloc: Global, telling: &Telling) -> Result<Answer, StreamFault>
+fn told(alloc: Global, telling: &Telling) -> Result<LineAnswer, StreamFault>
     ensures answer { IfOk result
         (λ a. (a.status ≡ (told_answer (telling_of telling.now)).status)
         × (string_bytes a.text ≡ (told_answer (telling_of telling.now)).text)) }
@@ -32,7 +32,7 @@ fn told(alloc: Global, telling: &Telling) -> Result<Answer, StreamFault>
 }
 
 /// The answer to a history that was read.
-fn explained(alloc: Global, header: &Header, events: &[Event]) -> Result<Answer, StreamFault>
+fn explained(alloc: Global, header: &Header, events: &[Event]) -> Result<LineAnswer, StreamFault>
     requires few { length events.now ≤ 2 ^ 25 }
     ensures answer { IfOk result
         (λ a. IsExplained (Ok (history header.now events.now)) a.status (λ text. string_bytes a.text ≡ text)) }
@@ -47,7 +47,7 @@ fn explained(alloc: Global, header: &Header, events: &[Event]) -> Result<Answer,
 }
 
 /// The answer to a text.
-fn answer_to_text(alloc: Global, bytes: &[u8]) -> Result<Answer, StreamFault>
+fn answer_to_text(alloc: Global, bytes: &[u8]) -> Result<LineAnswer, StreamFault>
     ensures answer { IfOk result (λ a. IsExplanationOf bytes.now a.status (λ text. string_bytes a.text ≡ text)) }
     ensures status { IfOk result (λ a. a.status ≤ 2) }
     ensures no_file { IsErrOf result StreamFault.File → ⊥ }

@@ -6,7 +6,7 @@ ghost use Rattle.monk_history.specs.Meaning.Legal.{IsLegal};
 ghost use Rattle.monk_history.specs.Meaning.Monitor.{monitor};
 ghost use Rattle.monk_audit.specs.Replay.{IsReplayOf, seats_in};
 ghost use Rattle.monk_floor.specs.View.{monitor_of};
-ghost use Rattle.monk_world.specs.Board.{state_of_view};
+ghost use Rattle.monk_world.specs.WorldViews.{state_of_view};
 ghost use Rattle.monk_world.specs.StepTable.{IsStep};
 ghost use Rattle.monk_commands.specs.Following.{IsBehind};
 

@@ -10,7 +10,7 @@ ghost use Rattle.monk_samples.specs.Totals.{HasTotals, missed_in};
 ghost use Rattle.monk_commands.specs.Ran.{IsRunAnswer, end_word, lets_in, totals_text};
 ghost use Rattle.monk_commands.specs.Ran.{book_text, buffer_text, hasty_text, shop_text};
 
-use crate::answer::{Answer, put, verdict_answer};
+use crate::answer::{LineAnswer, put, verdict_answer};
 use crate::fault::StreamFault;
 use monk_audit::{AuditFault, Verdict, audit};
 use monk_history::Device;
@@ -54,7 +54,7 @@ pub(crate) fn run_named<R: Threads + Wait + Sync>(
 }
 
 /// The answer to a run that left this: its totals, once its history was found legal.
-fn audited(alloc: Global, sample: Sample, outcome: &Outcome) -> Result<Answer, StreamFault>
+fn audited(alloc: Global, sample: Sample, outcome: &Outcome) -> Result<LineAnswer, StreamFault>
     requires { IsOutcome outcome.now.header.kind sample outcome.now.header.seats outcome.now.header
         outcome.now.history.items outcome.now.totals }
     ensures answer { IfOk result (λ a. (a.status ≡ 0)
@@ -78,7 +78,7 @@ fn told(
     sample: Sample,
     totals: &[u64; 4],
     missed: u64,
-) -> Result<Answer, StreamFault>
+) -> Result<LineAnswer, StreamFault>
     ensures answer { IfOk result (λ a. (a.status ≡ 0) × (string_bytes a.text ≡ totals_text sample totals.now missed)) }
     ensures no_file { IsErrOf result StreamFault.File → ⊥ }
 {
@@ -88,7 +88,7 @@ fn told(
         Sample::Shop => of_shop(alloc, totals)?,
         Sample::Hasty => of_hasty(alloc, totals, missed)?,
     };
-    Ok(Answer { status: 0, text })
+    Ok(LineAnswer { status: 0, text })
 }
 
 fn of_buffer(alloc: Global, totals: &[u64; 4]) -> Result<String, AllocError>
@@ -122,7 +122,7 @@ fn of_hasty(alloc: Global, totals: &[u64; 4], missed: u64) -> Result<String, All
 }
 
 /// The answer to a run without an outcome, of which this is the end.
-pub(crate) fn ended(alloc: Global, fault: RunFault) -> Result<Answer, StreamFault>
+pub(crate) fn ended(alloc: Global, fault: RunFault) -> Result<LineAnswer, StreamFault>
     requires { fault ≢ RunFault.Range }
     ensures answer { IfOk result (λ a. (a.status ≡ 1) × (end_word fault ≡ Some (string_bytes a.text))) }
     ensures file { IsErrOf result StreamFault.File ↔ (fault ≡ RunFault.Thread) }
@@ -136,7 +136,7 @@ pub(crate) fn ended(alloc: Global, fault: RunFault) -> Result<Answer, StreamFaul
         RunFault::Range => unreachable!(),
     };
     let text = String::from_str(alloc, word)?;
-    Ok(Answer { status: 1, text })
+    Ok(LineAnswer { status: 1, text })
 }
 
 /// Runs the sample under the kind, with 2 to 16 seats at work for 1 to 1000 rounds each in threads of their own, and

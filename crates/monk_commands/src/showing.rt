@@ -9,7 +9,7 @@ ghost use Rattle.monk_commands.specs.Shown.{HasAuditStatus, IsAnsweredBy, IsShow
 ghost use Rattle.monk_commands.specs.Shown.{forbidden_step, shown_text, why, why_of};
 ghost use Rattle.monk_commands.specs.Streams.{IsStreamOutcome, IsWriting};
 
-use crate::answer::{Answer, put, too_big, unreadable};
+use crate::answer::{LineAnswer, put, too_big, unreadable};
 use crate::fault::StreamFault;
 use crate::input::read_all;
 use crate::show::Show;
@@ -64,12 +64,12 @@ fn status_of(verdict: Verdict) -> u8
 }
 
 /// The answer where events are asked for that are behind the last that can be shown.
-fn behind(alloc: Global, last: usize) -> Result<Answer, StreamFault>
+fn behind(alloc: Global, last: usize) -> Result<LineAnswer, StreamFault>
     ensures answer { IfOk result (λ a. (a.status ≡ (behind last).status) × (string_bytes a.text ≡ (behind last).text)) }
     ensures no_file { IsErrOf result StreamFault.File → ⊥ }
 {
     let text = format!(in alloc; "window {last}\n")?;
-    Ok(Answer { status: 2, text })
+    Ok(LineAnswer { status: 2, text })
 }
 
 /// The picture or the page of a history on which there is this verdict.

@@ -4,7 +4,7 @@ ghost use Rattle.std.specs.Prelude.{◌≡◌, ◌≤◌, ◌^◌, ◌++◌, fal
 ghost use Rattle.std.specs.Prelude.{string_bytes};
 ghost use Rattle.std.specs.Io.KnownBytes.{Appends};
 ghost use Rattle.monk_history.specs.Text.Device.{inner_of, has_failed};
-ghost use Rattle.monk_world.specs.Board.{state_of_view};
+ghost use Rattle.monk_world.specs.WorldViews.{state_of_view};
 ghost use Rattle.monk_commands.specs.Streams.{IsWriting};
 ghost use Rattle.monk_history.specs.Meaning.Monitor.{monitor};
 ghost use Rattle.monk_audit.specs.Replay.{IsReplayOf, replay_situation};
@@ -21,7 +21,7 @@ use monk_audit::Replay;
 use monk_history::Device;
 use monk_kinds::Kind;
 use monk_object::{Guarded, Listed, ObjectName};
-use monk_tell::{Data, Numbers, Stand, data_numbers, stand_of};
+use monk_tell::{Data, NumberList, Stand, data_numbers, stand_of};
 use monk_world::{Answer, Command, PlayLines, World};
 use std::alloc::{AllocError, Global};
 use std::fmt;
@@ -113,7 +113,7 @@ fn put_data<T: Listed>(
 ) -> Result<(), AllocError>
     ensures { OnOk result (string_bytes page.new ≡ string_bytes page.old ++ data_part name (T.state object.now)) }
 {
-    let numbers = Numbers(data_numbers(alloc, object)?);
+    let numbers = NumberList(data_numbers(alloc, object)?);
     write!(page, "data:{} | ", Data(name, &numbers))
 }
 

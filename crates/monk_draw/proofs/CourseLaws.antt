@@ -10,14 +10,14 @@ use Rattle.monk_draw.specs.Seats.{AreAfter, moved, place_in, stay_in}
 use Rattle.monk_draw.specs.Stand.{place_after}
 use Rattle.monk_draw.specs.Stretches.{ended, ended_before, ended_below, entry_stretches, last_below, place_at, start}
 use Rattle.monk_draw.specs.Stretches.{same_place, stay_at, stretch_to, stretches}
-use Rattle.monk_draw.specs.declared.place.Place.{Place}
-use Rattle.monk_draw.specs.declared.seats.Seats.{Seats}
+use Rattle.monk_draw.specs.declared.place.SeatPlace.{SeatPlace}
+use Rattle.monk_draw.specs.declared.seats.DrawnSeats.{DrawnSeats}
 use Rattle.monk_draw.specs.declared.stay.Stay.{Stay}
 use Rattle.monk_draw.specs.declared.stretch.Stretch.{Stretch}
 use Rattle.monk_draw.proofs.SeatLaws.{place_is}
 
 -- those that end are the same, where the seats below that number stay and stand the same
-pub ended_same : (stays others : ℕ → Stay) (places theirs : ℕ → Place) (x n : ℕ)
+pub ended_same : (stays others : ℕ → Stay) (places theirs : ℕ → SeatPlace) (x n : ℕ)
     → ((s : ℕ) → s < n → stays s ≡ others s) → ((s : ℕ) → places s ≡ theirs s)
     → ended_below stays places x n ≡ ended_below others theirs x n
 unfolding ended_below
@@ -26,7 +26,7 @@ ended_same stays others places theirs x (suc n) stay stand =
     ap (λ (l : List Stretch). l ++ ended n (stays n) (places n) x)
     (ended_same stays others places theirs x n (λ s below. stay s (omega (arith, below))) stand)
     ∙ (ap (λ (one : Stay). ended_below others theirs x n ++ ended n one (places n) x) (stay n (omega arith))
-    ∙ ap (λ (p : Place). ended_below others theirs x n ++ ended n (others n) p x) (stand n))
+    ∙ ap (λ (p : SeatPlace). ended_below others theirs x n ++ ended n (others n) p x) (stand n))
 
 pub last_same : (stays others : ℕ → Stay) (end n : ℕ) → ((s : ℕ) → s < n → stays s ≡ others s)
     → last_below stays end n ≡ last_below others end n
@@ -45,11 +45,11 @@ unfolding start
 stay_more past es column s = refl
 
 -- and before the first
-pub stay_first : (past es : List Event) (seats : Seats) (s : ℕ) → AreAfter past seats
+pub stay_first : (past es : List Event) (seats : DrawnSeats) (s : ℕ) → AreAfter past seats
     → record { place = place_in seats s; from = left_edge } ≡ stay_at past es 0 s
 unfolding start
 stay_first past es seats s are =
-    ap (λ (p : Place). record { place = p; from = left_edge })
+    ap (λ (p : SeatPlace). record { place = p; from = left_edge })
     (place_is past seats s are ∙ ap (λ (h : List Event). place_after h s) (sym (append-nil past)))
 
 -- the events so far and one more
@@ -94,13 +94,13 @@ noted_next (x ∷ xs) want y before is (suc s) below =
     noted_next xs (λ n. want (suc n)) y (λ n under. before (suc n) (omega (arith, under))) is s (omega (arith, below))
 
 -- the stretch of one seat more
-pub ended_more : (stays : ℕ → Stay) (places : ℕ → Place) (x k : ℕ) (stay : Stay) (place : Place)
+pub ended_more : (stays : ℕ → Stay) (places : ℕ → SeatPlace) (x k : ℕ) (stay : Stay) (place : SeatPlace)
     → stay ≡ stays k → place ≡ places k
     → ended_below stays places x k ++ ended k stay place x ≡ ended_below stays places x (k + 1)
 unfolding ended_below
 ended_more stays places x k stay place is stands =
     ap (λ (one : Stay). ended_below stays places x k ++ ended k one place x) is
-    ∙ (ap (λ (p : Place). ended_below stays places x k ++ ended k (stays k) p x) stands
+    ∙ (ap (λ (p : SeatPlace). ended_below stays places x k ++ ended k (stays k) p x) stands
     ∙ ap (λ n. ended_below stays places x n) (sym (add-one k)))
 
 pub last_more : (stays : ℕ → Stay) (end k : ℕ) (stay : Stay) → stay ≡ stays k
@@ -140,7 +140,7 @@ event_at (e ∷ es) (suc i) d below = event_at es i d (omega (arith, below))
 
 -- ---- one event more, by what is kept
 
-pub after_event : (past es : List Event) (column : ℕ) (d : Event) (seats : Seats) → column < length es
+pub after_event : (past es : List Event) (column : ℕ) (d : Event) (seats : DrawnSeats) → column < length es
     → AreAfter ((past ++ take column es) ++ get_or es column d ∷ []) seats
     → AreAfter (past ++ take (column + 1) es) seats
 after_event past es column d seats below are =
@@ -148,14 +148,14 @@ after_event past es column d seats below are =
     (one_more past es column d below ∙ ap (λ n. past ++ take n es) (sym (add-one column))) are
 
 -- where a seat stands by it
-stands_at : (past es : List Event) (column : ℕ) (seats : Seats) (s : ℕ) → AreAfter (past ++ take (column + 1) es) seats
+stands_at : (past es : List Event) (column : ℕ) (seats : DrawnSeats) (s : ℕ) → AreAfter (past ++ take (column + 1) es) seats
     → place_in seats s ≡ place_at past es (suc column) s
 stands_at past es column seats s are =
     place_is (past ++ take (column + 1) es) seats s are
     ∙ ap (λ n. place_after (past ++ take n es) s) (add-one column)
 
 -- the stretches
-pub drawn_more : (seats : ℕ) (past es : List Event) (column : ℕ) (d : Event) (stays : List Stay) (now : Seats) (x : ℕ)
+pub drawn_more : (seats : ℕ) (past es : List Event) (column : ℕ) (d : Event) (stays : List Stay) (now : DrawnSeats) (x : ℕ)
     → column < length es → x ≡ column_at column → AreAfter (past ++ take (column + 1) es) now
     → ((s : ℕ) → s < seats → stay_in stays s ≡ stay_at past es column s)
     → (ended_before seats past es column ++ entry_stretches seats x (handed_by (get_or es column d)))
@@ -171,12 +171,12 @@ drawn_more seats past es column d stays now x below at are stay =
     stay (λ s. stands_at past es column now s are))
 
 -- and how the seats stay then
-pub stays_more : (past es : List Event) (column s : ℕ) (stay : Stay) (now : Seats) (x : ℕ)
+pub stays_more : (past es : List Event) (column s : ℕ) (stay : Stay) (now : DrawnSeats) (x : ℕ)
     → x ≡ column_at column → AreAfter (past ++ take (column + 1) es) now → stay ≡ stay_at past es column s
     → moved stay (place_in now s) x ≡ stay_at past es (column + 1) s
 stays_more past es column s stay now x at are is =
     ap (λ (one : Stay). moved one (place_in now s) x) is
-    ∙ (ap (λ (p : Place). moved (stay_at past es column s) p x) (stands_at past es column now s are)
+    ∙ (ap (λ (p : SeatPlace). moved (stay_at past es column s) p x) (stands_at past es column now s are)
     ∙ (ap (λ n. moved (stay_at past es column s) (place_at past es (suc column) s) n) at
     ∙ (stay_more past es column s ∙ ap (λ n. stay_at past es n s) (sym (add-one column)))))
 
@@ -190,6 +190,6 @@ all_drawn seats past es column end stays at stay =
     ∙ ap (λ n. ended_before seats past es n ++ last_below (stay_at past es n) end seats) at
 
 -- a seat that comes to the same place ends no stretch
-pub none_ended : (s : ℕ) (stay : Stay) (place : Place) (x : ℕ) → same_place stay.place place ≡ true
+pub none_ended : (s : ℕ) (stay : Stay) (place : SeatPlace) (x : ℕ) → same_place stay.place place ≡ true
     → [] ≡ ended s stay place x
 none_ended s stay place x same = ap (λ b. if b then [] else stretch_to s stay x ∷ []) (sym same)

@@ -12,9 +12,9 @@ use Rattle.monk_history.specs.declared.event.Event.{Event}
 use Rattle.monk_history.proofs.PublicLaws.Meaning.{condition-push, events_of-push}
 use Rattle.monk_draw.specs.Seats.{AreAfter, IsWhole, left_in, numbers, place_in, queue_in}
 use Rattle.monk_draw.specs.Stand.{has, if_served, left_at, left_by, place_after}
-use Rattle.monk_draw.specs.declared.place.Place.{Place}
-use Rattle.monk_draw.specs.declared.place.Place.TheVariants.{Outside}
-use Rattle.monk_draw.specs.declared.seats.Seats.{Seats}
+use Rattle.monk_draw.specs.declared.place.SeatPlace.{SeatPlace}
+use Rattle.monk_draw.specs.declared.place.SeatPlace.TheVariants.{Outside}
+use Rattle.monk_draw.specs.declared.seats.DrawnSeats.{DrawnSeats}
 
 last_put : {X : Type 0} (o : Option X) (xs : List X) (x : X) → last_or o (xs ++ x ∷ []) ≡ Some x
 last_put o [] x = refl
@@ -26,7 +26,7 @@ pub left_more : (b : Bool) (es : List Event) (e : Event)
 left_more true es e = ap left_at (last_put None es e)
 left_more false es e = ap (λ (l : List Event). left_at (last_or None l)) (append-nil es)
 
-put_at : (ps : List Place) (i : ℕ) (p : Place) (s : ℕ) → i < length ps
+put_at : (ps : List SeatPlace) (i : ℕ) (p : SeatPlace) (s : ℕ) → i < length ps
     → left_in (slice_set ps i p) s ≡ cond (eqb i s) p (left_in ps s)
 put_at [] i p s l = absurd (omega arith)
 put_at (q ∷ qs) zero p zero l = refl
@@ -35,7 +35,7 @@ put_at (q ∷ qs) (suc i) p zero l = rw (eqb-suc-zero i) refl
 put_at (q ∷ qs) (suc i) p (suc s) l = rw (eqb-suc-suc i s) (put_at qs i p s (omega arith))
 
 -- one event more: it leaves its own seat somewhere, and moves the queues
-pub after_more : (h : List Event) (e : Event) (old new : Seats)
+pub after_more : (h : List Event) (e : Event) (old new : DrawnSeats)
     → seat_of e < length old.left.items → IsWhole new
     → new.left.items ≡ slice_set old.left.items (seat_of e) (left_by e)
     → ((c : ℕ) → queue_in new.queues c ≡ drop (length (served_by c e (queue_in old.queues c))) (queue_in old.queues c)
@@ -44,9 +44,9 @@ pub after_more : (h : List Event) (e : Event) (old new : Seats)
 after_more h e old new below whole put moved was = record {
   whole = whole;
   lefts =
-      λ s. ap (λ (ps : List Place). left_in ps s) put
+      λ s. ap (λ (ps : List SeatPlace). left_in ps s) put
       ∙ (put_at old.left.items (seat_of e) (left_by e) s below
-      ∙ (ap (λ (p : Place). cond (eqb (seat_of e) s) (left_by e) p) (was.lefts s)
+      ∙ (ap (λ (p : SeatPlace). cond (eqb (seat_of e) s) (left_by e) p) (was.lefts s)
       ∙ (sym (left_more (eqb (seat_of e) s) (events_of h s) e)
       ∙ ap (λ (l : List Event). left_at (last_or None l)) (sym (events_of-push h e s)))));
   queues =
@@ -61,19 +61,19 @@ outside_all (suc n) zero = refl
 outside_all (suc n) (suc s) = outside_all n s
 
 -- before any event
-pub after_none : (seats : Seats) → IsWhole seats → seats.left.items ≡ replicate numbers Outside
+pub after_none : (seats : DrawnSeats) → IsWhole seats → seats.left.items ≡ replicate numbers Outside
     → ((c : ℕ) → queue_in seats.queues c ≡ []) → AreAfter [] seats
 unfolding condition waits served_so_far events_of
 after_none seats whole outside empty = record {
   whole = whole;
-  lefts = λ s. ap (λ (ps : List Place). left_in ps s) outside ∙ outside_all numbers s;
+  lefts = λ s. ap (λ (ps : List SeatPlace). left_in ps s) outside ∙ outside_all numbers s;
   queues = empty;
 }
 
 -- where a seat stands by them is where it stands
-pub place_is : (h : List Event) (seats : Seats) (s : ℕ) → AreAfter h seats → place_in seats s ≡ place_after h s
+pub place_is : (h : List Event) (seats : DrawnSeats) (s : ℕ) → AreAfter h seats → place_in seats s ≡ place_after h s
 unfolding place_after
 place_is h seats s are =
-    ap (λ (p : Place). if_served (λ c. has s (queue_in seats.queues c)) p) (are.lefts s)
+    ap (λ (p : SeatPlace). if_served (λ c. has s (queue_in seats.queues c)) p) (are.lefts s)
     ∙ ap (λ (q : ℕ → List ℕ). if_served (λ c. has s (q c)) (left_at (last_or None (events_of h s))))
     (λ i c. are.queues c i)

@@ -28,8 +28,8 @@ use Rattle.monk_history.proofs.PublicLaws.Meaning.{and_left, events_of-push, his
 use Rattle.monk_history.proofs.PublicLaws.Meaning.{legal_last, legal_situation-push, situation-none}
 use Rattle.monk_draw.specs.AtPlace.{IsAt, has_wait}
 use Rattle.monk_draw.specs.Stand.{has, if_served, left_at, left_by, place_after}
-use Rattle.monk_draw.specs.declared.place.Place.{Place}
-use Rattle.monk_draw.specs.declared.place.Place.TheVariants.{Outside, Entry, Active, Condition, Waiter, Signaller, Until}
+use Rattle.monk_draw.specs.declared.place.SeatPlace.{SeatPlace}
+use Rattle.monk_draw.specs.declared.place.SeatPlace.TheVariants.{Outside, Entry, Active, Condition, Waiter, Signaller, Until}
 use Rattle.monk_draw.proofs.SeatLaws.{left_more}
 use Rattle.monk_draw.proofs.TakenLaws.{by_cases, caller_in, has_before, has_behind, or_cases, or_left, or_right, own_there}
 use Rattle.monk_draw.proofs.TakenLaws.{same_seat, signaller_in, waiter_in}
@@ -199,7 +199,7 @@ waiter_on m t e s a other (inl there) =
     waiter_in m.kind m.object t e s a.permitted (has_before s t.waiters (serves t.condition e) there)
 waiter_on m t e s a other (inr due) = not_due _ e t.turn s FromWaiter other a.in_turn due
 
-other_event : (m : Monitor) (t : Situation) (e : Event) (s : ℕ) (rest : Place) → IsAllowedIn m t e
+other_event : (m : Monitor) (t : Situation) (e : Event) (s : ℕ) (rest : SeatPlace) → IsAllowedIn m t e
     → (seat_of e == s) ≡ false → IsAt (if_served (λ c. has s (t.condition c)) rest) t s
     → IsAt (if_served (λ c. has s ((after m.object t e).condition c)) rest) (after m.object t e) s
 other_event m t e s Outside a other is = stays_out t e s other is
@@ -283,7 +283,7 @@ own_event m t (event.SignalWait s c d x) a = joins (after m.object t (event.Sign
 
 -- ---- one event more
 
-any_event : (m : Monitor) (t : Situation) (e : Event) (s : ℕ) (rest : Place) → IsAllowedIn m t e
+any_event : (m : Monitor) (t : Situation) (e : Event) (s : ℕ) (rest : SeatPlace) → IsAllowedIn m t e
     → IsAt (if_served (λ c. has s (t.condition c)) rest) t s
     → IsAt (if_served (λ c. has s ((after m.object t e).condition c)) (cond (seat_of e == s) (left_by e) rest))
     (after m.object t e) s
@@ -317,7 +317,7 @@ unfolding place_after
 stand_more m h e so_far legal s =
     let before = legal_front m h (e ∷ []) legal in
     let rest = left_at (last_or None (events_of h s)) in
-    subst (λ (p : Place). IsAt (if_served (λ c. has s (condition c (h ++ e ∷ []))) p) (situation m (h ++ e ∷ [])) s)
+    subst (λ (p : SeatPlace). IsAt (if_served (λ c. has s (condition c (h ++ e ∷ []))) p) (situation m (h ++ e ∷ [])) s)
     (left_then h e s)
     (subst
     (λ (t : Situation). IsAt (if_served (λ c. has s (t.condition c)) (cond (seat_of e == s) (left_by e) rest)) t s)

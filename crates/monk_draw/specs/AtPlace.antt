@@ -7,15 +7,15 @@ use Rattle.monk_history.specs.Meaning.Situation.{Situation}
 use Rattle.monk_history.specs.declared.event.From3.TheVariants.{Waiter as FromWaiter, Signaller as FromSignaller, Until as FromUntil}
 use Rattle.monk_history.specs.declared.event.Turn.TheVariants.{Due, Owned}
 use Rattle.monk_draw.specs.Stand.{has}
-use Rattle.monk_draw.specs.declared.place.Place.{Place}
-use Rattle.monk_draw.specs.declared.place.Place.TheVariants.{Outside, Entry, Active, Condition, Waiter, Signaller, Until}
+use Rattle.monk_draw.specs.declared.place.SeatPlace.{SeatPlace}
+use Rattle.monk_draw.specs.declared.place.SeatPlace.TheVariants.{Outside, Entry, Active, Condition, Waiter, Signaller, Until}
 
 -- whether the seat waits until that predicate
 abbrev pub has_wait : ℕ → ℕ → List (ℕ × ℕ) → Bool
 has_wait s p waits = list_any (λ w. (w.0 == s) && (w.1 == p)) waits
 
 -- that is where the seat stands
-abbrev pub IsAt : Place → Situation → ℕ → Type 0
+abbrev pub IsAt : SeatPlace → Situation → ℕ → Type 0
 IsAt Outside t s = t.inside s ≡ false
 IsAt Entry t s = t.inside s ≡ false
 IsAt Active t s = t.turn ≡ Owned s

@@ -3,11 +3,11 @@ use Rattle.std.specs.Prelude.{ℕ, ◌+◌, ◌*◌, ◌/◌, ◌%◌, Bool, tru
 use Rattle.std.specs.Fmt.{decimal}
 use Rattle.monk_draw.specs.Stretch.{is_outside, place_class}
 use Rattle.monk_draw.specs.declared.legend.Legend.{Legend}
-use Rattle.monk_draw.specs.declared.place.Place.{Place}
-use Rattle.monk_draw.specs.declared.place.Place.TheVariants.{Outside, Entry, Active, Condition, Waiter, Signaller, Until}
+use Rattle.monk_draw.specs.declared.place.SeatPlace.{SeatPlace}
+use Rattle.monk_draw.specs.declared.place.SeatPlace.TheVariants.{Outside, Entry, Active, Condition, Waiter, Signaller, Until}
 
 -- what a place is called in the legend
-abbrev pub place_words : Place → List ℕ
+abbrev pub place_words : SeatPlace → List ℕ
 place_words Outside = codes "outside"
 place_words Entry = codes "waits at the entry"
 place_words Active = codes "active"
@@ -17,7 +17,7 @@ place_words Signaller = codes "in the signaller queue"
 place_words (Until p) = codes "waits until a predicate"
 
 -- whether the place occurs; outside always does
-abbrev pub occurs : Legend → Place → Bool
+abbrev pub occurs : Legend → SeatPlace → Bool
 occurs l Outside = true
 occurs l Entry = l.entry
 occurs l Active = l.active
@@ -47,7 +47,7 @@ unfoldable pub hand_sample : List ℕ
 hand_sample = codes "<path class=\"hand\" marker-end=\"url(#hand-tip)\" d=\"M0 6h20\"/>"
 
 -- a place as the legend shows it
-abbrev pub place_sample : Place → List ℕ
+abbrev pub place_sample : SeatPlace → List ℕ
 place_sample p = if is_outside p then rail_sample else bar_sample (place_class p)
 
 -- the mark of a refused act as the legend shows it
@@ -61,12 +61,12 @@ unfoldable pub entry_words : List ℕ → List ℕ
 entry_words words = codes "<text class=\"soft\" x=\"28\" y=\"10\">" ++ (words ++ codes "</text></g>\n")
 
 -- the entry of a place that occurs, behind so many entries, and how many there are then
-abbrev pub place_entry : Legend → ℕ → ℕ → Place → List ℕ
+abbrev pub place_entry : Legend → ℕ → ℕ → SeatPlace → List ℕ
 place_entry l top at p =
     if occurs l p then corner top at ++ (place_sample p ++ entry_words (place_words p)) else []
 
 -- how many entries there are with that place
-abbrev pub entries_then : Legend → ℕ → Place → ℕ
+abbrev pub entries_then : Legend → ℕ → SeatPlace → ℕ
 entries_then l at p = if occurs l p then at + 1 else at
 
 -- the entry of the arrows, if the picture has one
@@ -84,12 +84,12 @@ refused_entry l top at =
     if l.refused then corner top at ++ (refused_sample ++ entry_words (codes "refused by the object")) else []
 
 -- the entries of these places in order, and those of an arrow and of a refused act
-unfoldable pub entries : Legend → ℕ → ℕ → List Place → List ℕ
+unfoldable pub entries : Legend → ℕ → ℕ → List SeatPlace → List ℕ
 entries l top at [] = hand_entry l top at ++ refused_entry l top (hands_then l at)
 entries l top at (p ∷ ps) = place_entry l top at p ++ entries l top (entries_then l at p) ps
 
 -- the places of the legend, in order
-abbrev pub legend_places : List Place
+abbrev pub legend_places : List SeatPlace
 legend_places = Active ∷ Entry ∷ Condition 0 ∷ Waiter ∷ Signaller ∷ Until 0 ∷ Outside ∷ []
 
 -- the legend below the lanes

@@ -7,8 +7,8 @@ use Rattle.monk_history.specs.declared.event.Event.{Event}
 use Rattle.monk_draw.specs.Hand.{goes_on}
 use Rattle.monk_draw.specs.Stretch.{stretches_text}
 use Rattle.monk_draw.specs.declared.legend.Legend.{Legend}
-use Rattle.monk_draw.specs.declared.place.Place.{Place}
-use Rattle.monk_draw.specs.declared.place.Place.TheVariants.{Outside, Entry, Active, Condition, Waiter, Signaller, Until}
+use Rattle.monk_draw.specs.declared.place.SeatPlace.{SeatPlace}
+use Rattle.monk_draw.specs.declared.place.SeatPlace.TheVariants.{Outside, Entry, Active, Condition, Waiter, Signaller, Until}
 use Rattle.monk_draw.specs.declared.stretch.Stretch.{Stretch}
 
 -- the legend of nothing, and one with that place too
@@ -25,7 +25,7 @@ empty_legend = record {
 }
 
 -- the legend with that place
-unfoldable pub noted : Legend → Place → Legend
+unfoldable pub noted : Legend → SeatPlace → Legend
 noted l Outside = l
 noted l Entry = record l { entry = true }
 noted l Active = record l { active = true }

@@ -7,11 +7,11 @@ use Rattle.monk_history.specs.Meaning.Counts.{events_of}
 use Rattle.monk_history.specs.Meaning.Events.{is_stay}
 use Rattle.monk_history.specs.declared.event.Event.{Event}
 use Rattle.monk_history.specs.declared.event.Event.TheVariants as event
-use Rattle.monk_draw.specs.declared.place.Place.{Place}
-use Rattle.monk_draw.specs.declared.place.Place.TheVariants.{Outside, Entry, Active, Condition, Waiter, Signaller, Until}
+use Rattle.monk_draw.specs.declared.place.SeatPlace.{SeatPlace}
+use Rattle.monk_draw.specs.declared.place.SeatPlace.TheVariants.{Outside, Entry, Active, Condition, Waiter, Signaller, Until}
 
 -- where an event leaves its own seat: a signal or an until that stays leaves it active
-abbrev pub left_by : Event → Place
+abbrev pub left_by : Event → SeatPlace
 left_by (event.Enter s via) = Active
 left_by (event.Act s op r) = Active
 left_by (event.Leave s x) = Outside
@@ -24,13 +24,13 @@ left_by (event.SignalAll s c) = Active
 left_by (event.SignalWait s c d x) = Condition d
 
 -- before its first event it is outside
-abbrev pub left_at : Option Event → Place
+abbrev pub left_at : Option Event → SeatPlace
 left_at None = Outside
 left_at (Some e) = left_by e
 
 -- a seat whose wait on a condition was served is in the waiter queue, up to its next event; `waits` says on which
 -- conditions it still waits
-abbrev pub if_served : (ℕ → Bool) → Place → Place
+abbrev pub if_served : (ℕ → Bool) → SeatPlace → SeatPlace
 if_served waits Outside = Outside
 if_served waits Entry = Entry
 if_served waits Active = Active
@@ -44,5 +44,5 @@ abbrev pub has : ℕ → List ℕ → Bool
 has s queue = list_any (λ j. j == s) queue
 
 -- where it stands
-unfoldable pub place_after : List Event → ℕ → Place
+unfoldable pub place_after : List Event → ℕ → SeatPlace
 place_after h s = if_served (λ c. has s (condition c h)) (left_at (last_or None (events_of h s)))

@@ -3,12 +3,12 @@ use Rattle.std.specs.Prelude.{ℕ, ◌+◌, ◌-◌, ◌/◌, Bool, true, false,
 use Rattle.std.specs.List.{flat_map}
 use Rattle.std.specs.Fmt.{decimal}
 use Rattle.monk_draw.specs.Layout.{lane_at}
-use Rattle.monk_draw.specs.declared.place.Place.{Place}
-use Rattle.monk_draw.specs.declared.place.Place.TheVariants.{Outside, Entry, Active, Condition, Waiter, Signaller, Until}
+use Rattle.monk_draw.specs.declared.place.SeatPlace.{SeatPlace}
+use Rattle.monk_draw.specs.declared.place.SeatPlace.TheVariants.{Outside, Entry, Active, Condition, Waiter, Signaller, Until}
 use Rattle.monk_draw.specs.declared.stretch.Stretch.{Stretch}
 
 -- by which the style gives a place colour and hatching
-abbrev pub place_class : Place → List ℕ
+abbrev pub place_class : SeatPlace → List ℕ
 place_class Outside = codes "outside"
 place_class Entry = codes "entry"
 place_class Active = codes "active"
@@ -18,7 +18,7 @@ place_class Signaller = codes "signaller"
 place_class (Until p) = codes "until"
 
 -- whether the place is outside
-abbrev pub is_outside : Place → Bool
+abbrev pub is_outside : SeatPlace → Bool
 is_outside Outside = true
 is_outside Entry = false
 is_outside Active = false
@@ -50,7 +50,7 @@ predicate_at x y pred =
     ++ codes "</text>\n")))))
 
 -- for what a stretch waits
-abbrev pub what : ℕ → ℕ → Place → List ℕ
+abbrev pub what : ℕ → ℕ → SeatPlace → List ℕ
 what x y Outside = []
 what x y Entry = []
 what x y Active = []

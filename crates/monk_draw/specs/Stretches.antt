@@ -6,17 +6,17 @@ use Rattle.monk_draw.specs.Hand.{handed}
 use Rattle.monk_draw.specs.Layout.{column_at, lane_of, left_edge}
 use Rattle.monk_draw.specs.Stand.{place_after}
 use Rattle.monk_draw.specs.contracts.place.PlacePartialEq.TheImpl as place_eq
-use Rattle.monk_draw.specs.declared.place.Place.{Place}
-use Rattle.monk_draw.specs.declared.place.Place.TheVariants.{Entry}
+use Rattle.monk_draw.specs.declared.place.SeatPlace.{SeatPlace}
+use Rattle.monk_draw.specs.declared.place.SeatPlace.TheVariants.{Entry}
 use Rattle.monk_draw.specs.declared.stay.Stay.{Stay}
 use Rattle.monk_draw.specs.declared.stretch.Stretch.{Stretch}
 
 -- what `==` says of two places
-abbrev pub same_place : Place → Place → Bool
+abbrev pub same_place : SeatPlace → SeatPlace → Bool
 same_place = (place_eq.ghosts).eq
 
 -- where a seat stands after the first so many events that are shown
-abbrev pub place_at : List Event → List Event → ℕ → ℕ → Place
+abbrev pub place_at : List Event → List Event → ℕ → ℕ → SeatPlace
 place_at past es column s = place_after (past ++ take column es) s
 
 -- where its stretch begins: in the column of the last of them by which its place changed, or at the left edge
@@ -35,11 +35,11 @@ abbrev pub stretch_to : ℕ → Stay → ℕ → Stretch
 stretch_to s stay to = record { lane = s; place = stay.place; from = stay.from; to = to }
 
 -- it ends where the seat's place changes
-abbrev pub ended : ℕ → Stay → Place → ℕ → List Stretch
+abbrev pub ended : ℕ → Stay → SeatPlace → ℕ → List Stretch
 ended s stay place x = if same_place stay.place place then [] else stretch_to s stay x ∷ []
 
 -- those that end so, of the seats below that number
-unfoldable pub ended_below : (ℕ → Stay) → (ℕ → Place) → ℕ → ℕ → List Stretch
+unfoldable pub ended_below : (ℕ → Stay) → (ℕ → SeatPlace) → ℕ → ℕ → List Stretch
 ended_below stays places x zero = []
 ended_below stays places x (suc s) = ended_below stays places x s ++ ended s (stays s) (places s) x
 

@@ -6,7 +6,7 @@ ghost use Rattle.monk_draw.specs.Legend.{bar_sample, corner, corner_at, entries_
 ghost use Rattle.monk_draw.specs.Legend.{hands_then, legend_text, occurs, place_entry, place_sample, rail_sample};
 ghost use Rattle.monk_draw.specs.Legend.{refused_entry, refused_sample};
 
-use crate::place::Place;
+use crate::place::SeatPlace;
 use std::alloc::AllocError;
 
 /// Which places occur, whether an arrow does, and whether a refused act.
@@ -55,44 +55,44 @@ impl Legend {
 
     /// That place too.
     #[tactic(auto, unfolding(crate::specs::Scene::noted))]
-    pub(crate) fn note(&mut self, place: Place)
+    pub(crate) fn note(&mut self, place: SeatPlace)
         ensures { self.new ≡ noted self.old place }
     {
         match place {
-            Place::Outside => {}
-            Place::Entry => self.entry = true,
-            Place::Active => self.active = true,
-            Place::Condition(_) => self.condition = true,
-            Place::Waiter => self.waiter = true,
-            Place::Signaller => self.signaller = true,
-            Place::Until(_) => self.until = true,
+            SeatPlace::Outside => {}
+            SeatPlace::Entry => self.entry = true,
+            SeatPlace::Active => self.active = true,
+            SeatPlace::Condition(_) => self.condition = true,
+            SeatPlace::Waiter => self.waiter = true,
+            SeatPlace::Signaller => self.signaller = true,
+            SeatPlace::Until(_) => self.until = true,
         }
     }
 
-    fn has(self, place: Place) -> bool
+    fn has(self, place: SeatPlace) -> bool
         ensures { result ≡ occurs self place }
     {
         match place {
-            Place::Outside => true,
-            Place::Entry => self.entry,
-            Place::Active => self.active,
-            Place::Condition(_) => self.condition,
-            Place::Waiter => self.waiter,
-            Place::Signaller => self.signaller,
-            Place::Until(_) => self.until,
+            SeatPlace::Outside => true,
+            SeatPlace::Entry => self.entry,
+            SeatPlace::Active => self.active,
+            SeatPlace::Condition(_) => self.condition,
+            SeatPlace::Waiter => self.waiter,
+            SeatPlace::Signaller => self.signaller,
+            SeatPlace::Until(_) => self.until,
         }
     }
 }
 
 /// One of each, in the order of the legend.
-const PLACES: [Place; 7] = [
-    Place::Active,
-    Place::Entry,
-    Place::Condition(0),
-    Place::Waiter,
-    Place::Signaller,
-    Place::Until(0),
-    Place::Outside,
+const PLACES: [SeatPlace; 7] = [
+    SeatPlace::Active,
+    SeatPlace::Entry,
+    SeatPlace::Condition(0),
+    SeatPlace::Waiter,
+    SeatPlace::Signaller,
+    SeatPlace::Until(0),
+    SeatPlace::Outside,
 ];
 
 #[tactic(auto, unfolding(crate::specs::Legend::corner_at))]
@@ -147,7 +147,7 @@ fn put_hand_sample(page: &mut String) -> Result<(), AllocError>
 }
 
 /// Puts a sample of the place.
-fn put_place_sample(page: &mut String, place: Place) -> Result<(), AllocError>
+fn put_place_sample(page: &mut String, place: SeatPlace) -> Result<(), AllocError>
     ensures { OnOk result (string_bytes page.new ≡ string_bytes page.old ++ place_sample place) }
 {
     if place.is_outside() {
@@ -163,7 +163,7 @@ fn put_place_entry(
     legend: Legend,
     top: u64,
     at: u8,
-    place: Place,
+    place: SeatPlace,
 ) -> Result<(), AllocError>
     requires { top ≤ 100000 }
     ensures { OnOk result (string_bytes page.new ≡ string_bytes page.old ++ place_entry legend top at place) }
@@ -177,7 +177,7 @@ fn put_place_entry(
 }
 
 /// How many entries there are with that of the place.
-fn entries_then(legend: Legend, at: u8, place: Place) -> u8
+fn entries_then(legend: Legend, at: u8, place: SeatPlace) -> u8
     requires { at ≤ 100 }
     ensures { result ≡ entries_then legend at place }
 {

@@ -9,7 +9,7 @@ use monk_history::{Event, Next};
 
 /// Where a seat is.
 #[derive(Clone, Copy, Debug, PartialEq, Eq)]
-pub(crate) enum Place {
+pub(crate) enum SeatPlace {
     /// Outside the monitor.
     Outside,
     /// Outside, and next to come in.
@@ -26,20 +26,22 @@ pub(crate) enum Place {
     Until(u8),
 }
 
-impl Place {
+impl SeatPlace {
     /// Where the event leaves its own seat.
-    pub(crate) fn left_by(event: Event) -> Place
+    pub(crate) fn left_by(event: Event) -> SeatPlace
         ensures { result ≡ left_by event }
     {
         match event {
             Event::Enter(..) | Event::Act(..) | Event::Resume(..) | Event::SignalAll(..) => {
-                Place::Active
+                SeatPlace::Active
             }
-            Event::Leave(..) | Event::SignalLeave(..) => Place::Outside,
-            Event::Wait(_, cond, _) | Event::SignalWait(_, _, cond, _) => Place::Condition(cond),
-            Event::Signal(_, _, Next::Stay) | Event::Until(_, _, Next::Stay) => Place::Active,
-            Event::Signal(..) => Place::Signaller,
-            Event::Until(_, pred, _) => Place::Until(pred),
+            Event::Leave(..) | Event::SignalLeave(..) => SeatPlace::Outside,
+            Event::Wait(_, cond, _) | Event::SignalWait(_, _, cond, _) => SeatPlace::Condition(
+                cond,
+            ),
+            Event::Signal(_, _, Next::Stay) | Event::Until(_, _, Next::Stay) => SeatPlace::Active,
+            Event::Signal(..) => SeatPlace::Signaller,
+            Event::Until(_, pred, _) => SeatPlace::Until(pred),
         }
     }
 
@@ -48,13 +50,13 @@ impl Place {
         ensures { result.now ≡ place_class self }
     {
         match self {
-            Place::Outside => "outside",
-            Place::Entry => "entry",
-            Place::Active => "active",
-            Place::Condition(_) => "condition",
-            Place::Waiter => "waiter",
-            Place::Signaller => "signaller",
-            Place::Until(_) => "until",
+            SeatPlace::Outside => "outside",
+            SeatPlace::Entry => "entry",
+            SeatPlace::Active => "active",
+            SeatPlace::Condition(_) => "condition",
+            SeatPlace::Waiter => "waiter",
+            SeatPlace::Signaller => "signaller",
+            SeatPlace::Until(_) => "until",
         }
     }
 
@@ -63,13 +65,13 @@ impl Place {
         ensures { result.now ≡ place_words self }
     {
         match self {
-            Place::Outside => "outside",
-            Place::Entry => "waits at the entry",
-            Place::Active => "active",
-            Place::Condition(_) => "waits on a condition",
-            Place::Waiter => "in the waiter queue",
-            Place::Signaller => "in the signaller queue",
-            Place::Until(_) => "waits until a predicate",
+            SeatPlace::Outside => "outside",
+            SeatPlace::Entry => "waits at the entry",
+            SeatPlace::Active => "active",
+            SeatPlace::Condition(_) => "waits on a condition",
+            SeatPlace::Waiter => "in the waiter queue",
+            SeatPlace::Signaller => "in the signaller queue",
+            SeatPlace::Until(_) => "waits until a predicate",
         }
     }
 
@@ -78,13 +80,13 @@ impl Place {
         ensures { result ≡ is_outside self }
     {
         match self {
-            Place::Outside => true,
-            Place::Entry
-            | Place::Active
-            | Place::Condition(_)
-            | Place::Waiter
-            | Place::Signaller
-            | Place::Until(_) => false,
+            SeatPlace::Outside => true,
+            SeatPlace::Entry
+            | SeatPlace::Active
+            | SeatPlace::Condition(_)
+            | SeatPlace::Waiter
+            | SeatPlace::Signaller
+            | SeatPlace::Until(_) => false,
         }
     }
 }

@@ -13,14 +13,14 @@ pub(crate) const NUMBERS: usize = 256;
 
 /// The queue of each condition: the seats that wait on it, in order. There is one for each number of a condition.
 #[derive(Drop)]
-pub(crate) struct Queues {
+pub(crate) struct DrawnQueues {
     pub(crate) waiting: Vec<Vec<u8>>,
 }
 
-impl Queues {
+impl DrawnQueues {
     /// Nobody waits.
     #[tactic(auto, using(crate::proofs::QueueLaws::empty_more))]
-    pub(crate) fn new(alloc: Global) -> Result<Queues, AllocError>
+    pub(crate) fn new(alloc: Global) -> Result<DrawnQueues, AllocError>
         ensures count { IfOk result (λ q. length q.waiting.items ≡ numbers) }
         ensures empty { IfOk result (λ q. (c : ℕ) → queue_in q c ≡ []) }
     {
@@ -28,7 +28,7 @@ impl Queues {
         for _ in 0..NUMBERS {
             waiting.push(Vec::new(alloc))?;
         }
-        Ok(Queues { waiting })
+        Ok(DrawnQueues { waiting })
     }
 
     /// The first that waits on the condition, if there is one, goes.

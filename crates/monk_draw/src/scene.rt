@@ -10,8 +10,8 @@ ghost use Rattle.monk_draw.specs.Stretches.{ended, ended_below, entry_stretch, e
 use crate::hand::handed;
 use crate::layout::{COLUMN, LEFT, column_at, lane_of};
 use crate::legend::Legend;
-use crate::place::Place;
-use crate::seats::Seats;
+use crate::place::SeatPlace;
+use crate::seats::DrawnSeats;
 use crate::stay::Stay;
 use crate::stretch::{Stretch, put_stretch};
 use crate::view::View;
@@ -45,7 +45,7 @@ fn put_change(
     legend: &mut Legend,
     seat: u8,
     stay: Stay,
-    place: Place,
+    place: SeatPlace,
     x: u64,
 ) -> Result<Stay, AllocError>
     ensures page { OnOk result (PutsStretches (ended seat stay place x) (string_bytes page.old) (string_bytes page.new)
@@ -67,7 +67,7 @@ fn put_changes(
     page: &mut String,
     legend: &mut Legend,
     stays: &mut Vec<Stay>,
-    seats: &Seats,
+    seats: &DrawnSeats,
     count: u8,
     x: u64,
 ) -> Result<(), AllocError>
@@ -93,7 +93,7 @@ fn entry_stretch(seats: u8, x: u64, seat: u8) -> Stretch
     let from = x.saturating_sub(COLUMN);
     Stretch {
         lane: lane_of(seats, seat),
-        place: Place::Entry,
+        place: SeatPlace::Entry,
         from: if from < LEFT { LEFT } else { from },
         to: x,
     }
@@ -112,7 +112,7 @@ fn put_entry(
 {
     match entered {
         Some(seat) => {
-            legend.note(Place::Entry);
+            legend.note(SeatPlace::Entry);
             put_stretch(page, entry_stretch(seats, x, seat))
         }
         None => Ok(()),
@@ -139,7 +139,7 @@ fn put_last(
 }
 
 /// How the seats stay before the first event that is shown.
-fn first_stays(alloc: Global, seats: &Seats, count: u8) -> Result<Vec<Stay>, AllocError>
+fn first_stays(alloc: Global, seats: &DrawnSeats, count: u8) -> Result<Vec<Stay>, AllocError>
     requires { IsWhole seats.now }
     ensures count { IfOk result (λ v. length v.items ≡ count) }
     ensures stays { IfOk result
@@ -169,7 +169,7 @@ pub(crate) fn put_stretches(
     ensures { OnOk result (PutsStretches (stretches count past.now events.now end) (string_bytes page.old)
         (string_bytes page.new) legend.old legend.new) }
 {
-    let mut seats = Seats::after(alloc, past)?;
+    let mut seats = DrawnSeats::after(alloc, past)?;
     let mut stays = first_stays(alloc, &seats, count)?;
     for (column, event) in events.iter().enumerate() {
         let x = column_at(column as u32);

@@ -4,36 +4,36 @@ ghost use Rattle.std.specs.Prelude.{◌≡◌, OnOk, IfOk, List, [], ◌∷◌, 
 ghost use Rattle.monk_history.specs.declared.event.Event.{Event};
 ghost use Rattle.monk_draw.specs.Seats.{AreAfter, IsWhole, place_in};
 
-use crate::place::Place;
-use crate::queues::{NUMBERS, Queues};
+use crate::place::SeatPlace;
+use crate::queues::{DrawnQueues, NUMBERS};
 use monk_history::Event;
 use std::alloc::{AllocError, Global};
 
 /// What is kept of some events, so that it says where each seat stands.
 #[derive(Drop)]
-pub(crate) struct Seats {
+pub(crate) struct DrawnSeats {
     /// Where its own last event left each seat, by its number.
-    pub(crate) left: Vec<Place>,
+    pub(crate) left: Vec<SeatPlace>,
     /// Who waits on each condition.
-    pub(crate) queues: Queues,
+    pub(crate) queues: DrawnQueues,
 }
 
-impl Seats {
+impl DrawnSeats {
     /// Before any event all are outside.
-    fn new(alloc: Global) -> Result<Seats, AllocError>
+    fn new(alloc: Global) -> Result<DrawnSeats, AllocError>
         ensures { IfOk result (AreAfter []) }
     {
-        Ok(Seats {
-            left: vec![in alloc; Place::Outside; NUMBERS]?,
-            queues: Queues::new(alloc)?,
+        Ok(DrawnSeats {
+            left: vec![in alloc; SeatPlace::Outside; NUMBERS]?,
+            queues: DrawnQueues::new(alloc)?,
         })
     }
 
     /// Those after the events.
-    pub(crate) fn after(alloc: Global, events: &[Event]) -> Result<Seats, AllocError>
+    pub(crate) fn after(alloc: Global, events: &[Event]) -> Result<DrawnSeats, AllocError>
         ensures { IfOk result (AreAfter events.now) }
     {
-        let mut seats = Seats::new(alloc)?;
+        let mut seats = DrawnSeats::new(alloc)?;
         for event in events {
             seats.follow(*event)?;
         }
@@ -46,21 +46,21 @@ impl Seats {
         ensures { OnOk result ((h : List Event) → AreAfter h self.old → AreAfter (h ++ event ∷ []) self.new) }
     {
         self.queues.follow(event)?;
-        self.left[event.seat() as usize] = Place::left_by(event);
+        self.left[event.seat() as usize] = SeatPlace::left_by(event);
         Ok(())
     }
 
     /// Where the seat stands.
-    pub(crate) fn place(&self, seat: u8) -> Place
+    pub(crate) fn place(&self, seat: u8) -> SeatPlace
         requires { IsWhole self.now }
         ensures { result ≡ place_in self.now seat }
     {
         match self.left[seat as usize] {
-            Place::Condition(cond) => {
+            SeatPlace::Condition(cond) => {
                 if self.queues.has(cond, seat) {
-                    Place::Condition(cond)
+                    SeatPlace::Condition(cond)
                 } else {
-                    Place::Waiter
+                    SeatPlace::Waiter
                 }
             }
             place => place,

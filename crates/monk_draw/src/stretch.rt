@@ -4,14 +4,14 @@ ghost use Rattle.std.specs.Prelude.{◌≡◌, ◌++◌, OnOk, string_bytes};
 ghost use Rattle.monk_draw.specs.Stretch.{bar, condition_at, predicate_at, stretch_text, what, what_at};
 
 use crate::layout::{COLUMN, lane_at};
-use crate::place::Place;
+use crate::place::SeatPlace;
 use std::alloc::AllocError;
 
 /// A seat's time in one place.
 #[derive(Clone, Copy)]
 pub(crate) struct Stretch {
     pub(crate) lane: u8,
-    pub(crate) place: Place,
+    pub(crate) place: SeatPlace,
     pub(crate) from: u64,
     pub(crate) to: u64,
 }
@@ -50,13 +50,17 @@ fn put_predicate(page: &mut String, x: u64, y: u64, pred: u8) -> Result<(), Allo
 }
 
 /// Puts the condition or the predicate that is waited for.
-fn put_what(page: &mut String, x: u64, y: u64, place: Place) -> Result<(), AllocError>
+fn put_what(page: &mut String, x: u64, y: u64, place: SeatPlace) -> Result<(), AllocError>
     ensures { OnOk result (string_bytes page.new ≡ string_bytes page.old ++ what x y place) }
 {
     match place {
-        Place::Condition(cond) => put_condition(page, x, y, cond),
-        Place::Until(pred) => put_predicate(page, x, y, pred),
-        Place::Outside | Place::Entry | Place::Active | Place::Waiter | Place::Signaller => Ok(()),
+        SeatPlace::Condition(cond) => put_condition(page, x, y, cond),
+        SeatPlace::Until(pred) => put_predicate(page, x, y, pred),
+        SeatPlace::Outside
+        | SeatPlace::Entry
+        | SeatPlace::Active
+        | SeatPlace::Waiter
+        | SeatPlace::Signaller => Ok(()),
     }
 }
 

@@ -1,7 +1,7 @@
 -- Logs judged over boards, line by line
 pub mod Lists
 pub mod Soundness
-pub mod Told
+pub mod ToldOnBoards
 pub mod Completeness
 pub mod Orderly
 pub mod Chooses
@@ -10,4 +10,4 @@ pub mod Exact
 pub mod Standing
 pub mod Verdicts
 pub mod Held
-pub mod Lines
+pub mod ComingLines

@@ -2,5 +2,5 @@ pub mod Tests
 pub mod Lists
 pub mod Events
 pub mod Soundness
-pub mod Told
+pub mod ToldInHistories
 pub mod Calls

@@ -5,7 +5,7 @@ pub mod Fewer
 pub mod Goes
 pub mod Moves
 pub mod Moved
-pub mod Lines
+pub mod TakenWithFewer
 pub mod Resuming
 pub mod Released
 pub mod Read
@@ -14,4 +14,4 @@ pub mod Exact
 pub mod Over
 pub mod Verdicts
 pub mod Following
-pub mod Reading
+pub mod ResumedOrLapsed

@@ -1,6 +1,6 @@
 -- What the lines of a log need of a kind
 pub mod Choices
-pub mod Lines
-pub mod Told
+pub mod WidestLines
+pub mod ServedNeeds
 pub mod Following
 pub mod Leading

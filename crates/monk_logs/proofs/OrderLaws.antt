@@ -2,7 +2,7 @@ pub mod Lists
 pub mod Covers
 pub mod Leads
 pub mod Keeps
-pub mod Lines
+pub mod SeatsInLine
 pub mod Led
 pub mod Fits
 pub mod Rests

@@ -22,7 +22,7 @@ use Rattle.monk_logs.specs.declared.text.line.LogLine.TheVariants.{Enter, Resume
 use Rattle.monk_logs.specs.declared.board.pending.Pending.{Pending}
 use Rattle.monk_logs.specs.declared.board.pending.Pending.TheVariants.{Settled, Half, Release}
 use Rattle.monk_logs.specs.declared.blame.Blame.{Blame}
-use Rattle.monk_logs.specs.declared.setting.Setting.{Setting}
+use Rattle.monk_logs.specs.declared.setting.MonitorSetting.{MonitorSetting}
 use Rattle.monk_logs.specs.declared.verdict.LogVerdict.{LogVerdict}
 
 -- how the monitor stands behind the events that are known, and what is still to be known
@@ -39,7 +39,7 @@ abbrev pub stand_settled : Situation → Stand
 stand_settled t = stand t Settled
 
 -- the monitor of that setting; its opening state has no part in what is still to come
-abbrev pub monitor_in : Setting → Object → Monitor
+abbrev pub monitor_in : MonitorSetting → Object → Monitor
 monitor_in s o = monitor s.rules s.seats s.conds o []
 
 -- ---- what is added

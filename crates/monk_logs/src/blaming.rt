@@ -9,7 +9,7 @@ ghost use Rattle.monk_logs.specs.Blame.{early_blame};
 ghost use Rattle.monk_logs.specs.Stand.{monitor_in};
 
 use crate::blame::Blame;
-use crate::setting::Setting;
+use crate::setting::MonitorSetting;
 use crate::text::line::LogLine;
 use monk_audit::Replay;
 use monk_history::{Event, From3, Next, Via};
@@ -46,7 +46,7 @@ fn signal_event(mode: Mode, seat: u8, cond: u8) -> Event
 
 /// The first of the tests of range and of the call that the event fails.
 pub(crate) fn early_blame<T: Guarded>(
-    setting: Setting,
+    setting: MonitorSetting,
     replay: &Replay,
     object: &T,
     event: Event,
@@ -62,7 +62,7 @@ pub(crate) fn early_blame<T: Guarded>(
 
 /// What is to blame behind a signal that is half told.
 pub(crate) fn half_blame<T: Guarded>(
-    setting: Setting,
+    setting: MonitorSetting,
     replay: &Replay,
     object: &T,
     line: LogLine,

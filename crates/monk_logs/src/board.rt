@@ -37,7 +37,7 @@ pub mod telling;
 use crate::board::item::Item;
 use crate::board::items::unserved_at;
 use crate::board::items_moves::{join, lapse, serve, take_chosen};
-use crate::setting::Setting;
+use crate::setting::MonitorSetting;
 use monk_audit::{Reason, Replay};
 use monk_history::Event;
 use monk_object::Guarded;
@@ -54,7 +54,10 @@ pub(crate) struct Board {
 
 impl Board {
     /// How a monitor over such an object stands before any step.
-    pub(crate) fn opening<T: Guarded>(alloc: Global, setting: Setting) -> Result<Board, AllocError>
+    pub(crate) fn opening<T: Guarded>(
+        alloc: Global,
+        setting: MonitorSetting,
+    ) -> Result<Board, AllocError>
         ensures stands { IfOk result
             (λ b. (state : List ℕ) → board_shown b state ≡ boards.opening_board
             (monitor setting.rules setting.seats setting.conds T.meaning state)) }
@@ -71,7 +74,7 @@ impl Board {
     #[inline(always)]
     pub(crate) fn call_reason<T: Guarded>(
         &self,
-        setting: Setting,
+        setting: MonitorSetting,
         object: &T,
         event: Event,
     ) -> Option<Reason>

@@ -5,7 +5,7 @@ use std::alloc::Global;
 
 /// What stays the same of a monitor while its log is judged.
 #[derive(Clone, Copy)]
-pub(crate) struct Setting {
+pub(crate) struct MonitorSetting {
     pub(crate) alloc: Global,
     pub(crate) rules: Rules,
     pub(crate) seats: u8,

@@ -4,11 +4,11 @@ ghost use Rattle.monk_tell.specs.Told.{blame_of};
 ghost use Rattle.monk_page.specs.Blame.{blame_json};
 
 use crate::in_json::{InJson, optional};
-use monk_tell::Blame;
+use monk_tell::ForbiddenEvent;
 use serde_json::{Value, json};
 use std::alloc::{AllocError, Global};
 
-impl InJson for Blame {
+impl InJson for ForbiddenEvent {
     ghost json = { λ b. blame_json (blame_of b) };
 
     fn value(&self, alloc: Global) -> Result<Value, AllocError> {

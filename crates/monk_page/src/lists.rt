@@ -5,11 +5,11 @@ ghost use Rattle.monk_page.specs.Json.{list_json, numbers_json};
 ghost use Rattle.monk_page.specs.Step.{wait_json};
 
 use crate::in_json::{InJson, list};
-use monk_tell::{Conditions, Numbers, Seats};
+use monk_tell::{Conditions, NumberList, SeatList};
 use serde_json::{Value, json};
 use std::alloc::{AllocError, Global};
 
-impl InJson for Seats {
+impl InJson for SeatList {
     ghost json = { λ s. numbers_json s.0.items };
 
     fn value(&self, alloc: Global) -> Result<Value, AllocError> {
@@ -17,7 +17,7 @@ impl InJson for Seats {
     }
 }
 
-impl InJson for Numbers {
+impl InJson for NumberList {
     ghost json = { λ n. numbers_json n.0.items };
 
     fn value(&self, alloc: Global) -> Result<Value, AllocError> {

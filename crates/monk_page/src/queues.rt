@@ -6,7 +6,7 @@ ghost use Rattle.serde_json.specs.View.{members_view, view};
 ghost use Rattle.monk_page.specs.Step.{conditions_json, ready_json, signallers_json, untils_json, waiters_json, with_queues};
 
 use crate::in_json::{InJson, list};
-use monk_tell::Queues;
+use monk_tell::QueueLists;
 use serde_json::{Map, Value, put};
 use std::alloc::{AllocError, Global};
 
@@ -22,7 +22,7 @@ struct QueueValues {
 
 impl QueueValues {
     /// Of these queues.
-    fn of(alloc: Global, queues: &Queues) -> Result<QueueValues, AllocError>
+    fn of(alloc: Global, queues: &QueueLists) -> Result<QueueValues, AllocError>
         ensures conditions { IfOk result (λ q. view q.conditions ≡ conditions_json (queues_of queues.now)) }
         ensures ready { IfOk result (λ q. view q.ready ≡ ready_json (queues_of queues.now)) }
         ensures signaller { IfOk result (λ q. view q.signaller ≡ signallers_json (queues_of queues.now)) }
@@ -30,21 +30,21 @@ impl QueueValues {
         ensures waiter { IfOk result (λ q. view q.waiter ≡ waiters_json (queues_of queues.now)) }
     {
         match queues {
-            Queues::Automatic(untils, ready) => Ok(QueueValues {
+            QueueLists::Automatic(untils, ready) => Ok(QueueValues {
                 conditions: Value::Null,
                 ready: ready.value(alloc)?,
                 signaller: Value::Null,
                 until: list(alloc, &untils.0)?,
                 waiter: Value::Null,
             }),
-            Queues::Returning(conditions, waiters) => Ok(QueueValues {
+            QueueLists::Returning(conditions, waiters) => Ok(QueueValues {
                 conditions: conditions.value(alloc)?,
                 ready: Value::Null,
                 signaller: Value::Null,
                 until: Value::Null,
                 waiter: waiters.value(alloc)?,
             }),
-            Queues::Explicit(conditions, waiters, signallers) => Ok(QueueValues {
+            QueueLists::Explicit(conditions, waiters, signallers) => Ok(QueueValues {
                 conditions: conditions.value(alloc)?,
                 ready: Value::Null,
                 signaller: signallers.value(alloc)?,
@@ -59,7 +59,7 @@ impl QueueValues {
 pub(crate) fn put_queues(
     alloc: Global,
     map: &mut Map<String, Value>,
-    queues: &Queues,
+    queues: &QueueLists,
 ) -> Result<(), AllocError>
     ensures { OnOk result
         (members_view map.new.entries ≡ with_queues (queues_of queues.now) (members_view map.old.entries)) }

@@ -7,7 +7,7 @@ use Rattle.std.specs.Prelude.{filter}
 use Rattle.monk_audit.specs.Replay.{has}
 use Rattle.monk_tell.specs.Cause.{waits_at}
 use Rattle.monk_tell.specs.Told.{inside_below}
-use Rattle.monk_tell.specs.declared.lists.Seats.{Seats}
+use Rattle.monk_tell.specs.declared.lists.SeatList.{SeatList}
 
 pub filter_more : {X : Type 0} (p : X → Bool) (xs : List X) (i : ℕ) (d : X) (b : Bool) → i < length xs
     → p (get_or xs i d) ≡ b
@@ -16,9 +16,9 @@ filter_more p xs i d b within is =
     ap (filter p) (take_more xs i d within) ∙ filter-append p (take i xs) (get_or xs i d ∷ [])
     ∙ ap (λ (c : Bool). filter p (take i xs) ++ cond c (get_or xs i d ∷ []) []) is
 
-pub condition_more : (xs : List Seats) (x : Seats)
-    → map (λ (s : Seats). s.0.items) (xs ++ x ∷ []) ≡ map (λ (s : Seats). s.0.items) xs ++ x.0.items ∷ []
-condition_more xs x = map-append (λ (s : Seats). s.0.items) xs (x ∷ [])
+pub condition_more : (xs : List SeatList) (x : SeatList)
+    → map (λ (s : SeatList). s.0.items) (xs ++ x ∷ []) ≡ map (λ (s : SeatList). s.0.items) xs ++ x.0.items ∷ []
+condition_more xs x = map-append (λ (s : SeatList). s.0.items) xs (x ∷ [])
 
 inside_next : (inside : ℕ → Bool) (j : ℕ) (b : Bool) → inside j ≡ b
     → inside_below inside (suc j) ≡ inside_below inside j ++ cond b (j ∷ []) []

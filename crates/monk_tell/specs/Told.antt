@@ -26,12 +26,12 @@ use Rattle.monk_audit.specs.declared.verdict.Verdict.{Verdict}
 use Rattle.monk_audit.specs.declared.verdict.Verdict.TheVariants.{Legal, Forbidden}
 use Rattle.monk_tell.specs.Cause.{cause, own_reply}
 use Rattle.monk_tell.specs.Permitted.{fronts, permitted_nexts}
-use Rattle.monk_tell.specs.declared.blame.Blame.{Blame}
+use Rattle.monk_tell.specs.declared.forbidden.ForbiddenEvent.{ForbiddenEvent}
 use Rattle.monk_tell.specs.declared.choice.Choice.{Choice}
 use Rattle.monk_tell.specs.declared.lines.Lines.{Lines}
 use Rattle.monk_tell.specs.declared.queues.Conditions.{Conditions}
-use Rattle.monk_tell.specs.declared.queues.Queues.{Queues}
-use Rattle.monk_tell.specs.declared.queues.Queues.TheVariants.{Automatic, Returning, Explicit}
+use Rattle.monk_tell.specs.declared.queues.QueueLists.{QueueLists}
+use Rattle.monk_tell.specs.declared.queues.QueueLists.TheVariants.{Automatic, Returning, Explicit}
 use Rattle.monk_tell.specs.declared.refused.Refused.{Refused}
 use Rattle.monk_tell.specs.declared.situation.Situation.{Situation as ToldSituation}
 use Rattle.monk_tell.specs.declared.standing.Standing.{Standing}
@@ -113,7 +113,7 @@ abbrev pub condition_lists : Conditions → List (List ℕ)
 condition_lists c = map (λ s. s.0.items) c.0.items
 
 -- the queues as data
-abbrev pub queues_of : Queues → ShownQueues
+abbrev pub queues_of : QueueLists → ShownQueues
 queues_of (Automatic untils ready) = only_untils untils.0.items ready.0.items
 queues_of (Returning conditions waiters) = only_conditions (condition_lists conditions) waiters.0.items None
 queues_of (Explicit conditions waiters signallers) =
@@ -147,7 +147,7 @@ abbrev pub choice_of : Choice → Chosen
 choice_of c = record { fronts = c.fronts.0.items; may = c.may.0.items }
 
 -- what is wrong, as data
-abbrev pub blame_of : Blame → Blamed
+abbrev pub blame_of : ForbiddenEvent → Blamed
 blame_of b =
     record { step = b.step; event = b.event; reply = b.reply; choice = option_map choice_of b.choice; why = b.why }
 

@@ -4,7 +4,7 @@ ghost use Rattle.std.specs.Prelude.{Some};
 ghost use Rattle.monk_tell.specs.Words.{choice_text};
 ghost use Rattle.monk_tell.specs.Told.{choice_of};
 
-use crate::lists::{Fronts, Nexts};
+use crate::lists::{FrontList, Nexts};
 use std::fmt;
 
 /// What a release chooses from, and what it may choose.
@@ -12,7 +12,7 @@ use std::fmt;
 pub struct Choice {
     /// The first seats of the waiter queue, the signaller queue and the ready seats, in this order,
     /// of each that isn't empty after the event's own moves.
-    pub fronts: Fronts,
+    pub fronts: FrontList,
     /// Each next that is permitted, in the order stay, entry, waiter, signaller, until.
     pub may: Nexts,
 }

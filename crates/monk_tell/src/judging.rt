@@ -8,8 +8,8 @@ ghost use Rattle.monk_audit.specs.Replay.{replay_situation};
 ghost use Rattle.monk_tell.specs.Cause.{choice_cause, own_reply};
 ghost use Rattle.monk_tell.specs.Told.{blame_of, blame_of_event, choice_of, chosen_at};
 
-use crate::blame::Blame;
 use crate::choice::Choice;
+use crate::forbidden::ForbiddenEvent;
 use crate::lines::{line_up, must_stay};
 use crate::permitted::choice_from;
 use crate::sentences::{early, wrong_choice, wrong_reply};
@@ -68,7 +68,7 @@ pub(crate) fn blame<T: Guarded>(
     step: u32,
     reason: Reason,
     event: Event,
-) -> Result<Blame, AllocError>
+) -> Result<ForbiddenEvent, AllocError>
     requires preds { All (λ w. w.1 < T.PREDICATES) (replay_situation replay.now (T.state object.old)).untils }
     requires reason { number_of reason ≡ reason_in (monitor rules header.now.seats header.now.conds T.meaning [])
         (replay_situation replay.now (T.state object.old)) event }
@@ -79,7 +79,7 @@ pub(crate) fn blame<T: Guarded>(
     match reason {
         Reason::Choice => {
             let (choice, why) = choice(alloc, header, rules, replay, object, event)?;
-            Ok(Blame {
+            Ok(ForbiddenEvent {
                 step,
                 event,
                 reply: None,
@@ -89,7 +89,7 @@ pub(crate) fn blame<T: Guarded>(
         }
         Reason::Reply => {
             let reply = own_reply(object, event);
-            Ok(Blame {
+            Ok(ForbiddenEvent {
                 step,
                 event,
                 reply,
@@ -97,7 +97,7 @@ pub(crate) fn blame<T: Guarded>(
                 why: wrong_reply(reply, event),
             })
         }
-        Reason::Range | Reason::Call | Reason::Turn | Reason::Place => Ok(Blame {
+        Reason::Range | Reason::Call | Reason::Turn | Reason::Place => Ok(ForbiddenEvent {
             step,
             event,
             reply: None,

@@ -1,9 +1,9 @@
 //! Tells how a monitor stands after a history, and of a forbidden one what was wrong and what would have been allowed.
 #![tactic(auto)]
 
-mod blame;
 mod choice;
 mod firsts;
+mod forbidden;
 mod judging;
 pub mod laws;
 mod lines;
@@ -25,10 +25,10 @@ mod told;
 mod waiting;
 mod why;
 
-pub use blame::Blame;
 pub use choice::Choice;
-pub use lists::{Fronts, Nexts, Numbers, Seats, Waits};
-pub use queues::{Conditions, Queues};
+pub use forbidden::ForbiddenEvent;
+pub use lists::{FrontList, Nexts, NumberList, SeatList, Waits};
+pub use queues::{Conditions, QueueLists};
 pub use refused::Refused;
 pub use rules::{Ranks, mode_word};
 pub use said::{SaidEvent, SaidTurn, queue_word};

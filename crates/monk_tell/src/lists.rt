@@ -9,9 +9,9 @@ use std::fmt;
 
 /// Seats, in order. Printed with a space before each.
 #[derive(Debug, Drop)]
-pub struct Seats(pub Vec<u8>);
+pub struct SeatList(pub Vec<u8>);
 
-impl fmt::Display for Seats {
+impl fmt::Display for SeatList {
     ghost output = { λ s. Some (seats_text s.0.items) };
 
     fn fmt<W: fmt::Write>(&self, f: &mut fmt::Formatter<W>) -> fmt::Result {
@@ -24,9 +24,9 @@ impl fmt::Display for Seats {
 
 /// Whole numbers, in order. Printed with a space before each.
 #[derive(Debug, Drop)]
-pub struct Numbers(pub Vec<u64>);
+pub struct NumberList(pub Vec<u64>);
 
-impl fmt::Display for Numbers {
+impl fmt::Display for NumberList {
     ghost output = { λ s. Some (numbers_text s.0.items) };
 
     fn fmt<W: fmt::Write>(&self, f: &mut fmt::Formatter<W>) -> fmt::Result {
@@ -58,9 +58,9 @@ impl fmt::Display for Waits {
 
 /// Queues that aren't empty, each with its first seat. Printed ` waiter 0, signaller 1`.
 #[derive(Debug, Drop)]
-pub struct Fronts(pub Vec<(From3, u8)>);
+pub struct FrontList(pub Vec<(From3, u8)>);
 
-impl fmt::Display for Fronts {
+impl fmt::Display for FrontList {
     ghost output = { λ s. Some (fronts_text s.0.items) };
 
     fn fmt<W: fmt::Write>(&self, f: &mut fmt::Formatter<W>) -> fmt::Result {

@@ -11,7 +11,7 @@ ghost use Rattle.monk_tell.specs.Told.{choice_of, chosen_at, lines_of};
 
 use crate::choice::Choice;
 use crate::lines::Lines;
-use crate::lists::{Fronts, Nexts};
+use crate::lists::{FrontList, Nexts};
 use monk_audit::permits;
 use monk_history::{Event, From3, Next};
 use monk_kinds::Rules;
@@ -101,7 +101,7 @@ pub(crate) fn choice_from(
         → choice_of c ≡ chosen_at rules o t event) }
 {
     Ok(Choice {
-        fronts: Fronts(fronts(alloc, lines)?),
+        fronts: FrontList(fronts(alloc, lines)?),
         may: Nexts(may(alloc, rules, lines, stays, event)?),
     })
 }

@@ -4,12 +4,12 @@ ghost use Rattle.std.specs.Prelude.{Some};
 ghost use Rattle.monk_tell.specs.Words.{conditions_text, queues_text};
 ghost use Rattle.monk_tell.specs.Told.{condition_lists, queues_of};
 
-use crate::lists::{Seats, Waits};
+use crate::lists::{SeatList, Waits};
 use std::fmt;
 
 /// The queues of the conditions, each with its number.
 #[derive(Debug, Drop)]
-pub struct Conditions(pub Vec<Seats>);
+pub struct Conditions(pub Vec<SeatList>);
 
 /// A line for each condition: `condition 1: 0 2`.
 impl fmt::Display for Conditions {
@@ -25,27 +25,30 @@ impl fmt::Display for Conditions {
 
 /// The queues inside a monitor, front first.
 #[derive(Debug, Drop)]
-pub enum Queues {
+pub enum QueueLists {
     /// Of an automatic kind: who waits until a predicate holds, and the seats of those whose predicate holds.
-    Automatic(Waits, Seats),
+    Automatic(Waits, SeatList),
     /// Of an immediate-return kind: who waits on each condition, and the waiter queue.
-    Returning(Conditions, Seats),
+    Returning(Conditions, SeatList),
     /// Of an explicit kind: who waits on each condition, the waiter queue and the signaller queue.
-    Explicit(Conditions, Seats, Seats),
+    Explicit(Conditions, SeatList, SeatList),
 }
 
 /// A line for each queue.
-impl fmt::Display for Queues {
+impl fmt::Display for QueueLists {
     ghost output = { λ q. Some (queues_text (queues_of q)) };
 
     fn fmt<W: fmt::Write>(&self, f: &mut fmt::Formatter<W>) -> fmt::Result {
         match self {
-            Queues::Automatic(untils, ready) => {
+            QueueLists::Automatic(untils, ready) => {
                 write!(f, "until:{untils}\n")?;
                 write!(f, "ready:{ready}\n")
             }
-            Queues::Returning(conditions, waiters) => write!(f, "{conditions}waiter:{waiters}\n"),
-            Queues::Explicit(conditions, waiters, signallers) => {
+            QueueLists::Returning(conditions, waiters) => write!(
+                f,
+                "{conditions}waiter:{waiters}\n"
+            ),
+            QueueLists::Explicit(conditions, waiters, signallers) => {
                 write!(f, "{conditions}waiter:{waiters}\n")?;
                 write!(f, "signaller:{signallers}\n")
             }

@@ -5,7 +5,7 @@ ghost use Rattle.monk_history.specs.Meaning.Acts.{refused_steps};
 ghost use Rattle.monk_tell.specs.Told.{refused_of, told_steps};
 ghost use Rattle.monk_tell.specs.Words.{more_text, refused_text};
 
-use crate::lists::Numbers;
+use crate::lists::NumberList;
 use monk_history::Event;
 use std::alloc::{AllocError, Global};
 use std::fmt;
@@ -17,7 +17,7 @@ const MOST_TOLD: usize = 10;
 #[derive(Debug, Drop)]
 pub struct Refused {
     /// The steps, counted from 1, rising.
-    pub first: Numbers,
+    pub first: NumberList,
     /// How many more there are.
     pub more: usize,
 }
@@ -45,7 +45,7 @@ pub(crate) fn refused_acts(alloc: Global, events: &[Event]) -> Result<Refused, A
     ensures { IfOk result (λ r. refused_of r ≡ told_steps (refused_steps events.now)) }
 {
     let mut refused = Refused {
-        first: Numbers(Vec::new(alloc)),
+        first: NumberList(Vec::new(alloc)),
         more: 0,
     };
     for (index, event) in events.iter().enumerate() {

@@ -5,7 +5,7 @@ ghost use Rattle.monk_audit.specs.Replay.{replay_situation};
 ghost use Rattle.monk_tell.specs.Words.{data_text, situation_text};
 ghost use Rattle.monk_tell.specs.Told.{shown_situation, situation_of};
 
-use crate::lists::Numbers;
+use crate::lists::NumberList;
 use crate::refused::{Refused, refused_acts};
 use crate::rules::{Ranks, mode_word};
 use crate::said::SaidTurn;
@@ -59,7 +59,7 @@ impl Situation {
 
 /// The data as numbers, and in words: ` 1 7 (buffer of 1: 7)`.
 #[derive(Drop)]
-pub struct Data<'a>(pub ObjectName, pub &'a Numbers);
+pub struct Data<'a>(pub ObjectName, pub &'a NumberList);
 
 impl fmt::Display for Data<'_> {
     ghost output = { λ d. Some (data_text d.0 d.1.now.0.items) };

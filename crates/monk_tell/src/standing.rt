@@ -6,8 +6,8 @@ ghost use Rattle.monk_tell.specs.Told.{condition_lists, conditions_below, inside
 ghost use Rattle.monk_tell.specs.Told.{standing_of};
 
 use crate::lines::{queue_at, ready_seats, signallers, untils, waiters};
-use crate::lists::{Numbers, Seats, Waits};
-use crate::queues::{Conditions, Queues};
+use crate::lists::{NumberList, SeatList, Waits};
+use crate::queues::{Conditions, QueueLists};
 use monk_audit::Replay;
 use monk_history::{Header, Turn};
 use monk_kinds::Mode;
@@ -20,11 +20,11 @@ pub struct Standing {
     /// Whose turn it is.
     pub turn: Turn,
     /// The seats inside, also those that wait there, rising.
-    pub inside: Seats,
+    pub inside: SeatList,
     /// The state of the object.
-    pub data: Numbers,
+    pub data: NumberList,
     /// Who waits inside.
-    pub queues: Queues,
+    pub queues: QueueLists,
 }
 
 impl Standing {
@@ -43,8 +43,8 @@ impl Standing {
     {
         Ok(Standing {
             turn: replay.turn(),
-            inside: Seats(inside_seats(alloc, replay, header.seats())?),
-            data: Numbers(data_numbers(alloc, object)?),
+            inside: SeatList(inside_seats(alloc, replay, header.seats())?),
+            data: NumberList(data_numbers(alloc, object)?),
             queues: queues(alloc, mode, header.conds(), replay, object)?,
         })
     }
@@ -86,7 +86,7 @@ fn conditions(alloc: Global, replay: &Replay, conds: u8) -> Result<Conditions, A
 {
     let mut queues = Vec::new(alloc);
     for cond in 0..conds {
-        queues.push(Seats(queue_at(alloc, replay, cond)?))?;
+        queues.push(SeatList(queue_at(alloc, replay, cond)?))?;
     }
     Ok(Conditions(queues))
 }
@@ -98,7 +98,7 @@ fn queues<T: Listed>(
     conds: u8,
     replay: &Replay,
     object: &T,
-) -> Result<Queues, AllocError>
+) -> Result<QueueLists, AllocError>
     requires { All (λ w. w.1 < T.PREDICATES) (replay_situation replay.now (T.state object.now)).untils }
     ensures { IfOk result
         (λ q. queues_of q ≡ queues_shown mode conds T.meaning (replay_situation replay.now (T.state object.now))) }
@@ -106,13 +106,13 @@ fn queues<T: Listed>(
     if mode == Mode::Automatic {
         let untils = untils(alloc, replay)?;
         let ready = ready_seats(alloc, object, &untils)?;
-        return Ok(Queues::Automatic(Waits(untils), Seats(ready)));
+        return Ok(QueueLists::Automatic(Waits(untils), SeatList(ready)));
     }
     let conditions = conditions(alloc, replay, conds)?;
-    let waiters = Seats(waiters(alloc, replay)?);
+    let waiters = SeatList(waiters(alloc, replay)?);
     if mode == Mode::ImmediateReturn {
-        return Ok(Queues::Returning(conditions, waiters));
+        return Ok(QueueLists::Returning(conditions, waiters));
     }
-    let signallers = Seats(signallers(alloc, replay)?);
-    Ok(Queues::Explicit(conditions, waiters, signallers))
+    let signallers = SeatList(signallers(alloc, replay)?);
+    Ok(QueueLists::Explicit(conditions, waiters, signallers))
 }

@@ -4,8 +4,8 @@ ghost use Rattle.std.specs.Prelude.{Some, option_map};
 ghost use Rattle.monk_tell.specs.Words.{choices_text, head_text, reply_text, tail_text, telling_text};
 ghost use Rattle.monk_tell.specs.Told.{blame_of, choice_of, telling_of};
 
-use crate::blame::Blame;
 use crate::choice::Choice;
+use crate::forbidden::ForbiddenEvent;
 use crate::said::SaidEvent;
 use crate::situation::Situation;
 use monk_audit::Verdict;
@@ -19,14 +19,14 @@ pub struct Telling {
     /// How the monitor stands before that event, or after all events of a legal history.
     pub situation: Situation,
     /// What is wrong with that event.
-    pub blame: Option<Blame>,
+    pub blame: Option<ForbiddenEvent>,
 }
 
 /// Which event is wrong.
 #[derive(Drop)]
-struct Head<'a>(&'a Blame);
+struct WrongLine<'a>(&'a ForbiddenEvent);
 
-impl fmt::Display for Head<'_> {
+impl fmt::Display for WrongLine<'_> {
     ghost output = { λ b. Some (head_text (blame_of b.0.now)) };
 
     fn fmt<W: fmt::Write>(&self, f: &mut fmt::Formatter<W>) -> fmt::Result {
@@ -39,9 +39,9 @@ impl fmt::Display for Head<'_> {
 
 /// The object's own reply, where it is told.
 #[derive(Drop)]
-struct Reply(Option<u64>);
+struct OwnReply(Option<u64>);
 
-impl fmt::Display for Reply {
+impl fmt::Display for OwnReply {
     ghost output = { λ r. Some (reply_text r.0) };
 
     fn fmt<W: fmt::Write>(&self, f: &mut fmt::Formatter<W>) -> fmt::Result {
@@ -69,13 +69,13 @@ impl fmt::Display for Offer<'_> {
 
 /// What its reason adds, and why.
 #[derive(Drop)]
-struct Tail<'a>(&'a Blame);
+struct Tail<'a>(&'a ForbiddenEvent);
 
 impl fmt::Display for Tail<'_> {
     ghost output = { λ b. Some (tail_text (blame_of b.0.now)) };
 
     fn fmt<W: fmt::Write>(&self, f: &mut fmt::Formatter<W>) -> fmt::Result {
-        let (reply, choice, why) = (Reply(self.0.reply), Offer(&self.0.choice), &self.0.why);
+        let (reply, choice, why) = (OwnReply(self.0.reply), Offer(&self.0.choice), &self.0.why);
         write!(f, "{reply}{choice}why: {why}\n")
     }
 }
@@ -89,7 +89,7 @@ impl fmt::Display for Telling {
         match &self.blame {
             None => write!(f, "{situation}"),
             Some(blame) => {
-                let (head, tail) = (Head(blame), Tail(blame));
+                let (head, tail) = (WrongLine(blame), Tail(blame));
                 write!(f, "{head}{situation}{tail}")
             }
         }

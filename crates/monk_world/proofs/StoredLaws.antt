@@ -11,10 +11,10 @@ use Rattle.monk_world.specs.Steps.{after_floor_in}
 use Rattle.monk_world.specs.declared.home.Home.{Home}
 use mathlib.Core.Path.{Path}
 use Rattle.monk_world.specs.Update.{update}
-use Rattle.monk_world.specs.Board.{world_on, state_in}
+use Rattle.monk_world.specs.WorldViews.{world_on, state_in}
 use Rattle.monk_world.specs.declared.place.Place.{Place}
 use Rattle.monk_world.specs.declared.place.Place.TheVariants.{Idle, Back}
-use Rattle.monk_world.specs.declared.board.Board.{Board}
+use Rattle.monk_world.specs.declared.words.WorldWords.{WorldWords}
 use Rattle.monk_world.proofs.UpdateLaws.{at_update, update_same}
 
 pub stored : {X : Type 0} (xs : List X) (i : ℕ) (x d : X) → i < length xs
@@ -23,7 +23,7 @@ stored {X} xs i x d near = λ m j.
     at_update (λ n. slice_index_or xs n d) i x (λ n y. Path X (slice_index_or (set xs i x) n d) y)
     (get_or-set_same xs i x d near) (λ n ne. get_or-set_other xs i n x d ne) j m
 
-module _ (w : Board) (i : ℕ) (near : i < w.seats) where
+module _ (w : WorldWords) (i : ℕ) (near : i < w.seats) where
   pub place_stored : (p q : Place) → p ≡ q → Path (ℕ → Place) (λ j. slice_index_or (set w.places.items i p) j Idle)
       (update (world_on w).place i q)
   place_stored p q e = stored w.places.items i p Idle (omega (arith, near, w.has_places, w.places.ok.0))

@@ -38,7 +38,7 @@ use Rattle.monk_world.specs.Steps.{after_drop, after_ticket_grant, after_seat_gr
 use Rattle.monk_world.specs.StepTable.{may_be_told, is_call_in_range, is_call_offered, call_of, left_for, names_entry}
 use Rattle.monk_world.specs.StepTable.{is_back, refusal, release_next, out_event, IsDone, IsReleased}
 use Rattle.monk_world.specs.Telling as telling
-use Rattle.monk_world.specs.Board.{WorldView, state_of_view, view_in, state_in, world_on, Shows, ShowsKnown}
+use Rattle.monk_world.specs.WorldViews.{WorldView, state_of_view, view_in, state_in, world_on, Shows, ShowsKnown}
 use Rattle.monk_world.specs.declared.answer.Answer.{Answer}
 use Rattle.monk_world.specs.declared.answer.Answer.TheVariants as answer
 use Rattle.monk_world.specs.declared.command.Command.{Command}
@@ -47,7 +47,7 @@ use Rattle.monk_world.specs.declared.home.Home.{Home}
 use Rattle.monk_world.specs.declared.place.Place.{Place}
 use Rattle.monk_world.specs.declared.place.Place.TheVariants.{Idle, Ticket, Due, Active, Back, Passing, Inner}
 use Rattle.monk_world.specs.declared.source.Source.{Source}
-use Rattle.monk_world.specs.declared.board.Board.{Board}
+use Rattle.monk_world.specs.declared.words.WorldWords.{WorldWords}
 use Rattle.monk_world.proofs.BoundLaws.{few_drawn}
 use Rattle.monk_world.proofs.DoneLaws.{IsReady, ready, kept_done}
 use Rattle.monk_world.proofs.SoundFloor.{sound_out}
@@ -87,7 +87,7 @@ pub entry_is : (p : Place) (x : Next) (to : Home) → p ≡ Back x to → is_bac
 entry_is p x to is e = is ∙ entry_of x to (sym (ap (λ (q : Place). is_back names_entry q) is) ∙ e)
 
 -- of a world with these words and this floor, seen as v
-module _ (k : Rules) (o : Object) (w : Board) (f : FloorView) (v : WorldView) (is : view_in w f ≡ v) (i : ℕ) where
+module _ (k : Rules) (o : Object) (w : WorldWords) (f : FloorView) (v : WorldView) (is : view_in w f ≡ v) (i : ℕ) where
   abbrev s : State
   s = state_in w f
 
@@ -99,7 +99,7 @@ module _ (k : Rules) (o : Object) (w : Board) (f : FloorView) (v : WorldView) (i
   returned c a t d =
       subst (λ (u : WorldView). IsDone k o (state_of_view u) i ((state_of_view u).world.place i) c a t) is d
 
-  pub kept : (c : Command) (a : Answer) (new : Board) (g : FloorView) (conds : ℕ) → IsKind k
+  pub kept : (c : Command) (a : Answer) (new : WorldWords) (g : FloorView) (conds : ℕ) → IsKind k
       → IsKept k o w.seats conds s → refusal k o (state_of_view v) i c ≡ None → new.seats ≡ w.seats
       → IsDone k o s i (s.world.place i) c a (state_in new g) → IsKept k o new.seats conds (state_in new g)
   kept c a new g conds kind old free same d =
@@ -116,14 +116,14 @@ module _ (k : Rules) (o : Object) (w : Board) (f : FloorView) (v : WorldView) (i
       → Goes c a t
   at_place p c a t at d = subst (λ (q : Place). IsDone k o s i q c a t) (sym at) d
 
-  pub arrive_goes : (a : Answer) (new : Board) → refusal k o (state_of_view v) i command.Arrive ≡ None
+  pub arrive_goes : (a : Answer) (new : WorldWords) → refusal k o (state_of_view v) i command.Arrive ≡ None
       → a ≡ answer.Arrived w.drawn w.unpassed → Shows w (after_arrive (world_on w) i) new
       → Goes command.Arrive a (state_in new f)
   arrive_goes a new free is_a shows =
       at_place Idle command.Arrive a (state_in new f)
       (idle_is (s.world.place i) ((ready_here command.Arrive free).told)) (is_a, shows.state f)
 
-  pub ticket_look_goes : (n : ℕ) (a : Answer) (new : Board) (conds : ℕ) → IsKept k o w.seats conds s
+  pub ticket_look_goes : (n : ℕ) (a : Answer) (new : WorldWords) (conds : ℕ) → IsKept k o w.seats conds s
       → s.world.place i ≡ Ticket n
       → a ≡ answer.Looked ((world_on w).ticket_place (n % w.seats) == n + 1)
       → Shows w (after_ticket_look (world_on w) i n ((world_on w).ticket_place (n % w.seats) == n + 1)) new
@@ -135,25 +135,25 @@ module _ (k : Rules) (o : Object) (w : Board) (f : FloorView) (v : WorldView) (i
       { world = after_ticket_look (world_on w) i n ((world_on w).ticket_place (n % m) == n + 1) })) old.seats_are
       (is_a, shows.state f))
 
-  pub seat_look_goes : (a : Answer) (new : Board) → s.world.place i ≡ Inner
+  pub seat_look_goes : (a : Answer) (new : WorldWords) → s.world.place i ≡ Inner
       → a ≡ answer.Looked ((world_on w).seat_place i == (world_on w).count i + 1)
       → Shows w (after_seat_look (world_on w) i ((world_on w).seat_place i == (world_on w).count i + 1)) new
       → Goes command.Look a (state_in new f)
   seat_look_goes a new at is_a shows = at_place Inner command.Look a (state_in new f) at (is_a, shows.state f)
 
-  pub active_peek_goes : (q : Source) (a : Answer) (new : Board) → s.world.place i ≡ Active q
+  pub active_peek_goes : (q : Source) (a : Answer) (new : WorldWords) → s.world.place i ≡ Active q
       → a ≡ answer.Found w.unpassed
       → ShowsKnown w (world_on w)
       (update (λ j. slice_index_or w.known.items j false) i
       (slice_index_or w.known.items i false || nat_le 2 w.unpassed)) new → Goes command.Peek a (state_in new f)
   active_peek_goes q a new at is_a shows = at_place (Active q) command.Peek a (state_in new f) at (is_a, shows.state f)
 
-  pub drop_goes : (to : Home) (a : Answer) (new : Board) → s.world.place i ≡ Back next.Entry to
+  pub drop_goes : (to : Home) (a : Answer) (new : WorldWords) → s.world.place i ≡ Back next.Entry to
       → a ≡ answer.Found w.unpassed → Shows w (after_drop (world_on w) i to) new → Goes command.Drop a (state_in new f)
   drop_goes to a new at is_a shows =
       at_place (Back next.Entry to) command.Drop a (state_in new f) at (is_a, shows.state f)
 
-  pub ticket_grant_goes : (n : ℕ) (to : Home) (a : Answer) (new : Board) (conds : ℕ) → IsKept k o w.seats conds s
+  pub ticket_grant_goes : (n : ℕ) (to : Home) (a : Answer) (new : WorldWords) (conds : ℕ) → IsKept k o w.seats conds s
       → s.world.place i ≡ Passing n to
       → a ≡ answer.GrantedTicket n → Shows w (after_ticket_grant w.seats (world_on w) i n to) new
       → Goes command.Grant a (state_in new f)
@@ -164,25 +164,25 @@ module _ (k : Rules) (o : Object) (w : Board) (f : FloorView) (v : WorldView) (i
             old.seats_are (shows.state f),
       )
 
-  pub waiter_grant_goes : (j : ℕ) (to : Home) (a : Answer) (new : Board) → s.world.place i ≡ Back (next.Waiter j) to
+  pub waiter_grant_goes : (j : ℕ) (to : Home) (a : Answer) (new : WorldWords) → s.world.place i ≡ Back (next.Waiter j) to
       → a ≡ answer.GrantedSeat j → Shows w (after_seat_grant (world_on w) i j to) new
       → Goes command.Grant a (state_in new f)
   waiter_grant_goes j to a new at is_a shows =
       at_place (Back (next.Waiter j) to) command.Grant a (state_in new f) at (is_a, shows.state f)
 
-  pub signaller_grant_goes : (j : ℕ) (to : Home) (a : Answer) (new : Board)
+  pub signaller_grant_goes : (j : ℕ) (to : Home) (a : Answer) (new : WorldWords)
       → s.world.place i ≡ Back (next.Signaller j) to → a ≡ answer.GrantedSeat j
       → Shows w (after_seat_grant (world_on w) i j to) new → Goes command.Grant a (state_in new f)
   signaller_grant_goes j to a new at is_a shows =
       at_place (Back (next.Signaller j) to) command.Grant a (state_in new f) at (is_a, shows.state f)
 
-  pub until_grant_goes : (j : ℕ) (to : Home) (a : Answer) (new : Board) → s.world.place i ≡ Back (next.Until j) to
+  pub until_grant_goes : (j : ℕ) (to : Home) (a : Answer) (new : WorldWords) → s.world.place i ≡ Back (next.Until j) to
       → a ≡ answer.GrantedSeat j → Shows w (after_seat_grant (world_on w) i j to) new
       → Goes command.Grant a (state_in new f)
   until_grant_goes j to a new at is_a shows =
       at_place (Back (next.Until j) to) command.Grant a (state_in new f) at (is_a, shows.state f)
 
-  pub out_goes : (q : Source) (a : Answer) (new : Board) (g : FloorView) → s.world.place i ≡ Due q
+  pub out_goes : (q : Source) (a : Answer) (new : WorldWords) (g : FloorView) → s.world.place i ≡ Due q
       → g ≡ with_event f (out_event i q (turn f.history)) → a ≡ answer.Now
       → ShowsKnown w (after_floor_out (world_on w) i q) (update (λ j. slice_index_or w.known.items j false) i false) new
       → Goes command.Out a (state_in new g)
@@ -197,7 +197,7 @@ module _ (k : Rules) (o : Object) (w : Board) (f : FloorView) (v : WorldView) (i
             }) grows,
       )
 
-  release_goes : (e : Event) (pick : Pick) (to : Home) (x : Next) (known : Bool) (a : Answer) (new : Board)
+  release_goes : (e : Event) (pick : Pick) (to : Home) (x : Next) (known : Bool) (a : Answer) (new : WorldWords)
       (g : FloorView) → known ≡ slice_index_or w.known.items i false
       → x ≡ release_next k o (record s { known = λ j. known }) i e pick → g ≡ with_event f (with_next x e)
       → a ≡ answer.Chose x → Shows w (cond (is_stay (Some x)) (world_on w) (after_floor_in (world_on w) i x to)) new
@@ -255,7 +255,7 @@ module _ (k : Rules) (o : Object) (w : Board) (f : FloorView) (v : WorldView) (i
       at_place (Active at.source) c a t at.is (d at.source)
 
   -- a release is done as its command says, and keeps what is kept
-  pub release_done : {x : Next} {known : Bool} {a : Answer} {new : Board} {g : FloorView} (c : Command) (e : Event)
+  pub release_done : {x : Next} {known : Bool} {a : Answer} {new : WorldWords} {g : FloorView} (c : Command) (e : Event)
       (pick : Pick) (to : Home) → refusal k o (state_of_view v) i c ≡ None
       → may_be_told (s.world.place i) c ≡ (stage (s.world.place i) == active_stage)
       → ((q : Source) → IsReleased k o s i e pick to a (state_in new g)
@@ -341,7 +341,7 @@ opening_kept k o opening seats conds budget free =
       conds_are = refl;
     }
 
-pub made_state : (w : Board) (f : FloorView) (opening : List ℕ) (seats conds budget : ℕ)
+pub made_state : (w : WorldWords) (f : FloorView) (opening : List ℕ) (seats conds budget : ℕ)
     → ((g : FloorView) → state_in w g ≡ record { world = opening_world; known = λ j. false; floor = g })
     → f ≡ empty_floor opening seats conds budget → state_in w f ≡ opening_state opening seats conds budget
 made_state w f opening seats conds budget shows is = shows f

@@ -13,7 +13,7 @@ pub mod StepTable
 pub mod Sound
 pub mod Runs
 pub mod Laws
-pub mod Board
+pub mod WorldViews
 pub mod Telling
 pub mod Kept
 pub mod Play

@@ -6,7 +6,6 @@
 #![tactic(auto)]
 
 mod answer;
-mod board;
 mod command;
 mod home;
 pub mod laws;
@@ -15,6 +14,7 @@ mod play;
 mod source;
 mod steps;
 mod telling;
+mod words;
 mod world;
 
 pub use answer::Answer;

@@ -6,24 +6,24 @@ ghost use Rattle.monk_world.specs.Stands.{opening_world};
 ghost use Rattle.monk_world.specs.Steps.{after_arrive, after_ticket_look, after_seat_look, after_floor_out};
 ghost use Rattle.monk_world.specs.Steps.{after_floor_in, after_drop, after_ticket_grant, after_seat_grant};
 ghost use Rattle.monk_world.specs.Steps as becomes;
-ghost use Rattle.monk_world.specs.Board.{Shows, ShowsKnown, world_on, state_in};
+ghost use Rattle.monk_world.specs.WorldViews.{Shows, ShowsKnown, world_on, state_in};
 
 use crate::answer::Answer;
-use crate::board::Board;
 use crate::home::Home;
 use crate::place::Place;
 use crate::source::Source;
+use crate::words::WorldWords;
 use monk_history::Next;
 use std::alloc::{AllocError, Global};
 
-impl Board {
+impl WorldWords {
     /// The words before any step.
-    pub fn make(alloc: Global, seats: u8) -> Result<Board, AllocError>
+    pub fn make(alloc: Global, seats: u8) -> Result<WorldWords, AllocError>
         ensures shows { IfOk result
             (λ w. (f : FloorView) → state_in w f ≡ record { world = opening_world; known = λ j. false; floor = f }) }
         ensures seats { IfOk result (λ w. w.seats ≡ seats) }
     {
-        Ok(Board {
+        Ok(WorldWords {
             seats,
             drawn: 0,
             unpassed: 0,

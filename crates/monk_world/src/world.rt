@@ -11,17 +11,17 @@ ghost use Rattle.monk_world.specs.Records.{IsRecordedBy, IsTakenBy, KeepsVersion
 ghost use Rattle.monk_world.specs.Runs.{IsWellLed, opening_state};
 ghost use Rattle.monk_world.specs.StepTable.{IsStep, IsDone, out_event, refusal, left_for, may_be_told};
 ghost use Rattle.monk_world.specs.Telling.{IsLed};
-ghost use Rattle.monk_world.specs.Board.{state_of_view};
+ghost use Rattle.monk_world.specs.WorldViews.{state_of_view};
 ghost use Rattle.monk_world.specs.Shown.{is_granted};
 
 use crate::answer::Answer;
-use crate::board::Board;
 use crate::command::Command;
 use crate::home::Home;
 use crate::place::Place;
 use crate::play::PlayLines;
 use crate::source::Source;
 use crate::telling::{is_in_range, is_offered, left_for, may_be_told};
+use crate::words::WorldWords;
 use monk_floor::{Floor, MakeFault};
 use monk_history::{Event, Next, Via};
 use monk_kinds::{Kind, Pick, rules_of};
@@ -36,14 +36,14 @@ use std::marker::Model;
 /// Every state that it is in is sound: the right to be active is in exactly one place, and the history is legal.
 #[derive(Drop)]
 pub struct World<K: Kind, T: Guarded> {
-    words: Board,
+    words: WorldWords,
     conds: u8,
     floor: Floor<K, T>,
 }
 
 impl<K: Kind, T: Guarded> Model for World<K, T> {
     ghost use Rattle.monk_world.specs.Kept.{IsKept};
-    ghost use Rattle.monk_world.specs.Board.{WorldView, view_in, state_of_view};
+    ghost use Rattle.monk_world.specs.WorldViews.{WorldView, view_in, state_of_view};
 
     ghost Value = { WorldView };
 
@@ -71,7 +71,7 @@ impl<K: Kind, T: Guarded> World<K, T> {
         ensures refused { IfErr result (λ e. IsRefused seats conds budget e) }
     {
         let floor = Floor::make(alloc, object, seats, conds, budget)?;
-        let words = Board::make(alloc, seats)?;
+        let words = WorldWords::make(alloc, seats)?;
         Ok(World {
             words,
             conds,

@@ -2,7 +2,7 @@
 
 use monk_audit::AuditFault;
 use monk_history::{Event, From3, Next, Turn, Via, read};
-use monk_tell::{Choice, Conditions, Queues, Seats, Step, tell_steps};
+use monk_tell::{Choice, Conditions, QueueLists, SeatList, Step, tell_steps};
 use std::test::Fail;
 
 /// A hand-over as Hoare's; the last event may not enter.
@@ -26,7 +26,7 @@ fn steps(rt: &HostRuntime, text: &[u8], before: usize, last: usize) -> Result<Ve
 }
 
 /// Whether these are the seats.
-fn are(seats: &Seats, want: &[u8]) -> bool {
+fn are(seats: &SeatList, want: &[u8]) -> bool {
     seats.0.as_slice() == want
 }
 
@@ -50,7 +50,7 @@ fn might_be(choice: &Option<Choice>, fronts: &[(From3, u8)], may: &[Next]) -> bo
 fn waits_by_an_item(step: &Step) -> bool {
     let standing = &step.standing;
     let waits = match &standing.queues {
-        Queues::Explicit(conditions, waiters, signallers) => {
+        QueueLists::Explicit(conditions, waiters, signallers) => {
             wait_on_the_second(conditions, &[0]) && are(waiters, &[]) && are(signallers, &[])
         }
         _ => false,
@@ -66,7 +66,7 @@ fn waits_by_an_item(step: &Step) -> bool {
 /// Whether the signal has handed the monitor over.
 fn hands_over(step: &Step) -> bool {
     let stepped_back = match &step.standing.queues {
-        Queues::Explicit(conditions, waiters, signallers) => {
+        QueueLists::Explicit(conditions, waiters, signallers) => {
             wait_on_the_second(conditions, &[]) && are(waiters, &[]) && are(signallers, &[1])
         }
         _ => false,
@@ -120,7 +120,7 @@ fn ready_seat_is_chosen(rt: HostRuntime) -> Result<(), Fail> {
     let is_told = match told.as_slice() {
         [act, leave] => {
             let is_ready = match &act.standing.queues {
-                Queues::Automatic(untils, ready) => {
+                QueueLists::Automatic(untils, ready) => {
                     untils.0.as_slice() == [(0, 1)].as_slice() && are(ready, &[0])
                 }
                 _ => false,

@@ -2,7 +2,7 @@
 
 use monk_audit::{AuditFault, Verdict};
 use monk_history::{Event, From3, Next, Turn, read};
-use monk_tell::{Blame, Choice, Queues, Seats, Telling, tell};
+use monk_tell::{Choice, ForbiddenEvent, QueueLists, SeatList, Telling, tell};
 use std::test::Fail;
 
 /// A hand-over as Hoare's, of a kind whose signallers go on.
@@ -28,13 +28,13 @@ fn telling(rt: &HostRuntime, text: &[u8]) -> Result<Telling, Fail> {
 }
 
 /// Whether these are the seats.
-fn are(seats: &Seats, want: &[u8]) -> bool {
+fn are(seats: &SeatList, want: &[u8]) -> bool {
     seats.0.as_slice() == want
 }
 
 /// Whether the seats of the second condition wait, and no others.
-fn wait_on_the_second(queues: &Queues, want: &[u8]) -> bool {
-    let Queues::Explicit(conditions, waiters, signallers) = queues else {
+fn wait_on_the_second(queues: &QueueLists, want: &[u8]) -> bool {
+    let QueueLists::Explicit(conditions, waiters, signallers) = queues else {
         return false;
     };
     let seats = conditions.0.as_slice();
@@ -55,7 +55,7 @@ fn had_to_be(choice: &Option<Choice>, fronts: &[(From3, u8)], next: Next) -> boo
 }
 
 /// Whether the signal is blamed, which had to let its seat go on.
-fn blames_the_signal(blame: &Option<Blame>) -> bool {
+fn blames_the_signal(blame: &Option<ForbiddenEvent>) -> bool {
     match blame {
         Some(blame) => {
             blame.step == 6
@@ -88,9 +88,9 @@ fn choice_is_told(rt: HostRuntime) -> Result<(), Fail> {
 }
 
 /// Whether nobody waits until a predicate holds.
-fn nobody_waits(queues: &Queues) -> bool {
+fn nobody_waits(queues: &QueueLists) -> bool {
     match queues {
-        Queues::Automatic(untils, ready) => untils.0.is_empty() && ready.0.is_empty(),
+        QueueLists::Automatic(untils, ready) => untils.0.is_empty() && ready.0.is_empty(),
         _ => false,
     }
 }

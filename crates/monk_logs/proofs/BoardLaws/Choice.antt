@@ -25,14 +25,14 @@ use Rattle.monk_logs.specs.declared.order.Order.{Order}
 use Rattle.monk_logs.specs.declared.order.Order.TheVariants.{Fifo, Wake, Any}
 use Rattle.monk_logs.proofs.BoardLaws.Chooses.{Chooses, Offers, Someone, must_choose, served_choose}
 use Rattle.monk_logs.proofs.BoardLaws.Orderly.{Orderly}
-use Rattle.monk_logs.proofs.BoardLaws.Told.{owner_counted}
+use Rattle.monk_logs.proofs.BoardLaws.ToldOnBoards.{owner_counted}
 use Rattle.monk_logs.proofs.CourseLaws.Tests.{called_with}
 use Rattle.monk_logs.proofs.OrderLaws.Chances.{IsLoose, loose_or_not}
 use Rattle.monk_logs.proofs.OrderLaws.Choosing.{front_resumes, loose_resume, resume_served, resume_there, was_served_it}
 use Rattle.monk_logs.proofs.OrderLaws.Counts.{ready_waits, until_seats}
 use Rattle.monk_logs.proofs.OrderLaws.Fits.{Fits}
 use Rattle.monk_logs.proofs.OrderLaws.Keeps.{few_services}
-use Rattle.monk_logs.proofs.OrderLaws.Lines.{all_seats, service_there, waits_only}
+use Rattle.monk_logs.proofs.OrderLaws.SeatsInLine.{all_seats, service_there, waits_only}
 use Rattle.monk_logs.proofs.OrderLaws.Lists.{Distinct, among_counted, among_here, among-append, same_number}
 use Rattle.monk_logs.proofs.OrderLaws.Passes.{Passes}
 use Rattle.monk_logs.proofs.OrderLaws.Seated.{one_at_most, seats_with}

@@ -31,7 +31,7 @@ use Rattle.monk_logs.specs.declared.board.pending.Pending.TheVariants.{Settled, 
 use Rattle.monk_logs.specs.declared.board.step.Step.{Step}
 use Rattle.monk_logs.specs.declared.board.step.Step.TheVariants.{Did, Lapsed}
 use Rattle.monk_logs.proofs.BoardLaws.Lists.{judge-append, none_told}
-use Rattle.monk_logs.proofs.BoardLaws.Told.{FitsTurn, found, step_first, step_later, step_lines_are, step_tells}
+use Rattle.monk_logs.proofs.BoardLaws.ToldOnBoards.{FitsTurn, found, step_first, step_later, step_lines_are, step_tells}
 use Rattle.monk_logs.proofs.CourseLaws.Calls.{due_queue, half_called, named_again, not_at_once}
 use Rattle.monk_logs.proofs.CourseLaws.Tests.{called_again, tests_from_called}
 use Rattle.monk_logs.proofs.OrderLaws.Passes.{Passes, passes, reason_none}

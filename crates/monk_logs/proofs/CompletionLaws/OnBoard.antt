@@ -30,7 +30,7 @@ use Rattle.monk_logs.specs.declared.board.pending.Pending.{Pending}
 use Rattle.monk_logs.specs.declared.board.pending.Pending.TheVariants.{Settled, Half, Release}
 use Rattle.monk_logs.specs.declared.verdict.LogVerdict.TheVariants.{Fits, Misfit}
 use Rattle.monk_logs.proofs.BoardLaws.Held.{behind_held}
-use Rattle.monk_logs.proofs.BoardLaws.Lines.{over_apart}
+use Rattle.monk_logs.proofs.BoardLaws.ComingLines.{over_apart}
 use Rattle.monk_logs.proofs.CompletionLaws.Endings.{course_ends, course_fits}
 use Rattle.monk_logs.proofs.CompletionLaws.Known.{IsCourse, course_line, course_opens}
 use Rattle.monk_logs.proofs.FifoLaws.Endings.{last_same}

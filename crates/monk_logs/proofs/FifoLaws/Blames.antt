@@ -35,7 +35,7 @@ use Rattle.monk_logs.proofs.OrderLaws.Choosing.{resumes, was_served_it}
 use Rattle.monk_logs.proofs.OrderLaws.Fits.{Fits}
 use Rattle.monk_logs.proofs.OrderLaws.Forward.{served}
 use Rattle.monk_logs.proofs.OrderLaws.Leads.{Leads}
-use Rattle.monk_logs.proofs.OrderLaws.Lines.{all_seats}
+use Rattle.monk_logs.proofs.OrderLaws.SeatsInLine.{all_seats}
 use Rattle.monk_logs.proofs.OrderLaws.Lists.{Distinct, among_others}
 use Rattle.monk_logs.proofs.OrderLaws.Sound.{Sound, distinct_with, keeps_with, sound_distinct}
 use Rattle.monk_logs.proofs.OrderLaws.Stands.{among, ready_same, stay_same}

@@ -26,7 +26,7 @@ use Rattle.monk_logs.specs.Chances.{chances, may_choose_by, may_signal_by}
 use Rattle.monk_logs.specs.Order.{apart}
 use Rattle.monk_logs.specs.Run.{IsAfter, IsMove, Serves, ServesAny, chosen_waiter, is_permitted_by, taken_signaller}
 use Rattle.monk_logs.specs.declared.order.Order.TheVariants.{Fifo}
-use Rattle.monk_logs.proofs.CourseLaws.Told.{permits, signaller_front, waiter_front}
+use Rattle.monk_logs.proofs.CourseLaws.ToldInHistories.{permits, signaller_front, waiter_front}
 use Rattle.monk_logs.proofs.FifoLaws.Fronts.{IsFew, apart_nobody, condition_gone, front_gone, times_served}
 use Rattle.monk_logs.proofs.FifoLaws.Tidy.{IsTidy}
 use Rattle.monk_logs.proofs.OrderLaws.Counts.{times-append}

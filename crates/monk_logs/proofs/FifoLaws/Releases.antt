@@ -21,8 +21,8 @@ use Rattle.monk_logs.specs.BoardMoves.{choice_on}
 use Rattle.monk_logs.specs.Items.{condition_of}
 use Rattle.monk_logs.specs.Order.{is_among}
 use Rattle.monk_logs.specs.declared.order.Order.TheVariants.{Fifo}
-use Rattle.monk_logs.proofs.BoardLaws.Told.{IsFound, found}
-use Rattle.monk_logs.proofs.CourseLaws.Told.{IsChosen, chosen}
+use Rattle.monk_logs.proofs.BoardLaws.ToldOnBoards.{IsFound, found}
+use Rattle.monk_logs.proofs.CourseLaws.ToldInHistories.{IsChosen, chosen}
 use Rattle.monk_logs.proofs.FifoLaws.Reasons.{Same, same_reason}
 use Rattle.monk_logs.proofs.OrderLaws.Passes.{passes}
 use Rattle.monk_logs.proofs.StepLaws.{next_with}

@@ -33,8 +33,8 @@ use Rattle.monk_logs.proofs.OrderLaws.Choosing.{Comes, comes, front_resumes}
 use Rattle.monk_logs.proofs.OrderLaws.Fits.{not_elsewhere}
 use Rattle.monk_logs.proofs.OrderLaws.Keeps.{few_services}
 use Rattle.monk_logs.proofs.OrderLaws.Leads.{among_dropped, less, without, without_there}
-use Rattle.monk_logs.proofs.OrderLaws.Lines.{all_seats, distinct_line, line-append, line_lapsed, line_taken, seats_in-append, seats_lapsed}
-use Rattle.monk_logs.proofs.OrderLaws.Lines.{seats_taken, service_there, waits_only}
+use Rattle.monk_logs.proofs.OrderLaws.SeatsInLine.{all_seats, distinct_line, line-append, line_lapsed, line_taken, seats_in-append, seats_lapsed}
+use Rattle.monk_logs.proofs.OrderLaws.SeatsInLine.{seats_taken, service_there, waits_only}
 use Rattle.monk_logs.proofs.OrderLaws.Lists.{Distinct, among_here, apart_from, same_number}
 use Rattle.monk_logs.proofs.OrderLaws.Passes.{front_among}
 use Rattle.monk_logs.proofs.OrderLaws.Rests.{filter_on}

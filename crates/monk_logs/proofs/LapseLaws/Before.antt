@@ -7,7 +7,7 @@ use Rattle.monk_logs.specs.Order.{is_among}
 use Rattle.monk_logs.proofs.OrderLaws.Lists.{Distinct, among_others}
 use Rattle.monk_logs.proofs.OrderLaws.Covers.{lapsed_in, one_less, taken_in}
 use Rattle.monk_logs.proofs.OrderLaws.Coming.{unlapsed}
-use Rattle.monk_logs.proofs.OrderLaws.Lines.{gifts}
+use Rattle.monk_logs.proofs.OrderLaws.SeatsInLine.{gifts}
 
 -- the services before the seat behind n others, or all where there is none
 abbrev pub before : ℕ → List (Option ℕ) → ℕ

@@ -31,7 +31,7 @@ use Rattle.monk_logs.specs.declared.board.step.Step.TheVariants.{Did, Lapsed}
 use Rattle.monk_logs.proofs.BoardLaws.Exact.{judged_open, open_judged}
 use Rattle.monk_logs.proofs.CourseLaws.Soundness.{cond_some}
 use Rattle.monk_logs.proofs.CourseLaws.Tests.{passed}
-use Rattle.monk_logs.proofs.LapseLaws.Lines.{Below, Follows, known_did, known_lapsed, then_did}
+use Rattle.monk_logs.proofs.LapseLaws.TakenWithFewer.{Below, Follows, known_did, known_lapsed, then_did}
 use Rattle.monk_logs.proofs.LapseLaws.Moves.{IsLevel, with_items}
 use Rattle.monk_logs.proofs.LapseLaws.OneReading.{IsFirstServed, read_once}
 use Rattle.monk_logs.proofs.LapseLaws.Read.{IsRelease, read_follows}

@@ -17,7 +17,7 @@ use Rattle.monk_logs.specs.declared.board.item.Item.{Item}
 use Rattle.monk_logs.specs.declared.board.item.Item.TheVariants.{Waiting, Service}
 use Rattle.monk_logs.specs.declared.order.Order.{Order}
 use Rattle.monk_logs.proofs.LapseLaws.FewerIn.{FewerIn, fewer_all, fewer_gifts, fewer_joined}
-use Rattle.monk_logs.proofs.OrderLaws.Lines.{all_seats, line-append, line_given, line_given_other, no_service, service_there}
+use Rattle.monk_logs.proofs.OrderLaws.SeatsInLine.{all_seats, line-append, line_given, line_given_other, no_service, service_there}
 use Rattle.monk_logs.proofs.OrderLaws.Lists.{Distinct}
 
 -- who came to wait

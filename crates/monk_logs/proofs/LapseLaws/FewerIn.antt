@@ -11,7 +11,7 @@ use Rattle.monk_logs.proofs.LapseLaws.Before.{few_before, keeps_from, lapsed_lon
 use Rattle.monk_logs.proofs.OrderLaws.Lists.{Distinct, among_others}
 use Rattle.monk_logs.proofs.OrderLaws.Covers.{lapsed_in, taken_in}
 use Rattle.monk_logs.proofs.OrderLaws.Keeps.{services_lapsed}
-use Rattle.monk_logs.proofs.OrderLaws.Lines.{gifts, services_gifts, services_in-append, services_taken}
+use Rattle.monk_logs.proofs.OrderLaws.SeatsInLine.{gifts, services_gifts, services_in-append, services_taken}
 
 abbrev pub FewerIn : Order → List (Option ℕ) → List (Option ℕ) → Type 0
 FewerIn Fifo k l = services_in k ≤ services_in l

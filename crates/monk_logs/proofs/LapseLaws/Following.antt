@@ -21,7 +21,7 @@ use Rattle.monk_logs.specs.declared.board.pending.Pending.{Pending}
 use Rattle.monk_logs.specs.declared.verdict.LogVerdict.{LogVerdict}
 use Rattle.monk_logs.specs.declared.verdict.LogVerdict.TheVariants.{Fits, Misfit}
 use Rattle.monk_logs.proofs.BoardLaws.Held.{behind_held}
-use Rattle.monk_logs.proofs.BoardLaws.Lines.{over_apart}
+use Rattle.monk_logs.proofs.BoardLaws.ComingLines.{over_apart}
 use Rattle.monk_logs.proofs.VerdictLaws.Along.{along_done, along_same, along_stopped, along_taken}
 
 -- ---- the opening state of the object has no part in how lines are judged from a board

@@ -17,7 +17,7 @@ use Rattle.monk_logs.proofs.OrderLaws.Choosing.{can_there}
 use Rattle.monk_logs.proofs.OrderLaws.Coming.{lapses, unlapsed}
 use Rattle.monk_logs.proofs.OrderLaws.Covers.{lapsed_in, taken_in}
 use Rattle.monk_logs.proofs.OrderLaws.Led.{can_service}
-use Rattle.monk_logs.proofs.OrderLaws.Lines.{all_seats, distinct_line, line_lapsed, line_taken, unmoved, waits_only, waits_there}
+use Rattle.monk_logs.proofs.OrderLaws.SeatsInLine.{all_seats, distinct_line, line_lapsed, line_taken, unmoved, waits_only, waits_there}
 use Rattle.monk_logs.proofs.OrderLaws.Lists.{Distinct}
 
 pub served_from : (o : Order) (j c : ℕ) (items : List Item) → condition_of j items ≡ Some c

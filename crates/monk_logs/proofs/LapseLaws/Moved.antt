@@ -23,7 +23,7 @@ use Rattle.monk_logs.specs.declared.order.Order.TheVariants.{Any}
 use Rattle.monk_logs.proofs.LapseLaws.Fewer.{Fewer, empty_more, fewer_came, fewer_given, no_services}
 use Rattle.monk_logs.proofs.LapseLaws.Goes.{fewer_taken}
 use Rattle.monk_logs.proofs.LapseLaws.Moves.{IsLevel, Suits, choose_kept, signal_after, signal_permit, until_kept, with_items}
-use Rattle.monk_logs.proofs.OrderLaws.Lines.{all_seats}
+use Rattle.monk_logs.proofs.OrderLaws.SeatsInLine.{all_seats}
 use Rattle.monk_logs.proofs.OrderLaws.Lists.{Distinct, counted_one, none_counted}
 use Rattle.monk_logs.proofs.OrderLaws.Passes.{Passes}
 use Rattle.monk_logs.proofs.OrderLaws.Seated.{one_at_most, owned_turn}

@@ -28,7 +28,7 @@ use Rattle.monk_logs.specs.declared.order.Order.{Order}
 use Rattle.monk_logs.specs.declared.order.Order.TheVariants.{Fifo, Wake, Any}
 use Rattle.monk_logs.specs.declared.board.pending.Pending.{Pending}
 use Rattle.monk_logs.specs.declared.board.pending.Pending.TheVariants.{Settled, Half, Release}
-use Rattle.monk_logs.proofs.LapseLaws.Lines.{known_did, known_lapsed, then_did}
+use Rattle.monk_logs.proofs.LapseLaws.TakenWithFewer.{known_did, known_lapsed, then_did}
 use Rattle.monk_logs.proofs.LapseLaws.Moved.{empty_is}
 use Rattle.monk_logs.proofs.LapseLaws.Read.{IsRelease, goes_as_waiter, not_due, standing}
 use Rattle.monk_logs.proofs.LapseLaws.Released.{condition_came}
@@ -37,8 +37,8 @@ use Rattle.monk_logs.proofs.OrderLaws.Choosing.{resume_served, resumes}
 use Rattle.monk_logs.proofs.OrderLaws.Coming.{lapses}
 use Rattle.monk_logs.proofs.OrderLaws.Leads.{among_dropped}
 use Rattle.monk_logs.proofs.OrderLaws.Led.{can_service}
-use Rattle.monk_logs.proofs.OrderLaws.Lines.{all_seats, distinct_line, line-append, no_service, seats_in-append}
-use Rattle.monk_logs.proofs.OrderLaws.Lines.{services_in-append, services_taken, some_same}
+use Rattle.monk_logs.proofs.OrderLaws.SeatsInLine.{all_seats, distinct_line, line-append, no_service, seats_in-append}
+use Rattle.monk_logs.proofs.OrderLaws.SeatsInLine.{services_in-append, services_taken, some_same}
 use Rattle.monk_logs.proofs.OrderLaws.Lists.{Distinct, among_others, apart_from}
 use Rattle.monk_logs.proofs.OrderLaws.Passes.{Passes}
 use Rattle.monk_logs.proofs.OrderLaws.Sound.{Sound, keeps_with, lapse_there, sound_after, sound_distinct}

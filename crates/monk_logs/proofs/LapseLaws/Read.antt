@@ -35,14 +35,14 @@ use Rattle.monk_logs.specs.declared.board.pending.Pending.{Pending}
 use Rattle.monk_logs.specs.declared.board.pending.Pending.TheVariants.{Settled, Half, Release}
 use Rattle.monk_logs.specs.declared.board.step.Step.TheVariants.{Did}
 use Rattle.monk_logs.proofs.LapseLaws.Fewer.{Fewer, empty_more, fewer_came, fewer_given, same_condition, same_seats}
-use Rattle.monk_logs.proofs.LapseLaws.Lines.{Below, Follows, follows_by, half_follows, known_did, known_lapsed, lapsed_ok}
-use Rattle.monk_logs.proofs.LapseLaws.Lines.{line_follows, then_did}
-use Rattle.monk_logs.proofs.LapseLaws.Lines.{then_follows, then_ok}
+use Rattle.monk_logs.proofs.LapseLaws.TakenWithFewer.{Below, Follows, follows_by, half_follows, known_did, known_lapsed, lapsed_ok}
+use Rattle.monk_logs.proofs.LapseLaws.TakenWithFewer.{line_follows, then_did}
+use Rattle.monk_logs.proofs.LapseLaws.TakenWithFewer.{then_follows, then_ok}
 use Rattle.monk_logs.proofs.LapseLaws.Moves.{IsLevel, Suits, with_items}
 use Rattle.monk_logs.proofs.LapseLaws.Released.{lapsed_below, served_below}
 use Rattle.monk_logs.proofs.LapseLaws.Resuming.{items_behind, items_same, may_be_served, stands_once}
 use Rattle.monk_logs.proofs.StepLaws.{next_with}
-use Rattle.monk_logs.proofs.OrderLaws.Lines.{all_seats}
+use Rattle.monk_logs.proofs.OrderLaws.SeatsInLine.{all_seats}
 use Rattle.monk_logs.proofs.OrderLaws.Lists.{counted_one}
 use Rattle.monk_logs.proofs.OrderLaws.Passes.{Passes}
 use Rattle.monk_logs.proofs.OrderLaws.Sound.{Sound, lapse_there, sound_after}

@@ -19,13 +19,13 @@ use Rattle.monk_logs.specs.declared.board.item.Item.TheVariants.{Waiting, Servic
 use Rattle.monk_logs.specs.declared.order.Order.TheVariants.{Any}
 use Rattle.monk_logs.proofs.LapseLaws.Fewer.{Fewer, fewer_came, fewer_given, same_seats}
 use Rattle.monk_logs.proofs.LapseLaws.Goes.{fewer_mixed, fewer_turned, keeps_gone, lapse_from}
-use Rattle.monk_logs.proofs.LapseLaws.Lines.{Below}
+use Rattle.monk_logs.proofs.LapseLaws.TakenWithFewer.{Below}
 use Rattle.monk_logs.proofs.LapseLaws.Moved.{Moved, moved}
 use Rattle.monk_logs.proofs.LapseLaws.Moves.{IsLevel, Suits, with_items}
 use Rattle.monk_logs.proofs.LapseLaws.Resuming.{entry_passes, items_behind, lapsed_same, may_be_served, resumed}
 use Rattle.monk_logs.proofs.StepLaws.{next_with}
 use Rattle.monk_logs.proofs.OrderLaws.Choosing.{resume_there}
-use Rattle.monk_logs.proofs.OrderLaws.Lines.{all_seats, all_seats-append, among_line, waits_there}
+use Rattle.monk_logs.proofs.OrderLaws.SeatsInLine.{all_seats, all_seats-append, among_line, waits_there}
 use Rattle.monk_logs.proofs.OrderLaws.Lists.{Distinct, among-append, among_here, among_others}
 use Rattle.monk_logs.proofs.OrderLaws.Passes.{Passes}
 use Rattle.monk_logs.proofs.OrderLaws.Sound.{Sound, distinct_with, keeps_item, keeps_with, sound_after, sound_distinct}

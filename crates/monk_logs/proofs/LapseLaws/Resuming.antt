@@ -27,7 +27,7 @@ use Rattle.monk_logs.specs.declared.board.item.Item.{Item}
 use Rattle.monk_logs.specs.declared.order.Order.{Order}
 use Rattle.monk_logs.proofs.CourseLaws.Tests.{called_with}
 use Rattle.monk_logs.proofs.LapseLaws.Moves.{IsLevel, with_items}
-use Rattle.monk_logs.proofs.OrderLaws.Lines.{all_seats}
+use Rattle.monk_logs.proofs.OrderLaws.SeatsInLine.{all_seats}
 use Rattle.monk_logs.proofs.OrderLaws.Lists.{among_counted}
 use Rattle.monk_logs.proofs.OrderLaws.Passes.{Passes}
 use Rattle.monk_logs.proofs.OrderLaws.Seated.{one_at_most}

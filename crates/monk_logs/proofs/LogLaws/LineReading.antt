@@ -11,10 +11,10 @@ use Rattle.monk_logs.specs.Log.{log_words, LineFits}
 use Rattle.monk_logs.specs.Log.Reading.{log_verb_word, log_verbs, line_after, log_line_at}
 use Rattle.monk_logs.specs.declared.text.line.LogLine.{LogLine}
 use Rattle.monk_logs.specs.declared.text.line.LogLine.TheVariants.{Enter, Resume, Lapse, Leave, Wait, Signal, Broadcast, Until, Act}
-use Rattle.monk_logs.specs.declared.text.verb.Verb.{Verb}
-use Rattle.monk_logs.specs.declared.text.verb.Verb.TheVariants as verb
+use Rattle.monk_logs.specs.declared.text.verb.LineVerb.{LineVerb}
+use Rattle.monk_logs.specs.declared.text.verb.LineVerb.TheVariants as verb
 
-verb_again : (v : Verb) → with_text log_verb_word log_verbs (log_verb_word v) ≡ Some v
+verb_again : (v : LineVerb) → with_text log_verb_word log_verbs (log_verb_word v) ≡ Some v
 verb_again verb.Enter = refl
 verb_again verb.Resume = refl
 verb_again verb.Lapse = refl
@@ -28,13 +28,13 @@ verb_again verb.Act = refl
 -- ---- behind verb and seat
 
 -- what a line is where its verb and its seat have been read
-abbrev Ends : Verb → ℕ → List Word → LogLine × List Word → Type 0
+abbrev Ends : LineVerb → ℕ → List Word → LogLine × List Word → Type 0
 Ends v s ws y = (log_verb_word v ∷ decimal s ∷ ws ≡ log_words y.0 ++ y.1) × LineFits y.0
 
-abbrev behind : Verb → ℕ → List Word → List Word
+abbrev behind : LineVerb → ℕ → List Word → List Word
 behind v s ws = log_verb_word v ∷ decimal s ∷ ws
 
-line_takes : (v : Verb) (s : ℕ) (ws : List Word) (x : LogLine × List Word) → s ≤ 255 → line_after v s ws ≡ Ok x
+line_takes : (v : LineVerb) (s : ℕ) (ws : List Word) (x : LogLine × List Word) → s ≤ 255 → line_after v s ws ≡ Ok x
     → Ends v s ws x
 unfolding line_after
 line_takes verb.Enter s ws x le e = subst (Ends verb.Enter s ws) (ok_is (Enter s, ws) x e) (refl, le)
@@ -69,10 +69,10 @@ line_takes verb.Act s ws x le e =
 abbrev at_line : LogLine × List Word → Taken LogLine
 at_line l = end_at l.1 >>= λ z. Ok (l.0, z.1)
 
-abbrev at_seat : Verb → ℕ × List Word → Taken LogLine
+abbrev at_seat : LineVerb → ℕ × List Word → Taken LogLine
 at_seat v s = line_after v s.0 s.1 >>= at_line
 
-abbrev at_verb : Verb × List Word → Taken LogLine
+abbrev at_verb : LineVerb × List Word → Taken LogLine
 at_verb v = number_at 255 v.1 >>= at_seat v.0
 
 pub log_line_takes : (ws : List Word) (x : LogLine × List Word) → log_line_at ws ≡ Ok x
@@ -92,7 +92,7 @@ log_line_takes ws x e =
     subst (λ (y : LogLine × List Word). (ws ≡ log_words y.0) × LineFits y.0) (ok_is (l.0.0, n.0.1) x n.2)
     (whole, line_is.1)
 
-from_after : (v : Verb) (s : ℕ) (ws : List Word) (l : LogLine) → s ≤ 255 → line_after v s ws ≡ Ok (l, [])
+from_after : (v : LineVerb) (s : ℕ) (ws : List Word) (l : LogLine) → s ≤ 255 → line_after v s ws ≡ Ok (l, [])
     → log_line_at (log_verb_word v ∷ decimal s ∷ ws) ≡ Ok (l, [])
 unfolding log_line_at
 from_after v s ws l le h =

@@ -25,7 +25,7 @@ use Rattle.monk_logs.specs.declared.text.line.LogLine.{LogLine}
 use Rattle.monk_logs.proofs.BoardLaws.Standing.{over_same}
 use Rattle.monk_logs.proofs.LapseLaws.Following.{read_opens}
 use Rattle.monk_logs.proofs.NeedLaws.Choices.{and_true, meets_with, same_if}
-use Rattle.monk_logs.proofs.NeedLaws.Lines.{behind_split}
+use Rattle.monk_logs.proofs.NeedLaws.WidestLines.{behind_split}
 
 and_false : (a : Bool) → false ≡ (a && false)
 and_false true = refl

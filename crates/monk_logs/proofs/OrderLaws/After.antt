@@ -22,8 +22,8 @@ use Rattle.monk_logs.specs.declared.board.item.Item.TheVariants.{Waiting, Servic
 use Rattle.monk_logs.proofs.OrderLaws.Choosing.{less_among}
 use Rattle.monk_logs.proofs.OrderLaws.Counts.{counts_one}
 use Rattle.monk_logs.proofs.OrderLaws.Leads.{less}
-use Rattle.monk_logs.proofs.OrderLaws.Lines.{all_seats, all_seats_taken, distinct_line, line-append, line_given, line_given_other}
-use Rattle.monk_logs.proofs.OrderLaws.Lines.{line_taken, seats_gifts, seats_in-append, seats_taken}
+use Rattle.monk_logs.proofs.OrderLaws.SeatsInLine.{all_seats, all_seats_taken, distinct_line, line-append, line_given, line_given_other}
+use Rattle.monk_logs.proofs.OrderLaws.SeatsInLine.{line_taken, seats_gifts, seats_in-append, seats_taken}
 use Rattle.monk_logs.proofs.OrderLaws.Lists.{AgreeBut, Distinct, agree_apart, among-append, among_counted, among_filter, among_here}
 use Rattle.monk_logs.proofs.OrderLaws.Rests.{filter_on}
 use Rattle.monk_logs.proofs.OrderLaws.Seated.{Seated, one_at_most, owned_turn, seats_with}

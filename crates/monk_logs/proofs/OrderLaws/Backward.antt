@@ -26,7 +26,7 @@ use Rattle.monk_logs.proofs.OrderLaws.Choosing.{unchoose}
 use Rattle.monk_logs.proofs.OrderLaws.Coming.{unjoin}
 use Rattle.monk_logs.proofs.OrderLaws.Fits.{Fits, fits_same}
 use Rattle.monk_logs.proofs.OrderLaws.Leads.{less}
-use Rattle.monk_logs.proofs.OrderLaws.Lines.{all_seats, all_seats_taken}
+use Rattle.monk_logs.proofs.OrderLaws.SeatsInLine.{all_seats, all_seats_taken}
 use Rattle.monk_logs.proofs.OrderLaws.Lists.{Distinct, among_here}
 use Rattle.monk_logs.proofs.OrderLaws.Passes.{Passes}
 use Rattle.monk_logs.proofs.OrderLaws.Sound.{Sound, distinct_with, keeps_with, was_served_chosen, sound_distinct}

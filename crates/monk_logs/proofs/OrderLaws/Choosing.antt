@@ -16,8 +16,8 @@ use Rattle.monk_logs.proofs.OrderLaws.Covers.{Covers, chosen_back, chosen_goes, 
 use Rattle.monk_logs.proofs.OrderLaws.Fits.{Fits}
 use Rattle.monk_logs.proofs.OrderLaws.Leads.{less}
 use Rattle.monk_logs.proofs.OrderLaws.Led.{Led, can_service, led_agree, led_back, led_can, led_chosen}
-use Rattle.monk_logs.proofs.OrderLaws.Lines.{all_seats, all_seats_taken, among_line, distinct_line, line_taken, some_line, unmoved}
-use Rattle.monk_logs.proofs.OrderLaws.Lines.{service_there, waits_only, waits_there}
+use Rattle.monk_logs.proofs.OrderLaws.SeatsInLine.{all_seats, all_seats_taken, among_line, distinct_line, line_taken, some_line, unmoved}
+use Rattle.monk_logs.proofs.OrderLaws.SeatsInLine.{service_there, waits_only, waits_there}
 
 -- ---- who is there without j
 

@@ -16,8 +16,8 @@ use Rattle.monk_logs.proofs.OrderLaws.Fits.{Fits}
 use Rattle.monk_logs.proofs.OrderLaws.Leads.{without}
 use Rattle.monk_logs.proofs.OrderLaws.Led.{CanLapse, Led, among_rest, led_joined, led_lapsed, led_unjoined}
 use Rattle.monk_logs.proofs.OrderLaws.Led.{led_unlapsed, others, unserved_rest}
-use Rattle.monk_logs.proofs.OrderLaws.Lines.{all_seats, all_seats-append, all_seats_lapsed, distinct_line, line-append, line_lapsed}
-use Rattle.monk_logs.proofs.OrderLaws.Lines.{waits_only, waits_there}
+use Rattle.monk_logs.proofs.OrderLaws.SeatsInLine.{all_seats, all_seats-append, all_seats_lapsed, distinct_line, line-append, line_lapsed}
+use Rattle.monk_logs.proofs.OrderLaws.SeatsInLine.{waits_only, waits_there}
 
 -- ---- a seat comes
 

@@ -10,9 +10,9 @@ use Rattle.monk_logs.specs.declared.order.Order.{Order}
 use Rattle.monk_logs.proofs.OrderLaws.Lists.{AgreeBut, AgreeOn, Distinct, agree_apart}
 use Rattle.monk_logs.proofs.OrderLaws.Covers.{Covers, covers_agree, covers_count, served_more}
 use Rattle.monk_logs.proofs.OrderLaws.Led.{Led, led_agree, led_served, may_be_there, others, seats_one_more}
-use Rattle.monk_logs.proofs.OrderLaws.Lines.{all_seats, all_seats-append, among_line, distinct_line, line-append}
-use Rattle.monk_logs.proofs.OrderLaws.Lines.{line_given, line_given_other}
-use Rattle.monk_logs.proofs.OrderLaws.Lines.{one_line}
+use Rattle.monk_logs.proofs.OrderLaws.SeatsInLine.{all_seats, all_seats-append, among_line, distinct_line, line-append}
+use Rattle.monk_logs.proofs.OrderLaws.SeatsInLine.{line_given, line_given_other}
+use Rattle.monk_logs.proofs.OrderLaws.SeatsInLine.{one_line}
 
 -- those of whom p holds could be the seats that were served and aren't back
 pub record Fits (o : Order) (p : ℕ → Bool) (items : List Item) : Type 0 where

@@ -31,7 +31,7 @@ use Rattle.monk_logs.proofs.OrderLaws.Choosing.{choose_fits, loose_resume, was_s
 use Rattle.monk_logs.proofs.OrderLaws.Coming.{join}
 use Rattle.monk_logs.proofs.OrderLaws.Fits.{Fits, as_many, fits_same, serve_one}
 use Rattle.monk_logs.proofs.OrderLaws.Led.{others}
-use Rattle.monk_logs.proofs.OrderLaws.Lines.{all_seats}
+use Rattle.monk_logs.proofs.OrderLaws.SeatsInLine.{all_seats}
 use Rattle.monk_logs.proofs.OrderLaws.Lists.{AgreeBut, Distinct, among-append, among_here}
 use Rattle.monk_logs.proofs.OrderLaws.Passes.{Passes, may_go_among}
 use Rattle.monk_logs.proofs.OrderLaws.Rests.{or-false}

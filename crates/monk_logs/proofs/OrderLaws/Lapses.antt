@@ -15,7 +15,7 @@ use Rattle.monk_logs.proofs.OrderLaws.After.{among_apart, filter_both}
 use Rattle.monk_logs.proofs.OrderLaws.Coming.{lapse_fits, may_lapse_it, unlapse}
 use Rattle.monk_logs.proofs.OrderLaws.Fits.{Fits}
 use Rattle.monk_logs.proofs.OrderLaws.Leads.{without}
-use Rattle.monk_logs.proofs.OrderLaws.Lines.{line_lapsed, seats_lapsed}
+use Rattle.monk_logs.proofs.OrderLaws.SeatsInLine.{line_lapsed, seats_lapsed}
 use Rattle.monk_logs.proofs.OrderLaws.Sound.{Sound, sound_distinct}
 use Rattle.monk_logs.proofs.OrderLaws.Stands.{Stands, among, standing}
 

@@ -13,7 +13,7 @@ use Rattle.monk_logs.proofs.OrderLaws.Leads.{Leads, leads_agree, leads_back, lea
 use Rattle.monk_logs.proofs.OrderLaws.Leads.{leads_rest, leads_served}
 use Rattle.monk_logs.proofs.OrderLaws.Leads.{leads_unjoined, leads_unlapsed, leads_unserved, led_first, less}
 use Rattle.monk_logs.proofs.OrderLaws.Passes.{front_among}
-use Rattle.monk_logs.proofs.OrderLaws.Lines.{seats_in-append, seats_lapsed, seats_taken, services_in-append, services_taken}
+use Rattle.monk_logs.proofs.OrderLaws.SeatsInLine.{seats_in-append, seats_lapsed, seats_taken, services_in-append, services_taken}
 
 -- where signals serve in order of arrival, those that were served are the first
 abbrev pub Led : Order → (ℕ → Bool) → List (Option ℕ) → Type 0

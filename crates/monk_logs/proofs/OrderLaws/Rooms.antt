@@ -12,7 +12,7 @@ use Rattle.monk_logs.specs.Run.{taken_signaller}
 use Rattle.monk_logs.specs.declared.board.item.Item.{Item}
 use Rattle.monk_logs.proofs.OrderLaws.Counts.{times-append, times_apart_one, times_filter, times_less, times_untils}
 use Rattle.monk_logs.proofs.OrderLaws.Counts.{until_seats, untils_taken}
-use Rattle.monk_logs.proofs.OrderLaws.Lines.{all_seats, all_seats-append, all_seats_taken}
+use Rattle.monk_logs.proofs.OrderLaws.SeatsInLine.{all_seats, all_seats-append, all_seats_taken}
 
 -- who was chosen is there
 abbrev pub PickedFrom : List Item → List ℕ → List (ℕ × ℕ) → ℕ → Next → Type 0

@@ -33,7 +33,7 @@ use Rattle.monk_logs.specs.declared.board.item.Item.TheVariants.{Service, Waitin
 use Rattle.monk_logs.specs.declared.order.Order.{Order}
 use Rattle.monk_logs.proofs.OrderLaws.Choosing.{resume_served, resume_there}
 use Rattle.monk_logs.proofs.OrderLaws.Counts.{counts_one, counts_none, ready_waits, times-append, until_seats}
-use Rattle.monk_logs.proofs.OrderLaws.Lines.{all_seats, all_seats-append, all_seats_given}
+use Rattle.monk_logs.proofs.OrderLaws.SeatsInLine.{all_seats, all_seats-append, all_seats_given}
 use Rattle.monk_logs.proofs.OrderLaws.Lists.{Distinct, distinct_from_few}
 use Rattle.monk_logs.proofs.OrderLaws.Passes.{Passes, Picks, chosen_by, may_go_among, signalled_by}
 use Rattle.monk_logs.proofs.OrderLaws.Rooms.{PickedFrom, room_after, room_kept}

@@ -13,7 +13,7 @@ use Rattle.monk_logs.proofs.OrderLaws.Covers.{Covers, covers_agree, never_given,
 use Rattle.monk_logs.proofs.OrderLaws.Fits.{Fits, all_seats_one, fits_same, line_one, line_one_other, not_elsewhere}
 use Rattle.monk_logs.proofs.OrderLaws.Fits.{seats_line_one, serve_one}
 use Rattle.monk_logs.proofs.OrderLaws.Led.{Led, led_agree, led_unserved, others}
-use Rattle.monk_logs.proofs.OrderLaws.Lines.{all_seats, distinct_line}
+use Rattle.monk_logs.proofs.OrderLaws.SeatsInLine.{all_seats, distinct_line}
 use Rattle.monk_logs.proofs.OrderLaws.Rests.{may_be_front, or-assoc, or-false, rest_after}
 
 -- ---- a signal serves all

@@ -31,9 +31,9 @@ use Rattle.monk_logs.proofs.OrderLaws.Fits.{Fits}
 use Rattle.monk_logs.proofs.OrderLaws.Keeps.{covers_first, few_services, keeps_given, keeps_joined, keeps_lapsed, keeps_taken}
 use Rattle.monk_logs.proofs.OrderLaws.Leads.{Leads, leads_from}
 use Rattle.monk_logs.proofs.OrderLaws.Led.{Led, can_service, seats_one_more, services_one_more}
-use Rattle.monk_logs.proofs.OrderLaws.Lines.{all_seats, all_seats_lapsed, among_line, distinct_line, gifts, line-append}
-use Rattle.monk_logs.proofs.OrderLaws.Lines.{line_given, line_given_other}
-use Rattle.monk_logs.proofs.OrderLaws.Lines.{line_lapsed, line_taken, unmoved, waits_only, waits_there}
+use Rattle.monk_logs.proofs.OrderLaws.SeatsInLine.{all_seats, all_seats_lapsed, among_line, distinct_line, gifts, line-append}
+use Rattle.monk_logs.proofs.OrderLaws.SeatsInLine.{line_given, line_given_other}
+use Rattle.monk_logs.proofs.OrderLaws.SeatsInLine.{line_lapsed, line_taken, unmoved, waits_only, waits_there}
 use Rattle.monk_logs.proofs.OrderLaws.Lists.{Distinct, among_filter, same_number}
 use Rattle.monk_logs.proofs.OrderLaws.Passes.{Passes, chosen_by, signalled_by}
 use Rattle.monk_logs.proofs.OrderLaws.Seated.{Seated, seated_after, seated_distinct, seats_with}

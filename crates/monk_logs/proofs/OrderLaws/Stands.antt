@@ -25,7 +25,7 @@ use Rattle.monk_logs.specs.declared.board.item.Item.{Item}
 use Rattle.monk_logs.specs.declared.order.Order.{Order}
 use Rattle.monk_logs.proofs.OrderLaws.Covers.{Covers, chosen_goes}
 use Rattle.monk_logs.proofs.OrderLaws.Fits.{Fits, as_many}
-use Rattle.monk_logs.proofs.OrderLaws.Lines.{all_seats, distinct_line, no_service, service_there, services_taken, some_line}
+use Rattle.monk_logs.proofs.OrderLaws.SeatsInLine.{all_seats, distinct_line, no_service, service_there, services_taken, some_line}
 use Rattle.monk_logs.proofs.OrderLaws.Lists.{Distinct, among_here}
 
 abbrev pub among : List ℕ → ℕ → Bool

@@ -21,8 +21,8 @@ use Rattle.monk_logs.proofs.OrderLaws.Fits.{Fits, as_many, fits_same}
 use Rattle.monk_logs.proofs.OrderLaws.Forward.{with_it, with_other}
 use Rattle.monk_logs.proofs.OrderLaws.Keeps.{few_services}
 use Rattle.monk_logs.proofs.OrderLaws.Led.{among_rest, others}
-use Rattle.monk_logs.proofs.OrderLaws.Lines.{all_seats, gifts, line-append, line_given, seats_gifts, seats_in-append}
-use Rattle.monk_logs.proofs.OrderLaws.Lines.{services_gifts, services_in-append}
+use Rattle.monk_logs.proofs.OrderLaws.SeatsInLine.{all_seats, gifts, line-append, line_given, seats_gifts, seats_in-append}
+use Rattle.monk_logs.proofs.OrderLaws.SeatsInLine.{services_gifts, services_in-append}
 use Rattle.monk_logs.proofs.OrderLaws.Lists.{Distinct, among-append, among_filter}
 use Rattle.monk_logs.proofs.OrderLaws.Serving.{Unserved, but, but_other, unserve_all, unserve_one}
 use Rattle.monk_logs.proofs.OrderLaws.Sound.{Sound, sound_distinct}

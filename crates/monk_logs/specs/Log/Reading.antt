@@ -11,13 +11,13 @@ use Rattle.monk_history.specs.Text.Words.{◌>>=◌, Word, Taken, number_at, one
 use Rattle.monk_logs.specs.Log.{LogHeading, log_heading, log_version}
 use Rattle.monk_logs.specs.declared.text.line.LogLine.{LogLine}
 use Rattle.monk_logs.specs.declared.text.line.LogLine.TheVariants.{Enter, Resume, Lapse, Leave, Wait, Signal, Broadcast, Until, Act}
-use Rattle.monk_logs.specs.declared.text.verb.Verb.{Verb}
-use Rattle.monk_logs.specs.declared.text.verb.Verb.TheVariants as verb
+use Rattle.monk_logs.specs.declared.text.verb.LineVerb.{LineVerb}
+use Rattle.monk_logs.specs.declared.text.verb.LineVerb.TheVariants as verb
 
 -- ---- a line
 
 -- the word of a verb
-abbrev pub log_verb_word : Verb → Word
+abbrev pub log_verb_word : LineVerb → Word
 log_verb_word verb.Enter = codes "enter"
 log_verb_word verb.Resume = codes "resume"
 log_verb_word verb.Lapse = codes "lapse"
@@ -29,12 +29,12 @@ log_verb_word verb.Until = codes "until"
 log_verb_word verb.Act = codes "act"
 
 -- each verb once
-abbrev pub log_verbs : List Verb
+abbrev pub log_verbs : List LineVerb
 log_verbs = verb.Enter ∷ verb.Resume ∷ verb.Lapse ∷ verb.Leave ∷ verb.Wait ∷ verb.Signal ∷ verb.Broadcast ∷ verb.Until
     ∷ verb.Act ∷ []
 
 -- the line that the words after its verb and its seat tell
-unfoldable pub line_after : Verb → ℕ → List Word → Taken LogLine
+unfoldable pub line_after : LineVerb → ℕ → List Word → Taken LogLine
 line_after verb.Enter s ws = Ok (Enter s, ws)
 line_after verb.Resume s ws = Ok (Resume s, ws)
 line_after verb.Lapse s ws = Ok (Lapse s, ws)

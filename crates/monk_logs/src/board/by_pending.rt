@@ -16,7 +16,7 @@ use crate::board::needs::Needs;
 use crate::board::pending::Pending;
 use crate::board::telling::line_told;
 use crate::order::Order;
-use crate::setting::Setting;
+use crate::setting::MonitorSetting;
 use crate::text::line::LogLine;
 use monk_object::Guarded;
 use std::alloc::AllocError;
@@ -25,7 +25,7 @@ use std::alloc::AllocError;
 #[inline(always)]
 pub(crate) fn line_behind<T: Guarded>(
     order: Order,
-    setting: Setting,
+    setting: MonitorSetting,
     board: &mut Board,
     object: &mut T,
     needs: &mut Needs,

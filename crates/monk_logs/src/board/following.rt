@@ -16,7 +16,7 @@ use crate::board::pending::Pending;
 use crate::board::reading::line_read;
 use crate::lapses::Lapses;
 use crate::order::Order;
-use crate::setting::Setting;
+use crate::setting::MonitorSetting;
 use crate::text::header::LogHeader;
 use crate::text::line_source::LineSource;
 use crate::verdict::LogVerdict;
@@ -32,7 +32,7 @@ fn follow<T: Guarded, L: LineSource>(
     object: T,
     lapses: Lapses,
     order: Order,
-    setting: Setting,
+    setting: MonitorSetting,
     lines: L,
 ) -> Result<Led, AllocError>
     requires { length (L.left lines) ≤ most_lines }
@@ -92,7 +92,7 @@ pub(crate) fn lead_board<L: LineSource>(
     ensures object { IsErrOf result AuditFault.Object → most header.now.object < header.now.size }
     ensures too_big { most header.now.object < header.now.size → IsErrOf result AuditFault.Object }
 {
-    let setting = Setting {
+    let setting = MonitorSetting {
         alloc,
         rules,
         seats: header.seats(),

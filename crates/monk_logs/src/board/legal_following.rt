@@ -16,7 +16,7 @@ use crate::board::legal_lines::line_known;
 use crate::board::pending::Pending;
 use crate::completion::ending::end;
 use crate::completion::past::Past;
-use crate::setting::Setting;
+use crate::setting::MonitorSetting;
 use crate::text::header::LogHeader;
 use crate::text::line::LogLine;
 use crate::verdict::LogVerdict;
@@ -30,7 +30,7 @@ use std::alloc::{AllocError, Global};
 fn follow<T: Guarded>(
     alloc: Global,
     object: T,
-    setting: Setting,
+    setting: MonitorSetting,
     lines: &[LogLine],
     past: &mut Past,
 ) -> Result<LogVerdict, AllocError>
@@ -78,7 +78,7 @@ pub(crate) fn follow_log(
     ensures object { IsErrOf result AuditFault.Object → most header.now.object < header.now.size }
     ensures too_big { most header.now.object < header.now.size → IsErrOf result AuditFault.Object }
 {
-    let setting = Setting {
+    let setting = MonitorSetting {
         alloc,
         rules: rules_by_name(kind),
         seats: header.seats(),

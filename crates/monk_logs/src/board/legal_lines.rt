@@ -27,14 +27,14 @@ use crate::board::pending::Pending;
 use crate::board::telling::{choose_told, release_blame};
 use crate::completion::past::Past;
 use crate::order::Order;
-use crate::setting::Setting;
+use crate::setting::MonitorSetting;
 use crate::text::line::LogLine;
 use monk_history::Event;
 use monk_object::Guarded;
 use std::alloc::AllocError;
 
 /// What is to blame for a lapse where each event before it is known.
-fn early_lapse_blame(setting: Setting, seat: u8) -> Blame
+fn early_lapse_blame(setting: MonitorSetting, seat: u8) -> Blame
     ensures { result ≡ blames.lapse_blame setting.seats seat }
 {
     if seat < setting.seats {
@@ -56,7 +56,7 @@ fn without_lapses(blame: Blame) -> Blame
 
 /// What is to blame for a lapse behind a release. The board and the object are of no further use.
 fn late_lapse_blame<T: Guarded>(
-    setting: Setting,
+    setting: MonitorSetting,
     board: &mut Board,
     object: &mut T,
     event: Event,
@@ -78,7 +78,7 @@ fn late_lapse_blame<T: Guarded>(
 
 /// What is to blame for a lapse, which no history tells. The board and the object are of no further use.
 fn lapse_blame<T: Guarded>(
-    setting: Setting,
+    setting: MonitorSetting,
     board: &mut Board,
     object: &mut T,
     pending: Pending,
@@ -117,7 +117,7 @@ fn keep_own(board: &Board, past: &mut Past, line: LogLine) -> Result<(), AllocEr
 
 /// A line where each event before it is known. Its own is kept.
 fn line_alone<T: Guarded>(
-    setting: Setting,
+    setting: MonitorSetting,
     board: &mut Board,
     object: &mut T,
     past: &mut Past,
@@ -138,7 +138,7 @@ fn line_alone<T: Guarded>(
 
 /// The line behind a release, whose choice it tells. Both events are kept.
 fn line_behind_release<T: Guarded>(
-    setting: Setting,
+    setting: MonitorSetting,
     board: &mut Board,
     object: &mut T,
     past: &mut Past,
@@ -173,7 +173,7 @@ fn line_behind_release<T: Guarded>(
 
 /// A line that is no lapse, by what is still to be known of the last event before it.
 fn line_behind<T: Guarded>(
-    setting: Setting,
+    setting: MonitorSetting,
     board: &mut Board,
     object: &mut T,
     past: &mut Past,
@@ -204,7 +204,7 @@ fn line_behind<T: Guarded>(
 /// A line, by what is still to be known of the last event before it, with the events that it tells,
 /// where they are kept.
 pub(crate) fn line_known<T: Guarded>(
-    setting: Setting,
+    setting: MonitorSetting,
     board: &mut Board,
     object: &mut T,
     past: &mut Past,

@@ -17,7 +17,7 @@ use crate::board::items::may_lapse;
 use crate::board::pending::Pending;
 use crate::board::steps::{hold, release, settle, settle_act};
 use crate::order::Order;
-use crate::setting::Setting;
+use crate::setting::MonitorSetting;
 use crate::text::line::LogLine;
 use monk_audit::Replay;
 use monk_history::{Event, From3, Next, Turn, Via};
@@ -72,7 +72,7 @@ pub(crate) fn can_lapse(order: Order, board: &Board, seat: u8) -> bool
 }
 
 /// What is to blame where a wait can't have run out.
-fn lapse_blame(setting: Setting, board: &Board, seat: u8) -> Blame
+fn lapse_blame(setting: MonitorSetting, board: &Board, seat: u8) -> Blame
     ensures { (o : Object) (state : List ℕ)
         → result ≡ stands.board_lapse_blame (monitor_in setting o) (board_shown board.now state) seat }
 {
@@ -86,7 +86,7 @@ fn lapse_blame(setting: Setting, board: &Board, seat: u8) -> Blame
 }
 
 /// A wait that ran out.
-fn lapse(order: Order, setting: Setting, board: &mut Board, seat: u8) -> LineVerdict
+fn lapse(order: Order, setting: MonitorSetting, board: &mut Board, seat: u8) -> LineVerdict
     ensures judged { (o : Object) (state : List ℕ)
         → course_or (board_shown board.new state) result
         ≡ stands.board_lapse_over order (monitor_in setting o) (board_shown board.old state) seat }
@@ -104,7 +104,7 @@ fn lapse(order: Order, setting: Setting, board: &mut Board, seat: u8) -> LineVer
 /// A signal. Under immediate return the next line says whether its caller leaves or waits.
 #[inline(always)]
 fn signal<T: Guarded>(
-    setting: Setting,
+    setting: MonitorSetting,
     board: &Board,
     object: &T,
     seat: u8,
@@ -128,7 +128,7 @@ fn signal<T: Guarded>(
 #[inline(always)]
 pub(crate) fn line_settled<T: Guarded>(
     order: Order,
-    setting: Setting,
+    setting: MonitorSetting,
     board: &mut Board,
     object: &mut T,
     line: LogLine,
@@ -177,7 +177,7 @@ pub(crate) fn line_settled<T: Guarded>(
 /// The line behind a signal that is half told.
 #[inline(always)]
 pub(crate) fn line_half<T: Guarded>(
-    setting: Setting,
+    setting: MonitorSetting,
     board: &Board,
     object: &T,
     seat: u8,

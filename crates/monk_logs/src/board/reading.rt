@@ -33,7 +33,7 @@ use crate::board::steps::served_reason;
 use crate::board::telling::{release_blame, standing_choice, with_next};
 use crate::lapses::Lapses;
 use crate::order::Order;
-use crate::setting::Setting;
+use crate::setting::MonitorSetting;
 use crate::text::line::LogLine;
 use monk_audit::Reason;
 use monk_history::{Event, Next};
@@ -89,7 +89,7 @@ fn either_blame(blame: Blame, is_gone: bool) -> Blame
 /// The line behind a release, which has served and which may have chosen so.
 fn line_chosen<T: Guarded>(
     order: Order,
-    setting: Setting,
+    setting: MonitorSetting,
     board: &mut Board,
     object: &mut T,
     told: Event,
@@ -114,7 +114,7 @@ fn line_chosen<T: Guarded>(
 /// A seat that goes on behind a release: one that the release chose, or else one whose wait ran out.
 fn resume_told<T: Guarded>(
     order: Order,
-    setting: Setting,
+    setting: MonitorSetting,
     board: &mut Board,
     object: &mut T,
     event: Event,
@@ -181,7 +181,7 @@ fn settled_line(order: Order, board: &Board, seat: u8) -> LogLine
 /// A seat that goes on, where its wait may have run out.
 fn resume_read<T: Guarded>(
     order: Order,
-    setting: Setting,
+    setting: MonitorSetting,
     board: &mut Board,
     object: &mut T,
     pending: Pending,
@@ -217,7 +217,7 @@ fn resume_read<T: Guarded>(
 pub(crate) fn line_read<T: Guarded>(
     lapses: Lapses,
     order: Order,
-    setting: Setting,
+    setting: MonitorSetting,
     board: &mut Board,
     object: &mut T,
     needs: &mut Needs,

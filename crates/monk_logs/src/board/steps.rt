@@ -16,7 +16,7 @@ use crate::board::Board;
 use crate::board::choices::permits;
 use crate::board::pending::Pending;
 use crate::order::Order;
-use crate::setting::Setting;
+use crate::setting::MonitorSetting;
 use monk_audit::{Reason, replies};
 use monk_history::Event;
 use monk_object::Guarded;
@@ -27,7 +27,7 @@ use std::alloc::AllocError;
 #[inline(always)]
 pub(crate) fn served_reason<T: Guarded>(
     order: Order,
-    setting: Setting,
+    setting: MonitorSetting,
     board: &Board,
     object: &T,
     event: Event,
@@ -54,7 +54,7 @@ pub(crate) fn served_reason<T: Guarded>(
 #[inline(always)]
 fn choose<T: Guarded>(
     order: Order,
-    setting: Setting,
+    setting: MonitorSetting,
     board: &mut Board,
     object: &T,
     event: Event,
@@ -82,7 +82,7 @@ fn choose<T: Guarded>(
 #[inline(always)]
 fn act<T: Guarded>(
     order: Order,
-    setting: Setting,
+    setting: MonitorSetting,
     board: &mut Board,
     object: &mut T,
     event: Event,
@@ -121,7 +121,7 @@ fn settled_by(reason: Option<Reason>) -> LineVerdict
 #[inline(always)]
 pub(crate) fn settle<T: Guarded>(
     order: Order,
-    setting: Setting,
+    setting: MonitorSetting,
     board: &mut Board,
     object: &T,
     event: Event,
@@ -143,7 +143,7 @@ pub(crate) fn settle<T: Guarded>(
 #[inline(always)]
 pub(crate) fn settle_act<T: Guarded>(
     order: Order,
-    setting: Setting,
+    setting: MonitorSetting,
     board: &mut Board,
     object: &mut T,
     event: Event,
@@ -162,7 +162,7 @@ pub(crate) fn settle_act<T: Guarded>(
 /// What is still to be known, where the event may be called.
 #[inline(always)]
 pub(crate) fn hold<T: Guarded>(
-    setting: Setting,
+    setting: MonitorSetting,
     board: &Board,
     object: &T,
     event: Event,
@@ -183,7 +183,7 @@ pub(crate) fn hold<T: Guarded>(
 /// The same of a release, whose choice is to come.
 #[inline(always)]
 pub(crate) fn release<T: Guarded>(
-    setting: Setting,
+    setting: MonitorSetting,
     board: &Board,
     object: &T,
     event: Event,

@@ -27,7 +27,7 @@ use crate::board::lines::line_settled;
 use crate::board::needs::{Needs, event_needs};
 use crate::board::steps::served_reason;
 use crate::order::Order;
-use crate::setting::Setting;
+use crate::setting::MonitorSetting;
 use crate::text::line::LogLine;
 use monk_audit::replies;
 use monk_history::{Event, Next};
@@ -166,7 +166,7 @@ fn choice_blame<T: Guarded>(
 /// served. The board and the object are of no further use.
 fn late_blame<T: Guarded>(
     order: Order,
-    setting: Setting,
+    setting: MonitorSetting,
     board: &mut Board,
     object: &mut T,
     event: Event,
@@ -195,7 +195,7 @@ fn late_blame<T: Guarded>(
 /// the object are of no further use.
 pub(crate) fn release_blame<T: Guarded>(
     order: Order,
-    setting: Setting,
+    setting: MonitorSetting,
     board: &mut Board,
     object: &mut T,
     event: Event,
@@ -219,7 +219,7 @@ pub(crate) fn release_blame<T: Guarded>(
 #[inline(always)]
 pub(crate) fn choose_told<T: Guarded>(
     order: Order,
-    setting: Setting,
+    setting: MonitorSetting,
     board: &mut Board,
     object: &mut T,
     needs: &mut Needs,
@@ -261,7 +261,7 @@ pub(crate) fn choose_told<T: Guarded>(
 #[inline(always)]
 pub(crate) fn line_told<T: Guarded>(
     order: Order,
-    setting: Setting,
+    setting: MonitorSetting,
     board: &mut Board,
     object: &mut T,
     needs: &mut Needs,

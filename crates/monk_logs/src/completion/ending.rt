@@ -14,7 +14,7 @@ use crate::board::items::first_served;
 use crate::board::pending::Pending;
 use crate::board::telling::with_next;
 use crate::completion::past::Past;
-use crate::setting::Setting;
+use crate::setting::MonitorSetting;
 use monk_history::{Event, Next};
 use monk_kinds::{Mode, Rules};
 use monk_object::Guarded;
@@ -52,7 +52,7 @@ fn until(seat: Option<u8>) -> Option<Next>
 
 /// The choice of the first that signals served; under automatic signalling of the first who is
 /// ready. The board has served.
-fn inner_next<T: Guarded>(setting: Setting, board: &Board, object: &T) -> Option<Next>
+fn inner_next<T: Guarded>(setting: MonitorSetting, board: &Board, object: &T) -> Option<Next>
     requires { IsBoardOf setting.seats setting.conds T.PREDICATES board.now }
     ensures { result ≡ ending.inner_on setting.rules T.meaning (board_shown board.now (T.state object.now)) }
 {
@@ -104,7 +104,7 @@ fn first_signaller(board: &Board) -> Option<u8>
 
 /// What the release chooses where nobody wishes for anything. The board is of no further use.
 fn unwished<T: Guarded>(
-    setting: Setting,
+    setting: MonitorSetting,
     board: &mut Board,
     object: &T,
     event: Event,
@@ -136,7 +136,7 @@ fn last_release(pending: Pending) -> Option<Event>
 
 /// Adds the release with which a log ends, where events are kept. The board is of no further use.
 pub(crate) fn end<T: Guarded>(
-    setting: Setting,
+    setting: MonitorSetting,
     board: &mut Board,
     object: &T,
     past: &mut Past,

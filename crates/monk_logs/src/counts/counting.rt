@@ -24,7 +24,7 @@ use crate::counts::waiters::Waiters;
 use crate::counts::waits_for::WaitsFor;
 use crate::lapses::Lapses;
 use crate::order::Order;
-use crate::setting::Setting;
+use crate::setting::MonitorSetting;
 use crate::text::header::LogHeader;
 use crate::text::kept_lines::KeptLines;
 use crate::text::line::LogLine;
@@ -92,7 +92,7 @@ fn misses_signal<T: Guarded>(
 fn count_lines<T: Guarded, L: LineSource>(
     alloc: Global,
     object: T,
-    setting: Setting,
+    setting: MonitorSetting,
     means: &[WaitsFor],
     lines: L,
 ) -> Result<Counts, AllocError>
@@ -147,7 +147,7 @@ pub(crate) fn count_source<L: LineSource>(
     ensures object { IsErrOf result AuditFault.Object → most header.now.object < header.now.size }
     ensures too_big { most header.now.object < header.now.size → IsErrOf result AuditFault.Object }
 {
-    let setting = Setting {
+    let setting = MonitorSetting {
         alloc,
         rules: rules_by_name(kind),
         seats: header.seats(),

@@ -7,7 +7,7 @@ ghost use Rattle.monk_logs.specs.Log.Reading.{log_verb_word, log_verbs, line_aft
 use crate::text::header::LogHeader;
 use crate::text::line::LogLine;
 use crate::text::log_front::{WINDOW, line_at_front};
-use crate::text::verb::Verb;
+use crate::text::verb::LineVerb;
 use monk_history::lines::{Flaw, LineWords, Record};
 use monk_object::Op;
 
@@ -48,19 +48,19 @@ fn log_line(words: &mut LineWords<'_>) -> Result<LogLine, Flaw>
 }
 
 #[tactic(auto, unfolding(crate::specs::Log::Reading::line_after))]
-fn line_after(words: &mut LineWords<'_>, verb: Verb, seat: u8) -> Result<LogLine, Flaw>
+fn line_after(words: &mut LineWords<'_>, verb: LineVerb, seat: u8) -> Result<LogLine, Flaw>
     ensures { Reads result words.new (line_after verb seat words.old) }
 {
     match verb {
-        Verb::Enter => Ok(LogLine::Enter(seat)),
-        Verb::Resume => Ok(LogLine::Resume(seat)),
-        Verb::Lapse => Ok(LogLine::Lapse(seat)),
-        Verb::Leave => Ok(LogLine::Leave(seat)),
-        Verb::Wait => Ok(LogLine::Wait(seat, words.byte()?)),
-        Verb::Signal => Ok(LogLine::Signal(seat, words.byte()?)),
-        Verb::Broadcast => Ok(LogLine::Broadcast(seat, words.byte()?)),
-        Verb::Until => Ok(LogLine::Until(seat, words.byte()?)),
-        Verb::Act => {
+        LineVerb::Enter => Ok(LogLine::Enter(seat)),
+        LineVerb::Resume => Ok(LogLine::Resume(seat)),
+        LineVerb::Lapse => Ok(LogLine::Lapse(seat)),
+        LineVerb::Leave => Ok(LogLine::Leave(seat)),
+        LineVerb::Wait => Ok(LogLine::Wait(seat, words.byte()?)),
+        LineVerb::Signal => Ok(LogLine::Signal(seat, words.byte()?)),
+        LineVerb::Broadcast => Ok(LogLine::Broadcast(seat, words.byte()?)),
+        LineVerb::Until => Ok(LogLine::Until(seat, words.byte()?)),
+        LineVerb::Act => {
             let (op, reply) = act(words)?;
             Ok(LogLine::Act(seat, op, reply))
         }
@@ -79,9 +79,9 @@ fn act(words: &mut LineWords<'_>) -> Result<(Op, u64), Flaw>
 }
 
 #[tactic(auto, unfolding(monk_history::specs::Text::Words::one_of))]
-fn verb(words: &mut LineWords<'_>) -> Result<Verb, Flaw>
+fn verb(words: &mut LineWords<'_>) -> Result<LineVerb, Flaw>
     ensures { Reads result words.new (one_of log_verb_word log_verbs words.old) }
 {
     let word = words.next().ok_or(Flaw::Word)?;
-    Verb::of_text(word).ok_or(Flaw::Word)
+    LineVerb::of_text(word).ok_or(Flaw::Word)
 }

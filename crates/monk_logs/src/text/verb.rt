@@ -6,7 +6,7 @@ ghost use Rattle.monk_logs.specs.Log.Reading.{log_verb_word, log_verbs};
 
 /// Which line it is.
 #[derive(Clone, Copy)]
-pub(crate) enum Verb {
+pub(crate) enum LineVerb {
     Enter,
     Resume,
     Lapse,
@@ -18,29 +18,29 @@ pub(crate) enum Verb {
     Act,
 }
 
-impl Verb {
+impl LineVerb {
     /// The verb whose word this is.
-    pub(crate) fn of_text(word: &[u8]) -> Option<Verb>
+    pub(crate) fn of_text(word: &[u8]) -> Option<LineVerb>
         ensures { result ≡ with_text log_verb_word log_verbs word.now }
     {
         if word == b"enter".as_slice() {
-            Some(Verb::Enter)
+            Some(LineVerb::Enter)
         } else if word == b"resume".as_slice() {
-            Some(Verb::Resume)
+            Some(LineVerb::Resume)
         } else if word == b"lapse".as_slice() {
-            Some(Verb::Lapse)
+            Some(LineVerb::Lapse)
         } else if word == b"leave".as_slice() {
-            Some(Verb::Leave)
+            Some(LineVerb::Leave)
         } else if word == b"wait".as_slice() {
-            Some(Verb::Wait)
+            Some(LineVerb::Wait)
         } else if word == b"signal".as_slice() {
-            Some(Verb::Signal)
+            Some(LineVerb::Signal)
         } else if word == b"broadcast".as_slice() {
-            Some(Verb::Broadcast)
+            Some(LineVerb::Broadcast)
         } else if word == b"until".as_slice() {
-            Some(Verb::Until)
+            Some(LineVerb::Until)
         } else if word == b"act".as_slice() {
-            Some(Verb::Act)
+            Some(LineVerb::Act)
         } else {
             None
         }

@@ -13,8 +13,8 @@ use Rattle.monk_history.proofs.PublicLaws.Texts.{end_takes, kept_again, one_of_k
 use Rattle.monk_world.specs.declared.command.Command.{Command}
 use Rattle.monk_world.specs.declared.command.Command.TheVariants.{Arrive, Look, Out, Peek, Drop, Grant, Act, Leave}
 use Rattle.monk_world.specs.declared.command.Command.TheVariants.{Wait, Signal, SignalLeave, Until, SignalAll, SignalWait}
-use Rattle.monk_world.specs.declared.play.verb.Verb.{Verb}
-use Rattle.monk_world.specs.declared.play.verb.Verb.TheVariants as verb
+use Rattle.monk_world.specs.declared.play.verb.CommandVerb.{CommandVerb}
+use Rattle.monk_world.specs.declared.play.verb.CommandVerb.TheVariants as verb
 use Rattle.monk_world.specs.Play.{pick_word, action_words, command_words, ActionFits, CommandFits}
 use Rattle.monk_world.specs.Play.Reading.{picks, play_verb_version, play_verb_word, play_verbs, play_verbs_of}
 use Rattle.monk_world.specs.Play.Reading.{op_at, cond_pick_at, action_after, command_at}
@@ -25,7 +25,7 @@ pick_again pick.Entry = refl
 pick_again pick.Waiter = refl
 pick_again pick.Signaller = refl
 
-pub verb_again : (v : Verb) → with_text play_verb_word play_verbs (play_verb_word v) ≡ Some v
+pub verb_again : (v : CommandVerb) → with_text play_verb_word play_verbs (play_verb_word v) ≡ Some v
 verb_again verb.Arrive = refl
 verb_again verb.Look = refl
 verb_again verb.Out = refl
@@ -77,14 +77,14 @@ cond_pick_again c p le =
 -- ---- an action
 
 -- what a line is where its verb has been read
-abbrev Ends : Verb → List Word → Command × List Word → Type 0
+abbrev Ends : CommandVerb → List Word → Command × List Word → Type 0
 Ends v ws y = (play_verb_word v ∷ ws ≡ action_words y.0 ++ y.1) × ActionFits y.0
     × (play_verb_version v ≡ command_version y.0)
 
-abbrev behind : Verb → List Word → List Word
+abbrev behind : CommandVerb → List Word → List Word
 behind v ws = play_verb_word v ∷ ws
 
-action_takes : (v : Verb) (ws : List Word) (x : Command × List Word) → action_after v ws ≡ Ok x → Ends v ws x
+action_takes : (v : CommandVerb) (ws : List Word) (x : Command × List Word) → action_after v ws ≡ Ok x → Ends v ws x
 unfolding action_after
 action_takes verb.Arrive ws x e = subst (Ends verb.Arrive ws) (ok_is (Arrive, ws) x e) (refl, tt, refl)
 action_takes verb.Look ws x e = subst (Ends verb.Look ws) (ok_is (Look, ws) x e) (refl, tt, refl)
@@ -177,7 +177,7 @@ after_signal_wait c d p le le_too =
 abbrev at_action : ℕ → Command × List Word → Taken (ℕ × Command)
 at_action s a = end_at a.1 >>= λ z. Ok ((s, a.0), z.1)
 
-abbrev at_verb : ℕ → Verb × List Word → Taken (ℕ × Command)
+abbrev at_verb : ℕ → CommandVerb × List Word → Taken (ℕ × Command)
 at_verb s v = action_after v.0 v.1 >>= at_action s
 
 abbrev at_seat : ℕ → ℕ × List Word → Taken (ℕ × Command)
@@ -210,7 +210,7 @@ command_takes version ws x e =
       ((seat_is.1, action_is.1), has),
     )
 
-from_after : (version : ℕ) (v : Verb) (s : ℕ) (ws : List Word) (c : Command)
+from_after : (version : ℕ) (v : CommandVerb) (s : ℕ) (ws : List Word) (c : Command)
     → nat_le (play_verb_version v) version ≡ true
     → s ≤ 255 → action_after v ws ≡ Ok (c, [])
     → command_at version (decimal s ∷ play_verb_word v ∷ ws) ≡ Ok ((s, c), [])

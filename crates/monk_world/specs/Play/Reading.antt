@@ -14,8 +14,8 @@ use Rattle.monk_world.specs.declared.command.Command.{Command}
 use Rattle.monk_world.specs.declared.command.Command.TheVariants.{Arrive, Look, Out, Peek, Drop, Grant, Act, Leave}
 use Rattle.monk_world.specs.declared.command.Command.TheVariants.{Wait, Signal, SignalLeave, Until, SignalAll, SignalWait}
 use Rattle.monk_world.specs.declared.play.head.PlayHead.{PlayHead}
-use Rattle.monk_world.specs.declared.play.verb.Verb.{Verb}
-use Rattle.monk_world.specs.declared.play.verb.Verb.TheVariants as verb
+use Rattle.monk_world.specs.declared.play.verb.CommandVerb.{CommandVerb}
+use Rattle.monk_world.specs.declared.play.verb.CommandVerb.TheVariants as verb
 use Rattle.monk_history.specs.Limits.{least_budget, most_budget}
 use Rattle.monk_world.specs.Play.{pick_word}
 
@@ -26,7 +26,7 @@ abbrev pub picks : List Pick
 picks = pick.Entry ∷ pick.Waiter ∷ pick.Signaller ∷ []
 
 -- the word of a verb
-abbrev pub play_verb_word : Verb → Word
+abbrev pub play_verb_word : CommandVerb → Word
 play_verb_word verb.Arrive = codes "arrive"
 play_verb_word verb.Look = codes "look"
 play_verb_word verb.Out = codes "out"
@@ -43,7 +43,7 @@ play_verb_word verb.SignalAll = codes "signal-all"
 play_verb_word verb.SignalWait = codes "signal-wait"
 
 -- the first version that has it
-abbrev pub play_verb_version : Verb → ℕ
+abbrev pub play_verb_version : CommandVerb → ℕ
 play_verb_version verb.Arrive = 1
 play_verb_version verb.Look = 1
 play_verb_version verb.Out = 1
@@ -60,12 +60,12 @@ play_verb_version verb.SignalAll = 2
 play_verb_version verb.SignalWait = 2
 
 -- each verb once
-abbrev pub play_verbs : List Verb
+abbrev pub play_verbs : List CommandVerb
 play_verbs = verb.Arrive ∷ verb.Look ∷ verb.Out ∷ verb.Peek ∷ verb.Drop ∷ verb.Grant ∷ verb.Act ∷ verb.Leave ∷ verb.Wait
     ∷ verb.Signal ∷ verb.SignalLeave ∷ verb.Until ∷ verb.SignalAll ∷ verb.SignalWait ∷ []
 
 -- the verbs that a text of that version has
-abbrev pub play_verbs_of : ℕ → List Verb
+abbrev pub play_verbs_of : ℕ → List CommandVerb
 play_verbs_of version = in_version play_verb_version version play_verbs
 
 -- a code and an argument
@@ -83,7 +83,7 @@ cond_pick_at ws = do
   Ok ((c.0, p.0), p.1)
 
 -- the command that the words after its verb tell
-unfoldable pub action_after : Verb → List Word → Taken Command
+unfoldable pub action_after : CommandVerb → List Word → Taken Command
 action_after verb.Arrive ws = Ok (Arrive, ws)
 action_after verb.Look ws = Ok (Look, ws)
 action_after verb.Out ws = Ok (Out, ws)

@@ -3,9 +3,8 @@
 ghost use Rattle.monk_history.specs.Text.Words.{Reads};
 ghost use Rattle.monk_world.specs.Play.Reading.{play_head_at};
 
-use monk_history::header_parts;
 use monk_history::lines::{Flaw, Head, LineWords};
-use monk_history::{Header, LEAST_BUDGET, MOST_BUDGET};
+use monk_history::{Header, LEAST_BUDGET, MOST_BUDGET, header_parts};
 
 /// The first line of a play.
 #[derive(Clone, Copy)]

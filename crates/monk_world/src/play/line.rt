@@ -8,7 +8,7 @@ ghost use Rattle.monk_world.specs.Play.Reading.{play_verb_word, play_verbs_of, p
 
 use crate::command::Command;
 use crate::play::head::PlayHead;
-use crate::play::verb::Verb;
+use crate::play::verb::CommandVerb;
 use monk_history::lines::{Flaw, LineWords, Record};
 use monk_kinds::Pick;
 use monk_object::Op;
@@ -38,36 +38,36 @@ fn seat_command(words: &mut LineWords<'_>, version: u8) -> Result<(u8, Command),
 }
 
 #[tactic(auto, unfolding(crate::specs::Play::Reading::action_after))]
-fn action_after(words: &mut LineWords<'_>, verb: Verb) -> Result<Command, Flaw>
+fn action_after(words: &mut LineWords<'_>, verb: CommandVerb) -> Result<Command, Flaw>
     ensures { Reads result words.new (action_after verb words.old) }
 {
     match verb {
-        Verb::Arrive => Ok(Command::Arrive),
-        Verb::Look => Ok(Command::Look),
-        Verb::Out => Ok(Command::Out),
-        Verb::Peek => Ok(Command::Peek),
-        Verb::Drop => Ok(Command::Drop),
-        Verb::Grant => Ok(Command::Grant),
-        Verb::Act => Ok(Command::Act(op(words)?)),
-        Verb::Leave => Ok(Command::Leave(pick(words)?)),
-        Verb::Wait => {
+        CommandVerb::Arrive => Ok(Command::Arrive),
+        CommandVerb::Look => Ok(Command::Look),
+        CommandVerb::Out => Ok(Command::Out),
+        CommandVerb::Peek => Ok(Command::Peek),
+        CommandVerb::Drop => Ok(Command::Drop),
+        CommandVerb::Grant => Ok(Command::Grant),
+        CommandVerb::Act => Ok(Command::Act(op(words)?)),
+        CommandVerb::Leave => Ok(Command::Leave(pick(words)?)),
+        CommandVerb::Wait => {
             let (cond, pick) = cond_pick(words)?;
             Ok(Command::Wait(cond, pick))
         }
-        Verb::Signal => {
+        CommandVerb::Signal => {
             let (cond, pick) = cond_pick(words)?;
             Ok(Command::Signal(cond, pick))
         }
-        Verb::SignalLeave => {
+        CommandVerb::SignalLeave => {
             let (cond, pick) = cond_pick(words)?;
             Ok(Command::SignalLeave(cond, pick))
         }
-        Verb::Until => {
+        CommandVerb::Until => {
             let (pred, pick) = cond_pick(words)?;
             Ok(Command::Until(pred, pick))
         }
-        Verb::SignalAll => Ok(Command::SignalAll(words.byte()?)),
-        Verb::SignalWait => {
+        CommandVerb::SignalAll => Ok(Command::SignalAll(words.byte()?)),
+        CommandVerb::SignalWait => {
             let cond = words.byte()?;
             let (wait_cond, pick) = cond_pick(words)?;
             Ok(Command::SignalWait(cond, wait_cond, pick))
@@ -118,9 +118,9 @@ fn pick_of_text(word: &[u8]) -> Option<Pick>
 }
 
 #[tactic(auto, unfolding(monk_history::specs::Text::Words::one_of))]
-fn verb(words: &mut LineWords<'_>, version: u8) -> Result<Verb, Flaw>
+fn verb(words: &mut LineWords<'_>, version: u8) -> Result<CommandVerb, Flaw>
     ensures { Reads result words.new (one_of play_verb_word (play_verbs_of version) words.old) }
 {
     let word = words.next().ok_or(Flaw::Word)?;
-    Verb::of_version(word, version).ok_or(Flaw::Word)
+    CommandVerb::of_version(word, version).ok_or(Flaw::Word)
 }

@@ -6,7 +6,7 @@ ghost use Rattle.monk_world.specs.Play.Reading.{play_verb_version, play_verb_wor
 
 /// Which command it is.
 #[derive(Clone, Copy)]
-pub(crate) enum Verb {
+pub(crate) enum CommandVerb {
     Arrive,
     Look,
     Out,
@@ -23,12 +23,12 @@ pub(crate) enum Verb {
     SignalWait,
 }
 
-impl Verb {
+impl CommandVerb {
     /// The verb of that version whose word this is, byte for byte.
-    pub(crate) fn of_version(word: &[u8], version: u8) -> Option<Verb>
+    pub(crate) fn of_version(word: &[u8], version: u8) -> Option<CommandVerb>
         ensures { result ≡ with_text play_verb_word (play_verbs_of version) word.now }
     {
-        match Verb::of_text(word) {
+        match CommandVerb::of_text(word) {
             Some(verb) if verb.first_version() <= version => Some(verb),
             _ => None,
         }
@@ -39,54 +39,54 @@ impl Verb {
         ensures { result ≡ play_verb_version self }
     {
         match self {
-            Verb::Arrive
-            | Verb::Look
-            | Verb::Out
-            | Verb::Peek
-            | Verb::Drop
-            | Verb::Grant
-            | Verb::Act
-            | Verb::Leave
-            | Verb::Wait
-            | Verb::Signal
-            | Verb::SignalLeave
-            | Verb::Until => 1,
-            Verb::SignalAll | Verb::SignalWait => 2,
+            CommandVerb::Arrive
+            | CommandVerb::Look
+            | CommandVerb::Out
+            | CommandVerb::Peek
+            | CommandVerb::Drop
+            | CommandVerb::Grant
+            | CommandVerb::Act
+            | CommandVerb::Leave
+            | CommandVerb::Wait
+            | CommandVerb::Signal
+            | CommandVerb::SignalLeave
+            | CommandVerb::Until => 1,
+            CommandVerb::SignalAll | CommandVerb::SignalWait => 2,
         }
     }
 
     /// The verb of any version whose word this is.
-    fn of_text(word: &[u8]) -> Option<Verb>
+    fn of_text(word: &[u8]) -> Option<CommandVerb>
         ensures { result ≡ with_text play_verb_word play_verbs word.now }
     {
         if word == b"arrive".as_slice() {
-            Some(Verb::Arrive)
+            Some(CommandVerb::Arrive)
         } else if word == b"look".as_slice() {
-            Some(Verb::Look)
+            Some(CommandVerb::Look)
         } else if word == b"out".as_slice() {
-            Some(Verb::Out)
+            Some(CommandVerb::Out)
         } else if word == b"peek".as_slice() {
-            Some(Verb::Peek)
+            Some(CommandVerb::Peek)
         } else if word == b"drop".as_slice() {
-            Some(Verb::Drop)
+            Some(CommandVerb::Drop)
         } else if word == b"grant".as_slice() {
-            Some(Verb::Grant)
+            Some(CommandVerb::Grant)
         } else if word == b"act".as_slice() {
-            Some(Verb::Act)
+            Some(CommandVerb::Act)
         } else if word == b"leave".as_slice() {
-            Some(Verb::Leave)
+            Some(CommandVerb::Leave)
         } else if word == b"wait".as_slice() {
-            Some(Verb::Wait)
+            Some(CommandVerb::Wait)
         } else if word == b"signal".as_slice() {
-            Some(Verb::Signal)
+            Some(CommandVerb::Signal)
         } else if word == b"signal-leave".as_slice() {
-            Some(Verb::SignalLeave)
+            Some(CommandVerb::SignalLeave)
         } else if word == b"until".as_slice() {
-            Some(Verb::Until)
+            Some(CommandVerb::Until)
         } else if word == b"signal-all".as_slice() {
-            Some(Verb::SignalAll)
+            Some(CommandVerb::SignalAll)
         } else if word == b"signal-wait".as_slice() {
-            Some(Verb::SignalWait)
+            Some(CommandVerb::SignalWait)
         } else {
             None
         }

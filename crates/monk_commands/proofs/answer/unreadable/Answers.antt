@@ -2,7 +2,7 @@ use Rattle.std.proofs.Common.{◌∙◌, refl, ap}
 use Rattle.std.specs.Prelude.{codes, decimal}
 use Rattle.monk_history.specs.declared.text.fault.ReadFault.{ReadFault}
 use Rattle.monk_commands.specs.Answer.{fault_word}
-use Rattle.monk_commands.proofs.Lines.{four_words}
+use Rattle.monk_commands.proofs.FormattedLines.{four_words}
 use Rattle.monk_commands.proofs.answer.unreadable.Goals as goal
 
 pub returns-clause-answer : goal.returns-clause-answer

@@ -6,7 +6,7 @@ use Rattle.monk_history.specs.Meaning.Legal.{IsLegal}
 use Rattle.monk_history.specs.Meaning.Monitor.{Monitor, monitor}
 use Rattle.monk_audit.specs.Replay.{seats_in}
 use Rattle.monk_floor.specs.View.{FloorView, monitor_of}
-use Rattle.monk_world.specs.Board.{state_of_view}
+use Rattle.monk_world.specs.WorldViews.{state_of_view}
 use Rattle.monk_commands.specs.Following.{IsBehind}
 use Rattle.monk_commands.proofs.following.step_followed.Goals as goal
 

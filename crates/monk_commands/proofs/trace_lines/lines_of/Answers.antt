@@ -3,7 +3,7 @@ use Rattle.std.specs.Prelude.{string_bytes}
 use Rattle.monk_history.specs.Meaning.Monitor.{Monitor}
 use Rattle.monk_history.specs.Meaning.Situation.{situation}
 use Rattle.monk_floor.specs.View.{monitor_of}
-use Rattle.monk_world.specs.Board.{state_of_view}
+use Rattle.monk_world.specs.WorldViews.{state_of_view}
 use Rattle.monk_world.specs.declared.command.Command.{Command}
 use Rattle.monk_commands.specs.Traced.{AreTraced, trace_line}
 use Rattle.monk_commands.proofs.Traces.{traced_all, traced_on}

@@ -2,7 +2,7 @@ use Rattle.std.proofs.Common.{◌≡◌, ◌≤◌, ◌+◌, ◌^◌, ◌++◌, 
 use Rattle.std.specs.Prelude.{string_bytes}
 use Rattle.monk_audit.specs.Replay.{IsReplayOf}
 use Rattle.monk_floor.specs.View.{monitor_of}
-use Rattle.monk_world.specs.Board.{state_of_view}
+use Rattle.monk_world.specs.WorldViews.{state_of_view}
 use Rattle.monk_world.specs.State.{State}
 use Rattle.monk_commands.specs.Following.{IsBehind}
 use Rattle.monk_commands.specs.Traced.{AreTraced}

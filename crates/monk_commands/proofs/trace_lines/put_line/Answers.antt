@@ -2,7 +2,7 @@ use Rattle.std.proofs.Common.{List, ℕ, ◌++◌, [], ap, ◌∙◌, codes}
 use Rattle.std.specs.Prelude.{string_bytes}
 use Rattle.std.proofs.lemmas.Result.{on_ok_weaker}
 use Rattle.monk_audit.specs.Replay.{replay_situation}
-use Rattle.monk_world.specs.Board.{state_of_view}
+use Rattle.monk_world.specs.WorldViews.{state_of_view}
 use Rattle.monk_tell.specs.Standing.{stand}
 use Rattle.monk_commands.specs.Traced.{data_part, line_front, places_text}
 use Rattle.monk_commands.proofs.Traces.{in_line, on_ok_if}

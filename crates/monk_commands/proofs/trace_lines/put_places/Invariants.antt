@@ -1,7 +1,7 @@
 use Rattle.std.proofs.Common.{◌≡◌, ◌++◌, []}
 use Rattle.std.specs.Prelude.{string_bytes}
 use Rattle.monk_audit.specs.Replay.{replay_situation}
-use Rattle.monk_world.specs.Board.{state_of_view}
+use Rattle.monk_world.specs.WorldViews.{state_of_view}
 use Rattle.monk_tell.specs.Standing.{stand}
 use Rattle.monk_commands.specs.Traced.{places_text}
 use Rattle.monk_commands.proofs.trace_lines.put_places.Given as goal

@@ -2,7 +2,7 @@ use Rattle.std.proofs.Common.{◌∙◌, arith, get_or}
 use Rattle.std.specs.Prelude.{string_bytes}
 use Rattle.std.proofs.lemmas.Result.{on_ok_weaker}
 use Rattle.monk_draw.specs.Legend.{legend_places}
-use Rattle.monk_draw.specs.declared.place.Place.TheVariants.{Outside}
+use Rattle.monk_draw.specs.declared.place.SeatPlace.TheVariants.{Outside}
 use Rattle.monk_draw.proofs.LegendLaws.{entries_few, entries_left, last_entries}
 use Rattle.monk_draw.proofs.legend.put_legend.Goals as goal
 

@@ -4,7 +4,7 @@ use Rattle.monk_draw.specs.Scene.{PutsStretches}
 use Rattle.std.proofs.lemmas.List.{length-set}
 use Rattle.monk_draw.specs.Seats.{moved, place_in, stay_in}
 use Rattle.monk_draw.specs.Stretches.{ended_below}
-use Rattle.monk_draw.specs.declared.place.Place.{Place}
+use Rattle.monk_draw.specs.declared.place.SeatPlace.{SeatPlace}
 use Rattle.monk_draw.specs.declared.stay.Stay.{Stay}
 use Rattle.monk_draw.proofs.CourseLaws.{done_more, ended_more, kept_at, rest_more}
 use Rattle.monk_draw.proofs.StretchLaws.{more_stretches, no_stretches, same_stretches}
@@ -31,7 +31,7 @@ loop-seat-preserved c =
     let now : c.in_ok-stays.field-0 ≡ moved (stays i) (places i) c.args.x =
     c.in_ok-stays.ensures.stay
     ∙ (ap (λ (stay : Stay). moved stay c.place.result c.args.x) at
-    ∙ ap (λ (place : Place). moved (stays i) place c.args.x) c.place.ensures) in
+    ∙ ap (λ (place : SeatPlace). moved (stays i) place c.args.x) c.place.ensures) in
     record {
       page =
           same_stretches _ _ _ _ _ _ (ended_more stays places c.args.x i c.index-stay.result.now c.place.result

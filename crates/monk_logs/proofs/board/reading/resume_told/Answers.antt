@@ -11,7 +11,7 @@ use Rattle.monk_logs.specs.BoardStand.{board_line_over}
 use Rattle.monk_logs.specs.Stand.{monitor_in}
 use Rattle.monk_logs.specs.declared.blame.Blame.{Blame}
 use Rattle.monk_logs.specs.declared.text.line.LogLine.TheVariants.{Resume, Lapse}
-use Rattle.monk_logs.proofs.LapseLaws.Reading.{lapse_leads, none_leads, told_leads}
+use Rattle.monk_logs.proofs.LapseLaws.ResumedOrLapsed.{lapse_leads, none_leads, told_leads}
 use Rattle.monk_logs.proofs.StepLaws.{ok_same}
 use Rattle.monk_logs.proofs.board.reading.resume_told.Goals as goal
 

@@ -15,7 +15,7 @@ use Rattle.monk_logs.specs.Chances.{permits_by}
 use Rattle.monk_logs.specs.Stand.{monitor_in}
 use Rattle.monk_logs.specs.declared.order.Order.TheVariants.{Any}
 use Rattle.monk_logs.proofs.MoveLaws.{object_there, seat_there}
-use Rattle.monk_logs.proofs.NeedLaws.Told.{needs_told}
+use Rattle.monk_logs.proofs.NeedLaws.ServedNeeds.{needs_told}
 use Rattle.monk_logs.proofs.ToldLaws.{told_found, told_goes, told_here, told_moved, told_stops}
 use Rattle.monk_logs.proofs.board.telling.choose_told.Goals as goal
 use Rattle.monk_logs.proofs.board.telling.choose_told.Goals.{After-served_reason, After-with_next-told}

@@ -4,7 +4,7 @@ use Rattle.monk_history.specs.Limits.{most_lines}
 use Rattle.monk_history.specs.Meaning.Legal.{IsLegal}
 use Rattle.monk_floor.specs.View.{monitor_of}
 use Rattle.monk_world.specs.Runs.{IsWellLed}
-use Rattle.monk_world.specs.Board.{WorldView, state_of_view, view_in}
+use Rattle.monk_world.specs.WorldViews.{WorldView, state_of_view, view_in}
 use Rattle.monk_world.proofs.BoundLaws.{few_events}
 use Rattle.monk_world.proofs.RunLaws.{well_led}
 

@@ -11,7 +11,7 @@ use Rattle.monk_world.proofs.WorldLaws as world
 use Rattle.monk_world.proofs.world.World.refusal.Goals as goal
 use Rattle.monk_world.specs.Telling as telling
 use Rattle.std.specs.Prelude.{slice_index_or, nat_lt, ◌&&◌, false}
-use Rattle.monk_world.specs.Board.{state_of_view}
+use Rattle.monk_world.specs.WorldViews.{state_of_view}
 use Rattle.monk_world.specs.declared.place.Place.{Place}
 
 reach : (o : Object) (f : FloorView) (seat : ℕ) (c : Command) (conds codes predicates : ℕ) → nat_lt seat f.seats ≡ true

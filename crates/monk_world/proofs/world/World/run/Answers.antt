@@ -2,7 +2,7 @@ use Rattle.std.proofs.Common.{ℕ, List, sym, subst, take, get_or}
 use Rattle.std.proofs.lemmas.List.{take_all, take_more}
 use Rattle.monk_world.specs.Telling.{IsLed}
 use Rattle.monk_world.specs.Sound.{Sound}
-use Rattle.monk_world.specs.Board.{WorldView, state_of_view}
+use Rattle.monk_world.specs.WorldViews.{WorldView, state_of_view}
 use Rattle.monk_world.specs.declared.command.Command.{Command}
 use Rattle.monk_world.specs.declared.command.Command.TheVariants.{Arrive}
 use Rattle.monk_world.proofs.LedLaws.{led_more}

@@ -1,6 +1,6 @@
 use Rattle.std.proofs.Common.{take}
 use Rattle.monk_world.specs.Telling.{IsLed}
-use Rattle.monk_world.specs.Board.{state_of_view}
+use Rattle.monk_world.specs.WorldViews.{state_of_view}
 use Rattle.monk_world.proofs.world.World.run.Given as goal
 
 abbrev pub invariant-loop-seat : goal.invariant-loop-seat

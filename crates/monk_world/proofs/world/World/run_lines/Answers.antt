@@ -1,6 +1,6 @@
 use Rattle.std.proofs.Common.{subst}
 use Rattle.monk_world.specs.Sound.{Sound}
-use Rattle.monk_world.specs.Board.{WorldView, state_of_view}
+use Rattle.monk_world.specs.WorldViews.{WorldView, state_of_view}
 use Rattle.monk_world.proofs.LedLaws.{so_far_all, so_far_more}
 use Rattle.monk_world.proofs.RecordLaws.{keeps_version, runs_are_recorded}
 use Rattle.monk_world.proofs.RunLaws.{run_is_sound, well_led}

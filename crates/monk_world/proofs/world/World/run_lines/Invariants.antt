@@ -1,5 +1,5 @@
 use Rattle.std.proofs.Common.{length}
-use Rattle.monk_world.specs.Board.{state_of_view}
+use Rattle.monk_world.specs.WorldViews.{state_of_view}
 use Rattle.monk_world.proofs.LedLaws.{IsLedSoFar}
 use Rattle.monk_world.proofs.world.World.run_lines.Given as goal
 

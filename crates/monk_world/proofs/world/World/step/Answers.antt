@@ -1,6 +1,6 @@
 use Rattle.std.proofs.Common.{subst}
 use Rattle.monk_world.specs.Sound.{Sound}
-use Rattle.monk_world.specs.Board.{WorldView, state_of_view}
+use Rattle.monk_world.specs.WorldViews.{WorldView, state_of_view}
 use Rattle.monk_world.proofs.RecordLaws.{steps_are_taken}
 use Rattle.monk_world.proofs.world.World.step.Goals as goal
 

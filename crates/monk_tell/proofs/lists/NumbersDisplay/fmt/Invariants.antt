@@ -1,9 +1,0 @@
-use Rattle.std.proofs.Common.{take}
-use Rattle.std.specs.Fmt.{HasWritten, IsPlainFormatter}
-use Rattle.monk_tell.specs.Words.{numbers_text}
-use Rattle.monk_tell.proofs.lists.NumbersDisplay.fmt.Given as goal
-
-abbrev pub invariant-loop-number : goal.invariant-loop-number
-invariant-loop-number g l =
-    IsPlainFormatter l.fn.f
-    → HasWritten g.W.Write.write_str_gives l.fn.f (numbers_text (take l.number-index l.number-items)) l.f

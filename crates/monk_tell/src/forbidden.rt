@@ -1,0 +1,20 @@
+//! What is wrong with an event.
+
+use crate::choice::Choice;
+use crate::why::Why;
+use monk_history::Event;
+
+/// What is wrong with the first event that is not allowed.
+#[derive(Debug, Drop)]
+pub struct ForbiddenEvent {
+    /// Its number, counted from 1.
+    pub step: u32,
+    /// The event.
+    pub event: Event,
+    /// The reply that the object would have given, where the event's is another.
+    pub reply: Option<u64>,
+    /// What it chose from and what it might have chosen, where its choice is not permitted.
+    pub choice: Option<Choice>,
+    /// In a sentence.
+    pub why: Why,
+}
