@@ -148,14 +148,16 @@ after_event past es column d seats below are =
     (one_more past es column d below ∙ ap (λ n. past ++ take n es) (sym (add-one column))) are
 
 -- where a seat stands by it
-stands_at : (past es : List Event) (column : ℕ) (seats : DrawnSeats) (s : ℕ) → AreAfter (past ++ take (column + 1) es) seats
+stands_at : (past es : List Event) (column : ℕ) (seats : DrawnSeats) (s : ℕ)
+    → AreAfter (past ++ take (column + 1) es) seats
     → place_in seats s ≡ place_at past es (suc column) s
 stands_at past es column seats s are =
     place_is (past ++ take (column + 1) es) seats s are
     ∙ ap (λ n. place_after (past ++ take n es) s) (add-one column)
 
 -- the stretches
-pub drawn_more : (seats : ℕ) (past es : List Event) (column : ℕ) (d : Event) (stays : List Stay) (now : DrawnSeats) (x : ℕ)
+pub drawn_more : (seats : ℕ) (past es : List Event) (column : ℕ) (d : Event) (stays : List Stay) (now : DrawnSeats)
+    (x : ℕ)
     → column < length es → x ≡ column_at column → AreAfter (past ++ take (column + 1) es) now
     → ((s : ℕ) → s < seats → stay_in stays s ≡ stay_at past es column s)
     → (ended_before seats past es column ++ entry_stretches seats x (handed_by (get_or es column d)))

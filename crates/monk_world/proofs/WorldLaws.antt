@@ -164,7 +164,8 @@ module _ (k : Rules) (o : Object) (w : WorldWords) (f : FloorView) (v : WorldVie
             old.seats_are (shows.state f),
       )
 
-  pub waiter_grant_goes : (j : ℕ) (to : Home) (a : Answer) (new : WorldWords) → s.world.place i ≡ Back (next.Waiter j) to
+  pub waiter_grant_goes : (j : ℕ) (to : Home) (a : Answer) (new : WorldWords)
+      → s.world.place i ≡ Back (next.Waiter j) to
       → a ≡ answer.GrantedSeat j → Shows w (after_seat_grant (world_on w) i j to) new
       → Goes command.Grant a (state_in new f)
   waiter_grant_goes j to a new at is_a shows =
