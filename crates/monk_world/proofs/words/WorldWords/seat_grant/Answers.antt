@@ -19,7 +19,7 @@ returns-clause-shows c =
               place = place;
             };
           })
-          (place_stored w c.args.seat c.requires.seat _ (place_of c.args.home) c.place.ensures)
+          (place_stored w c.args.seat c.requires.seat _ (place_of c.args.home) c.of_home.ensures)
           ∙ ap (λ (calls : ℕ → ℕ). record (state_in w f) {
             world = record (world_on w)
                 { seat_place = calls; place = update (world_on w).place c.args.seat (place_of c.args.home) };

@@ -21,7 +21,7 @@ returns-clause-shows c =
               place =
                   place;
             };
-          }) (place_stored w c.args.seat c.requires.seat _ (place_of c.args.home) c.place.ensures)
+          }) (place_stored w c.args.seat c.requires.seat _ (place_of c.args.home) c.of_home.ensures)
           ∙ ap (λ (tickets : ℕ → ℕ). record (state_in w f) {
             world = record (world_on w)
                 { ticket_place = tickets; place = update (world_on w).place c.args.seat (place_of c.args.home) };
