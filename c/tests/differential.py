@@ -6,11 +6,16 @@
 LIBRARY and REFERENCE are script.c, linked with the one and with the other: both must print the same answers and the same history.
 MONK plays the same calls as atomic steps, and must print that history too, and audit it `legal`."""
 import concurrent.futures
+import os
 import random
 import subprocess
 import sys
 
-KINDS = ("PB", "NPB", "PNB", "NPNB", "PQB", "NPQB", "PIR", "NPIR", "PIS", "NPIS")
+sys.dont_write_bytecode = True
+sys.path.insert(0, os.path.join(os.path.dirname(os.path.abspath(__file__)), "..", "..", "checks", "models"))
+import monitor  # noqa: E402
+
+KINDS = tuple(monitor.KINDS)
 AUTOMATIC = ("PIS", "NPIS")
 IMMEDIATE = ("PIR", "NPIR")
 NON_BLOCKING = ("PNB", "NPNB")
