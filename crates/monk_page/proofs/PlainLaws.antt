@@ -200,11 +200,11 @@ step_plain o s =
 
 blame_plain : (b : Blamed) → IsPlain 5 (blame_json b)
 blame_plain b =
-    within 4 _ (beside 4 (codes "choice") _ _ (option_plain 4 choice_json (choice_plain 1) b.choice)
-    (beside 4 (codes "event") _ _ (event_plain 4 b.event)
-    (beside 4 (codes "reply") _ _ (option_plain 4 number_json (number_plain 4) b.reply)
-    (beside 4 (codes "step") _ _ (number_plain 4 b.step)
-    (beside 4 (codes "why") _ _ (string_plain 4 (why_text b.why)) (alone 4))))))
+    within 4 _ (with_member 4 (codes "why") _ _ (string_plain 4 (why_text b.why))
+    (with_member 4 (codes "step") _ _ (number_plain 4 b.step)
+    (with_member 4 (codes "reply") _ _ (option_plain 4 number_json (number_plain 4) b.reply)
+    (with_member 4 (codes "event") _ _ (event_plain 4 b.event)
+    (with_member 4 (codes "choice") _ _ (option_plain 4 choice_json (choice_plain 1) b.choice) (alone 4))))))
 
 forbidden_plain : (before last : ℕ) (a : Account) → IsPlain 5 (forbidden_json before last a)
 forbidden_plain before last a =

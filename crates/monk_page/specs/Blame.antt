@@ -2,7 +2,7 @@
 use Rattle.std.specs.Prelude.{codes}
 use Rattle.monk_tell.specs.Told.{Blamed}
 use Rattle.monk_tell.specs.Why.{why_text}
-use Rattle.serde_json.specs.Data.{Data, string, object, member, no_members}
+use Rattle.serde_json.specs.Data.{Data, string, object, no_members, put}
 use Rattle.monk_page.specs.Choice.{choice_json}
 use Rattle.monk_page.specs.Json.{number_json, option_json}
 use Rattle.monk_page.specs.Step.{event_json}
@@ -10,8 +10,6 @@ use Rattle.monk_page.specs.Step.{event_json}
 -- the event with its step, what its reason adds, and the sentence
 abbrev pub blame_json : Blamed → Data
 blame_json b =
-    object (member (codes "choice") (option_json choice_json b.choice)
-    (member (codes "event") (event_json b.event)
-    (member (codes "reply") (option_json number_json b.reply)
-    (member (codes "step") (number_json b.step)
-    (member (codes "why") (string (why_text b.why)) no_members)))))
+    object (put (codes "why") (string (why_text b.why)) (put (codes "step") (number_json b.step)
+    (put (codes "reply") (option_json number_json b.reply) (put (codes "event") (event_json b.event)
+    (put (codes "choice") (option_json choice_json b.choice) no_members)))))
