@@ -85,14 +85,14 @@ one_of_ten p Npir is = one_of p (Pb ∷ Npb ∷ Pnb ∷ Npnb ∷ Pqb ∷ Npqb �
 one_of_ten p Pis is = one_of p (Pb ∷ Npb ∷ Pnb ∷ Npnb ∷ Pqb ∷ Npqb ∷ Pir ∷ Npir ∷ []) Pis (Npis ∷ []) is
 one_of_ten p Npis is = one_of p (Pb ∷ Npb ∷ Pnb ∷ Npnb ∷ Pqb ∷ Npqb ∷ Pir ∷ Npir ∷ Pis ∷ []) Npis [] is
 
-fit_is : (m : Monitor) (h : List Event) (v : Verdict) → IsVerdict m h v → is_fit v ≡ true → IsLegal m h
+pub fit_is : (m : Monitor) (h : List Event) (v : Verdict) → IsVerdict m h v → is_fit v ≡ true → IsLegal m h
 fit_is m h (Legal n) w e = w.0
 fit_is m h (Forbidden s r) w e = absurd (false≢true e)
 
-legal_is : (m : Monitor) (h : List Event) → IsLegal m h → is_fit (verdict_of m h) ≡ true
+pub legal_is : (m : Monitor) (h : List Event) → IsLegal m h → is_fit (verdict_of m h) ≡ true
 legal_is m h legal = ap is_fit (is_legal m h (verdict_of m h) (is_verdict m h) legal)
 
-abbrev status_by : Bool → ℕ
+abbrev pub status_by : Bool → ℕ
 status_by b = cond b 0 1
 
 -- what an answer with status 0 says of the size and the kinds

@@ -104,10 +104,10 @@ status_most x means (Err f) = omega arith
 
 -- ---- a text is of a log by its first word
 
-not_log : (h : Heading) (es : List Event) → is_log_text (text h es) ≡ false
+pub not_log : (h : Heading) (es : List Event) → is_log_text (text h es) ≡ false
 not_log h es = refl
 
-is_log : (h : LogHeading) (ls : List LogLine) → is_log_text (log_text h ls) ≡ true
+pub is_log : (h : LogHeading) (ls : List LogLine) → is_log_text (log_text h ls) ≡ true
 is_log h ls = refl
 
 module _ (x : Lapses) (means : List WaitsFor) (input : List ℕ) where

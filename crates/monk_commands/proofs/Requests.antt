@@ -1,17 +1,17 @@
 -- What clap's matches say of the command and its values.
 use Rattle.std.proofs.Common.{◌≡◌, ℕ, ◌+◌, ◌<◌, List, [], ◌∷◌, ◌++◌, length, get_or, take, map, Option, Some, None, Result, Ok, true}
 use Rattle.std.proofs.Common.{refl, sym, ap, subst, ◌∙◌, Bor}
-use Rattle.std.proofs.lemmas.List.{map-append, take_more}
+use Rattle.std.proofs.lemmas.List.{length-map, map-append, take_more}
 use Rattle.std.specs.Str.Parse.{ParsesUnsigned}
 use Rattle.clap.specs.declared.parser.matches.Found.{Found}
-use Rattle.clap.proofs.WalkLemmas.{one_text-rows}
+use Rattle.clap.proofs.WalkLemmas.{one_text-rows, raw_values-rows}
 use Rattle.monk_commands.specs.declared.request.Line.{Line}
 use Rattle.std.specs.Prelude.{◌↔◌, IfSome, option_map}
-use Rattle.clap.specs.Words.{Row, Text, TriesOne, one_text, rows_of, is_simple}
+use Rattle.clap.specs.Words.{Row, Text, TriesOne, all_of, matched_of, one_text, raw_values, rows_of, is_simple}
 use Rattle.clap.proofs.OnLiterals.{clap_on_literals}
 use Rattle.monk_logs.specs.declared.counts.waits_for.WaitsFor.{WaitsFor}
 use Rattle.monk_commands.specs.Request.{AreMeanings, HasNumber, IsAsked, IsMeaning, IsRead, KindNames, MayHaveNumber}
-use Rattle.monk_commands.specs.Request.{RunNames, monk_app}
+use Rattle.monk_commands.specs.Request.{RunNames, monk_app, words_or_none}
 
 -- what is read in the rows of a command is asked for where that command was found
 pub asked_in : (o : Option (Text × List Row)) (word : Text) (rows : List Row) (l : Line)
@@ -52,10 +52,10 @@ number_tried E G bits o r name f only is none value = go (one_text f name) refl 
         let read = only t (Ok v) (subst (TriesOne G t) told (value t e)) in
         record { text = t; found = sym (one_text-rows f name) ∙ e; digits = read.0.0; number = read.1 }
 
-pub monk_is_simple : (completed : KindNames) (run recorded : RunNames)
-    → is_simple (monk_app completed run recorded) ≡ true
+pub monk_is_simple : (fitted completed : KindNames) (run recorded : RunNames)
+    → is_simple (monk_app fitted completed run recorded) ≡ true
 unfolding clap_on_literals
-monk_is_simple completed run recorded = refl
+monk_is_simple fitted completed run recorded = refl
 
 -- what a test that is exact says of what it has found
 pub found_exactly : (A : Type 0) (o : Option A) (F G : A → Type 0) → ((x : A) → (o ≡ Some x) ↔ F x)
@@ -87,3 +87,28 @@ meanings_more words i t ws new w within are is more =
     (sym (ap texts (take_more words i t within)
     ∙ map-append (λ (x : Bor Text). x.now) (take i words) (get_or words i t ∷ [])))
     (words_more (texts (take i words)) ws (get_or words i t).now w are is))
+
+-- ---- words that are kept
+
+-- with one word more
+pub kept_more : (S : Type 0) (bytes : S → Text) (words : List (Bor Text)) (i : ℕ) (t : Bor Text) (kept new : List S)
+    (s : S)
+    → i < length words → texts (take i words) ≡ map bytes kept → bytes s ≡ (get_or words i t).now
+    → new ≡ kept ++ s ∷ [] → texts (take (i + 1) words) ≡ map bytes new
+kept_more S bytes words i t kept new s within so_far is more =
+    ap texts (take_more words i t within)
+    ∙ (map-append (λ (x : Bor Text). x.now) (take i words) (get_or words i t ∷ [])
+    ∙ (ap (λ (ts : List Text). ts ++ (get_or words i t).now ∷ []) so_far
+    ∙ (ap (λ (b : Text). map bytes kept ++ b ∷ []) (sym is)
+    ∙ (sym (map-append bytes kept (s ∷ [])) ∙ ap (map bytes) (sym more)))))
+
+-- what clap has found for a name, and what it gives of it
+pub found_words : (id : Text) (f : Found) (words : List Text) → Some words ≡ option_map raw_values (matched_of f id)
+    → words ≡ words_or_none (all_of id (rows_of f))
+found_words id f words is = ap words_or_none (is ∙ raw_values-rows f id)
+
+pub found_count : (id : Text) (f : Found) (words : List (Bor Text))
+    → Some (texts words) ≡ option_map raw_values (matched_of f id)
+    → length words ≡ length (words_or_none (all_of id (rows_of f)))
+found_count id f words is =
+    sym (length-map words (λ (w : Bor Text). w.now)) ∙ ap length (found_words id f (texts words) is)

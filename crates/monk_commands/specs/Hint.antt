@@ -8,7 +8,8 @@ use Rattle.std.specs.Str.{str_eq_ignore_ascii_case}
 use Rattle.monk_commands.specs.declared.hint.Hint.{Hint}
 use Rattle.monk_commands.specs.declared.hint.Hint.TheVariants as hint
 use Rattle.monk_commands.specs.declared.task.Task.{Task}
-use Rattle.monk_commands.specs.declared.task.Task.TheVariants.{Audit, Play, Upgrade, Fit, Trace, Explain, Draw, Page, Complete}
+use Rattle.monk_commands.specs.declared.task.Task.TheVariants.{Audit, Play, Upgrade, Fit, FitKind}
+use Rattle.monk_commands.specs.declared.task.Task.TheVariants.{Trace, Explain, Draw, Page, Complete}
 use Rattle.monk_commands.specs.declared.text_name.TextName.{TextName}
 use Rattle.monk_commands.specs.declared.text_name.TextName.TheVariants as name
 use Rattle.monk_history.specs.declared.text.fault.Flaw.TheVariants as flaw
@@ -59,6 +60,7 @@ reads Audit t = is_history t
 reads Play t = is_play t
 reads Upgrade t = is_history t
 reads (Fit lapses means) t = not (is_play t)
+reads (FitKind kind lapses means n) t = not (is_play t)
 reads Trace t = is_play t
 reads Explain t = is_history t
 reads (Draw window) t = is_history t
@@ -71,6 +73,7 @@ wanted Audit = name.History
 wanted Play = name.Play
 wanted Upgrade = name.History
 wanted (Fit lapses means) = name.History
+wanted (FitKind kind lapses means n) = name.History
 wanted Trace = name.Play
 wanted Explain = name.History
 wanted (Draw window) = name.History

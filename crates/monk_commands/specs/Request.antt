@@ -1,6 +1,6 @@
 -- The command line of the program, as clap sees it, and what a line asks for
 use Rattle.std.specs.Prelude.{◌≡◌, ℕ, List, [], ◌∷◌, ◌++◌, Option, Some, None, IfSome, IsSomeAnd, true, map, option_map, codes, pos}
-use Rattle.std.specs.Prelude.{string_bytes}
+use Rattle.std.specs.Prelude.{◌≤◌, length, string_bytes}
 use Rattle.std.specs.Str.Parse.{IsNumeral, digits_value, without_leading_plus}
 use Rattle.std.specs.Borrow.{Bor}
 use Rattle.clap.specs.Words.{AddsSubcommand, App, Row, Rule, Text, all_of, app_of, first_of, one_of, new_app, new_rule, with_rule}
@@ -21,8 +21,8 @@ use Rattle.monk_samples.specs.Samples.{IsInRange, sample_object}
 use Rattle.monk_samples.specs.declared.sample.Sample.{Sample}
 use Rattle.monk_samples.specs.declared.sample.Sample.TheVariants.{Buffer, Book, Shop, Hasty}
 use Rattle.monk_commands.specs.declared.request.Line.{Line}
-use Rattle.monk_commands.specs.declared.request.Line.TheVariants.{Classify, Audit, Play, Upgrade, Fit, Trace, Explain, Draw, Page}
-use Rattle.monk_commands.specs.declared.request.Line.TheVariants.{Complete, Run, Record}
+use Rattle.monk_commands.specs.declared.request.Line.TheVariants.{Classify, Audit, Play, Upgrade, Fit, FitKind}
+use Rattle.monk_commands.specs.declared.request.Line.TheVariants.{Trace, Explain, Draw, Page, Complete, Run, Record}
 
 -- a word that must stand there, and that the parser takes
 abbrev pub required_rule : Text → ValueParser → Rule
@@ -81,6 +81,10 @@ run_app name n =
 abbrev pub file_app : Text → App
 file_app name = with_rule (new_app name) (new_rule (codes "FILE"))
 
+-- the files that a command takes, any number
+abbrev pub files_rule : Rule
+files_rule = record (new_rule (codes "FILE")) { action = Some Append }
+
 -- a flag, and an option that may stand more than once and takes a value of that name
 abbrev pub flag_rule : Text → Rule
 flag_rule name = record (new_rule name) { long = Some name; action = Some SetTrue }
@@ -88,6 +92,10 @@ flag_rule name = record (new_rule name) { long = Some name; action = Some SetTru
 -- the rule of an option that may stand several times
 abbrev pub repeated_rule : Text → Rule
 repeated_rule name = record (new_rule name) { long = Some name; action = Some Append; value_names = 1 }
+
+-- an option that takes a value that the parser takes
+abbrev pub chosen_rule : Text → ValueParser → Rule
+chosen_rule name parser = record (new_rule name) { long = Some name; parser = Some parser; value_names = 1 }
 
 -- an option that takes a whole number
 abbrev pub number_rule : Text → Rule
@@ -100,12 +108,13 @@ window_app name =
     with_rule (with_rule (with_rule (new_app name) (number_rule (codes "from"))) (number_rule (codes "to")))
     (new_rule (codes "FILE"))
 
--- the command that takes what a log may tell, and a file
-abbrev pub fit_app : App
-fit_app =
-    with_rule (with_rule (with_rule (new_app (codes "fit")) (flag_rule (codes "lapses")))
+-- the command that takes a kind or none, what a log may tell, and files
+abbrev pub fit_app : KindNames → App
+fit_app n =
+    with_rule (with_rule (with_rule (with_rule (new_app (codes "fit")) (chosen_rule (codes "kind") (Names n.kinds)))
+    (flag_rule (codes "lapses")))
     (repeated_rule (codes "means")))
-    (new_rule (codes "FILE"))
+    files_rule
 
 -- the command that takes a kind, and a file
 abbrev pub complete_app : KindNames → App
@@ -125,26 +134,42 @@ bare_app =
           record (new_app (codes "monk")).top { has_version = true; subcommand_required = true };
     }
 
--- with the commands that take no kind, and with all
-abbrev pub plain_app : App
-plain_app =
+-- with the commands that need no kind
+abbrev pub plain_app : KindNames → App
+plain_app fitted =
     with_subcommand (with_subcommand (with_subcommand (with_subcommand (with_subcommand (with_subcommand
     (with_subcommand (with_subcommand (with_subcommand bare_app classify_app.top) (file_app (codes "audit")).top)
-    (file_app (codes "play")).top) (file_app (codes "upgrade")).top) fit_app.top) (file_app (codes "trace")).top)
-    (file_app (codes "explain")).top) (window_app (codes "draw")).top) (window_app (codes "page")).top
+    (file_app (codes "play")).top) (file_app (codes "upgrade")).top) (fit_app fitted).top)
+    (file_app (codes "trace")).top) (file_app (codes "explain")).top) (window_app (codes "draw")).top) (window_app (codes "page")).top
 
 -- the program with its commands
-abbrev pub monk_app : KindNames → RunNames → RunNames → App
-monk_app completed run recorded =
-    with_subcommand (with_subcommand (with_subcommand plain_app (complete_app completed).top)
+abbrev pub monk_app : KindNames → KindNames → RunNames → RunNames → App
+monk_app fitted completed run recorded =
+    with_subcommand (with_subcommand (with_subcommand (plain_app fitted) (complete_app completed).top)
     (run_app (codes "run") run).top) (run_app (codes "record") recorded).top
 
 -- the command line of the program
 pub record IsMonk (a : App) : Type 0 where
+  pub fitted : KindNames
   pub completed : KindNames
   pub run : RunNames
   pub recorded : RunNames
-  pub is : a ≡ monk_app completed run recorded
+  pub is : a ≡ monk_app fitted completed run recorded
+
+-- the command is the program with the commands that need no kind
+pub record IsPlainMonk (c : Command) : Type 0 where
+  pub fitted : KindNames
+  pub is : app_of c ≡ plain_app fitted
+
+-- the command is `fit`
+pub record IsFitCommand (c : Command) : Type 0 where
+  pub names : KindNames
+  pub is : IsSubcommand c (fit_app names)
+
+-- the second command is the first with `fit`
+pub record HasFit (old new : Command) : Type 0 where
+  pub names : KindNames
+  pub is : app_of new ≡ with_subcommand (app_of old) (fit_app names).top
 
 -- the command is `complete`
 pub record IsCompleteCommand (c : Command) : Type 0 where
@@ -163,6 +188,7 @@ command_word (Audit file) = codes "audit"
 command_word (Play file) = codes "play"
 command_word (Upgrade file) = codes "upgrade"
 command_word (Fit file lapses means) = codes "fit"
+command_word (FitKind kind files lapses means) = codes "fit"
 command_word (Trace file) = codes "trace"
 command_word (Explain file) = codes "explain"
 command_word (Draw file window) = codes "draw"
@@ -224,6 +250,11 @@ abbrev pub words_or_none : Option (List Text) → List Text
 words_or_none None = []
 words_or_none (Some words) = words
 
+-- what clap has found for a log: which lines may tell of a wait that ran out, and what is waited for
+abbrev pub AreLogValues : Lapses → List WaitsFor → List Row → Type 0
+AreLogValues lapses means rows =
+    AreLapses lapses rows × AreMeanings (words_or_none (all_of (codes "means") rows)) means
+
 -- a kind, a sample, seats and rounds are those that clap has found
 abbrev pub AreRunValues : KindName → Sample → ℕ → ℕ → List Row → Type 0
 AreRunValues kind sample seats rounds rows =
@@ -239,7 +270,11 @@ ValuesAre (Audit file) rows = first_of (codes "FILE") rows ≡ option_map string
 ValuesAre (Play file) rows = first_of (codes "FILE") rows ≡ option_map string_bytes file
 ValuesAre (Upgrade file) rows = first_of (codes "FILE") rows ≡ option_map string_bytes file
 ValuesAre (Fit file lapses means) rows = (first_of (codes "FILE") rows ≡ option_map string_bytes file)
-    × AreLapses lapses rows × AreMeanings (words_or_none (all_of (codes "means") rows)) means.items
+    × (length (words_or_none (all_of (codes "FILE") rows)) ≤ 1) × (first_of (codes "kind") rows ≡ None)
+    × AreLogValues lapses means.items rows
+ValuesAre (FitKind kind files lapses means) rows = (first_of (codes "kind") rows ≡ Some (kind_word kind))
+    × (words_or_none (all_of (codes "FILE") rows) ≡ map string_bytes files.items)
+    × AreLogValues lapses means.items rows
 ValuesAre (Trace file) rows = first_of (codes "FILE") rows ≡ option_map string_bytes file
 ValuesAre (Explain file) rows = first_of (codes "FILE") rows ≡ option_map string_bytes file
 ValuesAre (Draw file window) rows = (first_of (codes "FILE") rows ≡ option_map string_bytes file)
@@ -258,6 +293,7 @@ RunIsInRange (Audit file) = Unit {0}
 RunIsInRange (Play file) = Unit {0}
 RunIsInRange (Upgrade file) = Unit {0}
 RunIsInRange (Fit file lapses means) = Unit {0}
+RunIsInRange (FitKind kind files lapses means) = Unit {0}
 RunIsInRange (Trace file) = Unit {0}
 RunIsInRange (Explain file) = Unit {0}
 RunIsInRange (Draw file window) = Unit {0}

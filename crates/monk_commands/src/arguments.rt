@@ -2,9 +2,10 @@
 
 ghost use Rattle.std.specs.Prelude.{◌≡◌, codes, false};
 ghost use Rattle.clap.specs.Words.{new_rule, rule_of};
-ghost use Rattle.monk_commands.specs.Request.{flag_rule, number_rule, repeated_rule, required_rule};
+ghost use Rattle.monk_commands.specs.Request.{chosen_rule, files_rule, flag_rule, number_rule, repeated_rule};
+ghost use Rattle.monk_commands.specs.Request.{required_rule};
 
-use crate::help::FILE;
+use crate::help::{FILE, FILES};
 use clap::builder::ValueParser;
 use clap::{Arg, ArgAction, value_parser};
 use std::alloc::Global;
@@ -15,6 +16,16 @@ pub(crate) fn file<'a>(alloc: Global) -> Arg<'a>
     ensures local { result.global ≡ false }
 {
     Arg::new(alloc, "FILE").help(FILE)
+}
+
+/// The files that a command reads.
+pub(crate) fn files<'a>(alloc: Global) -> Arg<'a>
+    ensures rule { rule_of result ≡ files_rule }
+    ensures local { result.global ≡ false }
+{
+    Arg::new(alloc, "FILE")
+        .help(FILES)
+        .action(ArgAction::Append)
 }
 
 /// A word that must stand there, and that the parser takes.
@@ -54,6 +65,24 @@ pub(crate) fn repeated<'a>(alloc: Global, name: &'a str, help: &'a str, value: &
         .long(name)
         .value_name(value)
         .action(ArgAction::Append)
+}
+
+/// An option that takes a value that the parser takes.
+pub(crate) fn chosen<'a>(
+    alloc: Global,
+    name: &'a str,
+    help: &'a str,
+    value: &'a str,
+    parser: ValueParser<'a>,
+) -> Arg<'a>
+    ensures rule { rule_of result ≡ chosen_rule name.entry.now parser.entry }
+    ensures local { result.global ≡ false }
+{
+    Arg::new(alloc, name)
+        .help(help)
+        .long(name)
+        .value_name(value)
+        .value_parser(parser)
 }
 
 /// An option that takes a whole number.

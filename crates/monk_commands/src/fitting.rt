@@ -41,7 +41,7 @@ fn verdict_under(
 }
 
 /// Puts the line of the kind behind the page. Gives whether the events are legal under it.
-fn put_line(
+pub(crate) fn put_line(
     alloc: Global,
     page: &mut Vec<u8>,
     header: &Header,
@@ -127,7 +127,7 @@ fn fit_history<W: Write>(
 }
 
 /// Whether the first word of the text is that of a log.
-fn is_log(bytes: &[u8]) -> bool
+pub(crate) fn is_log(bytes: &[u8]) -> bool
     ensures { result ≡ is_log_text bytes.now }
 {
     bytes.starts_with(b"log ")

@@ -4,6 +4,9 @@ pub(crate) const PRIORITY: &str = "A priority, 0 to 255; greater is higher";
 
 pub(crate) const FILE: &str = "The text; with none or with `-`, standard input";
 
+pub(crate) const FILES: &str =
+    "The text, with --kind any number of them; with none or with `-`, standard input";
+
 pub(crate) const FROM: &str = "The first event to show";
 
 pub(crate) const TO: &str = "The last event to show";
@@ -45,9 +48,13 @@ pub(crate) static UPGRADE: Help = Help {
 pub(crate) static FIT: Help = Help {
     about: "Tells under which kinds a history is legal, or which kinds a log fits",
     example: "Example: monk fit examples/threads_at_a_buffer.log --means 0=0 --means 1=1\n\
-        Status: 0 fits a kind, 1 fits none, 2 unreadable; 3 wrong words, 4 a failed file or no memory\n\
+        Example: monk fit --kind NPNB logs/*.log\n\
+        Status: 0 fits a kind, 1 fits none, 2 unreadable; 3 wrong words, 4 a failed file or no memory.\n\
+        With --kind the worst of all files: 0 fits it, 1 doesn't or missed a signal\n\
         Read: docs/LOGS.md",
 };
+
+pub(crate) const ONE_KIND: &str = "Judge under this kind alone: one line for each file";
 
 pub(crate) const LAPSES: &str = "In a log, a `resume` may be a timed wait that ran out";
 

@@ -168,7 +168,7 @@ fn missed_line(
 }
 
 /// Puts the lines of these counts behind the page.
-fn put_text(
+pub(crate) fn put_text(
     alloc: Global,
     page: &mut Vec<u8>,
     means: &[WaitsFor],

@@ -9,6 +9,7 @@ use crate::completing::complete_stream;
 use crate::explaining::explain_stream;
 use crate::fault::StreamFault;
 use crate::fitting::fit_stream;
+use crate::kind_fitting::fit_kind_stream;
 use crate::playing::play_stream;
 use crate::show::Show;
 use crate::showing::show_stream;
@@ -33,6 +34,9 @@ pub enum Task<'a> {
     /// The verdicts on a history or a log under each of the ten kinds, by [`fit_stream`]: of a log
     /// with what it says of waits.
     Fit(Lapses, &'a [WaitsFor]),
+    /// The verdict on a history or a log of that name under the kind, by [`fit_kind_stream`]: of a
+    /// log with what it says of waits.
+    FitKind(KindName, Lapses, &'a [WaitsFor], &'a str),
     /// Each command of a play with its answer, by [`trace_stream`].
     Trace,
     /// The verdict on a history, and why, by [`explain_stream`].
@@ -80,6 +84,9 @@ impl Task<'_> {
             Task::Play => play_stream(alloc, reader, writer),
             Task::Upgrade => upgrade_stream(alloc, reader, writer),
             Task::Fit(lapses, means) => fit_stream(alloc, lapses, means, reader, writer),
+            Task::FitKind(kind, lapses, means, name) => {
+                fit_kind_stream(alloc, kind, lapses, means, name, reader, writer)
+            }
             Task::Trace => trace_stream(alloc, reader, writer),
             Task::Explain => explain_stream(alloc, reader, writer),
             Task::Draw(window) => show_stream(alloc, Show::Picture, window, reader, writer),

@@ -1,29 +1,28 @@
 //! The program's words, read with `clap`.
 
-ghost use Rattle.std.specs.Prelude.{◌≡◌, IfOk, IfSome, Some, codes, if◌then◌else◌, map, option_map, string_bytes};
+ghost use Rattle.std.specs.Prelude.{◌≡◌, IfOk, IfSome, Some, codes, map};
 ghost use Rattle.monk_kinds.specs.Names.{kind_word};
-ghost use Rattle.clap.specs.Words.{App, app_of, first_of, first_value, found_of, rows_of, subcommand_of};
+ghost use Rattle.clap.specs.Words.{App, app_of, first_of, found_of, rows_of, subcommand_of};
 ghost use Rattle.clap.specs.Words.{subcommand_rows_of, with_subcommand};
-ghost use Rattle.monk_logs.specs.declared.lapses.Lapses.{Lapses};
 ghost use Rattle.monk_samples.specs.Samples.{IsInRange};
-ghost use Rattle.monk_commands.specs.Request.{AreLapses, AreRunValues, IsAsked, IsCompleteCommand};
-ghost use Rattle.monk_commands.specs.Request.{IsMonk, IsRead, IsRunCommand, IsSubcommand};
-ghost use Rattle.monk_commands.specs.Request.{bare_app, classify_app, file_app, fit_app, plain_app, sample_word};
+ghost use Rattle.monk_commands.specs.Request.{AreRunValues, IsAsked, IsCompleteCommand, IsFitCommand};
+ghost use Rattle.monk_commands.specs.Request.{HasFit, IsMonk, IsPlainMonk, IsRead, IsRunCommand, IsSubcommand};
+ghost use Rattle.monk_commands.specs.Request.{bare_app, classify_app, file_app, sample_word};
 ghost use Rattle.monk_commands.specs.Request.{window_app};
 
-use crate::arguments::{file, flag, number, repeated, required};
+use crate::arguments::{chosen, file, files, flag, number, repeated, required};
+use crate::file_words::file_of;
+use crate::fit_words::line_to_fit;
 use crate::help::{
-    AUDIT, CLASSIFY, COMPLETE, DRAW, EXPLAIN, FIT, FROM, Help, LAPSES, MEANS, PAGE, PLAY, PRIORITY,
-    RECORD, RUN, TO, TRACE, UPGRADE,
+    AUDIT, CLASSIFY, COMPLETE, DRAW, EXPLAIN, FIT, FROM, Help, LAPSES, MEANS, ONE_KIND, PAGE, PLAY,
+    PRIORITY, RECORD, RUN, TO, TRACE, UPGRADE,
 };
-use crate::meaning_words::meanings_of;
 use crate::request::{Line, LineFault};
 use crate::window_words::window_of;
 use clap::builder::ValueParser;
 use clap::error::ErrorKind;
 use clap::{ArgMatches, Command, value_parser};
 use monk_kinds::KindName;
-use monk_logs::Lapses;
 use monk_object::ObjectName;
 use monk_samples::Sample;
 use std::alloc::{AllocError, Global};
@@ -45,9 +44,9 @@ fn command<'a>(alloc: Global) -> Result<Command<'a>, AllocError>
     program.subcommand(running(alloc, "record", &RECORD)?)
 }
 
-/// The program with the commands that take no kind.
+/// The program with the commands that need no kind.
 fn plain<'a>(alloc: Global) -> Result<Command<'a>, AllocError>
-    ensures { IfOk result (λ c. app_of c ≡ plain_app) }
+    ensures { IfOk result IsPlainMonk }
 {
     let program = with_classify(alloc, bare(alloc)?)?;
     let program = with_reader(alloc, program, "audit", &AUDIT)?;
@@ -75,7 +74,7 @@ fn with_classify<'a>(alloc: Global, program: Command<'a>) -> Result<Command<'a>,
 }
 
 fn with_fit<'a>(alloc: Global, program: Command<'a>) -> Result<Command<'a>, AllocError>
-    ensures { IfOk result (λ c. app_of c ≡ with_subcommand (app_of program.entry) fit_app.top) }
+    ensures { IfOk result (HasFit program.entry) }
 {
     program.subcommand(fitting(alloc)?)
 }
@@ -116,16 +115,18 @@ fn classify<'a>(alloc: Global) -> Result<Command<'a>, AllocError>
         .arg(signaller)
 }
 
-/// The command that takes what a log may tell, and a file, or standard input where none is named.
+/// The command that takes a kind or none, what a log may tell, and files, or standard input where none is named.
 fn fitting<'a>(alloc: Global) -> Result<Command<'a>, AllocError>
-    ensures { IfOk result (λ c. IsSubcommand c fit_app) }
+    ensures { IfOk result IsFitCommand }
 {
+    let kinds = ValueParser::Names(KINDS.as_slice());
     Command::new(alloc, "fit")
         .about(FIT.about)
         .after_help(FIT.example)
+        .arg(chosen(alloc, "kind", ONE_KIND, "KIND", kinds))?
         .arg(flag(alloc, "lapses", LAPSES))?
         .arg(repeated(alloc, "means", MEANS, "COND=PRED"))?
-        .arg(file(alloc))
+        .arg(files(alloc))
 }
 
 /// A command that shows some events of a file, or of standard input where none is named.
@@ -189,15 +190,6 @@ fn fault_of(alloc: Global, error: &clap::Error) -> LineFault {
     }
 }
 
-fn file_of(alloc: Global, matches: &ArgMatches<'_>) -> Result<Option<String>, LineFault>
-    ensures { IfOk result (λ file. option_map string_bytes file ≡ first_value (found_of matches.now) (codes "FILE")) }
-{
-    match matches.get_str("FILE") {
-        Some(name) => Ok(Some(String::from_str(alloc, name)?)),
-        None => Ok(None),
-    }
-}
-
 fn priorities_of(matches: &ArgMatches<'_>) -> Option<Line>
     ensures { IfSome result (λ l. IsRead (codes "classify") l (rows_of (found_of matches.now))) }
 {
@@ -242,31 +234,6 @@ fn run_of(matches: &ArgMatches<'_>) -> Option<(KindName, Sample, u8, u32)>
         return None;
     }
     Some((kind, sample, seats, rounds))
-}
-
-/// Which lines of a log may tell of a wait that ran out, by whether the flag is set.
-fn lapses_by(is_set: bool) -> Lapses
-    ensures { result ≡ (if is_set then Lapses.Allowed else Lapses.Told) }
-{
-    if is_set {
-        Lapses::Allowed
-    } else {
-        Lapses::Told
-    }
-}
-
-fn lapses_of(matches: &ArgMatches<'_>) -> Lapses
-    ensures { AreLapses result (rows_of (found_of matches.now)) }
-{
-    lapses_by(matches.get_flag("lapses"))
-}
-
-fn line_to_fit(alloc: Global, matches: &ArgMatches<'_>) -> Result<Line, LineFault>
-    ensures { IfOk result (λ l. IsRead (codes "fit") l (rows_of (found_of matches.now))) }
-{
-    let file = file_of(alloc, matches)?;
-    let means = meanings_of(alloc, matches)?;
-    Ok(Line::Fit(file, lapses_of(matches), means))
 }
 
 fn line_to_draw(alloc: Global, matches: &ArgMatches<'_>) -> Result<Line, LineFault>

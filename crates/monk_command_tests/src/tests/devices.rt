@@ -12,7 +12,7 @@ use std::io::{Read, Write};
 use std::process::Abort;
 use std::test::Fail;
 
-static JOBS: [Job<'static>; 10] = [
+static JOBS: [Job<'static>; 12] = [
     Job {
         name: "legal",
         task: Task::Audit,
@@ -47,6 +47,20 @@ static JOBS: [Job<'static>; 10] = [
         input: b"monk 1 PB 1 0 buffer 1\nenter 0 free\nleave 0 entry\n",
         status: 0,
         answer: b"PB legal 2\nNPB legal 2\nPNB legal 2\nNPNB legal 2\nPQB legal 2\nNPQB legal 2\nPIR legal 2\nNPIR legal 2\nPIS legal 2\nNPIS legal 2\n",
+    },
+    Job {
+        name: "fitted under a kind",
+        task: Task::FitKind(KindName::Pis, Lapses::Told, &[], "a.history"),
+        input: b"monk 1 PB 1 0 buffer 1\nenter 0 free\nleave 0 entry\n",
+        status: 0,
+        answer: b"a.history: PIS legal 2\n",
+    },
+    Job {
+        name: "a log under a kind",
+        task: Task::FitKind(KindName::Npnb, Lapses::Told, &[], "-"),
+        input: b"log 1 1 1 buffer 1\nenter 0\nwait 0 0\n",
+        status: 0,
+        answer: b"-: NPNB fits fifo; served 0 passed 0 lapsed 0; left waiting 1 woken 0 inside 1\n",
     },
     Job {
         name: "explained",

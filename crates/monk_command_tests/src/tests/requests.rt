@@ -4,7 +4,7 @@ use std::alloc::Global;
 use std::test::Fail;
 
 /// Words, and what they ask for.
-static ASKING: [(&[&str], &str); 48] = [
+static ASKING: [(&[&str], &str); 53] = [
     (&["monk", "audit"], "Audit(None)"),
     (&["monk", "audit", "x.text"], "Audit(Some(\"x.text\"))"),
     (&["monk", "play"], "Play(None)"),
@@ -54,6 +54,34 @@ static ASKING: [(&[&str], &str); 48] = [
     (
         &["monk", "fit", "--means", "0=1", "--means", "7=255"],
         "Fit(None, Told, [WaitsFor { cond: 0, pred: 1 }, WaitsFor { cond: 7, pred: 255 }])",
+    ),
+    (
+        &["monk", "fit", "--kind", "NPNB"],
+        "FitKind(Npnb, [], Told, [])",
+    ),
+    (
+        &["monk", "fit", "--kind", "NPIS", "-"],
+        "FitKind(Npis, [\"-\"], Told, [])",
+    ),
+    (
+        &["monk", "fit", "--kind", "PB", "x.log", "y.log", "x.log"],
+        "FitKind(Pb, [\"x.log\", \"y.log\", \"x.log\"], Told, [])",
+    ),
+    (
+        &[
+            "monk",
+            "fit",
+            "x.log",
+            "--lapses",
+            "y.log",
+            "--means=7=0",
+            "--kind=PQB",
+        ],
+        "FitKind(Pqb, [\"x.log\", \"y.log\"], Allowed, [WaitsFor { cond: 7, pred: 0 }])",
+    ),
+    (
+        &["monk", "fit", "--kind", "PIR", "--", "--kind", "NPIR"],
+        "FitKind(Pir, [\"--kind\", \"NPIR\"], Told, [])",
     ),
     (&["monk", "complete", "PB"], "Complete(Pb, None)"),
     (&["monk", "complete", "NPB"], "Complete(Npb, None)"),
@@ -153,7 +181,7 @@ fn is_refused(alloc: Global, words: &[&str]) -> bool {
 
 /// Words that ask for nothing; of a picture also numbers of no events, of a run a number out of
 /// range, and another kind or sample.
-static NOTHING: [&[&str]; 44] = [
+static NOTHING: [&[&str]; 49] = [
     &["monk", "adit"],
     &["monk", "help"],
     &["monk", "--help"],
@@ -174,6 +202,11 @@ static NOTHING: [&[&str]; 44] = [
     &["monk", "draw", "--to", "4294967296"],
     &["monk", "draw", "--from", "1", "--from", "2"],
     &["monk", "fit", "a", "b"],
+    &["monk", "fit", "--kind"],
+    &["monk", "fit", "--kind", "ABC", "a"],
+    &["monk", "fit", "--kind", "npnb", "a"],
+    &["monk", "fit", "--kind", "PB", "--kind", "NPB", "a"],
+    &["monk", "fit", "--kind", "PB", "--means", "1", "a", "b"],
     &["monk", "fit", "--means", "1"],
     &["monk", "fit", "--means", "0=256"],
     &["monk", "fit", "--lapses", "--lapses"],

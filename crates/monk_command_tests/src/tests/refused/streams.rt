@@ -7,7 +7,7 @@ use std::io;
 use std::io::Write;
 
 /// By the names that `checks/fail_alloc` knows them by.
-pub(super) static JOBS: [Job<'static>; 18] = [
+pub(super) static JOBS: [Job<'static>; 22] = [
     Job {
         name: "legal",
         task: Task::Audit,
@@ -86,6 +86,39 @@ pub(super) static JOBS: [Job<'static>; 18] = [
         input: b"log 1 1 0 buffer 1\nenter 0\nstay 0\n",
         status: 2,
         answer: b"unreadable 3 2 word\n",
+    },
+    Job {
+        name: "kind_fitted",
+        task: Task::FitKind(KindName::Npir, Lapses::Told, &[], "a.history"),
+        input: b"monk 1 PB 1 0 buffer 1\nenter 0 free\nleave 0 entry\n",
+        status: 0,
+        answer: b"a.history: NPIR legal 2\n",
+    },
+    Job {
+        name: "log_kind_fitted",
+        task: Task::FitKind(
+            KindName::Npnb,
+            Lapses::Allowed,
+            &[WaitsFor { cond: 0, pred: 1 }],
+            "a.log",
+        ),
+        input: b"log 1 2 1 buffer 1\nenter 0\nwait 0 0\nresume 0\n",
+        status: 0,
+        answer: b"a.log: NPNB fits fifo; served 0 passed 0 lapsed 1; left waiting 0 woken 0 inside 1; missed none\n",
+    },
+    Job {
+        name: "log_kind_misfit",
+        task: Task::FitKind(KindName::Npis, Lapses::Told, &[], "a.log"),
+        input: b"log 1 2 1 buffer 1\nenter 0\nwait 0 0\nresume 0\n",
+        status: 1,
+        answer: b"a.log: NPIS misfit 2 2 call\n",
+    },
+    Job {
+        name: "log_not_kind_fitted",
+        task: Task::FitKind(KindName::Npnb, Lapses::Told, &[], "a.log"),
+        input: b"log 1 1 0 buffer 1\nenter 0\nstay 0\n",
+        status: 2,
+        answer: b"a.log: unreadable 3 2 word\n",
     },
     Job {
         name: "traced",

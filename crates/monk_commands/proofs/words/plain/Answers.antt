@@ -14,7 +14,8 @@ returns c =
     ∙ ap (λ (a : App). with_subcommand a (file_app (codes "play")).top) audit_is in
     let upgrade_is = c.in_ok-program-4.ensures
     ∙ ap (λ (a : App). with_subcommand a (file_app (codes "upgrade")).top) play_is in
-    let fit_is = c.in_ok-program-5.ensures ∙ ap (λ (a : App). with_subcommand a fit_app.top) upgrade_is in
+    let fit = c.in_ok-program-5.ensures in
+    let fit_is = fit.is ∙ ap (λ (a : App). with_subcommand a (fit_app fit.names).top) upgrade_is in
     let trace_is = c.in_ok-program-6.ensures
     ∙ ap (λ (a : App). with_subcommand a (file_app (codes "trace")).top) fit_is in
     let explain_is = c.in_ok-program-7.ensures
@@ -22,5 +23,8 @@ returns c =
     let draw_is = c.in_ok-program-8.ensures
     ∙ ap (λ (a : App). with_subcommand a (window_app (codes "draw")).top) explain_is in
     IfOk-weaker c.with_window-2.result _ _
-    (λ r h. h ∙ ap (λ (a : App). with_subcommand a (window_app (codes "page")).top) draw_is)
+    (λ r h. record {
+      fitted = fit.names;
+      is = h ∙ ap (λ (a : App). with_subcommand a (window_app (codes "page")).top) draw_is;
+    })
     c.with_window-2.ensures

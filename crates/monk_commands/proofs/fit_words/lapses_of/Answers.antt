@@ -4,7 +4,7 @@ use Rattle.clap.specs.Words.{found_of}
 use Rattle.clap.proofs.WalkLemmas.{one_text-rows}
 use Rattle.monk_logs.specs.declared.lapses.Lapses.{Lapses}
 use Rattle.monk_logs.specs.declared.lapses.Lapses.TheVariants.{Told, Allowed}
-use Rattle.monk_commands.proofs.words.lapses_of.Goals as goal
+use Rattle.monk_commands.proofs.fit_words.lapses_of.Goals as goal
 
 abbrev by_flag : Bool → Lapses
 by_flag is_set = if is_set then Allowed else Told

@@ -1,0 +1,113 @@
+//! Known histories and logs, judged under one kind.
+
+use super::jobs::{Job, are_answered};
+use monk_commands::Task;
+use monk_kinds::KindName;
+use monk_logs::{Lapses, WaitsFor};
+use std::test::Fail;
+
+static HISTORIES: [Job<'static>; 5] = [
+    // Its header names another kind.
+    Job {
+        name: "a hand-over as Hoare's",
+        task: Task::FitKind(KindName::Npb, Lapses::Told, &[], "a.history"),
+        input: b"monk 1 PNB 2 2 buffer 1\nenter 0 free\nact 0 1 0 0\nwait 0 1 entry\nenter 1 free\nact 1 0 7 1\nsignal 1 1 waiter 0\nresume 0 waiter\nact 0 1 0 8\nleave 0 signaller 1\nresume 1 signaller\nleave 1 entry\n",
+        status: 0,
+        answer: b"a.history: NPB legal 11\n",
+    },
+    Job {
+        name: "none of Mesa's",
+        task: Task::FitKind(KindName::Npnb, Lapses::Allowed, TAKERS, "a.history"),
+        input: b"monk 1 PB 2 2 buffer 1\nenter 0 free\nact 0 1 0 0\nwait 0 1 entry\nenter 1 free\nact 1 0 7 1\nsignal 1 1 waiter 0\nresume 0 waiter\nact 0 1 0 8\nleave 0 signaller 1\nresume 1 signaller\nleave 1 entry\n",
+        status: 1,
+        answer: b"a.history: NPNB forbidden 6 6 choice\n",
+    },
+    Job {
+        name: "no history",
+        task: Task::FitKind(KindName::Npnb, Lapses::Told, &[], "-"),
+        input: b"",
+        status: 2,
+        answer: b"-: unreadable 1 1 header\n",
+    },
+    Job {
+        name: "no event",
+        task: Task::FitKind(KindName::Pb, Lapses::Told, &[], "logs/1 of 2: a"),
+        input: b"monk 1 PB 2 0 shop 4\nenter 0 free\nstay 0\n",
+        status: 2,
+        answer: b"logs/1 of 2: a: unreadable 3 2 word\n",
+    },
+    Job {
+        name: "too great a size",
+        task: Task::FitKind(KindName::Pb, Lapses::Told, &[], ""),
+        input: b"monk 1 PB 2 0 shop 65\nenter 0 free\nenter 1 free\n",
+        status: 2,
+        answer: b": object\n",
+    },
+];
+
+#[test]
+fn histories_fit_a_kind(rt: HostRuntime) -> Result<(), Fail> {
+    are_answered(&rt, &HISTORIES)
+}
+
+/// Those who wait on condition 1 wait for an item of a buffer.
+const TAKERS: &[WaitsFor] = &[WaitsFor { cond: 1, pred: 1 }];
+
+static LOGS: [Job<'static>; 7] = [
+    Job {
+        name: "a lost notify",
+        task: Task::FitKind(KindName::Npnb, Lapses::Told, &[], "a.log"),
+        input: b"log 1 3 1 buffer 1\nenter 0\nwait 0 0\nenter 1\nwait 1 0\nenter 2\nact 2 0 7 1\nsignal 2 0\nleave 2\nlapse 0\nleave 0\n",
+        status: 0,
+        answer: b"a.log: NPNB fits any; served 1 passed 0 lapsed 1; left waiting 0 woken 1 inside 1\n",
+    },
+    Job {
+        name: "of no kind with a choice",
+        task: Task::FitKind(KindName::Pqb, Lapses::Told, TAKERS, "a.log"),
+        input: b"log 1 3 1 buffer 1\nenter 0\nwait 0 0\nenter 1\nwait 1 0\nenter 2\nact 2 0 7 1\nsignal 2 0\nleave 2\nlapse 0\nleave 0\n",
+        status: 1,
+        answer: b"a.log: PQB misfit 9 9 choice\n",
+    },
+    // A putter forgets to signal the taker: at the sixth line the monitor is let go with an item there.
+    Job {
+        name: "a forgotten signal",
+        task: Task::FitKind(KindName::Pb, Lapses::Told, TAKERS, "a.log"),
+        input: b"log 1 2 2 buffer 1\nenter 0\nact 0 1 0 0\nwait 0 1\nenter 1\nact 1 0 7 1\nleave 1\n",
+        status: 1,
+        answer: b"a.log: PB fits fifo; served 0 passed 0 lapsed 0; left waiting 1 woken 0 inside 1; missed 6\n",
+    },
+    // Nobody has told what the taker waits for.
+    Job {
+        name: "a signal that nobody misses",
+        task: Task::FitKind(KindName::Pb, Lapses::Told, &[], "a.log"),
+        input: b"log 1 2 2 buffer 1\nenter 0\nact 0 1 0 0\nwait 0 1\nenter 1\nact 1 0 7 1\nleave 1\n",
+        status: 0,
+        answer: b"a.log: PB fits fifo; served 0 passed 0 lapsed 0; left waiting 1 woken 0 inside 1\n",
+    },
+    Job {
+        name: "a wait that ran out",
+        task: Task::FitKind(KindName::Npir, Lapses::Allowed, TAKERS, "a.log"),
+        input: b"log 1 2 1 buffer 1\nenter 0\nwait 0 0\nresume 0\n",
+        status: 0,
+        answer: b"a.log: NPIR fits fifo; served 0 passed 0 lapsed 1; left waiting 0 woken 0 inside 1; missed none\n",
+    },
+    Job {
+        name: "a log of too great a size",
+        task: Task::FitKind(KindName::Npnb, Lapses::Told, &[], "a.log"),
+        input: b"log 1 2 0 shop 65\nenter 0\n",
+        status: 2,
+        answer: b"a.log: object\n",
+    },
+    Job {
+        name: "no line",
+        task: Task::FitKind(KindName::Npnb, Lapses::Told, &[], "a.log"),
+        input: b"log 1 2 0 shop 4\nenter 0\nstay 0\n",
+        status: 2,
+        answer: b"a.log: unreadable 3 2 word\n",
+    },
+];
+
+#[test]
+fn logs_fit_a_kind(rt: HostRuntime) -> Result<(), Fail> {
+    are_answered(&rt, &LOGS)
+}

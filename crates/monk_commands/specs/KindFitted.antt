@@ -1,0 +1,118 @@
+-- The answer to a text that is judged under one kind: one line, behind the name of the text
+use Rattle.std.specs.Prelude.{◌≡◌, ℕ, List, [], ◌∷◌, ◌++◌, ◌-◌, ◌^◌, ◌==◌, length, take, Option, Some, None, Result, Ok, Err}
+use Rattle.std.specs.Prelude.{nat_lt, if◌then◌else◌, codes}
+use Rattle.std.specs.List.{flat_map}
+use Rattle.monk_kinds.specs.Names.{kind_word}
+use Rattle.monk_kinds.specs.declared.name.KindName.{KindName}
+use Rattle.monk_object.specs.Names.{most}
+use Rattle.monk_history.specs.declared.event.Event.{Event}
+use Rattle.monk_history.specs.declared.text.fault.ReadFault.{ReadFault}
+use Rattle.monk_history.specs.Meaning.Legal.{IsLegal}
+use Rattle.monk_history.specs.Meaning.Named.{named_monitor}
+use Rattle.monk_history.specs.Text.{Heading}
+use Rattle.monk_history.specs.Text.Reading.{History, text_at}
+use Rattle.monk_audit.specs.Under.{under}
+use Rattle.monk_logs.specs.Lapses.{IsOpenWith}
+use Rattle.monk_logs.specs.Log.{LogHeading}
+use Rattle.monk_logs.specs.Log.Reading.{Log, log_at}
+use Rattle.monk_logs.specs.Verdict.{log_monitor}
+use Rattle.monk_logs.specs.declared.counts.Counts.{Counts}
+use Rattle.monk_logs.specs.declared.counts.waits_for.WaitsFor.{WaitsFor}
+use Rattle.monk_logs.specs.declared.kind_fit.Fit.{Fit}
+use Rattle.monk_logs.specs.declared.kind_fit.Fit.TheVariants.{In, Misfit}
+use Rattle.monk_logs.specs.declared.lapses.Lapses.{Lapses}
+use Rattle.monk_logs.specs.declared.order.Order.{Order}
+use Rattle.monk_logs.specs.declared.text.line.LogLine.{LogLine}
+use Rattle.monk_commands.specs.Answer.{LineAnswer, too_big, unreadable}
+use Rattle.monk_commands.specs.Completed.{IsLogOf, misfit_answer}
+use Rattle.monk_commands.specs.Fitted.{fit_line, is_fit, verdict_under}
+use Rattle.monk_commands.specs.Legal.{IsTextOf}
+use Rattle.monk_commands.specs.LogFitted.{counts_text, fit_words, is_log_text, log_counts, log_fit}
+
+-- ---- lines as one
+
+-- what stands in one line for a byte of several: `; ` for the end of a line
+abbrev pub byte_in_one : ℕ → List ℕ
+byte_in_one b = if b == 10 then codes "; " else b ∷ []
+
+-- those lines as one, without the end of the last
+abbrev pub in_one_line : List ℕ → List ℕ
+in_one_line lines = flat_map byte_in_one (take (length lines - 1) lines)
+
+-- those lines as one behind a name
+abbrev pub named_line : List ℕ → List ℕ → List ℕ
+named_line name lines = name ++ (codes ": " ++ (in_one_line lines ++ codes "\n"))
+
+-- an answer whose lines are one, behind a name
+abbrev pub named_answer : List ℕ → LineAnswer → LineAnswer
+named_answer name a = record { status = a.status; text = named_line name a.text }
+
+-- ---- a history
+
+-- the verdict on the events under the kind, whatever kind the header names
+abbrev pub kind_fit_answer : KindName → Heading → List Event → LineAnswer
+kind_fit_answer k h events =
+    if nat_lt (most h.object) h.size then too_big
+    else record { status = if is_fit (verdict_under h events k) then 0 else 1; text = fit_line h events k }
+
+-- the same for what was read
+abbrev pub kind_fit_reading : KindName → Result History ReadFault → LineAnswer
+kind_fit_reading k (Ok h) = kind_fit_answer k h.0 h.1
+kind_fit_reading k (Err f) = unreadable f
+
+-- the same for a history as input
+abbrev pub kind_fit_of : KindName → List ℕ → LineAnswer
+kind_fit_of k input = kind_fit_reading k (text_at (2 ^ 25) input)
+
+-- ---- a log
+
+-- the status of a log that fits, by the first line at which a signal is missed
+abbrev pub missed_status : Option ℕ → ℕ
+missed_status None = 0
+missed_status (Some n) = 1
+
+-- the line of the fit, and behind it the lines of the counts; the line of a misfit alone
+abbrev pub fit_with_counts : KindName → List WaitsFor → Counts → Fit → LineAnswer
+fit_with_counts k means c (In o) =
+    record { status = missed_status c.missed; text = kind_word k ++ fit_words (In o) ++ counts_text means c }
+fit_with_counts k means c (Misfit n why) = misfit_answer k n why
+
+-- the answer to a log under the kind
+abbrev pub log_kind_answer : KindName → Lapses → List WaitsFor → LogHeading → List LogLine → LineAnswer
+log_kind_answer k x means h log =
+    if nat_lt (most h.object) h.size then too_big
+    else fit_with_counts k means (log_counts h means log) (log_fit x h log k)
+
+-- the same for what was read as a log
+abbrev pub log_kind_reading : KindName → Lapses → List WaitsFor → Result Log ReadFault → LineAnswer
+log_kind_reading k x means (Ok l) = log_kind_answer k x means l.0 l.1
+log_kind_reading k x means (Err f) = unreadable f
+
+-- the same for a log as input
+abbrev pub log_kind_of : KindName → Lapses → List WaitsFor → List ℕ → LineAnswer
+log_kind_of k x means input = log_kind_reading k x means (log_at (2 ^ 25) input)
+
+-- ---- a text
+
+-- what is told of a text under the kind
+abbrev pub kind_answer_of : KindName → Lapses → List WaitsFor → List ℕ → LineAnswer
+kind_answer_of k x means input = if is_log_text input then log_kind_of k x means input else kind_fit_of k input
+
+-- the same in one line, behind the name of the text
+abbrev pub named_fit_of : KindName → Lapses → List WaitsFor → List ℕ → List ℕ → LineAnswer
+named_fit_of k x means name input = named_answer name (kind_answer_of k x means input)
+
+-- the text of a history, of a size within the object's greatest, that is legal under the kind
+abbrev pub IsKindText : KindName → List ℕ → Type 0
+IsKindText k input =
+    (h : Heading) × ((events : List Event) × (IsTextOf input h events × IsLegal (named_monitor (under k h)) events))
+
+-- the log is open under the kind in some order, and misses no signal
+abbrev pub IsKindLog : KindName → Lapses → List WaitsFor → LogHeading → List LogLine → Type 0
+IsKindLog k x means h log =
+    ((o : Order) × IsOpenWith x o (log_monitor k h) log) × ((log_counts h means log).missed ≡ None)
+
+-- the text of such a log, of a size within the object's greatest
+abbrev pub IsKindLogText : KindName → Lapses → List WaitsFor → List ℕ → Type 0
+IsKindLogText k x means input =
+    (h : LogHeading) × ((log : List LogLine) × (IsLogOf input h log × IsKindLog k x means h log))

@@ -1,0 +1,274 @@
+//! The kind-fitting stream: the text of a history or of a log in, one line of what it is under a kind out.
+
+ghost use Rattle.std.specs.Prelude.{◌≡◌, ◌≤◌, ◌^◌, ◌⊎◌, ◌++◌, false, length, IfOk, IfSome, IsErrOf, ◌↔◌};
+ghost use Rattle.monk_kinds.specs.Names.{kind_word};
+ghost use Rattle.monk_object.specs.Names.{most};
+ghost use Rattle.monk_history.specs.Text.Device.{inner_of, has_failed};
+ghost use Rattle.monk_logs.specs.declared.kind_fit.Fit.TheVariants.{In};
+ghost use Rattle.monk_commands.specs.KindFitted.{IsKindLogText, IsKindText, fit_with_counts, kind_answer_of};
+ghost use Rattle.monk_commands.specs.KindFitted.{kind_fit_answer, kind_fit_of, log_kind_answer, log_kind_of};
+ghost use Rattle.monk_commands.specs.KindFitted.{missed_status, named_fit_of};
+ghost use Rattle.monk_commands.specs.LogFitted.{fit_words, log_counts, log_fit};
+ghost use Rattle.monk_commands.specs.Streams.{Answers, IsStreamOutcome};
+
+use crate::answer::{too_big, unreadable};
+use crate::completing::misfit_line;
+use crate::fault::StreamFault;
+use crate::fitting::{is_log, put_line};
+use crate::input::read_all;
+use crate::lines_answer::LinesAnswer;
+use crate::log_fitting::put_text;
+use monk_audit::AuditFault;
+use monk_history::{Device, Event, Header, read};
+use monk_kinds::KindName;
+use monk_logs::{Counts, Fit, Lapses, LogHeader, LogLine, Order, WaitsFor, count, fit, read_log};
+use std::alloc::Global;
+use std::io::{Read, Write};
+
+/// The answer to a history that was read.
+fn history_answer(
+    alloc: Global,
+    kind: KindName,
+    header: &Header,
+    events: &[Event],
+) -> Result<LinesAnswer, StreamFault>
+    requires few { length events.now ≤ 2 ^ 25 }
+    ensures answer { IfOk result
+        (λ a. (a.status ≡ (kind_fit_answer kind header.now events.now).status)
+        × (a.lines.items ≡ (kind_fit_answer kind header.now events.now).text)) }
+    ensures no_file { IsErrOf result StreamFault.File → ⊥ }
+{
+    if header.size() > header.object().greatest_size() {
+        return Ok(LinesAnswer::of_line(too_big(alloc)?));
+    }
+    let mut lines = Vec::new(alloc);
+    let is_legal = put_line(alloc, &mut lines, header, events, kind)?;
+    let status = if is_legal { 0 } else { 1 };
+    Ok(LinesAnswer { status, lines })
+}
+
+/// The answer to the text of a history.
+fn answer_to_history(
+    alloc: Global,
+    kind: KindName,
+    bytes: &[u8],
+) -> Result<LinesAnswer, StreamFault>
+    ensures answer { IfOk result
+        (λ a. (a.status ≡ (kind_fit_of kind bytes.now).status)
+        × (a.lines.items ≡ (kind_fit_of kind bytes.now).text)) }
+    ensures no_file { IsErrOf result StreamFault.File → ⊥ }
+{
+    match read(alloc, bytes) {
+        Ok((header, events)) => history_answer(alloc, kind, &header, &events),
+        Err(fault) => Ok(LinesAnswer::of_line(unreadable(alloc, fault)?)),
+    }
+}
+
+/// The strictest order in which the log fits the kind, or why it fits in none.
+fn kind_fit(
+    alloc: Global,
+    kind: KindName,
+    lapses: Lapses,
+    header: &LogHeader,
+    lines: &[LogLine],
+) -> Result<Fit, StreamFault>
+    requires few { length lines.now ≤ 2 ^ 25 }
+    requires size { header.now.size ≤ most header.now.object }
+    ensures found { IfOk result (λ f. f ≡ log_fit lapses header.now lines.now kind) }
+    ensures no_file { IsErrOf result StreamFault.File → ⊥ }
+{
+    match fit(alloc, header, lines, kind, lapses) {
+        Ok(found) => Ok(found),
+        Err(AuditFault::Memory) => Err(StreamFault::Memory),
+        // The size is within the object's greatest.
+        Err(AuditFault::Object) => unreachable!(),
+    }
+}
+
+/// What is counted in the log.
+fn counts(
+    alloc: Global,
+    means: &[WaitsFor],
+    header: &LogHeader,
+    lines: &[LogLine],
+) -> Result<Counts, StreamFault>
+    requires few { length lines.now ≤ 2 ^ 25 }
+    requires size { header.now.size ≤ most header.now.object }
+    ensures counted { IfOk result (λ c. c ≡ log_counts header.now means.now lines.now) }
+    ensures no_file { IsErrOf result StreamFault.File → ⊥ }
+{
+    match count(alloc, header, lines, KindName::Npnb, means) {
+        Ok(counts) => Ok(counts),
+        Err(AuditFault::Memory) => Err(StreamFault::Memory),
+        // The size is within the object's greatest.
+        Err(AuditFault::Object) => unreachable!(),
+    }
+}
+
+/// The line of a fit.
+fn fit_line(alloc: Global, kind: KindName, order: Order) -> Result<Vec<u8>, StreamFault>
+    ensures line { IfOk result (λ line. line.items ≡ kind_word kind ++ fit_words (In order)) }
+    ensures no_file { IsErrOf result StreamFault.File → ⊥ }
+{
+    let mut line = Vec::new(alloc);
+    line.extend_from_slice(kind.text())?;
+    line.extend_from_slice(b" fits ")?;
+    line.extend_from_slice(order.text().as_bytes())?;
+    line.extend_from_slice(b"\n")?;
+    Ok(line)
+}
+
+/// The status of a log that fits, by the first line at which a signal is missed.
+fn missed_status(missed: Option<u32>) -> u8
+    ensures { result ≡ missed_status missed }
+{
+    match missed {
+        None => 0,
+        Some(_) => 1,
+    }
+}
+
+/// The answer to a log that fits in that order.
+fn fit_answer(
+    alloc: Global,
+    kind: KindName,
+    means: &[WaitsFor],
+    counts: Counts,
+    order: Order,
+) -> Result<LinesAnswer, StreamFault>
+    ensures answer { IfOk result
+        (λ a. (a.status ≡ (fit_with_counts kind means.now counts (In order)).status)
+        × (a.lines.items ≡ (fit_with_counts kind means.now counts (In order)).text)) }
+    ensures no_file { IsErrOf result StreamFault.File → ⊥ }
+{
+    let mut lines = fit_line(alloc, kind, order)?;
+    put_text(alloc, &mut lines, means, counts)?;
+    let status = missed_status(counts.missed);
+    Ok(LinesAnswer { status, lines })
+}
+
+/// The answer to a log that was read.
+fn log_answer(
+    alloc: Global,
+    kind: KindName,
+    lapses: Lapses,
+    means: &[WaitsFor],
+    header: &LogHeader,
+    lines: &[LogLine],
+) -> Result<LinesAnswer, StreamFault>
+    requires few { length lines.now ≤ 2 ^ 25 }
+    ensures answer { IfOk result
+        (λ a. (a.status ≡ (log_kind_answer kind lapses means.now header.now lines.now).status)
+        × (a.lines.items ≡ (log_kind_answer kind lapses means.now header.now lines.now).text)) }
+    ensures no_file { IsErrOf result StreamFault.File → ⊥ }
+{
+    if header.size() > header.object().greatest_size() {
+        return Ok(LinesAnswer::of_line(too_big(alloc)?));
+    }
+    match kind_fit(alloc, kind, lapses, header, lines)? {
+        Fit::In(order) => {
+            let counts = counts(alloc, means, header, lines)?;
+            fit_answer(alloc, kind, means, counts, order)
+        }
+        Fit::Misfit { line, blame } => Ok(LinesAnswer {
+            status: 1,
+            lines: misfit_line(alloc, kind, line, blame)?,
+        }),
+    }
+}
+
+/// The answer to the text of a log.
+fn answer_to_log(
+    alloc: Global,
+    kind: KindName,
+    lapses: Lapses,
+    means: &[WaitsFor],
+    bytes: &[u8],
+) -> Result<LinesAnswer, StreamFault>
+    ensures answer { IfOk result
+        (λ a. (a.status ≡ (log_kind_of kind lapses means.now bytes.now).status)
+        × (a.lines.items ≡ (log_kind_of kind lapses means.now bytes.now).text)) }
+    ensures no_file { IsErrOf result StreamFault.File → ⊥ }
+{
+    match read_log(alloc, bytes) {
+        Ok((header, lines)) => log_answer(alloc, kind, lapses, means, &header, &lines),
+        Err(fault) => Ok(LinesAnswer::of_line(unreadable(alloc, fault)?)),
+    }
+}
+
+/// The answer to a text.
+fn kind_answer(
+    alloc: Global,
+    kind: KindName,
+    lapses: Lapses,
+    means: &[WaitsFor],
+    bytes: &[u8],
+) -> Result<LinesAnswer, StreamFault>
+    ensures answer { IfOk result
+        (λ a. (a.status ≡ (kind_answer_of kind lapses means.now bytes.now).status)
+        × (a.lines.items ≡ (kind_answer_of kind lapses means.now bytes.now).text)) }
+    ensures no_file { IsErrOf result StreamFault.File → ⊥ }
+{
+    if is_log(bytes) {
+        answer_to_log(alloc, kind, lapses, means, bytes)
+    } else {
+        answer_to_history(alloc, kind, bytes)
+    }
+}
+
+/// Reads all of the reader, judges it under the kind, and writes one line behind `NAME: `, where the
+/// name is `name`.
+///
+/// Of a history, whatever kind its header names, that is `KIND legal N` with status 0 or `KIND
+/// forbidden STEP REASON WORD` with status 1, what an audit says under the kind.
+///
+/// Of a log, whose first word is `log`, it is `KIND misfit STEP NUMBER WORD` with status 1, the first
+/// line that can't be of the kind in any order, and the reason; or `KIND fits ORDER`, with the
+/// strictest order in which the log could be of the kind ([`fit`](monk_logs::fit)). Behind this stand
+/// `; served N passed N lapsed N` and `; left waiting N woken N inside N`, which count the log as one
+/// of NPNB in any order ([`Counts`](monk_logs::Counts)); and, where `means` tells what is waited for,
+/// `; missed STEP` or `; missed none`. The status is 1 where a signal is missed, else 0. `lapses` and
+/// `means` are for logs alone.
+///
+/// Where the reader has no such text, it is `unreadable LINE NUMBER WORD`, and where the size is above
+/// the object's greatest `object`, both with status 2.
+///
+/// # Errors
+///
+/// [`StreamFault::File`] where the reader or the writer failed, or where the input has more than
+/// 2^31 bytes or takes more than 2^31 reads. [`StreamFault::Memory`] if a request for memory was
+/// refused.
+///
+/// # Cost
+///
+/// One pass over the text, and one over its events. Of a log at most three passes over its lines that
+/// judge, one for each order that is tried, and one that counts. Memory for the text, for the events
+/// or lines, and for the queues.
+pub fn fit_kind_stream<R: Read, W: Write>(
+    alloc: Global,
+    kind: KindName,
+    lapses: Lapses,
+    means: &[WaitsFor],
+    name: &str,
+    reader: &mut Device<R>,
+    writer: &mut Device<W>,
+) -> Result<u8, StreamFault>
+    requires reader_works { has_failed reader.old ≡ false }
+    requires writer_works { has_failed writer.old ≡ false }
+
+    // The one line, and its status, are the answer to what the reader had.
+    ensures answer { IfOk result
+        (Answers (named_fit_of kind lapses means.now name.now) (R.remaining (inner_of reader.old))
+        (W.contents (inner_of writer.old)) (W.contents (inner_of writer.new))) }
+    // The status is 0 exactly for the text of a history that is legal under the kind, or of a log that
+    // is open under it in some order and misses no signal.
+    ensures fits { IfOk result
+        (λ status. IfSome (R.remaining (inner_of reader.old))
+        (λ input. (status ≡ 0) ↔ (IsKindText kind input ⊎ IsKindLogText kind lapses means.now input))) }
+    ensures statuses { IfOk result (λ status. status ≤ 2) }
+    ensures outcome { IsStreamOutcome R.remaining reader.old reader.new writer.old writer.new result }
+{
+    let bytes = read_all(alloc, reader)?;
+    let answer = kind_answer(alloc, kind, lapses, means, &bytes)?;
+    answer.put_named(alloc, name, writer)
+}
