@@ -5,7 +5,7 @@ use Rattle.monk_history.specs.declared.event.Event.{Event}
 use Rattle.monk_draw.specs.Hand.{handed}
 use Rattle.monk_draw.specs.Layout.{column_at, lane_of, left_edge}
 use Rattle.monk_draw.specs.Stand.{place_after}
-use Rattle.monk_draw.specs.contracts.place.PlacePartialEq.TheImpl as place_eq
+use Rattle.monk_draw.specs.contracts.place.SeatPlacePartialEq.TheImpl as place_eq
 use Rattle.monk_draw.specs.declared.place.SeatPlace.{SeatPlace}
 use Rattle.monk_draw.specs.declared.place.SeatPlace.TheVariants.{Entry}
 use Rattle.monk_draw.specs.declared.stay.Stay.{Stay}
