@@ -60,6 +60,7 @@ impl Tally {
 
     /// With a line more, by its number, by how many seats are to come back before it and behind it,
     /// and by whether a signal is missed there.
+    #[inline(always)]
     pub(crate) fn with_line(
         self,
         number: u32,
