@@ -7,7 +7,7 @@ ghost use Rattle.monk_object.specs.Names.{most};
 ghost use Rattle.monk_history.specs.Text.Device.{inner_of, has_failed};
 ghost use Rattle.monk_logs.specs.Fit.{is_in};
 ghost use Rattle.monk_logs.specs.Leads.{read_log};
-ghost use Rattle.monk_commands.specs.LogFitted.{fits_some_kind, log_counts, log_fit, log_fit_answer};
+ghost use Rattle.monk_commands.specs.LogFitted.{counts_lines, fits_some_kind, log_counts, log_fit, log_fit_answer};
 ghost use Rattle.monk_commands.specs.LogFitted.{gone_line, inside_words, log_fit_line, log_fit_lines, log_fit_of, missed_line};
 ghost use Rattle.monk_commands.specs.LogFitted.{missed_words};
 ghost use Rattle.monk_commands.specs.LogFitted.{counts_text, waiting_words};
@@ -206,6 +206,26 @@ fn put_counts(
     put_text(alloc, page, means, counts)
 }
 
+/// The lines of all kinds and those of the counts, and whether the log fits one of the kinds.
+fn fit_page(
+    alloc: Global,
+    lapses: Lapses,
+    means: &[WaitsFor],
+    log: &LogLines<'_>,
+) -> Result<(Vec<u8>, bool), StreamFault>
+    requires size { log.now.0.size ≤ most log.now.0.object }
+    ensures lines { IfOk result
+        (λ r. r.0.items ≡ log_fit_lines lapses log.now.0 log.now.1 kinds
+        ++ counts_lines log.now.0 means.now log.now.1) }
+    ensures fit { IfOk result (λ r. r.1 ≡ fits_some_kind lapses log.now.0 log.now.1 kinds) }
+    ensures no_file { IsErrOf result StreamFault.File → ⊥ }
+{
+    let found = all_fits(alloc, log, lapses, means)?;
+    let (mut page, is_fit) = all_lines(alloc, &found)?;
+    put_counts(alloc, &mut page, &found, means)?;
+    Ok((page, is_fit))
+}
+
 /// Answers a log that was read.
 fn fit_log<W: Write>(
     alloc: Global,
@@ -225,9 +245,7 @@ fn fit_log<W: Write>(
     if header.size() > header.object().greatest_size() {
         return put(&too_big(alloc)?, writer);
     }
-    let found = all_fits(alloc, log, lapses, means)?;
-    let (mut page, is_fit) = all_lines(alloc, &found)?;
-    put_counts(alloc, &mut page, &found, means)?;
+    let (page, is_fit) = fit_page(alloc, lapses, means, log)?;
     match writer.write_all(&page) {
         Ok(()) => Ok(if is_fit { 0 } else { 1 }),
         Err(_) => Err(StreamFault::File),

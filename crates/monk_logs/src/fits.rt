@@ -84,7 +84,10 @@ impl<'a> LogFits<'a> {
         };
         if lapses == Lapses::Told {
             let header = log.header();
-            let (signals, at_once) = (widest_of(Mode::NonBlocking), widest_of(Mode::ImmediateReturn));
+            let (signals, at_once) = (
+                widest_of(Mode::NonBlocking),
+                widest_of(Mode::ImmediateReturn),
+            );
             let automatic = widest_of(Mode::Automatic);
             found.signalling = find_lead(alloc, &header, log, signals, Some(means))?;
             found.at_once = find_lead(alloc, &header, log, at_once, None)?;

@@ -75,7 +75,15 @@ fn lead_in<L: LineSource>(
 {
     match means {
         Some(means) => {
-            let (led, counts) = lead_counted(alloc, header, lines, rules, order, Lapses::Told, means)?;
+            let (led, counts) = lead_counted(
+                alloc,
+                header,
+                lines,
+                rules,
+                order,
+                Lapses::Told,
+                means,
+            )?;
             Ok((led, Some(counts)))
         }
         None => {
@@ -105,17 +113,29 @@ pub(crate) fn find_lead<L: LineSource>(
     let (fifo, counts) = lead_in(alloc, header, lines.again(), rules, Order::Fifo, means)?;
     if fifo.fits() {
         let (order, needs) = (Order::Fifo, fifo.needs);
-        return Ok(Some(Lead { order, needs, counts }));
+        return Ok(Some(Lead {
+            order,
+            needs,
+            counts,
+        }));
     }
     let (wake, counts) = lead_in(alloc, header, lines.again(), rules, Order::Wake, means)?;
     if wake.fits() {
         let (order, needs) = (Order::Wake, wake.needs);
-        return Ok(Some(Lead { order, needs, counts }));
+        return Ok(Some(Lead {
+            order,
+            needs,
+            counts,
+        }));
     }
     let (any, counts) = lead_in(alloc, header, lines.again(), rules, Order::Any, means)?;
     if any.fits() {
         let (order, needs) = (Order::Any, any.needs);
-        return Ok(Some(Lead { order, needs, counts }));
+        return Ok(Some(Lead {
+            order,
+            needs,
+            counts,
+        }));
     }
     Ok(None)
 }

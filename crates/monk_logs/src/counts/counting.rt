@@ -73,6 +73,7 @@ fn lacks_some_signal<T: Guarded>(object: &T, items: &[Item], means: &[WaitsFor])
 
 /// Whether the line, behind which the board stands so, lets the monitor go with such a signal
 /// missed. The list is for the items that stand then.
+#[inline(always)]
 fn misses_signal<T: Guarded>(
     line: LogLine,
     object: &T,
@@ -216,7 +217,15 @@ pub(crate) fn count_source<L: LineSource>(
     ensures too_big { most header.now.object < header.now.size → IsErrOf result AuditFault.Object }
 {
     let rules = rules_by_name(kind);
-    let (_, counts) = lead_counted(alloc, header, lines, rules, Order::Any, Lapses::Allowed, means)?;
+    let (_, counts) = lead_counted(
+        alloc,
+        header,
+        lines,
+        rules,
+        Order::Any,
+        Lapses::Allowed,
+        means,
+    )?;
     Ok(counts)
 }
 
