@@ -88,12 +88,13 @@ fn all_fits<'a>(
     alloc: Global,
     log: &LogLines<'a>,
     lapses: Lapses,
+    means: &'a [WaitsFor],
 ) -> Result<LogFits<'a>, StreamFault>
     requires size { log.now.0.size ≤ most log.now.0.object }
-    ensures same { IfOk result (λ f. f ≡ read_log log.now lapses) }
+    ensures same { IfOk result (λ f. f ≡ read_log log.now lapses means.now) }
     ensures no_file { IsErrOf result StreamFault.File → ⊥ }
 {
-    match LogFits::find(alloc, log, lapses) {
+    match LogFits::find(alloc, log, lapses, means) {
         Ok(found) => Ok(found),
         Err(AuditFault::Memory) => Err(StreamFault::Memory),
         // The size is within the object's greatest.
@@ -102,12 +103,12 @@ fn all_fits<'a>(
 }
 
 /// What is counted in the log.
-fn counts(alloc: Global, log: &LogLines<'_>, means: &[WaitsFor]) -> Result<Counts, StreamFault>
-    requires size { log.now.0.size ≤ most log.now.0.object }
-    ensures counted { IfOk result (λ c. c ≡ log_counts log.now.0 means.now log.now.1) }
+fn counts(alloc: Global, found: &LogFits<'_>) -> Result<Counts, StreamFault>
+    requires size { found.now.log.0.size ≤ most found.now.log.0.object }
+    ensures counted { IfOk result (λ c. c ≡ log_counts found.now.log.0 found.now.means found.now.log.1) }
     ensures no_file { IsErrOf result StreamFault.File → ⊥ }
 {
-    match log.count(alloc, KindName::Npnb, means) {
+    match found.counts(alloc, KindName::Npnb) {
         Ok(counts) => Ok(counts),
         Err(AuditFault::Memory) => Err(StreamFault::Memory),
         // The size is within the object's greatest.
@@ -192,15 +193,37 @@ pub(crate) fn put_text(
 fn put_counts(
     alloc: Global,
     page: &mut Vec<u8>,
-    log: &LogLines<'_>,
+    found: &LogFits<'_>,
     means: &[WaitsFor],
 ) -> Result<(), StreamFault>
-    requires size { log.now.0.size ≤ most log.now.0.object }
-    ensures lines { OnOk result (page.new.items ≡ page.old.items ++ counts_lines log.now.0 means.now log.now.1) }
+    requires size { found.now.log.0.size ≤ most found.now.log.0.object }
+    ensures lines { OnOk result
+        (page.new.items ≡ page.old.items ++ counts_text means.now
+        (log_counts found.now.log.0 found.now.means found.now.log.1)) }
     ensures no_file { IsErrOf result StreamFault.File → ⊥ }
 {
-    let counts = counts(alloc, log, means)?;
+    let counts = counts(alloc, found)?;
     put_text(alloc, page, means, counts)
+}
+
+/// The lines of all kinds and those of the counts, and whether the log fits one of the kinds.
+fn fit_page(
+    alloc: Global,
+    lapses: Lapses,
+    means: &[WaitsFor],
+    log: &LogLines<'_>,
+) -> Result<(Vec<u8>, bool), StreamFault>
+    requires size { log.now.0.size ≤ most log.now.0.object }
+    ensures lines { IfOk result
+        (λ r. r.0.items ≡ log_fit_lines lapses log.now.0 log.now.1 kinds
+        ++ counts_lines log.now.0 means.now log.now.1) }
+    ensures fit { IfOk result (λ r. r.1 ≡ fits_some_kind lapses log.now.0 log.now.1 kinds) }
+    ensures no_file { IsErrOf result StreamFault.File → ⊥ }
+{
+    let found = all_fits(alloc, log, lapses, means)?;
+    let (mut page, is_fit) = all_lines(alloc, &found)?;
+    put_counts(alloc, &mut page, &found, means)?;
+    Ok((page, is_fit))
 }
 
 /// Answers a log that was read.
@@ -222,9 +245,7 @@ fn fit_log<W: Write>(
     if header.size() > header.object().greatest_size() {
         return put(&too_big(alloc)?, writer);
     }
-    let found = all_fits(alloc, log, lapses)?;
-    let (mut page, is_fit) = all_lines(alloc, &found)?;
-    put_counts(alloc, &mut page, log, means)?;
+    let (page, is_fit) = fit_page(alloc, lapses, means, log)?;
     match writer.write_all(&page) {
         Ok(()) => Ok(if is_fit { 0 } else { 1 }),
         Err(_) => Err(StreamFault::File),

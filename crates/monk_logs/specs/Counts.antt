@@ -14,9 +14,11 @@ use Rattle.monk_logs.specs.ReadStand.{read_over}
 use Rattle.monk_logs.specs.declared.counts.Counts.{Counts}
 use Rattle.monk_logs.specs.declared.board.item.Item.{Item}
 use Rattle.monk_logs.specs.declared.board.item.Item.TheVariants.{Waiting, Service}
+use Rattle.monk_logs.specs.declared.lapses.Lapses.{Lapses}
 use Rattle.monk_logs.specs.declared.lapses.Lapses.TheVariants.{Allowed}
 use Rattle.monk_logs.specs.declared.text.line.LogLine.{LogLine}
 use Rattle.monk_logs.specs.declared.text.line.LogLine.TheVariants.{Enter, Resume, Lapse, Leave, Wait, Signal, Broadcast, Until, Act}
+use Rattle.monk_logs.specs.declared.order.Order.{Order}
 use Rattle.monk_logs.specs.declared.order.Order.TheVariants.{Any}
 use Rattle.monk_logs.specs.declared.board.pending.Pending.{Pending}
 use Rattle.monk_logs.specs.declared.board.pending.Pending.TheVariants.{Settled, Half, Release}
@@ -198,14 +200,18 @@ abbrev pub then_or : {A X Y : Type 0} → (X → A) → A → Result X Y → A
 then_or f a (Ok x) = f x
 then_or f a (Err y) = a
 
--- of the lines to come, up to the first misfit, where n lines led to s
-unfoldable pub counts_from : Monitor → List WaitsFor → ℕ → Counted → List LogLine → Counts
-counts_from m means n s [] = counts_at s
-counts_from m means n s (l ∷ log) =
-    then_or (λ y. counts_from m means (n + 1)
+-- of the lines to come, read in that order with lapses told or allowed, up to the first misfit, where n lines led to s
+unfoldable pub counts_from : Lapses → Order → Monitor → List WaitsFor → ℕ → Counted → List LogLine → Counts
+counts_from x o m means n s [] = counts_at s
+counts_from x o m means n s (l ∷ log) =
+    then_or (λ y. counts_from x o m means (n + 1)
     (count_state y (tally_after m.object means (n + 1) s.course l y s.tally)) log) (counts_at s)
-    (read_over Allowed Any m s.course l)
+    (read_over x o m s.course l)
 
--- what happens in the log, counted up to its first misfit
+-- what happens in the log, so read, counted up to its first misfit
+abbrev pub counts_in : Lapses → Order → Monitor → List WaitsFor → List LogLine → Counts
+counts_in x o m means log = counts_from x o m means 0 (nothing_counted m) log
+
+-- what happens in the log, counted up to its first misfit, where any may be served and waits may run out untold
 abbrev pub counts_of : Monitor → List WaitsFor → List LogLine → Counts
-counts_of m means log = counts_from m means 0 (nothing_counted m) log
+counts_of m means log = counts_in Allowed Any m means log

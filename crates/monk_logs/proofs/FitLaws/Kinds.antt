@@ -46,7 +46,7 @@ wider_in Fifo m log opens = any_open m log (wake_open m log opens)
 wider_in Wake m log opens = any_open m log opens
 wider_in Any m log opens = opens
 
-wider : (x : Lapses) (o : Order) (m : Monitor) (log : List LogLine) → IsOpenWith x o m log → IsOpenWith x Any m log
+pub wider : (x : Lapses) (o : Order) (m : Monitor) (log : List LogLine) → IsOpenWith x o m log → IsOpenWith x Any m log
 wider Told o m log opens = wider_in o m log opens
 wider Allowed o m log opens = record {
   reading = opens.reading;

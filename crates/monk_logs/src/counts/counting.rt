@@ -7,14 +7,17 @@ ghost use Rattle.monk_history.specs.Meaning.Monitor.{monitor};
 ghost use Rattle.monk_logs.specs.BoardCourse.{board_course};
 ghost use Rattle.monk_logs.specs.BoardShown.{board_shown};
 ghost use Rattle.monk_logs.specs.Counts as tallies;
-ghost use Rattle.monk_logs.specs.Counts.{counts_of};
-ghost use Rattle.monk_logs.specs.Verdict.{log_monitor};
+ghost use Rattle.monk_logs.specs.Counts.{counts_in, counts_of};
+ghost use Rattle.monk_logs.specs.Needs.{LeadsBy, LeadsLog};
+ghost use Rattle.monk_logs.specs.ReadStand.{read_verdict};
+ghost use Rattle.monk_logs.specs.Verdict.{header_monitor, log_monitor};
 
 use crate::blame::LineVerdict;
 use crate::board::Board;
 use crate::board::item::Item;
 use crate::board::items::{seats_at, services_at};
 use crate::board::items_moves::{join, serve};
+use crate::board::led::Led;
 use crate::board::needs::Needs;
 use crate::board::pending::Pending;
 use crate::board::reading::line_read;
@@ -29,8 +32,9 @@ use crate::text::header::LogHeader;
 use crate::text::kept_lines::KeptLines;
 use crate::text::line::LogLine;
 use crate::text::line_source::LineSource;
+use crate::verdict::LogVerdict;
 use monk_audit::{AuditFault, rules_by_name};
-use monk_kinds::KindName;
+use monk_kinds::{KindName, Rules};
 use monk_object::{Book, Buffer, Flags, Guarded, ObjectName, Shop};
 use std::alloc::{AllocError, Global};
 
@@ -69,6 +73,7 @@ fn lacks_some_signal<T: Guarded>(object: &T, items: &[Item], means: &[WaitsFor])
 
 /// Whether the line, behind which the board stands so, lets the monitor go with such a signal
 /// missed. The list is for the items that stand then.
+#[inline(always)]
 fn misses_signal<T: Guarded>(
     line: LogLine,
     object: &T,
@@ -88,17 +93,26 @@ fn misses_signal<T: Guarded>(
     Ok(lacks_some_signal(object, items, means))
 }
 
-/// Counts line by line, over the object in its opening state, up to the first misfit.
+/// Judges the lines one after the other, over the object in its opening state, as
+/// [`follow`](crate::board::following), and counts what happens in them up to the first misfit.
 fn count_lines<T: Guarded, L: LineSource>(
     alloc: Global,
     object: T,
+    lapses: Lapses,
+    order: Order,
     setting: MonitorSetting,
     means: &[WaitsFor],
     lines: L,
-) -> Result<Counts, AllocError>
+) -> Result<(Led, Counts), AllocError>
     requires { length (L.left lines) ≤ most_lines }
-    ensures { IfOk result
-        (λ c. c ≡ counts_of
+    ensures verdict { IfOk result
+        (λ r. r.0.verdict ≡ read_verdict lapses order
+        (monitor setting.rules setting.seats setting.conds T.meaning (T.state object)) (L.left lines)) }
+    ensures leads { IfOk result
+        (λ r. lapses ≡ Lapses.Told → LeadsBy order setting.rules setting.seats setting.conds T.meaning
+        (T.state object) (L.left lines) r.0.verdict r.0.needs) }
+    ensures counted { IfOk result
+        (λ r. r.1 ≡ counts_in lapses order
         (monitor setting.rules setting.seats setting.conds T.meaning (T.state object)) means.now (L.left lines)) }
 {
     let mut object = object;
@@ -112,9 +126,10 @@ fn count_lines<T: Guarded, L: LineSource>(
     let mut number = 0;
     while let Some(line) = lines.next() {
         number += 1;
+        needs = Needs::of_line(line).with(needs);
         match line_read(
-            Lapses::Allowed,
-            Order::Any,
+            lapses,
+            order,
             setting,
             &mut board,
             &mut object,
@@ -123,17 +138,71 @@ fn count_lines<T: Guarded, L: LineSource>(
             line,
         )? {
             LineVerdict::Fits(left) => pending = left,
-            LineVerdict::Misfits(_) => return Ok(tally.counts(waiters)),
+            LineVerdict::Misfits(blame) => {
+                let line = number;
+                let verdict = LogVerdict::Misfit { line, blame };
+                return Ok((Led { verdict, needs }, tally.counts(waiters)));
+            }
         }
         let is_missed = misses_signal(line, &object, &board, pending, &mut items, means)?;
         let now = Waiters::now(&board, pending);
         tally = tally.with_line(number, line, waiters.woken, now.woken, is_missed);
         waiters = now;
     }
-    Ok(tally.counts(waiters))
+    let verdict = LogVerdict::Fits;
+    Ok((Led { verdict, needs }, tally.counts(waiters)))
 }
 
-/// Makes the object that the header names, and counts the lines.
+/// Makes the object that the header names, judges the lines under these rules and counts them.
+pub(crate) fn lead_counted<L: LineSource>(
+    alloc: Global,
+    header: &LogHeader,
+    lines: L,
+    rules: Rules,
+    order: Order,
+    lapses: Lapses,
+    means: &[WaitsFor],
+) -> Result<(Led, Counts), AuditFault>
+    requires { length (L.left lines) ≤ most_lines }
+    ensures verdict { IfOk result
+        (λ r. r.0.verdict ≡ read_verdict lapses order (header_monitor header.now rules) (L.left lines)) }
+    ensures leads { IfOk result
+        (λ r. lapses ≡ Lapses.Told
+        → LeadsLog order rules header.now (L.left lines) r.0.verdict r.0.needs) }
+    ensures counted { IfOk result
+        (λ r. r.1 ≡ counts_in lapses order (header_monitor header.now rules) means.now (L.left lines)) }
+    ensures made { OnOk result (header.now.size ≤ most header.now.object) }
+    ensures object { IsErrOf result AuditFault.Object → most header.now.object < header.now.size }
+    ensures too_big { most header.now.object < header.now.size → IsErrOf result AuditFault.Object }
+{
+    let setting = MonitorSetting {
+        alloc,
+        rules,
+        seats: header.seats(),
+        conds: header.conds(),
+    };
+    let size = header.size();
+    match header.object() {
+        ObjectName::Buffer => {
+            let buffer = Buffer::make(alloc, size)?;
+            Ok(count_lines(alloc, buffer, lapses, order, setting, means, lines)?)
+        }
+        ObjectName::Book => {
+            let book = Book::make(size)?;
+            Ok(count_lines(alloc, book, lapses, order, setting, means, lines)?)
+        }
+        ObjectName::Shop => {
+            let shop = Shop::make(size)?;
+            Ok(count_lines(alloc, shop, lapses, order, setting, means, lines)?)
+        }
+        ObjectName::Flags => {
+            let flags = Flags::make(size)?;
+            Ok(count_lines(alloc, flags, lapses, order, setting, means, lines)?)
+        }
+    }
+}
+
+/// Counts the lines as those of a monitor of the kind, in any order and with lapses allowed.
 pub(crate) fn count_source<L: LineSource>(
     alloc: Global,
     header: &LogHeader,
@@ -147,31 +216,17 @@ pub(crate) fn count_source<L: LineSource>(
     ensures object { IsErrOf result AuditFault.Object → most header.now.object < header.now.size }
     ensures too_big { most header.now.object < header.now.size → IsErrOf result AuditFault.Object }
 {
-    let setting = MonitorSetting {
+    let rules = rules_by_name(kind);
+    let (_, counts) = lead_counted(
         alloc,
-        rules: rules_by_name(kind),
-        seats: header.seats(),
-        conds: header.conds(),
-    };
-    let size = header.size();
-    match header.object() {
-        ObjectName::Buffer => {
-            let buffer = Buffer::make(alloc, size)?;
-            Ok(count_lines(alloc, buffer, setting, means, lines)?)
-        }
-        ObjectName::Book => {
-            let book = Book::make(size)?;
-            Ok(count_lines(alloc, book, setting, means, lines)?)
-        }
-        ObjectName::Shop => {
-            let shop = Shop::make(size)?;
-            Ok(count_lines(alloc, shop, setting, means, lines)?)
-        }
-        ObjectName::Flags => {
-            let flags = Flags::make(size)?;
-            Ok(count_lines(alloc, flags, setting, means, lines)?)
-        }
-    }
+        header,
+        lines,
+        rules,
+        Order::Any,
+        Lapses::Allowed,
+        means,
+    )?;
+    Ok(counts)
 }
 
 /// Counts what happens in the log, read as one of a monitor of the kind over the object that its

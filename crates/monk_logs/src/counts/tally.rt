@@ -33,13 +33,6 @@ fn one_if(count: u64, is: bool) -> u64
     if is { count + 1 } else { count }
 }
 
-/// Whether a seat goes on that waited.
-fn is_back(line: LogLine) -> bool
-    ensures { result ≡ tallies.is_back line }
-{
-    matches!(line, LogLine::Resume(_) | LogLine::Lapse(_))
-}
-
 /// Whether the monitor is let go.
 pub(crate) fn lets_go(line: LogLine) -> bool
     ensures { result ≡ tallies.lets_go line }
@@ -60,6 +53,7 @@ impl Tally {
 
     /// With a line more, by its number, by how many seats are to come back before it and behind it,
     /// and by whether a signal is missed there.
+    #[inline(always)]
     pub(crate) fn with_line(
         self,
         number: u32,
@@ -72,18 +66,27 @@ impl Tally {
         ensures counted { result ≡ tallies.with_line number line before now is_missed self }
         ensures within { (n : ℕ) → IsWithin n self → IsWithin (n + 1) result }
     {
-        let comes_back = is_back(line);
-        let enters = matches!(line, LogLine::Enter(_));
-        Tally {
-            back: one_if(self.back, comes_back && now < before),
-            lapsed: one_if(self.lapsed, comes_back && now >= before),
-            passed: one_if(self.passed, enters && now != 0),
-            entered: one_if(self.entered, enters),
-            left: one_if(self.left, matches!(line, LogLine::Leave(_))),
-            missed: match self.missed {
-                None if is_missed => Some(number),
-                missed => missed,
+        let missed = match self.missed {
+            None if is_missed => Some(number),
+            missed => missed,
+        };
+        let counted = Tally { missed, ..self };
+        match line {
+            LogLine::Enter(_) => Tally {
+                entered: self.entered + 1,
+                passed: one_if(self.passed, now != 0),
+                ..counted
             },
+            LogLine::Leave(_) => Tally {
+                left: self.left + 1,
+                ..counted
+            },
+            LogLine::Resume(_) | LogLine::Lapse(_) => Tally {
+                back: one_if(self.back, now < before),
+                lapsed: one_if(self.lapsed, now >= before),
+                ..counted
+            },
+            _ => counted,
         }
     }
 

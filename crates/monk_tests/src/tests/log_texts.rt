@@ -62,9 +62,9 @@ fn a_text_is_fitted(rt: HostRuntime) -> Result<(), Fail> {
         line: 3,
         blame: Blame::Unserved,
     };
-    let told = LogFits::find(rt.alloc(), &log, Lapses::Told)?;
+    let told = LogFits::find(rt.alloc(), &log, Lapses::Told, &[])?;
     assert!(rt; told.of_kind(rt.alloc(), KindName::Npnb)? == unserved);
-    let allowed = LogFits::find(rt.alloc(), &log, Lapses::Allowed)?;
+    let allowed = LogFits::find(rt.alloc(), &log, Lapses::Allowed, &[])?;
     assert!(rt; allowed.of_kind(rt.alloc(), KindName::Npnb)? == Fit::In(Order::Fifo));
     Ok(())
 }
@@ -88,6 +88,10 @@ const COUNTED: Counts = Counts {
 fn a_text_is_counted(rt: HostRuntime) -> Result<(), Fail> {
     let log = LogLines::check(UNSIGNALLED)?;
     assert!(rt; log.count(rt.alloc(), KindName::Npnb, &MEANS)? == COUNTED);
+    let told = LogFits::find(rt.alloc(), &log, Lapses::Told, &MEANS)?;
+    assert!(rt; told.counts(rt.alloc(), KindName::Npnb)? == COUNTED);
+    let allowed = LogFits::find(rt.alloc(), &log, Lapses::Allowed, &MEANS)?;
+    assert!(rt; allowed.counts(rt.alloc(), KindName::Npnb)? == COUNTED);
     Ok(())
 }
 
@@ -99,7 +103,7 @@ const FLAGGED: &[u8] =
 fn a_log_of_flags(rt: HostRuntime) -> Result<(), Fail> {
     let log = LogLines::check(FLAGGED)?;
     assert!(rt; log.header().object() == ObjectName::Flags);
-    let fits = LogFits::find(rt.alloc(), &log, Lapses::Told)?;
+    let fits = LogFits::find(rt.alloc(), &log, Lapses::Told, &[])?;
     assert!(rt; fits.of_kind(rt.alloc(), KindName::Npnb)? == Fit::In(Order::Fifo));
     let second = [WaitsFor { cond: 0, pred: 1 }];
     assert!(rt; log.count(rt.alloc(), KindName::Npnb, &second)?.missed == Some(6));
@@ -111,9 +115,9 @@ fn a_log_of_flags(rt: HostRuntime) -> Result<(), Fail> {
 #[test]
 fn too_great_an_object_of_a_text(rt: HostRuntime) -> Result<(), Fail> {
     let log = LogLines::check(b"log 1 2 1 book 33\n")?;
-    let told = LogFits::find(rt.alloc(), &log, Lapses::Told);
+    let told = LogFits::find(rt.alloc(), &log, Lapses::Told, &[]);
     assert!(rt; matches!(told, Err(AuditFault::Object)));
-    let allowed = LogFits::find(rt.alloc(), &log, Lapses::Allowed)?;
+    let allowed = LogFits::find(rt.alloc(), &log, Lapses::Allowed, &[])?;
     assert!(rt; allowed.of_kind(rt.alloc(), KindName::Pb) == Err(AuditFault::Object));
     assert!(rt; log.count(rt.alloc(), KindName::Pb, &[]) == Err(AuditFault::Object));
     Ok(())

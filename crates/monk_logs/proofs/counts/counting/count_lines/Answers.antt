@@ -2,12 +2,15 @@ use Rattle.std.proofs.Common.{ap, ℕ, ◌∙◌, ◌+◌, ◌-◌, List, arith,
 use Rattle.monk_logs.specs.BoardCourse.{board_course}
 use Rattle.monk_logs.specs.BoardShown.{board_shown}
 use Rattle.monk_logs.specs.Counts.{count_state, counts_by, items_now, waiting_seats}
+use Rattle.monk_logs.specs.Needs.{needs_with, told_needs}
+use Rattle.monk_logs.specs.ReadStand.{board_read_over}
 use Rattle.monk_logs.specs.Stand.{monitor_in}
-use Rattle.monk_logs.specs.declared.order.Order.TheVariants.{Any}
-use Rattle.monk_logs.specs.declared.lapses.Lapses.TheVariants.{Allowed}
+use Rattle.monk_logs.specs.declared.board.needs.Needs.{Needs}
+use Rattle.monk_logs.specs.declared.lapses.Lapses.{Lapses}
 use Rattle.monk_logs.specs.declared.text.line.LogLine.{LogLine}
-use Rattle.monk_logs.proofs.CountLaws.{count_ends, count_goes_on, count_misfits, count_opens, line_counted}
-use Rattle.monk_logs.proofs.LapseLaws.Following.{read_goes_held}
+use Rattle.monk_logs.proofs.CountLaws.LineByLine.{count_ends, count_goes_on, count_misfits, count_opens, line_counted}
+use Rattle.monk_logs.proofs.LapseLaws.Following.{read_fits, read_goes_held, read_goes_on, read_misfits, read_opens}
+use Rattle.monk_logs.proofs.NeedLaws.Following.{need_ends, need_goes_on, need_misfits, need_opens}
 use Rattle.monk_logs.proofs.counts.counting.count_lines.Goals as goal
 
 pub loop-line-init : goal.loop-line-init
@@ -15,7 +18,9 @@ loop-line-init g c =
     let k = c.args.setting in
     let d = g.T.Guarded.state c.args.object in
     record {
-      so_far = count_opens k.rules k.seats k.conds g.T.Guarded.meaning d c.args.means.now
+      verdict = read_opens c.args.lapses c.args.order k.rules k.seats k.conds g.T.Guarded.meaning d
+          (board_shown c.in_ok-board.board d) (g.L.LineSource.left c.args.lines) (c.in_ok-board.ensures.stands d);
+      counted = count_opens c.args.lapses c.args.order k.rules k.seats k.conds g.T.Guarded.meaning d c.args.means.now
           (board_shown c.in_ok-board.board d) (g.L.LineSource.left c.args.lines) (c.in_ok-board.ensures.stands d);
       room = omega arith;
       seats = c.now-waiters.ensures.seats d;
@@ -30,6 +35,9 @@ loop-line-init g c =
       };
       sound = c.in_ok-board.ensures.sound;
       held = tt;
+      leads = λ told r is. need_opens c.args.order r k.rules k.seats k.conds g.T.Guarded.meaning is d
+          (board_shown c.in_ok-board.board d) (g.L.LineSource.left c.args.lines) c.none-needs.result
+          (c.in_ok-board.ensures.stands d) c.none-needs.ensures;
     }
 
 pub loop-line-smaller : goal.loop-line-smaller
@@ -37,8 +45,33 @@ loop-line-smaller g c =
     let taken = ap (λ (l : List LogLine). length l) c.in-Some.ensures in
     omega arith
 
-pub returns-in-Misfits : goal.returns-in-Misfits
-returns-in-Misfits g c =
+pub returns-in-Misfits-clause-verdict : goal.returns-in-Misfits-clause-verdict
+returns-in-Misfits-clause-verdict g c =
+    read_misfits c.args.lapses c.args.order (monitor_in c.args.setting g.T.Guarded.meaning)
+    (g.L.LineSource.left c.loop-line.lines) (g.L.LineSource.left c.next.new.self) c.loop-line.number c.in-Some.line
+    (board_shown c.loop-line.board (g.T.Guarded.state c.loop-line.object))
+    (board_shown c.line_read.new.board (g.T.Guarded.state c.line_read.new.object))
+    c.loop-line.pending c.in_ok-left.field-0 c.in-Misfits.blame _ c.loop-line.invariant.verdict c.in-Some.ensures
+    c.in_ok-left.ensures.judged c.in-Misfits.is
+
+pub returns-in-Misfits-clause-leads : goal.returns-in-Misfits-clause-leads
+returns-in-Misfits-clause-leads g c = λ told. record {
+  decides = λ r is.
+      let k = c.args.setting in
+      let m = monitor_in k g.T.Guarded.meaning in
+      let a = board_shown c.loop-line.board (g.T.Guarded.state c.loop-line.object) in
+      need_misfits c.args.order r k.rules k.seats k.conds g.T.Guarded.meaning is
+      (g.L.LineSource.left c.loop-line.lines) (g.L.LineSource.left c.next.new.self) c.loop-line.number c.in-Some.line
+      a (board_shown c.line_read.new.board (g.T.Guarded.state c.line_read.new.object))
+      c.loop-line.pending c.in_ok-left.field-0 c.in-Misfits.blame c.loop-line.needs _
+      (c.loop-line.invariant.leads told r is) c.loop-line.invariant.held c.in-Some.ensures
+      (c.in_ok-left.ensures.judged
+      ∙ ap (λ (x : Lapses). board_read_over x c.args.order m a c.loop-line.pending c.in-Some.line) told)
+      c.in-Misfits.is;
+}
+
+pub returns-in-Misfits-clause-counted : goal.returns-in-Misfits-clause-counted
+returns-in-Misfits-clause-counted g c =
     let k = c.loop-line.tally in
     c.counts.ensures
     ∙ ap (λ (seats : ℕ). counts_by k (seats - c.loop-line.waiters.woken) c.loop-line.waiters.woken)
@@ -46,11 +79,11 @@ returns-in-Misfits g c =
     ∙ ap (λ (woken : ℕ). counts_by k (waiting_seats (items_now (board_course
     (board_shown c.loop-line.board (g.T.Guarded.state c.loop-line.object)) c.loop-line.pending)) - woken) woken)
     c.loop-line.invariant.woken
-    ∙ count_misfits (monitor_in c.args.setting g.T.Guarded.meaning) c.args.means.now
+    ∙ count_misfits c.args.lapses c.args.order (monitor_in c.args.setting g.T.Guarded.meaning) c.args.means.now
     (g.L.LineSource.left c.loop-line.lines) (g.L.LineSource.left c.next.new.self) c.loop-line.number c.in-Some.line
     (board_shown c.loop-line.board (g.T.Guarded.state c.loop-line.object))
     (board_shown c.line_read.new.board (g.T.Guarded.state c.line_read.new.object))
-    c.loop-line.pending k c.in_ok-left.field-0 _ _ c.loop-line.invariant.so_far c.in-Some.ensures
+    c.loop-line.pending k c.in_ok-left.field-0 _ _ c.loop-line.invariant.counted c.in-Some.ensures
     c.in_ok-left.ensures.judged c.in-Misfits.is
 
 pub loop-line-preserved : goal.loop-line-preserved
@@ -61,10 +94,15 @@ loop-line-preserved g c =
     let k = c.loop-line.tally in
     let taken = ap (λ (l : List LogLine). length l) c.in-Some.ensures in
     record {
-      so_far =
-          count_goes_on m c.args.means.now (g.L.LineSource.left c.loop-line.lines) (g.L.LineSource.left c.next.new.self)
+      verdict =
+          read_goes_on c.args.lapses c.args.order m (g.L.LineSource.left c.loop-line.lines)
+          (g.L.LineSource.left c.next.new.self)
+          c.loop-line.number c.in-Some.line a b c.loop-line.pending c.in-Fits.left c.in_ok-left.field-0 _
+          c.loop-line.invariant.verdict c.in-Some.ensures c.in_ok-left.ensures.judged c.in-Fits.is;
+      counted =
+          count_goes_on c.args.lapses c.args.order m c.args.means.now (g.L.LineSource.left c.loop-line.lines) (g.L.LineSource.left c.next.new.self)
           c.loop-line.number c.in-Some.line a b c.loop-line.pending c.in-Fits.left k
-          c.in_ok-left.field-0 c.with_line-tally.result _ c.loop-line.invariant.so_far c.in-Some.ensures
+          c.in_ok-left.field-0 c.with_line-tally.result _ c.loop-line.invariant.counted c.in-Some.ensures
           c.in_ok-left.ensures.judged
           c.in-Fits.is
           (line_counted g.T.Guarded.meaning c.args.means.now (c.loop-line.number + 1)
@@ -79,12 +117,44 @@ loop-line-preserved g c =
       small = c.now-now.ensures.small;
       few = c.with_line-tally.ensures.within c.loop-line.number c.loop-line.invariant.few;
       sound = c.in_ok-left.ensures.sound c.in-Fits.left c.in-Fits.is;
-      held = read_goes_held Allowed Any m c.in-Some.line a b c.loop-line.pending c.in-Fits.left c.in_ok-left.field-0
+      held = read_goes_held c.args.lapses c.args.order m c.in-Some.line a b c.loop-line.pending c.in-Fits.left c.in_ok-left.field-0
           c.in_ok-left.ensures.judged c.in-Fits.is;
+      leads = λ told r is.
+          let k = c.args.setting in
+          need_goes_on c.args.order r k.rules k.seats k.conds g.T.Guarded.meaning is
+          (g.L.LineSource.left c.loop-line.lines) (g.L.LineSource.left c.next.new.self)
+          c.loop-line.number c.in-Some.line a b c.loop-line.pending c.in-Fits.left c.in_ok-left.field-0
+          c.loop-line.needs c.line_read.new.needs _ (c.loop-line.invariant.leads told r is) c.loop-line.invariant.held
+          c.in-Some.ensures
+          (c.in_ok-left.ensures.judged
+          ∙ ap (λ (x : Lapses). board_read_over x c.args.order m a c.loop-line.pending c.in-Some.line) told)
+          c.in-Fits.is
+          (c.in_ok-left.ensures.needs told c.in-Fits.left c.in-Fits.is
+          ∙ ap (λ (n : Needs). needs_with (told_needs g.T.Guarded.meaning a c.loop-line.pending c.in-Some.line) n)
+          (c.with-needs.ensures
+          ∙ ap (λ (n : Needs). needs_with n c.loop-line.needs) c.of_line.ensures));
     }
 
-pub returns : goal.returns
-returns g c =
+pub returns-clause-verdict : goal.returns-clause-verdict
+returns-clause-verdict g c =
+    read_fits c.args.lapses c.args.order (monitor_in c.args.setting g.T.Guarded.meaning)
+    (g.L.LineSource.left c.loop-line.lines)
+    c.loop-line.number (board_course
+    (board_shown c.loop-line.board (g.T.Guarded.state c.loop-line.object)) c.loop-line.pending) _
+    c.loop-line.invariant.verdict c.in_default.ensures
+
+pub returns-clause-leads : goal.returns-clause-leads
+returns-clause-leads g c = λ told. record {
+  decides = λ r is.
+      let k = c.args.setting in
+      need_ends c.args.order r k.rules k.seats k.conds g.T.Guarded.meaning is
+      (g.L.LineSource.left c.loop-line.lines) c.loop-line.number (board_course
+      (board_shown c.loop-line.board (g.T.Guarded.state c.loop-line.object)) c.loop-line.pending)
+      c.loop-line.needs _ (c.loop-line.invariant.leads told r is) c.in_default.ensures;
+}
+
+pub returns-clause-counted : goal.returns-clause-counted
+returns-clause-counted g c =
     let k = c.loop-line.tally in
     c.counts-2.ensures
     ∙ ap (λ (seats : ℕ). counts_by k (seats - c.loop-line.waiters.woken) c.loop-line.waiters.woken)
@@ -92,9 +162,9 @@ returns g c =
     ∙ ap (λ (woken : ℕ). counts_by k (waiting_seats (items_now (board_course
     (board_shown c.loop-line.board (g.T.Guarded.state c.loop-line.object)) c.loop-line.pending)) - woken) woken)
     c.loop-line.invariant.woken
-    ∙ count_ends (monitor_in c.args.setting g.T.Guarded.meaning) c.args.means.now
+    ∙ count_ends c.args.lapses c.args.order (monitor_in c.args.setting g.T.Guarded.meaning) c.args.means.now
     (g.L.LineSource.left c.loop-line.lines)
     c.loop-line.number
     (count_state (board_course (board_shown c.loop-line.board (g.T.Guarded.state c.loop-line.object))
     c.loop-line.pending) k) _
-    c.loop-line.invariant.so_far c.in_default.ensures
+    c.loop-line.invariant.counted c.in_default.ensures

@@ -1,7 +1,7 @@
 use Rattle.std.proofs.Common.{ap, sym, ◌∙◌, List}
 use Rattle.monk_logs.specs.Counts.{lacks_some_signal}
 use Rattle.monk_logs.specs.declared.board.item.Item.{Item}
-use Rattle.monk_logs.proofs.CountLaws.{where_so}
+use Rattle.monk_logs.proofs.CountLaws.LineByLine.{where_so}
 use Rattle.monk_logs.proofs.counts.counting.misses_signal.Goals as goal
 
 pub returns : goal.returns
