@@ -95,7 +95,8 @@ module _ (x : Lapses) (o : Order) (k : Rules) (seats conds : ℕ) (ob : Object) 
   then_same f g a (Err why) same = refl
 
   from_same : (n : ℕ) (s : Counted) (log : List LogLine)
-      → counts_from x o (monitor k seats conds ob []) means n s log ≡ counts_from x o (monitor k seats conds ob d) means n s log
+      → counts_from x o (monitor k seats conds ob []) means n s log
+      ≡ counts_from x o (monitor k seats conds ob d) means n s log
   unfolding counts_from
   from_same n s [] = refl
   from_same n s (l ∷ log) =

@@ -80,7 +80,8 @@ module _ (o w : Order) (k j : Rules) (seats conds : ℕ) (ob : Object) (d : List
     line_agrees b (Leave s) = hold_agrees b (event.Leave s Stay) (Release (event.Leave s Stay))
     line_agrees b (Wait s c) = hold_agrees b (event.Wait s c Stay) (Release (event.Wait s c Stay))
     line_agrees b (Signal s c) =
-        either_agrees (returns_at_once k.mode) (returns_at_once j.mode) _ _ _ _ alike (hold_agrees b (event.SignalLeave s c Stay) (Half s c))
+        either_agrees (returns_at_once k.mode) (returns_at_once j.mode) _ _ _ _ alike
+        (hold_agrees b (event.SignalLeave s c Stay) (Half s c))
         (hold_agrees b (event.Signal s c Stay) (Release (event.Signal s c Stay)))
     line_agrees b (Broadcast s c) = settle_agrees b (event.SignalAll s c)
     line_agrees b (Until s p) = hold_agrees b (event.Until s p Stay) (Release (event.Until s p Stay))

@@ -26,7 +26,8 @@ returns-then-fits-3-clause-leads g c =
     c.in_ok-fifo.ensures.made
     (g.L.LineSource.left c.again-2.result) c.in_ok-wake.wake c.again-2.ensures c.in_ok-wake.ensures.leads
     (sym c.fits.ensures ∙ c.if-fits.false)
-    (g.L.LineSource.left c.again-3.result) c.in_ok-any.any c.in_ok-any.counts c.again-3.ensures c.in_ok-any.ensures.leads
+    (g.L.LineSource.left c.again-3.result) c.in_ok-any.any c.in_ok-any.counts c.again-3.ensures
+    c.in_ok-any.ensures.leads
     (sym c.fits-2.ensures ∙ c.if-fits-2.false) (sym c.fits-3.ensures ∙ c.if-fits-3.true)
 
 pub returns-then-fits-clause-counted : goal.returns-then-fits-clause-counted

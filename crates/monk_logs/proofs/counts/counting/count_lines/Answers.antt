@@ -100,7 +100,8 @@ loop-line-preserved g c =
           c.loop-line.number c.in-Some.line a b c.loop-line.pending c.in-Fits.left c.in_ok-left.field-0 _
           c.loop-line.invariant.verdict c.in-Some.ensures c.in_ok-left.ensures.judged c.in-Fits.is;
       counted =
-          count_goes_on c.args.lapses c.args.order m c.args.means.now (g.L.LineSource.left c.loop-line.lines) (g.L.LineSource.left c.next.new.self)
+          count_goes_on c.args.lapses c.args.order m c.args.means.now
+          (g.L.LineSource.left c.loop-line.lines) (g.L.LineSource.left c.next.new.self)
           c.loop-line.number c.in-Some.line a b c.loop-line.pending c.in-Fits.left k
           c.in_ok-left.field-0 c.with_line-tally.result _ c.loop-line.invariant.counted c.in-Some.ensures
           c.in_ok-left.ensures.judged
@@ -117,8 +118,8 @@ loop-line-preserved g c =
       small = c.now-now.ensures.small;
       few = c.with_line-tally.ensures.within c.loop-line.number c.loop-line.invariant.few;
       sound = c.in_ok-left.ensures.sound c.in-Fits.left c.in-Fits.is;
-      held = read_goes_held c.args.lapses c.args.order m c.in-Some.line a b c.loop-line.pending c.in-Fits.left c.in_ok-left.field-0
-          c.in_ok-left.ensures.judged c.in-Fits.is;
+      held = read_goes_held c.args.lapses c.args.order m c.in-Some.line a b c.loop-line.pending c.in-Fits.left
+          c.in_ok-left.field-0 c.in_ok-left.ensures.judged c.in-Fits.is;
       leads = λ told r is.
           let k = c.args.setting in
           need_goes_on c.args.order r k.rules k.seats k.conds g.T.Guarded.meaning is
