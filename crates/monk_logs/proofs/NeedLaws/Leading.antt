@@ -90,7 +90,8 @@ module _ (q : Rules) (h : LogHeading) (log first : List LogLine) (f : Led) (is :
             ∙ fits_here _ Wake _ (fits_too q h log k wide Wake w.verdict w.needs wake_here goes has))
 
         pub any_lead : (third : List LogLine) (a : Led) (c : Option Counts) → third ≡ log
-            → LeadsLog Any q h third a.verdict a.needs → is_fits w.verdict ≡ false → is_fits a.verdict ≡ true → IsLead h log q (Some (lead_at Any a.needs c))
+            → LeadsLog Any q h third a.verdict a.needs → is_fits w.verdict ≡ false
+            → is_fits a.verdict ≡ true → IsLead h log q (Some (lead_at Any a.needs c))
         any_lead third a c there by_any no_wake goes =
             let any_here = subst (λ (l : List LogLine). LeadsLog Any q h l a.verdict a.needs) there by_any in
             is_lead h log q Any a.needs c fits
