@@ -182,8 +182,8 @@ fn fit_text<W: Write>(
 /// One pass over the text and ten over the events, with memory for the text, the events and the
 /// queues. Of a log one pass over the text that looks for its first fault, three for all kinds
 /// ([`LogFits`](monk_logs::LogFits)) in each order that is tried, up to three for each kind that it
-/// doesn't fit so, each up to the first misfit there, and one that counts; memory for the text and
-/// the queues alone.
+/// doesn't fit so, each up to the first misfit there, and, where it doesn't fit NPNB or lapses are
+/// allowed, one that counts; memory for the text and the queues alone.
 pub fn fit_stream<R: Read, W: Write>(
     alloc: Global,
     lapses: Lapses,
