@@ -26,7 +26,7 @@ impl<K: Kind, T: Guarded> Hall<K, T> {
     /// A hall over an object, and a pass for each of its seats in order: 1 to 32 seats, at most 8 condition variables,
     /// and 2 to 2^20 events for each seat.
     ///
-    /// The first fault that applies is answered, want of memory last; the object is dropped with it. Takes memory for
+    /// Returns the first fault that applies, lack of memory last, and then drops the object. Takes memory for
     /// `seats * budget` events, all queues, the table and the passes at once; no call of the hall or of its tokens
     /// takes any.
     pub fn make(

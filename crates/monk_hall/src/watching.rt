@@ -14,9 +14,9 @@ use monk_world::Place;
 use std::hint::spin_loop;
 use std::sync::Wait;
 
-/// How often each of two seats looks before its thread sleeps; of more seats each looks less often
-/// by the square of their number, since its turn comes after those of the others, and threads that
-/// spin keep others from their processor.
+/// How often the seat of a one-seat hall looks before its thread sleeps. With n seats each looks
+/// `SPINS / n^2` times, since its turn comes after those of the others, and threads that spin keep
+/// others from their processor.
 const SPINS: u32 = 1024;
 
 /// A waiting seat that has looked at its word and is yet to poll.

@@ -56,7 +56,7 @@ impl<K: Kind, T: Guarded> World<K, T> {
     /// A world over an object, before any step: 1 to 32 seats, at most 8 condition variables, and 2 to 2^20 events for
     /// each seat.
     ///
-    /// The first fault that applies is answered, want of memory last; the object is dropped with it. Takes memory for
+    /// Returns the first fault that applies, lack of memory last, and then drops the object. Takes memory for
     /// `seats * budget` events, all queues and all words at once; no later call takes any.
     pub fn make(
         alloc: Global,

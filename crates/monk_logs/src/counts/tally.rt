@@ -15,7 +15,7 @@ pub(crate) struct Tally {
     pub(crate) back: u64,
     /// How many waits ran out.
     pub(crate) lapsed: u64,
-    /// How many entries there were while a seat that was served was still to come back.
+    /// How many entries there were while a served seat had not yet come back.
     pub(crate) passed: u64,
     /// How many came in.
     pub(crate) entered: u64,

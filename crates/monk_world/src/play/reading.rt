@@ -21,14 +21,15 @@ pub const MOST_COMMANDS: u32 = MOST_LINES;
 /// The header, the budget of each seat and the commands of the play, each command with its seat; or the first fault.
 ///
 /// Each line ends by one byte 10, and exactly one byte 32 separates the words of a line. The first line is
-/// `play 1 KIND SEATS CONDS OBJECT SIZE BUDGET`: what stands in the header of a history, and a budget from
-/// [`monk_history::LEAST_BUDGET`] to [`monk_history::MOST_BUDGET`]. Each further line is a seat and
-/// an action, which is one of
+/// `play VERSION KIND SEATS CONDS OBJECT SIZE BUDGET`: what stands in the header of a history of
+/// that version, 1 to 3, and a budget from [`monk_history::LEAST_BUDGET`] to
+/// [`monk_history::MOST_BUDGET`]. Each further line is a seat and an action, which is one of
 ///
 /// - `arrive`, `look`, `out`, `peek`, `drop`, `grant`;
 /// - `act CODE ARG`;
 /// - `leave PICK`, `wait COND PICK`, `signal COND PICK`, `signal-leave COND PICK`, `until PRED
-/// PICK`, where PICK is `entry`, `waiter` or `signaller`.
+/// PICK`, where PICK is `entry`, `waiter` or `signaller`;
+/// - from version 2 on: `signal-all COND`, `signal-wait COND COND PICK`.
 ///
 /// A seat, a code, a condition and a predicate are 0 to 255, an argument 0 to 2^32 - 1; whether the
 /// header's monitor has them isn't tested here. The first line with a fault decides, and within a
