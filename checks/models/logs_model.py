@@ -39,15 +39,31 @@ def standing(course):
 
 
 def is_missed(rules, course, means):
-    """Whether at a release somebody waits on, though the predicate holds and nobody who was served is still to come back."""
+    """Whether at a release somebody waits on, though each predicate told of the condition holds and nobody served there is to come back."""
     items, _ = standing(course)
-    holds = [cond for cond, pred in means if thing(rules, course.board).holds(pred)]
-    return any(line_of(items, cond) and None not in line_of(items, cond) for cond in holds)
+    conds = [cond for cond in {cond for cond, _ in means} if line_of(items, cond) and None not in line_of(items, cond)]
+    holds = thing(rules, course.board).holds
+    return any(all(holds(pred) for told, pred in means if told == cond) for cond in conds)
 
 
-def counted(header, lines, means=()):
-    """The lines of counts, up to the first misfit."""
+def held_behind(step, line, held):
+    """Who has the monitor behind the line, and since which one."""
+    if line[0] in ("enter", "resume", "lapse"):
+        return line[1], step
+    return None if line[0] in ("leave", "wait", "until") else held
+
+
+def ending(held, inside, woken):
+    """How the log ends."""
+    if held:
+        return "busy {} {}".format(*held)
+    return "owed" if woken else "open" if inside else "free"
+
+
+def counted_with_end(header, lines, means=()):
+    """The lines of counts, up to the first misfit, and how the log ends there."""
     rules, course, count, missed = Rules("NPNB", header, ANY, True), opening(header), dict.fromkeys(("served", "passed", "lapsed"), 0), None
+    held = None
     for step, line in enumerate(lines, 1):
         before, then = standing(course)[0], behind(rules, course, line)
         if isinstance(then, str):
@@ -59,10 +75,24 @@ def counted(header, lines, means=()):
         count["lapsed"] += line[0] in ("resume", "lapse") and not gone
         if missed is None and line[0] in ("leave", "wait") and is_missed(rules, course, means):
             missed = step
+        held = held_behind(step, line, held)
     items, inside = standing(course)
     said = [" ".join(f"{word} {number}" for word, number in count.items())]
     said.append(f"left waiting {len(items) - 2 * services(items)} woken {services(items)} inside {len(inside)}")
-    return said + ([f"missed {missed or 'none'}"] if means else [])
+    return said + ([f"missed {missed or 'none'}"] if means else []), ending(held, inside, services(items))
+
+
+def counted(header, lines, means=()):
+    """The lines of counts, up to the first misfit."""
+    return counted_with_end(header, lines, means)[0]
+
+
+def fitted_alone(header, lines, kind, lapses=False, means=()):
+    """What stands in one line of the log under this kind alone, and the status."""
+    (said,), fits = fitted(header, lines, lapses, (kind,))
+    counts, end = counted_with_end(header, lines, means)
+    is_well = fits and not end.startswith("busy") and (not means or counts[-1] == "missed none")
+    return "; ".join([said, *counts, end] if fits else [said]), 0 if is_well else 1
 
 
 def fitted(header, lines, lapses=False, kinds=monitor.KINDS):

@@ -23,6 +23,7 @@ use Rattle.monk_logs.specs.Fit.{is_in}
 use Rattle.monk_logs.specs.Log.{LogHeading}
 use Rattle.monk_logs.specs.Log.Reading.{Log, log, log_at}
 use Rattle.monk_logs.specs.declared.counts.Counts.{Counts}
+use Rattle.monk_logs.specs.declared.counts.held.Held.{Held}
 use Rattle.monk_logs.specs.declared.counts.waits_for.WaitsFor.{WaitsFor}
 use Rattle.monk_logs.specs.declared.kind_fit.Fit.{Fit}
 use Rattle.monk_logs.specs.declared.kind_fit.Fit.TheVariants.{In, Misfit}
@@ -31,8 +32,9 @@ use Rattle.monk_logs.specs.declared.text.line.LogLine.{LogLine}
 use Rattle.monk_logs.proofs.PublicLaws.{kind_fit_open, kind_open_fit, log_again, log_read}
 use Rattle.monk_commands.specs.Answer.{too_big}
 use Rattle.monk_commands.specs.Fitted.{fit_line, is_fit, verdict_under}
-use Rattle.monk_commands.specs.KindFitted.{IsKindLogText, IsKindText, byte_in_one, fit_with_counts, kind_answer_of, kind_fit_of}
-use Rattle.monk_commands.specs.KindFitted.{kind_fit_reading, log_kind_of, log_kind_reading, missed_status, named_fit_of}
+use Rattle.monk_commands.specs.KindFitted.{EndsWell, IsKindLogText, IsKindText, byte_in_one, counts_status}
+use Rattle.monk_commands.specs.KindFitted.{fit_with_counts, kind_answer_of, kind_fit_of}
+use Rattle.monk_commands.specs.KindFitted.{kind_fit_reading, log_kind_of, log_kind_reading, named_fit_of}
 use Rattle.monk_commands.specs.KindFitted.{named_line}
 use Rattle.monk_commands.specs.LogFitted.{is_log_text, log_counts, log_fit}
 use Rattle.monk_commands.specs.Streams.{Answers}
@@ -104,22 +106,28 @@ kind_most k (Err f) = omega arith
 
 -- ---- a log
 
-misses_none : (missed : Option ℕ) → missed_status missed ≡ 0 → missed ≡ None
-misses_none None e = refl
-misses_none (Some n) e = absurd (omega (arith, e))
+ends_well : (c : Counts) (missed : Option ℕ) (held : Option Held) → c.missed ≡ missed → c.held ≡ held
+    → counts_status missed held ≡ 0 → EndsWell c
+ends_well c None None is_missed is_held e = record { no_missed = is_missed; no_held = is_held }
+ends_well c None (Some h) is_missed is_held e = absurd (omega (arith, e))
+ends_well c (Some n) held is_missed is_held e = absurd (omega (arith, e))
 
-fit_zero : (k : KindName) (means : List WaitsFor) (c : Counts) (f : Fit) → is_in f ≡ true → c.missed ≡ None
+fit_zero : (k : KindName) (means : List WaitsFor) (c : Counts) (f : Fit) → is_in f ≡ true → EndsWell c
     → (fit_with_counts k means c f).status ≡ 0
-fit_zero k means c (In o) is none = ap missed_status none
-fit_zero k means c (Misfit n why) is none = absurd (false≢true is)
+fit_zero k means c (In o) is well =
+    ap (λ (missed : Option ℕ). counts_status missed c.held) well.no_missed ∙ ap (counts_status None) well.no_held
+fit_zero k means c (Misfit n why) is well = absurd (false≢true is)
 
 module _ (k : KindName) (x : Lapses) (means : List WaitsFor) where
   log_judged_by : (h : LogHeading) (ls : List LogLine) (big : Bool) (f : Fit) → ltb (most h.object) h.size ≡ big
       → log_fit x h ls k ≡ f
       → (cond big too_big (fit_with_counts k means (log_counts h means ls) f)).status ≡ 0
-      → (h.size ≤ most h.object) × ((is_in (log_fit x h ls k) ≡ true) × ((log_counts h means ls).missed ≡ None))
+      → (h.size ≤ most h.object) × ((is_in (log_fit x h ls k) ≡ true) × EndsWell (log_counts h means ls))
   log_judged_by h ls true f is fits e = absurd (omega (arith, e))
-  log_judged_by h ls false (In o) is fits e = (ltb-false _ _ is, (ap is_in fits, misses_none _ e))
+  log_judged_by h ls false (In o) is fits e = (
+    ltb-false _ _ is,
+    (ap is_in fits, ends_well (log_counts h means ls) _ _ refl refl e),
+  )
   log_judged_by h ls false (Misfit n why) is fits e = absurd (omega (arith, e))
 
   log_kind_read : (input : List ℕ) (r : Result Log ReadFault) → log_at (2 ^ 25) input ≡ r
@@ -155,13 +163,14 @@ module _ (k : KindName) (x : Lapses) (means : List WaitsFor) where
   log_kind_most : (r : Result Log ReadFault) → (log_kind_reading k x means r).status ≤ 2
   log_kind_most (Ok l) = go (ltb (most l.0.object) l.0.size) (log_counts l.0 means l.1) (log_fit x l.0 l.1 k)
     where
-      by_missed : (missed : Option ℕ) → missed_status missed ≤ 2
-      by_missed None = omega arith
-      by_missed (Some n) = omega arith
+      by_counts : (missed : Option ℕ) (held : Option Held) → counts_status missed held ≤ 2
+      by_counts None None = omega arith
+      by_counts None (Some h) = omega arith
+      by_counts (Some n) held = omega arith
 
       go : (b : Bool) (c : Counts) (f : Fit) → (cond b too_big (fit_with_counts k means c f)).status ≤ 2
       go true c f = omega arith
-      go false c (In o) = by_missed c.missed
+      go false c (In o) = by_counts c.missed c.held
       go false c (Misfit n why) = omega arith
   log_kind_most (Err f) = omega arith
 

@@ -1,6 +1,7 @@
 -- The answer to a text that is judged under one kind: one line, behind the name of the text
 use Rattle.std.specs.Prelude.{◌≡◌, ℕ, List, [], ◌∷◌, ◌++◌, ◌-◌, ◌^◌, ◌==◌, length, take, Option, Some, None, Result, Ok, Err}
 use Rattle.std.specs.Prelude.{nat_lt, if◌then◌else◌, codes}
+use Rattle.std.specs.Fmt.{decimal}
 use Rattle.std.specs.List.{flat_map}
 use Rattle.monk_kinds.specs.Names.{kind_word}
 use Rattle.monk_kinds.specs.declared.name.KindName.{KindName}
@@ -17,6 +18,7 @@ use Rattle.monk_logs.specs.Log.{LogHeading}
 use Rattle.monk_logs.specs.Log.Reading.{Log, log_at}
 use Rattle.monk_logs.specs.Verdict.{log_monitor}
 use Rattle.monk_logs.specs.declared.counts.Counts.{Counts}
+use Rattle.monk_logs.specs.declared.counts.held.Held.{Held}
 use Rattle.monk_logs.specs.declared.counts.waits_for.WaitsFor.{WaitsFor}
 use Rattle.monk_logs.specs.declared.kind_fit.Fit.{Fit}
 use Rattle.monk_logs.specs.declared.kind_fit.Fit.TheVariants.{In, Misfit}
@@ -66,15 +68,32 @@ kind_fit_of k input = kind_fit_reading k (text_at (2 ^ 25) input)
 
 -- ---- a log
 
--- the status of a log that fits, by the first line at which a signal is missed
-abbrev pub missed_status : Option ℕ → ℕ
-missed_status None = 0
-missed_status (Some n) = 1
+-- the status of a log that fits: 1 where a signal is missed, or where somebody has the monitor at the end
+abbrev pub counts_status : Option ℕ → Option Held → ℕ
+counts_status None None = 0
+counts_status None (Some h) = 1
+counts_status (Some n) held = 1
 
--- the line of the fit, and behind it the lines of the counts; the line of a misfit alone
+-- how the log ends where nobody has the monitor, by how many are inside and how many of them are to come back
+abbrev pub idle_words : ℕ → ℕ → List ℕ
+idle_words inside woken =
+    if inside == 0 then codes "free\n" else if woken == 0 then codes "open\n" else codes "owed\n"
+
+-- how the log ends: by who has the monitor, if somebody has it, since which line
+abbrev pub end_words : Option Held → ℕ → ℕ → List ℕ
+end_words None inside woken = idle_words inside woken
+end_words (Some h) inside woken = codes "busy " ++ decimal h.seat ++ codes " " ++ decimal h.line ++ codes "\n"
+
+-- the same, of what was counted
+abbrev pub end_line : Counts → List ℕ
+end_line c = end_words c.held c.inside c.woken
+
+-- the line of the fit, and behind it the lines of the counts and of the end; the line of a misfit alone
 abbrev pub fit_with_counts : KindName → List WaitsFor → Counts → Fit → LineAnswer
-fit_with_counts k means c (In o) =
-    record { status = missed_status c.missed; text = kind_word k ++ fit_words (In o) ++ counts_text means c }
+fit_with_counts k means c (In o) = record {
+  status = counts_status c.missed c.held;
+  text = kind_word k ++ fit_words (In o) ++ counts_text means c ++ end_line c;
+}
 fit_with_counts k means c (Misfit n why) = misfit_answer k n why
 
 -- the answer to a log under the kind
@@ -107,10 +126,15 @@ abbrev pub IsKindText : KindName → List ℕ → Type 0
 IsKindText k input =
     (h : Heading) × ((events : List Event) × (IsTextOf input h events × IsLegal (named_monitor (under k h)) events))
 
--- the log is open under the kind in some order, and misses no signal
+-- no signal is missed, and nobody has the monitor at the end
+pub record EndsWell (c : Counts) : Type 0 where
+  pub no_missed : c.missed ≡ None
+  pub no_held : c.held ≡ None
+
+-- the log is open under the kind in some order, and ends well
 abbrev pub IsKindLog : KindName → Lapses → List WaitsFor → LogHeading → List LogLine → Type 0
 IsKindLog k x means h log =
-    ((o : Order) × IsOpenWith x o (log_monitor k h) log) × ((log_counts h means log).missed ≡ None)
+    ((o : Order) × IsOpenWith x o (log_monitor k h) log) × EndsWell (log_counts h means log)
 
 -- the text of such a log, of a size within the object's greatest
 abbrev pub IsKindLogText : KindName → Lapses → List WaitsFor → List ℕ → Type 0

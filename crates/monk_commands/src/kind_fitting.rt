@@ -7,7 +7,7 @@ ghost use Rattle.monk_history.specs.Text.Device.{inner_of, has_failed};
 ghost use Rattle.monk_logs.specs.declared.kind_fit.Fit.TheVariants.{In};
 ghost use Rattle.monk_commands.specs.KindFitted.{IsKindLogText, IsKindText, fit_with_counts, kind_answer_of};
 ghost use Rattle.monk_commands.specs.KindFitted.{kind_fit_answer, kind_fit_of, log_kind_answer, log_kind_of};
-ghost use Rattle.monk_commands.specs.KindFitted.{missed_status, named_fit_of};
+ghost use Rattle.monk_commands.specs.KindFitted.{counts_status, end_line, idle_words, named_fit_of};
 ghost use Rattle.monk_commands.specs.LogFitted.{fit_words, log_counts, log_fit};
 ghost use Rattle.monk_commands.specs.Streams.{Answers, IsStreamOutcome};
 
@@ -21,7 +21,9 @@ use crate::log_fitting::put_text;
 use monk_audit::AuditFault;
 use monk_history::{Device, Event, Header, read};
 use monk_kinds::KindName;
-use monk_logs::{Counts, Fit, Lapses, LogHeader, LogLine, Order, WaitsFor, count, fit, read_log};
+use monk_logs::{
+    Counts, Fit, Held, Lapses, LogHeader, LogLine, Order, WaitsFor, count, fit, read_log,
+};
 use std::alloc::Global;
 use std::io::{Read, Write};
 
@@ -118,13 +120,38 @@ fn fit_line(alloc: Global, kind: KindName, order: Order) -> Result<Vec<u8>, Stre
     Ok(line)
 }
 
-/// The status of a log that fits, by the first line at which a signal is missed.
-fn missed_status(missed: Option<u32>) -> u8
-    ensures { result ≡ missed_status missed }
+/// The status of a log that fits, by the first line at which a signal is missed, and by who has the
+/// monitor at the end.
+fn counts_status(missed: Option<u32>, held: Option<Held>) -> u8
+    ensures { result ≡ counts_status missed held }
 {
-    match missed {
-        None => 0,
-        Some(_) => 1,
+    match (missed, held) {
+        (None, None) => 0,
+        (None, Some(_)) | (Some(_), _) => 1,
+    }
+}
+
+/// How the log ends where nobody has the monitor.
+fn idle_words(inside: u64, woken: u64) -> &'static str
+    ensures { result.now ≡ idle_words inside woken }
+{
+    if inside == 0 {
+        "free\n"
+    } else if woken == 0 {
+        "open\n"
+    } else {
+        "owed\n"
+    }
+}
+
+/// How the log ends.
+fn end_line(alloc: Global, counts: Counts) -> Result<String, StreamFault>
+    ensures text { IfOk result (λ text. string_bytes text ≡ end_line counts) }
+    ensures no_file { IsErrOf result StreamFault.File → ⊥ }
+{
+    match counts.held {
+        Some(Held { seat, line }) => Ok(format!(in alloc; "busy {seat} {line}\n")?),
+        None => Ok(String::from_str(alloc, idle_words(counts.inside, counts.woken))?),
     }
 }
 
@@ -143,7 +170,8 @@ fn fit_answer(
 {
     let mut lines = fit_line(alloc, kind, order)?;
     put_text(alloc, &mut lines, means, counts)?;
-    let status = missed_status(counts.missed);
+    lines.extend_from_slice(end_line(alloc, counts)?.as_bytes())?;
+    let status = counts_status(counts.missed, counts.held);
     Ok(LinesAnswer { status, lines })
 }
 
@@ -227,7 +255,10 @@ fn kind_answer(
 /// strictest order in which the log could be of the kind ([`fit`](monk_logs::fit)). Behind this stand
 /// `; served N passed N lapsed N` and `; left waiting N woken N inside N`, which count the log as one
 /// of NPNB in any order ([`Counts`](monk_logs::Counts)); and, where `means` tells what is waited for,
-/// `; missed STEP` or `; missed none`. The status is 1 where a signal is missed, else 0. `lapses` and
+/// `; missed STEP` or `; missed none`. Last stands how the log ends: `; busy SEAT STEP` where a seat has
+/// the monitor, with the line since which it has it; `; free` where nobody is inside; `; owed` where a
+/// seat was served that is not back; and else `; open`, where each seat inside waits unserved. The
+/// status is 1 where a signal is missed or a seat has the monitor at the end, else 0. `lapses` and
 /// `means` are for logs alone.
 ///
 /// Where the reader has no such text, it is `unreadable LINE NUMBER WORD`, and where the size is above
@@ -261,7 +292,7 @@ pub fn fit_kind_stream<R: Read, W: Write>(
         (Answers (named_fit_of kind lapses means.now name.now) (R.remaining (inner_of reader.old))
         (W.contents (inner_of writer.old)) (W.contents (inner_of writer.new))) }
     // The status is 0 exactly for the text of a history that is legal under the kind, or of a log that
-    // is open under it in some order and misses no signal.
+    // is open under it in some order, misses no signal, and lets the monitor go at its end.
     ensures fits { IfOk result
         (λ status. IfSome (R.remaining (inner_of reader.old))
         (λ input. (status ≡ 0) ↔ (IsKindText kind input ⊎ IsKindLogText kind lapses means.now input))) }

@@ -2,7 +2,7 @@
 use Rattle.std.specs.Prelude.{ℕ, suc, ◌+◌, ◌-◌, ◌≤◌, ◌==◌, nat_lt, Bool, true, false, ◌&&◌, not, List, [], ◌∷◌, ◌++◌, length}
 use Rattle.std.specs.Prelude.{Option, Some, None}
 use Rattle.std.specs.Prelude.{Result, Ok, Err, if◌then◌else◌}
-use Rattle.std.specs.List.{list_any}
+use Rattle.std.specs.List.{list_all, list_any}
 use Rattle.monk_object.specs.Object.{Object}
 use Rattle.monk_history.specs.declared.event.Event.{Event}
 use Rattle.monk_history.specs.Meaning.Monitor.{Monitor}
@@ -12,6 +12,7 @@ use Rattle.monk_logs.specs.BoardCourse.{BoardCourse, board_settled}
 use Rattle.monk_logs.specs.Items.{line, seats_in, services, services_in}
 use Rattle.monk_logs.specs.ReadStand.{read_over}
 use Rattle.monk_logs.specs.declared.counts.Counts.{Counts}
+use Rattle.monk_logs.specs.declared.counts.held.Held.{Held}
 use Rattle.monk_logs.specs.declared.board.item.Item.{Item}
 use Rattle.monk_logs.specs.declared.board.item.Item.TheVariants.{Waiting, Service}
 use Rattle.monk_logs.specs.declared.lapses.Lapses.{Lapses}
@@ -65,13 +66,21 @@ waiting_now x = waiting_among (items_now x)
 abbrev pub waits_unsignalled : ℕ → List Item → Bool
 waits_unsignalled c items = not (is_empty (seats_in (line c items))) && services_in (line c items) == 0
 
--- so the signal is missed, where the predicate holds for which they wait there
-abbrev pub lacks_signal : Object → List ℕ → List Item → WaitsFor → Bool
-lacks_signal o state items w = nat_lt w.pred o.predicates && o.holds state w.pred && waits_unsignalled w.cond items
+-- the predicate holds, or it is told of another condition
+abbrev pub holds_there : Object → List ℕ → ℕ → WaitsFor → Bool
+holds_there o state c w = not (w.cond == c && not (nat_lt w.pred o.predicates && o.holds state w.pred))
+
+-- each predicate holds that is told of the condition, so that of anybody who waits there
+abbrev pub all_hold : Object → List ℕ → List WaitsFor → ℕ → Bool
+all_hold o state means c = list_all (holds_there o state c) means
+
+-- so the signal is missed there
+abbrev pub lacks_signal : Object → List ℕ → List Item → List WaitsFor → WaitsFor → Bool
+lacks_signal o state items means w = waits_unsignalled w.cond items && all_hold o state means w.cond
 
 -- whether somebody waits for a predicate that holds, on a condition that nobody signalled
 abbrev pub lacks_some_signal : Object → List ℕ → List Item → List WaitsFor → Bool
-lacks_some_signal o state items means = list_any (lacks_signal o state items) means
+lacks_some_signal o state items means = list_any (lacks_signal o state items means) means
 
 -- ---- a line more
 
@@ -132,6 +141,22 @@ abbrev pub first_missed : Option ℕ → Bool → ℕ → Option ℕ
 first_missed None is n = if is then Some n else None
 first_missed (Some before) is n = Some before
 
+-- the seat has the monitor since that line
+abbrev pub held_by : ℕ → ℕ → Option Held
+held_by s n = Some (record { seat = s; line = n })
+
+-- who has the monitor behind line n: who takes it there, nobody where it is let go, else who had it before
+abbrev pub held_after : ℕ → LogLine → Option Held → Option Held
+held_after n (Enter s) before = held_by s n
+held_after n (Resume s) before = held_by s n
+held_after n (Lapse s) before = held_by s n
+held_after n (Leave s) before = None
+held_after n (Wait s c) before = None
+held_after n (Signal s c) before = before
+held_after n (Broadcast s c) before = before
+held_after n (Until s p) before = None
+held_after n (Act s op r) before = before
+
 -- whether a seat comes back that a signal served
 abbrev pub takes_service : ℕ → ℕ → Bool
 takes_service before after = nat_lt after before
@@ -144,6 +169,7 @@ with_line n l before after missed k = record {
   passed = one_if k.passed (is_enter l && not (after == 0));
   entered = one_if k.entered (is_enter l);
   left = one_if k.left (is_leave l);
+  held = held_after n l k.held;
   missed = first_missed k.missed missed n;
 }
 
@@ -154,7 +180,7 @@ tally_after o means n x l y k =
 
 -- the tally before the first line
 abbrev pub nothing_tallied : Tally
-nothing_tallied = record { back = 0; lapsed = 0; passed = 0; entered = 0; left = 0; missed = None }
+nothing_tallied = record { back = 0; lapsed = 0; passed = 0; entered = 0; left = 0; held = None; missed = None }
 
 -- no number is above that
 pub record IsWithin (n : ℕ) (k : Tally) : Type 0 where
@@ -188,6 +214,7 @@ counts_by k waiting woken = record {
   waiting = waiting;
   woken = woken;
   inside = k.entered - k.left;
+  held = k.held;
   missed = k.missed;
 }
 

@@ -1,9 +1,12 @@
 //! What happens in a log, counted.
 
 pub mod counting;
+pub mod held;
 pub mod tally;
 pub mod waiters;
 pub mod waits_for;
+
+use crate::counts::held::Held;
 
 /// What happens in a log, counted, up to its first misfit.
 #[derive(Clone, Copy, Debug, PartialEq, Eq)]
@@ -20,8 +23,11 @@ pub struct Counts {
     pub woken: u64,
     /// How many seats are inside at the end: those that came in and didn't leave.
     pub inside: u64,
-    /// The first line that releases the monitor while somebody waits for a predicate that holds and
-    /// no seat that was signalled there is still to come back. The lines behind the log's first one
-    /// are counted from 1.
+    /// Who has the monitor at the end: the seat of the last line that takes the monitor or lets it
+    /// go, if that line takes it.
+    pub held: Option<Held>,
+    /// The first line that releases the monitor while somebody waits on a condition, each predicate
+    /// holds for which they wait there, and no seat that was signalled there is still to come back.
+    /// The lines behind the log's first one are counted from 1.
     pub missed: Option<u32>,
 }

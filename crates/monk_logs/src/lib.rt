@@ -26,6 +26,7 @@ pub use completion::Completion;
 pub use completion::completing::complete;
 pub use counts::Counts;
 pub use counts::counting::count;
+pub use counts::held::Held;
 pub use counts::waits_for::WaitsFor;
 pub use fits::LogFits;
 pub use fitting::fit;

@@ -60,7 +60,7 @@ static JOBS: [Job<'static>; 12] = [
         task: Task::FitKind(KindName::Npnb, Lapses::Told, &[], "-"),
         input: b"log 1 1 1 buffer 1\nenter 0\nwait 0 0\n",
         status: 0,
-        answer: b"-: NPNB fits fifo; served 0 passed 0 lapsed 0; left waiting 1 woken 0 inside 1\n",
+        answer: b"-: NPNB fits fifo; served 0 passed 0 lapsed 0; left waiting 1 woken 0 inside 1; open\n",
     },
     Job {
         name: "explained",

@@ -53,13 +53,16 @@ fn histories_fit_a_kind(rt: HostRuntime) -> Result<(), Fail> {
 /// Those who wait on condition 1 wait for an item of a buffer.
 const TAKERS: &[WaitsFor] = &[WaitsFor { cond: 1, pred: 1 }];
 
-static LOGS: [Job<'static>; 7] = [
+/// Those who wait on condition 0 wait for room in a buffer, or for an item.
+const EITHER: &[WaitsFor] = &[WaitsFor { cond: 0, pred: 0 }, WaitsFor { cond: 0, pred: 1 }];
+
+static LOGS: [Job<'static>; 10] = [
     Job {
         name: "a lost notify",
         task: Task::FitKind(KindName::Npnb, Lapses::Told, &[], "a.log"),
         input: b"log 1 3 1 buffer 1\nenter 0\nwait 0 0\nenter 1\nwait 1 0\nenter 2\nact 2 0 7 1\nsignal 2 0\nleave 2\nlapse 0\nleave 0\n",
         status: 0,
-        answer: b"a.log: NPNB fits any; served 1 passed 0 lapsed 1; left waiting 0 woken 1 inside 1\n",
+        answer: b"a.log: NPNB fits any; served 1 passed 0 lapsed 1; left waiting 0 woken 1 inside 1; owed\n",
     },
     Job {
         name: "of no kind with a choice",
@@ -74,7 +77,7 @@ static LOGS: [Job<'static>; 7] = [
         task: Task::FitKind(KindName::Pb, Lapses::Told, TAKERS, "a.log"),
         input: b"log 1 2 2 buffer 1\nenter 0\nact 0 1 0 0\nwait 0 1\nenter 1\nact 1 0 7 1\nleave 1\n",
         status: 1,
-        answer: b"a.log: PB fits fifo; served 0 passed 0 lapsed 0; left waiting 1 woken 0 inside 1; missed 6\n",
+        answer: b"a.log: PB fits fifo; served 0 passed 0 lapsed 0; left waiting 1 woken 0 inside 1; missed 6; open\n",
     },
     // Nobody has told what the taker waits for.
     Job {
@@ -82,14 +85,37 @@ static LOGS: [Job<'static>; 7] = [
         task: Task::FitKind(KindName::Pb, Lapses::Told, &[], "a.log"),
         input: b"log 1 2 2 buffer 1\nenter 0\nact 0 1 0 0\nwait 0 1\nenter 1\nact 1 0 7 1\nleave 1\n",
         status: 0,
-        answer: b"a.log: PB fits fifo; served 0 passed 0 lapsed 0; left waiting 1 woken 0 inside 1\n",
+        answer: b"a.log: PB fits fifo; served 0 passed 0 lapsed 0; left waiting 1 woken 0 inside 1; open\n",
     },
     Job {
         name: "a wait that ran out",
         task: Task::FitKind(KindName::Npir, Lapses::Allowed, TAKERS, "a.log"),
         input: b"log 1 2 1 buffer 1\nenter 0\nwait 0 0\nresume 0\n",
+        status: 1,
+        answer: b"a.log: NPIR fits fifo; served 0 passed 0 lapsed 1; left waiting 0 woken 0 inside 1; missed none; busy 0 3\n",
+    },
+    Job {
+        name: "a lock that is held at the end",
+        task: Task::FitKind(KindName::Npnb, Lapses::Told, &[], "a.log"),
+        input: b"log 1 2 1 buffer 1\nenter 0\nleave 0\nenter 1\nsignal 1 0\n",
+        status: 1,
+        answer: b"a.log: NPNB fits fifo; served 0 passed 0 lapsed 0; left waiting 0 woken 0 inside 1; busy 1 3\n",
+    },
+    // A buffer of 2 with an item has room too, so whoever waits there waits for what holds.
+    Job {
+        name: "a signal that is missed whoever waits",
+        task: Task::FitKind(KindName::Npnb, Lapses::Told, EITHER, "a.log"),
+        input: b"log 1 2 1 buffer 2\nenter 0\nwait 0 0\nenter 1\nact 1 0 7 1\nleave 1\n",
+        status: 1,
+        answer: b"a.log: NPNB fits fifo; served 0 passed 0 lapsed 0; left waiting 1 woken 0 inside 1; missed 5; open\n",
+    },
+    // In a full buffer of 1 whoever waits may wait for room.
+    Job {
+        name: "no signal is missed for sure",
+        task: Task::FitKind(KindName::Npnb, Lapses::Told, EITHER, "a.log"),
+        input: b"log 1 2 1 buffer 1\nenter 0\nwait 0 0\nenter 1\nact 1 0 7 1\nleave 1\n",
         status: 0,
-        answer: b"a.log: NPIR fits fifo; served 0 passed 0 lapsed 1; left waiting 0 woken 0 inside 1; missed none\n",
+        answer: b"a.log: NPNB fits fifo; served 0 passed 0 lapsed 0; left waiting 1 woken 0 inside 1; missed none; open\n",
     },
     Job {
         name: "a log of too great a size",

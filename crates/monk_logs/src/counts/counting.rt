@@ -59,12 +59,24 @@ fn waits_unsignalled(items: &[Item], cond: u8) -> bool
     seats_at(items, cond) > 0 && services_at(items, cond) == 0
 }
 
+/// Whether each predicate holds for which they wait on the condition.
+fn all_hold<T: Guarded>(object: &T, means: &[WaitsFor], cond: u8) -> bool
+    ensures { result ≡ tallies.all_hold T.meaning (T.state object.now) means.now cond }
+{
+    for it in means {
+        if it.cond == cond && !(it.pred < T::PREDICATES && object.holds(it.pred)) {
+            return false;
+        }
+    }
+    true
+}
+
 /// Whether somebody waits for a predicate that holds, and nobody was signalled who is still to come back.
 fn lacks_some_signal<T: Guarded>(object: &T, items: &[Item], means: &[WaitsFor]) -> bool
     ensures { result ≡ tallies.lacks_some_signal T.meaning (T.state object.now) items.now means.now }
 {
     for it in means {
-        if it.pred < T::PREDICATES && object.holds(it.pred) && waits_unsignalled(items, it.cond) {
+        if waits_unsignalled(items, it.cond) && all_hold(object, means, it.cond) {
             return true;
         }
     }

@@ -5,6 +5,7 @@ ghost use Rattle.monk_logs.specs.Counts as tallies;
 ghost use Rattle.monk_logs.specs.Counts.{IsWithin, counts_by, one_if};
 
 use crate::counts::Counts;
+use crate::counts::held::{Held, held_after};
 use crate::counts::waiters::Waiters;
 use crate::text::line::LogLine;
 
@@ -21,6 +22,8 @@ pub(crate) struct Tally {
     pub(crate) entered: u64,
     /// How many left.
     pub(crate) left: u64,
+    /// Who has the monitor.
+    pub(crate) held: Option<Held>,
     /// The first line with a missed signal.
     pub(crate) missed: Option<u32>,
 }
@@ -48,6 +51,7 @@ impl Tally {
         passed: 0,
         entered: 0,
         left: 0,
+        held: None,
         missed: None,
     };
 
@@ -70,7 +74,12 @@ impl Tally {
             None if is_missed => Some(number),
             missed => missed,
         };
-        let counted = Tally { missed, ..self };
+        let held = held_after(number, line, self.held);
+        let counted = Tally {
+            held,
+            missed,
+            ..self
+        };
         match line {
             LogLine::Enter(_) => Tally {
                 entered: self.entered + 1,
@@ -104,6 +113,7 @@ impl Tally {
             waiting: waiters.seats.saturating_sub(waiters.woken) as u64,
             woken,
             inside: self.entered.saturating_sub(self.left),
+            held: self.held,
             missed: self.missed,
         }
     }

@@ -81,6 +81,7 @@ const COUNTED: Counts = Counts {
     waiting: 1,
     woken: 0,
     inside: 1,
+    held: None,
     missed: Some(2),
 };
 

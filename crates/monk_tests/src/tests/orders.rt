@@ -6,7 +6,7 @@ ghost use Rattle.monk_history.specs.Limits.{most_lines};
 use monk_audit::AuditFault;
 use monk_kinds::KindName;
 use monk_logs::{
-    Blame, Fit, Lapses, LogHeader, LogLine, LogVerdict, Order, WaitsFor, count, fit, judge_in,
+    Blame, Fit, Held, Lapses, LogHeader, LogLine, LogVerdict, Order, WaitsFor, count, fit, judge_in,
 };
 use monk_object::ObjectName;
 use std::test::Fail;
@@ -173,6 +173,14 @@ fn a_missed_signal_is_told(rt: HostRuntime) -> Result<(), Fail> {
     let counts = count(rt.alloc(), &header, &UNSIGNALLED, KindName::Npnb, &means)?;
     assert!(rt; counts.missed == Some(2));
     assert!(rt; (counts.served, counts.passed, counts.lapsed) == (0, 0, 0));
-    assert!(rt; (counts.waiting, counts.woken, counts.inside) == (1, 0, 1));
+    assert!(rt; (counts.waiting, counts.woken, counts.inside, counts.held) == (1, 0, 1, None));
+    let unended = count(
+        rt.alloc(),
+        &header,
+        &UNSIGNALLED[..3],
+        KindName::Npnb,
+        &means,
+    )?;
+    assert!(rt; unended.held == Some(Held { seat: 1, line: 3 }));
     Ok(())
 }

@@ -103,8 +103,8 @@ pub(super) static JOBS: [Job<'static>; 22] = [
             "a.log",
         ),
         input: b"log 1 2 1 buffer 1\nenter 0\nwait 0 0\nresume 0\n",
-        status: 0,
-        answer: b"a.log: NPNB fits fifo; served 0 passed 0 lapsed 1; left waiting 0 woken 0 inside 1; missed none\n",
+        status: 1,
+        answer: b"a.log: NPNB fits fifo; served 0 passed 0 lapsed 1; left waiting 0 woken 0 inside 1; missed none; busy 0 3\n",
     },
     Job {
         name: "log_kind_misfit",

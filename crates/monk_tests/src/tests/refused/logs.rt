@@ -76,6 +76,7 @@ const COUNTS: Counts = Counts {
     waiting: 0,
     woken: 1,
     inside: 1,
+    held: None,
     missed: None,
 };
 
