@@ -50,7 +50,7 @@ def held_behind(step, line, held):
     """Who has the monitor behind the line, and since which one."""
     if line[0] in ("enter", "resume", "lapse"):
         return line[1], step
-    return None if line[0] in ("leave", "wait", "until") else held
+    return None if line[0] in ("leave", "wait", "until") else held or (line[1], step)
 
 
 def ending(held, inside, woken):
@@ -60,9 +60,9 @@ def ending(held, inside, woken):
     return "owed" if woken else "open" if inside else "free"
 
 
-def counted_with_end(header, lines, means=()):
-    """The lines of counts, up to the first misfit, and how the log ends there."""
-    rules, course, count, missed = Rules("NPNB", header, ANY, True), opening(header), dict.fromkeys(("served", "passed", "lapsed"), 0), None
+def counted_with_end(header, lines, kind="NPNB", means=()):
+    """The lines of counts as one of the kind, up to the first misfit, and how the log ends there."""
+    rules, course, count, missed = Rules(kind, header, ANY, True), opening(header), dict.fromkeys(("served", "passed", "lapsed"), 0), None
     held = None
     for step, line in enumerate(lines, 1):
         before, then = standing(course)[0], behind(rules, course, line)
@@ -84,13 +84,13 @@ def counted_with_end(header, lines, means=()):
 
 def counted(header, lines, means=()):
     """The lines of counts, up to the first misfit."""
-    return counted_with_end(header, lines, means)[0]
+    return counted_with_end(header, lines, means=means)[0]
 
 
 def fitted_alone(header, lines, kind, lapses=False, means=()):
     """What stands in one line of the log under this kind alone, and the status."""
     (said,), fits = fitted(header, lines, lapses, (kind,))
-    counts, end = counted_with_end(header, lines, means)
+    counts, end = counted_with_end(header, lines, kind, means)
     is_well = fits and not end.startswith("busy") and (not means or counts[-1] == "missed none")
     return "; ".join([said, *counts, end] if fits else [said]), 0 if is_well else 1
 

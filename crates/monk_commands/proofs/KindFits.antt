@@ -34,9 +34,9 @@ use Rattle.monk_commands.specs.Answer.{too_big}
 use Rattle.monk_commands.specs.Fitted.{fit_line, is_fit, verdict_under}
 use Rattle.monk_commands.specs.KindFitted.{EndsWell, IsKindLogText, IsKindText, byte_in_one, counts_status}
 use Rattle.monk_commands.specs.KindFitted.{fit_with_counts, kind_answer_of, kind_fit_of}
-use Rattle.monk_commands.specs.KindFitted.{kind_fit_reading, log_kind_of, log_kind_reading, named_fit_of}
+use Rattle.monk_commands.specs.KindFitted.{kind_counts, kind_fit_reading, log_kind_of, log_kind_reading, named_fit_of}
 use Rattle.monk_commands.specs.KindFitted.{named_line}
-use Rattle.monk_commands.specs.LogFitted.{is_log_text, log_counts, log_fit}
+use Rattle.monk_commands.specs.LogFitted.{is_log_text, log_fit}
 use Rattle.monk_commands.specs.Streams.{Answers}
 use Rattle.monk_commands.proofs.Fits.{fit_is, legal_is, status_by}
 use Rattle.monk_commands.proofs.LogFits.{is_log, not_log}
@@ -121,12 +121,12 @@ fit_zero k means c (Misfit n why) is well = absurd (false≢true is)
 module _ (k : KindName) (x : Lapses) (means : List WaitsFor) where
   log_judged_by : (h : LogHeading) (ls : List LogLine) (big : Bool) (f : Fit) → ltb (most h.object) h.size ≡ big
       → log_fit x h ls k ≡ f
-      → (cond big too_big (fit_with_counts k means (log_counts h means ls) f)).status ≡ 0
-      → (h.size ≤ most h.object) × ((is_in (log_fit x h ls k) ≡ true) × EndsWell (log_counts h means ls))
+      → (cond big too_big (fit_with_counts k means (kind_counts k h means ls) f)).status ≡ 0
+      → (h.size ≤ most h.object) × ((is_in (log_fit x h ls k) ≡ true) × EndsWell (kind_counts k h means ls))
   log_judged_by h ls true f is fits e = absurd (omega (arith, e))
   log_judged_by h ls false (In o) is fits e = (
     ltb-false _ _ is,
-    (ap is_in fits, ends_well (log_counts h means ls) _ _ refl refl e),
+    (ap is_in fits, ends_well (kind_counts k h means ls) _ _ refl refl e),
   )
   log_judged_by h ls false (Misfit n why) is fits e = absurd (omega (arith, e))
 
@@ -155,13 +155,13 @@ module _ (k : KindName) (x : Lapses) (means : List WaitsFor) where
       let read_is : log_at (2 ^ 25) input ≡ Ok (log h ls) = ap (log_at (2 ^ 25)) t.whole
       ∙ log_again (2 ^ 25) h ls t.has_text t.few in
       let size : ltb (most h.object) h.size ≡ false = le-ltb _ _ t.size in
-      let counts = log_counts h means ls in
+      let counts = kind_counts k h means ls in
       ap (λ (r : Result Log ReadFault). (log_kind_reading k x means r).status) read_is
       ∙ ap (λ b. (cond b too_big (fit_with_counts k means counts (log_fit x h ls k))).status) size
       ∙ fit_zero k means counts (log_fit x h ls k) (kind_open_fit x k h ls opens.0 opens.1) f.1.1.1.1
 
   log_kind_most : (r : Result Log ReadFault) → (log_kind_reading k x means r).status ≤ 2
-  log_kind_most (Ok l) = go (ltb (most l.0.object) l.0.size) (log_counts l.0 means l.1) (log_fit x l.0 l.1 k)
+  log_kind_most (Ok l) = go (ltb (most l.0.object) l.0.size) (kind_counts k l.0 means l.1) (log_fit x l.0 l.1 k)
     where
       by_counts : (missed : Option ℕ) (held : Option Held) → counts_status missed held ≤ 2
       by_counts None None = omega arith

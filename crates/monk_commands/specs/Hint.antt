@@ -13,6 +13,7 @@ use Rattle.monk_commands.specs.declared.task.Task.TheVariants.{Trace, Explain, D
 use Rattle.monk_commands.specs.declared.text_name.TextName.{TextName}
 use Rattle.monk_commands.specs.declared.text_name.TextName.TheVariants as name
 use Rattle.monk_history.specs.declared.text.fault.Flaw.TheVariants as flaw
+use Rattle.monk_history.specs.Limits.{most_conds, most_seats}
 use Rattle.monk_history.specs.Text.Lines.{lines_of}
 use Rattle.monk_history.specs.Text.Words.{Word, Taken, words_left, number_at}
 use Rattle.monk_kinds.specs.Names.{kind_word, kinds, with_text}
@@ -122,32 +123,46 @@ meant_hint (Some k) = Some (hint.Capitals k)
 abbrev pub kind_hint : Word → Option Hint
 kind_hint w = if is_some (with_text kind_word kinds w) then None else meant_hint (kind_meant w)
 
--- the hint for a size, by what was read in its place
-abbrev pub taken_size_hint : ObjectName → Taken ℕ → Option Hint
-taken_size_hint o (Ok taken) = if taken.0 == 0 then Some (hint.Size o) else None
-taken_size_hint o (Err flaw.Number) = Some (hint.Size o)
-taken_size_hint o (Err flaw.Word) = None
+-- the hint for a number, by what was read in its place: it is no such number, or below the least; else that of the rest
+abbrev pub taken_hint : Hint → ℕ → (List Word → Option Hint) → Taken ℕ → Option Hint
+taken_hint h least rest (Ok taken) = if nat_lt taken.0 least then Some h else rest taken.1
+taken_hint h least rest (Err flaw.Number) = Some h
+taken_hint h least rest (Err flaw.Word) = None
+
+-- the hint for a number in that range, and for what follows it
+abbrev pub range_hint : Hint → ℕ → ℕ → (List Word → Option Hint) → List Word → Option Hint
+range_hint h least greatest rest ws = taken_hint h least rest (number_at greatest ws)
+
+-- whatever follows
+abbrev pub no_hint : List Word → Option Hint
+no_hint ws = None
 
 -- no number from 1 to the object's greatest size stands there
 abbrev pub size_hint : ObjectName → List Word → Option Hint
-size_hint o ws = taken_size_hint o (number_at (most o) ws)
+size_hint o ws = range_hint (hint.Size o) 1 (most o) no_hint ws
 
 -- the hint for an object and the words after it
 abbrev pub object_hint : Option ObjectName → List Word → Option Hint
 object_hint None ws = Some hint.NoObject
 object_hint (Some o) ws = size_hint o ws
 
--- seats, conditions, an object and its size
-abbrev pub guarded_hint : List Word → Option Hint
-guarded_hint [] = None
-guarded_hint (seats ∷ []) = None
-guarded_hint (seats ∷ conds ∷ []) = None
-guarded_hint (seats ∷ conds ∷ w ∷ ws) = object_hint (object_of w) ws
-
 -- the first of two
 abbrev pub or_else : Option Hint → Option Hint → Option Hint
 or_else None h = h
 or_else (Some first) h = Some first
+
+-- an object and its size
+abbrev pub named_object_hint : List Word → Option Hint
+named_object_hint [] = None
+named_object_hint (w ∷ ws) = object_hint (object_of w) ws
+
+-- conditions, an object and its size
+abbrev pub conds_hint : List Word → Option Hint
+conds_hint ws = range_hint hint.Conds 0 most_conds named_object_hint ws
+
+-- seats, conditions, an object and its size
+abbrev pub guarded_hint : List Word → Option Hint
+guarded_hint ws = range_hint hint.Seats 1 most_seats conds_hint ws
 
 -- a kind, and what follows it
 abbrev pub kinded_hint : List Word → Option Hint
@@ -224,6 +239,8 @@ sentence (hint.Capitals k) = codes "a kind has capital letters: did you mean " +
 sentence hint.NoKind =
     codes "there is no such kind: the kinds are PB, NPB, PNB, NPNB, PQB, NPQB, PIR, NPIR, PIS, NPIS"
 sentence hint.NoObject = codes "there is no such object: the objects are buffer, book, shop, flags"
+sentence hint.Seats = codes "the number of seats is out of range: 1 to " ++ decimal most_seats
+sentence hint.Conds = codes "the number of conditions is out of range: 0 to " ++ decimal most_conds
 sentence (hint.Size o) =
     codes "the size is out of range: that of a " ++ object_word o ++ codes " is 1 to " ++ decimal (most o)
 sentence hint.Comment = codes "a line begins with #: a text has no comments"

@@ -13,6 +13,7 @@ use Rattle.monk_history.specs.Meaning.Named.{named_monitor}
 use Rattle.monk_history.specs.Text.{Heading}
 use Rattle.monk_history.specs.Text.Reading.{History, text_at}
 use Rattle.monk_audit.specs.Under.{under}
+use Rattle.monk_logs.specs.Counts.{counts_of}
 use Rattle.monk_logs.specs.Lapses.{IsOpenWith}
 use Rattle.monk_logs.specs.Log.{LogHeading}
 use Rattle.monk_logs.specs.Log.Reading.{Log, log_at}
@@ -29,7 +30,7 @@ use Rattle.monk_commands.specs.Answer.{LineAnswer, too_big, unreadable}
 use Rattle.monk_commands.specs.Completed.{IsLogOf, misfit_answer}
 use Rattle.monk_commands.specs.Fitted.{fit_line, is_fit, verdict_under}
 use Rattle.monk_commands.specs.Legal.{IsTextOf}
-use Rattle.monk_commands.specs.LogFitted.{counts_text, fit_words, is_log_text, log_counts, log_fit}
+use Rattle.monk_commands.specs.LogFitted.{counts_text, fit_words, is_log_text, log_fit}
 
 -- ---- lines as one
 
@@ -96,11 +97,15 @@ fit_with_counts k means c (In o) = record {
 }
 fit_with_counts k means c (Misfit n why) = misfit_answer k n why
 
+-- what is counted in the log as one of that kind
+abbrev pub kind_counts : KindName → LogHeading → List WaitsFor → List LogLine → Counts
+kind_counts k h means log = counts_of (log_monitor k h) means log
+
 -- the answer to a log under the kind
 abbrev pub log_kind_answer : KindName → Lapses → List WaitsFor → LogHeading → List LogLine → LineAnswer
 log_kind_answer k x means h log =
     if nat_lt (most h.object) h.size then too_big
-    else fit_with_counts k means (log_counts h means log) (log_fit x h log k)
+    else fit_with_counts k means (kind_counts k h means log) (log_fit x h log k)
 
 -- the same for what was read as a log
 abbrev pub log_kind_reading : KindName → Lapses → List WaitsFor → Result Log ReadFault → LineAnswer
@@ -134,7 +139,7 @@ pub record EndsWell (c : Counts) : Type 0 where
 -- the log is open under the kind in some order, and ends well
 abbrev pub IsKindLog : KindName → Lapses → List WaitsFor → LogHeading → List LogLine → Type 0
 IsKindLog k x means h log =
-    ((o : Order) × IsOpenWith x o (log_monitor k h) log) × EndsWell (log_counts h means log)
+    ((o : Order) × IsOpenWith x o (log_monitor k h) log) × EndsWell (kind_counts k h means log)
 
 -- the text of such a log, of a size within the object's greatest
 abbrev pub IsKindLogText : KindName → Lapses → List WaitsFor → List ℕ → Type 0

@@ -6,11 +6,12 @@ ghost use Rattle.std.specs.Option.{option_map};
 ghost use Rattle.monk_history.specs.Text.Lines.{lines_of};
 ghost use Rattle.monk_history.specs.Text.Words.{words_left};
 ghost use Rattle.monk_commands.specs.Hint.{begins_line, hint_of, bytes_hint, header_hint, guarded_hint, kind_hint, kind_meant};
-ghost use Rattle.monk_commands.specs.Hint.{parts_hint, size_hint, has_mark, is_control, no_header_hint};
+ghost use Rattle.monk_commands.specs.Hint.{parts_hint, size_hint, conds_hint, named_object_hint, has_mark, is_control, no_header_hint};
 
 use crate::task::Task;
 use crate::text_name::TextName;
 use monk_history::lines::{Flaw, LineWords};
+use monk_history::{MOST_CONDS, MOST_SEATS};
 use monk_kinds::KindName;
 use monk_object::ObjectName;
 
@@ -31,6 +32,10 @@ pub enum Hint {
     Capitals(KindName),
     /// The header names no kind.
     NoKind,
+    /// The number of seats in the header is out of range.
+    Seats,
+    /// The number of conditions in the header is out of range.
+    Conds,
     /// The header names no object.
     NoObject,
     /// The size in the header is out of the range of this object.
@@ -47,8 +52,8 @@ pub enum Hint {
 /// front has nothing of what a hint tells.
 ///
 /// The first of these that the front has decides: no bytes, a byte-order mark, a control character,
-/// a carriage return, a header of another text, a header whose kind, object or size there isn't (in
-/// this order), a line that begins with `#`, a line of no bytes, a first line of none of the three
+/// a carriage return, a header of another text, a header whose kind, seats, conditions, object or size
+/// there aren't (in this order), a line that begins with `#`, a line of no bytes, a first line of none of the three
 /// texts.
 ///
 /// # Cost
@@ -181,8 +186,30 @@ fn guarded_hint(words: LineWords<'_>) -> Option<Hint>
     ensures { result ≡ guarded_hint words.entry }
 {
     let mut words = words;
-    let _seats = words.next()?;
-    let _conds = words.next()?;
+    match words.number(u64::from(MOST_SEATS)) {
+        Ok(0) | Err(Flaw::Number) => Some(Hint::Seats),
+        Ok(_) => conds_hint(words),
+        Err(Flaw::Word) => None,
+    }
+}
+
+/// By the words from the number of conditions on.
+fn conds_hint(words: LineWords<'_>) -> Option<Hint>
+    ensures { result ≡ conds_hint words.entry }
+{
+    let mut words = words;
+    match words.number(u64::from(MOST_CONDS)) {
+        Ok(_) => named_object_hint(words),
+        Err(Flaw::Number) => Some(Hint::Conds),
+        Err(Flaw::Word) => None,
+    }
+}
+
+/// By the words from the object on.
+fn named_object_hint(words: LineWords<'_>) -> Option<Hint>
+    ensures { result ≡ named_object_hint words.entry }
+{
+    let mut words = words;
     match ObjectName::of_text(words.next()?) {
         Some(object) => size_hint(object, words),
         None => Some(Hint::NoObject),

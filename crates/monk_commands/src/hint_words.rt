@@ -5,6 +5,7 @@ ghost use Rattle.monk_commands.specs.Hint.{commands_that_read, header_form};
 
 use crate::hint::Hint;
 use crate::text_name::TextName;
+use monk_history::{MOST_CONDS, MOST_SEATS};
 use std::fmt;
 
 /// One sentence, without a line's end: what is odd, and what to do.
@@ -49,6 +50,11 @@ impl fmt::Display for Hint {
             Hint::NoObject => write!(
                 f,
                 "there is no such object: the objects are buffer, book, shop, flags"
+            ),
+            Hint::Seats => write!(f, "the number of seats is out of range: 1 to {MOST_SEATS}"),
+            Hint::Conds => write!(
+                f,
+                "the number of conditions is out of range: 0 to {MOST_CONDS}"
             ),
             Hint::Size(object) => write!(
                 f,

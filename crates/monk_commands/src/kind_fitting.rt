@@ -7,8 +7,8 @@ ghost use Rattle.monk_history.specs.Text.Device.{inner_of, has_failed};
 ghost use Rattle.monk_logs.specs.declared.kind_fit.Fit.TheVariants.{In};
 ghost use Rattle.monk_commands.specs.KindFitted.{IsKindLogText, IsKindText, fit_with_counts, kind_answer_of};
 ghost use Rattle.monk_commands.specs.KindFitted.{kind_fit_answer, kind_fit_of, log_kind_answer, log_kind_of};
-ghost use Rattle.monk_commands.specs.KindFitted.{counts_status, end_line, idle_words, named_fit_of};
-ghost use Rattle.monk_commands.specs.LogFitted.{fit_words, log_counts, log_fit};
+ghost use Rattle.monk_commands.specs.KindFitted.{counts_status, end_line, idle_words, kind_counts, named_fit_of};
+ghost use Rattle.monk_commands.specs.LogFitted.{fit_words, log_fit};
 ghost use Rattle.monk_commands.specs.Streams.{Answers, IsStreamOutcome};
 
 use crate::answer::{too_big, unreadable};
@@ -87,19 +87,20 @@ fn kind_fit(
     }
 }
 
-/// What is counted in the log.
+/// What is counted in the log as one of that kind.
 fn counts(
     alloc: Global,
+    kind: KindName,
     means: &[WaitsFor],
     header: &LogHeader,
     lines: &[LogLine],
 ) -> Result<Counts, StreamFault>
     requires few { length lines.now ≤ 2 ^ 25 }
     requires size { header.now.size ≤ most header.now.object }
-    ensures counted { IfOk result (λ c. c ≡ log_counts header.now means.now lines.now) }
+    ensures counted { IfOk result (λ c. c ≡ kind_counts kind header.now means.now lines.now) }
     ensures no_file { IsErrOf result StreamFault.File → ⊥ }
 {
-    match count(alloc, header, lines, KindName::Npnb, means) {
+    match count(alloc, header, lines, kind, means) {
         Ok(counts) => Ok(counts),
         Err(AuditFault::Memory) => Err(StreamFault::Memory),
         // The size is within the object's greatest.
@@ -195,7 +196,7 @@ fn log_answer(
     }
     match kind_fit(alloc, kind, lapses, header, lines)? {
         Fit::In(order) => {
-            let counts = counts(alloc, means, header, lines)?;
+            let counts = counts(alloc, kind, means, header, lines)?;
             fit_answer(alloc, kind, means, counts, order)
         }
         Fit::Misfit { line, blame } => Ok(LinesAnswer {
@@ -254,7 +255,7 @@ fn kind_answer(
 /// line that can't be of the kind in any order, and the reason; or `KIND fits ORDER`, with the
 /// strictest order in which the log could be of the kind ([`fit`](monk_logs::fit)). Behind this stand
 /// `; served N passed N lapsed N` and `; left waiting N woken N inside N`, which count the log as one
-/// of NPNB in any order ([`Counts`](monk_logs::Counts)); and, where `means` tells what is waited for,
+/// of that kind in any order ([`Counts`](monk_logs::Counts)); and, where `means` tells what is waited for,
 /// `; missed STEP` or `; missed none`. Last stands how the log ends: `; busy SEAT STEP` where a seat has
 /// the monitor, with the line since which it has it; `; free` where nobody is inside; `; owed` where a
 /// seat was served that is not back; and else `; open`, where each seat inside waits unserved. The

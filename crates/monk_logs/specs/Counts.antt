@@ -145,6 +145,11 @@ first_missed (Some before) is n = Some before
 abbrev pub held_by : ℕ → ℕ → Option Held
 held_by s n = Some (record { seat = s; line = n })
 
+-- who has the monitor, by who had it before a line in which that seat does something inside
+abbrev pub held_still : ℕ → ℕ → Option Held → Option Held
+held_still s n None = held_by s n
+held_still s n (Some before) = Some before
+
 -- who has the monitor behind line n: who takes it there, nobody where it is let go, else who had it before
 abbrev pub held_after : ℕ → LogLine → Option Held → Option Held
 held_after n (Enter s) before = held_by s n
@@ -152,10 +157,10 @@ held_after n (Resume s) before = held_by s n
 held_after n (Lapse s) before = held_by s n
 held_after n (Leave s) before = None
 held_after n (Wait s c) before = None
-held_after n (Signal s c) before = before
-held_after n (Broadcast s c) before = before
+held_after n (Signal s c) before = held_still s n before
+held_after n (Broadcast s c) before = held_still s n before
 held_after n (Until s p) before = None
-held_after n (Act s op r) before = before
+held_after n (Act s op r) before = held_still s n before
 
 -- whether a seat comes back that a signal served
 abbrev pub takes_service : ℕ → ℕ → Bool

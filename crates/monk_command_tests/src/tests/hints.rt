@@ -2,13 +2,14 @@
 
 use monk_commands::{Task, hint_for};
 use monk_kinds::KindName;
+use monk_logs::Lapses;
 use std::alloc::{AllocError, Global};
 use std::test::Fail;
 
 /// A command, the front of its input, and the hint, which is empty where there is none.
 type Row = (Task<'static>, &'static [u8], &'static str);
 
-static HINTS: [Row; 14] = [
+static HINTS: [Row; 17] = [
     (
         Task::Audit,
         b"",
@@ -53,6 +54,21 @@ static HINTS: [Row; 14] = [
         Task::Audit,
         b"monk 1 ABC 2 0 buffer 1\n",
         "there is no such kind: the kinds are PB, NPB, PNB, NPNB, PQB, NPQB, PIR, NPIR, PIS, NPIS",
+    ),
+    (
+        Task::Fit(Lapses::Told, &[]),
+        b"log 1 41 1 buffer 1\n",
+        "the number of seats is out of range: 1 to 32",
+    ),
+    (
+        Task::Audit,
+        b"monk 1 PB 0 0 buffer 1\n",
+        "the number of seats is out of range: 1 to 32",
+    ),
+    (
+        Task::Complete(KindName::Npnb),
+        b"log 1 3 9 buffer 1\n",
+        "the number of conditions is out of range: 0 to 8",
     ),
     (
         Task::Play,

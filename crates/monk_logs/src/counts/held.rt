@@ -15,7 +15,8 @@ pub struct Held {
     pub line: u32,
 }
 
-/// Who has the monitor behind a line, by its number and by who had it before.
+/// Who has the monitor behind a line, by its number and by who had it before. A seat whose `until`
+/// goes on at once has no line but the next thing that it does.
 pub(crate) fn held_after(number: u32, line: LogLine, before: Option<Held>) -> Option<Held>
     ensures { result ≡ tallies.held_after number line before }
 {
@@ -25,6 +26,8 @@ pub(crate) fn held_after(number: u32, line: LogLine, before: Option<Held>) -> Op
             line: number,
         }),
         LogLine::Leave(_) | LogLine::Wait(..) | LogLine::Until(..) => None,
-        LogLine::Signal(..) | LogLine::Broadcast(..) | LogLine::Act(..) => before,
+        LogLine::Signal(seat, _) | LogLine::Broadcast(seat, _) | LogLine::Act(seat, ..) => {
+            before.or(Some(Held { seat, line: number }))
+        }
     }
 }
