@@ -92,7 +92,7 @@ def fitted_alone(header, lines, kind, lapses=False, means=()):
     (said,), fits = fitted(header, lines, lapses, (kind,))
     counts, end = counted_with_end(header, lines, kind, means)
     is_well = fits and not end.startswith("busy") and (not means or counts[-1] == "missed none")
-    return "; ".join([said, *counts, end] if fits else [said]), 0 if is_well else 1
+    return "; ".join([said, *counts, end]), 0 if is_well else 1
 
 
 def fitted(header, lines, lapses=False, kinds=monitor.KINDS):

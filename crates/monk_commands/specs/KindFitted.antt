@@ -27,7 +27,7 @@ use Rattle.monk_logs.specs.declared.lapses.Lapses.{Lapses}
 use Rattle.monk_logs.specs.declared.order.Order.{Order}
 use Rattle.monk_logs.specs.declared.text.line.LogLine.{LogLine}
 use Rattle.monk_commands.specs.Answer.{LineAnswer, too_big, unreadable}
-use Rattle.monk_commands.specs.Completed.{IsLogOf, misfit_answer}
+use Rattle.monk_commands.specs.Completed.{IsLogOf}
 use Rattle.monk_commands.specs.Fitted.{fit_line, is_fit, verdict_under}
 use Rattle.monk_commands.specs.Legal.{IsTextOf}
 use Rattle.monk_commands.specs.LogFitted.{counts_text, fit_words, is_log_text, log_fit}
@@ -89,13 +89,17 @@ end_words (Some h) inside woken = codes "busy " ++ decimal h.seat ++ codes " " +
 abbrev pub end_line : Counts → List ℕ
 end_line c = end_words c.held c.inside c.woken
 
--- the line of the fit, and behind it the lines of the counts and of the end; the line of a misfit alone
+-- the status of a log: 1 where it misfits
+abbrev pub fit_status : Counts → Fit → ℕ
+fit_status c (In o) = counts_status c.missed c.held
+fit_status c (Misfit n why) = 1
+
+-- the line of the fit or misfit, and behind it the lines of the counts and of the end
 abbrev pub fit_with_counts : KindName → List WaitsFor → Counts → Fit → LineAnswer
-fit_with_counts k means c (In o) = record {
-  status = counts_status c.missed c.held;
-  text = kind_word k ++ fit_words (In o) ++ counts_text means c ++ end_line c;
+fit_with_counts k means c f = record {
+  status = fit_status c f;
+  text = kind_word k ++ fit_words f ++ counts_text means c ++ end_line c;
 }
-fit_with_counts k means c (Misfit n why) = misfit_answer k n why
 
 -- what is counted in the log as one of that kind
 abbrev pub kind_counts : KindName → LogHeading → List WaitsFor → List LogLine → Counts

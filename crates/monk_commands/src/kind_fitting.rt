@@ -7,7 +7,7 @@ ghost use Rattle.monk_history.specs.Text.Device.{inner_of, has_failed};
 ghost use Rattle.monk_logs.specs.declared.kind_fit.Fit.TheVariants.{In};
 ghost use Rattle.monk_commands.specs.KindFitted.{IsKindLogText, IsKindText, fit_with_counts, kind_answer_of};
 ghost use Rattle.monk_commands.specs.KindFitted.{kind_fit_answer, kind_fit_of, log_kind_answer, log_kind_of};
-ghost use Rattle.monk_commands.specs.KindFitted.{counts_status, end_line, idle_words, kind_counts, named_fit_of};
+ghost use Rattle.monk_commands.specs.KindFitted.{counts_status, end_line, fit_status, idle_words, kind_counts, named_fit_of};
 ghost use Rattle.monk_commands.specs.LogFitted.{fit_words, log_fit};
 ghost use Rattle.monk_commands.specs.Streams.{Answers, IsStreamOutcome};
 
@@ -108,8 +108,8 @@ fn counts(
     }
 }
 
-/// The line of a fit.
-fn fit_line(alloc: Global, kind: KindName, order: Order) -> Result<Vec<u8>, StreamFault>
+/// The line of a fit in that order.
+fn order_line(alloc: Global, kind: KindName, order: Order) -> Result<Vec<u8>, StreamFault>
     ensures line { IfOk result (λ line. line.items ≡ kind_word kind ++ fit_words (In order)) }
     ensures no_file { IsErrOf result StreamFault.File → ⊥ }
 {
@@ -121,6 +121,17 @@ fn fit_line(alloc: Global, kind: KindName, order: Order) -> Result<Vec<u8>, Stre
     Ok(line)
 }
 
+/// The line of a fit or of a misfit.
+fn fit_line(alloc: Global, kind: KindName, found: Fit) -> Result<Vec<u8>, StreamFault>
+    ensures line { IfOk result (λ line. line.items ≡ kind_word kind ++ fit_words found) }
+    ensures no_file { IsErrOf result StreamFault.File → ⊥ }
+{
+    match found {
+        Fit::In(order) => order_line(alloc, kind, order),
+        Fit::Misfit { line, blame } => misfit_line(alloc, kind, line, blame),
+    }
+}
+
 /// The status of a log that fits, by the first line at which a signal is missed, and by who has the
 /// monitor at the end.
 fn counts_status(missed: Option<u32>, held: Option<Held>) -> u8
@@ -129,6 +140,16 @@ fn counts_status(missed: Option<u32>, held: Option<Held>) -> u8
     match (missed, held) {
         (None, None) => 0,
         (None, Some(_)) | (Some(_), _) => 1,
+    }
+}
+
+/// The status of a log.
+fn fit_status(counts: Counts, found: Fit) -> u8
+    ensures { result ≡ fit_status counts found }
+{
+    match found {
+        Fit::In(_) => counts_status(counts.missed, counts.held),
+        Fit::Misfit { .. } => 1,
     }
 }
 
@@ -156,23 +177,23 @@ fn end_line(alloc: Global, counts: Counts) -> Result<String, StreamFault>
     }
 }
 
-/// The answer to a log that fits in that order.
+/// The answer to a log of which this was found and counted.
 fn fit_answer(
     alloc: Global,
     kind: KindName,
     means: &[WaitsFor],
     counts: Counts,
-    order: Order,
+    found: Fit,
 ) -> Result<LinesAnswer, StreamFault>
     ensures answer { IfOk result
-        (λ a. (a.status ≡ (fit_with_counts kind means.now counts (In order)).status)
-        × (a.lines.items ≡ (fit_with_counts kind means.now counts (In order)).text)) }
+        (λ a. (a.status ≡ (fit_with_counts kind means.now counts found).status)
+        × (a.lines.items ≡ (fit_with_counts kind means.now counts found).text)) }
     ensures no_file { IsErrOf result StreamFault.File → ⊥ }
 {
-    let mut lines = fit_line(alloc, kind, order)?;
+    let mut lines = fit_line(alloc, kind, found)?;
     put_text(alloc, &mut lines, means, counts)?;
     lines.extend_from_slice(end_line(alloc, counts)?.as_bytes())?;
-    let status = counts_status(counts.missed, counts.held);
+    let status = fit_status(counts, found);
     Ok(LinesAnswer { status, lines })
 }
 
@@ -194,16 +215,9 @@ fn log_answer(
     if header.size() > header.object().greatest_size() {
         return Ok(LinesAnswer::of_line(too_big(alloc)?));
     }
-    match kind_fit(alloc, kind, lapses, header, lines)? {
-        Fit::In(order) => {
-            let counts = counts(alloc, kind, means, header, lines)?;
-            fit_answer(alloc, kind, means, counts, order)
-        }
-        Fit::Misfit { line, blame } => Ok(LinesAnswer {
-            status: 1,
-            lines: misfit_line(alloc, kind, line, blame)?,
-        }),
-    }
+    let found = kind_fit(alloc, kind, lapses, header, lines)?;
+    let counts = counts(alloc, kind, means, header, lines)?;
+    fit_answer(alloc, kind, means, counts, found)
 }
 
 /// The answer to the text of a log.
@@ -253,14 +267,15 @@ fn kind_answer(
 ///
 /// Of a log, whose first word is `log`, it is `KIND misfit STEP NUMBER WORD` with status 1, the first
 /// line that can't be of the kind in any order, and the reason; or `KIND fits ORDER`, with the
-/// strictest order in which the log could be of the kind ([`fit`](monk_logs::fit)). Behind this stand
+/// strictest order in which the log could be of the kind ([`fit`](monk_logs::fit)). Behind both stand
 /// `; served N passed N lapsed N` and `; left waiting N woken N inside N`, which count the log as one
-/// of that kind in any order ([`Counts`](monk_logs::Counts)); and, where `means` tells what is waited for,
-/// `; missed STEP` or `; missed none`. Last stands how the log ends: `; busy SEAT STEP` where a seat has
-/// the monitor, with the line since which it has it; `; free` where nobody is inside; `; owed` where a
-/// seat was served that is not back; and else `; open`, where each seat inside waits unserved. The
-/// status is 1 where a signal is missed or a seat has the monitor at the end, else 0. `lapses` and
-/// `means` are for logs alone.
+/// of that kind, in any order and with lapses allowed, up to its first misfit there
+/// ([`Counts`](monk_logs::Counts)); and, where `means` tells what is waited for, `; missed STEP` or
+/// `; missed none`. Last stands who has the monitor behind what was counted: `; busy SEAT STEP` where
+/// a seat has it, with the line since which it has it; `; free` where nobody is inside; `; owed` where
+/// a seat was served that is not back; and else `; open`, where each seat inside waits unserved. Of a
+/// log that fits, the status is 1 where a signal is missed or a seat has the monitor at the end, else
+/// 0. `lapses` and `means` are for logs alone.
 ///
 /// Where the reader has no such text, it is `unreadable LINE NUMBER WORD`, and where the size is above
 /// the object's greatest `object`, both with status 2.

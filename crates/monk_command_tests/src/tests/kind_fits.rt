@@ -69,7 +69,7 @@ static LOGS: [Job<'static>; 10] = [
         task: Task::FitKind(KindName::Pqb, Lapses::Told, TAKERS, "a.log"),
         input: b"log 1 3 1 buffer 1\nenter 0\nwait 0 0\nenter 1\nwait 1 0\nenter 2\nact 2 0 7 1\nsignal 2 0\nleave 2\nlapse 0\nleave 0\n",
         status: 1,
-        answer: b"a.log: PQB misfit 9 9 choice\n",
+        answer: b"a.log: PQB misfit 9 9 choice; served 1 passed 0 lapsed 0; left waiting 1 woken 1 inside 2; missed none; owed\n",
     },
     // A putter forgets to signal the taker: at the sixth line the monitor is let go with an item there.
     Job {

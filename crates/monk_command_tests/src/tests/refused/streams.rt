@@ -111,7 +111,7 @@ pub(super) static JOBS: [Job<'static>; 22] = [
         task: Task::FitKind(KindName::Npis, Lapses::Told, &[], "a.log"),
         input: b"log 1 2 1 buffer 1\nenter 0\nwait 0 0\nresume 0\n",
         status: 1,
-        answer: b"a.log: NPIS misfit 2 2 call\n",
+        answer: b"a.log: NPIS misfit 2 2 call; served 0 passed 0 lapsed 0; left waiting 0 woken 0 inside 1; busy 0 1\n",
     },
     Job {
         name: "log_not_kind_fitted",
