@@ -80,10 +80,14 @@ abbrev pub idle_words : ℕ → ℕ → List ℕ
 idle_words inside woken =
     if inside == 0 then codes "free\n" else if woken == 0 then codes "open\n" else codes "owed\n"
 
+-- who has the monitor, and since which line
+abbrev pub busy_words : Held → List ℕ
+busy_words h = codes "busy " ++ decimal h.seat ++ codes " " ++ decimal h.line ++ codes "\n"
+
 -- how the log ends: by who has the monitor, if somebody has it, since which line
 abbrev pub end_words : Option Held → ℕ → ℕ → List ℕ
 end_words None inside woken = idle_words inside woken
-end_words (Some h) inside woken = codes "busy " ++ decimal h.seat ++ codes " " ++ decimal h.line ++ codes "\n"
+end_words (Some h) inside woken = busy_words h
 
 -- the same, of what was counted
 abbrev pub end_line : Counts → List ℕ

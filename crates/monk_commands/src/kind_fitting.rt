@@ -1,13 +1,13 @@
 //! The kind-fitting stream: the text of a history or of a log in, one line of what it is under a kind out.
 
-ghost use Rattle.std.specs.Prelude.{◌≡◌, ◌≤◌, ◌^◌, ◌⊎◌, ◌++◌, false, length, IfOk, IfSome, IsErrOf, ◌↔◌};
+ghost use Rattle.std.specs.Prelude.{◌≡◌, ◌≤◌, ◌^◌, ◌⊎◌, ◌++◌, false, length, IfOk, IfSome, IsErrOf, ◌↔◌, string_bytes};
 ghost use Rattle.monk_kinds.specs.Names.{kind_word};
 ghost use Rattle.monk_object.specs.Names.{most};
 ghost use Rattle.monk_history.specs.Text.Device.{inner_of, has_failed};
 ghost use Rattle.monk_logs.specs.declared.kind_fit.Fit.TheVariants.{In};
 ghost use Rattle.monk_commands.specs.KindFitted.{IsKindLogText, IsKindText, fit_with_counts, kind_answer_of};
 ghost use Rattle.monk_commands.specs.KindFitted.{kind_fit_answer, kind_fit_of, log_kind_answer, log_kind_of};
-ghost use Rattle.monk_commands.specs.KindFitted.{counts_status, end_line, fit_status, idle_words, kind_counts, named_fit_of};
+ghost use Rattle.monk_commands.specs.KindFitted.{busy_words, counts_status, end_line, fit_status, idle_words, kind_counts, named_fit_of};
 ghost use Rattle.monk_commands.specs.LogFitted.{fit_words, log_fit};
 ghost use Rattle.monk_commands.specs.Streams.{Answers, IsStreamOutcome};
 
@@ -166,13 +166,22 @@ fn idle_words(inside: u64, woken: u64) -> &'static str
     }
 }
 
+/// Who has the monitor at the end.
+fn busy_words(alloc: Global, held: Held) -> Result<String, StreamFault>
+    ensures text { IfOk result (λ text. string_bytes text ≡ busy_words held) }
+    ensures no_file { IsErrOf result StreamFault.File → ⊥ }
+{
+    let (seat, line) = (held.seat, held.line);
+    Ok(format!(in alloc; "busy {seat} {line}\n")?)
+}
+
 /// How the log ends.
 fn end_line(alloc: Global, counts: Counts) -> Result<String, StreamFault>
     ensures text { IfOk result (λ text. string_bytes text ≡ end_line counts) }
     ensures no_file { IsErrOf result StreamFault.File → ⊥ }
 {
     match counts.held {
-        Some(Held { seat, line }) => Ok(format!(in alloc; "busy {seat} {line}\n")?),
+        Some(held) => busy_words(alloc, held),
         None => Ok(String::from_str(alloc, idle_words(counts.inside, counts.woken))?),
     }
 }
