@@ -4,7 +4,7 @@ ghost use Rattle.monk_tests.specs.FloorCalls.{IsRoom};
 mod stories;
 
 use super::floor_steps::{ITEMS, Size, room, runs_explicitly};
-use super::marks::{from_here, up_to_here};
+use super::marks::{from_here, well_up_to_here};
 use monk_floor::{Floor, MakeFault};
 use monk_history::{Event, From3, Next, Via};
 use monk_kinds::{Kind, Pb, Pick};
@@ -97,7 +97,6 @@ fn what_is_left_when_it_closes(rt: HostRuntime) -> Result<(), Fail> {
     let told = looks(&floor) == (10, 1, false, 0) && floor.enters() == 2;
     let told = told && floor.history().len() == 11 && floor.holds(Buffer::HAS_ROOM);
     let (buffer, history) = floor.close();
-    up_to_here(&rt)?;
-    assert!(rt; told && buffer.holds(Buffer::HAS_ROOM) && history.len() == 11);
-    Ok(())
+    let well = told && buffer.holds(Buffer::HAS_ROOM) && history.len() == 11;
+    well_up_to_here(&rt, well)
 }
