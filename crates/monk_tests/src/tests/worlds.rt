@@ -157,7 +157,8 @@ static PLAYS: [Play; 8] = [
             Event::Leave(0, Next::Entry),
         ],
     },
-    // A wait until an item is there, a put, and a look at what has come of it; the waiter comes in once the putter leaves.
+    // A wait until an item is there, a put, and a look at what has come of it. The waiter comes in once the putter
+    // leaves.
     Play {
         name: "predicate_is_awaited",
         kind: KindName::Pis,
