@@ -73,6 +73,6 @@ pub(super) fn are_counted(rt: &HostRuntime) -> Result<bool, Fail> {
     let counts = count(rt.alloc(), &header, &LINES, kind, &means)?;
     begins(rt, "completed")?;
     let found = complete(rt.alloc(), &header, &LINES, kind)?;
-    let is_completed = matches!(found, Completion::History(events) if events.len() == 10);
+    let is_completed = matches!(&found, Completion::History(events) if events.len() == 10);
     Ok(counts == COUNTS && is_completed)
 }

@@ -50,7 +50,7 @@ fn known_totals(rt: HostRuntime) -> Result<(), Fail> {
 #[test]
 fn no_hasty_seat_misses_under_hoares_kind(rt: HostRuntime) {
     let outcome = run::<Pb, _, OpenGate>(&rt, rt.alloc(), Sample::Hasty, 4, 50, &OpenGate);
-    assert!(rt; matches!(outcome, Ok(outcome) if outcome.missed == 0));
+    assert!(rt; matches!(&outcome, Ok(outcome) if outcome.missed == 0));
 }
 
 #[test]
