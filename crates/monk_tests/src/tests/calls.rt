@@ -3,23 +3,44 @@
 use monk_history::Device;
 use std::io;
 use std::io::{Read, Write};
-use std::test::Fail;
 
-/// A reader and a writer that counts its calls. A read gives their number as one byte; a write takes two bytes at most.
+/// A reader and a writer that counts its calls, and fails at one of its reads and writes. Each of the first two reads
+/// gives its number as one byte, and a later one nothing; a write takes two bytes at most.
 #[derive(Drop)]
 struct Counted {
-    reads: u8,
-    writes: u8,
-    flushes: u8,
+    reads: u32,
+    writes: u32,
+    flushes: u32,
+    failing: u32,
+}
+
+impl Counted {
+    /// Nothing was called yet, and the call of that number fails.
+    fn new(failing: u32) -> Counted {
+        Counted {
+            reads: 0,
+            writes: 0,
+            flushes: 0,
+            failing,
+        }
+    }
+
+    /// Whether the call that was counted last is the one that fails.
+    fn fails_now(&self) -> bool {
+        self.reads.wrapping_add(self.writes) == self.failing
+    }
 }
 
 impl Read for Counted {
     fn read(&mut self, buf: &mut [u8]) -> io::Result<usize> {
         self.reads = self.reads.wrapping_add(1);
-        if buf.is_empty() {
+        if self.fails_now() {
+            return Err(io::Error::from(io::ErrorKind::Other));
+        }
+        if buf.is_empty() || self.reads > 2 {
             return Ok(0);
         }
-        buf[0] = self.reads;
+        buf[0] = if self.reads == 1 { 1 } else { 2 };
         Ok(1)
     }
 }
@@ -27,6 +48,9 @@ impl Read for Counted {
 impl Write for Counted {
     fn write(&mut self, buf: &[u8]) -> io::Result<usize> {
         self.writes = self.writes.wrapping_add(1);
+        if self.fails_now() {
+            return Err(io::Error::from(io::ErrorKind::Other));
+        }
         Ok(buf.len().min(2))
     }
 
@@ -36,92 +60,39 @@ impl Write for Counted {
     }
 }
 
+/// The number of a call that is never made.
+const NEVER: u32 = u32::MAX;
+
 /// Whether two reads, five writes and a flush come to what they must.
-fn passes_on<T: Read + Write>(both: &mut T) -> io::Result<bool> {
+fn passes_on<T: Read + Write>(both: &mut T) -> bool {
     let mut piece = [0u8; 2];
-    let once = both.read(&mut piece)?;
-    let again = both.read(&mut piece)?;
-    let taken = both.write(b"monk")?;
-    both.write_all(b"monks")?;
-    both.flush()?;
-    Ok((once, again, taken) == (1, 1, 2) && piece == [2, 0])
+    let are_read = matches!(both.read(&mut piece), Ok(1)) && matches!(both.read(&mut piece), Ok(1));
+    let is_written = matches!(both.write(b"monk"), Ok(2)) && both.write_all(b"monks").is_ok();
+    both.flush().is_ok() && are_read && is_written && piece == [2, 0]
 }
 
 #[test]
-fn device_passes_each_call_on(rt: HostRuntime) -> Result<(), Fail> {
-    let mut counted = Counted {
-        reads: 0,
-        writes: 0,
-        flushes: 0,
-    };
+fn device_passes_each_call_on(rt: HostRuntime) {
+    let mut counted = Counted::new(NEVER);
     let mut device = Device::new(&mut counted);
-    assert!(rt; passes_on(&mut device)? && !device.failed());
+    let well = passes_on(&mut device) && !device.failed();
     // `write_all` takes three writes for its five bytes.
-    assert!(rt; (counted.reads, counted.writes, counted.flushes) == (2, 4, 1));
-    Ok(())
-}
-
-/// A reader and a writer of which the call of that number fails.
-#[derive(Drop)]
-struct FailsOnce {
-    calls: u32,
-    failing: u32,
-}
-
-impl FailsOnce {
-    /// Whether the call that is made now is the one that fails.
-    fn fails_now(&mut self) -> bool {
-        self.calls = self.calls.wrapping_add(1);
-        self.calls == self.failing
-    }
-}
-
-impl Read for FailsOnce {
-    fn read(&mut self, _buf: &mut [u8]) -> io::Result<usize> {
-        if self.fails_now() {
-            return Err(io::Error::from(io::ErrorKind::Other));
-        }
-        Ok(0)
-    }
-}
-
-impl Write for FailsOnce {
-    fn write(&mut self, buf: &[u8]) -> io::Result<usize> {
-        if self.fails_now() {
-            return Err(io::Error::from(io::ErrorKind::Other));
-        }
-        Ok(buf.len())
-    }
-
-    fn flush(&mut self) -> io::Result<()> {
-        Ok(())
-    }
+    assert!(rt; well && (counted.reads, counted.writes, counted.flushes) == (2, 4, 1));
 }
 
 /// So many calls are made of a device.
 const MANY: u32 = 3000;
 
-/// The number of a call that is never made.
-const NEVER: u32 = u32::MAX;
-
-/// Whether of many reads the failing one alone answers an error, and from it on the device tells so.
-fn tells_of_read(failing: u32) -> bool {
-    let mut device = Device::new(FailsOnce { calls: 0, failing });
+/// Whether of many reads, or else writes, the failing one alone answers an error, and from it on the device tells so.
+fn tells_of(failing: u32, are_reads: bool) -> bool {
+    let mut device = Device::new(Counted::new(failing));
     let mut piece = [0u8; 1];
     for number in 1..=MANY {
-        let failed = device.read(&mut piece).is_err();
-        if failed != (number == failing) || device.failed() != (number >= failing) {
-            return false;
-        }
-    }
-    true
-}
-
-/// Whether of many writes the failing one alone answers an error, and from it on the device tells so.
-fn tells_of_write(failing: u32) -> bool {
-    let mut device = Device::new(FailsOnce { calls: 0, failing });
-    for number in 1..=MANY {
-        let failed = device.write(b"m").is_err();
+        let failed = if are_reads {
+            device.read(&mut piece).is_err()
+        } else {
+            device.write(b"m").is_err()
+        };
         if failed != (number == failing) || device.failed() != (number >= failing) {
             return false;
         }
@@ -130,9 +101,8 @@ fn tells_of_write(failing: u32) -> bool {
 }
 
 #[test]
-fn device_tells_of_the_first_failure(rt: HostRuntime) -> Result<(), Fail> {
-    for failing in [1, 2, MANY, NEVER].iter() {
-        assert!(rt; tells_of_read(*failing) && tells_of_write(*failing));
+fn device_tells_of_the_first_failure(rt: HostRuntime) {
+    for failing in [1, 2, MANY, NEVER] {
+        assert!(rt; tells_of(failing, true) && tells_of(failing, false));
     }
-    Ok(())
 }

@@ -1,9 +1,214 @@
+//! Logs that are completed, and those that misfit.
+
 use monk_audit::{Verdict, audit};
 use monk_history::{Event, From3, Header, Next, Via};
 use monk_kinds::KindName;
 use monk_logs::{Blame, Completion, LogHeader, complete, read_log};
 use monk_object::Op;
 use std::test::Fail;
+
+/// A log, and what comes of it under a kind: events, or the line that misfits and what is to blame.
+struct Row {
+    name: &'static str,
+    log: &'static [u8],
+    kind: KindName,
+    events: &'static [Event],
+    misfit: Option<(u32, Blame)>,
+}
+
+/// Seat 0 waits, and seat 1 comes in and signals it; then the signaller goes on.
+const SIGNALLER_FIRST: &[u8] =
+    b"log 1 2 1 buffer 1\nenter 0\nwait 0 0\nenter 1\nsignal 1 0\nleave 1\nresume 0\nleave 0\n";
+
+/// The same, and the seat that was signalled goes on.
+const SIGNALLED_FIRST: &[u8] =
+    b"log 1 2 1 buffer 1\nenter 0\nwait 0 0\nenter 1\nsignal 1 0\nresume 0\nleave 0\nresume 1\nleave 1\n";
+
+const SIGNAL_AT_THE_END: &[u8] = b"log 1 2 1 buffer 1\nenter 0\nwait 0 0\nenter 1\nsignal 1 0\n";
+
+const SIGNAL_TO_NOBODY: &[u8] = b"log 1 2 1 buffer 1\nenter 0\nsignal 0 0\n";
+
+const PUT_FOR_A_WAITER: &[u8] =
+    b"log 1 2 0 buffer 1\nenter 0\nuntil 0 1\nenter 1\nact 1 0 7 1\nleave 1\n";
+
+/// Under immediate return a log that ends with a signal is completed by its leaving.
+const LEAVES_BY_IT: &[Event] = &[
+    Event::Enter(0, Via::Free),
+    Event::Wait(0, 0, Next::Entry),
+    Event::Enter(1, Via::Handed),
+    Event::SignalLeave(1, 0, Next::Waiter(0)),
+];
+
+/// Under automatic signalling the last release chooses the first who is ready.
+const CHOOSES_WHO_IS_READY: &[Event] = &[
+    Event::Enter(0, Via::Free),
+    Event::Until(0, 1, Next::Entry),
+    Event::Enter(1, Via::Handed),
+    Event::Act(1, Op { code: 0, arg: 7 }, 1),
+    Event::Leave(1, Next::Until(0)),
+];
+
+/// A signal that serves nobody stays.
+const SERVES_NOBODY: &[Event] = &[Event::Enter(0, Via::Free), Event::Signal(0, 0, Next::Stay)];
+
+/// A signal that ends a log stays where waiters may not go before signallers.
+const STAYS: &[Event] = &[
+    Event::Enter(0, Via::Free),
+    Event::Wait(0, 0, Next::Entry),
+    Event::Enter(1, Via::Handed),
+    Event::Signal(1, 0, Next::Stay),
+];
+
+const HANDS_OVER: &[Event] = &[
+    Event::Enter(0, Via::Free),
+    Event::Wait(0, 0, Next::Entry),
+    Event::Enter(1, Via::Handed),
+    Event::Signal(1, 0, Next::Waiter(0)),
+];
+
+static ROWS: [Row; 16] = [
+    Row {
+        name: "a blocking kind, where the seat that was signalled goes on",
+        log: SIGNALLED_FIRST,
+        kind: KindName::Pb,
+        events: &[
+            Event::Enter(0, Via::Free),
+            Event::Wait(0, 0, Next::Entry),
+            Event::Enter(1, Via::Handed),
+            Event::Signal(1, 0, Next::Waiter(0)),
+            Event::Resume(0, From3::Waiter),
+            Event::Leave(0, Next::Signaller(1)),
+            Event::Resume(1, From3::Signaller),
+            Event::Leave(1, Next::Entry),
+        ],
+        misfit: None,
+    },
+    Row {
+        name: "a blocking kind, where the signaller goes on",
+        log: SIGNALLER_FIRST,
+        kind: KindName::Pb,
+        events: &[],
+        misfit: Some((5, Blame::Choice)),
+    },
+    Row {
+        name: "a non-blocking kind, where the signaller goes on",
+        log: SIGNALLER_FIRST,
+        kind: KindName::Npnb,
+        events: &[
+            Event::Enter(0, Via::Free),
+            Event::Wait(0, 0, Next::Entry),
+            Event::Enter(1, Via::Handed),
+            Event::Signal(1, 0, Next::Stay),
+            Event::Leave(1, Next::Waiter(0)),
+            Event::Resume(0, From3::Waiter),
+            Event::Leave(0, Next::Entry),
+        ],
+        misfit: None,
+    },
+    Row {
+        name: "a non-blocking kind, where the seat that was signalled goes on",
+        log: SIGNALLED_FIRST,
+        kind: KindName::Npnb,
+        events: &[],
+        misfit: Some((5, Blame::Choice)),
+    },
+    Row {
+        name: "half a signal under PIR",
+        log: SIGNAL_AT_THE_END,
+        kind: KindName::Pir,
+        events: LEAVES_BY_IT,
+        misfit: None,
+    },
+    Row {
+        name: "half a signal under NPIR",
+        log: SIGNAL_AT_THE_END,
+        kind: KindName::Npir,
+        events: LEAVES_BY_IT,
+        misfit: None,
+    },
+    Row {
+        name: "automatic signalling under PIS",
+        log: PUT_FOR_A_WAITER,
+        kind: KindName::Pis,
+        events: CHOOSES_WHO_IS_READY,
+        misfit: None,
+    },
+    Row {
+        name: "automatic signalling under NPIS",
+        log: PUT_FOR_A_WAITER,
+        kind: KindName::Npis,
+        events: CHOOSES_WHO_IS_READY,
+        misfit: None,
+    },
+    Row {
+        name: "a last signal to nobody under PB",
+        log: SIGNAL_TO_NOBODY,
+        kind: KindName::Pb,
+        events: SERVES_NOBODY,
+        misfit: None,
+    },
+    Row {
+        name: "a last signal to nobody under PQB",
+        log: SIGNAL_TO_NOBODY,
+        kind: KindName::Pqb,
+        events: SERVES_NOBODY,
+        misfit: None,
+    },
+    Row {
+        name: "a last signal under PNB",
+        log: SIGNAL_AT_THE_END,
+        kind: KindName::Pnb,
+        events: STAYS,
+        misfit: None,
+    },
+    Row {
+        name: "a last signal under NPNB",
+        log: SIGNAL_AT_THE_END,
+        kind: KindName::Npnb,
+        events: STAYS,
+        misfit: None,
+    },
+    Row {
+        name: "a last signal under NPB",
+        log: SIGNAL_AT_THE_END,
+        kind: KindName::Npb,
+        events: HANDS_OVER,
+        misfit: None,
+    },
+    Row {
+        name: "a last signal under NPQB",
+        log: SIGNAL_AT_THE_END,
+        kind: KindName::Npqb,
+        events: HANDS_OVER,
+        misfit: None,
+    },
+    // Such a signaller tells two lines.
+    Row {
+        name: "a signaller that waits",
+        log: b"log 1 2 1 buffer 1\nenter 0\nsignal 0 0\nwait 0 0\nenter 1\nleave 1\n",
+        kind: KindName::Npir,
+        events: &[
+            Event::Enter(0, Via::Free),
+            Event::SignalWait(0, 0, 0, Next::Entry),
+            Event::Enter(1, Via::Handed),
+            Event::Leave(1, Next::Entry),
+        ],
+        misfit: None,
+    },
+    Row {
+        name: "a signal to all",
+        log: b"log 1 2 1 buffer 1\nenter 0\nwait 0 0\nenter 1\nbroadcast 1 0\nleave 1\n",
+        kind: KindName::Pnb,
+        events: &[
+            Event::Enter(0, Via::Free),
+            Event::Wait(0, 0, Next::Entry),
+            Event::Enter(1, Via::Handed),
+            Event::SignalAll(1, 0),
+            Event::Leave(1, Next::Waiter(0)),
+        ],
+        misfit: None,
+    },
+];
 
 /// Whether the events are a legal history of the monitor that the log's header names, of that kind.
 fn are_legal(
@@ -22,154 +227,22 @@ fn are_legal(
     Ok(audit(rt.alloc(), &header, events)? == Verdict::Legal(events.len() as u32))
 }
 
-/// Whether the log is completed by these events under the kind, and these are legal.
-fn becomes(rt: &HostRuntime, kind: KindName, text: &[u8], want: &[Event]) -> Result<bool, Fail> {
-    let (header, lines) = read_log(rt.alloc(), text)?;
-    let is_wanted = match complete(rt.alloc(), &header, &lines, kind)? {
-        Completion::History(events) => events.as_slice() == want,
-        Completion::Misfit { .. } => false,
+/// Whether that comes of the log, and its events are legal.
+fn comes_of_its_log(rt: &HostRuntime, row: &Row) -> Result<bool, Fail> {
+    let (header, lines) = read_log(rt.alloc(), row.log)?;
+    let is_wanted = match complete(rt.alloc(), &header, &lines, row.kind)? {
+        Completion::History(events) => row.misfit.is_none() && events.as_slice() == row.events,
+        Completion::Misfit { line, blame } => row.misfit == Some((line, blame)),
     };
-    Ok(is_wanted && are_legal(rt, kind, &header, want)?)
+    Ok(is_wanted && are_legal(rt, row.kind, &header, row.events)?)
 }
 
-/// The line that misfits, and what is to blame.
-fn misfit(rt: &HostRuntime, kind: KindName, text: &[u8]) -> Result<Option<(u32, Blame)>, Fail> {
-    let (header, lines) = read_log(rt.alloc(), text)?;
-    match complete(rt.alloc(), &header, &lines, kind)? {
-        Completion::History(_) => Ok(None),
-        Completion::Misfit { line, blame } => Ok(Some((line, blame))),
+#[test]
+fn logs_are_completed(rt: HostRuntime) -> Result<(), Fail> {
+    for row in ROWS.iter() {
+        if !comes_of_its_log(&rt, row)? {
+            return Err(row.name)?;
+        }
     }
-}
-
-/// Seat 0 waits, and seat 1 comes in and signals it; then the signaller goes on.
-const SIGNALLER_FIRST: &[u8] =
-    b"log 1 2 1 buffer 1\nenter 0\nwait 0 0\nenter 1\nsignal 1 0\nleave 1\nresume 0\nleave 0\n";
-
-/// The same, and the seat that was signalled goes on.
-const SIGNALLED_FIRST: &[u8] =
-    b"log 1 2 1 buffer 1\nenter 0\nwait 0 0\nenter 1\nsignal 1 0\nresume 0\nleave 0\nresume 1\nleave 1\n";
-
-#[test]
-fn blocking_log_is_completed(rt: HostRuntime) -> Result<(), Fail> {
-    let want = [
-        Event::Enter(0, Via::Free),
-        Event::Wait(0, 0, Next::Entry),
-        Event::Enter(1, Via::Handed),
-        Event::Signal(1, 0, Next::Waiter(0)),
-        Event::Resume(0, From3::Waiter),
-        Event::Leave(0, Next::Signaller(1)),
-        Event::Resume(1, From3::Signaller),
-        Event::Leave(1, Next::Entry),
-    ];
-    assert!(rt; becomes(&rt, KindName::Pb, SIGNALLED_FIRST, &want)?);
-    let choice = Blame::Choice;
-    assert!(rt; misfit(&rt, KindName::Npnb, SIGNALLED_FIRST)? == Some((5, choice)));
-    Ok(())
-}
-
-#[test]
-fn non_blocking_log_is_completed(rt: HostRuntime) -> Result<(), Fail> {
-    let want = [
-        Event::Enter(0, Via::Free),
-        Event::Wait(0, 0, Next::Entry),
-        Event::Enter(1, Via::Handed),
-        Event::Signal(1, 0, Next::Stay),
-        Event::Leave(1, Next::Waiter(0)),
-        Event::Resume(0, From3::Waiter),
-        Event::Leave(0, Next::Entry),
-    ];
-    assert!(rt; becomes(&rt, KindName::Npnb, SIGNALLER_FIRST, &want)?);
-    let choice = Blame::Choice;
-    assert!(rt; misfit(&rt, KindName::Pb, SIGNALLER_FIRST)? == Some((5, choice)));
-    Ok(())
-}
-
-/// Under immediate return a log that ends with a signal is completed by its leaving.
-#[test]
-fn half_a_signal_is_completed(rt: HostRuntime) -> Result<(), Fail> {
-    let text: &[u8] = b"log 1 2 1 buffer 1\nenter 0\nwait 0 0\nenter 1\nsignal 1 0\n";
-    let want = [
-        Event::Enter(0, Via::Free),
-        Event::Wait(0, 0, Next::Entry),
-        Event::Enter(1, Via::Handed),
-        Event::SignalLeave(1, 0, Next::Waiter(0)),
-    ];
-    assert!(rt; becomes(&rt, KindName::Pir, text, &want)?);
-    assert!(rt; becomes(&rt, KindName::Npir, text, &want)?);
-    Ok(())
-}
-
-/// Under automatic signalling the last release chooses the first who is ready.
-#[test]
-fn automatic_log_is_completed(rt: HostRuntime) -> Result<(), Fail> {
-    let text: &[u8] = b"log 1 2 0 buffer 1\nenter 0\nuntil 0 1\nenter 1\nact 1 0 7 1\nleave 1\n";
-    let want = [
-        Event::Enter(0, Via::Free),
-        Event::Until(0, 1, Next::Entry),
-        Event::Enter(1, Via::Handed),
-        Event::Act(1, Op { code: 0, arg: 7 }, 1),
-        Event::Leave(1, Next::Until(0)),
-    ];
-    assert!(rt; becomes(&rt, KindName::Pis, text, &want)?);
-    assert!(rt; becomes(&rt, KindName::Npis, text, &want)?);
-    Ok(())
-}
-
-const SIGNAL_TO_NOBODY: &[u8] = b"log 1 2 1 buffer 1\nenter 0\nsignal 0 0\n";
-
-const SIGNAL_AT_THE_END: &[u8] = b"log 1 2 1 buffer 1\nenter 0\nwait 0 0\nenter 1\nsignal 1 0\n";
-
-/// A signal that serves nobody stays.
-const NOBODY_SERVED: [Event; 2] = [Event::Enter(0, Via::Free), Event::Signal(0, 0, Next::Stay)];
-
-const STAYS: [Event; 4] = [
-    Event::Enter(0, Via::Free),
-    Event::Wait(0, 0, Next::Entry),
-    Event::Enter(1, Via::Handed),
-    Event::Signal(1, 0, Next::Stay),
-];
-
-const HANDS_OVER: [Event; 4] = [
-    Event::Enter(0, Via::Free),
-    Event::Wait(0, 0, Next::Entry),
-    Event::Enter(1, Via::Handed),
-    Event::Signal(1, 0, Next::Waiter(0)),
-];
-
-/// A signal that ends a log stays where waiters may not go before signallers.
-#[test]
-fn last_signal_is_completed(rt: HostRuntime) -> Result<(), Fail> {
-    for kind in [KindName::Pb, KindName::Pqb] {
-        assert!(rt; becomes(&rt, kind, SIGNAL_TO_NOBODY, &NOBODY_SERVED)?);
-    }
-    for kind in [KindName::Pnb, KindName::Npnb] {
-        assert!(rt; becomes(&rt, kind, SIGNAL_AT_THE_END, &STAYS)?);
-    }
-    for kind in [KindName::Npb, KindName::Npqb] {
-        assert!(rt; becomes(&rt, kind, SIGNAL_AT_THE_END, &HANDS_OVER)?);
-    }
-    Ok(())
-}
-
-/// A signaller that waits tells two lines, and one that signals all a single one.
-#[test]
-fn waiting_signaller_and_broadcast_are_completed(rt: HostRuntime) -> Result<(), Fail> {
-    let text: &[u8] = b"log 1 2 1 buffer 1\nenter 0\nsignal 0 0\nwait 0 0\nenter 1\nleave 1\n";
-    let want = [
-        Event::Enter(0, Via::Free),
-        Event::SignalWait(0, 0, 0, Next::Entry),
-        Event::Enter(1, Via::Handed),
-        Event::Leave(1, Next::Entry),
-    ];
-    assert!(rt; becomes(&rt, KindName::Npir, text, &want)?);
-    let text: &[u8] = b"log 1 2 1 buffer 1\nenter 0\nwait 0 0\nenter 1\nbroadcast 1 0\nleave 1\n";
-    let want = [
-        Event::Enter(0, Via::Free),
-        Event::Wait(0, 0, Next::Entry),
-        Event::Enter(1, Via::Handed),
-        Event::SignalAll(1, 0),
-        Event::Leave(1, Next::Waiter(0)),
-    ];
-    assert!(rt; becomes(&rt, KindName::Pnb, text, &want)?);
     Ok(())
 }

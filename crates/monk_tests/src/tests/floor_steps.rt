@@ -56,8 +56,8 @@ fn is_allowed<K: Kind>(
     }
 }
 
-/// Whether an event may come next, and one is left to its seat.
-fn may_come<K: Kind>(
+/// Whether an event may come next, and one is left to its seat. If so, the test asks for no memory from here on.
+fn comes_next<K: Kind>(
     rt: &HostRuntime,
     size: Size,
     floor: &Floor<K, Buffer>,
@@ -67,10 +67,11 @@ fn may_come<K: Kind>(
     ensures { IfOk result (λ may. IsTrue may → MayCome K.rules floor.now event) }
 {
     let seat = event.seat();
-    if seat >= size.seats || floor.left(seat) == 0 {
+    if seat >= size.seats || floor.left(seat) == 0 || !is_allowed(rt, size, floor, event)? {
         return Ok(false);
     }
-    is_allowed(rt, size, floor, event)
+    from_here(rt)?;
+    Ok(true)
 }
 
 /// Makes the call of an event that chooses nobody, and says whether that very event came of it.
@@ -92,25 +93,20 @@ fn moves<K: Kind>(size: Size, floor: &mut Floor<K, Buffer>, event: Event) -> boo
     }
 }
 
-/// Makes the call of an event by the general scheduler step, if it may come, and says whether that very event came of
-/// it.
-fn steps_plainly<K: Kind>(
-    rt: &HostRuntime,
+/// Makes the call of an event by the general scheduler step, and says whether that very event came of it.
+fn calls_plainly<K: Kind>(
     size: Size,
     floor: &mut Floor<K, Buffer>,
     event: Event,
     pick: Pick,
-) -> Result<bool, Fail>
-    requires { IsRoom size.seats size.conds ITEMS floor.old }
+) -> bool
+    requires room { IsRoom size.seats size.conds ITEMS floor.old }
+    requires may_come { MayCome K.rules floor.old event }
     ensures { IsRoom size.seats size.conds ITEMS floor.new }
 {
-    if !may_come(rt, size, floor, event)? {
-        return Ok(false);
-    }
     allowed_may_be_called();
     let known = pick == Pick::Entry;
-    from_here(rt)?;
-    let came = match event {
+    match event {
         Event::Leave(seat, next) => floor.plain_leave(seat, pick, known) == next,
         Event::Wait(seat, cond, next) => floor.plain_wait(seat, cond, pick, known) == next,
         Event::Signal(seat, cond, next) => floor.plain_signal(seat, cond, pick, known) == next,
@@ -126,53 +122,55 @@ fn steps_plainly<K: Kind>(
             floor.plain_signal_wait(seat, cond, wait_cond, pick, known) == next
         }
         _ => moves(size, floor, event),
-    };
-    up_to_here(rt)?;
-    Ok(came)
+    }
 }
 
 /// Whether a floor makes exactly these events.
 fn runs_plainly<K: Kind>(
     rt: &HostRuntime,
     size: Size,
+    floor: &mut Floor<K, Buffer>,
     events: &[Event],
     pick: Pick,
-) -> Result<bool, Fail> {
-    let mut floor: Floor<K, Buffer> = room(rt, size)?;
+) -> Result<bool, Fail>
+    requires { IsRoom size.seats size.conds ITEMS floor.old }
+    ensures { IsRoom size.seats size.conds ITEMS floor.new }
+{
     for event in events {
-        if !steps_plainly(rt, size, &mut floor, *event, pick)? {
+        if !comes_next(rt, size, floor, *event)? {
+            return Ok(false);
+        }
+        let came = calls_plainly(size, floor, *event, pick);
+        up_to_here(rt)?;
+        if !came {
             return Ok(false);
         }
     }
     Ok(true)
 }
 
-fn steps_explicitly<K: Explicit>(
-    rt: &HostRuntime,
+/// The same by the paths of a kind that has a signaller queue.
+fn calls_explicitly<K: Explicit>(
     size: Size,
     floor: &mut Floor<K, Buffer>,
     event: Event,
     pick: Pick,
-) -> Result<bool, Fail>
-    requires { IsRoom size.seats size.conds ITEMS floor.old }
+) -> bool
+    requires room { IsRoom size.seats size.conds ITEMS floor.old }
+    requires may_come { MayCome K.rules floor.old event }
     ensures { IsRoom size.seats size.conds ITEMS floor.new }
 {
-    if !may_come(rt, size, floor, event)? {
-        return Ok(false);
-    }
     allowed_may_be_called();
     let known = pick == Pick::Entry;
-    from_here(rt)?;
-    let came = match event {
+    match event {
         Event::Leave(seat, next) => floor.leave(seat, pick, known) == next,
         Event::Wait(seat, cond, next) => floor.wait(seat, cond, pick, known) == next,
         Event::Signal(seat, cond, next) => floor.signal(seat, cond, pick, known) == next,
         _ => moves(size, floor, event),
-    };
-    up_to_here(rt)?;
-    Ok(came)
+    }
 }
 
+/// Whether a floor makes exactly these events by those paths.
 pub(crate) fn runs_explicitly<K: Explicit>(
     rt: &HostRuntime,
     size: Size,
@@ -184,69 +182,75 @@ pub(crate) fn runs_explicitly<K: Explicit>(
     ensures { IsRoom size.seats size.conds ITEMS floor.new }
 {
     for event in events {
-        if !steps_explicitly(rt, size, floor, *event, pick)? {
+        if !comes_next(rt, size, floor, *event)? {
+            return Ok(false);
+        }
+        let came = calls_explicitly(size, floor, *event, pick);
+        up_to_here(rt)?;
+        if !came {
             return Ok(false);
         }
     }
     Ok(true)
 }
 
-fn steps_non_blocking<K: NonBlocking>(
-    rt: &HostRuntime,
+/// The same where a signal to all is a call of its own.
+fn calls_non_blocking<K: NonBlocking>(
     size: Size,
     floor: &mut Floor<K, Buffer>,
     event: Event,
     pick: Pick,
-) -> Result<bool, Fail>
-    requires { IsRoom size.seats size.conds ITEMS floor.old }
+) -> bool
+    requires room { IsRoom size.seats size.conds ITEMS floor.old }
+    requires may_come { MayCome K.rules floor.old event }
     ensures { IsRoom size.seats size.conds ITEMS floor.new }
 {
     if let Event::SignalAll(seat, cond) = event {
-        if !may_come(rt, size, floor, event)? {
-            return Ok(false);
-        }
         allowed_may_be_called();
-        from_here(rt)?;
         floor.signal_all(seat, cond);
-        up_to_here(rt)?;
-        return Ok(true);
+        return true;
     }
-    steps_explicitly(rt, size, floor, event, pick)
+    calls_explicitly(size, floor, event, pick)
 }
 
-/// Whether a floor makes exactly these events.
+/// Whether a floor makes exactly these events by those paths.
 fn runs_non_blocking<K: NonBlocking>(
     rt: &HostRuntime,
     size: Size,
+    floor: &mut Floor<K, Buffer>,
     events: &[Event],
     pick: Pick,
-) -> Result<bool, Fail> {
-    let mut floor: Floor<K, Buffer> = room(rt, size)?;
+) -> Result<bool, Fail>
+    requires { IsRoom size.seats size.conds ITEMS floor.old }
+    ensures { IsRoom size.seats size.conds ITEMS floor.new }
+{
     for event in events {
-        if !steps_non_blocking(rt, size, &mut floor, *event, pick)? {
+        if !comes_next(rt, size, floor, *event)? {
+            return Ok(false);
+        }
+        let came = calls_non_blocking(size, floor, *event, pick);
+        up_to_here(rt)?;
+        if !came {
             return Ok(false);
         }
     }
     Ok(true)
 }
 
-fn steps_returning<K: ImmediateReturn>(
-    rt: &HostRuntime,
+/// The same by the paths of immediate return.
+fn calls_returning<K: ImmediateReturn>(
     size: Size,
     floor: &mut Floor<K, Buffer>,
     event: Event,
     pick: Pick,
-) -> Result<bool, Fail>
-    requires { IsRoom size.seats size.conds ITEMS floor.old }
+) -> bool
+    requires room { IsRoom size.seats size.conds ITEMS floor.old }
+    requires may_come { MayCome K.rules floor.old event }
     ensures { IsRoom size.seats size.conds ITEMS floor.new }
 {
-    if !may_come(rt, size, floor, event)? {
-        return Ok(false);
-    }
     allowed_may_be_called();
     let known = pick == Pick::Entry;
-    from_here(rt)?;
-    let came = match event {
+    match event {
         Event::Leave(seat, next) => floor.leave(seat, pick, known) == next,
         Event::Wait(seat, cond, next) => floor.wait(seat, cond, pick, known) == next,
         Event::SignalLeave(seat, cond, next) => floor.signal_leave(seat, cond, pick, known) == next,
@@ -254,66 +258,86 @@ fn steps_returning<K: ImmediateReturn>(
             floor.signal_wait(seat, cond, wait_cond, pick, known) == next
         }
         _ => moves(size, floor, event),
-    };
-    up_to_here(rt)?;
-    Ok(came)
+    }
 }
 
-/// Whether a floor makes exactly these events.
+/// Whether a floor makes exactly these events by those paths.
 fn runs_returning<K: ImmediateReturn>(
     rt: &HostRuntime,
     size: Size,
-    events: &[Event],
-    pick: Pick,
-) -> Result<bool, Fail> {
-    let mut floor: Floor<K, Buffer> = room(rt, size)?;
-    for event in events {
-        if !steps_returning(rt, size, &mut floor, *event, pick)? {
-            return Ok(false);
-        }
-    }
-    Ok(true)
-}
-
-fn steps_automatically<K: Automatic>(
-    rt: &HostRuntime,
-    size: Size,
     floor: &mut Floor<K, Buffer>,
-    event: Event,
+    events: &[Event],
     pick: Pick,
 ) -> Result<bool, Fail>
     requires { IsRoom size.seats size.conds ITEMS floor.old }
     ensures { IsRoom size.seats size.conds ITEMS floor.new }
 {
-    if !may_come(rt, size, floor, event)? {
-        return Ok(false);
+    for event in events {
+        if !comes_next(rt, size, floor, *event)? {
+            return Ok(false);
+        }
+        let came = calls_returning(size, floor, *event, pick);
+        up_to_here(rt)?;
+        if !came {
+            return Ok(false);
+        }
     }
+    Ok(true)
+}
+
+/// The same by the paths of automatic signalling.
+fn calls_automatically<K: Automatic>(
+    size: Size,
+    floor: &mut Floor<K, Buffer>,
+    event: Event,
+    pick: Pick,
+) -> bool
+    requires room { IsRoom size.seats size.conds ITEMS floor.old }
+    requires may_come { MayCome K.rules floor.old event }
+    ensures { IsRoom size.seats size.conds ITEMS floor.new }
+{
     allowed_may_be_called();
     let known = pick == Pick::Entry;
-    from_here(rt)?;
-    let came = match event {
+    match event {
         Event::Leave(seat, next) => floor.leave(seat, pick, known) == next,
         Event::Until(seat, pred, next) => floor.until(seat, pred, pick, known) == next,
         _ => moves(size, floor, event),
-    };
-    up_to_here(rt)?;
-    Ok(came)
+    }
 }
 
-/// Whether a floor makes exactly these events.
+/// Whether a floor makes exactly these events by those paths.
 fn runs_automatically<K: Automatic>(
+    rt: &HostRuntime,
+    size: Size,
+    floor: &mut Floor<K, Buffer>,
+    events: &[Event],
+    pick: Pick,
+) -> Result<bool, Fail>
+    requires { IsRoom size.seats size.conds ITEMS floor.old }
+    ensures { IsRoom size.seats size.conds ITEMS floor.new }
+{
+    for event in events {
+        if !comes_next(rt, size, floor, *event)? {
+            return Ok(false);
+        }
+        let came = calls_automatically(size, floor, *event, pick);
+        up_to_here(rt)?;
+        if !came {
+            return Ok(false);
+        }
+    }
+    Ok(true)
+}
+
+/// Whether a new floor makes exactly these events by the general scheduler step.
+fn is_run_plainly<K: Kind>(
     rt: &HostRuntime,
     size: Size,
     events: &[Event],
     pick: Pick,
 ) -> Result<bool, Fail> {
     let mut floor: Floor<K, Buffer> = room(rt, size)?;
-    for event in events {
-        if !steps_automatically(rt, size, &mut floor, *event, pick)? {
-            return Ok(false);
-        }
-    }
-    Ok(true)
+    runs_plainly(rt, size, &mut floor, events, pick)
 }
 
 /// Whether both paths make exactly these events.
@@ -323,7 +347,7 @@ pub(crate) fn both_explicit<K: Explicit>(
     events: &[Event],
     pick: Pick,
 ) -> Result<bool, Fail> {
-    if !runs_plainly::<K>(rt, size, events, pick)? {
+    if !is_run_plainly::<K>(rt, size, events, pick)? {
         return Ok(false);
     }
     let mut floor: Floor<K, Buffer> = room(rt, size)?;
@@ -336,10 +360,11 @@ pub(crate) fn both_non_blocking<K: NonBlocking>(
     events: &[Event],
     pick: Pick,
 ) -> Result<bool, Fail> {
-    Ok(
-        runs_plainly::<K>(rt, size, events, pick)?
-            && runs_non_blocking::<K>(rt, size, events, pick)?,
-    )
+    if !is_run_plainly::<K>(rt, size, events, pick)? {
+        return Ok(false);
+    }
+    let mut floor: Floor<K, Buffer> = room(rt, size)?;
+    runs_non_blocking(rt, size, &mut floor, events, pick)
 }
 
 pub(crate) fn both_returning<K: ImmediateReturn>(
@@ -348,7 +373,11 @@ pub(crate) fn both_returning<K: ImmediateReturn>(
     events: &[Event],
     pick: Pick,
 ) -> Result<bool, Fail> {
-    Ok(runs_plainly::<K>(rt, size, events, pick)? && runs_returning::<K>(rt, size, events, pick)?)
+    if !is_run_plainly::<K>(rt, size, events, pick)? {
+        return Ok(false);
+    }
+    let mut floor: Floor<K, Buffer> = room(rt, size)?;
+    runs_returning(rt, size, &mut floor, events, pick)
 }
 
 pub(crate) fn both_automatic<K: Automatic>(
@@ -357,8 +386,9 @@ pub(crate) fn both_automatic<K: Automatic>(
     events: &[Event],
     pick: Pick,
 ) -> Result<bool, Fail> {
-    Ok(
-        runs_plainly::<K>(rt, size, events, pick)?
-            && runs_automatically::<K>(rt, size, events, pick)?,
-    )
+    if !is_run_plainly::<K>(rt, size, events, pick)? {
+        return Ok(false);
+    }
+    let mut floor: Floor<K, Buffer> = room(rt, size)?;
+    runs_automatically(rt, size, &mut floor, events, pick)
 }

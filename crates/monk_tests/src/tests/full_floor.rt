@@ -4,7 +4,7 @@ ghost use Rattle.std.specs.Prelude.{◌≡◌, ◌<◌, IfOk, IsTrue};
 ghost use Rattle.monk_tests.specs.FloorCalls.{IsSameSize, OwnsTurn};
 
 use super::floor_entry::{enter, turn_of};
-use super::marks::{from_here, up_to_here};
+use super::marks::{from_here, well_up_to_here};
 use monk_floor::Floor;
 use monk_history::{Event, From3, Next, Turn, Via};
 use monk_kinds::{Pick, Pnb};
@@ -149,7 +149,6 @@ fn first_of_each_condition_is_served_in_order(rt: HostRuntime) -> Result<(), Fai
     let all_came = all_arrive(&mut floor) && all_wait(&floor, 3);
     let all_signalled = all_are_signalled(&mut floor) && all_wait(&floor, 2);
     let all_left = all_depart(&mut floor) && all_wait(&floor, 2);
-    up_to_here(&rt)?;
-    assert!(rt; all_came && all_signalled && all_left && floor.history().len() == 74);
-    Ok(())
+    let well = all_came && all_signalled && all_left && floor.history().len() == 74;
+    well_up_to_here(&rt, well)
 }

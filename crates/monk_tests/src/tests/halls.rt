@@ -11,6 +11,7 @@ mod entering;
 mod later_calls;
 mod modes;
 
+use crate::tests::marks::from_here;
 use monk_hall::{Active, After, Hall, Parked, Pass};
 use monk_history::Event;
 use monk_kinds::{Conditional, Explicit, Kind, NonBlocking, Pick};
@@ -66,6 +67,48 @@ pub(super) fn two<K: Kind>(
     Ok((hall, first, second))
 }
 
+/// The same; from here on the test asks for no memory.
+fn two_from_here<K: Kind>(
+    rt: &HostRuntime,
+    conds: u8,
+    budget: u32,
+) -> Result<(Hall<K, Buffer>, Pass<K, Buffer>, Pass<K, Buffer>), Fail>
+    ensures first { IfOk result (λ r. (r.1.hall ≡ r.0.id) × (r.1.me.setting ≡ r.0.setting)) }
+    ensures second { IfOk result (λ r. (r.2.hall ≡ r.0.id) × (r.2.me.setting ≡ r.0.setting)) }
+    ensures conds { IfOk result (λ r. r.0.setting.conds ≡ conds) }
+{
+    let made = two::<K>(rt, conds, budget)?;
+    from_here(rt)?;
+    Ok(made)
+}
+
+/// A hall of three seats over such a buffer, with their passes; from here on the test asks for no memory.
+fn three_from_here<K: Kind>(
+    rt: &HostRuntime,
+    conds: u8,
+    budget: u32,
+) -> Result<
+    (
+        Hall<K, Buffer>,
+        Pass<K, Buffer>,
+        Pass<K, Buffer>,
+        Pass<K, Buffer>,
+    ),
+    Fail,
+>
+    ensures first { IfOk result (λ r. (r.1.hall ≡ r.0.id) × (r.1.me.setting ≡ r.0.setting)) }
+    ensures second { IfOk result (λ r. (r.2.hall ≡ r.0.id) × (r.2.me.setting ≡ r.0.setting)) }
+    ensures third { IfOk result (λ r. (r.3.hall ≡ r.0.id) × (r.3.me.setting ≡ r.0.setting)) }
+    ensures conds { IfOk result (λ r. r.0.setting.conds ≡ conds) }
+{
+    let (hall, mut passes) = hall::<K>(rt, 3, conds, budget)?;
+    let third = take(&hall, &mut passes)?;
+    let second = take(&hall, &mut passes)?;
+    let first = take(&hall, &mut passes)?;
+    from_here(rt)?;
+    Ok((hall, first, second, third))
+}
+
 /// Arrives, if it has enough left.
 fn arrive<K: Kind>(hall: &Hall<K, Buffer>, pass: Pass<K, Buffer>) -> Option<Parked<K, Buffer>>
     requires { pass.hall ≡ hall.now.id }
@@ -77,18 +120,26 @@ fn arrive<K: Kind>(hall: &Hall<K, Buffer>, pass: Pass<K, Buffer>) -> Option<Park
     Some(pass.arrive(hall))
 }
 
-/// Comes in at once, if nobody is there.
-fn enter<K: Kind>(hall: &Hall<K, Buffer>, pass: Pass<K, Buffer>) -> Option<Active<K, Buffer>>
-    requires { pass.hall ≡ hall.now.id }
-    ensures { IfSome result (λ a. (a.hall ≡ hall.now.id) × (a.me.setting ≡ pass.me.setting)) }
+/// Comes in, if it is its turn. Else it is given up.
+fn comes_in<K: Kind>(hall: &Hall<K, Buffer>, parked: Parked<K, Buffer>) -> Option<Active<K, Buffer>>
+    requires { parked.hall ≡ hall.now.id }
+    ensures { IfSome result (λ a. (a.hall ≡ hall.now.id) × (a.me.setting ≡ parked.me.setting)) }
 {
-    match arrive(hall, pass)?.poll(hall) {
+    match parked.poll(hall) {
         Ok(active) => Some(active),
         Err(parked) => {
             parked.give_up();
             None
         }
     }
+}
+
+/// Comes in at once, if nobody is there.
+fn enter<K: Kind>(hall: &Hall<K, Buffer>, pass: Pass<K, Buffer>) -> Option<Active<K, Buffer>>
+    requires { pass.hall ≡ hall.now.id }
+    ensures { IfSome result (λ a. (a.hall ≡ hall.now.id) × (a.me.setting ≡ pass.me.setting)) }
+{
+    comes_in(hall, arrive(hall, pass)?)
 }
 
 /// Carries an operation out, if the seat has enough left.
@@ -184,17 +235,12 @@ fn comes_in_and_finds<K: Kind>(
 ) -> bool
     requires { parked.hall ≡ hall.now.id }
 {
-    match parked.poll(hall) {
-        Ok(active) => {
-            let found = active.history() == history;
-            active.leave(hall, Pick::Waiter);
-            found
-        }
-        Err(parked) => {
-            parked.give_up();
-            false
-        }
-    }
+    let Some(active) = comes_in(hall, parked) else {
+        return false;
+    };
+    let found = active.history() == history;
+    active.leave(hall, Pick::Waiter);
+    found
 }
 
 /// Whether a poll gives the seat back. It is then given up.

@@ -6,16 +6,17 @@ use monk_kinds::{
 /// The texts of the ten kinds, and for each its mode and the ordering of its priorities.
 #[test]
 fn the_ten_kinds(rt: HostRuntime) {
-    assert!(rt; is_kind::<Pb>(b"PB", Mode::Blocking, b"Ep<Sp<Wp"));
-    assert!(rt; is_kind::<Npb>(b"NPB", Mode::Blocking, b"Ep=Sp<Wp"));
-    assert!(rt; is_kind::<Pnb>(b"PNB", Mode::NonBlocking, b"Ep<Wp<Sp"));
-    assert!(rt; is_kind::<Npnb>(b"NPNB", Mode::NonBlocking, b"Ep=Wp<Sp"));
-    assert!(rt; is_kind::<Pqb>(b"PQB", Mode::QuasiBlocking, b"Ep<Wp=Sp"));
-    assert!(rt; is_kind::<Npqb>(b"NPQB", Mode::QuasiBlocking, b"Ep=Wp=Sp"));
-    assert!(rt; is_kind::<Pir>(b"PIR", Mode::ImmediateReturn, b"Ep=Sp<Wp"));
-    assert!(rt; is_kind::<Npir>(b"NPIR", Mode::ImmediateReturn, b"Ep=Wp=Sp"));
-    assert!(rt; is_kind::<Pis>(b"PIS", Mode::Automatic, b"Ep=Sp<Wp"));
-    assert!(rt; is_kind::<Npis>(b"NPIS", Mode::Automatic, b"Ep=Wp=Sp"));
+    let well = is_kind::<Pb>(b"PB", Mode::Blocking, b"Ep<Sp<Wp")
+        && is_kind::<Npb>(b"NPB", Mode::Blocking, b"Ep=Sp<Wp")
+        && is_kind::<Pnb>(b"PNB", Mode::NonBlocking, b"Ep<Wp<Sp")
+        && is_kind::<Npnb>(b"NPNB", Mode::NonBlocking, b"Ep=Wp<Sp")
+        && is_kind::<Pqb>(b"PQB", Mode::QuasiBlocking, b"Ep<Wp=Sp")
+        && is_kind::<Npqb>(b"NPQB", Mode::QuasiBlocking, b"Ep=Wp=Sp")
+        && is_kind::<Pir>(b"PIR", Mode::ImmediateReturn, b"Ep=Sp<Wp")
+        && is_kind::<Npir>(b"NPIR", Mode::ImmediateReturn, b"Ep=Wp=Sp")
+        && is_kind::<Pis>(b"PIS", Mode::Automatic, b"Ep=Sp<Wp")
+        && is_kind::<Npis>(b"NPIS", Mode::Automatic, b"Ep=Wp=Sp");
+    assert!(rt; well);
 }
 
 /// Whether the kind has this text, mode and ordering, and the text names it.
@@ -28,12 +29,13 @@ fn is_kind<K: Kind>(text: &[u8], mode: Mode, ordering: &[u8]) -> bool {
         && classify(rules.entry, rules.waiter, rules.signaller).text() == ordering
 }
 
+static NO_KINDS: [&[u8]; 4] = [b"", b"pb", b"PB ", b"NPISX"];
+
 #[test]
 fn other_texts_name_no_kind(rt: HostRuntime) {
-    assert!(rt; KindName::of_text(b"").is_none());
-    assert!(rt; KindName::of_text(b"pb").is_none());
-    assert!(rt; KindName::of_text(b"PB ").is_none());
-    assert!(rt; KindName::of_text(b"NPISX").is_none());
+    for text in NO_KINDS.iter() {
+        assert!(rt; KindName::of_text(text).is_none());
+    }
 }
 
 /// Three priorities of 0 to 3 have all thirteen orderings. Entry is above neither other in six of them, whose kinds
@@ -76,11 +78,10 @@ static ORDERINGS: [(u8, u8, u8, &[u8], &[u8]); 13] = [
 fn orderings_by_text(rt: HostRuntime) {
     for (e, w, s, text, kind) in ORDERINGS.iter() {
         let ordering = classify(*e, *w, *s);
-        assert!(rt; ordering.text() == *text);
         let found = match ordering.kind() {
             Some(name) => name.text(),
             None => b"rejected",
         };
-        assert!(rt; found == *kind);
+        assert!(rt; ordering.text() == *text && found == *kind);
     }
 }

@@ -24,29 +24,31 @@ fn checked(bytes: &[u8]) -> (u8, u32) {
     }
 }
 
+const GREATEST: Op = Op {
+    code: 255,
+    arg: u32::MAX,
+};
+
+const EACH_LINE: [LogLine; 10] = [
+    LogLine::Enter(0),
+    LogLine::Resume(255),
+    LogLine::Lapse(1),
+    LogLine::Leave(2),
+    LogLine::Wait(3, 255),
+    LogLine::Signal(4, 0),
+    LogLine::Broadcast(5, 1),
+    LogLine::Until(6, 2),
+    LogLine::Act(7, GREATEST, u64::MAX),
+    LogLine::Act(8, Op { code: 0, arg: 0 }, 0),
+];
+
 #[test]
 fn each_line_of_a_log(rt: HostRuntime) -> Result<(), Fail> {
     one_log_each();
     let (header, lines) = read_log(rt.alloc(), EACH)?;
-    assert!(rt; header.object() == ObjectName::Shop);
-    assert!(rt; (header.seats(), header.conds(), header.size()) == (32, 8, 255));
-    let greatest = Op {
-        code: 255,
-        arg: u32::MAX,
-    };
-    let want = [
-        LogLine::Enter(0),
-        LogLine::Resume(255),
-        LogLine::Lapse(1),
-        LogLine::Leave(2),
-        LogLine::Wait(3, 255),
-        LogLine::Signal(4, 0),
-        LogLine::Broadcast(5, 1),
-        LogLine::Until(6, 2),
-        LogLine::Act(7, greatest, u64::MAX),
-        LogLine::Act(8, Op { code: 0, arg: 0 }, 0),
-    ];
-    assert!(rt; lines.as_slice() == want.as_slice());
+    let is_header = header.object() == ObjectName::Shop
+        && (header.seats(), header.conds(), header.size()) == (32, 8, 255);
+    assert!(rt; is_header && lines.as_slice() == EACH_LINE.as_slice());
     Ok(())
 }
 
@@ -69,32 +71,28 @@ static FAULTY_LOGS: [(&[u8], u8, u32); 12] = [
 #[test]
 fn faulty_logs(rt: HostRuntime) {
     for (text, number, line) in FAULTY_LOGS.iter() {
-        assert!(rt; outcome(&rt, text) == (*number, *line));
         let whole = if *number == 0 { 0 } else { *line };
-        assert!(rt; checked(text) == (*number, whole));
+        let is_outcome = outcome(&rt, text) == (*number, *line);
+        assert!(rt; is_outcome && checked(text) == (*number, whole));
     }
 }
 
+/// Numbers of a header, and whether there is such a one.
+static HEADERS: [(u8, u8, ObjectName, u8, bool); 7] = [
+    (1, 0, ObjectName::Buffer, 1, true),
+    (32, 8, ObjectName::Book, 255, true),
+    (2, 0, ObjectName::Flags, 32, true),
+    (0, 0, ObjectName::Buffer, 1, false),
+    (33, 0, ObjectName::Buffer, 1, false),
+    (1, 9, ObjectName::Buffer, 1, false),
+    (1, 0, ObjectName::Buffer, 0, false),
+];
+
 #[test]
 fn headers_of_logs(rt: HostRuntime) {
-    assert!(rt; LogHeader::new(1, 0, ObjectName::Buffer, 1).is_some());
-    assert!(rt; LogHeader::new(32, 8, ObjectName::Book, 255).is_some());
-    assert!(rt; LogHeader::new(2, 0, ObjectName::Flags, 32).is_some());
-    assert!(rt; LogHeader::new(0, 0, ObjectName::Buffer, 1).is_none());
-    assert!(rt; LogHeader::new(33, 0, ObjectName::Buffer, 1).is_none());
-    assert!(rt; LogHeader::new(1, 9, ObjectName::Buffer, 1).is_none());
-    assert!(rt; LogHeader::new(1, 0, ObjectName::Buffer, 0).is_none());
-}
-
-/// What is found of the log under the kind.
-fn verdict(rt: &HostRuntime, kind: KindName, text: &[u8]) -> Result<LogVerdict, Fail> {
-    let (header, lines) = read_log(rt.alloc(), text)?;
-    Ok(judge(rt.alloc(), &header, &lines, kind)?)
-}
-
-/// The line that misfits.
-fn misfit(line: u32, blame: Blame) -> LogVerdict {
-    LogVerdict::Misfit { line, blame }
+    for (seats, conds, object, size, is_one) in HEADERS.iter() {
+        assert!(rt; LogHeader::new(*seats, *conds, *object, *size).is_some() == *is_one);
+    }
 }
 
 /// Seat 0 waits, and seat 1 comes in and signals it; then the signaller goes on.
@@ -113,64 +111,115 @@ const BARGED: &[u8] =
 const OVERTAKEN: &[u8] =
     b"log 1 3 1 buffer 1\nenter 0\nwait 0 0\nenter 1\nwait 1 0\nenter 2\nsignal 2 0\nsignal 2 0\nleave 2\nresume 1\n";
 
-/// Logs that fit the kind.
-static FITTING: [(KindName, &[u8]); 4] = [
-    (KindName::Npnb, SIGNALLER_FIRST),
-    (KindName::Pb, SIGNALLED_FIRST),
-    (KindName::Npnb, BARGED),
-    (KindName::Pb, b"log 1 2 1 buffer 1\n"),
-];
+/// A log, and the line that misfits the kind with what is to blame, if one does. Under immediate return the line behind
+/// a signal says which signal it is.
+type Judged = (&'static str, KindName, &'static [u8], Option<(u32, Blame)>);
 
-#[test]
-fn logs_that_fit(rt: HostRuntime) -> Result<(), Fail> {
-    for (kind, text) in FITTING.iter() {
-        assert!(rt; verdict(&rt, *kind, text)? == LogVerdict::Fits);
-    }
-    Ok(())
-}
-
-/// Logs that don't fit the kind, the line that misfits, and what is to blame.
-static MISFITS: [(KindName, &[u8], u32, Blame); 9] = [
-    (KindName::Pb, SIGNALLER_FIRST, 5, Blame::Choice),
-    (KindName::Npnb, SIGNALLED_FIRST, 5, Blame::Choice),
-    (KindName::Pnb, BARGED, 6, Blame::Choice),
-    (KindName::Npnb, OVERTAKEN, 9, Blame::Order),
+static JUDGED: [Judged; 16] = [
     (
+        "the signaller goes on",
+        KindName::Npnb,
+        SIGNALLER_FIRST,
+        None,
+    ),
+    (
+        "the seat that was signalled goes on",
+        KindName::Pb,
+        SIGNALLED_FIRST,
+        None,
+    ),
+    ("a task that barges", KindName::Npnb, BARGED, None),
+    ("no lines", KindName::Pb, b"log 1 2 1 buffer 1\n", None),
+    (
+        "a blocking kind where the signaller goes on",
+        KindName::Pb,
+        SIGNALLER_FIRST,
+        Some((5, Blame::Choice)),
+    ),
+    (
+        "a non-blocking kind where the signaller waits",
+        KindName::Npnb,
+        SIGNALLED_FIRST,
+        Some((5, Blame::Choice)),
+    ),
+    (
+        "a kind whose waiters go before tasks",
+        KindName::Pnb,
+        BARGED,
+        Some((6, Blame::Choice)),
+    ),
+    (
+        "out of order",
+        KindName::Npnb,
+        OVERTAKEN,
+        Some((9, Blame::Order)),
+    ),
+    (
+        "no such seat",
         KindName::Pb,
         b"log 1 2 1 buffer 1\nenter 2\n",
-        1,
-        Blame::Range,
+        Some((1, Blame::Range)),
     ),
     (
+        "no such call",
         KindName::Pb,
         b"log 1 2 1 buffer 1\nenter 0\nbroadcast 0 0\n",
-        2,
-        Blame::Call,
+        Some((2, Blame::Call)),
     ),
     (
+        "an enter out of turn",
         KindName::Pb,
         b"log 1 2 1 buffer 1\nenter 0\nenter 1\n",
-        2,
-        Blame::Turn,
+        Some((2, Blame::Turn)),
     ),
     (
+        "another reply",
         KindName::Pb,
         b"log 1 2 1 buffer 1\nenter 0\nact 0 1 0 7\n",
-        2,
-        Blame::Reply,
+        Some((2, Blame::Reply)),
     ),
     (
+        "a lapse of who is inside",
         KindName::Pb,
         b"log 1 2 1 buffer 1\nenter 0\nlapse 0\n",
-        2,
-        Blame::Turn,
+        Some((2, Blame::Turn)),
+    ),
+    (
+        "immediate return: the signal leaves",
+        KindName::Pir,
+        SIGNALLER_FIRST,
+        None,
+    ),
+    (
+        "immediate return: the signaller waits",
+        KindName::Pir,
+        SIGNALLED_FIRST,
+        Some((5, Blame::Call)),
+    ),
+    (
+        "immediate return: the signal is followed by a wait",
+        KindName::Npir,
+        b"log 1 2 1 buffer 1\nenter 0\nsignal 0 0\nwait 0 0\nenter 1\nleave 1\n",
+        None,
     ),
 ];
 
+/// Whether that is found of the log.
+fn is_found(rt: &HostRuntime, row: &Judged) -> Result<bool, Fail> {
+    let (_, kind, text, misfit) = *row;
+    let (header, lines) = read_log(rt.alloc(), text)?;
+    match judge(rt.alloc(), &header, &lines, kind)? {
+        LogVerdict::Misfit { line, blame } => Ok(misfit == Some((line, blame))),
+        LogVerdict::Fits => Ok(misfit.is_none()),
+    }
+}
+
 #[test]
-fn lines_that_misfit(rt: HostRuntime) -> Result<(), Fail> {
-    for (kind, text, line, blame) in MISFITS.iter() {
-        assert!(rt; verdict(&rt, *kind, text)? == misfit(*line, *blame));
+fn logs_are_judged(rt: HostRuntime) -> Result<(), Fail> {
+    for row in JUDGED.iter() {
+        if !is_found(&rt, row)? {
+            return Err(row.0)?;
+        }
     }
     Ok(())
 }
@@ -255,12 +304,18 @@ static BLAMED: [(KindName, &[u8], Blame); 16] = [
     ),
 ];
 
+/// Whether the last line misfits for that reason.
+fn is_to_blame(rt: &HostRuntime, kind: KindName, text: &[u8], blame: Blame) -> Result<bool, Fail> {
+    let (header, lines) = read_log(rt.alloc(), text)?;
+    let line = u32::try_from(lines.len()).unwrap_or(0);
+    let verdict = judge(rt.alloc(), &header, &lines, kind)?;
+    Ok(verdict == LogVerdict::Misfit { line, blame })
+}
+
 #[test]
 fn each_reason_behind_a_release(rt: HostRuntime) -> Result<(), Fail> {
     for (kind, text, blame) in BLAMED.iter() {
-        let (_, lines) = read_log(rt.alloc(), text)?;
-        let last = u32::try_from(lines.len()).unwrap_or(0);
-        assert!(rt; verdict(&rt, *kind, text)? == misfit(last, *blame));
+        assert!(rt; is_to_blame(&rt, *kind, text, *blame)?);
     }
     Ok(())
 }
@@ -281,26 +336,15 @@ static REASONS: [(Blame, u8, &str); 9] = [
 #[test]
 fn reasons_are_numbered(rt: HostRuntime) {
     for (blame, number, word) in REASONS.iter() {
-        assert!(rt; blame.number() == *number);
-        assert!(rt; blame.text() == *word);
+        assert!(rt; blame.number() == *number && blame.text() == *word);
     }
-}
-
-/// Under immediate return the line behind a signal says which signal it is.
-#[test]
-fn signals_told_by_halves(rt: HostRuntime) -> Result<(), Fail> {
-    let waits: &[u8] = b"log 1 2 1 buffer 1\nenter 0\nsignal 0 0\nwait 0 0\nenter 1\nleave 1\n";
-    assert!(rt; verdict(&rt, KindName::Pir, SIGNALLER_FIRST)? == LogVerdict::Fits);
-    assert!(rt; verdict(&rt, KindName::Pir, SIGNALLED_FIRST)? == misfit(5, Blame::Call));
-    assert!(rt; verdict(&rt, KindName::Npir, waits)? == LogVerdict::Fits);
-    Ok(())
 }
 
 /// Whether the object is refused where the log names one that is too great.
 #[test]
 fn too_great_an_object_of_a_log(rt: HostRuntime) -> Result<(), Fail> {
     let (header, lines) = read_log(rt.alloc(), b"log 1 2 1 book 33\n")?;
-    assert!(rt; lines.is_empty());
-    assert!(rt; judge(rt.alloc(), &header, &[], KindName::Pb) == Err(AuditFault::Object));
+    let verdict = judge(rt.alloc(), &header, &[], KindName::Pb);
+    assert!(rt; lines.is_empty() && verdict == Err(AuditFault::Object));
     Ok(())
 }

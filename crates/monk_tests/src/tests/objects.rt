@@ -2,14 +2,15 @@ use super::marks::{from_here, up_to_here};
 use monk_object::{Book, Buffer, Flags, Guarded, ObjectFault, ObjectName, Op, Shop};
 use std::test::Fail;
 
-/// Whether the operations in turn, each a code with an argument, have these replies.
-fn replies_are<T: Guarded>(object: &mut T, acts: &[(u8, u32, u64)]) -> bool {
-    for &(code, arg, reply) in acts {
-        if code >= T::CODES || object.act(Op { code, arg }) != reply {
-            return false;
-        }
-    }
-    true
+/// What is done with an object, or looked at.
+#[derive(Clone, Copy)]
+enum Step {
+    /// An operation, by its code and its argument, and its reply.
+    Act(u8, u32, u64),
+    /// Which predicates hold; there are as many.
+    Holds(&'static [bool]),
+    /// Which predicates hold, as the bits of a number.
+    Bits(u32),
 }
 
 /// Whether these predicates hold, and no other.
@@ -20,74 +21,6 @@ fn holds_are<T: Guarded>(object: &T, holds: &[bool]) -> bool {
         }
     }
     holds.len() == usize::from(T::PREDICATES)
-}
-
-#[test]
-fn buffer_of_two(rt: HostRuntime) -> Result<(), Fail> {
-    let mut buffer = Buffer::make(rt.alloc(), 2)?;
-    from_here(&rt)?;
-    assert!(rt; holds_are(&buffer, &[true, false]));
-    let first = [(Buffer::PUT, 0, 1), (Buffer::PUT, 4294967295, 1)];
-    assert!(rt; replies_are(&mut buffer, &first));
-    assert!(rt; holds_are(&buffer, &[false, true]));
-    let rest = [
-        (Buffer::PUT, 1, 0),
-        (Buffer::TAKE, 0, 1),
-        (Buffer::TAKE, 0, 4294967296),
-        (Buffer::TAKE, 0, 0),
-    ];
-    assert!(rt; replies_are(&mut buffer, &rest));
-    up_to_here(&rt)?;
-    Ok(())
-}
-
-#[test]
-fn book_of_two(rt: HostRuntime) -> Result<(), Fail> {
-    let mut book = Book::make(2)?;
-    from_here(&rt)?;
-    assert!(rt; holds_are(&book, &[true, true]));
-    let acts = [
-        (Book::START_READ, 0, 1),
-        (Book::START_READ, 0, 1),
-        (Book::START_READ, 0, 0),
-        (Book::START_WRITE, 0, 0),
-        (Book::END_READ, 0, 1),
-        (Book::END_READ, 0, 1),
-        (Book::START_WRITE, 0, 1),
-        (Book::START_READ, 0, 0),
-    ];
-    assert!(rt; replies_are(&mut book, &acts));
-    assert!(rt; holds_are(&book, &[false, false]));
-    let rest = [(Book::END_WRITE, 0, 1), (Book::END_WRITE, 0, 0)];
-    assert!(rt; replies_are(&mut book, &rest));
-    up_to_here(&rt)?;
-    Ok(())
-}
-
-#[test]
-fn shop_of_one(rt: HostRuntime) -> Result<(), Fail> {
-    let mut shop = Shop::make(1)?;
-    from_here(&rt)?;
-    assert!(rt; holds_are(&shop, &[true, false, false]));
-    assert!(rt; replies_are(&mut shop, &[(Shop::SIT, 0, 1), (Shop::SIT, 0, 0)]));
-    assert!(rt; holds_are(&shop, &[false, true, false]));
-    let acts = [
-        (Shop::CALL, 0, 1),
-        (Shop::SIT, 0, 1),
-        (Shop::CALL, 0, 0),
-        (Shop::DEPART, 0, 0),
-        (Shop::FINISH, 0, 1),
-    ];
-    assert!(rt; replies_are(&mut shop, &acts));
-    assert!(rt; holds_are(&shop, &[false, false, true]));
-    let rest = [
-        (Shop::FINISH, 0, 0),
-        (Shop::DEPART, 0, 1),
-        (Shop::CALL, 0, 1),
-    ];
-    assert!(rt; replies_are(&mut shop, &rest));
-    up_to_here(&rt)?;
-    Ok(())
 }
 
 /// Which predicates hold, as the bits of a number.
@@ -101,34 +34,110 @@ fn bits_of<T: Guarded>(object: &T) -> u32 {
     bits
 }
 
+/// Whether the step comes to what it must.
+fn is_so<T: Guarded>(object: &mut T, step: Step) -> bool {
+    match step {
+        Step::Act(code, arg, reply) => code < T::CODES && object.act(Op { code, arg }) == reply,
+        Step::Holds(holds) => holds_are(object, holds),
+        Step::Bits(bits) => bits_of(object) == bits,
+    }
+}
+
+/// Whether each of the steps does, and takes no memory.
+fn are_so<T: Guarded>(rt: &HostRuntime, object: &mut T, steps: &[Step]) -> Result<bool, Fail> {
+    from_here(rt)?;
+    for step in steps {
+        if !is_so(object, *step) {
+            return Ok(false);
+        }
+    }
+    up_to_here(rt)?;
+    Ok(true)
+}
+
+static BUFFER_OF_TWO: [Step; 9] = [
+    Step::Holds(&[true, false]),
+    Step::Act(Buffer::PUT, 0, 1),
+    Step::Act(Buffer::PUT, u32::MAX, 1),
+    Step::Holds(&[false, true]),
+    Step::Act(Buffer::PUT, 1, 0),
+    Step::Act(Buffer::TAKE, 0, 1),
+    Step::Act(Buffer::TAKE, 0, 4_294_967_296),
+    Step::Act(Buffer::TAKE, 0, 0),
+    Step::Holds(&[true, false]),
+];
+
 #[test]
-fn flags_of_three(rt: HostRuntime) -> Result<(), Fail> {
-    let mut flags = Flags::make(3)?;
-    from_here(&rt)?;
-    assert!(rt; bits_of(&flags) == 0);
-    assert!(rt; replies_are(&mut flags, &[(Flags::SET, 5, 1), (Flags::SET, 8, 0)]));
-    assert!(rt; bits_of(&flags) == 5);
-    assert!(rt; replies_are(&mut flags, &[(Flags::SET, 7, 1), (Flags::SET, u32::MAX, 0)]));
-    assert!(rt; bits_of(&flags) == 7);
-    assert!(rt; replies_are(&mut flags, &[(Flags::SET, 2, 1)]));
-    assert!(rt; bits_of(&flags) == 2);
-    up_to_here(&rt)?;
+fn buffer_of_two(rt: HostRuntime) -> Result<(), Fail> {
+    let mut buffer = Buffer::make(rt.alloc(), 2)?;
+    assert!(rt; are_so(&rt, &mut buffer, &BUFFER_OF_TWO)?);
     Ok(())
 }
 
-/// The least and the greatest number of flags, each with the greatest bits.
+static BOOK_OF_TWO: [Step; 12] = [
+    Step::Holds(&[true, true]),
+    Step::Act(Book::START_READ, 0, 1),
+    Step::Act(Book::START_READ, 0, 1),
+    Step::Act(Book::START_READ, 0, 0),
+    Step::Act(Book::START_WRITE, 0, 0),
+    Step::Act(Book::END_READ, 0, 1),
+    Step::Act(Book::END_READ, 0, 1),
+    Step::Act(Book::START_WRITE, 0, 1),
+    Step::Act(Book::START_READ, 0, 0),
+    Step::Holds(&[false, false]),
+    Step::Act(Book::END_WRITE, 0, 1),
+    Step::Act(Book::END_WRITE, 0, 0),
+];
+
+static SHOP_OF_ONE: [Step; 13] = [
+    Step::Holds(&[true, false, false]),
+    Step::Act(Shop::SIT, 0, 1),
+    Step::Act(Shop::SIT, 0, 0),
+    Step::Holds(&[false, true, false]),
+    Step::Act(Shop::CALL, 0, 1),
+    Step::Act(Shop::SIT, 0, 1),
+    Step::Act(Shop::CALL, 0, 0),
+    Step::Act(Shop::DEPART, 0, 0),
+    Step::Act(Shop::FINISH, 0, 1),
+    Step::Holds(&[false, false, true]),
+    Step::Act(Shop::FINISH, 0, 0),
+    Step::Act(Shop::DEPART, 0, 1),
+    Step::Act(Shop::CALL, 0, 1),
+];
+
+static FLAGS_OF_THREE: [Step; 9] = [
+    Step::Bits(0),
+    Step::Act(Flags::SET, 5, 1),
+    Step::Act(Flags::SET, 8, 0),
+    Step::Bits(5),
+    Step::Act(Flags::SET, 7, 1),
+    Step::Act(Flags::SET, u32::MAX, 0),
+    Step::Bits(7),
+    Step::Act(Flags::SET, 2, 1),
+    Step::Bits(2),
+];
+
+static ONE_FLAG: [Step; 3] = [
+    Step::Act(Flags::SET, 1, 1),
+    Step::Act(Flags::SET, 2, 0),
+    Step::Bits(1),
+];
+
+/// The greatest number of flags, with the greatest bits.
+static ALL_FLAGS: [Step; 4] = [
+    Step::Act(Flags::SET, 1 << 31, 1),
+    Step::Bits(1 << 31),
+    Step::Act(Flags::SET, u32::MAX, 1),
+    Step::Bits(u32::MAX),
+];
+
 #[test]
-fn one_flag_and_all(rt: HostRuntime) -> Result<(), Fail> {
-    let mut one = Flags::make(1)?;
-    let mut all = Flags::make(32)?;
-    from_here(&rt)?;
-    assert!(rt; replies_are(&mut one, &[(Flags::SET, 1, 1), (Flags::SET, 2, 0)]));
-    assert!(rt; bits_of(&one) == 1);
-    assert!(rt; replies_are(&mut all, &[(Flags::SET, 1 << 31, 1)]));
-    assert!(rt; bits_of(&all) == 1 << 31);
-    assert!(rt; replies_are(&mut all, &[(Flags::SET, u32::MAX, 1)]));
-    assert!(rt; bits_of(&all) == u32::MAX);
-    up_to_here(&rt)?;
+fn book_shop_and_flags(rt: HostRuntime) -> Result<(), Fail> {
+    assert!(rt; are_so(&rt, &mut Book::make(2)?, &BOOK_OF_TWO)?);
+    assert!(rt; are_so(&rt, &mut Shop::make(1)?, &SHOP_OF_ONE)?);
+    assert!(rt; are_so(&rt, &mut Flags::make(3)?, &FLAGS_OF_THREE)?);
+    assert!(rt; are_so(&rt, &mut Flags::make(1)?, &ONE_FLAG)?);
+    assert!(rt; are_so(&rt, &mut Flags::make(32)?, &ALL_FLAGS)?);
     Ok(())
 }
 
@@ -144,12 +153,12 @@ fn number_of<T>(made: &Result<T, ObjectFault>) -> u8 {
 #[test]
 fn limits_of_sizes(rt: HostRuntime) {
     for (size, fault) in [(0, 1), (1, 0), (64, 0), (65, 1)] {
-        assert!(rt; number_of(&Buffer::make(rt.alloc(), size)) == fault);
-        assert!(rt; number_of(&Shop::make(size)) == fault);
+        let buffer = number_of(&Buffer::make(rt.alloc(), size));
+        assert!(rt; buffer == fault && number_of(&Shop::make(size)) == fault);
     }
     for (size, fault) in [(0, 1), (1, 0), (32, 0), (33, 1)] {
-        assert!(rt; number_of(&Book::make(size)) == fault);
-        assert!(rt; number_of(&Flags::make(size)) == fault);
+        let book = number_of(&Book::make(size));
+        assert!(rt; book == fault && number_of(&Flags::make(size)) == fault);
     }
     assert!(rt; ObjectFault::Memory.number() == 2);
 }
@@ -165,11 +174,10 @@ static NAMES: [(ObjectName, &[u8], u8); 4] = [
 #[test]
 fn names_and_greatest_sizes(rt: HostRuntime) {
     for (name, text, greatest) in NAMES.iter() {
-        assert!(rt; name.text() == *text && name.as_str().as_bytes() == *text);
-        assert!(rt; ObjectName::of_text(text) == Some(*name));
-        assert!(rt; name.greatest_size() == *greatest);
+        let is_named = name.text() == *text && name.as_str().as_bytes() == *text;
+        let is_known = ObjectName::of_text(text) == Some(*name);
+        assert!(rt; is_named && is_known && name.greatest_size() == *greatest);
     }
-    assert!(rt; ObjectName::ALL.len() == NAMES.len());
-    assert!(rt; ObjectName::of_text(b"Book").is_none());
-    assert!(rt; ObjectName::of_text(b"").is_none());
+    let others = [ObjectName::of_text(b"Book"), ObjectName::of_text(b"")];
+    assert!(rt; ObjectName::ALL.len() == NAMES.len() && others == [None, None]);
 }

@@ -1,4 +1,4 @@
-use monk_history::MOST_BUDGET;
+use monk_history::{MOST_BUDGET, ReadFault};
 use monk_kinds::{KindName, Pick};
 use monk_object::{ObjectName, Op};
 use monk_world::{Command, one_play_each, read_play};
@@ -24,87 +24,123 @@ fn outcome(rt: &HostRuntime, bytes: &[u8]) -> (u8, u32) {
     }
 }
 
-#[test]
-fn lost_ticket(rt: HostRuntime) -> Result<(), Fail> {
-    let (header, budget, commands) = read_play(rt.alloc(), LOST_TICKET)?;
-    assert!(rt; header.kind() == KindName::Pb && header.object() == ObjectName::Buffer);
-    assert!(rt; (header.seats(), header.conds(), header.size(), budget) == (2, 2, 1, 8));
-    let want = [
-        (0, Command::Arrive),
-        (0, Command::Out),
-        (0, Command::Leave(Pick::Waiter)),
-        (1, Command::Arrive),
-        (0, Command::Drop),
-        (0, Command::Grant),
-        (1, Command::Look),
-        (1, Command::Out),
-    ];
-    assert!(rt; commands.as_slice() == want.as_slice());
-    Ok(())
-}
-
-#[test]
-fn each_action(rt: HostRuntime) -> Result<(), Fail> {
-    let (header, budget, commands) = read_play(rt.alloc(), EACH)?;
-    assert!(rt; header.kind() == KindName::Npis && header.object() == ObjectName::Shop);
-    assert!(rt;
-        (header.seats(), header.conds(), header.size(), budget) == (32, 8, 255, MOST_BUDGET)
-    );
-    let greatest = Op {
-        code: 255,
-        arg: u32::MAX,
-    };
-    let want = [
-        (255, Command::Arrive),
-        (0, Command::Look),
-        (1, Command::Out),
-        (2, Command::Peek),
-        (3, Command::Drop),
-        (4, Command::Grant),
-        (5, Command::Act(greatest)),
-        (6, Command::Act(Op { code: 0, arg: 0 })),
-        (7, Command::Leave(Pick::Entry)),
-        (8, Command::Wait(255, Pick::Waiter)),
-        (9, Command::Signal(0, Pick::Signaller)),
-        (10, Command::SignalLeave(255, Pick::Entry)),
-        (11, Command::Until(3, Pick::Waiter)),
-    ];
-    assert!(rt; commands.as_slice() == want.as_slice());
-    Ok(())
-}
-
 /// The actions of version 2, with the greatest numbers.
 const EACH_OF_VERSION_TWO: &[u8] =
     b"play 2 NPIR 32 8 shop 255 1048576\n0 arrive\n1 signal-all 255\n2 signal-wait 255 10 entry\n3 signal-wait 0 0 signaller\n";
 
-#[test]
-fn each_action_of_version_two(rt: HostRuntime) -> Result<(), Fail> {
-    let (header, _, commands) = read_play(rt.alloc(), EACH_OF_VERSION_TWO)?;
-    assert!(rt; header.version() == 2);
-    let want = [
-        (0, Command::Arrive),
-        (1, Command::SignalAll(255)),
-        (2, Command::SignalWait(255, 10, Pick::Entry)),
-        (3, Command::SignalWait(0, 0, Pick::Signaller)),
-    ];
-    assert!(rt; commands.as_slice() == want.as_slice());
-    Ok(())
+const GREATEST: Op = Op {
+    code: 255,
+    arg: u32::MAX,
+};
+
+const ALL: Op = Op {
+    code: 0,
+    arg: u32::MAX,
+};
+
+/// A text, what its first line says, and its commands.
+struct Play {
+    name: &'static str,
+    text: &'static [u8],
+    version: u8,
+    kind: KindName,
+    object: ObjectName,
+    /// Of seats, of conditions, the size and the budget.
+    numbers: (u8, u8, u8, u32),
+    commands: &'static [(u8, Command)],
+}
+
+static PLAYS: [Play; 4] = [
+    Play {
+        name: "lost_ticket",
+        text: LOST_TICKET,
+        version: 1,
+        kind: KindName::Pb,
+        object: ObjectName::Buffer,
+        numbers: (2, 2, 1, 8),
+        commands: &[
+            (0, Command::Arrive),
+            (0, Command::Out),
+            (0, Command::Leave(Pick::Waiter)),
+            (1, Command::Arrive),
+            (0, Command::Drop),
+            (0, Command::Grant),
+            (1, Command::Look),
+            (1, Command::Out),
+        ],
+    },
+    Play {
+        name: "each action",
+        text: EACH,
+        version: 1,
+        kind: KindName::Npis,
+        object: ObjectName::Shop,
+        numbers: (32, 8, 255, MOST_BUDGET),
+        commands: &[
+            (255, Command::Arrive),
+            (0, Command::Look),
+            (1, Command::Out),
+            (2, Command::Peek),
+            (3, Command::Drop),
+            (4, Command::Grant),
+            (5, Command::Act(GREATEST)),
+            (6, Command::Act(Op { code: 0, arg: 0 })),
+            (7, Command::Leave(Pick::Entry)),
+            (8, Command::Wait(255, Pick::Waiter)),
+            (9, Command::Signal(0, Pick::Signaller)),
+            (10, Command::SignalLeave(255, Pick::Entry)),
+            (11, Command::Until(3, Pick::Waiter)),
+        ],
+    },
+    Play {
+        name: "each action of version 2",
+        text: EACH_OF_VERSION_TWO,
+        version: 2,
+        kind: KindName::Npir,
+        object: ObjectName::Shop,
+        numbers: (32, 8, 255, MOST_BUDGET),
+        commands: &[
+            (0, Command::Arrive),
+            (1, Command::SignalAll(255)),
+            (2, Command::SignalWait(255, 10, Pick::Entry)),
+            (3, Command::SignalWait(0, 0, Pick::Signaller)),
+        ],
+    },
+    Play {
+        name: "each action of version 3",
+        text: EACH_OF_VERSION_THREE,
+        version: 3,
+        kind: KindName::Pis,
+        object: ObjectName::Flags,
+        numbers: (2, 0, 32, 8),
+        commands: &[
+            (0, Command::Act(ALL)),
+            (0, Command::Until(31, Pick::Entry)),
+            (0, Command::SignalAll(0)),
+        ],
+    },
+];
+
+/// Whether that is read.
+fn is_read(rt: &HostRuntime, play: &Play) -> Result<bool, ReadFault> {
+    let (header, budget, commands) = read_play(rt.alloc(), play.text)?;
+    let numbers = (header.seats(), header.conds(), header.size(), budget);
+    Ok(
+        header.version() == play.version
+            && header.kind() == play.kind
+            && header.object() == play.object
+            && numbers == play.numbers
+            && commands.as_slice() == play.commands,
+    )
 }
 
 #[test]
-fn each_action_of_version_three(rt: HostRuntime) -> Result<(), Fail> {
-    let (header, _, commands) = read_play(rt.alloc(), EACH_OF_VERSION_THREE)?;
-    assert!(rt; header.version() == 3 && header.object() == ObjectName::Flags);
-    let all = Op {
-        code: 0,
-        arg: u32::MAX,
-    };
-    let want = [
-        (0, Command::Act(all)),
-        (0, Command::Until(31, Pick::Entry)),
-        (0, Command::SignalAll(0)),
-    ];
-    assert!(rt; commands.as_slice() == want.as_slice());
+fn plays_are_read(rt: HostRuntime) -> Result<(), Fail> {
+    for play in PLAYS.iter() {
+        if !is_read(&rt, play)? {
+            return Err(play.name)?;
+        }
+    }
     Ok(())
 }
 
@@ -128,8 +164,9 @@ static ACTIONS_OF_VERSION_TWO: [(&[u8], (u8, u32), (u8, u32)); 6] = [
 #[test]
 fn actions_in_both_versions(rt: HostRuntime) -> Result<(), Fail> {
     for (line, old, new) in ACTIONS_OF_VERSION_TWO.iter() {
-        assert!(rt; outcome_of_both(&rt, b"play 1 PIR 2 2 buffer 1 8\n", line)? == *old);
-        assert!(rt; outcome_of_both(&rt, b"play 2 PIR 2 2 buffer 1 8\n", line)? == *new);
+        let first = outcome_of_both(&rt, b"play 1 PIR 2 2 buffer 1 8\n", line)?;
+        let second = outcome_of_both(&rt, b"play 2 PIR 2 2 buffer 1 8\n", line)?;
+        assert!(rt; first == *old && second == *new);
     }
     Ok(())
 }

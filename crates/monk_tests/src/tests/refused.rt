@@ -20,18 +20,11 @@ fn begins(rt: &HostRuntime, call: &str) -> Result<(), Fail> {
 fn each_call(rt: HostRuntime) -> Result<(), Fail> {
     assert!(rt; buffers::buffer(&rt)?);
     assert!(rt; worlds::world(&rt)?);
-    assert!(rt; texts::history(&rt)?);
-    assert!(rt; texts::fault(&rt)?);
-    assert!(rt; plays::play(&rt)?);
-    assert!(rt; plays::faulty_play(&rt)?);
+    assert!(rt; texts::are_read(&rt)?);
+    assert!(rt; plays::are_read(&rt)?);
     assert!(rt; logs::log(&rt)?);
-    assert!(rt; logs::judged(&rt)?);
-    assert!(rt; logs::judged_in_any_order(&rt)?);
-    assert!(rt; logs::fitted(&rt)?);
-    assert!(rt; logs::counted(&rt)?);
-    assert!(rt; logs::completed(&rt)?);
-    assert!(rt; audits::signals(&rt)?);
-    assert!(rt; audits::returns(&rt)?);
-    assert!(rt; audits::untils(&rt)?);
+    assert!(rt; logs::are_judged(&rt)?);
+    assert!(rt; logs::are_counted(&rt)?);
+    assert!(rt; audits::are_audited(&rt)?);
     Ok(())
 }

@@ -1,11 +1,10 @@
 use super::tight::Tight;
 use monk_history::lines::{Flaw, LineWords};
 use monk_history::{
-    Device, Header, one_history_each, read, read_limited, reads_back, writable, write,
+    Device, Header, ReadFault, one_history_each, read, read_limited, reads_back, writable, write,
 };
 use monk_kinds::KindName;
 use monk_object::ObjectName;
-use std::io;
 use std::io::{Read, Write};
 use std::test::Fail;
 
@@ -54,12 +53,19 @@ fn repeated(rt: &HostRuntime, text: &[u8], times: usize) -> Result<Vec<u8>, Fail
     Ok(bytes)
 }
 
+/// Texts, and what is told of them.
+static WHOLE_TEXTS: [(&[u8], u8, u32); 4] = [
+    (RUN, 0, 8),
+    (b"monk 1 PB 2 2 buffer 1\n", 0, 0),
+    (b"", 1, 1),
+    (b"monk 1 PB 33 0 buffer 1\n", 1, 1),
+];
+
 #[test]
 fn whole_texts(rt: HostRuntime) {
-    assert!(rt; outcome(&rt, RUN) == (0, 8));
-    assert!(rt; outcome(&rt, b"monk 1 PB 2 2 buffer 1\n") == (0, 0));
-    assert!(rt; outcome(&rt, b"") == (1, 1));
-    assert!(rt; outcome(&rt, b"monk 1 PB 33 0 buffer 1\n") == (1, 1));
+    for (text, number, line) in WHOLE_TEXTS.iter() {
+        assert!(rt; outcome(&rt, text) == (*number, *line));
+    }
 }
 
 #[test]
@@ -123,31 +129,51 @@ fn limit_of_lines(rt: HostRuntime) {
     assert!(rt; told == (5, 5));
 }
 
+/// Numbers of which there is no header: of seats, of conditions, and the size.
+static NO_HEADERS: [(u8, u8, u8); 4] = [(0, 0, 1), (33, 0, 1), (1, 9, 1), (1, 0, 0)];
+
 #[test]
 fn headers(rt: HostRuntime) -> Result<(), Fail> {
     let Some(header) = Header::new(KindName::Npir, 32, 8, ObjectName::Shop, 255) else {
         return Err(Fail::new("no header"));
     };
-    assert!(rt; header.kind() == KindName::Npir);
-    assert!(rt; header.object() == ObjectName::Shop);
-    assert!(rt; (header.seats(), header.conds(), header.size()) == (32, 8, 255));
-    for (seats, conds, size) in [(0, 0, 1), (33, 0, 1), (1, 9, 1), (1, 0, 0)] {
-        assert!(rt; Header::new(KindName::Pb, seats, conds, ObjectName::Buffer, size).is_none());
+    let numbers = (header.seats(), header.conds(), header.size());
+    let is_of = header.kind() == KindName::Npir && header.object() == ObjectName::Shop;
+    assert!(rt; is_of && numbers == (32, 8, 255));
+    for (seats, conds, size) in NO_HEADERS.iter() {
+        let none = Header::new(KindName::Pb, *seats, *conds, ObjectName::Buffer, *size);
+        assert!(rt; none.is_none());
     }
     Ok(())
 }
 
+/// A text, its version, the one to which it is upgraded, and whether its events can be written under version 1.
+type Versioned = (&'static [u8], u8, u8, bool);
+
+static VERSIONS: [Versioned; 3] = [
+    (RUN, 1, 2, true),
+    (EACH_OF_VERSION_TWO, 2, 2, false),
+    (EACH_OF_VERSION_THREE, 3, 3, false),
+];
+
+/// Whether the text is of those versions, and its events can be written under them.
+fn is_of_versions(rt: &HostRuntime, old: &Header, row: &Versioned) -> Result<bool, ReadFault> {
+    let (text, version, upgraded, is_old) = *row;
+    let (header, events) = read(rt.alloc(), text)?;
+    Ok(
+        (header.version(), header.upgraded().version()) == (version, upgraded)
+            && writable(&header, &events)
+            && writable(&header.upgraded(), &events)
+            && writable(old, &events) == is_old,
+    )
+}
+
 #[test]
 fn versions(rt: HostRuntime) -> Result<(), Fail> {
-    let (old, events) = read(rt.alloc(), RUN)?;
-    assert!(rt; (old.version(), old.upgraded().version()) == (1, 2));
-    assert!(rt; writable(&old, &events) && writable(&old.upgraded(), &events));
-    let (new, events) = read(rt.alloc(), EACH_OF_VERSION_TWO)?;
-    assert!(rt; (new.version(), new.upgraded().version()) == (2, 2));
-    assert!(rt; writable(&new, &events) && !writable(&old, &events));
-    let (named, events) = read(rt.alloc(), EACH_OF_VERSION_THREE)?;
-    assert!(rt; (named.version(), named.upgraded().version()) == (3, 3));
-    assert!(rt; writable(&named, &events) && !writable(&old, &events));
+    let (old, _) = read(rt.alloc(), RUN)?;
+    for row in VERSIONS.iter() {
+        assert!(rt; is_of_versions(&rt, &old, row)?);
+    }
     Ok(())
 }
 
@@ -160,14 +186,11 @@ static FIRST_VERSIONS: [(ObjectName, u8); 4] = [
 ];
 
 #[test]
-fn first_versions(rt: HostRuntime) -> Result<(), Fail> {
+fn first_versions(rt: HostRuntime) {
     for (object, version) in FIRST_VERSIONS.iter() {
-        let Some(header) = Header::new(KindName::Pis, 1, 0, *object, 1) else {
-            return Err(Fail::new("no header"));
-        };
-        assert!(rt; header.version() == *version);
+        let made = Header::new(KindName::Pis, 1, 0, *object, 1);
+        assert!(rt; matches!(made, Some(header) if header.version() == *version));
     }
-    Ok(())
 }
 
 /// Headers of each object, and what is told of each in the three versions.
@@ -181,9 +204,9 @@ static OBJECTS_OF_VERSIONS: [(&[u8], [(u8, u32); 3]); 4] = [
 #[test]
 fn objects_of_versions(rt: HostRuntime) -> Result<(), Fail> {
     for (header, told) in OBJECTS_OF_VERSIONS.iter() {
-        assert!(rt; outcome_of_both(&rt, b"monk 1", header)? == told[0]);
-        assert!(rt; outcome_of_both(&rt, b"monk 2", header)? == told[1]);
-        assert!(rt; outcome_of_both(&rt, b"monk 3", header)? == told[2]);
+        for (first, told) in [b"monk 1", b"monk 2", b"monk 3"].iter().zip(told.iter()) {
+            assert!(rt; outcome_of_both(&rt, *first, header)? == *told);
+        }
     }
     Ok(())
 }
@@ -203,9 +226,10 @@ static WORDS_OF_VERSION_TWO: [(&[u8], (u8, u32), (u8, u32)); 7] = [
 #[test]
 fn words_of_version_two(rt: HostRuntime) -> Result<(), Fail> {
     for (line, old, new) in WORDS_OF_VERSION_TWO.iter() {
-        assert!(rt; outcome_of_both(&rt, b"monk 1 PIR 2 2 buffer 1\n", line)? == *old);
-        assert!(rt; outcome_of_both(&rt, b"monk 2 PIR 2 2 buffer 1\n", line)? == *new);
-        assert!(rt; outcome_of_both(&rt, b"monk 3 PIR 2 2 buffer 1\n", line)? == *new);
+        let first = outcome_of_both(&rt, b"monk 1 PIR 2 2 buffer 1\n", line)?;
+        let second = outcome_of_both(&rt, b"monk 2 PIR 2 2 buffer 1\n", line)?;
+        let third = outcome_of_both(&rt, b"monk 3 PIR 2 2 buffer 1\n", line)?;
+        assert!(rt; first == *old && second == *new && third == *new);
     }
     Ok(())
 }
@@ -238,10 +262,10 @@ fn is_written_again(rt: &HostRuntime, bytes: &[u8], step: usize) -> Result<bool,
 #[test]
 fn written_and_read(rt: HostRuntime) -> Result<(), Fail> {
     for text in [RUN, EACH, EACH_OF_VERSION_TWO, EACH_OF_VERSION_THREE] {
-        assert!(rt; is_written_again(&rt, text, 1)?);
-        let long = repeated(&rt, text, 90)?;
-        assert!(rt; is_written_again(&rt, &long, 4095)?);
-        assert!(rt; is_written_again(&rt, &long, 4096)?);
+        for (times, step) in [(1, 1), (90, 4095), (90, 4096)] {
+            let long = repeated(&rt, text, times)?;
+            assert!(rt; is_written_again(&rt, &long, step)?);
+        }
     }
     one_history_each();
     reads_back();
@@ -291,44 +315,48 @@ fn writers_fail_in_turn(rt: HostRuntime) -> Result<(), Fail> {
 }
 
 /// Whether a reader's bytes come through.
-fn gives_its_bytes(bytes: &[u8], front: [u8; 4]) -> io::Result<bool> {
+fn gives_its_bytes(bytes: &[u8], front: [u8; 4]) -> bool {
     let mut reader = Device::new(bytes);
     let mut piece = [0u8; 4];
-    let count = reader.read(&mut piece)?;
-    Ok(count == 4 && piece == front && !reader.failed())
+    matches!(reader.read(&mut piece), Ok(4)) && piece == front && !reader.failed()
 }
 
 /// Whether a writer that takes three bytes at a time gets them, until its flush fails.
-fn takes_three<W: Write>(writer: &mut Device<W>) -> io::Result<bool> {
-    let count = writer.write(b"monk")?;
-    writer.write_all(b"onk")?;
-    writer.flush()?;
-    let nothing = writer.write(b"")?;
-    let works = !writer.failed();
-    Ok(count == 3 && nothing == 0 && works && writer.flush().is_err() && writer.failed())
+fn takes_three<W: Write>(writer: &mut Device<W>) -> bool {
+    matches!(writer.write(b"monk"), Ok(3))
+        && writer.write_all(b"onk").is_ok()
+        && writer.flush().is_ok()
+        && matches!(writer.write(b""), Ok(0))
+        && !writer.failed()
+        && writer.flush().is_err()
+        && writer.failed()
 }
 
 #[test]
-fn devices(rt: HostRuntime) -> Result<(), Fail> {
-    assert!(rt; gives_its_bytes(RUN, *b"monk")?);
+fn devices(rt: HostRuntime) {
     let mut writer = Device::new(Tight {
         taken: Vec::new(rt.alloc()),
         step: 3,
         writes_left: 4,
         refuses: true,
     });
-    assert!(rt; takes_three(&mut writer)?);
-    Ok(())
+    let takes = takes_three(&mut writer);
+    assert!(rt; takes && gives_its_bytes(RUN, *b"monk"));
+}
+
+/// Whether the words of a line are read one after the other, a number that is no word left out.
+fn are_read(line: &[u8]) -> bool {
+    let mut words = LineWords::of(line);
+    words.literal(b"play").is_ok()
+        && words.byte() == Ok(255)
+        && words.number(1 << 20) == Ok(65536)
+        && words.byte() == Err(Flaw::Number)
+        && words.next() == Some(b"x".as_slice())
+        && words.end().is_ok()
+        && words.byte() == Err(Flaw::Word)
 }
 
 #[test]
 fn words_of_a_line(rt: HostRuntime) {
-    let mut words = LineWords::of(b"play 255 65536  x");
-    assert!(rt; words.literal(b"play").is_ok());
-    assert!(rt; words.byte() == Ok(255));
-    assert!(rt; words.number(1 << 20) == Ok(65536));
-    assert!(rt; words.byte() == Err(Flaw::Number));
-    assert!(rt; words.next() == Some(b"x".as_slice()));
-    assert!(rt; words.end().is_ok());
-    assert!(rt; words.byte() == Err(Flaw::Word));
+    assert!(rt; are_read(b"play 255 65536  x"));
 }

@@ -1,12 +1,30 @@
 //! Worked plays, each answer compared.
-use super::marks::{from_here, up_to_here};
+use super::marks::{from_here, up_to_here, well_up_to_here};
 use monk_history::{Event, From3, Next, Via};
-use monk_kinds::{Kind, Pb, Pick, Pir, Pis, Pnb};
+use monk_kinds::{Kind, KindName, Pb, Pick, Pir, Pis, Pnb};
 use monk_object::{Buffer, Op};
 use monk_world::{Answer, Command, World};
 use std::test::Fail;
 
 const LEAVE: Command = Command::Leave(Pick::Waiter);
+
+const WAIT: Command = Command::Wait(0, Pick::Waiter);
+
+const UNTIL: Command = Command::Until(0, Pick::Waiter);
+
+const NO_SUCH_UNTIL: Command = Command::Until(2, Pick::Waiter);
+
+const UNTIL_AN_ITEM: Command = Command::Until(1, Pick::Waiter);
+
+const PUT: Command = Command::Act(Op { code: 0, arg: 5 });
+
+const SIGNAL: Command = Command::Signal(0, Pick::Waiter);
+
+const SIGNAL_WAIT: Command = Command::SignalWait(0, 1, Pick::Waiter);
+
+const NO_SUCH_WAIT: Command = Command::SignalWait(0, 2, Pick::Waiter);
+
+const NO_SUCH_SIGNAL: Command = Command::SignalWait(2, 0, Pick::Waiter);
 
 /// How many seats and conditions there are, and how many events each seat has.
 #[derive(Clone, Copy)]
@@ -14,6 +32,15 @@ struct Size {
     seats: u8,
     conds: u8,
     budget: u32,
+}
+
+/// Steps from the start over a buffer of size 1, each with its answer, and the history to which they lead.
+struct Play {
+    name: &'static str,
+    kind: KindName,
+    size: Size,
+    steps: &'static [(u8, Command, Answer)],
+    history: &'static [Event],
 }
 
 const TWO_SEATS: Size = Size {
@@ -27,6 +54,228 @@ const TWO_CONDITIONS: Size = Size {
     conds: 2,
     budget: 8,
 };
+
+const ONE_SEAT: Size = Size {
+    seats: 1,
+    conds: 1,
+    budget: 2,
+};
+
+const ONE_CONDITION: Size = Size {
+    seats: 2,
+    conds: 1,
+    budget: 8,
+};
+
+static PLAYS: [Play; 8] = [
+    Play {
+        name: "same_place_twice",
+        kind: KindName::Pb,
+        size: TWO_SEATS,
+        steps: &[
+            (0, Command::Arrive, Answer::Arrived(0, 0)),
+            (0, Command::Out, Answer::Now),
+            (1, Command::Arrive, Answer::Arrived(1, 1)),
+            (0, LEAVE, Answer::Chose(Next::Entry)),
+            (0, Command::Drop, Answer::Found(2)),
+            (0, Command::Grant, Answer::GrantedTicket(1)),
+            (0, Command::Arrive, Answer::Arrived(2, 1)),
+            (1, Command::Look, Answer::Looked(true)),
+            (1, Command::Out, Answer::Now),
+            (1, LEAVE, Answer::Chose(Next::Entry)),
+            (1, Command::Drop, Answer::Found(2)),
+            (1, Command::Grant, Answer::GrantedTicket(2)),
+            (1, Command::Arrive, Answer::Arrived(3, 1)),
+            (1, Command::Look, Answer::Looked(false)),
+            (1, Command::Out, Answer::NotNow),
+        ],
+        history: &[
+            Event::Enter(0, Via::Free),
+            Event::Leave(0, Next::Entry),
+            Event::Enter(1, Via::Handed),
+            Event::Leave(1, Next::Entry),
+        ],
+    },
+    // One seat with a budget of 2: each refusal stands in front of the next, where that would apply too.
+    Play {
+        name: "refusals_change_nothing",
+        kind: KindName::Pb,
+        size: ONE_SEAT,
+        steps: &[
+            // Out of range, and a call that the kind doesn't have.
+            (1, UNTIL, Answer::Range),
+            (0, NO_SUCH_UNTIL, Answer::Range),
+            // A call that the kind doesn't have, of a seat that stands elsewhere.
+            (0, UNTIL, Answer::NoCall),
+            (0, Command::Drop, Answer::NotNow),
+            (0, Command::Arrive, Answer::Arrived(0, 0)),
+            (0, Command::Arrive, Answer::NotNow),
+            (1, Command::Arrive, Answer::Range),
+            (0, Command::Out, Answer::Now),
+            (0, PUT, Answer::Tired),
+            (0, WAIT, Answer::Tired),
+            (0, UNTIL, Answer::NoCall),
+            (0, Command::Look, Answer::NotNow),
+            (0, LEAVE, Answer::Chose(Next::Entry)),
+            // A seat that stands elsewhere, and has nothing left.
+            (0, PUT, Answer::NotNow),
+            (0, WAIT, Answer::NotNow),
+            (0, Command::Arrive, Answer::NotNow),
+            (0, Command::Drop, Answer::Found(1)),
+            (0, Command::Arrive, Answer::Tired),
+            (0, Command::Drop, Answer::NotNow),
+        ],
+        history: &[Event::Enter(0, Via::Free), Event::Leave(0, Next::Entry)],
+    },
+    Play {
+        name: "broadcast_wakes_a_seat",
+        kind: KindName::Pnb,
+        size: ONE_CONDITION,
+        steps: &[
+            (0, Command::Arrive, Answer::Arrived(0, 0)),
+            (0, Command::Out, Answer::Now),
+            (0, WAIT, Answer::Chose(Next::Entry)),
+            (0, Command::Drop, Answer::Found(1)),
+            (1, Command::Arrive, Answer::Arrived(1, 0)),
+            (1, Command::Out, Answer::Now),
+            (1, Command::SignalAll(0), Answer::Woke(1)),
+            (1, LEAVE, Answer::Chose(Next::Waiter(0))),
+            (1, Command::Drop, Answer::NotNow),
+            (1, Command::Grant, Answer::GrantedSeat(0)),
+            (0, Command::Look, Answer::Looked(true)),
+            (0, Command::Out, Answer::Now),
+            (0, LEAVE, Answer::Chose(Next::Entry)),
+            (0, Command::Drop, Answer::Found(1)),
+        ],
+        history: &[
+            Event::Enter(0, Via::Free),
+            Event::Wait(0, 0, Next::Entry),
+            Event::Enter(1, Via::Free),
+            Event::SignalAll(1, 0),
+            Event::Leave(1, Next::Waiter(0)),
+            Event::Resume(0, From3::Waiter),
+            Event::Leave(0, Next::Entry),
+        ],
+    },
+    // A wait until an item is there, a put, and a look at what has come of it. The waiter comes in once the putter
+    // leaves.
+    Play {
+        name: "predicate_is_awaited",
+        kind: KindName::Pis,
+        size: TWO_SEATS,
+        steps: &[
+            (0, Command::Arrive, Answer::Arrived(0, 0)),
+            (0, Command::Out, Answer::Now),
+            (0, UNTIL_AN_ITEM, Answer::Chose(Next::Entry)),
+            (0, Command::Drop, Answer::Found(1)),
+            (1, Command::Arrive, Answer::Arrived(1, 0)),
+            (1, Command::Out, Answer::Now),
+            (1, Command::Peek, Answer::Found(1)),
+            (1, PUT, Answer::Reply(1)),
+            (1, UNTIL_AN_ITEM, Answer::Chose(Next::Stay)),
+            (1, LEAVE, Answer::Chose(Next::Until(0))),
+            (1, Command::Grant, Answer::GrantedSeat(0)),
+            (0, Command::Look, Answer::Looked(true)),
+            (0, Command::Out, Answer::Now),
+        ],
+        history: &[
+            Event::Enter(0, Via::Free),
+            Event::Until(0, 1, Next::Entry),
+            Event::Enter(1, Via::Free),
+            Event::Act(1, Op { code: 0, arg: 5 }, 1),
+            Event::Until(1, 1, Next::Stay),
+            Event::Leave(1, Next::Until(0)),
+            Event::Resume(0, From3::Until),
+        ],
+    },
+    Play {
+        name: "signal_hands_over",
+        kind: KindName::Pb,
+        size: ONE_CONDITION,
+        steps: &[
+            (0, Command::Arrive, Answer::Arrived(0, 0)),
+            (0, Command::Out, Answer::Now),
+            (0, WAIT, Answer::Chose(Next::Entry)),
+            (0, Command::Drop, Answer::Found(1)),
+            (1, Command::Arrive, Answer::Arrived(1, 0)),
+            (1, Command::Out, Answer::Now),
+            (1, SIGNAL, Answer::Chose(Next::Waiter(0))),
+            (1, Command::Grant, Answer::GrantedSeat(0)),
+            (0, Command::Look, Answer::Looked(true)),
+            (0, Command::Out, Answer::Now),
+            (0, LEAVE, Answer::Chose(Next::Signaller(1))),
+            (0, Command::Grant, Answer::GrantedSeat(1)),
+        ],
+        history: &[
+            Event::Enter(0, Via::Free),
+            Event::Wait(0, 0, Next::Entry),
+            Event::Enter(1, Via::Free),
+            Event::Signal(1, 0, Next::Waiter(0)),
+            Event::Resume(0, From3::Waiter),
+            Event::Leave(0, Next::Signaller(1)),
+        ],
+    },
+    Play {
+        name: "signal_wait_hands_over",
+        kind: KindName::Pir,
+        size: TWO_CONDITIONS,
+        steps: &[
+            (0, Command::Arrive, Answer::Arrived(0, 0)),
+            (0, SIGNAL_WAIT, Answer::NotNow),
+            (0, NO_SUCH_WAIT, Answer::Range),
+            (0, NO_SUCH_SIGNAL, Answer::Range),
+            (0, Command::Out, Answer::Now),
+            (0, WAIT, Answer::Chose(Next::Entry)),
+            (0, Command::Drop, Answer::Found(1)),
+            (1, Command::Arrive, Answer::Arrived(1, 0)),
+            (1, Command::Out, Answer::Now),
+            (1, Command::SignalAll(0), Answer::NoCall),
+            (1, SIGNAL_WAIT, Answer::Chose(Next::Waiter(0))),
+        ],
+        history: &[
+            Event::Enter(0, Via::Free),
+            Event::Wait(0, 0, Next::Entry),
+            Event::Enter(1, Via::Free),
+            Event::SignalWait(1, 0, 1, Next::Waiter(0)),
+        ],
+    },
+    // A signal that leaves needs two events, a signal followed by a wait three.
+    Play {
+        name: "later calls are tired",
+        kind: KindName::Pir,
+        size: Size {
+            budget: 3,
+            ..ONE_SEAT
+        },
+        steps: &[
+            (0, Command::Arrive, Answer::Arrived(0, 0)),
+            (0, Command::Out, Answer::Now),
+            (0, Command::SignalWait(0, 0, Pick::Waiter), Answer::Tired),
+            (
+                0,
+                Command::SignalLeave(0, Pick::Waiter),
+                Answer::Chose(Next::Entry),
+            ),
+        ],
+        history: &[
+            Event::Enter(0, Via::Free),
+            Event::SignalLeave(0, 0, Next::Entry),
+        ],
+    },
+    // A signal to all needs two events.
+    Play {
+        name: "a broadcast is tired",
+        kind: KindName::Pnb,
+        size: ONE_SEAT,
+        steps: &[
+            (0, Command::Arrive, Answer::Arrived(0, 0)),
+            (0, Command::Out, Answer::Now),
+            (0, Command::SignalAll(0), Answer::Tired),
+            (0, Command::SignalWait(0, 0, Pick::Waiter), Answer::NoCall),
+        ],
+        history: &[Event::Enter(0, Via::Free)],
+    },
+];
 
 /// Whether these steps, from the start over a buffer of size 1, have these answers and lead to this history.
 fn plays_as<K: Kind>(
@@ -54,14 +303,26 @@ fn plays_as<K: Kind>(
     Ok(is_history)
 }
 
-/// The same under the kind PB.
-fn plays(
-    rt: &HostRuntime,
-    size: Size,
-    steps: &[(u8, Command, Answer)],
-    history: &[Event],
-) -> Result<bool, Fail> {
-    plays_as::<Pb>(rt, size, steps, history)
+/// Whether the play has its answers and leads to its history.
+fn is_played(rt: &HostRuntime, play: &Play) -> Result<bool, Fail> {
+    let (size, steps, history) = (play.size, play.steps, play.history);
+    match play.kind {
+        KindName::Pb => plays_as::<Pb>(rt, size, steps, history),
+        KindName::Pnb => plays_as::<Pnb>(rt, size, steps, history),
+        KindName::Pir => plays_as::<Pir>(rt, size, steps, history),
+        KindName::Pis => plays_as::<Pis>(rt, size, steps, history),
+        _ => Err("no play is of this kind")?,
+    }
+}
+
+#[test]
+fn plays_are_answered(rt: HostRuntime) -> Result<(), Fail> {
+    for play in PLAYS.iter() {
+        if !is_played(&rt, play)? {
+            return Err(play.name)?;
+        }
+    }
+    Ok(())
 }
 
 const ARRIVES_AT_THE_DROP: [(u8, Command, Answer); 8] = [
@@ -82,84 +343,7 @@ fn arrives_at_the_drop(rt: HostRuntime) -> Result<(), Fail> {
         Event::Leave(0, Next::Entry),
         Event::Enter(1, Via::Handed),
     ];
-    assert!(rt; plays(&rt, TWO_CONDITIONS, &ARRIVES_AT_THE_DROP, &history)?);
-    Ok(())
-}
-
-const SAME_PLACE_TWICE: [(u8, Command, Answer); 15] = [
-    (0, Command::Arrive, Answer::Arrived(0, 0)),
-    (0, Command::Out, Answer::Now),
-    (1, Command::Arrive, Answer::Arrived(1, 1)),
-    (0, LEAVE, Answer::Chose(Next::Entry)),
-    (0, Command::Drop, Answer::Found(2)),
-    (0, Command::Grant, Answer::GrantedTicket(1)),
-    (0, Command::Arrive, Answer::Arrived(2, 1)),
-    (1, Command::Look, Answer::Looked(true)),
-    (1, Command::Out, Answer::Now),
-    (1, LEAVE, Answer::Chose(Next::Entry)),
-    (1, Command::Drop, Answer::Found(2)),
-    (1, Command::Grant, Answer::GrantedTicket(2)),
-    (1, Command::Arrive, Answer::Arrived(3, 1)),
-    (1, Command::Look, Answer::Looked(false)),
-    (1, Command::Out, Answer::NotNow),
-];
-
-#[test]
-fn same_place_twice(rt: HostRuntime) -> Result<(), Fail> {
-    let history = [
-        Event::Enter(0, Via::Free),
-        Event::Leave(0, Next::Entry),
-        Event::Enter(1, Via::Handed),
-        Event::Leave(1, Next::Entry),
-    ];
-    assert!(rt; plays(&rt, TWO_SEATS, &SAME_PLACE_TWICE, &history)?);
-    Ok(())
-}
-
-const WAIT: Command = Command::Wait(0, Pick::Waiter);
-
-const UNTIL: Command = Command::Until(0, Pick::Waiter);
-
-const NO_SUCH_UNTIL: Command = Command::Until(2, Pick::Waiter);
-
-const PUT: Command = Command::Act(Op { code: 0, arg: 5 });
-
-/// One seat with a budget of 2: each refusal stands in front of the next, where that would apply too.
-const REFUSALS: [(u8, Command, Answer); 19] = [
-    // Out of range, and a call that the kind doesn't have.
-    (1, UNTIL, Answer::Range),
-    (0, NO_SUCH_UNTIL, Answer::Range),
-    // A call that the kind doesn't have, of a seat that stands elsewhere.
-    (0, UNTIL, Answer::NoCall),
-    (0, Command::Drop, Answer::NotNow),
-    (0, Command::Arrive, Answer::Arrived(0, 0)),
-    (0, Command::Arrive, Answer::NotNow),
-    (1, Command::Arrive, Answer::Range),
-    (0, Command::Out, Answer::Now),
-    (0, PUT, Answer::Tired),
-    (0, WAIT, Answer::Tired),
-    (0, UNTIL, Answer::NoCall),
-    (0, Command::Look, Answer::NotNow),
-    (0, LEAVE, Answer::Chose(Next::Entry)),
-    // A seat that stands elsewhere, and has nothing left.
-    (0, PUT, Answer::NotNow),
-    (0, WAIT, Answer::NotNow),
-    (0, Command::Arrive, Answer::NotNow),
-    (0, Command::Drop, Answer::Found(1)),
-    (0, Command::Arrive, Answer::Tired),
-    (0, Command::Drop, Answer::NotNow),
-];
-
-const ONE_SEAT: Size = Size {
-    seats: 1,
-    conds: 1,
-    budget: 2,
-};
-
-#[test]
-fn refusals_change_nothing(rt: HostRuntime) -> Result<(), Fail> {
-    let history = [Event::Enter(0, Via::Free), Event::Leave(0, Next::Entry)];
-    assert!(rt; plays(&rt, ONE_SEAT, &REFUSALS, &history)?);
+    assert!(rt; plays_as::<Pb>(&rt, TWO_CONDITIONS, &ARRIVES_AT_THE_DROP, &history)?);
     Ok(())
 }
 
@@ -178,7 +362,7 @@ fn comes_once(rt: &HostRuntime, conds: u8, wait: Answer) -> Result<bool, Fail> {
         (0, UNTIL, Answer::NoCall),
     ];
     let history = [Event::Enter(0, Via::Free), Event::Leave(0, Next::Entry)];
-    plays(rt, Size { conds, ..ONE_SEAT }, &steps, &history)
+    plays_as::<Pb>(rt, Size { conds, ..ONE_SEAT }, &steps, &history)
 }
 
 #[test]
@@ -208,185 +392,7 @@ fn runs_go_on_after_refusals(rt: HostRuntime) -> Result<(), Fail> {
     let mut world = World::<Pb, Buffer>::make(rt.alloc(), buffer, 1, 1, 2)?;
     from_here(&rt)?;
     world.run(&WITH_REFUSALS);
-    up_to_here(&rt)?;
     let history = [Event::Enter(0, Via::Free), Event::Leave(0, Next::Entry)];
-    assert!(rt; world.history() == history.as_slice());
-    Ok(())
-}
-
-const BROADCAST: [(u8, Command, Answer); 14] = [
-    (0, Command::Arrive, Answer::Arrived(0, 0)),
-    (0, Command::Out, Answer::Now),
-    (0, WAIT, Answer::Chose(Next::Entry)),
-    (0, Command::Drop, Answer::Found(1)),
-    (1, Command::Arrive, Answer::Arrived(1, 0)),
-    (1, Command::Out, Answer::Now),
-    (1, Command::SignalAll(0), Answer::Woke(1)),
-    (1, LEAVE, Answer::Chose(Next::Waiter(0))),
-    (1, Command::Drop, Answer::NotNow),
-    (1, Command::Grant, Answer::GrantedSeat(0)),
-    (0, Command::Look, Answer::Looked(true)),
-    (0, Command::Out, Answer::Now),
-    (0, LEAVE, Answer::Chose(Next::Entry)),
-    (0, Command::Drop, Answer::Found(1)),
-];
-
-const ONE_CONDITION: Size = Size {
-    seats: 2,
-    conds: 1,
-    budget: 8,
-};
-
-#[test]
-fn broadcast_wakes_a_seat(rt: HostRuntime) -> Result<(), Fail> {
-    let history = [
-        Event::Enter(0, Via::Free),
-        Event::Wait(0, 0, Next::Entry),
-        Event::Enter(1, Via::Free),
-        Event::SignalAll(1, 0),
-        Event::Leave(1, Next::Waiter(0)),
-        Event::Resume(0, From3::Waiter),
-        Event::Leave(0, Next::Entry),
-    ];
-    assert!(rt; plays_as::<Pnb>(&rt, ONE_CONDITION, &BROADCAST, &history)?);
-    Ok(())
-}
-
-const UNTIL_AN_ITEM: Command = Command::Until(1, Pick::Waiter);
-
-/// A wait until an item is there, a put, and a look at what has come of it; the waiter comes in once the putter leaves.
-const AUTOMATIC: [(u8, Command, Answer); 13] = [
-    (0, Command::Arrive, Answer::Arrived(0, 0)),
-    (0, Command::Out, Answer::Now),
-    (0, UNTIL_AN_ITEM, Answer::Chose(Next::Entry)),
-    (0, Command::Drop, Answer::Found(1)),
-    (1, Command::Arrive, Answer::Arrived(1, 0)),
-    (1, Command::Out, Answer::Now),
-    (1, Command::Peek, Answer::Found(1)),
-    (1, PUT, Answer::Reply(1)),
-    (1, UNTIL_AN_ITEM, Answer::Chose(Next::Stay)),
-    (1, LEAVE, Answer::Chose(Next::Until(0))),
-    (1, Command::Grant, Answer::GrantedSeat(0)),
-    (0, Command::Look, Answer::Looked(true)),
-    (0, Command::Out, Answer::Now),
-];
-
-#[test]
-fn predicate_is_awaited(rt: HostRuntime) -> Result<(), Fail> {
-    let history = [
-        Event::Enter(0, Via::Free),
-        Event::Until(0, 1, Next::Entry),
-        Event::Enter(1, Via::Free),
-        Event::Act(1, Op { code: 0, arg: 5 }, 1),
-        Event::Until(1, 1, Next::Stay),
-        Event::Leave(1, Next::Until(0)),
-        Event::Resume(0, From3::Until),
-    ];
-    assert!(rt; plays_as::<Pis>(&rt, TWO_SEATS, &AUTOMATIC, &history)?);
-    Ok(())
-}
-
-/// A signal that hands the monitor over, and one that leaves.
-const SIGNAL: Command = Command::Signal(0, Pick::Waiter);
-
-const HANDED_OVER: [(u8, Command, Answer); 12] = [
-    (0, Command::Arrive, Answer::Arrived(0, 0)),
-    (0, Command::Out, Answer::Now),
-    (0, WAIT, Answer::Chose(Next::Entry)),
-    (0, Command::Drop, Answer::Found(1)),
-    (1, Command::Arrive, Answer::Arrived(1, 0)),
-    (1, Command::Out, Answer::Now),
-    (1, SIGNAL, Answer::Chose(Next::Waiter(0))),
-    (1, Command::Grant, Answer::GrantedSeat(0)),
-    (0, Command::Look, Answer::Looked(true)),
-    (0, Command::Out, Answer::Now),
-    (0, LEAVE, Answer::Chose(Next::Signaller(1))),
-    (0, Command::Grant, Answer::GrantedSeat(1)),
-];
-
-#[test]
-fn signal_hands_over(rt: HostRuntime) -> Result<(), Fail> {
-    let history = [
-        Event::Enter(0, Via::Free),
-        Event::Wait(0, 0, Next::Entry),
-        Event::Enter(1, Via::Free),
-        Event::Signal(1, 0, Next::Waiter(0)),
-        Event::Resume(0, From3::Waiter),
-        Event::Leave(0, Next::Signaller(1)),
-    ];
-    assert!(rt; plays(&rt, ONE_CONDITION, &HANDED_OVER, &history)?);
-    Ok(())
-}
-
-const SIGNAL_WAIT: Command = Command::SignalWait(0, 1, Pick::Waiter);
-
-const NO_SUCH_WAIT: Command = Command::SignalWait(0, 2, Pick::Waiter);
-
-const NO_SUCH_SIGNAL: Command = Command::SignalWait(2, 0, Pick::Waiter);
-
-const PING_PONG: [(u8, Command, Answer); 11] = [
-    (0, Command::Arrive, Answer::Arrived(0, 0)),
-    (0, SIGNAL_WAIT, Answer::NotNow),
-    (0, NO_SUCH_WAIT, Answer::Range),
-    (0, NO_SUCH_SIGNAL, Answer::Range),
-    (0, Command::Out, Answer::Now),
-    (0, WAIT, Answer::Chose(Next::Entry)),
-    (0, Command::Drop, Answer::Found(1)),
-    (1, Command::Arrive, Answer::Arrived(1, 0)),
-    (1, Command::Out, Answer::Now),
-    (1, Command::SignalAll(0), Answer::NoCall),
-    (1, SIGNAL_WAIT, Answer::Chose(Next::Waiter(0))),
-];
-
-#[test]
-fn signal_wait_hands_over(rt: HostRuntime) -> Result<(), Fail> {
-    let history = [
-        Event::Enter(0, Via::Free),
-        Event::Wait(0, 0, Next::Entry),
-        Event::Enter(1, Via::Free),
-        Event::SignalWait(1, 0, 1, Next::Waiter(0)),
-    ];
-    assert!(rt; plays_as::<Pir>(&rt, TWO_CONDITIONS, &PING_PONG, &history)?);
-    Ok(())
-}
-
-/// A signal to all needs two events, a signal followed by a wait three.
-const TIRED: [(u8, Command, Answer); 4] = [
-    (0, Command::Arrive, Answer::Arrived(0, 0)),
-    (0, Command::Out, Answer::Now),
-    (0, Command::SignalWait(0, 0, Pick::Waiter), Answer::Tired),
-    (
-        0,
-        Command::SignalLeave(0, Pick::Waiter),
-        Answer::Chose(Next::Entry),
-    ),
-];
-
-const TIRED_OF_BROADCAST: [(u8, Command, Answer); 4] = [
-    (0, Command::Arrive, Answer::Arrived(0, 0)),
-    (0, Command::Out, Answer::Now),
-    (0, Command::SignalAll(0), Answer::Tired),
-    (0, Command::SignalWait(0, 0, Pick::Waiter), Answer::NoCall),
-];
-
-#[test]
-fn later_calls_are_tired(rt: HostRuntime) -> Result<(), Fail> {
-    let left = [
-        Event::Enter(0, Via::Free),
-        Event::SignalLeave(0, 0, Next::Entry),
-    ];
-    let three = Size {
-        seats: 1,
-        conds: 1,
-        budget: 3,
-    };
-    assert!(rt; plays_as::<Pir>(&rt, three, &TIRED, &left)?);
-    let entered = [Event::Enter(0, Via::Free)];
-    let two = Size {
-        seats: 1,
-        conds: 1,
-        budget: 2,
-    };
-    assert!(rt; plays_as::<Pnb>(&rt, two, &TIRED_OF_BROADCAST, &entered)?);
-    Ok(())
+    let well = world.history() == history.as_slice();
+    well_up_to_here(&rt, well)
 }

@@ -3,8 +3,8 @@ ghost use Rattle.std.specs.Prelude.{◌≡◌, IfSome};
 ghost use Rattle.monk_hall.specs.Floors.{StartsWith};
 
 use crate::tests::halls::ending::{MET, visit};
-use crate::tests::halls::two;
-use crate::tests::marks::{from_here, up_to_here};
+use crate::tests::halls::two_from_here;
+use crate::tests::marks::well_up_to_here;
 use monk_hall::{Busy, Closed, Hall, Pass, close, complete, meet};
 use monk_kinds::{Pb, Pick};
 use monk_object::Buffer;
@@ -72,12 +72,9 @@ fn two_did_it_all(hall: Hall<Pb, Buffer>, first: Pass<Pb, Buffer>, second: Pass<
 
 #[test]
 fn closed_history_holds_two_seats_calls(rt: HostRuntime) -> Result<(), Fail> {
-    let (hall, first, second) = two::<Pb>(&rt, 0, 8)?;
-    from_here(&rt)?;
+    let (hall, first, second) = two_from_here::<Pb>(&rt, 0, 8)?;
     let well = two_did_it_all(hall, first, second);
-    up_to_here(&rt)?;
-    assert!(rt; well);
-    Ok(())
+    well_up_to_here(&rt, well)
 }
 
 /// The second seat visits once more after they met, so the first doesn't know that what the second has seen begins the
@@ -104,10 +101,7 @@ fn second_goes_on(hall: Hall<Pb, Buffer>, first: Pass<Pb, Buffer>, second: Pass<
 
 #[test]
 fn seat_that_goes_on_is_in_the_history(rt: HostRuntime) -> Result<(), Fail> {
-    let (hall, first, second) = two::<Pb>(&rt, 0, 8)?;
-    from_here(&rt)?;
+    let (hall, first, second) = two_from_here::<Pb>(&rt, 0, 8)?;
     let well = second_goes_on(hall, first, second);
-    up_to_here(&rt)?;
-    assert!(rt; well);
-    Ok(())
+    well_up_to_here(&rt, well)
 }

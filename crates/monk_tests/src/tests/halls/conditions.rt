@@ -2,10 +2,10 @@
 ghost use Rattle.std.specs.Prelude.{◌≡◌, ◌<◌, IfSome};
 
 use crate::tests::halls::{
-    PUT, TAKE, act, arrive, comes_in_and_finds, comes_in_and_puts, enter, hall, must_wait, signal,
-    signal_stay, take, two, wait,
+    PUT, TAKE, act, arrive, comes_in, comes_in_and_finds, comes_in_and_puts, enter, must_wait,
+    signal, signal_stay, three_from_here, two_from_here, wait,
 };
-use crate::tests::marks::{from_here, up_to_here};
+use crate::tests::marks::well_up_to_here;
 use monk_hall::{Active, Hall, Parked, Pass};
 use monk_history::{Event, From3, Next, Via};
 use monk_kinds::{Conditional, Npnb, Pb, Pick, Pnb};
@@ -47,17 +47,12 @@ fn puts_and_signals(hall: &Hall<Pb, Buffer>, pass: Pass<Pb, Buffer>) -> Option<P
 fn comes_in_and_takes(hall: &Hall<Pb, Buffer>, parked: Parked<Pb, Buffer>) -> bool
     requires { parked.hall ≡ hall.now.id }
 {
-    match parked.poll(hall) {
-        Ok(mut active) => {
-            let taken = act(&mut active, TAKE) == Some(8);
-            active.leave(hall, Pick::Waiter);
-            taken
-        }
-        Err(parked) => {
-            parked.give_up();
-            false
-        }
-    }
+    let Some(mut active) = comes_in(hall, parked) else {
+        return false;
+    };
+    let taken = act(&mut active, TAKE) == Some(8);
+    active.leave(hall, Pick::Waiter);
+    taken
 }
 
 const HOARE: [Event; 10] = [
@@ -92,12 +87,9 @@ fn hands_over(hall: &Hall<Pb, Buffer>, first: Pass<Pb, Buffer>, second: Pass<Pb,
 
 #[test]
 fn signal_hands_over(rt: HostRuntime) -> Result<(), Fail> {
-    let (hall, first, second) = two::<Pb>(&rt, 2, 8)?;
-    from_here(&rt)?;
+    let (hall, first, second) = two_from_here::<Pb>(&rt, 2, 8)?;
     let well = hands_over(&hall, first, second);
-    up_to_here(&rt)?;
-    assert!(rt; well);
-    Ok(())
+    well_up_to_here(&rt, well)
 }
 
 /// Puts 7, signals condition 1, stays, and leaves.
@@ -153,12 +145,9 @@ fn goes_on_first(
 
 #[test]
 fn signaller_goes_on(rt: HostRuntime) -> Result<(), Fail> {
-    let (hall, first, second) = two::<Pnb>(&rt, 2, 8)?;
-    from_here(&rt)?;
+    let (hall, first, second) = two_from_here::<Pnb>(&rt, 2, 8)?;
     let well = goes_on_first(&hall, first, second);
-    up_to_here(&rt)?;
-    assert!(rt; well);
-    Ok(())
+    well_up_to_here(&rt, well)
 }
 
 /// Signals condition 0 and stays.
@@ -216,15 +205,9 @@ fn barges(
 
 #[test]
 fn ticket_barges_past_a_waiter(rt: HostRuntime) -> Result<(), Fail> {
-    let (hall, mut passes) = hall::<Npnb>(&rt, 3, 1, 8)?;
-    let third = take(&hall, &mut passes)?;
-    let second = take(&hall, &mut passes)?;
-    let first = take(&hall, &mut passes)?;
-    from_here(&rt)?;
+    let (hall, first, second, third) = three_from_here::<Npnb>(&rt, 1, 8)?;
     let well = barges(&hall, first, second, third);
-    up_to_here(&rt)?;
-    assert!(rt; well);
-    Ok(())
+    well_up_to_here(&rt, well)
 }
 
 /// Where nobody has a ticket, though a third seat could, the same wish lets the waiter go on.
@@ -260,13 +243,7 @@ fn lets_the_waiter_in(
 
 #[test]
 fn waiter_goes_on_where_nobody_has_a_ticket(rt: HostRuntime) -> Result<(), Fail> {
-    let (hall, mut passes) = hall::<Npnb>(&rt, 3, 1, 8)?;
-    let _third = take(&hall, &mut passes)?;
-    let second = take(&hall, &mut passes)?;
-    let first = take(&hall, &mut passes)?;
-    from_here(&rt)?;
+    let (hall, first, second, _third) = three_from_here::<Npnb>(&rt, 1, 8)?;
     let well = lets_the_waiter_in(&hall, first, second);
-    up_to_here(&rt)?;
-    assert!(rt; well);
-    Ok(())
+    well_up_to_here(&rt, well)
 }

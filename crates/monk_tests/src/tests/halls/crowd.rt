@@ -2,7 +2,7 @@
 ghost use Rattle.std.specs.Prelude.{◌≡◌, All, IfSome};
 ghost use Rattle.monk_hall.specs.Tokens.{AreOf};
 
-use crate::tests::halls::{arrive, enter, hall};
+use crate::tests::halls::{arrive, comes_in, enter, hall};
 use monk_hall::{Hall, Parked, Pass};
 use monk_kinds::{Pb, Pick};
 use monk_object::Buffer;
@@ -55,17 +55,12 @@ fn line_up(
 fn comes_in_its_turn(hall: &Hall<Pb, Buffer>, parked: Parked<Pb, Buffer>) -> bool
     requires { parked.hall ≡ hall.now.id }
 {
-    match parked.poll(hall) {
-        Ok(active) => {
-            let behind = active.history().len() == 2 * active.seat() as usize + 1;
-            let left = active.leave(hall, Pick::Waiter).left();
-            behind && left == 0
-        }
-        Err(parked) => {
-            parked.give_up();
-            false
-        }
-    }
+    let Some(active) = comes_in(hall, parked) else {
+        return false;
+    };
+    let behind = active.history().len() == 2 * active.seat() as usize + 1;
+    let left = active.leave(hall, Pick::Waiter).left();
+    behind && left == 0
 }
 
 /// Whether those in the line come in one behind the other.

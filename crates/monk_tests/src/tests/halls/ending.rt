@@ -1,8 +1,8 @@
 //! How a hall ends, and that nobody ends it beside a seat that waits.
 ghost use Rattle.std.specs.Prelude.{◌≡◌, ◌<◌, IfSome};
 
-use crate::tests::halls::{arrive, enter, two, wait};
-use crate::tests::marks::{from_here, up_to_here};
+use crate::tests::halls::{arrive, comes_in, enter, two_from_here, wait};
+use crate::tests::marks::well_up_to_here;
 use monk_hall::{Active, Busy, Hall, Pass, close, meet};
 use monk_history::{Event, Next, Via};
 use monk_kinds::{Kind, Pb, Pick};
@@ -30,15 +30,9 @@ fn ends_last(hall: Hall<Pb, Buffer>, first: Pass<Pb, Buffer>, second: Pass<Pb, B
     };
     let unchanged = active.history() == [Event::Enter(0, Via::Free)].as_slice();
     active.leave(&hall, Pick::Waiter);
-    match two.poll(&hall) {
-        Ok(active) => {
-            let ended = ends(hall, active, HANDED.as_slice());
-            unchanged && ended
-        }
-        Err(parked) => {
-            parked.give_up();
-            false
-        }
+    match comes_in(&hall, two) {
+        Some(active) => ends(hall, active, HANDED.as_slice()) && unchanged,
+        None => false,
     }
 }
 
@@ -68,12 +62,9 @@ const HANDED: [Event; 4] = [
 
 #[test]
 fn last_ends_the_hall(rt: HostRuntime) -> Result<(), Fail> {
-    let (hall, first, second) = two::<Pb>(&rt, 1, 8)?;
-    from_here(&rt)?;
+    let (hall, first, second) = two_from_here::<Pb>(&rt, 1, 8)?;
     let well = ends_last(hall, first, second);
-    up_to_here(&rt)?;
-    assert!(rt; well);
-    Ok(())
+    well_up_to_here(&rt, well)
 }
 
 /// Nobody ends a hall beside a seat that waits on a condition.
@@ -102,12 +93,9 @@ fn goes_on(hall: Hall<Pb, Buffer>, first: Pass<Pb, Buffer>, second: Pass<Pb, Buf
 
 #[test]
 fn waiter_keeps_the_hall_open(rt: HostRuntime) -> Result<(), Fail> {
-    let (hall, first, second) = two::<Pb>(&rt, 1, 8)?;
-    from_here(&rt)?;
+    let (hall, first, second) = two_from_here::<Pb>(&rt, 1, 8)?;
     let well = goes_on(hall, first, second);
-    up_to_here(&rt)?;
-    assert!(rt; well);
-    Ok(())
+    well_up_to_here(&rt, well)
 }
 
 /// Comes in and leaves.
@@ -143,24 +131,15 @@ fn meets_and_ends(hall: Hall<Pb, Buffer>, first: Pass<Pb, Buffer>, second: Pass<
         return false;
     };
     let drawn = parked.ticket() == Some(2);
-    match parked.poll(&hall) {
-        Ok(active) => {
-            let ended = ends(hall, active, MET.as_slice());
-            drawn && ended
-        }
-        Err(parked) => {
-            parked.give_up();
-            false
-        }
+    match comes_in(&hall, parked) {
+        Some(active) => ends(hall, active, MET.as_slice()) && drawn,
+        None => false,
     }
 }
 
 #[test]
 fn seats_that_met_go_on(rt: HostRuntime) -> Result<(), Fail> {
-    let (hall, first, second) = two::<Pb>(&rt, 0, 8)?;
-    from_here(&rt)?;
+    let (hall, first, second) = two_from_here::<Pb>(&rt, 0, 8)?;
     let well = meets_and_ends(hall, first, second);
-    up_to_here(&rt)?;
-    assert!(rt; well);
-    Ok(())
+    well_up_to_here(&rt, well)
 }

@@ -1,8 +1,8 @@
 //! Tickets, budgets, and who comes in after whom.
 ghost use Rattle.std.specs.Prelude.{◌≡◌};
 
-use crate::tests::halls::{PUT, TAKE, act, arrive, enter, two};
-use crate::tests::marks::{from_here, up_to_here};
+use crate::tests::halls::{PUT, TAKE, act, arrive, comes_in, enter, two_from_here};
+use crate::tests::marks::well_up_to_here;
 use monk_floor::MakeFault;
 use monk_hall::{Hall, Parked, Pass};
 use monk_history::{Event, Next, Via};
@@ -42,12 +42,8 @@ fn takes_over(hall: &Hall<Pb, Buffer>, first: Pass<Pb, Buffer>, second: Pass<Pb,
 fn takes_seven(hall: &Hall<Pb, Buffer>, parked: Parked<Pb, Buffer>) -> bool
     requires { parked.hall ≡ hall.now.id }
 {
-    let mut active = match parked.poll(hall) {
-        Ok(active) => active,
-        Err(parked) => {
-            parked.give_up();
-            return false;
-        }
+    let Some(mut active) = comes_in(hall, parked) else {
+        return false;
     };
     let history = [
         Event::Enter(0, Via::Free),
@@ -63,12 +59,9 @@ fn takes_seven(hall: &Hall<Pb, Buffer>, parked: Parked<Pb, Buffer>) -> bool
 
 #[test]
 fn second_takes_over(rt: HostRuntime) -> Result<(), Fail> {
-    let (hall, first, second) = two::<Pb>(&rt, 0, 8)?;
-    from_here(&rt)?;
+    let (hall, first, second) = two_from_here::<Pb>(&rt, 0, 8)?;
     let well = takes_over(&hall, first, second);
-    up_to_here(&rt)?;
-    assert!(rt; well);
-    Ok(())
+    well_up_to_here(&rt, well)
 }
 
 /// The second resumes once the first has left.
@@ -102,12 +95,9 @@ fn resumes<R: Wait>(
 
 #[test]
 fn second_resumes(rt: HostRuntime) -> Result<(), Fail> {
-    let (hall, first, second) = two::<Pb>(&rt, 0, 8)?;
-    from_here(&rt)?;
+    let (hall, first, second) = two_from_here::<Pb>(&rt, 0, 8)?;
     let well = resumes(&rt, &hall, first, second);
-    up_to_here(&rt)?;
-    assert!(rt; well);
-    Ok(())
+    well_up_to_here(&rt, well)
 }
 
 /// What is left to a seat that comes and goes, where its budget is two events.
@@ -119,12 +109,8 @@ fn comes_once(hall: &Hall<Pb, Buffer>, pass: Pass<Pb, Buffer>) -> bool
         return false;
     };
     let drawn = parked.left();
-    let active = match parked.poll(hall) {
-        Ok(active) => active,
-        Err(parked) => {
-            parked.give_up();
-            return false;
-        }
+    let Some(active) = comes_in(hall, parked) else {
+        return false;
     };
     let inside = active.left();
     let after = active.leave(hall, Pick::Waiter).left();
@@ -133,12 +119,9 @@ fn comes_once(hall: &Hall<Pb, Buffer>, pass: Pass<Pb, Buffer>) -> bool
 
 #[test]
 fn budget_is_spent(rt: HostRuntime) -> Result<(), Fail> {
-    let (hall, pass, _other) = two::<Pb>(&rt, 0, 2)?;
-    from_here(&rt)?;
+    let (hall, pass, _other) = two_from_here::<Pb>(&rt, 0, 2)?;
     let well = comes_once(&hall, pass);
-    up_to_here(&rt)?;
-    assert!(rt; well);
-    Ok(())
+    well_up_to_here(&rt, well)
 }
 
 /// Why a hall of these numbers isn't made.
@@ -150,12 +133,19 @@ fn refusal(rt: &HostRuntime, seats: u8, conds: u8, budget: u32) -> Result<Option
     }
 }
 
+/// Seats, conditions and budgets, and what is told of them.
+static REFUSALS: [(u8, u8, u32, Option<MakeFault>); 4] = [
+    (33, 0, 8, Some(MakeFault::Seats)),
+    (2, 9, 8, Some(MakeFault::Conds)),
+    (2, 0, 1, Some(MakeFault::Budget)),
+    (2, 0, 2, None),
+];
+
 #[test]
 fn refuses_bad_numbers(rt: HostRuntime) -> Result<(), Fail> {
-    assert!(rt; refusal(&rt, 33, 0, 8)? == Some(MakeFault::Seats));
-    assert!(rt; refusal(&rt, 2, 9, 8)? == Some(MakeFault::Conds));
-    assert!(rt; refusal(&rt, 2, 0, 1)? == Some(MakeFault::Budget));
-    assert!(rt; refusal(&rt, 2, 0, 2)?.is_none());
+    for (seats, conds, budget, fault) in REFUSALS.iter() {
+        assert!(rt; refusal(&rt, *seats, *conds, *budget)? == *fault);
+    }
     Ok(())
 }
 
@@ -203,10 +193,7 @@ fn loses_a_ticket(
 
 #[test]
 fn lost_ticket_is_never_passed_on(rt: HostRuntime) -> Result<(), Fail> {
-    let (hall, first, second) = two::<Pb>(&rt, 0, 8)?;
-    from_here(&rt)?;
+    let (hall, first, second) = two_from_here::<Pb>(&rt, 0, 8)?;
     let well = loses_a_ticket(&hall, first, second);
-    up_to_here(&rt)?;
-    assert!(rt; well);
-    Ok(())
+    well_up_to_here(&rt, well)
 }

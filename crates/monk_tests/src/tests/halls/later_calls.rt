@@ -2,11 +2,13 @@
 ghost use Rattle.std.specs.Prelude.{◌≡◌, ◌<◌, IfSome};
 
 use crate::tests::halls::ending::ends;
-use crate::tests::halls::{comes_in_and_finds, enter, hall, take, two, wait};
-use crate::tests::marks::{from_here, up_to_here};
+use crate::tests::halls::{
+    comes_in, comes_in_and_finds, enter, three_from_here, two_from_here, wait,
+};
+use crate::tests::marks::well_up_to_here;
 use monk_hall::{Active, Hall, Parked, Pass};
 use monk_history::{Event, From3, Next, Via};
-use monk_kinds::{Conditional, Kind, Pick, Pir, Pnb};
+use monk_kinds::{Conditional, Pick, Pir, Pnb};
 use monk_object::Buffer;
 use std::test::Fail;
 
@@ -17,20 +19,6 @@ fn waits<K: Conditional>(hall: &Hall<K, Buffer>, pass: Pass<K, Buffer>) -> Optio
     ensures { IfSome result (λ p. (p.hall ≡ hall.now.id) × (p.me.setting ≡ pass.me.setting)) }
 {
     wait(hall, enter(hall, pass)?, 0)
-}
-
-/// Comes in again.
-fn goes_on<K: Kind>(hall: &Hall<K, Buffer>, parked: Parked<K, Buffer>) -> Option<Active<K, Buffer>>
-    requires { parked.hall ≡ hall.now.id }
-    ensures { IfSome result (λ a. (a.hall ≡ hall.now.id) × (a.me.setting ≡ parked.me.setting)) }
-{
-    match parked.poll(hall) {
-        Ok(active) => Some(active),
-        Err(parked) => {
-            parked.give_up();
-            None
-        }
-    }
 }
 
 /// Signals all who wait on the first condition, and leaves: how many they were.
@@ -82,7 +70,7 @@ fn wakes_both(
     };
     let both = wakes(&hall, third) == Some(2);
     let found = comes_in_and_finds(&hall, first, &WOKEN[..8]);
-    match goes_on(&hall, second) {
+    match comes_in(&hall, second) {
         Some(active) => ends(hall, active, WOKEN.as_slice()) && both && found,
         None => false,
     }
@@ -90,15 +78,9 @@ fn wakes_both(
 
 #[test]
 fn broadcast_wakes_all(rt: HostRuntime) -> Result<(), Fail> {
-    let (hall, mut passes) = hall::<Pnb>(&rt, 3, 1, 8)?;
-    let third = take(&hall, &mut passes)?;
-    let second = take(&hall, &mut passes)?;
-    let first = take(&hall, &mut passes)?;
-    from_here(&rt)?;
+    let (hall, first, second, third) = three_from_here::<Pnb>(&rt, 1, 8)?;
     let well = wakes_both(hall, first, second, third);
-    up_to_here(&rt)?;
-    assert!(rt; well);
-    Ok(())
+    well_up_to_here(&rt, well)
 }
 
 /// Signals a condition and waits on another, if the seat has enough left.
@@ -147,7 +129,7 @@ fn pass_to_and_fro(
         first.give_up();
         return None;
     };
-    let Some(active) = goes_on(hall, first) else {
+    let Some(active) = comes_in(hall, first) else {
         second.give_up();
         return None;
     };
@@ -155,12 +137,12 @@ fn pass_to_and_fro(
         second.give_up();
         return None;
     };
-    let Some(active) = goes_on(hall, second) else {
+    let Some(active) = comes_in(hall, second) else {
         first.give_up();
         return None;
     };
     active.signal_leave(hall, 0, Pick::Waiter);
-    goes_on(hall, first)
+    comes_in(hall, first)
 }
 
 fn plays_ping_pong(
@@ -186,10 +168,7 @@ fn plays_ping_pong(
 
 #[test]
 fn signal_wait_ping_pong(rt: HostRuntime) -> Result<(), Fail> {
-    let (hall, first, second) = two::<Pir>(&rt, 2, 8)?;
-    from_here(&rt)?;
+    let (hall, first, second) = two_from_here::<Pir>(&rt, 2, 8)?;
     let well = plays_ping_pong(hall, first, second);
-    up_to_here(&rt)?;
-    assert!(rt; well);
-    Ok(())
+    well_up_to_here(&rt, well)
 }

@@ -1,8 +1,8 @@
 //! A signal that leaves, and waits until a predicate holds.
 ghost use Rattle.std.specs.Prelude.{◌≡◌, ◌<◌, IfSome};
 
-use crate::tests::halls::{PUT, comes_in_and_finds, comes_in_and_puts, enter, two, wait};
-use crate::tests::marks::{from_here, up_to_here};
+use crate::tests::halls::{PUT, comes_in_and_finds, comes_in_and_puts, enter, two_from_here, wait};
+use crate::tests::marks::well_up_to_here;
 use monk_hall::{After, Hall, Parked, Pass};
 use monk_history::{Event, From3, Next, Via};
 use monk_kinds::{Automatic, Pick, Pir, Pis};
@@ -42,12 +42,9 @@ fn leaves_by_a_signal(
 
 #[test]
 fn signaller_leaves(rt: HostRuntime) -> Result<(), Fail> {
-    let (hall, first, second) = two::<Pir>(&rt, 1, 8)?;
-    from_here(&rt)?;
+    let (hall, first, second) = two_from_here::<Pir>(&rt, 1, 8)?;
     let well = leaves_by_a_signal(&hall, first, second);
-    up_to_here(&rt)?;
-    assert!(rt; well);
-    Ok(())
+    well_up_to_here(&rt, well)
 }
 
 /// Waits until there is an item, if the seat has enough left and there is none.
@@ -103,10 +100,7 @@ fn finds_its_item(
 
 #[test]
 fn predicate_is_awaited(rt: HostRuntime) -> Result<(), Fail> {
-    let (hall, first, second) = two::<Pis>(&rt, 0, 8)?;
-    from_here(&rt)?;
+    let (hall, first, second) = two_from_here::<Pis>(&rt, 0, 8)?;
     let well = finds_its_item(&hall, first, second);
-    up_to_here(&rt)?;
-    assert!(rt; well);
-    Ok(())
+    well_up_to_here(&rt, well)
 }

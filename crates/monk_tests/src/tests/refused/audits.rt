@@ -39,28 +39,30 @@ const UNTILS: [Event; 6] = [
     Event::Resume(0, From3::Until),
 ];
 
-/// The header of a history of three seats over a buffer.
-fn header(kind: KindName, conds: u8) -> Result<Header, Fail> {
-    match Header::new(kind, 3, conds, ObjectName::Buffer, 1) {
-        Some(header) => Ok(header),
-        None => Err(Fail::new("no header")),
+/// By its name: a kind, how many conditions, the events of a history of three seats over a buffer, and the verdict.
+type Row = (&'static str, KindName, u8, &'static [Event], Verdict);
+
+static ROWS: [Row; 3] = [
+    ("signals", KindName::Pb, 2, &SIGNALS, Verdict::Legal(10)),
+    (
+        "returns",
+        KindName::Pir,
+        1,
+        &RETURNS,
+        Verdict::Forbidden { step: 6, reason: 6 },
+    ),
+    ("untils", KindName::Pis, 0, &UNTILS, Verdict::Legal(6)),
+];
+
+pub(super) fn are_audited(rt: &HostRuntime) -> Result<bool, Fail> {
+    for (name, kind, conds, events, verdict) in ROWS.iter() {
+        begins(rt, name)?;
+        let Some(header) = Header::new(*kind, 3, *conds, ObjectName::Buffer, 1) else {
+            return Ok(false);
+        };
+        if events.len() > 1 << 25 || audit(rt.alloc(), &header, events)? != *verdict {
+            return Ok(false);
+        }
     }
-}
-
-pub(super) fn signals(rt: &HostRuntime) -> Result<bool, Fail> {
-    begins(rt, "signals")?;
-    let verdict = audit(rt.alloc(), &header(KindName::Pb, 2)?, &SIGNALS)?;
-    Ok(verdict == Verdict::Legal(10))
-}
-
-pub(super) fn returns(rt: &HostRuntime) -> Result<bool, Fail> {
-    begins(rt, "returns")?;
-    let verdict = audit(rt.alloc(), &header(KindName::Pir, 1)?, &RETURNS)?;
-    Ok(verdict == Verdict::Forbidden { step: 6, reason: 6 })
-}
-
-pub(super) fn untils(rt: &HostRuntime) -> Result<bool, Fail> {
-    begins(rt, "untils")?;
-    let verdict = audit(rt.alloc(), &header(KindName::Pis, 0)?, &UNTILS)?;
-    Ok(verdict == Verdict::Legal(6))
+    Ok(true)
 }

@@ -40,32 +40,18 @@ fn header() -> Result<LogHeader, Fail> {
     }
 }
 
-pub(super) fn judged(rt: &HostRuntime) -> Result<bool, Fail> {
-    begins(rt, "judged")?;
-    let verdict = judge(rt.alloc(), &header()?, &LINES, KindName::Npnb)?;
-    Ok(verdict == LogVerdict::Fits)
-}
-
-/// Where a signal may serve any seat.
-pub(super) fn judged_in_any_order(rt: &HostRuntime) -> Result<bool, Fail> {
-    begins(rt, "judged_in_any_order")?;
+/// In order of arrival, where a signal may serve any seat, and in the strictest order in which they fit.
+pub(super) fn are_judged(rt: &HostRuntime) -> Result<bool, Fail> {
     let (header, kind) = (header()?, KindName::Npnb);
-    let verdict = judge_in(
-        rt.alloc(),
-        &header,
-        &LINES,
-        kind,
-        Order::Any,
-        Lapses::Allowed,
-    )?;
-    Ok(verdict == LogVerdict::Fits)
-}
-
-/// The strictest order in which these lines fit.
-pub(super) fn fitted(rt: &HostRuntime) -> Result<bool, Fail> {
+    begins(rt, "judged")?;
+    let told = judge(rt.alloc(), &header, &LINES, kind)?;
+    begins(rt, "judged_in_any_order")?;
+    let (any, allowed) = (Order::Any, Lapses::Allowed);
+    let served = judge_in(rt.alloc(), &header, &LINES, kind, any, allowed)?;
     begins(rt, "fitted")?;
-    let found = fit(rt.alloc(), &header()?, &LINES, KindName::Npnb, Lapses::Told)?;
-    Ok(found == Fit::In(Order::Fifo))
+    let found = fit(rt.alloc(), &header, &LINES, kind, Lapses::Told)?;
+    let both_fit = told == LogVerdict::Fits && served == LogVerdict::Fits;
+    Ok(both_fit && found == Fit::In(Order::Fifo))
 }
 
 /// Two were served, one of whom is back; no item is there for those who wait on condition 1.
@@ -80,16 +66,14 @@ const COUNTS: Counts = Counts {
     missed: None,
 };
 
-pub(super) fn counted(rt: &HostRuntime) -> Result<bool, Fail> {
+/// They are counted, and completed to as many events.
+pub(super) fn are_counted(rt: &HostRuntime) -> Result<bool, Fail> {
+    let (header, kind) = (header()?, KindName::Npnb);
     begins(rt, "counted")?;
     let means = [WaitsFor { cond: 1, pred: 1 }];
-    let counts = count(rt.alloc(), &header()?, &LINES, KindName::Npnb, &means)?;
-    Ok(counts == COUNTS)
-}
-
-/// These lines are completed to as many events.
-pub(super) fn completed(rt: &HostRuntime) -> Result<bool, Fail> {
+    let counts = count(rt.alloc(), &header, &LINES, kind, &means)?;
     begins(rt, "completed")?;
-    let found = complete(rt.alloc(), &header()?, &LINES, KindName::Npnb)?;
-    Ok(matches!(found, Completion::History(events) if events.len() == 10))
+    let found = complete(rt.alloc(), &header, &LINES, kind)?;
+    let is_completed = matches!(&found, Completion::History(events) if events.len() == 10);
+    Ok(counts == COUNTS && is_completed)
 }

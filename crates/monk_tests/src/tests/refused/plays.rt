@@ -40,12 +40,10 @@ fn alternate(commands: &[(u8, Command)]) -> bool {
     true
 }
 
-pub(super) fn play(rt: &HostRuntime) -> Result<bool, Fail> {
+/// The whole play, and then the faulty one.
+pub(super) fn are_read(rt: &HostRuntime) -> Result<bool, Fail> {
     begins(rt, "play")?;
-    Ok(told(rt, LONG)? == (0, 17))
-}
-
-pub(super) fn faulty_play(rt: &HostRuntime) -> Result<bool, Fail> {
+    let whole = told(rt, LONG)?;
     begins(rt, "faulty_play")?;
-    Ok(told(rt, FAULTY)? == (2, 18))
+    Ok(told(rt, FAULTY)? == (2, 18) && whole == (0, 17))
 }

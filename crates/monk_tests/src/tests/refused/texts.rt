@@ -41,12 +41,10 @@ fn alternate(events: &[Event]) -> bool {
     true
 }
 
-pub(super) fn history(rt: &HostRuntime) -> Result<bool, Fail> {
+/// The whole text, and then the faulty one.
+pub(super) fn are_read(rt: &HostRuntime) -> Result<bool, Fail> {
     begins(rt, "history")?;
-    Ok(told(rt, LONG)? == (0, 17))
-}
-
-pub(super) fn fault(rt: &HostRuntime) -> Result<bool, Fail> {
+    let whole = told(rt, LONG)?;
     begins(rt, "fault")?;
-    Ok(told(rt, FAULTY)? == (2, 18))
+    Ok(told(rt, FAULTY)? == (2, 18) && whole == (0, 17))
 }

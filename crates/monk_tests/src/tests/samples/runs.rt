@@ -19,29 +19,42 @@ fn has_totals<K: Style, R: Threads + Wait + Sync + AllocGlobal>(
     }
 }
 
+/// A sample with seats and rounds, and the totals of its run.
+static TOTALS: [(&str, Sample, u8, u32, [u64; 4]); 5] = [
+    ("buffer", Sample::Buffer, 4, 100, [200, 10100, 200, 10100]),
+    ("book", Sample::Book, 4, 10, [20, 20, 20, 20]),
+    ("shop", Sample::Shop, 4, 10, [30, 30, 30, 30]),
+    ("hasty", Sample::Hasty, 4, 100, [200, 10100, 200, 10100]),
+    // Where a reader or a writer signalled the wrong condition, or a waiter were lost, so many rounds would not end.
+    (
+        "many_read_and_write",
+        Sample::Book,
+        8,
+        300,
+        [1200, 1200, 1200, 1200],
+    ),
+];
+
 /// Each sample under one kind; the tests of `run_stream` have all ten.
 #[test]
 fn known_totals(rt: HostRuntime) -> Result<(), Fail> {
-    let put_and_taken = [200, 10100, 200, 10100];
-    assert!(rt; has_totals::<Pb, _>(&rt, Sample::Buffer, 4, 100, put_and_taken));
-    assert!(rt; has_totals::<Pb, _>(&rt, Sample::Book, 4, 10, [20, 20, 20, 20]));
-    assert!(rt; has_totals::<Pb, _>(&rt, Sample::Shop, 4, 10, [30, 30, 30, 30]));
-    assert!(rt; has_totals::<Pb, _>(&rt, Sample::Hasty, 4, 100, put_and_taken));
+    for (name, sample, seats, rounds, totals) in TOTALS.iter() {
+        if !has_totals::<Pb, _>(&rt, *sample, *seats, *rounds, *totals) {
+            return Err(*name)?;
+        }
+    }
     Ok(())
 }
 
 /// Under Hoare's kind an `if` suffices: a hasty seat finds what it waited for.
 #[test]
-fn no_hasty_seat_misses_under_hoares_kind(rt: HostRuntime) -> Result<(), Fail> {
-    match run::<Pb, _, OpenGate>(&rt, rt.alloc(), Sample::Hasty, 4, 50, &OpenGate) {
-        Ok(outcome) => assert!(rt; outcome.missed == 0),
-        Err(_) => assert!(rt; false),
-    }
-    Ok(())
+fn no_hasty_seat_misses_under_hoares_kind(rt: HostRuntime) {
+    let outcome = run::<Pb, _, OpenGate>(&rt, rt.alloc(), Sample::Hasty, 4, 50, &OpenGate);
+    assert!(rt; matches!(&outcome, Ok(outcome) if outcome.missed == 0));
 }
 
 #[test]
-fn out_of_range_is_refused(rt: HostRuntime) -> Result<(), Fail> {
+fn out_of_range_is_refused(rt: HostRuntime) {
     for (seats, rounds) in [(1, 1), (17, 1), (2, 0), (2, 1001)] {
         let outcome = run::<Pb, _, OpenGate>(
             &rt,
@@ -53,15 +66,6 @@ fn out_of_range_is_refused(rt: HostRuntime) -> Result<(), Fail> {
         );
         assert!(rt; matches!(outcome, Err(RunFault::Range)));
     }
-    Ok(())
-}
-
-/// Where a reader or a writer signalled the wrong condition, or a waiter were lost, so many rounds would not end.
-#[test]
-fn many_read_and_write(rt: HostRuntime) -> Result<(), Fail> {
-    let totals = [1200, 1200, 1200, 1200];
-    assert!(rt; has_totals::<Pb, _>(&rt, Sample::Book, 8, 300, totals));
-    Ok(())
 }
 
 /// A gate that is open in the first round alone.
@@ -75,10 +79,9 @@ impl Gate for FirstRound {
 }
 
 #[test]
-fn second_round_is_late(rt: HostRuntime) -> Result<(), Fail> {
+fn second_round_is_late(rt: HostRuntime) {
     for sample in [Sample::Buffer, Sample::Book, Sample::Shop, Sample::Hasty] {
         let outcome = run::<Pb, _, FirstRound>(&rt, rt.alloc(), sample, 2, 2, &FirstRound);
         assert!(rt; matches!(outcome, Err(RunFault::Late)));
     }
-    Ok(())
 }
