@@ -7,3 +7,6 @@ plain_signal_quietly-requires-clause-mode g c κs within =
     explicit g.K.Kind.rules g.K.Kind.MODE (ap (λ r. r.mode) g.K.Kind.are_rules)
     (g.met.K.Conditional g.world.𝓛 g.world.𝓜 g.world.𝓡 ((λ s x. x), (λ x. x), (λ x. x), λ x. x)).not_automatic
     (g.met.K.Explicit g.world.𝓛 g.world.𝓜 g.world.𝓡 ((λ s x. x), (λ x. x), (λ x. x), λ x. x)).not_immediate
+
+pub returns : goal.returns
+returns g c = c.plain_signal_quietly.ensures
