@@ -1,7 +1,7 @@
 -- What stays of passes that meet, and what the history holds that their seats closed
 use Rattle.std.proofs.Common.{◌≡◌, ◌≢◌, ℕ, zero, suc, ◌+◌, ◌≤◌, Bool, true, List, [], ◌∷◌, ◌++◌, length, refl, sym, ap, subst, ◌∙◌, arith}
 use Rattle.std.proofs.Common.{append_assoc}
-use Rattle.std.specs.Prelude.{All, AllPairs, ◌↔◌, sum_by}
+use Rattle.std.specs.Prelude.{All, AllPairs, sum_by}
 use Rattle.std.proofs.lemmas.List.Elements.{All-cons, All-head, All-nil, All-tail}
 use Rattle.std.proofs.lemmas.List.Kept.{AllPairs-cons}
 use Rattle.std.proofs.lemmas.List.Sums.{sum_by-append, sum_by-cons}
@@ -210,12 +210,11 @@ closed_own h own before mine e l s t u is came same a b =
     ap (events_of h) (sym (a ∙ b)) ∙ is ∙ ap (λ xs. xs ++ l ∷ []) (came ∙ ap (λ xs. xs ++ e ∷ []) same)
     ∙ append_assoc own (e ∷ []) (l ∷ [])
 
-pub only_here : (h g : List Event) (s seat : ℕ) (qs rs : List Token) (b : Bool)
-    → ((b ≡ true) ↔ HoldsOnly g s rs) → b ≡ true → g ≡ h
-    → s ≡ seat → rs ≡ qs → HoldsOnly h seat qs
-only_here h g s seat qs rs b tells is same here those =
+pub only_here : (h g : List Event) (s seat : ℕ) (qs rs : List Token) → HoldsOnly g s rs → g ≡ h → s ≡ seat → rs ≡ qs
+    → HoldsOnly h seat qs
+only_here h g s seat qs rs holds same here those =
     subst (λ xs. HoldsOnly xs seat qs) same
-    (subst (λ x. HoldsOnly g x qs) here (subst (HoldsOnly g s) those (tells.0 is)))
+    (subst (λ x. HoldsOnly g x qs) here (subst (HoldsOnly g s) those holds))
 
 -- whoever closes comes in first
 pub came_comes : (s : ℕ) (x : Source) (t : Turn) → is_coming (out_event s x t) ≡ true

@@ -1,6 +1,8 @@
 //! A run: a hall over the object of a sample, with a thread for each seat that works, closed when all have ended.
-ghost use Rattle.std.specs.Prelude.{◌≡◌, ◌≢◌, ◌↔◌, ◌⊎◌, ◌∷◌, ◌<◌, All, AllPairs, IfErr, IfOk, OnOk, IsErrAnd, IsErrOf, IsOkAnd, length};
+ghost use Rattle.std.specs.Prelude.{◌≡◌, ◌≢◌, ◌↔◌, ◌⊎◌, ◌∷◌, ◌<◌, All, AllPairs, IfErr, IfOk, OnOk, IsErrAnd, IsErrOf, IsOkAnd};
+ghost use Rattle.std.specs.Prelude.{length, true};
 ghost use Rattle.monk_object.specs.declared.name.ObjectName.TheVariants as object;
+ghost use Rattle.monk_hall.specs.Complete.{AreApart, HaveSeenPart, HoldsOnly};
 ghost use Rattle.monk_hall.specs.Floors.{StartsWith};
 ghost use Rattle.monk_hall.specs.Records.{first_view};
 ghost use Rattle.monk_hall.specs.Rule.{setting_of};
@@ -8,7 +10,8 @@ ghost use Rattle.monk_hall.specs.Tokens.{tokens};
 ghost use Rattle.monk_samples.specs.Crews.{AreReady, IsOf, IsClosed};
 ghost use Rattle.monk_samples.specs.Faults.{run_fault_of};
 ghost use Rattle.monk_samples.specs.Runs.{HasLeft, IsFaultOfRun, IsFirstSpent};
-ghost use Rattle.monk_samples.specs.Samples.{IsHistoryOf, IsInRange, IsOutcome, budget_of, conds_of, run_heading, size_of};
+ghost use Rattle.monk_samples.specs.Samples.{IsHistoryOf, IsInRange, IsOfFirstVersion, IsOutcome};
+ghost use Rattle.monk_samples.specs.Samples.{budget_of, conds_of, run_heading, size_of};
 ghost use Rattle.monk_samples.specs.Totals.{HasEnded, HasTotals, MissesNothing, missed_in};
 ghost use Rattle.monk_samples.specs.Wholes.{AreSame, HoldsOperationsOf, IsLeftBy};
 ghost use Rattle.monk_samples.specs.declared.crew_fault.CrewFault.TheVariants as crew;
@@ -278,11 +281,7 @@ fn close_by<K: Kind, T: Guarded, R: Wait>(
     let active = first.arrive(&hall).resume(rt, &hall);
     match close(hall, active) {
         Ok(closed) => {
-            let header = header_of::<K>(rota);
-            if !complete(&closed.history, seat, &others)
-                || !writable(&header, &closed.history)
-                || !has_ended(rota.sample, &closed.history)
-            {
+            if !is_whole(rota, &closed.history, seat, &others) {
                 return Err(CrewFault::Busy);
             }
             Ok(closed.history)
@@ -292,6 +291,19 @@ fn close_by<K: Kind, T: Guarded, R: Wait>(
             Err(CrewFault::Busy)
         }
     }
+}
+
+/// Whether the history holds what this seat and these others did and nothing else, all of it in the words of the first
+/// version, and of a book each read and write was ended.
+fn is_whole<K: Kind, T: Guarded>(rota: Rota, history: &[Event], seat: u8, others: &[Pass<K, T>]) -> bool
+    requires apart { AreApart seat others.now }
+    requires seen { HaveSeenPart history.now others.now }
+    ensures only { result ≡ true → HoldsOnly history.now seat others.now }
+    ensures early { result ≡ true → IsOfFirstVersion history.now }
+    ensures ended { result ≡ true → HasEnded rota.sample history.now }
+{
+    let header = header_of::<K>(rota);
+    complete(history, seat, others) && writable(&header, history) && has_ended(rota.sample, history)
 }
 
 /// What the run leaves, or why it leaves nothing.

@@ -1,4 +1,4 @@
-use Rattle.std.proofs.Common.{rules, ◌≡◌, true, inl, inr, refl, ap, sym, subst, ◌∙◌, List, [], ◌∷◌, ◌++◌}
+use Rattle.std.proofs.Common.{◌≡◌, inl, inr, refl, ap, sym, subst, ◌∙◌, List, [], ◌∷◌, ◌++◌}
 use Rattle.monk_history.specs.declared.event.Event.{Event}
 use Rattle.monk_history.specs.declared.event.Event.TheVariants.{Leave}
 use Rattle.monk_history.specs.declared.event.Next.TheVariants.{Entry}
@@ -14,7 +14,9 @@ use Rattle.monk_hall.specs.declared.record.SeatRecord.{SeatRecord}
 use Rattle.std.specs.Prelude.{All}
 use Rattle.monk_samples.proofs.MeetLaws.{apart_from, still_differ, closed_begins, closed_own, first_able, first_is_of, holds_operations}
 use Rattle.monk_samples.proofs.MeetLaws.{came_comes, closed_ends, left_by, nothing_done, only_here}
-use Rattle.monk_samples.proofs.RunLaws.{closed_by, first_words}
+use Rattle.monk_samples.proofs.RunLaws.{closed_by}
+use Rattle.monk_samples.specs.Samples.{IsOfFirstVersion}
+use Rattle.monk_samples.specs.Totals.{HasEnded}
 use Rattle.monk_samples.proofs.running.close_by.Goals as goal
 
 pub resume-active-requires-after_bounds : goal.resume-active-requires-after_bounds
@@ -34,16 +36,16 @@ leave-requires-after_bounds g c κs within =
     ∙ (first_is_of c.args.hall c.args.passes.items c.in_ok-first.first c.in_ok-first.others.items
     c.in_ok-first.ensures.same c.requires.of).0 ∙ sym (ap (λ (h : House). h.id) c.in-Err.ensures.busy.0)
 
-pub complete-requires-clause-apart : goal.complete-requires-clause-apart
-complete-requires-clause-apart g c κs within =
+pub is_whole-requires-clause-apart : goal.is_whole-requires-clause-apart
+is_whole-requires-clause-apart g c κs within =
     let first = c.in_ok-first.first in let others = c.in_ok-first.others.items in
     subst (λ n. AreApart n c.deref-in-Ok.result.now) (sym c.seat-seat.ensures)
     (subst (λ (qs : List Token). AreApart first.me.seat qs) (sym c.deref-in-Ok.ensures.value)
     (apart_from first others (still_differ c.args.passes.items
     (first ∷ others) c.in_ok-first.ensures.same c.requires.apart)))
 
-pub complete-requires-clause-seen : goal.complete-requires-clause-seen
-complete-requires-clause-seen g c κs within =
+pub is_whole-requires-clause-seen : goal.is_whole-requires-clause-seen
+is_whole-requires-clause-seen g c κs within =
     subst (λ (h : List Event). All (λ p. StartsWith h p.me.seen) c.deref-in-Ok.result.now) (sym c.deref.ensures.value)
     (subst (λ (qs : List Token). All (λ p. StartsWith c.in-Ok.closed.history.items p.me.seen) qs)
     (sym c.deref-in-Ok.ensures.value)
@@ -59,18 +61,19 @@ returns-in-Ok-clause-closed g c =
     (ap (λ (r : SeatRecord). r.setting) c.arrive.ensures.me
     ∙ (first_is_of c.args.hall c.args.passes.items c.in_ok-first.first c.in_ok-first.others.items
     c.in_ok-first.ensures.same c.requires.of).1) c.resume-active.ensures.floor c.in-Ok.ensures.ended
-    (first_words g.K.Kind.NAME c.args.rota.sample c.args.rota.seats _ c.in-Ok.closed.history.items _ c.writable.result
-    c.writable.ensures c.header_of-header.ensures c.deref-else-not-complete.ensures.value (search rules))
+    (subst IsOfFirstVersion c.deref.ensures.value (c.if-not-is_whole.ensures.early refl))
+
+pub returns-in-Ok-clause-ended : goal.returns-in-Ok-clause-ended
+returns-in-Ok-clause-ended g c =
+    subst (HasEnded c.args.rota.sample) c.deref.ensures.value (c.if-not-is_whole.ensures.ended refl)
 
 pub returns-in-Ok-clause-whole : goal.returns-in-Ok-clause-whole
 returns-in-Ok-clause-whole g c =
     let first = c.in_ok-first.first in let others = c.in_ok-first.others.items in
     let h = c.in-Ok.closed.history.items in
-    let is : c.complete.result ≡ true = search rules in
     let only =
     only_here h c.deref.result.now c.seat-seat.result first.me.seat others c.deref-in-Ok.result.now
-    c.complete.result
-    c.complete.ensures is c.deref.ensures.value c.seat-seat.ensures c.deref-in-Ok.ensures.value in
+    (c.if-not-is_whole.ensures.only refl) c.deref.ensures.value c.seat-seat.ensures c.deref-in-Ok.ensures.value in
     let own =
     closed_own h first.me.mine c.arrive.result.me.mine c.resume-active.result.me.mine _ _
     c.resume-active.result.me.seat
@@ -85,11 +88,9 @@ pub returns-in-Ok-clause-left : goal.returns-in-Ok-clause-left
 returns-in-Ok-clause-left g c =
     let first = c.in_ok-first.first in let others = c.in_ok-first.others.items in
     let h = c.in-Ok.closed.history.items in
-    let is : c.complete.result ≡ true = search rules in
     let only =
     only_here h c.deref.result.now c.seat-seat.result first.me.seat others c.deref-in-Ok.result.now
-    c.complete.result
-    c.complete.ensures is c.deref.ensures.value c.seat-seat.ensures c.deref-in-Ok.ensures.value in
+    (c.if-not-is_whole.ensures.only refl) c.deref.ensures.value c.seat-seat.ensures c.deref-in-Ok.ensures.value in
     let arrived = ap (λ (r : SeatRecord). r.seat) c.arrive.ensures.me in
     let seat = c.resume-active.ensures.seat ∙ arrived in
     let came = ap (λ (f : FloorView). f.history) c.resume-active.ensures.floor in
@@ -111,8 +112,8 @@ returns-in-Ok-clause-left g c =
     came c.resume-active.ensures.starts
     (ap (λ (r : SeatRecord). r.seen) c.arrive.ensures.me) c.in_ok-first.ensures.had_seen)
 
-pub returns-then-not-complete-clause-fault : goal.returns-then-not-complete-clause-fault
-returns-then-not-complete-clause-fault g c =
+pub returns-then-not-is_whole-clause-fault : goal.returns-then-not-is_whole-clause-fault
+returns-then-not-is_whole-clause-fault g c =
     inr (inl (
       refl,
       first_able c.args.passes.items c.in_ok-first.first c.in_ok-first.others.items c.left.result
