@@ -47,6 +47,10 @@ same_then [] (r ∷ qs) p q s t = absurd s
 same_then (r ∷ ps) [] p q s t = absurd s
 same_then (a ∷ ps) (b ∷ qs) p q s t = (s.0, same_then ps qs p q s.1 t)
 
+pub same_pushed : (ps qs rs : List Token) (p q : Token) → AreSame ps qs → IsSame p q → rs ≡ qs ++ q ∷ []
+    → AreSame (ps ++ p ∷ []) rs
+same_pushed ps qs rs p q s t pushed = subst (AreSame (ps ++ p ∷ [])) (sym pushed) (same_then ps qs p q s t)
+
 -- whoever has seen more still begins so
 pub still_begins : (new old : Token) (qs : List Token) → StartsWith new.me.seen old.me.seen
     → All (λ p. StartsWith old.me.seen p.me.seen) qs

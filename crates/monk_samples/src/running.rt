@@ -295,7 +295,12 @@ fn close_by<K: Kind, T: Guarded, R: Wait>(
 
 /// Whether the history holds what this seat and these others did and nothing else, all of it in the words of the first
 /// version, and of a book each read and write was ended.
-fn is_whole<K: Kind, T: Guarded>(rota: Rota, history: &[Event], seat: u8, others: &[Pass<K, T>]) -> bool
+fn is_whole<K: Kind, T: Guarded>(
+    rota: Rota,
+    history: &[Event],
+    seat: u8,
+    others: &[Pass<K, T>],
+) -> bool
     requires apart { AreApart seat others.now }
     requires seen { HaveSeenPart history.now others.now }
     ensures only { result ≡ true → HoldsOnly history.now seat others.now }

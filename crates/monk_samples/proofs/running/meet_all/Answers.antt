@@ -9,7 +9,7 @@ use Rattle.monk_samples.specs.Crews.{IsOf}
 use Rattle.monk_samples.specs.Wholes.{AreSame}
 use Rattle.monk_samples.specs.declared.crew_fault.CrewFault.TheVariants as crew
 use Rattle.monk_samples.proofs.EndLaws.{if_err}
-use Rattle.monk_samples.proofs.MeetLaws.{same_pass, same_again, same_then, still_begins, met_same, met_begins}
+use Rattle.monk_samples.proofs.MeetLaws.{same_pass, same_again, same_pushed, still_begins, met_same, met_begins}
 use Rattle.monk_samples.proofs.TrailLaws.{starts_here}
 use Rattle.monk_samples.proofs.RunLaws.{one_more, first_of, rest_of, same_all, none_yet}
 use Rattle.monk_samples.proofs.running.meet_all.Goals as goal
@@ -46,8 +46,8 @@ loop-pass-preserved g c =
       inv.1 ++ pass ∷ [],
       inv.2 ∙ ap (λ xs. inv.0 ∷ inv.1 ++ xs) steps ∙ ap (λ xs. inv.0 ∷ xs) (sym (append_assoc inv.1 (pass ∷ []) rest)),
       same_again inv.0 c.loop-pass.first c.meet.new.a inv.3 one,
-      subst (AreSame (inv.1 ++ pass ∷ [])) (sym c.in_ok-push.ensures.items)
-          (same_then inv.1 (vec_items c.loop-pass.others) pass c.meet.new.b inv.4 other),
+      same_pushed inv.1 (vec_items c.loop-pass.others) (vec_items c.push.new.self) pass c.meet.new.b inv.4 other
+          c.in_ok-push.ensures.items,
       one_more (vec_items c.loop-pass.others) (vec_items c.push.new.self) c.meet.new.b
           (λ p. StartsWith c.meet.new.a.me.seen p.me.seen) c.in_ok-push.ensures.items
           (still_begins c.meet.new.a c.loop-pass.first
