@@ -1,5 +1,5 @@
 -- What a run rests on: lists of workers and threads, a hall's passes, and the header of a closed hall
-use Rattle.std.proofs.Common.{◌≡◌, ℕ, zero, suc, ◌+◌, ◌*◌, ◌^◌, ◌≤◌, Bool, true, cond, All, Result, Ok, Err}
+use Rattle.std.proofs.Common.{◌≡◌, ℕ, zero, suc, ◌+◌, ◌*◌, ◌^◌, ◌≤◌, true, cond, All, Result, Ok, Err}
 use Rattle.std.specs.Prelude.{IsErrAnd, IsOkAnd, IsTrue}
 use Rattle.std.proofs.Common.{IfErr, IfOk, List, [], ◌∷◌, ◌++◌, map, length, refl, sym, ap, subst}
 use Rattle.std.proofs.Common.{◌∙◌, arith}
@@ -103,14 +103,6 @@ closed_by k o b c a before h state s f e early =
       few = subst (λ (x : FloorView). length h ≤ x.seats * x.budget) floor e.few;
       early = early;
     }
-
--- what may be written under the run's header is of the first version
-pub first_words : (name : KindName) (sample : Sample) (seats : ℕ) (header : Heading) (h lent : List Event)
-    (answer : Bool)
-    → answer ≡ is_writable header lent → header ≡ run_heading name sample seats → lent ≡ h → answer ≡ true
-    → IsOfFirstVersion h
-first_words name sample seats header h lent answer told is same holds =
-    subst IsOfFirstVersion same (sym (told ∙ ap (λ (x : Heading). is_writable x lent) is) ∙ holds)
 
 pub law_of : (k : Rules) (sample : Sample) (seats : ℕ) (h : List Event) → let m =
     monitor k seats (conds_of k) (meaning_named (sample_object sample))
