@@ -33,7 +33,12 @@ fn verdict(alloc: Global, kind: KindName, telling: &Telling) -> Result<Value, Al
 {
     let verdict = format!(in alloc; "{}", telling.verdict)?;
     let mut map = Map::new(alloc);
-    put(&mut map, alloc, "kind", Value::try_from_str(alloc, kind.as_str())?)?;
+    put(
+        &mut map,
+        alloc,
+        "kind",
+        Value::try_from_str(alloc, kind.as_str())?,
+    )?;
     put(&mut map, alloc, "verdict", Value::String(verdict))?;
     put(&mut map, alloc, "why", why(alloc, telling)?)?;
     Ok(Value::Object(map))
