@@ -13,7 +13,10 @@ impl InJson for (From3, u8) {
     ghost json = { front_json };
 
     fn value(&self, alloc: Global) -> Result<Value, AllocError> {
-        json!(in alloc; [queue_word(self.0), self.1])
+        let mut pair = Vec::new(alloc);
+        pair.push(Value::try_from_str(alloc, queue_word(self.0))?)?;
+        pair.push(Value::from(self.1))?;
+        Ok(Value::Array(pair))
     }
 }
 

@@ -2,7 +2,7 @@
 
 ghost use Rattle.std.specs.Prelude.{◌≡◌, ◌≤◌, ◌<◌, ◌^◌, Some, IfOk, OnOk, IsErrOf, length, option_map, string_bytes};
 ghost use Rattle.monk_object.specs.Names.{most};
-ghost use Rattle.monk_tell.specs.Told.{telling_of};
+ghost use Rattle.monk_tell.specs.Told.{account, telling_of};
 ghost use Rattle.serde_json.specs.Read.{read};
 ghost use Rattle.serde_json.specs.Written.{compact_text};
 ghost use Rattle.monk_page.specs.Html.{finish, front, middle, page_around, page_text, window_json};
@@ -61,6 +61,30 @@ fn forbidden_step(telling: &Telling) -> Option<u32>
     }
 }
 
+/// The page of a history of which that is told.
+fn page_told(
+    alloc: Global,
+    header: &Header,
+    events: &[Event],
+    telling: &Telling,
+    window: Option<Window>,
+    reason: &str,
+) -> Result<String, AuditFault>
+    requires few { length events.now ≤ 2 ^ 25 }
+    requires told { telling_of telling.now ≡ account header.now events.now }
+    ensures text { IfOk result (λ page. string_bytes page ≡ page_text header.now events.now window reason.now) }
+    ensures reads_back { OnOk result
+        (read (compact_text (window_json header.now events.now window))
+        ≡ Some (window_json header.now events.now window)) }
+    ensures object { IsErrOf result AuditFault.Object → most header.now.object < header.now.size }
+{
+    let forbidden = forbidden_step(telling);
+    let span = Span::of(window, showable(forbidden, events.len()));
+    let data = data_text(alloc, header, events, telling, span)?;
+    let picture = draw(alloc, header, events, window, forbidden, reason)?;
+    Ok(page_around(alloc, picture.as_str(), data.as_str())?)
+}
+
 /// The page of a history, as one HTML text: a picture, and the data of each step that is shown, which its script reads.
 ///
 /// `window` says which events are shown, and `reason` why an event is forbidden, as [`draw`] does.
@@ -94,9 +118,5 @@ pub fn page(
     ensures too_big { most header.now.object < header.now.size → IsErrOf result AuditFault.Object }
 {
     let telling = tell(alloc, header, events)?;
-    let forbidden = forbidden_step(&telling);
-    let span = Span::of(window, showable(forbidden, events.len()));
-    let data = data_text(alloc, header, events, &telling, span)?;
-    let picture = draw(alloc, header, events, window, forbidden, reason)?;
-    Ok(page_around(alloc, picture.as_str(), data.as_str())?)
+    page_told(alloc, header, events, &telling, window, reason)
 }

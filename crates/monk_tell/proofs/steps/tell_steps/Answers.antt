@@ -1,7 +1,28 @@
-use Rattle.std.proofs.Common.{◌∙◌, sym}
+use Rattle.std.proofs.Common.{◌≡◌, ◌∙◌, ℕ, List, ap₂, min, sym}
+use Rattle.monk_kinds.specs.Names.{rules_named}
+use Rattle.monk_object.specs.Names.{meaning_named, opening_named}
+use Rattle.monk_object.specs.declared.name.ObjectName.{ObjectName}
 use Rattle.monk_object.specs.declared.name.ObjectName.TheVariants.{Buffer, Book, Shop, Flags}
-use Rattle.monk_tell.proofs.TellLaws.{over_is}
+use Rattle.monk_history.specs.Meaning.Monitor.{Monitor, monitor}
+use Rattle.monk_history.specs.Meaning.Named.{named_monitor}
+use Rattle.monk_history.specs.Text.{Heading}
+use Rattle.monk_history.specs.declared.event.Event.{Event}
+use Rattle.monk_audit.specs.Verdict.{verdict_of}
+use Rattle.monk_audit.specs.declared.verdict.Verdict.{Verdict}
+use Rattle.monk_tell.specs.Steps.{ShownStep, allowed_events, steps_between, steps_of}
+use Rattle.monk_tell.proofs.TellLaws.{made_named, over_is}
 use Rattle.monk_tell.proofs.steps.tell_steps.Goals as goal
+
+-- the steps over an object that was made for the header are those of the history
+steps_are : (h : Heading) (o : ObjectName) (size : ℕ) (d : List ℕ) (es : List Event) (v : Verdict) (before last : ℕ)
+    (steps : List ShownStep)
+    → h.object ≡ o → size ≡ h.size → d ≡ opening_named o size → v ≡ verdict_of (named_monitor h) es
+    → steps ≡ steps_of (monitor (rules_named h.kind) h.seats h.conds (meaning_named o) d) es before
+    (min last (allowed_events v))
+    → steps ≡ steps_between h es before last
+steps_are h o size d es v before last steps is same made found told =
+    told ∙ ap₂ (λ (m : Monitor) (w : Verdict). steps_of m es before (min last (allowed_events w)))
+    (made_named h o size d is same made) found
 
 pub steps_over-requires-after_bounds : goal.steps_over-requires-after_bounds
 steps_over-requires-after_bounds c κs =
@@ -26,3 +47,39 @@ steps_over-requires-in-Flags-after_bounds c κs =
     over_is c.args.header.now Flags _ _ c.args.events.now c.in_ok-verdict.verdict
     (sym c.object.ensures ∙ c.in-Flags.is) c.size-size.ensures.value c.in_ok-flags-in-Flags.ensures.made
     c.in_ok-verdict.ensures.verdict
+
+pub returns-in_ok-steps_over-in-Buffer-clause-told : goal.returns-in_ok-steps_over-in-Buffer-clause-told
+returns-in_ok-steps_over-in-Buffer-clause-told c =
+    steps_are c.args.header.now Buffer _ _ c.args.events.now c.in_ok-verdict.verdict c.args.before c.args.last _
+    (sym c.object.ensures ∙ c.in-Buffer.is) c.size-size.ensures.value c.in_ok-buffer-in-Buffer.ensures.made
+    c.in_ok-verdict.ensures.verdict c.in_ok-steps_over-in-Buffer.ensures
+
+pub returns-in_ok-steps_over-in-Buffer-clause-fits : goal.returns-in_ok-steps_over-in-Buffer-clause-fits
+returns-in_ok-steps_over-in-Buffer-clause-fits c = c.in_ok-verdict.ensures.fits
+
+pub returns-in_ok-steps_over-in-Book-clause-told : goal.returns-in_ok-steps_over-in-Book-clause-told
+returns-in_ok-steps_over-in-Book-clause-told c =
+    steps_are c.args.header.now Book _ _ c.args.events.now c.in_ok-verdict.verdict c.args.before c.args.last _
+    (sym c.object.ensures ∙ c.in-Book.is) c.size-size.ensures.value c.in_ok-book-in-Book.ensures.made
+    c.in_ok-verdict.ensures.verdict c.in_ok-steps_over-in-Book.ensures
+
+pub returns-in_ok-steps_over-in-Book-clause-fits : goal.returns-in_ok-steps_over-in-Book-clause-fits
+returns-in_ok-steps_over-in-Book-clause-fits c = c.in_ok-verdict.ensures.fits
+
+pub returns-in_ok-steps_over-in-Shop-clause-told : goal.returns-in_ok-steps_over-in-Shop-clause-told
+returns-in_ok-steps_over-in-Shop-clause-told c =
+    steps_are c.args.header.now Shop _ _ c.args.events.now c.in_ok-verdict.verdict c.args.before c.args.last _
+    (sym c.object.ensures ∙ c.in-Shop.is) c.size-size.ensures.value c.in_ok-shop-in-Shop.ensures.made
+    c.in_ok-verdict.ensures.verdict c.in_ok-steps_over-in-Shop.ensures
+
+pub returns-in_ok-steps_over-in-Shop-clause-fits : goal.returns-in_ok-steps_over-in-Shop-clause-fits
+returns-in_ok-steps_over-in-Shop-clause-fits c = c.in_ok-verdict.ensures.fits
+
+pub returns-in_ok-steps_over-in-Flags-clause-told : goal.returns-in_ok-steps_over-in-Flags-clause-told
+returns-in_ok-steps_over-in-Flags-clause-told c =
+    steps_are c.args.header.now Flags _ _ c.args.events.now c.in_ok-verdict.verdict c.args.before c.args.last _
+    (sym c.object.ensures ∙ c.in-Flags.is) c.size-size.ensures.value c.in_ok-flags-in-Flags.ensures.made
+    c.in_ok-verdict.ensures.verdict c.in_ok-steps_over-in-Flags.ensures
+
+pub returns-in_ok-steps_over-in-Flags-clause-fits : goal.returns-in_ok-steps_over-in-Flags-clause-fits
+returns-in_ok-steps_over-in-Flags-clause-fits c = c.in_ok-verdict.ensures.fits
