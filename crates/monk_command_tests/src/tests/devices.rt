@@ -1,16 +1,18 @@
 //! Readers and writers that fail at each of their calls in turn, that give or take a few bytes at a time, or none.
 ghost use Rattle.std.specs.Prelude.{◌<◌};
 
-use super::jobs::Job;
+use super::jobs::{Expected, Job};
 use monk_commands::{Show, StreamFault, Task, classify_stream, run_stream, show_stream};
 use monk_history::Device;
 use monk_kinds::KindName;
 use monk_logs::Lapses;
 use monk_samples::Sample;
+use std::alloc::Global;
 use std::io;
-use std::io::{Read, Write};
-use std::process::Abort;
+use std::io::Read;
+use std::sync::Wait;
 use std::test::Fail;
+use std::thread::Threads;
 
 static JOBS: [Job<'static>; 12] = [
     Job {
@@ -99,9 +101,6 @@ static JOBS: [Job<'static>; 12] = [
     },
 ];
 
-/// By how many bytes a device gives or takes: by one, by pieces that end inside a line, by all that there are.
-const STEPS: [usize; 3] = [1, 7, 4096];
-
 /// A reader that gives a few bytes at a time and fails at one of its reads.
 #[derive(Drop)]
 struct Slow<'a> {
@@ -126,209 +125,230 @@ impl Read for Slow<'_> {
     }
 }
 
-/// A writer that takes a few bytes at a time, and at one of its writes fails or takes none.
-#[derive(Drop)]
-struct Tight {
-    taken: Vec<u8>,
-    step: usize,
-    /// Counted down to the one that fails; at 0 none will.
-    writes_left: usize,
-    refuses: bool,
+/// Whether it is the file fault, with the front of the answer, or all of it, once no call fails.
+fn is_due(
+    told: Result<u8, StreamFault>,
+    written: &Expected<'_>,
+    job: &Job<'_>,
+    fails: bool,
+) -> bool {
+    let is_told = match told {
+        Ok(status) => !fails && status == job.status && written.taken == job.answer.len(),
+        Err(StreamFault::File) => fails,
+        Err(_) => false,
+    };
+    is_told && written.agrees()
 }
 
-impl Write for Tight {
-    fn write(&mut self, buf: &[u8]) -> io::Result<usize> {
-        if self.writes_left == 1 {
-            self.writes_left = 0;
-            return if self.refuses {
-                Ok(0)
-            } else {
-                Err(io::Error::from(io::ErrorKind::Interrupted))
-            };
-        }
-        self.writes_left = self.writes_left.saturating_sub(1);
-        let taken = self.step.min(buf.len());
-        self.taken.extend_from_slice(&buf[..taken])?;
-        Ok(taken)
-    }
-
-    fn flush(&mut self) -> io::Result<()> {
-        Ok(())
-    }
-}
-
-/// Whether it is the file fault, with what a writer took by then, or the answer, once no call fails.
-fn is_due(told: Result<u8, StreamFault>, taken: &[u8], job: &Job<'_>, fails: bool) -> bool {
-    if fails {
-        told == Err(StreamFault::File) && job.answer.starts_with(taken)
-    } else {
-        told == Ok(job.status) && taken == job.answer
-    }
+/// Whether the read of that number fails, and nothing is written, or none fails.
+fn read_fails(alloc: Global, job: &Job<'_>, step: usize, fails_at: usize, fails: bool) -> bool {
+    let mut reader = Device::new(Slow {
+        rest: job.input,
+        step,
+        reads_left: fails_at,
+    });
+    let mut written = Expected::new(job.answer);
+    let told = job
+        .task
+        .stream(alloc, &mut reader, &mut Device::new(&mut written));
+    let is_due = is_due(told, &written, job, fails) && (!fails || written.taken == 0);
+    is_due && reader.failed() == fails
 }
 
 /// Each read fails in turn, up to the one that finds the end; then none does.
-fn reads_fail<R: Abort + AllocGlobal>(rt: &R, job: &Job<'_>, step: usize) -> Result<(), Fail>
+fn reads_fail(alloc: Global, job: &Job<'_>, step: usize) -> bool
     requires { 0 < step }
 {
-    let alloc = rt.alloc();
     let last = job.input.len().div_ceil(step).saturating_add(1);
     for fails_at in 1..=last.saturating_add(1) {
-        let mut reader = Device::new(Slow {
-            rest: job.input,
-            step,
-            reads_left: fails_at,
-        });
-        let mut taken = Vec::new(alloc);
-        let told = job
-            .task
-            .stream(alloc, &mut reader, &mut Device::new(&mut taken));
-        let fails = fails_at <= last;
-        let is_due = is_due(told, &taken, job, fails) && (!fails || taken.is_empty());
-        assert!(rt; is_due && reader.failed() == fails);
+        if !read_fails(alloc, job, step, fails_at, fails_at <= last) {
+            return false;
+        }
     }
-    Ok(())
+    true
 }
 
+/// By one byte, by pieces that end inside a line, by all that there are.
 #[test]
 fn reads_fail_in_turn(rt: HostRuntime) -> Result<(), Fail> {
     for job in JOBS.iter() {
-        for step in STEPS {
-            reads_fail(&rt, job, step)?;
+        let alloc = rt.alloc();
+        if !(reads_fail(alloc, job, 1)
+            && reads_fail(alloc, job, 7)
+            && reads_fail(alloc, job, 4096))
+        {
+            return Err(job.name)?;
         }
     }
     Ok(())
 }
 
-/// Each write fails in turn, and takes none of its bytes; then none fails.
-fn writes_fail<R: Abort + AllocGlobal>(
-    rt: &R,
+/// Whether a write fails, and so many bytes are taken before, or none fails.
+fn write_fails(
+    alloc: Global,
     job: &Job<'_>,
-    step: usize,
-    refuses: bool,
-) -> Result<(), Fail>
+    mut written: Expected<'_>,
+    before: usize,
+    fails: bool,
+) -> bool {
+    let mut writer = Device::new(&mut written);
+    let told = job
+        .task
+        .stream(alloc, &mut Device::new(job.input), &mut writer);
+    let has_failed = writer.failed();
+    let is_whole = written.taken == before.min(job.answer.len());
+    is_whole && has_failed == fails && is_due(told, &written, job, fails)
+}
+
+/// Each write fails in turn, and takes none of its bytes; then none fails.
+fn writes_fail(alloc: Global, job: &Job<'_>, step: usize, refuses: bool) -> bool
     requires { 0 < step }
 {
-    let alloc = rt.alloc();
     let last = job.answer.len().div_ceil(step);
     for fails_at in 1..=last.saturating_add(1) {
-        let mut tight = Tight {
-            taken: Vec::new(alloc),
-            step,
-            writes_left: fails_at,
-            refuses,
-        };
-        let mut writer = Device::new(&mut tight);
-        let told = job
-            .task
-            .stream(alloc, &mut Device::new(job.input), &mut writer);
-        let fails = fails_at <= last;
-        let has_failed = writer.failed();
+        let written = Expected::failing(job.answer, step, fails_at, refuses);
         let before = fails_at.saturating_sub(1).saturating_mul(step);
-        let is_whole = tight.taken.len() == before.min(job.answer.len());
-        assert!(rt; is_whole && has_failed == fails && is_due(told, &tight.taken, job, fails));
+        if !write_fails(alloc, job, written, before, fails_at <= last) {
+            return false;
+        }
     }
-    Ok(())
+    true
+}
+
+/// Whether each write fails in turn, in both ways.
+fn both_fail(alloc: Global, job: &Job<'_>, step: usize) -> bool
+    requires { 0 < step }
+{
+    writes_fail(alloc, job, step, false) && writes_fail(alloc, job, step, true)
 }
 
 #[test]
 fn writes_fail_in_turn(rt: HostRuntime) -> Result<(), Fail> {
     for job in JOBS.iter() {
-        for step in STEPS {
-            writes_fail(&rt, job, step, false)?;
-            writes_fail(&rt, job, step, true)?;
+        let alloc = rt.alloc();
+        if !(both_fail(alloc, job, 1) && both_fail(alloc, job, 7) && both_fail(alloc, job, 4096)) {
+            return Err(job.name)?;
         }
     }
     Ok(())
 }
 
-/// A picture is some 4000 bytes; what they are, a first one tells.
-#[test]
-fn pictures_fail_in_turn(rt: HostRuntime) -> Result<(), Fail> {
-    let alloc = rt.alloc();
-    let input: &[u8] = b"monk 1 PB 1 0 buffer 1\nenter 0 free\nleave 0 entry\n";
-    let mut page = Vec::new(alloc);
-    let status = show_stream(
-        alloc,
-        Show::Picture,
-        None,
-        &mut Device::new(input),
-        &mut Device::new(&mut page),
-    )?;
+/// A text of which a picture of some 4000 bytes is drawn.
+const DRAWN: &[u8] = b"monk 1 PB 1 0 buffer 1\nenter 0 free\nleave 0 entry\n";
+
+/// Whether each read and write of this picture fails in turn.
+fn picture_fails(alloc: Global, status: u8, answer: &[u8]) -> bool {
     let job = Job {
         name: "drawn",
         task: Task::Draw(None),
-        input,
+        input: DRAWN,
         status,
-        answer: &page,
+        answer,
     };
-    for step in [64usize, 4096] {
-        reads_fail(&rt, &job, step)?;
-        writes_fail(&rt, &job, step, false)?;
-        writes_fail(&rt, &job, step, true)?;
-    }
-    Ok(())
+    reads_fail(alloc, &job, 64)
+        && reads_fail(alloc, &job, 4096)
+        && both_fail(alloc, &job, 64)
+        && both_fail(alloc, &job, 4096)
+}
+
+/// What the bytes of the picture are, a first one tells.
+#[test]
+fn pictures_fail_in_turn(rt: HostRuntime) {
+    let alloc = rt.alloc();
+    let mut page = Vec::new(alloc);
+    let told = show_stream(
+        alloc,
+        Show::Picture,
+        None,
+        &mut Device::new(DRAWN),
+        &mut Device::new(&mut page),
+    );
+    assert!(rt; matches!(told, Ok(status) if picture_fails(alloc, status, &page)));
+}
+
+/// Whether the file fault is told where a writer never takes a byte.
+fn fails_at_once(alloc: Global, job: &Job<'_>) -> bool {
+    let mut writer = Device::new(Expected::failing(job.answer, 0, 0, true));
+    let told = job
+        .task
+        .stream(alloc, &mut Device::new(job.input), &mut writer);
+    matches!(told, Err(StreamFault::File)) && writer.failed()
 }
 
 /// A writer that never takes a byte.
 #[test]
 fn nothing_is_taken(rt: HostRuntime) -> Result<(), Fail> {
-    let alloc = rt.alloc();
     for job in JOBS.iter() {
-        let mut writer = Device::new(Tight {
-            taken: Vec::new(alloc),
-            step: 0,
-            writes_left: 0,
-            refuses: true,
-        });
-        let told = job
-            .task
-            .stream(alloc, &mut Device::new(job.input), &mut writer);
-        assert!(rt; told == Err(StreamFault::File) && writer.failed());
+        if !fails_at_once(rt.alloc(), job) {
+            return Err(job.name)?;
+        }
     }
     Ok(())
+}
+
+/// Whether the file fault is told, and the writer has failed, or neither.
+fn is_file_fault(told: Result<u8, StreamFault>, failed: bool, fails: bool) -> bool {
+    match told {
+        Ok(status) => status == 0 && !fails && !failed,
+        Err(StreamFault::File) => fails && failed,
+        Err(_) => false,
+    }
+}
+
+/// Whether a writer of the ordering fails at that write, or none does.
+fn two_lines_fail(step: usize, fails_at: usize, refuses: bool, fails: bool) -> bool {
+    let lines = b"Ep<Sp<Wp\nPB\n";
+    let mut writer = Device::new(Expected::failing(lines, step, fails_at, refuses));
+    let told = classify_stream(1, 3, 2, &mut writer);
+    is_file_fault(told, writer.failed(), fails)
 }
 
 /// `Ep<Sp<Wp` and `PB`, each with its newline, are four writes of what is taken at once, and twelve of a byte each.
 #[test]
-fn two_lines_fail_in_turn(rt: HostRuntime) -> Result<(), Fail> {
+fn two_lines_fail_in_turn(rt: HostRuntime) {
     for (step, last) in [(1usize, 12usize), (4096, 4)] {
         for fails_at in 1..20usize {
-            for refuses in [false, true] {
-                let mut writer = Device::new(Tight {
-                    taken: Vec::new(rt.alloc()),
-                    step,
-                    writes_left: fails_at,
-                    refuses,
-                });
-                let told = classify_stream(1, 3, 2, &mut writer);
-                let fails = fails_at <= last;
-                let wanted = if fails { Err(StreamFault::File) } else { Ok(0) };
-                assert!(rt; told == wanted && writer.failed() == fails);
-            }
+            let fails = fails_at <= last;
+            assert!(rt;
+                two_lines_fail(step, fails_at, false, fails)
+                    && two_lines_fail(step, fails_at, true, fails)
+            );
         }
     }
-    Ok(())
+}
+
+/// Whether a writer of the totals of a run fails at that write, or none does.
+fn totals_fail<R: Threads + Wait + Sync + AllocGlobal>(
+    rt: &R,
+    step: usize,
+    fails_at: usize,
+    refuses: bool,
+    fails: bool,
+) -> bool {
+    let totals = b"put 1 1\ntaken 1 1\nlegal\n";
+    let mut writer = Device::new(Expected::failing(totals, step, fails_at, refuses));
+    let told = run_stream(
+        rt,
+        rt.alloc(),
+        KindName::Pir,
+        Sample::Buffer,
+        2,
+        1,
+        &mut writer,
+    );
+    is_file_fault(told, writer.failed(), fails)
 }
 
 /// The totals of a run are 24 bytes: `put 1 1`, `taken 1 1` and `legal` with their newlines.
 #[test]
-fn totals_fail_in_turn(rt: HostRuntime) -> Result<(), Fail> {
-    let alloc = rt.alloc();
+fn totals_fail_in_turn(rt: HostRuntime) {
     for (step, last) in [(1usize, 24usize), (7, 4), (4096, 1)] {
         for fails_at in 1..=last.saturating_add(1) {
-            for refuses in [false, true] {
-                let mut writer = Device::new(Tight {
-                    taken: Vec::new(alloc),
-                    step,
-                    writes_left: fails_at,
-                    refuses,
-                });
-                let told = run_stream(&rt, alloc, KindName::Pir, Sample::Buffer, 2, 1, &mut writer);
-                let fails = fails_at <= last;
-                let wanted = if fails { Err(StreamFault::File) } else { Ok(0) };
-                assert!(rt; told == wanted && writer.failed() == fails);
-            }
+            let fails = fails_at <= last;
+            assert!(rt;
+                totals_fail(&rt, step, fails_at, false, fails)
+                    && totals_fail(&rt, step, fails_at, true, fails)
+            );
         }
     }
-    Ok(())
 }

@@ -3,8 +3,7 @@
 use monk_commands::{Show, show_stream};
 use monk_draw::Window;
 use monk_history::Device;
-use std::alloc::Global;
-use std::process::Abort;
+use std::alloc::{AllocError, Global};
 use std::test::Fail;
 
 /// A text that is to be drawn, how many marks its picture has, and what is written in it.
@@ -141,72 +140,41 @@ fn shows(page: &str, drawing: &Drawing<'_>) -> bool {
         && page.find(drawing.says).is_some()
 }
 
-/// Draws events of the text, and looks at the picture.
-fn is_drawn_from<R: Abort + AllocGlobal>(
-    rt: &R,
-    window: Option<Window>,
-    drawing: &Drawing<'_>,
-) -> Result<bool, Fail> {
-    let alloc = rt.alloc();
+/// Whether events of the text are drawn so.
+fn is_drawn_from(alloc: Global, window: Option<Window>, drawing: &Drawing<'_>) -> bool {
     let mut page = Vec::new(alloc);
     let mut reader = Device::new(drawing.input);
     let mut writer = Device::new(&mut page);
-    let status = show_stream(alloc, Show::Picture, window, &mut reader, &mut writer)?;
-    Ok(status == drawing.status && shows(str::from_utf8(&page)?, drawing))
-}
-
-/// Draws the text, and looks at the picture.
-fn is_drawn<R: Abort + AllocGlobal>(rt: &R, drawing: &Drawing<'_>) -> Result<bool, Fail> {
-    is_drawn_from(rt, None, drawing)
+    let told = show_stream(alloc, Show::Picture, window, &mut reader, &mut writer);
+    matches!(told, Ok(status) if status == drawing.status)
+        && matches!(str::from_utf8(&page), Ok(page) if shows(page, drawing))
 }
 
 #[test]
 fn histories_are_drawn(rt: HostRuntime) -> Result<(), Fail> {
     for drawing in DRAWINGS.iter() {
-        assert!(rt; is_drawn(&rt, drawing)?);
+        if !is_drawn_from(rt.alloc(), None, drawing) {
+            return Err(drawing.says)?;
+        }
     }
     Ok(())
 }
 
-/// A text in which a seat comes and goes so many times.
-fn visits(alloc: Global, count: u32, last: &str) -> Result<String, Fail> {
+/// A text in which a seat comes and goes 150 times, and its last lines.
+fn visits(alloc: Global, last: &str) -> Result<String, AllocError> {
     let mut text = String::from_str(alloc, "monk 1 PB 2 0 buffer 1\n")?;
-    for _ in 0..count {
+    for _ in 0..150 {
         text.push_str("enter 0 free\nleave 0 entry\n")?;
     }
     text.push_str(last)?;
     Ok(text)
 }
 
-/// Of 301 events the last 200 are shown, and of those up to the one that is forbidden the last 200,
-/// with its caption beside it.
-#[test]
-fn long_histories_show_their_end(rt: HostRuntime) -> Result<(), Fail> {
-    let legal = visits(rt.alloc(), 150, "enter 1 free\n")?;
-    let whole = Drawing {
-        input: legal.as_bytes(),
-        marks: 200,
-        says: "<text class=\"step\" x=\"122\" y=\"60\">102</text>\n",
-        status: 0,
-    };
-    assert!(rt; is_drawn(&rt, &whole)?);
-    let forbidden = visits(rt.alloc(), 150, "leave 1 entry\nenter 1 free\n")?;
-    let mut cut = Drawing {
-        input: forbidden.as_bytes(),
-        status: 1,
-        ..whole
-    };
-    assert!(rt; is_drawn(&rt, &cut)?);
-    cut.says = "<text class=\"wrong far\" x=\"15246\" y=\"28\">301 is forbidden: turn";
-    assert!(rt; is_drawn(&rt, &cut)?);
-    Ok(())
-}
-
 /// Numbers that are told of events, how many marks the picture then has, and what is written in it.
 type Told = (Option<u32>, Option<u32>, usize, &'static str);
 
 /// Of a history of 301 events.
-static LEGAL: [Told; 6] = [
+const LEGAL: &[Told] = &[
     (Some(4), Some(7), 4, "<title>4: leave 0 entry</title>"),
     (Some(301), Some(301), 1, "<title>301: enter 1 free</title>"),
     (Some(300), None, 2, "<title>300: leave 0 entry</title>"),
@@ -221,7 +189,7 @@ static LEGAL: [Told; 6] = [
 ];
 
 /// Of one whose event 301 is forbidden, with one more behind it.
-static FORBIDDEN: [Told; 2] = [
+const FORBIDDEN: &[Told] = &[
     (
         Some(299),
         None,
@@ -231,16 +199,38 @@ static FORBIDDEN: [Told; 2] = [
     (Some(1), Some(300), 300, "<title>300: leave 0 entry</title>"),
 ];
 
+/// Behind the events that there are, of either.
+const BEHIND: &[Told] = &[(Some(302), None, 0, "window 301\n")];
+
+/// The last 200 of 301 events.
+const END: &[Told] = &[(
+    None,
+    None,
+    200,
+    "<text class=\"step\" x=\"122\" y=\"60\">102</text>\n",
+)];
+
+/// The last 200 of the events up to one that is forbidden, with its caption beside it.
+const FORBIDDEN_END: &[Told] = &[
+    (
+        None,
+        None,
+        200,
+        "<text class=\"step\" x=\"122\" y=\"60\">102</text>\n",
+    ),
+    (
+        None,
+        None,
+        200,
+        "<text class=\"wrong far\" x=\"15246\" y=\"28\">301 is forbidden: turn",
+    ),
+];
+
 /// Whether what the numbers ask for is drawn, with this status.
-fn are_drawn<R: Abort + AllocGlobal>(
-    rt: &R,
-    input: &[u8],
-    status: u8,
-    told: &Told,
-) -> Result<bool, Fail> {
+fn is_told_drawn(alloc: Global, input: &[u8], status: u8, told: &Told) -> bool {
     let (from, to, marks, says) = *told;
     let Ok(window) = Window::asked(from, to) else {
-        return Ok(false);
+        return false;
     };
     let drawing = Drawing {
         input,
@@ -248,21 +238,46 @@ fn are_drawn<R: Abort + AllocGlobal>(
         says,
         status,
     };
-    is_drawn_from(rt, window, &drawing)
+    is_drawn_from(alloc, window, &drawing)
+}
+
+/// Nothing if all rows are drawn; else what the first one says that isn't.
+fn first_undrawn(alloc: Global, input: &[u8], status: u8, rows: &[Told]) -> Option<&'static str> {
+    for told in rows {
+        if !is_told_drawn(alloc, input, status, told) {
+            return Some(told.3);
+        }
+    }
+    None
+}
+
+/// The last lines of 150 visits, the status of their drawings, and these.
+type Drawn = (&'static str, u8, &'static [Told]);
+
+static ENDS: [Drawn; 6] = [
+    ("enter 1 free\n", 0, END),
+    ("leave 1 entry\nenter 1 free\n", 1, FORBIDDEN_END),
+    ("enter 1 free\n", 0, LEGAL),
+    ("enter 1 free\n", 2, BEHIND),
+    ("leave 1 entry\nenter 1 free\n", 1, FORBIDDEN),
+    ("leave 1 entry\nenter 1 free\n", 2, BEHIND),
+];
+
+/// All of them are drawn; else what the first says is named that isn't.
+fn are_drawn(alloc: Global, drawn: &Drawn) -> Option<&'static str> {
+    let (last, status, rows) = *drawn;
+    match &visits(alloc, last) {
+        Ok(text) => first_undrawn(alloc, text.as_bytes(), status, rows),
+        Err(_) => Some("no memory"),
+    }
 }
 
 #[test]
-fn events_that_are_asked_for_are_drawn(rt: HostRuntime) -> Result<(), Fail> {
-    let legal = visits(rt.alloc(), 150, "enter 1 free\n")?;
-    for told in LEGAL.iter() {
-        assert!(rt; are_drawn(&rt, legal.as_bytes(), 0, told)?);
+fn long_histories_are_drawn(rt: HostRuntime) -> Result<(), Fail> {
+    for drawn in ENDS.iter() {
+        if let Some(says) = are_drawn(rt.alloc(), drawn) {
+            return Err(says)?;
+        }
     }
-    let behind = (Some(302), None, 0, "window 301\n");
-    assert!(rt; are_drawn(&rt, legal.as_bytes(), 2, &behind)?);
-    let forbidden = visits(rt.alloc(), 150, "leave 1 entry\nenter 1 free\n")?;
-    for told in FORBIDDEN.iter() {
-        assert!(rt; are_drawn(&rt, forbidden.as_bytes(), 1, told)?);
-    }
-    assert!(rt; are_drawn(&rt, forbidden.as_bytes(), 2, &behind)?);
     Ok(())
 }

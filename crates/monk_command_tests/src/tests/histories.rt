@@ -357,25 +357,30 @@ fn answer_to_front(alloc: Global, front: &[u8], lines: u32) -> Result<String, Al
     }
 }
 
+/// Whether the first bytes of the stored run, in which so many lines end, have their answer.
+fn is_front_answered(rt: &HostRuntime, front: &[u8], lines: u32) -> bool {
+    let Ok(answer) = answer_to_front(rt.alloc(), front, lines) else {
+        return false;
+    };
+    let job = Job {
+        name: "cut short",
+        task: Task::Audit,
+        input: front,
+        status: if front.last() == Some(&b'\n') { 0 } else { 2 },
+        answer: answer.as_bytes(),
+    };
+    matches!(is_answered(rt, &job), Ok(true))
+}
+
 /// The stored run, cut after each number of bytes.
 #[test]
-fn a_text_cut_short(rt: HostRuntime) -> Result<(), Fail> {
+fn a_text_cut_short(rt: HostRuntime) {
     let mut lines = 0u32;
     for cut in 0..RUN.len() {
         let front = &RUN[..cut];
-        let at_end = front.last() == Some(&b'\n');
-        if at_end {
+        if front.last() == Some(&b'\n') {
             lines = lines.wrapping_add(1);
         }
-        let answer = answer_to_front(rt.alloc(), front, lines)?;
-        let job = Job {
-            name: "cut short",
-            task: Task::Audit,
-            input: front,
-            status: if at_end { 0 } else { 2 },
-            answer: answer.as_bytes(),
-        };
-        assert!(rt; is_answered(&rt, &job)?);
+        assert!(rt; is_front_answered(&rt, front, lines));
     }
-    Ok(())
 }

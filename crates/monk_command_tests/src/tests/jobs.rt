@@ -16,25 +16,69 @@ pub(crate) struct Job<'a> {
     pub(crate) answer: &'a [u8],
 }
 
-/// A writer that keeps nothing: it compares what it gets with what is still expected.
+/// A writer that keeps nothing: it compares what it gets with what is still expected. It takes a few bytes
+/// at a time, and at one of its writes it fails or takes none.
 #[derive(Drop)]
-struct Expected<'a> {
+pub(crate) struct Expected<'a> {
     rest: &'a [u8],
     differs: bool,
+    /// How many bytes it took.
+    pub(crate) taken: usize,
+    step: usize,
+    /// Counted down to the one that fails; at 0 none will.
+    writes_left: usize,
+    refuses: bool,
+}
+
+impl<'a> Expected<'a> {
+    /// One that takes all that it gets.
+    pub(crate) fn new(answer: &'a [u8]) -> Self {
+        Expected::failing(answer, usize::MAX, 0, false)
+    }
+
+    /// One that takes so many bytes at a time, and fails at the write of that number or takes none.
+    pub(crate) fn failing(
+        answer: &'a [u8],
+        step: usize,
+        writes_left: usize,
+        refuses: bool,
+    ) -> Self {
+        Expected {
+            rest: answer,
+            differs: false,
+            taken: 0,
+            step,
+            writes_left,
+            refuses,
+        }
+    }
+
+    /// Whether what it took begins with the answer, or is the front of it.
+    pub(crate) fn agrees(&self) -> bool {
+        !self.differs
+    }
 }
 
 impl Write for Expected<'_> {
     fn write(&mut self, buf: &[u8]) -> io::Result<usize> {
-        if buf.len() > self.rest.len() {
-            self.differs = true;
-            return Ok(buf.len());
+        if self.writes_left == 1 {
+            self.writes_left = 0;
+            return if self.refuses {
+                Ok(0)
+            } else {
+                Err(io::Error::from(io::ErrorKind::Interrupted))
+            };
         }
-        let (front, rest) = self.rest.split_at(buf.len());
-        if front != buf {
+        self.writes_left = self.writes_left.saturating_sub(1);
+        let taken = self.step.min(buf.len());
+        let known = taken.min(self.rest.len());
+        let (front, rest) = self.rest.split_at(known);
+        if front != &buf[..known] {
             self.differs = true;
         }
         self.rest = rest;
-        Ok(buf.len())
+        self.taken = self.taken.saturating_add(taken);
+        Ok(taken)
     }
 
     fn flush(&mut self) -> io::Result<()> {
@@ -45,19 +89,16 @@ impl Write for Expected<'_> {
 /// Whether the answer that was looked for was written, and nothing else, with its status. Where
 /// memory was refused, that is the fault, and nothing was written.
 pub(crate) fn is_answered(rt: &HostRuntime, job: &Job<'_>) -> Result<bool, StreamFault> {
-    let mut answer = Expected {
-        rest: job.answer,
-        differs: false,
-    };
+    let mut answer = Expected::new(job.answer);
     let mut reader = Device::new(job.input);
     let told = job
         .task
         .stream(rt.alloc(), &mut reader, &mut Device::new(&mut answer));
-    let is_whole = !answer.differs && answer.rest.is_empty();
-    let is_untouched = !answer.differs && answer.rest.len() == job.answer.len();
     match told {
-        Ok(status) => Ok(status == job.status && is_whole),
-        Err(fault) if is_untouched => Err(fault),
+        Ok(status) => {
+            Ok(status == job.status && answer.agrees() && answer.taken == job.answer.len())
+        }
+        Err(fault) if answer.taken == 0 => Err(fault),
         Err(_) => Ok(false),
     }
 }

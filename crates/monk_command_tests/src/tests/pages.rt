@@ -4,6 +4,7 @@ use monk_audit::AuditFault;
 use monk_draw::Window;
 use monk_history::read;
 use monk_page::page;
+use std::alloc::{AllocError, Global};
 use std::test::Fail;
 
 /// A hand-over as Hoare's, of a kind whose signallers go on.
@@ -81,54 +82,78 @@ static PAGES: [Page<'static>; 9] = [
     },
 ];
 
-/// Whether the page says so, and is one.
-fn says(rt: &HostRuntime, asked: &Page<'_>) -> Result<bool, Fail> {
-    let alloc = rt.alloc();
-    let (header, events) = read(alloc, asked.input)?;
+/// The page of a text that can be read.
+fn page_of(
+    alloc: Global,
+    text: &[u8],
+    window: Option<Window>,
+    reason: &str,
+) -> Option<Result<String, AuditFault>> {
+    let Ok((header, events)) = read(alloc, text) else {
+        return None;
+    };
     if events.len() > 1 << 25 {
-        return Err("too many events")?;
+        return None;
     }
-    let window = Window::asked(asked.from, asked.to)?;
-    let page = page(alloc, &header, &events, window, "choice")?;
-    Ok(
-        page.as_str().starts_with("<!DOCTYPE html>")
-            && page.as_str().ends_with("</html>\n")
-            && page.as_str().find("<svg xmlns=").is_some()
-            && page.as_str().find(asked.says).is_some(),
-    )
+    Some(page(alloc, &header, &events, window, reason))
+}
+
+/// Whether the page says so, and is one.
+fn says(page: &str, words: &str) -> bool {
+    page.starts_with("<!DOCTYPE html>")
+        && page.ends_with("</html>\n")
+        && page.find("<svg xmlns=").is_some()
+        && page.find(words).is_some()
+}
+
+/// Whether the page that is asked for says so.
+fn is_paged(alloc: Global, asked: &Page<'_>) -> bool {
+    let Ok(window) = Window::asked(asked.from, asked.to) else {
+        return false;
+    };
+    let paged = page_of(alloc, asked.input, window, "choice");
+    matches!(&paged, Some(Ok(page)) if says(page.as_str(), asked.says))
 }
 
 #[test]
 fn pages_have_their_data(rt: HostRuntime) -> Result<(), Fail> {
     for asked in PAGES.iter() {
-        assert!(rt; says(&rt, asked)?);
+        if !is_paged(rt.alloc(), asked) {
+            return Err(asked.says)?;
+        }
     }
     Ok(())
 }
 
 #[test]
-fn size_is_too_big_for_a_page(rt: HostRuntime) -> Result<(), Fail> {
-    let (header, events) = read(rt.alloc(), b"monk 1 PB 1 0 buffer 65\n")?;
-    assert!(rt; events.is_empty());
-    let paged = page(rt.alloc(), &header, &events, None, "");
-    assert!(rt; matches!(paged, Err(AuditFault::Object)));
-    Ok(())
+fn size_is_too_big_for_a_page(rt: HostRuntime) {
+    let paged = page_of(rt.alloc(), b"monk 1 PB 1 0 buffer 65\n", None, "");
+    assert!(rt; matches!(&paged, Some(Err(AuditFault::Object))));
 }
 
-/// The widest window has a step for each of its events, and one before them.
-#[test]
-fn widest_window_has_each_step(rt: HostRuntime) -> Result<(), Fail> {
-    let alloc = rt.alloc();
+/// A text in which a seat comes and goes a thousand times.
+fn thousand_visits(alloc: Global) -> Result<String, AllocError> {
     let mut text = String::from_str(alloc, "monk 1 PB 2 2 buffer 1\n")?;
     for _ in 0..1000 {
         text.push_str("enter 0 free\nleave 0 entry\n")?;
     }
-    let (header, events) = read(alloc, text.as_bytes())?;
-    if events.len() > 1 << 25 {
-        return Err("too many events")?;
+    Ok(text)
+}
+
+/// How many pieces the page of the widest window has between its steps.
+fn pieces_of_widest(alloc: Global, text: &str) -> usize {
+    let Ok(window) = Window::asked(Some(1), Some(2000)) else {
+        return 0;
+    };
+    match &page_of(alloc, text.as_bytes(), window, "") {
+        Some(Ok(page)) => page.as_str().split("\"turn\":").count(),
+        _ => 0,
     }
-    let window = Window::asked(Some(1), Some(2000))?;
-    let page = page(alloc, &header, &events, window, "")?;
-    assert_eq!(rt; page.as_str().split("\"turn\":").count(), 2002);
-    Ok(())
+}
+
+/// The widest window has a step for each of its events, and one before them.
+#[test]
+fn widest_window_has_each_step(rt: HostRuntime) {
+    let text = thousand_visits(rt.alloc());
+    assert!(rt; matches!(&text, Ok(text) if pieces_of_widest(rt.alloc(), text.as_str()) == 2002));
 }

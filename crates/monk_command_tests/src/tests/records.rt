@@ -1,13 +1,21 @@
 //! What a recorded run writes is audited.
 ghost use Rattle.monk_samples.specs.Samples.{IsInRange};
 
-use monk_commands::{StreamFault, audit_stream, record_stream};
+use super::jobs::Expected;
+use monk_commands::{audit_stream, record_stream};
 use monk_history::Device;
 use monk_kinds::KindName;
 use monk_samples::Sample;
+use std::alloc::Global;
 use std::sync::Wait;
-use std::test::Fail;
 use std::thread::Threads;
+
+/// Whether an audit finds the text legal.
+fn is_legal(alloc: Global, text: &[u8]) -> bool {
+    let mut line = Expected::new(b"legal ");
+    let told = audit_stream(alloc, &mut Device::new(text), &mut Device::new(&mut line));
+    matches!(told, Ok(0)) && line.agrees() && line.taken > 6
+}
 
 /// Whether the run is recorded with status 0 behind this header, and an audit finds its text legal.
 fn is_recorded<R: Threads + Wait + Sync + AllocGlobal>(
@@ -17,32 +25,24 @@ fn is_recorded<R: Threads + Wait + Sync + AllocGlobal>(
     seats: u8,
     rounds: u32,
     header: &str,
-) -> Result<bool, StreamFault>
+) -> bool
     requires { IsInRange seats rounds }
 {
     let alloc = rt.alloc();
     let mut page = Vec::new(alloc);
     let mut writer = Device::new(&mut page);
-    let status = record_stream(rt, alloc, kind, sample, seats, rounds, &mut writer)?;
-    if status != 0 || !page.as_slice().starts_with(header.as_bytes()) {
-        return Ok(false);
-    }
-    let mut line = Vec::new(alloc);
-    let status = audit_stream(
-        alloc,
-        &mut Device::new(page.as_slice()),
-        &mut Device::new(&mut line),
-    )?;
-    Ok(status == 0 && line.as_slice().starts_with(b"legal "))
+    let told = record_stream(rt, alloc, kind, sample, seats, rounds, &mut writer);
+    matches!(told, Ok(0))
+        && page.as_slice().starts_with(header.as_bytes())
+        && is_legal(alloc, page.as_slice())
 }
 
 #[test]
-fn runs_are_recorded(rt: HostRuntime) -> Result<(), Fail> {
+fn runs_are_recorded(rt: HostRuntime) {
     let header = "monk 1 PB 2 3 buffer 4\nenter ";
-    assert!(rt; is_recorded(&rt, KindName::Pb, Sample::Buffer, 2, 3, header)?);
+    assert!(rt; is_recorded(&rt, KindName::Pb, Sample::Buffer, 2, 3, header));
     let header = "monk 1 PIR 4 3 book 4\nenter ";
-    assert!(rt; is_recorded(&rt, KindName::Pir, Sample::Book, 4, 10, header)?);
+    assert!(rt; is_recorded(&rt, KindName::Pir, Sample::Book, 4, 10, header));
     let header = "monk 1 PIS 3 0 shop 4\nenter ";
-    assert!(rt; is_recorded(&rt, KindName::Pis, Sample::Shop, 3, 5, header)?);
-    Ok(())
+    assert!(rt; is_recorded(&rt, KindName::Pis, Sample::Shop, 3, 5, header));
 }

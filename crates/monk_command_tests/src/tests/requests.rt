@@ -1,4 +1,5 @@
-use monk_commands::{LineFault, StreamFault, classify_stream, line};
+use super::jobs::Expected;
+use monk_commands::{LineFault, classify_stream, line};
 use monk_history::Device;
 use std::alloc::Global;
 use std::test::Fail;
@@ -241,10 +242,10 @@ fn words_that_ask_for_nothing(rt: HostRuntime) {
 }
 
 /// Whether that is what is written of the priorities of the entry, waiter and signaller queues.
-fn are_classified(alloc: Global, of: (u8, u8, u8), wanted: &[u8]) -> Result<bool, StreamFault> {
-    let mut page = Vec::new(alloc);
-    let status = classify_stream(of.0, of.1, of.2, &mut Device::new(&mut page))?;
-    Ok(status == 0 && page.as_slice() == wanted)
+fn are_classified(of: (u8, u8, u8), wanted: &[u8]) -> bool {
+    let mut lines = Expected::new(wanted);
+    let told = classify_stream(of.0, of.1, of.2, &mut Device::new(&mut lines));
+    matches!(told, Ok(0)) && lines.agrees() && lines.taken == wanted.len()
 }
 
 static ORDERINGS: [((u8, u8, u8), &[u8]); 5] = [
@@ -256,9 +257,8 @@ static ORDERINGS: [((u8, u8, u8), &[u8]); 5] = [
 ];
 
 #[test]
-fn priorities_have_an_ordering(rt: HostRuntime) -> Result<(), Fail> {
+fn priorities_have_an_ordering(rt: HostRuntime) {
     for (priorities, wanted) in ORDERINGS.iter() {
-        assert!(rt; are_classified(rt.alloc(), *priorities, wanted)?);
+        assert!(rt; are_classified(*priorities, wanted));
     }
-    Ok(())
 }

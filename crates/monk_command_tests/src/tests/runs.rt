@@ -1,12 +1,12 @@
 //! Threads over the samples: what they leave is audited, and its totals are told.
 ghost use Rattle.monk_samples.specs.Samples.{IsInRange};
 
+use super::jobs::Expected;
 use monk_audit::{Verdict, audit};
 use monk_commands::{StreamFault, run_stream};
 use monk_history::Device;
 use monk_kinds::{KindName, Npqb, Pb, Pir, Pis, Pnb};
 use monk_samples::{OpenGate, Sample, Style, run};
-use std::process::Abort;
 use std::sync::Wait;
 use std::test::Fail;
 use std::thread::Threads;
@@ -36,24 +36,32 @@ fn are_legal<K: Style, R: Threads + Wait + Sync + AllocGlobal>(rt: &R, seats: u8
     true
 }
 
+/// The runs of so many threads are legal under each of some kinds; else the first is named under which one isn't.
+fn all_are_legal<R: Threads + Wait + Sync + AllocGlobal>(rt: &R, seats: u8) -> Result<(), Fail> {
+    let other = if !are_legal::<Pb, R>(rt, seats) {
+        "PB"
+    } else if !are_legal::<Pnb, R>(rt, seats) {
+        "PNB"
+    } else if !are_legal::<Npqb, R>(rt, seats) {
+        "NPQB"
+    } else if !are_legal::<Pir, R>(rt, seats) {
+        "PIR"
+    } else if !are_legal::<Pis, R>(rt, seats) {
+        "PIS"
+    } else {
+        return Ok(());
+    };
+    Err(other)?
+}
+
 #[test]
 fn two_threads_are_legal(rt: HostRuntime) -> Result<(), Fail> {
-    assert!(rt; are_legal::<Pb, _>(&rt, 2));
-    assert!(rt; are_legal::<Pnb, _>(&rt, 2));
-    assert!(rt; are_legal::<Npqb, _>(&rt, 2));
-    assert!(rt; are_legal::<Pir, _>(&rt, 2));
-    assert!(rt; are_legal::<Pis, _>(&rt, 2));
-    Ok(())
+    all_are_legal(&rt, 2)
 }
 
 #[test]
 fn four_threads_are_legal(rt: HostRuntime) -> Result<(), Fail> {
-    assert!(rt; are_legal::<Pb, _>(&rt, 4));
-    assert!(rt; are_legal::<Pnb, _>(&rt, 4));
-    assert!(rt; are_legal::<Npqb, _>(&rt, 4));
-    assert!(rt; are_legal::<Pir, _>(&rt, 4));
-    assert!(rt; are_legal::<Pis, _>(&rt, 4));
-    Ok(())
+    all_are_legal(&rt, 4)
 }
 
 /// Whether a run ends with status 0 and exactly this text.
@@ -64,40 +72,53 @@ fn tells<R: Threads + Wait + Sync + AllocGlobal>(
     seats: u8,
     rounds: u32,
     text: &str,
-) -> Result<bool, StreamFault>
+) -> bool
     requires { IsInRange seats rounds }
 {
-    let mut page = Vec::new(rt.alloc());
+    let mut page = Expected::new(text.as_bytes());
     let mut writer = Device::new(&mut page);
-    let status = run_stream(rt, rt.alloc(), kind, sample, seats, rounds, &mut writer)?;
-    Ok(status == 0 && page.as_slice() == text.as_bytes())
+    let told = run_stream(rt, rt.alloc(), kind, sample, seats, rounds, &mut writer);
+    matches!(told, Ok(0)) && page.agrees() && page.taken == text.len()
+}
+
+/// A run tells exactly this text under each of the kinds; else the first is named under which it doesn't.
+fn all_tell<R: Threads + Wait + Sync + AllocGlobal>(
+    rt: &R,
+    kinds: &[KindName],
+    sample: Sample,
+    seats: u8,
+    rounds: u32,
+    text: &str,
+) -> Result<(), Fail>
+    requires { IsInRange seats rounds }
+{
+    for kind in kinds {
+        if !tells(rt, *kind, sample, seats, rounds, text) {
+            return Err(kind.as_str())?;
+        }
+    }
+    Ok(())
 }
 
 #[test]
 fn buffers_tell_what_was_put_and_taken(rt: HostRuntime) -> Result<(), Fail> {
     let text = "put 400 20200\ntaken 400 20200\nlegal\n";
-    assert!(rt; tells(&rt, KindName::Npqb, Sample::Buffer, 8, 100, text)?);
-    for kind in KindName::ALL {
-        let text = "put 1 1\ntaken 1 1\nlegal\n";
-        assert!(rt; tells(&rt, kind, Sample::Buffer, 3, 1, text)?);
-    }
-    Ok(())
+    all_tell(&rt, &[KindName::Npqb], Sample::Buffer, 8, 100, text)?;
+    let text = "put 1 1\ntaken 1 1\nlegal\n";
+    all_tell(&rt, &KindName::ALL, Sample::Buffer, 3, 1, text)
 }
 
 #[test]
 fn books_tell_who_read_and_wrote(rt: HostRuntime) -> Result<(), Fail> {
-    for kind in KindName::ALL {
-        let text = "reads 20 20\nwrites 20 20\nlegal\n";
-        assert!(rt; tells(&rt, kind, Sample::Book, 4, 10, text)?);
-    }
-    Ok(())
+    let text = "reads 20 20\nwrites 20 20\nlegal\n";
+    all_tell(&rt, &KindName::ALL, Sample::Book, 4, 10, text)
 }
 
 /// The kinds in which no caller comes between a signal and the seat that it serves, or a wait goes
 /// on where its predicate holds.
 #[test]
 fn hasty_buffers_tell_what_was_missed(rt: HostRuntime) -> Result<(), Fail> {
-    for kind in [
+    let kinds = [
         KindName::Pb,
         KindName::Npb,
         KindName::Pnb,
@@ -105,20 +126,15 @@ fn hasty_buffers_tell_what_was_missed(rt: HostRuntime) -> Result<(), Fail> {
         KindName::Pir,
         KindName::Pis,
         KindName::Npis,
-    ] {
-        let text = "put 20 110\ntaken 20 110\nmissed 0\nlegal\n";
-        assert!(rt; tells(&rt, kind, Sample::Hasty, 4, 10, text)?);
-    }
-    Ok(())
+    ];
+    let text = "put 20 110\ntaken 20 110\nmissed 0\nlegal\n";
+    all_tell(&rt, &kinds, Sample::Hasty, 4, 10, text)
 }
 
 #[test]
 fn shops_tell_who_came_and_went(rt: HostRuntime) -> Result<(), Fail> {
-    for kind in KindName::ALL {
-        let text = "sat 30\ncalled 30\nfinished 30\ndeparted 30\nlegal\n";
-        assert!(rt; tells(&rt, kind, Sample::Shop, 4, 10, text)?);
-    }
-    Ok(())
+    let text = "sat 30\ncalled 30\nfinished 30\ndeparted 30\nlegal\n";
+    all_tell(&rt, &KindName::ALL, Sample::Shop, 4, 10, text)
 }
 
 /// The line that a run prints where it doesn't serve all its rounds.
@@ -131,14 +147,22 @@ fn end_of(page: &[u8]) -> &'static str {
     }
 }
 
+/// The status of a run of two seats and one round, and how it ends.
+fn end_of_run<R: Threads + Wait + Sync + AllocGlobal>(
+    rt: &R,
+    sample: Sample,
+) -> Result<(u8, &'static str), StreamFault> {
+    let mut page = Vec::new(rt.alloc());
+    let mut writer = Device::new(&mut page);
+    let status = run_stream(rt, rt.alloc(), KindName::Pb, sample, 2, 1, &mut writer)?;
+    Ok((status, end_of(page.as_slice())))
+}
+
 /// It is served; where something is in its way, `checks/refused_by_tests` compares what is printed here.
 #[test]
 fn run_says_how_it_ends(rt: HostRuntime) -> Result<(), Fail> {
     for sample in [Sample::Buffer, Sample::Book] {
-        let mut page = Vec::new(rt.alloc());
-        let mut writer = Device::new(&mut page);
-        let status = run_stream(&rt, rt.alloc(), KindName::Pb, sample, 2, 1, &mut writer)?;
-        let end = end_of(page.as_slice());
+        let (status, end) = end_of_run(&rt, sample)?;
         println!(rt; "status {status}: {end}")?;
         assert!(rt; status == 0 && end == "served");
     }

@@ -1,10 +1,8 @@
-use crate::tests::jobs::Job;
+use crate::tests::jobs::{Expected, Job};
 use monk_commands::{StreamFault, Task};
 use monk_history::Device;
 use monk_kinds::KindName;
 use monk_logs::{Lapses, WaitsFor};
-use std::io;
-use std::io::Write;
 
 /// By the names that `checks/fail_alloc` knows them by.
 pub(super) static JOBS: [Job<'static>; 22] = [
@@ -171,39 +169,16 @@ pub(super) static JOBS: [Job<'static>; 22] = [
     },
 ];
 
-/// A writer that keeps nothing but how long what it got is, and whether that begins as a picture.
-#[derive(Drop)]
-struct Picture {
-    length: usize,
-    begins: bool,
-}
-
-impl Write for Picture {
-    fn write(&mut self, buf: &[u8]) -> io::Result<usize> {
-        if self.length == 0 {
-            self.begins = buf.starts_with(b"<svg ");
-        }
-        self.length = self.length.saturating_add(buf.len());
-        Ok(buf.len())
-    }
-
-    fn flush(&mut self) -> io::Result<()> {
-        Ok(())
-    }
-}
-
 /// Whether a drawing of three events, the last of which is forbidden, was written, or a fault with nothing written.
 pub(super) fn is_drawn(rt: &HostRuntime) -> Result<bool, StreamFault> {
     let input: &[u8] = b"monk 1 PB 2 1 buffer 1\nenter 0 free\nwait 0 0 entry\nenter 0 free\n";
-    let mut picture = Picture {
-        length: 0,
-        begins: false,
-    };
+    let front: &[u8] = b"<svg ";
+    let mut picture = Expected::new(front);
     let mut reader = Device::new(input);
     let told = Task::Draw(None).stream(rt.alloc(), &mut reader, &mut Device::new(&mut picture));
     match told {
-        Ok(status) => Ok(status == 1 && picture.begins),
-        Err(fault) if picture.length == 0 => Err(fault),
+        Ok(status) => Ok(status == 1 && picture.agrees() && picture.taken > front.len()),
+        Err(fault) if picture.taken == 0 => Err(fault),
         Err(_) => Ok(false),
     }
 }
