@@ -19,6 +19,7 @@ use Rattle.monk_history.specs.Text.Reading.{History, history, text_at}
 use Rattle.monk_history.proofs.PublicLaws.Texts.{text_again, text_read}
 use Rattle.monk_audit.proofs.PublicLaws.{is_verdict}
 use Rattle.monk_audit.specs.Under.{under}
+use Rattle.monk_logs.specs.Expiry.{at_once}
 use Rattle.monk_logs.specs.Fit.{is_in}
 use Rattle.monk_logs.specs.Log.{LogHeading}
 use Rattle.monk_logs.specs.Log.Reading.{Log, log, log_at}
@@ -133,14 +134,15 @@ module _ (k : KindName) (x : Lapses) (means : List WaitsFor) where
   log_kind_read : (input : List ℕ) (r : Result Log ReadFault) → log_at (2 ^ 25) input ≡ r
       → (log_kind_reading k x means r).status ≡ 0 → IsKindLogText k x means input
   log_kind_read input (Ok l) is e =
-      let j = log_judged_by l.0 l.1 (ltb (most l.0.object) l.0.size) (log_fit x l.0 l.1 k) refl refl e in
+      let ls = at_once l.1 in
+      let j = log_judged_by l.0 ls (ltb (most l.0.object) l.0.size) (log_fit x l.0 ls k) refl refl e in
       let t = log_read (2 ^ 25) input l is in (
         l.0,
         (
           l.1,
           (
             record { has_text = t.0; few = t.1; whole = t.2; size = j.0 },
-            (kind_fit_open x k l.0 l.1 j.1.0, j.1.1),
+            (kind_fit_open x k l.0 ls j.1.0, j.1.1),
           ),
         ),
       )
@@ -149,11 +151,11 @@ module _ (k : KindName) (x : Lapses) (means : List WaitsFor) where
   log_kind_again : (input : List ℕ) → IsKindLogText k x means input → (log_kind_of k x means input).status ≡ 0
   log_kind_again input f =
       let h = f.0 in
-      let ls = f.1.0 in
+      let ls = at_once f.1.0 in
       let t = f.1.1.0 in
       let opens = f.1.1.1.0 in
-      let read_is : log_at (2 ^ 25) input ≡ Ok (log h ls) = ap (log_at (2 ^ 25)) t.whole
-      ∙ log_again (2 ^ 25) h ls t.has_text t.few in
+      let read_is : log_at (2 ^ 25) input ≡ Ok (log h f.1.0) = ap (log_at (2 ^ 25)) t.whole
+      ∙ log_again (2 ^ 25) h f.1.0 t.has_text t.few in
       let size : ltb (most h.object) h.size ≡ false = le-ltb _ _ t.size in
       let counts = kind_counts k h means ls in
       ap (λ (r : Result Log ReadFault). (log_kind_reading k x means r).status) read_is
@@ -161,7 +163,8 @@ module _ (k : KindName) (x : Lapses) (means : List WaitsFor) where
       ∙ fit_zero k means counts (log_fit x h ls k) (kind_open_fit x k h ls opens.0 opens.1) f.1.1.1.1
 
   log_kind_most : (r : Result Log ReadFault) → (log_kind_reading k x means r).status ≤ 2
-  log_kind_most (Ok l) = go (ltb (most l.0.object) l.0.size) (kind_counts k l.0 means l.1) (log_fit x l.0 l.1 k)
+  log_kind_most (Ok l) =
+      go (ltb (most l.0.object) l.0.size) (kind_counts k l.0 means (at_once l.1)) (log_fit x l.0 (at_once l.1) k)
     where
       by_counts : (missed : Option ℕ) (held : Option Held) → counts_status missed held ≤ 2
       by_counts None None = omega arith

@@ -14,6 +14,7 @@ use Rattle.monk_history.specs.Text.{Heading}
 use Rattle.monk_history.specs.Text.Reading.{History, text_at}
 use Rattle.monk_audit.specs.Under.{under}
 use Rattle.monk_logs.specs.Counts.{counts_of}
+use Rattle.monk_logs.specs.Expiry.{at_once}
 use Rattle.monk_logs.specs.Lapses.{IsOpenWith}
 use Rattle.monk_logs.specs.Log.{LogHeading}
 use Rattle.monk_logs.specs.Log.Reading.{Log, log_at}
@@ -115,9 +116,9 @@ log_kind_answer k x means h log =
     if nat_lt (most h.object) h.size then too_big
     else fit_with_counts k means (kind_counts k h means log) (log_fit x h log k)
 
--- the same for what was read as a log
+-- the same for what was read as a log, where waits run out at once
 abbrev pub log_kind_reading : KindName → Lapses → List WaitsFor → Result Log ReadFault → LineAnswer
-log_kind_reading k x means (Ok l) = log_kind_answer k x means l.0 l.1
+log_kind_reading k x means (Ok l) = log_kind_answer k x means l.0 (at_once l.1)
 log_kind_reading k x means (Err f) = unreadable f
 
 -- the same for a log as input
@@ -149,7 +150,7 @@ abbrev pub IsKindLog : KindName → Lapses → List WaitsFor → LogHeading → 
 IsKindLog k x means h log =
     ((o : Order) × IsOpenWith x o (log_monitor k h) log) × EndsWell (kind_counts k h means log)
 
--- the text of such a log, of a size within the object's greatest
+-- the text of a log, of a size within the object's greatest, that is such a log where waits run out at once
 abbrev pub IsKindLogText : KindName → Lapses → List WaitsFor → List ℕ → Type 0
 IsKindLogText k x means input =
-    (h : LogHeading) × ((log : List LogLine) × (IsLogOf input h log × IsKindLog k x means h log))
+    (h : LogHeading) × ((log : List LogLine) × (IsLogOf input h log × IsKindLog k x means h (at_once log)))

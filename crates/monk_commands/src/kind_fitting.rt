@@ -4,6 +4,7 @@ ghost use Rattle.std.specs.Prelude.{◌≡◌, ◌≤◌, ◌^◌, ◌⊎◌, �
 ghost use Rattle.monk_kinds.specs.Names.{kind_word};
 ghost use Rattle.monk_object.specs.Names.{most};
 ghost use Rattle.monk_history.specs.Text.Device.{inner_of, has_failed};
+ghost use Rattle.monk_logs.specs.Expiry.{at_once};
 ghost use Rattle.monk_logs.specs.declared.kind_fit.Fit.TheVariants.{In};
 ghost use Rattle.monk_commands.specs.KindFitted.{IsKindLogText, IsKindText, fit_with_counts, kind_answer_of};
 ghost use Rattle.monk_commands.specs.KindFitted.{kind_fit_answer, kind_fit_of, log_kind_answer, log_kind_of};
@@ -22,7 +23,8 @@ use monk_audit::AuditFault;
 use monk_history::{Device, Event, Header, read};
 use monk_kinds::KindName;
 use monk_logs::{
-    Counts, Fit, Held, Lapses, LogHeader, LogLine, Order, WaitsFor, count, fit, read_log,
+    Counts, Fit, Held, Lapses, LogHeader, LogLine, Order, WaitsFor, count, expire_at_once, fit,
+    read_log,
 };
 use std::alloc::Global;
 use std::io::{Read, Write};
@@ -229,6 +231,26 @@ fn log_answer(
     fit_answer(alloc, kind, means, counts, found)
 }
 
+/// The answer to a log that was read, where waits run out at once.
+fn read_answer(
+    alloc: Global,
+    kind: KindName,
+    lapses: Lapses,
+    means: &[WaitsFor],
+    header: &LogHeader,
+    lines: Vec<LogLine>,
+) -> Result<LinesAnswer, StreamFault>
+    requires few { length lines.entry.items ≤ 2 ^ 25 }
+    ensures answer { IfOk result
+        (λ a. (a.status ≡ (log_kind_answer kind lapses means.now header.now (at_once lines.entry.items)).status)
+        × (a.lines.items ≡ (log_kind_answer kind lapses means.now header.now (at_once lines.entry.items)).text)) }
+    ensures no_file { IsErrOf result StreamFault.File → ⊥ }
+{
+    let mut lines = lines;
+    expire_at_once(alloc, &mut lines)?;
+    log_answer(alloc, kind, lapses, means, header, &lines)
+}
+
 /// The answer to the text of a log.
 fn answer_to_log(
     alloc: Global,
@@ -243,7 +265,7 @@ fn answer_to_log(
     ensures no_file { IsErrOf result StreamFault.File → ⊥ }
 {
     match read_log(alloc, bytes) {
-        Ok((header, lines)) => log_answer(alloc, kind, lapses, means, &header, &lines),
+        Ok((header, lines)) => read_answer(alloc, kind, lapses, means, &header, lines),
         Err(fault) => Ok(LinesAnswer::of_line(unreadable(alloc, fault)?)),
     }
 }

@@ -13,6 +13,7 @@ mod ToldLaws
 mod FifoLaws
 mod CountLaws
 mod LapseLaws
+mod ExpiryLaws
 mod FitLaws
 mod NeedLaws
 mod WaiterLaws

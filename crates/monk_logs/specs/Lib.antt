@@ -25,6 +25,7 @@ pub mod BoardMoves
 pub mod Counts
 pub mod Fit
 pub mod Lapses
+pub mod Expiry
 pub mod BoardRead
 pub mod ReadStand
 pub mod Needs

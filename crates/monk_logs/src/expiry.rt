@@ -1,0 +1,105 @@
+//! Waits whose time ran out, read as waits that ran out at once.
+
+ghost use Rattle.std.specs.Prelude.{◌≡◌, [], length, IfOk, OnOk, OnErr};
+ghost use Rattle.monk_logs.specs.FitsIn.{is_lapse};
+ghost use Rattle.monk_logs.specs.Expiry as expiry;
+
+use crate::text::line::LogLine;
+use std::alloc::{AllocError, Global};
+
+/// How many seats the lines of a log can name.
+const SEATS: usize = 256;
+
+/// The seat that wrote the line.
+fn seat_of(line: LogLine) -> u8
+    ensures { result ≡ expiry.line_seat line }
+{
+    match line {
+        LogLine::Enter(seat)
+        | LogLine::Resume(seat)
+        | LogLine::Lapse(seat)
+        | LogLine::Leave(seat)
+        | LogLine::Wait(seat, _)
+        | LogLine::Signal(seat, _)
+        | LogLine::Broadcast(seat, _)
+        | LogLine::Until(seat, _)
+        | LogLine::Act(seat, ..) => seat,
+    }
+}
+
+/// Whether the line tells of a wait on a condition.
+fn is_wait(line: LogLine) -> bool
+    ensures { result ≡ expiry.is_wait line }
+{
+    matches!(line, LogLine::Wait(..))
+}
+
+/// Whether the line tells of a wait that ran out.
+fn is_lapse(line: LogLine) -> bool
+    ensures { result ≡ is_lapse line }
+{
+    matches!(line, LogLine::Lapse(_))
+}
+
+/// What a line is read as, by whether the line of its seat before it is a wait, and that behind it a
+/// lapse.
+fn read_as(waited: bool, lapses: bool, line: LogLine) -> LogLine
+    ensures { result ≡ expiry.read_as waited lapses line }
+{
+    match line {
+        LogLine::Wait(seat, _) if lapses => LogLine::Leave(seat),
+        LogLine::Lapse(seat) if waited => LogLine::Enter(seat),
+        _ => line,
+    }
+}
+
+/// Of each line, whether the line of its seat before it is a wait.
+fn waited_before(alloc: Global, lines: &[LogLine]) -> Result<Vec<bool>, AllocError>
+    ensures { IfOk result (λ waited. waited.items ≡ expiry.waited_behind [] lines.now) }
+{
+    let mut waited = Vec::with_capacity(alloc, lines.len())?;
+    let mut waits = [false; SEATS];
+    for line in lines {
+        let seat = usize::from(seat_of(*line));
+        waited.push(waits[seat])?;
+        waits[seat] = is_wait(*line);
+    }
+    Ok(waited)
+}
+
+/// Reads each line, by whether the line of its seat before it is a wait.
+fn read_each(lines: &mut [LogLine], waited: &[bool])
+    requires { waited.now ≡ expiry.waited_behind [] lines.old }
+    ensures { lines.new ≡ expiry.at_once lines.old }
+{
+    let mut lapses = [false; SEATS];
+    let mut at = lines.len();
+    while at > 0 {
+        at -= 1;
+        let line = lines[at];
+        let seat = usize::from(seat_of(line));
+        lines[at] = read_as(waited[at], lapses[seat], line);
+        lapses[seat] = is_lapse(line);
+    }
+}
+
+/// Reads each wait of the log that ran out as one that ran out at once: its `wait` becomes a `leave`,
+/// and its `lapse` an `enter`. A thread whose time has run out comes back by the entry queue, and may
+/// have left its condition long before the line that tells of it. A `lapse` of a seat that doesn't
+/// wait stays as it is.
+///
+/// # Errors
+///
+/// If a request for memory was refused; then the lines stay as they are.
+///
+/// # Cost
+///
+/// Two passes over the lines, and memory for a byte a line.
+pub fn expire_at_once(alloc: Global, lines: &mut [LogLine]) -> Result<(), AllocError>
+    ensures read { OnOk result (lines.new ≡ expiry.at_once lines.old) }
+    ensures left { OnErr result (lines.new ≡ lines.old) }
+{
+    let waited = waited_before(alloc, lines)?;
+    read_each(lines, &waited);
+    Ok(())
+}
