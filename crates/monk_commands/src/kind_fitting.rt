@@ -238,17 +238,16 @@ fn read_answer(
     lapses: Lapses,
     means: &[WaitsFor],
     header: &LogHeader,
-    lines: Vec<LogLine>,
+    lines: &mut [LogLine],
 ) -> Result<LinesAnswer, StreamFault>
-    requires few { length lines.entry.items ≤ 2 ^ 25 }
+    requires few { length lines.old ≤ 2 ^ 25 }
     ensures answer { IfOk result
-        (λ a. (a.status ≡ (log_kind_answer kind lapses means.now header.now (at_once lines.entry.items)).status)
-        × (a.lines.items ≡ (log_kind_answer kind lapses means.now header.now (at_once lines.entry.items)).text)) }
+        (λ a. (a.status ≡ (log_kind_answer kind lapses means.now header.now (at_once lines.old)).status)
+        × (a.lines.items ≡ (log_kind_answer kind lapses means.now header.now (at_once lines.old)).text)) }
     ensures no_file { IsErrOf result StreamFault.File → ⊥ }
 {
-    let mut lines = lines;
-    expire_at_once(alloc, &mut lines)?;
-    log_answer(alloc, kind, lapses, means, header, &lines)
+    expire_at_once(alloc, lines)?;
+    log_answer(alloc, kind, lapses, means, header, lines)
 }
 
 /// The answer to the text of a log.
@@ -265,7 +264,7 @@ fn answer_to_log(
     ensures no_file { IsErrOf result StreamFault.File → ⊥ }
 {
     match read_log(alloc, bytes) {
-        Ok((header, lines)) => read_answer(alloc, kind, lapses, means, &header, lines),
+        Ok((header, mut lines)) => read_answer(alloc, kind, lapses, means, &header, &mut lines),
         Err(fault) => Ok(LinesAnswer::of_line(unreadable(alloc, fault)?)),
     }
 }

@@ -24,8 +24,9 @@ table_opens is_such zero j = refl
 table_opens is_such (suc n) zero = refl
 table_opens is_such (suc n) (suc j) = table_opens is_such n j
 
-pub table_more : (is_such : LogLine → Bool) (table : List Bool) (l : LogLine) (log : List LogLine) (at : ℕ) (such : Bool)
-    → at ≡ line_seat l → such ≡ is_such l → at < length table → ((j : ℕ) → get_or table j false ≡ first_is is_such j log)
+pub table_more : (is_such : LogLine → Bool) (table : List Bool) (l : LogLine) (log : List LogLine) (at : ℕ)
+    (such : Bool) → at ≡ line_seat l → such ≡ is_such l → at < length table
+    → ((j : ℕ) → get_or table j false ≡ first_is is_such j log)
     → (j : ℕ) → get_or (set table at such) j false ≡ first_is is_such j (l ∷ log)
 unfolding first_is
 table_more is_such table l log at such is_at is lt has j =
@@ -100,16 +101,18 @@ read_none log =
     drop_all (length log) log (omega arith)
     ∙ sym (drop_all (length log) (at_once log) (let same = length_read [] log in omega arith))
 
-read_at : (log : List LogLine) (n : ℕ) (l : LogLine) → n < length log
-    → drop n (at_once log)
-    ≡ read_as (first_is is_wait (line_seat (get_or log n l)) (reverse (take n log)))
+-- what the line at that place is read as
+abbrev line_read : List LogLine → ℕ → LogLine → LogLine
+line_read log n l =
+    read_as (first_is is_wait (line_seat (get_or log n l)) (reverse (take n log)))
     (first_is is_lapse (line_seat (get_or log n l)) (drop (n + 1) log)) (get_or log n l)
-    ∷ drop (n + 1) (at_once log)
+
+read_at : (log : List LogLine) (n : ℕ) (l : LogLine) → n < length log
+    → drop n (at_once log) ≡ line_read log n l ∷ drop (n + 1) (at_once log)
 unfolding read_behind
 read_at log n l lt =
     drop_read n [] log ∙ at_drop_more (read_behind (reverse (take n log))) log n l lt
-    ∙ ap (λ (rest : List LogLine). read_as (first_is is_wait (line_seat (get_or log n l)) (reverse (take n log)))
-    (first_is is_lapse (line_seat (get_or log n l)) (drop (n + 1) log)) (get_or log n l) ∷ rest)
+    ∙ ap (λ (rest : List LogLine). line_read log n l ∷ rest)
     (ap (λ (before : List LogLine). read_behind before (drop (n + 1) log)) (sym (before_more log n l lt))
     ∙ sym (drop_read (n + 1) [] log))
 
@@ -144,16 +147,15 @@ pub read_step : (log lines : List LogLine) (waited : List Bool) (at n : ℕ) (l 
     → v ≡ read_as (get_or waited n false) is_lapse_next (get_or lines n l)
     → drop n (set lines n v) ≡ drop n (at_once log)
 read_step log lines waited at n l v next is lt lt2 waited_is same read next_is v_is =
+    let waits = first_is is_wait (line_seat (get_or log n l)) (reverse (take n log)) in
+    let lapses = first_is is_lapse (line_seat (get_or log n l)) (drop (n + 1) log) in
     drop-set lines n v lt2
     ∙ ap (λ (y : LogLine). y ∷ drop (n + 1) lines)
     (v_is ∙ ap (λ (w : Bool). read_as w next (get_or lines n l))
     (ap (λ (ws : List Bool). get_or ws n false) waited_is ∙ waited_at log n l lt)
-    ∙ ap (λ (b : Bool). read_as (first_is is_wait (line_seat (get_or log n l)) (reverse (take n log))) b (get_or lines n l))
-    (rw (sym is) at next_is)
-    ∙ ap (λ (x : LogLine). read_as (first_is is_wait (line_seat (get_or log n l)) (reverse (take n log)))
-    (first_is is_lapse (line_seat (get_or log n l)) (drop (n + 1) log)) x) (same_line log lines at n l is same))
-    ∙ ap (λ (rest : List LogLine). read_as (first_is is_wait (line_seat (get_or log n l)) (reverse (take n log)))
-    (first_is is_lapse (line_seat (get_or log n l)) (drop (n + 1) log)) (get_or log n l) ∷ rest) (rw (sym is) at read)
+    ∙ ap (λ (b : Bool). read_as waits b (get_or lines n l)) (rw (sym is) at next_is)
+    ∙ ap (read_as waits lapses) (same_line log lines at n l is same))
+    ∙ ap (λ (rest : List LogLine). line_read log n l ∷ rest) (rw (sym is) at read)
     ∙ sym (read_at log n l lt)
 
 pub lapse_step : (log : List LogLine) (table : List Bool) (at n seat : ℕ) (l : LogLine) (such : Bool)

@@ -1,5 +1,5 @@
--- Logs of programs whose waits have time limits. A thread whose time has run out comes back by the entry queue, and may have
--- left its condition long before the line `lapse` that tells of it. So its wait is read as one that ran out at once: as a
+-- Logs of programs whose waits have time limits. A thread whose time has run out comes back by entry, and may have left
+-- its condition long before the line `lapse` that tells of it. So its wait is read as one that ran out at once: as a
 -- `leave`, and its `lapse` as an `enter`
 use Rattle.std.specs.Prelude.{ℕ, ◌==◌, Bool, true, false, if◌then◌else◌, List, [], ◌∷◌}
 use Rattle.monk_logs.specs.FitsIn.{is_lapse}

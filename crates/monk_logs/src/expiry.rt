@@ -1,6 +1,6 @@
 //! Waits whose time ran out, read as waits that ran out at once.
 
-ghost use Rattle.std.specs.Prelude.{◌≡◌, [], length, IfOk, OnOk, OnErr};
+ghost use Rattle.std.specs.Prelude.{◌≡◌, [], IfOk, OnOk, OnErr};
 ghost use Rattle.monk_logs.specs.FitsIn.{is_lapse};
 ghost use Rattle.monk_logs.specs.Expiry as expiry;
 

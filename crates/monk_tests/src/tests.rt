@@ -4,6 +4,7 @@
 mod audits;
 mod calls;
 mod completions;
+mod expiries;
 mod floor_entry;
 mod floor_histories;
 mod floor_steps;

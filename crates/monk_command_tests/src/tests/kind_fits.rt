@@ -53,23 +53,41 @@ fn histories_fit_a_kind(rt: HostRuntime) -> Result<(), Fail> {
 /// Those who wait on condition 1 wait for an item of a buffer.
 const TAKERS: &[WaitsFor] = &[WaitsFor { cond: 1, pred: 1 }];
 
+/// Those who wait on condition 0 wait for an item of a buffer.
+const FOR_AN_ITEM: &[WaitsFor] = &[WaitsFor { cond: 0, pred: 1 }];
+
 /// Those who wait on condition 0 wait for room in a buffer, or for an item.
 const EITHER: &[WaitsFor] = &[WaitsFor { cond: 0, pred: 0 }, WaitsFor { cond: 0, pred: 1 }];
 
-static LOGS: [Job<'static>; 10] = [
+static LOGS: [Job<'static>; 12] = [
     Job {
         name: "a lost notify",
         task: Task::FitKind(KindName::Npnb, Lapses::Told, &[], "a.log"),
         input: b"log 1 3 1 buffer 1\nenter 0\nwait 0 0\nenter 1\nwait 1 0\nenter 2\nact 2 0 7 1\nsignal 2 0\nleave 2\nlapse 0\nleave 0\n",
         status: 0,
-        answer: b"a.log: NPNB fits any; served 1 passed 0 lapsed 1; left waiting 0 woken 1 inside 1; owed\n",
+        answer: b"a.log: NPNB fits fifo; served 1 passed 1 lapsed 0; left waiting 0 woken 1 inside 1; owed\n",
     },
     Job {
         name: "of no kind with a choice",
         task: Task::FitKind(KindName::Pqb, Lapses::Told, TAKERS, "a.log"),
         input: b"log 1 3 1 buffer 1\nenter 0\nwait 0 0\nenter 1\nwait 1 0\nenter 2\nact 2 0 7 1\nsignal 2 0\nleave 2\nlapse 0\nleave 0\n",
         status: 1,
-        answer: b"a.log: PQB misfit 9 9 choice; served 1 passed 0 lapsed 0; left waiting 1 woken 1 inside 2; missed none; owed\n",
+        answer: b"a.log: PQB misfit 9 9 choice; served 1 passed 0 lapsed 0; left waiting 0 woken 1 inside 1; missed none; owed\n",
+    },
+    // The signal finds nobody, since the time of seat 0 has run out; it comes back behind seat 1.
+    Job {
+        name: "a wait that ran out before its line",
+        task: Task::FitKind(KindName::Npnb, Lapses::Told, FOR_AN_ITEM, "a.log"),
+        input: b"log 1 2 1 buffer 1\nenter 0\nact 0 1 0 0\nwait 0 0\nenter 1\nact 1 0 7 1\nsignal 1 0\nleave 1\nlapse 0\nact 0 1 0 8\nleave 0\n",
+        status: 0,
+        answer: b"a.log: NPNB fits fifo; served 0 passed 0 lapsed 0; left waiting 0 woken 0 inside 0; missed none; free\n",
+    },
+    Job {
+        name: "a lapse of a seat that doesn't wait",
+        task: Task::FitKind(KindName::Npnb, Lapses::Told, &[], "a.log"),
+        input: b"log 1 2 1 buffer 1\nenter 0\nleave 0\nlapse 0\n",
+        status: 1,
+        answer: b"a.log: NPNB misfit 3 3 turn; served 0 passed 0 lapsed 0; left waiting 0 woken 0 inside 0; free\n",
     },
     // A putter forgets to signal the taker: at the sixth line the monitor is let go with an item there.
     Job {

@@ -11,7 +11,8 @@ loop-at-init c = record {
   within = omega arith;
   front = refl;
   read = read_none c.args.lines.now;
-  table = λ j. table_opens is_lapse 256 j ∙ ap (expiry.first_is is_lapse j) (sym (drop_all _ c.args.lines.now (omega arith)));
+  table = λ j. table_opens is_lapse 256 j
+      ∙ ap (expiry.first_is is_lapse j) (sym (drop_all _ c.args.lines.now (omega arith)));
 }
 
 pub bounds-waited-at : goal.bounds-waited-at
@@ -26,15 +27,17 @@ loop-at-preserved c =
     let is : c.loop-at.at - 1 + 1 ≡ c.loop-at.at = omega arith in
     let lt : c.loop-at.at - 1 < length c.args.lines.now = omega arith in
     let lt2 : c.loop-at.at - 1 < length c.loop-at.lines = omega arith in
-    let line = same_line c.args.lines.now c.loop-at.lines c.loop-at.at (c.loop-at.at - 1) _ is c.loop-at.invariant.front in
+    let n = c.loop-at.at - 1 in
+    let front = c.loop-at.invariant.front in
+    let line = same_line c.args.lines.now c.loop-at.lines c.loop-at.at n _ is front in
     let seat = c.from-seat.ensures ∙ c.seat_of.ensures ∙ ap expiry.line_seat line in
     record {
       sized = length-set c.loop-at.lapses c.from-seat.result c.is_lapse.result ∙ c.loop-at.invariant.sized;
       within = rw length-set (omega arith);
-      front = same_front c.args.lines.now c.loop-at.lines c.loop-at.at (c.loop-at.at - 1) _ is c.loop-at.invariant.front;
-      read = read_step c.args.lines.now c.loop-at.lines c.args.waited.now c.loop-at.at (c.loop-at.at - 1) _ _ _ is lt lt2
-          c.requires c.loop-at.invariant.front c.loop-at.invariant.read
+      front = same_front c.args.lines.now c.loop-at.lines c.loop-at.at n _ is front;
+      read = read_step c.args.lines.now c.loop-at.lines c.args.waited.now c.loop-at.at n _ _ _ is lt lt2
+          c.requires front c.loop-at.invariant.read
           (ap (λ s. get_or c.loop-at.lapses s false) seat ∙ c.loop-at.invariant.table _) c.read_as.ensures;
-      table = lapse_step c.args.lines.now c.loop-at.lapses c.loop-at.at (c.loop-at.at - 1) c.from-seat.result _ _ is lt seat
+      table = lapse_step c.args.lines.now c.loop-at.lapses c.loop-at.at n c.from-seat.result _ _ is lt seat
           (c.is_lapse.ensures ∙ ap is_lapse line) (search (rules, arith)) c.loop-at.invariant.table;
     }

@@ -26,4 +26,6 @@ loop-line-preserved c = record {
 }
 
 pub returns : goal.returns
-returns c = waited_all c.args.lines.now c.loop-line.waited.items c.loop-line.line-index c.loop-line-test.false c.loop-line.invariant.found
+returns c =
+    waited_all c.args.lines.now c.loop-line.waited.items c.loop-line.line-index c.loop-line-test.false
+    c.loop-line.invariant.found

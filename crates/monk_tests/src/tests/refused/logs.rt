@@ -2,7 +2,7 @@ use super::begins;
 use monk_kinds::KindName;
 use monk_logs::{
     Completion, Counts, Fit, Lapses, LogHeader, LogLine, LogVerdict, Order, WaitsFor, complete,
-    count, fit, judge, judge_in, read_log,
+    count, expire_at_once, fit, judge, judge_in, read_log,
 };
 use monk_object::ObjectName;
 use std::test::Fail;
@@ -16,6 +16,14 @@ pub(super) fn log(rt: &HostRuntime) -> Result<bool, Fail> {
     let (header, lines) = read_log(rt.alloc(), LONG)?;
     let is_whole = lines.len() == 17 && lines.last() == Some(&LogLine::Enter(0));
     Ok(header.seats() == 2 && is_whole)
+}
+
+/// A wait that runs out does so at once.
+pub(super) fn is_expired(rt: &HostRuntime) -> Result<bool, Fail> {
+    begins(rt, "expired")?;
+    let mut lines = [LogLine::Enter(0), LogLine::Wait(0, 0), LogLine::Lapse(0)];
+    expire_at_once(rt.alloc(), &mut lines)?;
+    Ok(lines.as_slice() == [LogLine::Enter(0), LogLine::Leave(0), LogLine::Enter(0)].as_slice())
 }
 
 /// Two seats wait on two conditions, and a third signals both and goes out.
