@@ -4,17 +4,19 @@ import subprocess
 import sys
 
 TOP = os.path.dirname(os.path.dirname(os.path.abspath(__file__)))
-sys.path[:0] = [os.path.join(TOP, "checks")]
+sys.path[:0] = [os.path.join(TOP, "checks", "models")]
 from logs_board import ORDERS
-from logs_model import counted, fitted, read
+from logs_model import counted, fitted, fitted_alone, read
 
 SMALLEST_LOG = "log 1 1 0 buffer 1\n"
 
 
 class Said:
-    """What is said of a log: of each kind the strictest order in which it fits, or the reason why it doesn't; and the counts."""
+    """What is said of a log: of each kind the strictest order in which it fits, or the reason why it doesn't; and the counts.
+    And what `fit --kind NPNB` says of it."""
 
-    def __init__(self, lines):
+    def __init__(self, lines, alone):
+        self.alone = alone.split("; ")
         self.kinds, self.counts, self.missed, self.woke = {}, {}, False, False
         for words in map(str.split, lines):
             if words[1:2] == ["fits"]:
@@ -30,6 +32,11 @@ class Said:
     def fits(self, kind, order="any"):
         found = self.kinds[kind]
         return found in ORDERS and ORDERS.index(found) <= ORDERS.index(order)
+
+    def is_right_alone(self):
+        """Whether it fits NPNB where waits run out at once, misses nothing, and ends with nobody inside."""
+        fit, *counts, end = self.alone
+        return fit.startswith("NPNB fits ") and end == "free" and all(it == "missed none" for it in counts if it.startswith("missed"))
 
     def is_left(self):
         return self.counts["waiting"] + self.counts["woken"] > 0
@@ -51,8 +58,12 @@ class Judge:
     def said(self, path, kinds, means, lapses=False):
         if self.monk:
             words = [word for cond, pred in means for word in ("--means", f"{cond}={pred}")] + ["--lapses"] * lapses
-            ran = subprocess.run([self.monk, "fit", *words, path], capture_output=True, text=True)
-            return Said(ran.stdout.splitlines())
+            said, alone = (self.asked(*more, *words, path) for more in ((), ("--kind", "NPNB")))
+            return Said(said.splitlines(), alone.strip().removeprefix(f"{path}: "))
         with open(path, encoding="latin-1", newline="") as file:
             header, lines = read(file.read())
-        return Said(fitted(header, lines, lapses, kinds)[0] + counted(header, lines, means))
+        said = fitted(header, lines, lapses, kinds)[0] + counted(header, lines, means)
+        return Said(said, fitted_alone(header, lines, "NPNB", lapses, means)[0])
+
+    def asked(self, *words):
+        return subprocess.run([self.monk, "fit", *words], capture_output=True, text=True).stdout

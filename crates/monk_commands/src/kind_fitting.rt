@@ -307,6 +307,10 @@ fn kind_answer(
 /// log that fits, the status is 1 where a signal is missed or a seat has the monitor at the end, else
 /// 0. `lapses` and `means` are for logs alone.
 ///
+/// All of this is said of the log in which each wait that a `lapse` follows ran out at once
+/// ([`expire_at_once`]): a thread whose time has run out comes back by entry, and may have left its
+/// condition long before its `lapse`.
+///
 /// Where the reader has no such text, it is `unreadable LINE NUMBER WORD`, and where the size is above
 /// the object's greatest `object`, both with status 2.
 ///
@@ -318,9 +322,9 @@ fn kind_answer(
 ///
 /// # Cost
 ///
-/// One pass over the text, and one over its events. Of a log at most three passes over its lines that
-/// judge, one for each order that is tried, and one that counts. Memory for the text, for the events
-/// or lines, and for the queues.
+/// One pass over the text, and one over its events. Of a log two passes over its lines that look for
+/// waits that ran out, at most three that judge, one for each order that is tried, and one that counts.
+/// Memory for the text, for the events or lines with a byte each, and for the queues.
 pub fn fit_kind_stream<R: Read, W: Write>(
     alloc: Global,
     kind: KindName,
