@@ -1,9 +1,11 @@
 /* A bounded buffer of C++, which knows nothing of the recorder but MONK_ACT: buffer STYLE
 
      good       notifies under the lock
+     timed      waits 20 microseconds at a time
      late       notifies behind it: the recorder can't write that down, and says so
      if         a fault: who waited doesn't test again
      forgotten  a fault: who takes notifies nobody */
+#include <chrono>
 #include <condition_variable>
 #include <deque>
 #include <mutex>
@@ -19,7 +21,8 @@ constexpr unsigned putters = 3, takers = 3, size = 2, items = 20, put_code = 0, 
 
 class Buffer {
 public:
-    explicit Buffer(const std::string &style) : late(style == "late"), once(style == "if"), forgets(style == "forgotten") {
+    explicit Buffer(const std::string &style)
+        : timed(style == "timed"), late(style == "late"), once(style == "if"), forgets(style == "forgotten") {
         // the conditions are numbered in the order in which they are first met
         std::lock_guard<std::mutex> lock(mutex);
         not_full.notify_one();
@@ -49,10 +52,18 @@ public:
 private:
     template <class Holds>
     void wait_until(std::unique_lock<std::mutex> &lock, std::condition_variable &condition, Holds holds) {
-        if (!once)
+        if (timed)
+            wait_for_moments(lock, condition, holds);
+        else if (!once)
             condition.wait(lock, holds);
         else if (!holds())
             condition.wait(lock);
+    }
+
+    template <class Holds>
+    static void wait_for_moments(std::unique_lock<std::mutex> &lock, std::condition_variable &condition, Holds holds) {
+        while (!holds())
+            condition.wait_for(lock, std::chrono::microseconds(20));
     }
 
     void notify(std::unique_lock<std::mutex> &lock, std::condition_variable &condition) {
@@ -61,7 +72,7 @@ private:
         condition.notify_one();
     }
 
-    const bool late, once, forgets;
+    const bool timed, late, once, forgets;
     std::mutex mutex;
     std::condition_variable not_full, not_empty;
     std::deque<unsigned> kept;
