@@ -32,21 +32,31 @@ draw n = with_subcommand (explain n) (window_app (codes "draw")).top
 
 pub returns : goal.returns
 returns c =
-    let to_classify = with_one bare_app classify_app c.bare.result c.classify.result c.adding-program.result c.bare.ensures
+    let to_classify = with_one bare_app classify_app c.bare.result c.classify.result c.adding-program.result
+    c.bare.ensures
     c.classify.ensures c.adding-program.ensures in
-    let to_audit = with_one classify (file_app (codes "audit")) c.adding-program.result c.with_file.result c.adding-program-2.result to_classify
+    let to_audit = with_one classify (file_app (codes "audit")) c.adding-program.result c.with_file.result
+    c.adding-program-2.result to_classify
     c.with_file.ensures c.adding-program-2.ensures in
-    let to_play = with_one audit (file_app (codes "play")) c.adding-program-2.result c.with_file-2.result c.adding-program-3.result to_audit
+    let to_play = with_one audit (file_app (codes "play")) c.adding-program-2.result c.with_file-2.result
+    c.adding-program-3.result to_audit
     c.with_file-2.ensures c.adding-program-3.ensures in
-    let to_upgrade = with_one play (file_app (codes "upgrade")) c.adding-program-3.result c.with_file-3.result c.adding-program-4.result to_play
+    let to_upgrade = with_one play (file_app (codes "upgrade")) c.adding-program-3.result c.with_file-3.result
+    c.adding-program-4.result to_play
     c.with_file-3.ensures c.adding-program-4.ensures in
-    let to_fit = with_fit upgrade c.adding-program-4.result c.fitting.result c.adding-program-5.result to_upgrade c.fitting.ensures c.adding-program-5.ensures in
-    let to_trace = with_more fit (file_app (codes "trace")) c.adding-program-5.result c.with_file-4.result c.adding-program-6.result to_fit
+    let to_fit = with_fit upgrade c.adding-program-4.result c.fitting.result c.adding-program-5.result to_upgrade
+    c.fitting.ensures c.adding-program-5.ensures in
+    let to_trace = with_more fit (file_app (codes "trace")) c.adding-program-5.result c.with_file-4.result
+    c.adding-program-6.result to_fit
     c.with_file-4.ensures c.adding-program-6.ensures in
-    let to_explain = with_more trace (file_app (codes "explain")) c.adding-program-6.result c.with_file-5.result c.adding-program-7.result to_trace
+    let to_explain = with_more trace (file_app (codes "explain")) c.adding-program-6.result c.with_file-5.result
+    c.adding-program-7.result to_trace
     c.with_file-5.ensures c.adding-program-7.ensures in
-    let to_draw = with_more explain (window_app (codes "draw")) c.adding-program-7.result c.showing.result c.adding-program-8.result to_explain
+    let to_draw = with_more explain (window_app (codes "draw")) c.adding-program-7.result c.showing.result
+    c.adding-program-8.result to_explain
     c.showing.ensures c.adding-program-8.ensures in
-    let to_page = with_more draw (window_app (codes "page")) c.adding-program-8.result c.showing-2.result c.adding.result to_draw
+    let to_page = with_more draw (window_app (codes "page")) c.adding-program-8.result c.showing-2.result
+    c.adding.result to_draw
     c.showing-2.ensures c.adding.ensures in
-    IfOk-weaker c.adding.result (HasNames plain_app) IsPlainMonk (λ r h. record { fitted = h.names; is = h.is }) to_page
+    IfOk-weaker c.adding.result (HasNames plain_app) IsPlainMonk (λ r h. record { fitted = h.names; is = h.is })
+    to_page
