@@ -56,8 +56,12 @@ blame-requires-clause-reason g c κs within =
     let there : get_or c.args.events.now (c.args.step - 1) (Enter 0 Free) ≡ c.requires.fault =
     ap (λ (n : ℕ). get_or c.args.events.now n (Enter 0 Free)) (sym at)
     ∙ get_or_from_slice_get c.args.events.now c.requires.before c.requires.fault (Enter 0 Free) c.requires.is_there in
-    rw (c.rules_by_name-rules.ensures ∙ ap rules_named c.kind.ensures, c.in_ok-replay.ensures.stands
-    ∙ ap (λ (es : List Event). situation m es) c.events_before-past.ensures, there)
+    rw (
+      c.rules_by_name-rules.ensures ∙ ap rules_named c.kind.ensures,
+      c.in_ok-replay.ensures.stands
+          ∙ ap (λ (es : List Event). situation m es) c.events_before-past.ensures,
+      there,
+    )
     (ap number_of c.numbered.ensures ∙ fault_again _ _ _ _ c.requires
     ∙ sym c.requires.applies ∙ ap (λ (n : ℕ). reason_in m (situation m (take n c.args.events.now)) c.requires.fault) at
     ∙ reason_opening rules c.args.header.now.seats c.args.header.now.conds o (g.T.Guarded.state c.args.object)
