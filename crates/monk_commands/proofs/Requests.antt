@@ -23,6 +23,13 @@ asked_in (Some p) word rows l w r is =
     let same_rows : rows ≡ p.1 = cc in
     subst (λ (x : Text). IsRead x l p.1) same_word (subst (λ (x : List Row). IsRead word l x) same_rows is)
 
+-- the same of what may have been read
+pub asked_in_some : (o : Option (Text × List Row)) (word : Text) (rows : List Row) (found : Option Line)
+    → option_map (λ p. p.0) o ≡ Some word → option_map (λ p. p.1) o ≡ Some rows
+    → IfSome found (λ l. IsRead word l rows) → IfSome found (λ l. IsAsked l o)
+asked_in_some o word rows None w r is = tt
+asked_in_some o word rows (Some l) w r is = asked_in o word rows l w r is
+
 -- the number that is read by `get_one`
 pub number_read : (E : Type 0) (G : List ℕ → Result ℕ E → Type 0) (bits v : ℕ) (name : Text) (f : Found)
     → ((u : List ℕ) (x : Result ℕ E) → G u x → ParsesUnsigned bits 10 u x) → (one_text f name ≡ None → Some v ≡ None)

@@ -1,5 +1,5 @@
 -- The command line of the program, as clap sees it, and what a line asks for
-use Rattle.std.specs.Prelude.{◌≡◌, ℕ, List, [], ◌∷◌, ◌++◌, Option, Some, None, IfSome, IsSomeAnd, true, map, option_map, codes, pos}
+use Rattle.std.specs.Prelude.{◌≡◌, ℕ, List, [], ◌∷◌, ◌++◌, Option, Some, None, IfSome, IsSomeAnd, true, false, map, option_map, codes, pos}
 use Rattle.std.specs.Prelude.{◌≤◌, length, string_bytes}
 use Rattle.std.specs.Str.Parse.{IsNumeral, digits_value, without_leading_plus}
 use Rattle.std.specs.Borrow.{Bor}
@@ -7,6 +7,7 @@ use Rattle.clap.specs.Words.{AddsSubcommand, App, Row, Rule, Text, all_of, app_o
 use Rattle.clap.specs.Words.{with_subcommand}
 use Rattle.clap.specs.declared.builder.action.ArgAction.TheVariants.{Append, SetTrue}
 use Rattle.clap.specs.declared.builder.command.Command.{Command}
+use Rattle.clap.specs.declared.builder.command.Command.TheViews.{out-Command}
 use Rattle.clap.specs.declared.builder.value_parser.ValueParser.TheVariants.{Signed, Names}
 use Rattle.clap.specs.declared.builder.value_parser.ValueParser.{ValueParser}
 use Rattle.monk_draw.specs.Asked.{numbers_meant, window_fault}
@@ -122,6 +123,11 @@ complete_app n =
     with_rule (with_rule (new_app (codes "complete")) (required_rule (codes "KIND") (Names n.kinds)))
     (new_rule (codes "FILE"))
 
+-- the command has these rules, and none that is for its subcommands too
+pub record IsOwnApp (a : App) (c : Command) : Type 0 where
+  pub is : app_of c ≡ a
+  pub own : (out-Command c).has_globals ≡ false
+
 -- where the command is added to another, it is a subcommand like this
 abbrev pub IsSubcommand : Command → App → Type 0
 IsSubcommand c a = (old new : Command) → AddsSubcommand old c new → app_of new ≡ with_subcommand (app_of old) a.top
@@ -165,11 +171,6 @@ pub record IsPlainMonk (c : Command) : Type 0 where
 pub record IsFitCommand (c : Command) : Type 0 where
   pub names : KindNames
   pub is : IsSubcommand c (fit_app names)
-
--- the second command is the first with `fit`
-pub record HasFit (old new : Command) : Type 0 where
-  pub names : KindNames
-  pub is : app_of new ≡ with_subcommand (app_of old) (fit_app names).top
 
 -- the command is `complete`
 pub record IsCompleteCommand (c : Command) : Type 0 where

@@ -178,14 +178,10 @@ pub(crate) fn put_text(
     ensures lines { OnOk result (page.new.items ≡ page.old.items ++ counts_text means.now counts) }
     ensures no_file { IsErrOf result StreamFault.File → ⊥ }
 {
-    let gone = gone_line(alloc, counts)?;
-    let waiting = waiting_words(alloc, counts)?;
-    let inside = inside_words(alloc, counts)?;
-    let missed = missed_line(alloc, means, counts.missed)?;
-    page.extend_from_slice(gone.as_bytes())?;
-    page.extend_from_slice(waiting.as_bytes())?;
-    page.extend_from_slice(inside.as_bytes())?;
-    page.extend_from_slice(missed.as_bytes())?;
+    page.extend_from_slice(gone_line(alloc, counts)?.as_bytes())?;
+    page.extend_from_slice(waiting_words(alloc, counts)?.as_bytes())?;
+    page.extend_from_slice(inside_words(alloc, counts)?.as_bytes())?;
+    page.extend_from_slice(missed_line(alloc, means, counts.missed)?.as_bytes())?;
     Ok(())
 }
 

@@ -1,13 +1,14 @@
 //! The program's words, read with `clap`.
 
-ghost use Rattle.std.specs.Prelude.{◌≡◌, IfOk, IfSome, Some, codes, map};
+ghost use Rattle.std.specs.Prelude.{◌≡◌, false, IfOk, IfSome, IsOkAnd, Some, codes, map, pos};
 ghost use Rattle.monk_kinds.specs.Names.{kind_word};
-ghost use Rattle.clap.specs.Words.{App, app_of, first_of, found_of, rows_of, subcommand_of};
-ghost use Rattle.clap.specs.Words.{subcommand_rows_of, with_subcommand};
+ghost use Rattle.clap.specs.Words.{AddsArg, AddsSubcommand, App, app_of, first_of, found_of, new_app, rows_of, rule_of, subcommand_of};
+ghost use Rattle.clap.specs.Words.{subcommand_rows_of};
+ghost use Rattle.clap.specs.declared.builder.value_parser.ValueParser.TheVariants.{Signed};
 ghost use Rattle.monk_samples.specs.Samples.{IsInRange};
 ghost use Rattle.monk_commands.specs.Request.{AreRunValues, IsAsked, IsCompleteCommand, IsFitCommand};
-ghost use Rattle.monk_commands.specs.Request.{HasFit, IsMonk, IsPlainMonk, IsRead, IsRunCommand, IsSubcommand};
-ghost use Rattle.monk_commands.specs.Request.{bare_app, classify_app, file_app, sample_word};
+ghost use Rattle.monk_commands.specs.Request.{IsMonk, IsOwnApp, IsPlainMonk, IsRead, IsRunCommand, IsSubcommand};
+ghost use Rattle.monk_commands.specs.Request.{bare_app, classify_app, file_app, priority, required_rule, sample_word};
 ghost use Rattle.monk_commands.specs.Request.{window_app};
 
 use crate::arguments::{chosen, file, files, flag, number, repeated, required};
@@ -21,7 +22,7 @@ use crate::request::{Line, LineFault};
 use crate::window_words::window_of;
 use clap::builder::ValueParser;
 use clap::error::ErrorKind;
-use clap::{ArgMatches, Command, value_parser};
+use clap::{Arg, ArgMatches, Command, value_parser};
 use monk_kinds::KindName;
 use monk_object::ObjectName;
 use monk_samples::Sample;
@@ -38,25 +39,24 @@ const VERSION: &str = "1.0.0";
 fn command<'a>(alloc: Global) -> Result<Command<'a>, AllocError>
     ensures { IfOk result (λ c. IsMonk (app_of c)) }
 {
-    let program = plain(alloc)?;
-    let program = program.subcommand(completing(alloc)?)?;
-    let program = program.subcommand(running(alloc, "run", &RUN)?)?;
-    program.subcommand(running(alloc, "record", &RECORD)?)
+    let program = adding(plain(alloc), completing(alloc));
+    let program = adding(program, running(alloc, "run", &RUN));
+    adding(program, running(alloc, "record", &RECORD))
 }
 
 /// The program with the commands that need no kind.
 fn plain<'a>(alloc: Global) -> Result<Command<'a>, AllocError>
     ensures { IfOk result IsPlainMonk }
 {
-    let program = with_classify(alloc, bare(alloc)?)?;
-    let program = with_reader(alloc, program, "audit", &AUDIT)?;
-    let program = with_reader(alloc, program, "play", &PLAY)?;
-    let program = with_reader(alloc, program, "upgrade", &UPGRADE)?;
-    let program = with_fit(alloc, program)?;
-    let program = with_reader(alloc, program, "trace", &TRACE)?;
-    let program = with_reader(alloc, program, "explain", &EXPLAIN)?;
-    let program = with_window(alloc, program, "draw", &DRAW)?;
-    with_window(alloc, program, "page", &PAGE)
+    let program = adding(bare(alloc), classify(alloc));
+    let program = adding(program, with_file(alloc, "audit", &AUDIT));
+    let program = adding(program, with_file(alloc, "play", &PLAY));
+    let program = adding(program, with_file(alloc, "upgrade", &UPGRADE));
+    let program = adding(program, fitting(alloc));
+    let program = adding(program, with_file(alloc, "trace", &TRACE));
+    let program = adding(program, with_file(alloc, "explain", &EXPLAIN));
+    let program = adding(program, showing(alloc, "draw", &DRAW));
+    adding(program, showing(alloc, "page", &PAGE))
 }
 
 /// The program without commands.
@@ -67,52 +67,50 @@ fn bare<'a>(alloc: Global) -> Result<Command<'a>, AllocError>
     Ok(program.version(VERSION).subcommand_required(true))
 }
 
-fn with_classify<'a>(alloc: Global, program: Command<'a>) -> Result<Command<'a>, AllocError>
-    ensures { IfOk result (λ c. app_of c ≡ with_subcommand (app_of program.entry) classify_app.top) }
-{
-    program.subcommand(classify(alloc)?)
-}
-
-fn with_fit<'a>(alloc: Global, program: Command<'a>) -> Result<Command<'a>, AllocError>
-    ensures { IfOk result (HasFit program.entry) }
-{
-    program.subcommand(fitting(alloc)?)
-}
-
-fn with_reader<'a>(
-    alloc: Global,
-    program: Command<'a>,
-    name: &'a str,
-    help: &Help,
+/// The program with one command more, if both were made. Here alone a command is let go.
+fn adding<'a>(
+    program: Result<Command<'a>, AllocError>,
+    made: Result<Command<'a>, AllocError>,
 ) -> Result<Command<'a>, AllocError>
-    ensures { IfOk result (λ c. app_of c ≡ with_subcommand (app_of program.entry) (file_app name.entry.now).top) }
+    ensures { IfOk result
+        (λ r. IsOkAnd program.entry (λ p. IsOkAnd made.entry (λ c. AddsSubcommand p c r))) }
 {
-    program.subcommand(with_file(alloc, name, help)?)
+    program?.subcommand(made?)
 }
 
-fn with_window<'a>(
-    alloc: Global,
-    program: Command<'a>,
-    name: &'a str,
-    help: &Help,
+/// The command with one argument more, if it was made.
+fn taking<'a>(
+    command: Result<Command<'a>, AllocError>,
+    arg: Arg<'a>,
 ) -> Result<Command<'a>, AllocError>
-    ensures { IfOk result (λ c. app_of c ≡ with_subcommand (app_of program.entry) (window_app name.entry.now).top) }
+    ensures { IfOk result (λ r. IsOkAnd command.entry (λ c. AddsArg c arg.entry r)) }
 {
-    program.subcommand(showing(alloc, name, help)?)
+    command?.arg(arg)
+}
+
+/// A command of that name, with its help.
+fn described<'a>(alloc: Global, name: &'a str, help: &Help) -> Command<'a>
+    ensures { IsOwnApp (new_app name.entry.now) result }
+{
+    Command::new(alloc, name)
+        .about(help.about)
+        .after_help(help.example)
+}
+
+/// A priority that must stand there.
+fn priority<'a>(alloc: Global, name: &'a str) -> Arg<'a>
+    ensures rule { rule_of result ≡ required_rule name.entry.now priority }
+    ensures local { result.global ≡ false }
+{
+    required(alloc, name, PRIORITY, value_parser!(u8))
 }
 
 fn classify<'a>(alloc: Global) -> Result<Command<'a>, AllocError>
     ensures { IfOk result (λ c. IsSubcommand c classify_app) }
 {
-    let entry = required(alloc, "ENTRY", PRIORITY, value_parser!(u8));
-    let waiter = required(alloc, "WAITER", PRIORITY, value_parser!(u8));
-    let signaller = required(alloc, "SIGNALLER", PRIORITY, value_parser!(u8));
-    Command::new(alloc, "classify")
-        .about(CLASSIFY.about)
-        .after_help(CLASSIFY.example)
-        .arg(entry)?
-        .arg(waiter)?
-        .arg(signaller)
+    let command = described(alloc, "classify", &CLASSIFY).arg(priority(alloc, "ENTRY"));
+    let command = taking(command, priority(alloc, "WAITER"));
+    taking(command, priority(alloc, "SIGNALLER"))
 }
 
 /// The command that takes a kind or none, what a log may tell, and files, or standard input where none is named.
@@ -120,25 +118,20 @@ fn fitting<'a>(alloc: Global) -> Result<Command<'a>, AllocError>
     ensures { IfOk result IsFitCommand }
 {
     let kinds = ValueParser::Names(KINDS.as_slice());
-    Command::new(alloc, "fit")
-        .about(FIT.about)
-        .after_help(FIT.example)
-        .arg(chosen(alloc, "kind", ONE_KIND, "KIND", kinds))?
-        .arg(flag(alloc, "lapses", LAPSES))?
-        .arg(repeated(alloc, "means", MEANS, "COND=PRED"))?
-        .arg(files(alloc))
+    let kind = chosen(alloc, "kind", ONE_KIND, "KIND", kinds);
+    let command = described(alloc, "fit", &FIT).arg(kind);
+    let command = taking(command, flag(alloc, "lapses", LAPSES));
+    let command = taking(command, repeated(alloc, "means", MEANS, "COND=PRED"));
+    taking(command, files(alloc))
 }
 
 /// A command that shows some events of a file, or of standard input where none is named.
 fn showing<'a>(alloc: Global, name: &'a str, help: &Help) -> Result<Command<'a>, AllocError>
     ensures { IfOk result (λ c. IsSubcommand c (window_app name.entry.now)) }
 {
-    Command::new(alloc, name)
-        .about(help.about)
-        .after_help(help.example)
-        .arg(number(alloc, "from", FROM))?
-        .arg(number(alloc, "to", TO))?
-        .arg(file(alloc))
+    let command = described(alloc, name, help).arg(number(alloc, "from", FROM));
+    let command = taking(command, number(alloc, "to", TO));
+    taking(command, file(alloc))
 }
 
 /// The command that takes a kind, and a file, or standard input where none is named.
@@ -146,11 +139,27 @@ fn completing<'a>(alloc: Global) -> Result<Command<'a>, AllocError>
     ensures { IfOk result IsCompleteCommand }
 {
     let kinds = ValueParser::Names(KINDS.as_slice());
-    Command::new(alloc, "complete")
-        .about(COMPLETE.about)
-        .after_help(COMPLETE.example)
-        .arg(required(alloc, "KIND", "The kind of monitor", kinds))?
-        .arg(file(alloc))
+    let kind = required(alloc, "KIND", "The kind of monitor", kinds);
+    let command = described(alloc, "complete", &COMPLETE).arg(kind);
+    taking(command, file(alloc))
+}
+
+/// How many seats there must be.
+fn seats<'a>(alloc: Global) -> Arg<'a>
+    ensures rule { rule_of result ≡ required_rule (codes "SEATS") (Signed (pos 2) (pos 16)) }
+    ensures local { result.global ≡ false }
+{
+    let parser = value_parser!(u8).range(2..=16);
+    required(alloc, "SEATS", "How many seats, 2 to 16", parser)
+}
+
+/// How many rounds there must be.
+fn rounds<'a>(alloc: Global) -> Arg<'a>
+    ensures rule { rule_of result ≡ required_rule (codes "ROUNDS") (Signed (pos 1) (pos 1000)) }
+    ensures local { result.global ≡ false }
+{
+    let parser = value_parser!(u32).range(1..=1000);
+    required(alloc, "ROUNDS", "How often, 1 to 1000", parser)
 }
 
 /// A command that takes a kind, a sample, and how many seats and rounds.
@@ -159,25 +168,19 @@ fn running<'a>(alloc: Global, name: &'a str, help: &Help) -> Result<Command<'a>,
 {
     let kinds = ValueParser::Names(KINDS.as_slice());
     let samples = ValueParser::Names(SAMPLES.as_slice());
-    let seats = value_parser!(u8).range(2..=16);
-    let rounds = value_parser!(u32).range(1..=1000);
-    Command::new(alloc, name)
-        .about(help.about)
-        .after_help(help.example)
-        .arg(required(alloc, "KIND", "The kind of monitor", kinds))?
-        .arg(required(alloc, "SAMPLE", "What the threads do", samples))?
-        .arg(required(alloc, "SEATS", "How many seats, 2 to 16", seats))?
-        .arg(required(alloc, "ROUNDS", "How often, 1 to 1000", rounds))
+    let kind = required(alloc, "KIND", "The kind of monitor", kinds);
+    let sample = required(alloc, "SAMPLE", "What the threads do", samples);
+    let command = described(alloc, name, help).arg(kind);
+    let command = taking(command, sample);
+    let command = taking(command, seats(alloc));
+    taking(command, rounds(alloc))
 }
 
 /// A command that takes a file, or standard input where none is named.
 fn with_file<'a>(alloc: Global, name: &'a str, help: &Help) -> Result<Command<'a>, AllocError>
     ensures { IfOk result (λ c. IsSubcommand c (file_app name.entry.now)) }
 {
-    Command::new(alloc, name)
-        .about(help.about)
-        .after_help(help.example)
-        .arg(file(alloc))
+    described(alloc, name, help).arg(file(alloc))
 }
 
 fn fault_of(alloc: Global, error: &clap::Error) -> LineFault {
@@ -294,19 +297,41 @@ fn line_to_read(
     }
 }
 
+/// What a command of that name asks for that takes a file and more, or a file alone, if there is one.
+fn line_of_text(
+    alloc: Global,
+    name: &str,
+    matches: &ArgMatches<'_>,
+) -> Result<Option<Line>, LineFault>
+    ensures { IfOk result (λ found. IfSome found (λ l. IsRead name.now l (rows_of (found_of matches.now)))) }
+{
+    match name {
+        "fit" => Ok(Some(line_to_fit(alloc, matches)?)),
+        "draw" => Ok(Some(line_to_draw(alloc, matches)?)),
+        "page" => Ok(Some(line_to_page(alloc, matches)?)),
+        _ => line_to_read(alloc, name, matches),
+    }
+}
+
+/// What a command of that name asks for, if it is one of the program with all its values.
+fn line_of(alloc: Global, name: &str, matches: &ArgMatches<'_>) -> Result<Option<Line>, LineFault>
+    ensures { IfOk result (λ found. IfSome found (λ l. IsRead name.now l (rows_of (found_of matches.now)))) }
+{
+    match name {
+        "classify" => Ok(priorities_of(matches)),
+        "complete" => line_to_complete(alloc, matches),
+        "run" => Ok(line_to_run(matches)),
+        "record" => Ok(line_to_record(matches)),
+        _ => line_of_text(alloc, name, matches),
+    }
+}
+
 /// What the matches ask for, if it is a command of the program with all its values.
 fn asked(alloc: Global, matches: &ArgMatches<'_>) -> Result<Option<Line>, LineFault>
     ensures { IfOk result (λ found. IfSome found (λ l. IsAsked l (subcommand_rows_of matches.now))) }
 {
     match matches.subcommand() {
-        Some(("classify", classify)) => Ok(priorities_of(classify)),
-        Some(("fit", fit)) => Ok(Some(line_to_fit(alloc, fit)?)),
-        Some(("draw", draw)) => Ok(Some(line_to_draw(alloc, draw)?)),
-        Some(("page", page)) => Ok(Some(line_to_page(alloc, page)?)),
-        Some(("complete", complete)) => line_to_complete(alloc, complete),
-        Some(("run", run)) => Ok(line_to_run(run)),
-        Some(("record", record)) => Ok(line_to_record(record)),
-        Some((name, matches)) => line_to_read(alloc, name, matches),
+        Some((name, matches)) => line_of(alloc, name, matches),
         None => Ok(None),
     }
 }

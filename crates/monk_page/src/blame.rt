@@ -12,12 +12,12 @@ impl InJson for ForbiddenEvent {
     ghost json = { λ b. blame_json (blame_of b) };
 
     fn value(&self, alloc: Global) -> Result<Value, AllocError> {
-        let why = format!(in alloc; "{}", self.why)?;
         let mut map = Map::new(alloc);
         put(&mut map, alloc, "choice", optional(alloc, &self.choice)?)?;
         put(&mut map, alloc, "event", self.event.value(alloc)?)?;
         put(&mut map, alloc, "reply", optional(alloc, &self.reply)?)?;
         put(&mut map, alloc, "step", Value::from(self.step))?;
+        let why = format!(in alloc; "{}", self.why)?;
         put(&mut map, alloc, "why", Value::String(why))?;
         Ok(Value::Object(map))
     }

@@ -31,7 +31,6 @@ fn why(alloc: Global, telling: &Telling) -> Result<Value, AllocError>
 fn verdict(alloc: Global, kind: KindName, telling: &Telling) -> Result<Value, AllocError>
     ensures { IfOk result (λ v. view v ≡ verdict_json kind (telling_of telling.now)) }
 {
-    let verdict = format!(in alloc; "{}", telling.verdict)?;
     let mut map = Map::new(alloc);
     put(
         &mut map,
@@ -39,6 +38,7 @@ fn verdict(alloc: Global, kind: KindName, telling: &Telling) -> Result<Value, Al
         "kind",
         Value::try_from_str(alloc, kind.as_str())?,
     )?;
+    let verdict = format!(in alloc; "{}", telling.verdict)?;
     put(&mut map, alloc, "verdict", Value::String(verdict))?;
     put(&mut map, alloc, "why", why(alloc, telling)?)?;
     Ok(Value::Object(map))

@@ -65,7 +65,6 @@ fn put_kind(alloc: Global, map: &mut Map<String, Value>, kind: KindName) -> Resu
     ensures { OnOk result (members_view map.new.entries ≡ with_kind kind (members_view map.old.entries)) }
 {
     let rules = rules_by_name(kind);
-    let ranks = format!(in alloc; "{}", Ranks(rules))?;
     put(
         map,
         alloc,
@@ -78,6 +77,7 @@ fn put_kind(alloc: Global, map: &mut Map<String, Value>, kind: KindName) -> Resu
         "mode",
         Value::try_from_str(alloc, mode_word(rules.mode))?,
     )?;
+    let ranks = format!(in alloc; "{}", Ranks(rules))?;
     put(map, alloc, "ranks", Value::String(ranks))
 }
 
@@ -89,9 +89,9 @@ fn put_heading(
 ) -> Result<(), AllocError>
     ensures { OnOk result (members_view map.new.entries ≡ with_heading header.now (members_view map.old.entries)) }
 {
-    let object = Value::try_from_str(alloc, header.object().as_str())?;
     put(map, alloc, "conditions", Value::from(header.conds()))?;
     put(map, alloc, "seats", Value::from(header.seats()))?;
+    let object = Value::try_from_str(alloc, header.object().as_str())?;
     put(map, alloc, "object", object)?;
     put(map, alloc, "size", Value::from(header.size()))?;
     put(map, alloc, "version", Value::from(header.version()))?;
@@ -128,13 +128,10 @@ fn put_steps(
         ≡ with_steps header.now events.now span.before span.last (members_view map.old.entries)) }
     ensures object { IsErrOf result AuditFault.Object → most header.now.object < header.now.size }
 {
-    let kinds = kinds(alloc, header, events)?;
-    let steps = steps(alloc, header, events, span)?;
-    let forbidden = forbidden(alloc, telling, span)?;
+    put(map, alloc, "kinds", kinds(alloc, header, events)?)?;
+    put(map, alloc, "steps", steps(alloc, header, events, span)?)?;
+    put(map, alloc, "forbidden", forbidden(alloc, telling, span)?)?;
     let verdict = format!(in alloc; "{}", telling.verdict)?;
-    put(map, alloc, "kinds", kinds)?;
-    put(map, alloc, "steps", steps)?;
-    put(map, alloc, "forbidden", forbidden)?;
     put(map, alloc, "verdict", Value::String(verdict))?;
     Ok(())
 }

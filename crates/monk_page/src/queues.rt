@@ -10,48 +10,55 @@ use monk_tell::QueueLists;
 use serde_json::{Map, Value, put};
 use std::alloc::{AllocError, Global};
 
-/// The values of the queues inside a monitor; of a queue that its kind doesn't have, null.
-#[derive(Drop)]
-struct QueueValues {
-    conditions: Value,
-    ready: Value,
-    signaller: Value,
-    until: Value,
-    waiter: Value,
+/// The value of the queues of the conditions; null, if the kind has none.
+fn conditions(alloc: Global, queues: &QueueLists) -> Result<Value, AllocError>
+    ensures { IfOk result (λ v. view v ≡ conditions_json (queues_of queues.now)) }
+{
+    match queues {
+        QueueLists::Automatic(..) => Ok(Value::Null),
+        QueueLists::Returning(conditions, _) => conditions.value(alloc),
+        QueueLists::Explicit(conditions, ..) => conditions.value(alloc),
+    }
 }
 
-impl QueueValues {
-    /// Of these queues.
-    fn of(alloc: Global, queues: &QueueLists) -> Result<QueueValues, AllocError>
-        ensures conditions { IfOk result (λ q. view q.conditions ≡ conditions_json (queues_of queues.now)) }
-        ensures ready { IfOk result (λ q. view q.ready ≡ ready_json (queues_of queues.now)) }
-        ensures signaller { IfOk result (λ q. view q.signaller ≡ signallers_json (queues_of queues.now)) }
-        ensures until { IfOk result (λ q. view q.until ≡ untils_json (queues_of queues.now)) }
-        ensures waiter { IfOk result (λ q. view q.waiter ≡ waiters_json (queues_of queues.now)) }
-    {
-        match queues {
-            QueueLists::Automatic(untils, ready) => Ok(QueueValues {
-                conditions: Value::Null,
-                ready: ready.value(alloc)?,
-                signaller: Value::Null,
-                until: list(alloc, &untils.0)?,
-                waiter: Value::Null,
-            }),
-            QueueLists::Returning(conditions, waiters) => Ok(QueueValues {
-                conditions: conditions.value(alloc)?,
-                ready: Value::Null,
-                signaller: Value::Null,
-                until: Value::Null,
-                waiter: waiters.value(alloc)?,
-            }),
-            QueueLists::Explicit(conditions, waiters, signallers) => Ok(QueueValues {
-                conditions: conditions.value(alloc)?,
-                ready: Value::Null,
-                signaller: signallers.value(alloc)?,
-                until: Value::Null,
-                waiter: waiters.value(alloc)?,
-            }),
-        }
+/// The same of the waiter queue.
+fn waiters(alloc: Global, queues: &QueueLists) -> Result<Value, AllocError>
+    ensures { IfOk result (λ v. view v ≡ waiters_json (queues_of queues.now)) }
+{
+    match queues {
+        QueueLists::Automatic(..) => Ok(Value::Null),
+        QueueLists::Returning(_, waiters) => waiters.value(alloc),
+        QueueLists::Explicit(_, waiters, _) => waiters.value(alloc),
+    }
+}
+
+/// The same of the signaller queue.
+fn signallers(alloc: Global, queues: &QueueLists) -> Result<Value, AllocError>
+    ensures { IfOk result (λ v. view v ≡ signallers_json (queues_of queues.now)) }
+{
+    match queues {
+        QueueLists::Automatic(..) | QueueLists::Returning(..) => Ok(Value::Null),
+        QueueLists::Explicit(_, _, signallers) => signallers.value(alloc),
+    }
+}
+
+/// The same of those who wait until a predicate holds.
+fn untils(alloc: Global, queues: &QueueLists) -> Result<Value, AllocError>
+    ensures { IfOk result (λ v. view v ≡ untils_json (queues_of queues.now)) }
+{
+    match queues {
+        QueueLists::Automatic(untils, _) => list(alloc, &untils.0),
+        QueueLists::Returning(..) | QueueLists::Explicit(..) => Ok(Value::Null),
+    }
+}
+
+/// The same of the seats whose predicate holds.
+fn ready(alloc: Global, queues: &QueueLists) -> Result<Value, AllocError>
+    ensures { IfOk result (λ v. view v ≡ ready_json (queues_of queues.now)) }
+{
+    match queues {
+        QueueLists::Automatic(_, ready) => ready.value(alloc),
+        QueueLists::Returning(..) | QueueLists::Explicit(..) => Ok(Value::Null),
     }
 }
 
@@ -64,10 +71,9 @@ pub(crate) fn put_queues(
     ensures { OnOk result
         (members_view map.new.entries ≡ with_queues (queues_of queues.now) (members_view map.old.entries)) }
 {
-    let values = QueueValues::of(alloc, queues)?;
-    put(map, alloc, "waiter", values.waiter)?;
-    put(map, alloc, "until", values.until)?;
-    put(map, alloc, "signaller", values.signaller)?;
-    put(map, alloc, "ready", values.ready)?;
-    put(map, alloc, "conditions", values.conditions)
+    put(map, alloc, "waiter", waiters(alloc, queues)?)?;
+    put(map, alloc, "until", untils(alloc, queues)?)?;
+    put(map, alloc, "signaller", signallers(alloc, queues)?)?;
+    put(map, alloc, "ready", ready(alloc, queues)?)?;
+    put(map, alloc, "conditions", conditions(alloc, queues)?)
 }

@@ -29,10 +29,10 @@ fn put_standing(
         state: &standing.data.0,
     };
     let data = format!(in alloc; "{words}")?;
-    let turn = format!(in alloc; "{}", SaidTurn(standing.turn))?;
     put(map, alloc, "data", Value::String(data))?;
     put(map, alloc, "inside", standing.inside.value(alloc)?)?;
     put(map, alloc, "state", standing.data.value(alloc)?)?;
+    let turn = format!(in alloc; "{}", SaidTurn(standing.turn))?;
     put(map, alloc, "turn", Value::String(turn))?;
     put_queues(alloc, map, &standing.queues)
 }

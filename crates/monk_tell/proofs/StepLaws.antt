@@ -39,7 +39,8 @@ pub end_allowed : (v : Verdict) (last allowed end : ℕ) → allowed ≡ allowed
 end_allowed v last allowed end is ends =
     subst (λ (n : ℕ). n ≤ allowed_events v) (sym (ends ∙ ap (min last) is)) (min-le_right last (allowed_events v))
 
-legal_shorter : (m : Monitor) (es : List Event) (n k : ℕ) → n ≤ k → IsLegal m (take k es) → IsLegal m (take n es)
+-- fewer of legal events
+pub legal_shorter : (m : Monitor) (es : List Event) (n k : ℕ) → n ≤ k → IsLegal m (take k es) → IsLegal m (take n es)
 legal_shorter m es n k few legal =
     subst (λ (xs : List Event). IsLegal m xs) (take-take n k es few) (legal_take m (take k es) n legal)
 
@@ -50,11 +51,11 @@ allowed_legal m es (Forbidden step reason) n is few =
     legal_shorter m es n is.before (omega (arith, few, is.is_step)) is.legal_before
 
 -- against an event of them is no reason, whatever the opening state is
-pub none_against : (k : Rules) (seats conds : ℕ) (o : Object) (d : List ℕ) (es : List Event) (v : Verdict) (n : ℕ)
-    (e : Event) (t : Situation) → IsVerdict (monitor k seats conds o d) es v → n < allowed_events v
+pub none_against : (k : Rules) (seats conds : ℕ) (o : Object) (d : List ℕ) (es : List Event) (end n : ℕ)
+    (e : Event) (t : Situation) → IsLegal (monitor k seats conds o d) (take end es) → end ≤ length es → n < end
     → e ≡ get_or es n (Enter 0 Free) → t ≡ situation (monitor k seats conds o d) (take n es)
     → reason_in (monitor k seats conds o []) t e ≡ 0
-none_against k seats conds o d es v n e t is few there stands =
+none_against k seats conds o d es end n e t legal ends few there stands =
     sym (reason_opening k seats conds o d t e) ∙ (ap (λ (x : Situation). reason_in m x e) stands
     ∙ (ap (λ (x : Event). reason_of m (take n es) x) there ∙ none))
   where
@@ -65,7 +66,7 @@ none_against k seats conds o d es v n e t is few there stands =
     first = Enter 0 Free
 
     within : n + 1 ≤ length es
-    within = allowed_there m es v (n + 1) is (omega (arith, few))
+    within = omega (arith, few, ends)
 
     front : List Event
     front = take (n + 1) es
@@ -78,17 +79,17 @@ none_against k seats conds o d es v n e t is few there stands =
 
     none : reason_of m (take n es) (get_or es n first) ≡ 0
     none = no_reason m front n first _ (subst (λ (x : ℕ). n < x) (sym (length-take-le (n + 1) es within)) (omega arith))
-        (allowed_legal m es v (n + 1) is (omega (arith, few)))
+        (legal_shorter m es (n + 1) end (omega (arith, few)) legal)
         (sym (ap (λ (xs : List Event). reason_of m xs (get_or front n first)) before_is
         ∙ ap (λ (x : Event). reason_of m (take n es) x) there_is))
 
 -- where the event of that number leads
-pub reached : (m : Monitor) (es : List Event) (v : Verdict) (n : ℕ) (e : Event) (t u : Situation) → IsVerdict m es v
-    → n < allowed_events v → e ≡ get_or es n (Enter 0 Free) → t ≡ situation m (take n es) → u ≡ after m.object t e
+pub reached : (m : Monitor) (es : List Event) (end n : ℕ) (e : Event) (t u : Situation) → IsLegal m (take end es)
+    → end ≤ length es → n < end → e ≡ get_or es n (Enter 0 Free) → t ≡ situation m (take n es) → u ≡ after m.object t e
     → u ≡ situation m (take (n + 1) es)
-reached m es v n e t u is few there stands leads =
-    stands_more m es n (Enter 0 Free) t u (omega (arith, allowed_there m es v (n + 1) is (omega (arith, few))))
-    (allowed_legal m es v n is (omega (arith, few))) stands (leads ∙ ap (λ (x : Event). after m.object t x) there)
+reached m es end n e t u legal ends few there stands leads =
+    stands_more m es n (Enter 0 Free) t u (omega (arith, few, ends))
+    (legal_shorter m es n end (omega (arith, few)) legal) stands (leads ∙ ap (λ (x : Event). after m.object t x) there)
 
 -- the event at a place behind the first ones
 pub event_there : (es : List Event) (before last i : ℕ) (d : Event) → i < last - before

@@ -1,8 +1,9 @@
 //! The steps of a history.
 
-ghost use Rattle.std.specs.Prelude.{◌≡◌, ◌≤◌, ◌<◌, ◌^◌, IfOk, OnOk, IsErrOf, length, map, min};
+ghost use Rattle.std.specs.Prelude.{◌≡◌, ◌≤◌, ◌<◌, ◌^◌, [], IfOk, OnOk, IsErrOf, length, map, min, take};
 ghost use Rattle.monk_kinds.specs.Names.{rules_named};
 ghost use Rattle.monk_object.specs.Names.{most};
+ghost use Rattle.monk_history.specs.Meaning.Legal.{IsLegal};
 ghost use Rattle.monk_history.specs.Meaning.Monitor.{monitor};
 ghost use Rattle.monk_audit.specs.Verdict.{IsVerdict};
 ghost use Rattle.monk_tell.specs.Steps.{allowed_events, step_of, steps_between, steps_of};
@@ -21,6 +22,40 @@ fn allowed_events(verdict: Verdict) -> usize
         Verdict::Legal(count) => count as usize,
         Verdict::Forbidden { step, .. } => (step as usize).saturating_sub(1),
     }
+}
+
+/// Puts the steps behind so many events up to the last that is told into the vector, which is empty, over the object in
+/// its opening state.
+fn put_steps<T: Listed>(
+    alloc: Global,
+    header: &Header,
+    object: &mut T,
+    events: &[Event],
+    before: usize,
+    end: usize,
+    steps: &mut Vec<Step>,
+) -> Result<(), AllocError>
+    requires empty { steps.old.items ≡ [] }
+    requires begins { before ≤ end }
+    requires ends { end ≤ length events.now }
+    requires legal { IsLegal
+        (monitor (rules_named header.now.kind) header.now.seats header.now.conds T.meaning (T.state object.old))
+        (take end events.now) }
+    ensures { OnOk result
+        (map step_of steps.new.items ≡ steps_of
+        (monitor (rules_named header.now.kind) header.now.seats header.now.conds T.meaning (T.state object.old))
+        events.now before end) }
+{
+    let rules = rules_by_name(header.kind());
+    let (seats, conds) = (header.seats(), header.conds());
+    let past = &events[..before];
+    let mut replay = Replay::after_all(alloc, object, rules, seats, conds, past)?;
+    steps.push(Step::opening(alloc, header, rules, &replay, object)?)?;
+    for event in &events[before..end] {
+        let step = Step::by(alloc, header, rules, &mut replay, object, *event)?;
+        steps.push(step)?;
+    }
+    Ok(())
 }
 
 /// The steps of a history with that verdict, over the object in its opening state.
@@ -47,15 +82,7 @@ fn steps_over<T: Listed>(
         return Ok(steps);
     }
     let mut object = object;
-    let rules = rules_by_name(header.kind());
-    let (seats, conds) = (header.seats(), header.conds());
-    let past = &events[..before];
-    let mut replay = Replay::after_all(alloc, &mut object, rules, seats, conds, past)?;
-    steps.push(Step::opening(alloc, header, rules, &replay, &object)?)?;
-    for event in &events[before..end] {
-        let step = Step::by(alloc, header, rules, &mut replay, &mut object, *event)?;
-        steps.push(step)?;
-    }
+    put_steps(alloc, header, &mut object, events, before, end, &mut steps)?;
     Ok(steps)
 }
 

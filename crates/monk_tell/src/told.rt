@@ -8,7 +8,7 @@ ghost use Rattle.monk_history.specs.Meaning.Monitor.{monitor};
 ghost use Rattle.monk_history.specs.Meaning.Situation.{situation};
 ghost use Rattle.monk_audit.specs.Replay.{replay_situation};
 ghost use Rattle.monk_audit.specs.Verdict.{IsVerdict};
-ghost use Rattle.monk_tell.specs.Told.{account, account_by, shown_after, situation_of, telling_of};
+ghost use Rattle.monk_tell.specs.Told.{account, account_by, events_before, shown_after, situation_of, telling_of};
 
 use crate::judging::blame;
 use crate::situation::Situation;
@@ -69,6 +69,15 @@ fn tell_legal<T: Listed>(
     })
 }
 
+/// The events before that step.
+fn events_before(events: &[Event], step: u32) -> &[Event]
+    requires is_step { 1 ≤ step }
+    requires there { step ≤ length events.now }
+    ensures { result.now ≡ events_before events.now step }
+{
+    &events[..step as usize - 1]
+}
+
 /// What is told of a history whose first fault is known.
 fn tell_forbidden<T: Listed>(
     alloc: Global,
@@ -87,10 +96,10 @@ fn tell_forbidden<T: Listed>(
         (Verdict.Forbidden step reason)) }
 {
     let mut object = object;
-    let before = step as usize - 1;
-    let (replay, situation) = standing(alloc, header, &mut object, &events[..before])?;
+    let past = events_before(events, step);
+    let (replay, situation) = standing(alloc, header, &mut object, past)?;
     let rules = rules_by_name(header.kind());
-    let event = events[before];
+    let event = events[step as usize - 1];
     let blame = blame(
         alloc,
         header,

@@ -13,10 +13,10 @@ returns-clause-lines c =
     (missed_line c.args.means.now k.missed) c.args.page.now.items one two three
     c.extend_from_slice-4.new.self.items
     (c.in_ok-extend_from_slice.ensures.items
-    ∙ ap (λ (xs : List ℕ). c.args.page.now.items ++ xs) (c.as_bytes.ensures.value ∙ c.in_ok-gone.ensures.text))
+    ∙ ap (λ (xs : List ℕ). c.args.page.now.items ++ xs) (c.as_bytes.ensures.value ∙ c.in_ok-gone_line.ensures.text))
     (c.in_ok-extend_from_slice-2.ensures.items
-    ∙ ap (λ (xs : List ℕ). one ++ xs) (c.as_bytes-2.ensures.value ∙ c.in_ok-waiting.ensures.text))
+    ∙ ap (λ (xs : List ℕ). one ++ xs) (c.as_bytes-2.ensures.value ∙ c.in_ok-waiting_words.ensures.text))
     (c.in_ok-extend_from_slice-3.ensures.items
-    ∙ ap (λ (xs : List ℕ). two ++ xs) (c.as_bytes-3.ensures.value ∙ c.in_ok-inside.ensures.text))
+    ∙ ap (λ (xs : List ℕ). two ++ xs) (c.as_bytes-3.ensures.value ∙ c.in_ok-inside_words.ensures.text))
     (c.in_ok-extend_from_slice-4.ensures.items
-    ∙ ap (λ (xs : List ℕ). three ++ xs) (c.as_bytes-4.ensures.value ∙ c.in_ok-missed.ensures.text))
+    ∙ ap (λ (xs : List ℕ). three ++ xs) (c.as_bytes-4.ensures.value ∙ c.in_ok-missed_line.ensures.text))

@@ -2,22 +2,27 @@ use Rattle.std.proofs.Common.{◌∙◌, ap, codes}
 use Rattle.std.proofs.lemmas.Result.{IfOk-weaker}
 use Rattle.clap.specs.Words.{App, with_subcommand}
 use Rattle.monk_commands.specs.Request.{complete_app, run_app}
+use Rattle.monk_commands.proofs.Programs.{made_and}
 use Rattle.monk_commands.proofs.words.command.Goals as goal
 
 pub returns : goal.returns
 returns c =
-    let plain = c.in_ok-program.ensures in
-    let complete = c.in_ok-completing.ensures in
-    let complete_is = complete.is _ _ c.in_ok-program-2.ensures
-    ∙ ap (λ (a : App). with_subcommand a (complete_app complete.names).top) plain.is in
-    let run = c.in_ok-running.ensures in
-    let run_is = run.is _ _ c.in_ok-program-3.ensures
-    ∙ ap (λ (a : App). with_subcommand a (run_app (codes "run") run.names).top) complete_is in
-    let recorded = c.in_ok-running-2.ensures in
-    IfOk-weaker c.subcommand-3.result _ _ (λ r h. record {
-      fitted = plain.fitted;
-      completed = complete.names;
-      run = run.names;
-      recorded = recorded.names;
-      is = recorded.is _ _ h ∙ ap (λ (a : App). with_subcommand a (run_app (codes "record") recorded.names).top) run_is;
-    }) c.subcommand-3.ensures
+    IfOk-weaker c.adding.result _ _ (λ r h. (
+    let third = made_and c.adding-program-2.result _ _ c.adding-program-2.ensures h in
+    let recorded = made_and c.running-2.result _ _ c.running-2.ensures third.then in
+    let second = made_and c.adding-program.result _ _ c.adding-program.ensures third.is in
+    let run = made_and c.running.result _ _ c.running.ensures second.then in
+    let plain = made_and c.plain.result _ _ c.plain.ensures second.is in
+    let complete = made_and c.completing.result _ _ c.completing.ensures plain.then in
+    let complete_is = complete.is.is _ _ complete.then
+    ∙ ap (λ (a : App). with_subcommand a (complete_app complete.is.names).top) plain.is.is in
+    let run_is = run.is.is _ _ run.then
+    ∙ ap (λ (a : App). with_subcommand a (run_app (codes "run") run.is.names).top) complete_is in
+    record {
+      fitted = plain.is.fitted;
+      completed = complete.is.names;
+      run = run.is.names;
+      recorded = recorded.is.names;
+      is = recorded.is.is _ _ recorded.then
+          ∙ ap (λ (a : App). with_subcommand a (run_app (codes "record") recorded.is.names).top) run_is;
+    })) c.adding.ensures

@@ -1,20 +1,23 @@
-use Rattle.std.proofs.Common.{rules, ◌≡◌, ◌∙◌, ap, ap₂}
+use Rattle.std.proofs.Common.{rules, codes}
 use Rattle.std.proofs.lemmas.Result.{IfOk-weaker}
-use Rattle.clap.specs.Simple.{app_of_fields}
-use Rattle.clap.specs.Words.{App, app_of, with_rule, with_subcommand}
-use Rattle.monk_commands.specs.Request.{KindNames, complete_app}
+use Rattle.clap.specs.Words.{App, new_app, new_rule, with_rule}
+use Rattle.clap.specs.declared.builder.value_parser.ValueParser.TheVariants.{Names}
+use Rattle.monk_commands.specs.Request.{IsCompleteCommand, IsOwnApp, KindNames, complete_app, required_rule}
+use Rattle.monk_commands.proofs.Programs.{first_taken, next_taken, own_subcommand}
 use Rattle.monk_commands.proofs.words.completing.Goals as goal
+
+abbrev one : KindNames → App
+one n = with_rule (new_app (codes "complete")) (required_rule (codes "KIND") (Names n.kinds))
 
 pub returns : goal.returns
 returns c =
     let names : KindNames = record { kinds = c.as_slice.result; all_kinds = search rules } in
-    IfOk-weaker c.arg-2.result _ _ (λ r h. record {
-      names = names;
-      is = λ old new adds. (
-          let is : app_of r ≡ complete_app names = h.shape (search rules)
-          ∙ ap₂ with_rule (c.in_ok-arg.ensures.shape (search rules)
-          ∙ ap₂ with_rule (ap app_of_fields c.after_help.ensures
-          ∙ (ap app_of_fields c.about.ensures ∙ c.new.ensures.app)) c.required.ensures.rule)
-          c.file.ensures.rule in
-          adds.shape (search rules) ∙ ap (λ (a : App). with_subcommand (app_of old) a.top) is);
-    }) c.arg-2.ensures
+    IfOk-weaker c.taking.result (IsOwnApp (complete_app names)) IsCompleteCommand
+    (λ r h. record { names = names; is = own_subcommand (complete_app names) r h })
+    (next_taken (one names) c.arg-command.result c.taking.result c.file.result
+    (new_rule (codes "FILE"))
+    (first_taken (new_app (codes "complete")) c.described.result c.arg-command.result c.required-kind.result
+    (required_rule (codes "KIND") (Names names.kinds))
+    c.described.ensures
+    c.required-kind.ensures.rule c.required-kind.ensures.local c.arg-command.ensures)
+    c.file.ensures.rule c.file.ensures.local c.taking.ensures)

@@ -1,30 +1,62 @@
-use Rattle.std.proofs.Common.{◌∙◌, ap, codes}
+use Rattle.std.proofs.Common.{codes}
 use Rattle.std.proofs.lemmas.Result.{IfOk-weaker}
 use Rattle.clap.specs.Words.{App, with_subcommand}
-use Rattle.monk_commands.specs.Request.{classify_app, file_app, fit_app, window_app}
+use Rattle.monk_commands.specs.Request.{IsPlainMonk, KindNames, bare_app, classify_app, file_app, fit_app, plain_app}
+use Rattle.monk_commands.specs.Request.{window_app}
+use Rattle.monk_commands.proofs.Programs.{HasNames, with_fit, with_more, with_one}
 use Rattle.monk_commands.proofs.words.plain.Goals as goal
+
+abbrev classify : App
+classify = with_subcommand bare_app classify_app.top
+
+abbrev audit : App
+audit = with_subcommand classify (file_app (codes "audit")).top
+
+abbrev play : App
+play = with_subcommand audit (file_app (codes "play")).top
+
+abbrev upgrade : App
+upgrade = with_subcommand play (file_app (codes "upgrade")).top
+
+abbrev fit : KindNames → App
+fit n = with_subcommand upgrade (fit_app n).top
+
+abbrev trace : KindNames → App
+trace n = with_subcommand (fit n) (file_app (codes "trace")).top
+
+abbrev explain : KindNames → App
+explain n = with_subcommand (trace n) (file_app (codes "explain")).top
+
+abbrev draw : KindNames → App
+draw n = with_subcommand (explain n) (window_app (codes "draw")).top
 
 pub returns : goal.returns
 returns c =
-    let classify_is = c.in_ok-program.ensures
-    ∙ ap (λ (a : App). with_subcommand a classify_app.top) c.in_ok-bare.ensures in
-    let audit_is = c.in_ok-program-2.ensures
-    ∙ ap (λ (a : App). with_subcommand a (file_app (codes "audit")).top) classify_is in
-    let play_is = c.in_ok-program-3.ensures
-    ∙ ap (λ (a : App). with_subcommand a (file_app (codes "play")).top) audit_is in
-    let upgrade_is = c.in_ok-program-4.ensures
-    ∙ ap (λ (a : App). with_subcommand a (file_app (codes "upgrade")).top) play_is in
-    let fit = c.in_ok-program-5.ensures in
-    let fit_is = fit.is ∙ ap (λ (a : App). with_subcommand a (fit_app fit.names).top) upgrade_is in
-    let trace_is = c.in_ok-program-6.ensures
-    ∙ ap (λ (a : App). with_subcommand a (file_app (codes "trace")).top) fit_is in
-    let explain_is = c.in_ok-program-7.ensures
-    ∙ ap (λ (a : App). with_subcommand a (file_app (codes "explain")).top) trace_is in
-    let draw_is = c.in_ok-program-8.ensures
-    ∙ ap (λ (a : App). with_subcommand a (window_app (codes "draw")).top) explain_is in
-    IfOk-weaker c.with_window-2.result _ _
-    (λ r h. record {
-      fitted = fit.names;
-      is = h ∙ ap (λ (a : App). with_subcommand a (window_app (codes "page")).top) draw_is;
-    })
-    c.with_window-2.ensures
+    let to_classify = with_one bare_app classify_app c.bare.result c.classify.result c.adding-program.result
+    c.bare.ensures
+    c.classify.ensures c.adding-program.ensures in
+    let to_audit = with_one classify (file_app (codes "audit")) c.adding-program.result c.with_file.result
+    c.adding-program-2.result to_classify
+    c.with_file.ensures c.adding-program-2.ensures in
+    let to_play = with_one audit (file_app (codes "play")) c.adding-program-2.result c.with_file-2.result
+    c.adding-program-3.result to_audit
+    c.with_file-2.ensures c.adding-program-3.ensures in
+    let to_upgrade = with_one play (file_app (codes "upgrade")) c.adding-program-3.result c.with_file-3.result
+    c.adding-program-4.result to_play
+    c.with_file-3.ensures c.adding-program-4.ensures in
+    let to_fit = with_fit upgrade c.adding-program-4.result c.fitting.result c.adding-program-5.result to_upgrade
+    c.fitting.ensures c.adding-program-5.ensures in
+    let to_trace = with_more fit (file_app (codes "trace")) c.adding-program-5.result c.with_file-4.result
+    c.adding-program-6.result to_fit
+    c.with_file-4.ensures c.adding-program-6.ensures in
+    let to_explain = with_more trace (file_app (codes "explain")) c.adding-program-6.result c.with_file-5.result
+    c.adding-program-7.result to_trace
+    c.with_file-5.ensures c.adding-program-7.ensures in
+    let to_draw = with_more explain (window_app (codes "draw")) c.adding-program-7.result c.showing.result
+    c.adding-program-8.result to_explain
+    c.showing.ensures c.adding-program-8.ensures in
+    let to_page = with_more draw (window_app (codes "page")) c.adding-program-8.result c.showing-2.result
+    c.adding.result to_draw
+    c.showing-2.ensures c.adding.ensures in
+    IfOk-weaker c.adding.result (HasNames plain_app) IsPlainMonk (λ r h. record { fitted = h.names; is = h.is })
+    to_page

@@ -1,14 +1,16 @@
-use Rattle.std.proofs.Common.{rules, ◌≡◌, ◌∙◌, ap, ap₂}
+use Rattle.std.proofs.Common.{codes}
 use Rattle.std.proofs.lemmas.Result.{IfOk-weaker}
-use Rattle.clap.specs.Simple.{app_of_fields}
-use Rattle.clap.specs.Words.{App, app_of, with_rule, with_subcommand}
-use Rattle.monk_commands.specs.Request.{file_app}
+use Rattle.clap.specs.Words.{new_app, new_rule}
+use Rattle.monk_commands.specs.Request.{IsOwnApp, IsSubcommand, file_app}
+use Rattle.monk_commands.proofs.Programs.{first_taken, own_subcommand}
 use Rattle.monk_commands.proofs.words.with_file.Goals as goal
 
 pub returns : goal.returns
 returns c =
-    IfOk-weaker c.arg.result _ _ (λ r h old new adds.
-    let is : app_of r ≡ file_app c.args.name.now = h.shape (search rules)
-    ∙ ap₂ with_rule (ap app_of_fields c.after_help.ensures ∙ (ap app_of_fields c.about.ensures ∙ c.new.ensures.app))
-    c.file.ensures.rule in
-    adds.shape (search rules) ∙ ap (λ (a : App). with_subcommand (app_of old) a.top) is) c.arg.ensures
+    let name = c.args.name.now in
+    IfOk-weaker c.arg.result (IsOwnApp (file_app name)) (λ r. IsSubcommand r (file_app name))
+    (λ r h. own_subcommand (file_app name) r h)
+    (first_taken (new_app name) c.described.result c.arg.result c.file.result
+    (new_rule (codes "FILE"))
+    c.described.ensures
+    c.file.ensures.rule c.file.ensures.local c.arg.ensures)

@@ -5,7 +5,7 @@ use Rattle.monk_history.specs.Meaning.Monitor.{monitor}
 use Rattle.monk_history.specs.Meaning.Situation.{situation}
 use Rattle.monk_audit.specs.Replay.{IsReplayOf, replay_situation}
 use Rattle.monk_tell.specs.Steps.{step_after, step_of}
-use Rattle.monk_tell.proofs.steps.steps_over.Given as goal
+use Rattle.monk_tell.proofs.steps.put_steps.Given as goal
 
 -- the steps so far
 abbrev pub invariant-loop-event : goal.invariant-loop-event
