@@ -1,5 +1,6 @@
 use Rattle.std.proofs.Common.{arith}
 use Rattle.monk_object.specs.Book.{book_meaning}
+use Rattle.monk_samples.specs.Visits.{op_of}
 use Rattle.monk_samples.proofs.PromiseLaws.{has_code, has_pred, promises, read_promised}
 use Rattle.monk_samples.proofs.book.begin_read.Goals as goal
 
@@ -17,4 +18,4 @@ act_and_finish-requires-clause-code g c κs within =
 
 pub act_and_finish-requires-clause-promise : goal.act_and_finish-requires-clause-promise
 act_and_finish-requires-clause-promise g c κs within =
-    promises g.T.Guarded.meaning book_meaning c.requires.book _ _ read_promised
+    promises g.T.Guarded.meaning book_meaning c.requires.book 0 (op_of 0 0) read_promised

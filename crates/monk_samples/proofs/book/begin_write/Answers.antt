@@ -3,6 +3,7 @@ use Rattle.monk_kinds.specs.declared.mode.Pick.TheVariants.{Waiter}
 use Rattle.monk_object.specs.Book.{book_meaning}
 use Rattle.monk_samples.specs.Members.{begins_to_write}
 use Rattle.monk_samples.specs.declared.end.End.TheVariants.{Done}
+use Rattle.monk_samples.specs.Visits.{op_of}
 use Rattle.monk_samples.proofs.PromiseLaws.{has_code, has_pred, promises, write_promised}
 use Rattle.monk_samples.proofs.StyleLaws.{left}
 use Rattle.monk_samples.proofs.VisitLaws.{tired, visited}
@@ -30,4 +31,4 @@ act_when-requires-clause-code g c κs within =
 
 pub act_when-requires-clause-promise : goal.act_when-requires-clause-promise
 act_when-requires-clause-promise g c κs within =
-    promises g.T.Guarded.meaning book_meaning c.requires.book _ _ write_promised
+    promises g.T.Guarded.meaning book_meaning c.requires.book 1 (op_of 2 0) write_promised
