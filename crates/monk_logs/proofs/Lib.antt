@@ -2,6 +2,7 @@ pub mod PublicLaws
 mod LogLaws
 mod CourseLaws
 mod VerdictLaws
+mod MadeLaws
 mod CompletionLaws
 mod StepLaws
 mod OrderLaws

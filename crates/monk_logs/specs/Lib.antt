@@ -7,6 +7,7 @@ pub mod Along
 pub mod Stand
 pub mod Exactly
 pub mod Verdict
+pub mod Made
 pub mod Kept
 pub mod Completion
 pub mod Ending

@@ -1,5 +1,6 @@
 mod TrailLaws
 mod StyleLaws
+mod PromiseLaws
 mod ShortLaws
 mod VisitLaws
 mod AwaitLaws

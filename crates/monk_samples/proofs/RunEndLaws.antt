@@ -8,12 +8,12 @@ use Rattle.monk_history.specs.declared.event.Event.{Event}
 use Rattle.monk_hall.specs.Records.{first_view, opening_records}
 use Rattle.monk_hall.specs.Tokens.{House, Token, tokens}
 use Rattle.monk_hall.specs.declared.setting.Setting.{Setting}
-use Rattle.monk_samples.specs.Crews.{IsOf}
+use Rattle.monk_samples.specs.Crews.{IsClosed, IsOf}
 use Rattle.monk_samples.specs.Ends.{HaveServed, HasEndedFirst, IsFaultOfCrew}
 use Rattle.monk_samples.specs.Faults.{run_fault_of}
-use Rattle.monk_samples.specs.Runs.{HasLeft, HasRun, HasStopped, IsFaultOfRun, IsFirstSpent, run_setting}
+use Rattle.monk_samples.specs.Runs.{HasClosed, HasLeft, HasRun, HasStopped, IsFaultOfRun, IsFirstSpent, run_setting}
 use Rattle.monk_samples.specs.Samples.{sample_object}
-use Rattle.monk_samples.specs.Wholes.{IsLeftBy}
+use Rattle.monk_samples.specs.Wholes.{HoldsOperationsOf, IsLeftBy}
 use Rattle.monk_samples.specs.declared.crew_fault.CrewFault.{CrewFault}
 use Rattle.monk_samples.specs.declared.crew_fault.CrewFault.TheVariants as crew
 use Rattle.monk_samples.specs.declared.end.End.{End}
@@ -27,6 +27,11 @@ some_pass z c many = by c.seats many
     by : (n : ℕ) → 2 ≤ n → 0 < length (tokens z (opening_records c n 0))
     by zero h = absurd (omega (arith, h))
     by (suc n) h = omega arith
+
+-- a history with which the hall was closed is what its seats have left
+pub has_left : (k : Rules) (answers : ℕ → ℕ → Bool → Type 0) (sample : Sample) (seats rounds : ℕ) (history : List Event)
+    → HasClosed k answers sample seats rounds history → HasLeft k answers sample seats rounds history
+has_left k answers sample seats rounds history s = record { run = s.run; left = s.left }
 
 module _ (k : Rules) (answers : ℕ → ℕ → Bool → Type 0) (sample : Sample) (seats rounds : ℕ) where
   abbrev Served : House → List Token → List Token → Type 0
@@ -64,10 +69,17 @@ module _ (k : Rules) (answers : ℕ → ℕ → Bool → Type 0) (sample : Sampl
           c (subst (λ (ps : List Token). Served h ps qs) passes_are s);
     }
 
-    pub has_left : (qs : List Token) (history : List Event) → Served h made qs → IsLeftBy history qs
-        → HasLeft k answers sample seats rounds history
+    pub has_closed : (qs : List Token) (history : List Event) → Served h made qs
+        → IsClosed k (meaning_named (sample_object sample)) h.setting history → HoldsOperationsOf history qs
+        → IsLeftBy history qs
+        → HasClosed k answers sample seats rounds history
     unfolding has_run
-    has_left qs history s left = record { run = has_run qs s; left = left }
+    has_closed qs history s closed whole left = record {
+      run = has_run qs s;
+      left = left;
+      closed = subst (λ (x : Setting). IsClosed k (meaning_named (sample_object sample)) x history) c closed;
+      whole = whole;
+    }
 
     stopped : (end : End) → HasEndedFirst k (meaning_named (sample_object sample)) answers sample seats rounds made end
         → HasStopped k answers sample seats rounds end

@@ -8,10 +8,11 @@ use Rattle.monk_hall.specs.Records.{first_view}
 use Rattle.monk_hall.specs.Rule.{setting_of}
 use Rattle.monk_hall.specs.Tokens.{House, Token, tokens}
 use Rattle.monk_hall.specs.declared.setting.Setting.{Setting}
+use Rattle.monk_samples.specs.Crews.{IsClosed}
 use Rattle.monk_samples.specs.Ends.{HaveServed, HasEndedFirst}
 use Rattle.monk_samples.specs.Samples.{sample_object, size_of, conds_of, budget_of}
 use Rattle.monk_samples.specs.Styles.{IsSpent}
-use Rattle.monk_samples.specs.Wholes.{IsLeftBy}
+use Rattle.monk_samples.specs.Wholes.{HoldsOperationsOf, IsLeftBy}
 use Rattle.monk_samples.specs.declared.end.End.{End}
 use Rattle.monk_samples.specs.declared.end.End.TheVariants.{Tired, Late}
 use Rattle.monk_samples.specs.declared.run_fault.RunFault.{RunFault}
@@ -48,6 +49,13 @@ module _ (k : Rules) (answers : ℕ → ℕ → Bool → Type 0) (sample : Sampl
   pub record HasLeft (history : List Event) : Type 0 where
     pub run : HasRun
     pub left : IsLeftBy history run.passes
+
+  -- and the hall of the run was closed with this history, which holds what they have done and nothing else
+  pub record HasClosed (history : List Event) : Type 0 where
+    pub run : HasRun
+    pub left : IsLeftBy history run.passes
+    pub closed : IsClosed k (meaning_named (sample_object sample)) (run_setting k sample seats rounds) history
+    pub whole : HoldsOperationsOf history run.passes
 
   -- the lowest seat that did not serve to its end has ended so
   pub record HasStopped (end : End) : Type 0 where

@@ -1,5 +1,5 @@
 -- The samples: their objects, and what a run of one leaves
-use Rattle.std.specs.Prelude.{◌≡◌, ℕ, ◌*◌, ◌+◌, ◌^◌, ◌≤◌, ◌⊎◌, IsTrue, List, length, nat_le, if◌then◌else◌}
+use Rattle.std.specs.Prelude.{◌≡◌, ℕ, ◌*◌, ◌+◌, ◌^◌, ◌≤◌, IsTrue, List, length, nat_le, if◌then◌else◌}
 use Rattle.std.specs.List.{list_all}
 use Rattle.monk_kinds.specs.Names.{rules_named}
 use Rattle.monk_kinds.specs.declared.mode.Rules.{Rules}
@@ -24,10 +24,6 @@ sample_object Buffer = object.Buffer
 sample_object Book = object.Book
 sample_object Shop = object.Shop
 sample_object Hasty = object.Buffer
-
--- its seats put and take
-abbrev pub IsOverBuffer : Sample → Type 0
-IsOverBuffer s = (s ≡ Buffer) ⊎ (s ≡ Hasty)
 
 -- the size of a sample's object, and of the hasty one's: with one place its seats wait for each other most often
 abbrev pub size : ℕ

@@ -12,7 +12,7 @@ use crate::styles::waking::wake_all_and_leave;
 use crate::visit::{act_and_finish, act_now, act_when};
 use monk_hall::{Hall, Pass};
 use monk_kinds::{NonBlocking, Pick};
-use monk_object::{Book, Op};
+use monk_object::{Book, Guarded, Op};
 use std::sync::Wait;
 
 /// The condition that a read may start.
@@ -37,6 +37,20 @@ pub fn read_begin<K: Style, R: Wait>(
     requires conds { Offers K.rules pass.me.setting.conds 2 }
     ensures { HasVisited K.rules book_meaning pass (begins_to_read ∷ []) result.0 result.1 }
 {
+    begin_read(pass, rt, hall)
+}
+
+/// Begins to read over an object that means what a book does.
+pub(crate) fn begin_read<K: Style, T: Guarded, R: Wait>(
+    pass: Pass<K, T>,
+    rt: &R,
+    hall: &Hall<K, T>,
+) -> (Pass<K, T>, End)
+    requires book { T.meaning ≡ book_meaning }
+    requires hall { pass.hall ≡ hall.now.id }
+    requires conds { Offers K.rules pass.me.setting.conds 2 }
+    ensures { HasVisited K.rules T.meaning pass (begins_to_read ∷ []) result.0 result.1 }
+{
     let start = Op {
         code: Book::START_READ,
         arg: 0,
@@ -53,6 +67,20 @@ pub fn read_end<K: Style, R: Wait>(
     requires hall { pass.hall ≡ hall.now.id }
     requires conds { Offers K.rules pass.me.setting.conds 2 }
     ensures { HasVisited K.rules book_meaning pass (ends_to_read K.rules pass.me.setting ∷ []) result.0 result.1 }
+{
+    end_read(pass, rt, hall)
+}
+
+/// Ends its read over an object that means what a book does.
+pub(crate) fn end_read<K: Style, T: Guarded, R: Wait>(
+    pass: Pass<K, T>,
+    rt: &R,
+    hall: &Hall<K, T>,
+) -> (Pass<K, T>, End)
+    requires book { T.meaning ≡ book_meaning }
+    requires hall { pass.hall ≡ hall.now.id }
+    requires conds { Offers K.rules pass.me.setting.conds 2 }
+    ensures { HasVisited K.rules T.meaning pass (ends_to_read K.rules pass.me.setting ∷ []) result.0 result.1 }
 {
     let end = Op {
         code: Book::END_READ,
@@ -78,6 +106,20 @@ pub fn write_begin<K: Style, R: Wait>(
     requires conds { Offers K.rules pass.me.setting.conds 2 }
     ensures { HasVisited K.rules book_meaning pass (begins_to_write ∷ []) result.0 result.1 }
 {
+    begin_write(pass, rt, hall)
+}
+
+/// Begins to write over an object that means what a book does.
+pub(crate) fn begin_write<K: Style, T: Guarded, R: Wait>(
+    pass: Pass<K, T>,
+    rt: &R,
+    hall: &Hall<K, T>,
+) -> (Pass<K, T>, End)
+    requires book { T.meaning ≡ book_meaning }
+    requires hall { pass.hall ≡ hall.now.id }
+    requires conds { Offers K.rules pass.me.setting.conds 2 }
+    ensures { HasVisited K.rules T.meaning pass (begins_to_write ∷ []) result.0 result.1 }
+{
     let start = Op {
         code: Book::START_WRITE,
         arg: 0,
@@ -97,6 +139,20 @@ pub fn write_end<K: Style, R: Wait>(
     requires hall { pass.hall ≡ hall.now.id }
     requires conds { Offers K.rules pass.me.setting.conds 2 }
     ensures { HasVisited K.rules book_meaning pass (ends_to_write K.rules ∷ []) result.0 result.1 }
+{
+    end_write(pass, rt, hall)
+}
+
+/// Ends its write over an object that means what a book does.
+pub(crate) fn end_write<K: Style, T: Guarded, R: Wait>(
+    pass: Pass<K, T>,
+    rt: &R,
+    hall: &Hall<K, T>,
+) -> (Pass<K, T>, End)
+    requires book { T.meaning ≡ book_meaning }
+    requires hall { pass.hall ≡ hall.now.id }
+    requires conds { Offers K.rules pass.me.setting.conds 2 }
+    ensures { HasVisited K.rules T.meaning pass (ends_to_write K.rules ∷ []) result.0 result.1 }
 {
     match act_now(pass, rt, hall, END_OF_WRITE) {
         Ok((active, _)) => {

@@ -16,7 +16,7 @@ use crate::styles::passing::signal_wait_and_leave;
 use crate::visit::{act_and_finish, act_when};
 use monk_hall::{Hall, Pass};
 use monk_kinds::ImmediateReturn;
-use monk_object::{Buffer, Op};
+use monk_object::{Buffer, Guarded, Op};
 use std::sync::Wait;
 
 /// The condition that there is room for an item.
@@ -35,6 +35,21 @@ pub fn put<K: Style, R: Wait>(
     requires hall { pass.hall ≡ hall.now.id }
     requires conds { Offers K.rules pass.me.setting.conds 2 }
     ensures { HasVisited K.rules buffer_meaning pass (puts item ∷ []) result.0 result.1 }
+{
+    put_into(pass, rt, hall, item)
+}
+
+/// Puts an item into an object that means what a buffer does.
+pub(crate) fn put_into<K: Style, T: Guarded, R: Wait>(
+    pass: Pass<K, T>,
+    rt: &R,
+    hall: &Hall<K, T>,
+    item: u32,
+) -> (Pass<K, T>, End)
+    requires buffer { T.meaning ≡ buffer_meaning }
+    requires hall { pass.hall ≡ hall.now.id }
+    requires conds { Offers K.rules pass.me.setting.conds 2 }
+    ensures { HasVisited K.rules T.meaning pass (puts item ∷ []) result.0 result.1 }
 {
     let put = Op {
         code: Buffer::PUT,
@@ -93,17 +108,36 @@ pub fn take<K: Style, R: Wait>(
     }
 }
 
-/// Puts an item into the buffer in haste, and lets a taker go on: it looks for room once, and comes
-/// again where the put was refused.
-pub(crate) fn put_hastily<K: Style, R: Wait>(
-    pass: Pass<K, Buffer>,
+/// Takes the oldest item out of an object that means what a buffer does, for a caller who doesn't look at it.
+pub(crate) fn take_from<K: Style, T: Guarded, R: Wait>(
+    pass: Pass<K, T>,
     rt: &R,
-    hall: &Hall<K, Buffer>,
-    item: u32,
-) -> (Pass<K, Buffer>, End)
+    hall: &Hall<K, T>,
+) -> (Pass<K, T>, End)
+    requires buffer { T.meaning ≡ buffer_meaning }
     requires hall { pass.hall ≡ hall.now.id }
     requires conds { Offers K.rules pass.me.setting.conds 2 }
-    ensures { HasVisited K.rules buffer_meaning pass (puts_hastily item ∷ []) result.0 result.1 }
+    ensures { HasVisited K.rules T.meaning pass (takes ∷ []) result.0 result.1 }
+{
+    let take = Op {
+        code: Buffer::TAKE,
+        arg: 0,
+    };
+    act_and_finish(pass, rt, hall, NOT_EMPTY, Buffer::HAS_ITEM, take, NOT_FULL)
+}
+
+/// Puts an item in haste into an object that means what a buffer does, and lets a taker go on: it looks for room once,
+/// and comes again where the put was refused.
+pub(crate) fn put_hastily<K: Style, T: Guarded, R: Wait>(
+    pass: Pass<K, T>,
+    rt: &R,
+    hall: &Hall<K, T>,
+    item: u32,
+) -> (Pass<K, T>, End)
+    requires buffer { T.meaning ≡ buffer_meaning }
+    requires hall { pass.hall ≡ hall.now.id }
+    requires conds { Offers K.rules pass.me.setting.conds 2 }
+    ensures { HasVisited K.rules T.meaning pass (puts_hastily item ∷ []) result.0 result.1 }
 {
     let put = Op {
         code: Buffer::PUT,
@@ -112,16 +146,17 @@ pub(crate) fn put_hastily<K: Style, R: Wait>(
     act_and_finish_in_haste(pass, rt, hall, NOT_FULL, Buffer::HAS_ROOM, put, NOT_EMPTY)
 }
 
-/// Takes the oldest item out of the buffer in haste, and lets a putter go on: it looks for an item
-/// once, and comes again where the take was refused.
-pub(crate) fn take_hastily<K: Style, R: Wait>(
-    pass: Pass<K, Buffer>,
+/// Takes the oldest item in haste out of an object that means what a buffer does, and lets a putter go on: it looks for
+/// an item once, and comes again where the take was refused.
+pub(crate) fn take_hastily<K: Style, T: Guarded, R: Wait>(
+    pass: Pass<K, T>,
     rt: &R,
-    hall: &Hall<K, Buffer>,
-) -> (Pass<K, Buffer>, End)
+    hall: &Hall<K, T>,
+) -> (Pass<K, T>, End)
+    requires buffer { T.meaning ≡ buffer_meaning }
     requires hall { pass.hall ≡ hall.now.id }
     requires conds { Offers K.rules pass.me.setting.conds 2 }
-    ensures { HasVisited K.rules buffer_meaning pass (takes_hastily ∷ []) result.0 result.1 }
+    ensures { HasVisited K.rules T.meaning pass (takes_hastily ∷ []) result.0 result.1 }
 {
     let take = Op {
         code: Buffer::TAKE,

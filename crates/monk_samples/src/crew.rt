@@ -1,4 +1,4 @@
-//! The threads of a run, whatever its object.
+//! The workers of a run, whatever its object.
 ghost use Rattle.std.specs.Prelude.{◌≡◌, ◌++◌, All, IfErr, IfOk, IfSome, map, option_to_list};
 ghost use Rattle.monk_samples.specs.Crews.{AreReady, IsReady};
 ghost use Rattle.monk_samples.specs.Ends.{HaveServed, IsFaultOfCrew};
@@ -19,13 +19,10 @@ use monk_object::Guarded;
 use std::alloc::Global;
 use std::thread::Threads;
 
-mod book;
-mod buffer;
-mod shop;
+mod round;
+mod threads;
 
-pub(crate) use book::work_book;
-pub(crate) use buffer::work_buffer;
-pub(crate) use shop::work_shop;
+pub(crate) use threads::work_all;
 
 /// The seats that have rounds to work, in order, and the last one where it has none.
 pub(crate) fn part_idle<K: Kind, T: Guarded>(

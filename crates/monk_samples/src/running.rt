@@ -1,6 +1,7 @@
 //! A run: a hall over the object of a sample, with a thread for each seat that works, closed when all have ended.
 ghost use Rattle.std.specs.Prelude.{◌≡◌, ◌≢◌, ◌↔◌, ◌⊎◌, ◌∷◌, ◌<◌, All, AllPairs, IfErr, IfOk, OnOk, IsErrAnd, IsErrOf, IsOkAnd};
 ghost use Rattle.std.specs.Prelude.{length, true};
+ghost use Rattle.monk_object.specs.Names.{meaning_named, opening_named};
 ghost use Rattle.monk_object.specs.declared.name.ObjectName.TheVariants as object;
 ghost use Rattle.monk_hall.specs.Complete.{AreApart, HaveSeenPart, HoldsOnly};
 ghost use Rattle.monk_hall.specs.Floors.{StartsWith};
@@ -9,15 +10,15 @@ ghost use Rattle.monk_hall.specs.Rule.{setting_of};
 ghost use Rattle.monk_hall.specs.Tokens.{tokens};
 ghost use Rattle.monk_samples.specs.Crews.{AreReady, IsOf, IsClosed};
 ghost use Rattle.monk_samples.specs.Faults.{run_fault_of};
-ghost use Rattle.monk_samples.specs.Runs.{HasLeft, IsFaultOfRun, IsFirstSpent};
+ghost use Rattle.monk_samples.specs.Runs.{HasClosed, HasLeft, IsFaultOfRun, IsFirstSpent};
 ghost use Rattle.monk_samples.specs.Samples.{IsHistoryOf, IsInRange, IsOfFirstVersion, IsOutcome};
-ghost use Rattle.monk_samples.specs.Samples.{budget_of, conds_of, run_heading, size_of};
+ghost use Rattle.monk_samples.specs.Samples.{budget_of, conds_of, run_heading, sample_object, size_of};
 ghost use Rattle.monk_samples.specs.Totals.{HasEnded, HasTotals, MissesNothing, missed_in};
 ghost use Rattle.monk_samples.specs.Wholes.{AreSame, HoldsOperationsOf, IsLeftBy};
 ghost use Rattle.monk_samples.specs.declared.crew_fault.CrewFault.TheVariants as crew;
 ghost use Rattle.monk_samples.specs.declared.sample.Sample.TheVariants as sample;
 
-use crate::crew::{work_book, work_buffer, work_shop};
+use crate::crew::work_all;
 use crate::crew_fault::CrewFault;
 use crate::gate::Gate;
 use crate::outcome::Outcome;
@@ -122,9 +123,7 @@ fn run_buffer<K: Style, R: Threads + Wait + Sync, G: Gate>(
         Err(ObjectFault::Memory) => return Err(CrewFault::Memory),
         Err(ObjectFault::Size) => unreachable!(),
     };
-    let (hall, passes) = open::<K, Buffer>(alloc, buffer, rota)?;
-    let passes = work_buffer(rt, alloc, &hall, passes, gate, rota)?;
-    close_by(rt, alloc, rota, hall, passes)
+    run_over::<K, Buffer, R, G>(rt, alloc, rota, gate, buffer)
 }
 
 /// The history of a run over a buffer in haste.
@@ -147,9 +146,7 @@ fn run_hasty<K: Style, R: Threads + Wait + Sync, G: Gate>(
         Err(ObjectFault::Memory) => return Err(CrewFault::Memory),
         Err(ObjectFault::Size) => unreachable!(),
     };
-    let (hall, passes) = open::<K, Buffer>(alloc, buffer, rota)?;
-    let passes = work_buffer(rt, alloc, &hall, passes, gate, rota)?;
-    close_by(rt, alloc, rota, hall, passes)
+    run_over::<K, Buffer, R, G>(rt, alloc, rota, gate, buffer)
 }
 
 /// The history of a run over a book.
@@ -169,9 +166,7 @@ fn run_book<K: Style, R: Threads + Wait + Sync, G: Gate>(
     let Ok(book) = Book::make(SIZE) else {
         unreachable!();
     };
-    let (hall, passes) = open::<K, Book>(alloc, book, rota)?;
-    let passes = work_book(rt, alloc, &hall, passes, gate, rota)?;
-    close_by(rt, alloc, rota, hall, passes)
+    run_over::<K, Book, R, G>(rt, alloc, rota, gate, book)
 }
 
 /// The history of a run over a shop.
@@ -191,8 +186,27 @@ fn run_shop<K: Style, R: Threads + Wait + Sync, G: Gate>(
     let Ok(shop) = Shop::make(SIZE) else {
         unreachable!();
     };
-    let (hall, passes) = open::<K, Shop>(alloc, shop, rota)?;
-    let passes = work_shop(rt, alloc, &hall, passes, gate, rota)?;
+    run_over::<K, Shop, R, G>(rt, alloc, rota, gate, shop)
+}
+
+/// The history of a run over this object.
+fn run_over<K: Style, T: Guarded, R: Threads + Wait + Sync, G: Gate>(
+    rt: &R,
+    alloc: Global,
+    rota: Rota,
+    gate: &G,
+    object: T,
+) -> Result<Vec<Event>, CrewFault>
+    requires object { T.meaning ≡ meaning_named (sample_object rota.sample) }
+    requires opening { T.state object ≡ opening_named (sample_object rota.sample) (size_of rota.sample) }
+    ensures closed { IfOk result (λ v. HasClosed K.rules
+        (G.answers gate.now) rota.sample rota.seats rota.rounds v.items) }
+    ensures ended { IfOk result (λ v. HasEnded rota.sample v.items) }
+    ensures fault { IfErr result (λ e. IsFaultOfRun K.rules (G.answers gate.now) rota.sample rota.seats rota.rounds
+        (run_fault_of e)) }
+{
+    let (hall, passes) = open::<K, T>(alloc, object, rota)?;
+    let passes = work_all(rt, alloc, &hall, passes, gate, rota)?;
     close_by(rt, alloc, rota, hall, passes)
 }
 

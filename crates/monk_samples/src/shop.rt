@@ -10,7 +10,7 @@ use crate::end::End;
 use crate::style::Style;
 use crate::visit::{act_and_finish, act_now};
 use monk_hall::{Hall, Pass};
-use monk_object::{Op, Shop};
+use monk_object::{Guarded, Op, Shop};
 use std::sync::Wait;
 
 /// The condition that a seat is free.
@@ -57,6 +57,20 @@ pub fn sit_and_cut<K: Style, R: Wait>(
     requires conds { Offers K.rules pass.me.setting.conds 3 }
     ensures { HasVisited K.rules shop_meaning pass (sits ∷ departs ∷ []) result.0 result.1 }
 {
+    have_cut(pass, rt, hall)
+}
+
+/// Has its hair cut in an object that means what a shop does.
+pub(crate) fn have_cut<K: Style, T: Guarded, R: Wait>(
+    pass: Pass<K, T>,
+    rt: &R,
+    hall: &Hall<K, T>,
+) -> (Pass<K, T>, End)
+    requires shop { T.meaning ≡ shop_meaning }
+    requires hall { pass.hall ≡ hall.now.id }
+    requires conds { Offers K.rules pass.me.setting.conds 3 }
+    ensures { HasVisited K.rules T.meaning pass (sits ∷ departs ∷ []) result.0 result.1 }
+{
     let (pass, end) = act_and_finish(
         pass,
         rt,
@@ -91,6 +105,20 @@ pub fn barber_turn<K: Style, R: Wait>(
     requires conds { Offers K.rules pass.me.setting.conds 3 }
     ensures { HasVisited K.rules shop_meaning pass (calls ∷ finishes ∷ []) result.0 result.1 }
 {
+    take_turn(pass, rt, hall)
+}
+
+/// A turn of the barber in an object that means what a shop does.
+pub(crate) fn take_turn<K: Style, T: Guarded, R: Wait>(
+    pass: Pass<K, T>,
+    rt: &R,
+    hall: &Hall<K, T>,
+) -> (Pass<K, T>, End)
+    requires shop { T.meaning ≡ shop_meaning }
+    requires hall { pass.hall ≡ hall.now.id }
+    requires conds { Offers K.rules pass.me.setting.conds 3 }
+    ensures { HasVisited K.rules T.meaning pass (calls ∷ finishes ∷ []) result.0 result.1 }
+{
     let (pass, end) = act_and_finish(
         pass,
         rt,
@@ -107,14 +135,15 @@ pub fn barber_turn<K: Style, R: Wait>(
 }
 
 /// The barber's second visit.
-fn finish_cut<K: Style, R: Wait>(
-    pass: Pass<K, Shop>,
+fn finish_cut<K: Style, T: Guarded, R: Wait>(
+    pass: Pass<K, T>,
     rt: &R,
-    hall: &Hall<K, Shop>,
-) -> (Pass<K, Shop>, End)
+    hall: &Hall<K, T>,
+) -> (Pass<K, T>, End)
+    requires shop { T.meaning ≡ shop_meaning }
     requires hall { pass.hall ≡ hall.now.id }
     requires conds { Offers K.rules pass.me.setting.conds 3 }
-    ensures { HasVisited K.rules shop_meaning pass (finishes ∷ []) result.0 result.1 }
+    ensures { HasVisited K.rules T.meaning pass (finishes ∷ []) result.0 result.1 }
 {
     match act_now(pass, rt, hall, FINISH) {
         Ok((active, _)) => K::finish(active, rt, hall, CUT_DONE),

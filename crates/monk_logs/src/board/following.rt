@@ -4,6 +4,7 @@ ghost use Rattle.std.specs.Prelude.{◌≡◌, ◌≤◌, ◌<◌, IfOk, OnOk, I
 ghost use Rattle.monk_object.specs.Names.{most};
 ghost use Rattle.monk_history.specs.Limits.{most_lines};
 ghost use Rattle.monk_history.specs.Meaning.Monitor.{monitor};
+ghost use Rattle.monk_logs.specs.Made.{IsMadeAs};
 ghost use Rattle.monk_logs.specs.Needs.{LeadsBy, LeadsLog};
 ghost use Rattle.monk_logs.specs.ReadStand.{read_verdict};
 ghost use Rattle.monk_logs.specs.Verdict.{header_monitor, log_monitor};
@@ -22,7 +23,7 @@ use crate::text::line_source::LineSource;
 use crate::verdict::LogVerdict;
 use monk_audit::{AuditFault, rules_by_name};
 use monk_kinds::{KindName, Rules};
-use monk_object::{Book, Buffer, Flags, Guarded, ObjectName, Shop};
+use monk_object::{Book, Buffer, Flags, Guarded, ObjectFault, ObjectName, Shop};
 use std::alloc::{AllocError, Global};
 
 /// Judges the lines one after the other, over the object in its opening state. Of a log that fits it
@@ -73,6 +74,37 @@ fn follow<T: Guarded, L: LineSource>(
     Ok(Led { verdict, needs })
 }
 
+/// Judges the lines over that object, if it was made as the header names it.
+fn lead_over<T: Guarded, L: LineSource>(
+    alloc: Global,
+    header: &LogHeader,
+    object: Result<T, ObjectFault>,
+    lines: L,
+    rules: Rules,
+    order: Order,
+    lapses: Lapses,
+) -> Result<Led, AuditFault>
+    requires made { IsMadeAs header.now T.meaning T.state object }
+    requires few { length (L.left lines) ≤ most_lines }
+    ensures verdict { IfOk result
+        (λ r. r.verdict ≡ read_verdict lapses order (header_monitor header.now rules) (L.left lines)) }
+    ensures leads { IfOk result
+        (λ r. lapses ≡ Lapses.Told
+        → LeadsLog order rules header.now (L.left lines) r.verdict r.needs) }
+    ensures fits { OnOk result (header.now.size ≤ most header.now.object) }
+    ensures object { IsErrOf result AuditFault.Object → most header.now.object < header.now.size }
+    ensures too_big { most header.now.object < header.now.size → IsErrOf result AuditFault.Object }
+{
+    let setting = MonitorSetting {
+        alloc,
+        rules,
+        seats: header.seats(),
+        conds: header.conds(),
+    };
+    let object = object?;
+    Ok(follow(alloc, object, lapses, order, setting, lines)?)
+}
+
 /// Makes the object that the header names, and judges the lines under these rules.
 pub(crate) fn lead_board<L: LineSource>(
     alloc: Global,
@@ -92,29 +124,23 @@ pub(crate) fn lead_board<L: LineSource>(
     ensures object { IsErrOf result AuditFault.Object → most header.now.object < header.now.size }
     ensures too_big { most header.now.object < header.now.size → IsErrOf result AuditFault.Object }
 {
-    let setting = MonitorSetting {
-        alloc,
-        rules,
-        seats: header.seats(),
-        conds: header.conds(),
-    };
     let size = header.size();
     match header.object() {
         ObjectName::Buffer => {
-            let buffer = Buffer::make(alloc, size)?;
-            Ok(follow(alloc, buffer, lapses, order, setting, lines)?)
+            let buffer = Buffer::make(alloc, size);
+            lead_over(alloc, header, buffer, lines, rules, order, lapses)
         }
         ObjectName::Book => {
-            let book = Book::make(size)?;
-            Ok(follow(alloc, book, lapses, order, setting, lines)?)
+            let book = Book::make(size);
+            lead_over(alloc, header, book, lines, rules, order, lapses)
         }
         ObjectName::Shop => {
-            let shop = Shop::make(size)?;
-            Ok(follow(alloc, shop, lapses, order, setting, lines)?)
+            let shop = Shop::make(size);
+            lead_over(alloc, header, shop, lines, rules, order, lapses)
         }
         ObjectName::Flags => {
-            let flags = Flags::make(size)?;
-            Ok(follow(alloc, flags, lapses, order, setting, lines)?)
+            let flags = Flags::make(size);
+            lead_over(alloc, header, flags, lines, rules, order, lapses)
         }
     }
 }

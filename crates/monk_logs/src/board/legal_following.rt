@@ -7,6 +7,7 @@ ghost use Rattle.monk_history.specs.Meaning.Monitor.{monitor};
 ghost use Rattle.monk_kinds.specs.Kind.{IsKind};
 ghost use Rattle.monk_logs.specs.Completion.{IsCompletedBy};
 ghost use Rattle.monk_logs.specs.Kept.{IsKept, kept_events};
+ghost use Rattle.monk_logs.specs.Made.{IsMadeAs};
 ghost use Rattle.monk_logs.specs.Stand.{verdict_on};
 ghost use Rattle.monk_logs.specs.Verdict.{log_monitor};
 
@@ -22,7 +23,7 @@ use crate::text::line::LogLine;
 use crate::verdict::LogVerdict;
 use monk_audit::{AuditFault, rules_by_name};
 use monk_kinds::KindName;
-use monk_object::{Book, Buffer, Flags, Guarded, ObjectName, Shop};
+use monk_object::{Book, Buffer, Flags, Guarded, ObjectFault, ObjectName, Shop};
 use std::alloc::{AllocError, Global};
 
 /// Judges the lines one after the other, over the object in its opening state. Where they fit and
@@ -60,6 +61,36 @@ fn follow<T: Guarded>(
     Ok(LogVerdict::Fits)
 }
 
+/// Judges the lines over that object, if it was made as the header names it.
+fn follow_over<T: Guarded>(
+    alloc: Global,
+    header: &LogHeader,
+    object: Result<T, ObjectFault>,
+    lines: &[LogLine],
+    kind: KindName,
+    past: &mut Past,
+) -> Result<LogVerdict, AuditFault>
+    requires made { IsMadeAs header.now T.meaning T.state object }
+    requires few { length lines.now ≤ most_lines }
+    requires fresh { IsKept (kept_events past.old) [] }
+    ensures verdict { IfOk result (λ v. v ≡ verdict_on (log_monitor kind header.now) lines.now) }
+    ensures completed { IfOk result
+        (λ v. v ≡ LogVerdict.Fits → IsCompletedBy (log_monitor kind header.now) lines.now
+        (is_some (kept_events past.old)) (kept_events past.new)) }
+    ensures fits { OnOk result (header.now.size ≤ most header.now.object) }
+    ensures object { IsErrOf result AuditFault.Object → most header.now.object < header.now.size }
+    ensures too_big { most header.now.object < header.now.size → IsErrOf result AuditFault.Object }
+{
+    let setting = MonitorSetting {
+        alloc,
+        rules: rules_by_name(kind),
+        seats: header.seats(),
+        conds: header.conds(),
+    };
+    let object = object?;
+    Ok(follow(alloc, object, setting, lines, past)?)
+}
+
 /// Makes the object that the header names, and judges the lines.
 pub(crate) fn follow_log(
     alloc: Global,
@@ -78,29 +109,23 @@ pub(crate) fn follow_log(
     ensures object { IsErrOf result AuditFault.Object → most header.now.object < header.now.size }
     ensures too_big { most header.now.object < header.now.size → IsErrOf result AuditFault.Object }
 {
-    let setting = MonitorSetting {
-        alloc,
-        rules: rules_by_name(kind),
-        seats: header.seats(),
-        conds: header.conds(),
-    };
     let size = header.size();
     match header.object() {
         ObjectName::Buffer => {
-            let buffer = Buffer::make(alloc, size)?;
-            Ok(follow(alloc, buffer, setting, lines, past)?)
+            let buffer = Buffer::make(alloc, size);
+            follow_over(alloc, header, buffer, lines, kind, past)
         }
         ObjectName::Book => {
-            let book = Book::make(size)?;
-            Ok(follow(alloc, book, setting, lines, past)?)
+            let book = Book::make(size);
+            follow_over(alloc, header, book, lines, kind, past)
         }
         ObjectName::Shop => {
-            let shop = Shop::make(size)?;
-            Ok(follow(alloc, shop, setting, lines, past)?)
+            let shop = Shop::make(size);
+            follow_over(alloc, header, shop, lines, kind, past)
         }
         ObjectName::Flags => {
-            let flags = Flags::make(size)?;
-            Ok(follow(alloc, flags, setting, lines, past)?)
+            let flags = Flags::make(size);
+            follow_over(alloc, header, flags, lines, kind, past)
         }
     }
 }

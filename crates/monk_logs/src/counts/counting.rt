@@ -8,6 +8,7 @@ ghost use Rattle.monk_logs.specs.BoardCourse.{board_course};
 ghost use Rattle.monk_logs.specs.BoardShown.{board_shown};
 ghost use Rattle.monk_logs.specs.Counts as tallies;
 ghost use Rattle.monk_logs.specs.Counts.{counts_in, counts_of};
+ghost use Rattle.monk_logs.specs.Made.{IsMadeAs};
 ghost use Rattle.monk_logs.specs.Needs.{LeadsBy, LeadsLog};
 ghost use Rattle.monk_logs.specs.ReadStand.{read_verdict};
 ghost use Rattle.monk_logs.specs.Verdict.{header_monitor, log_monitor};
@@ -35,7 +36,7 @@ use crate::text::line_source::LineSource;
 use crate::verdict::LogVerdict;
 use monk_audit::{AuditFault, rules_by_name};
 use monk_kinds::{KindName, Rules};
-use monk_object::{Book, Buffer, Flags, Guarded, ObjectName, Shop};
+use monk_object::{Book, Buffer, Flags, Guarded, ObjectFault, ObjectName, Shop};
 use std::alloc::{AllocError, Global};
 
 /// Makes the list that of the items, with what the event before has made of them, its choice aside.
@@ -165,6 +166,40 @@ fn count_lines<T: Guarded, L: LineSource>(
     Ok((Led { verdict, needs }, tally.counts(waiters)))
 }
 
+/// Judges the lines over that object, if it was made as the header names it, and counts them.
+fn count_over<T: Guarded, L: LineSource>(
+    alloc: Global,
+    header: &LogHeader,
+    object: Result<T, ObjectFault>,
+    lines: L,
+    rules: Rules,
+    order: Order,
+    lapses: Lapses,
+    means: &[WaitsFor],
+) -> Result<(Led, Counts), AuditFault>
+    requires made { IsMadeAs header.now T.meaning T.state object }
+    requires few { length (L.left lines) ≤ most_lines }
+    ensures verdict { IfOk result
+        (λ r. r.0.verdict ≡ read_verdict lapses order (header_monitor header.now rules) (L.left lines)) }
+    ensures leads { IfOk result
+        (λ r. lapses ≡ Lapses.Told
+        → LeadsLog order rules header.now (L.left lines) r.0.verdict r.0.needs) }
+    ensures counted { IfOk result
+        (λ r. r.1 ≡ counts_in lapses order (header_monitor header.now rules) means.now (L.left lines)) }
+    ensures made { OnOk result (header.now.size ≤ most header.now.object) }
+    ensures object { IsErrOf result AuditFault.Object → most header.now.object < header.now.size }
+    ensures too_big { most header.now.object < header.now.size → IsErrOf result AuditFault.Object }
+{
+    let setting = MonitorSetting {
+        alloc,
+        rules,
+        seats: header.seats(),
+        conds: header.conds(),
+    };
+    let object = object?;
+    Ok(count_lines(alloc, object, lapses, order, setting, means, lines)?)
+}
+
 /// Makes the object that the header names, judges the lines under these rules and counts them.
 pub(crate) fn lead_counted<L: LineSource>(
     alloc: Global,
@@ -187,29 +222,23 @@ pub(crate) fn lead_counted<L: LineSource>(
     ensures object { IsErrOf result AuditFault.Object → most header.now.object < header.now.size }
     ensures too_big { most header.now.object < header.now.size → IsErrOf result AuditFault.Object }
 {
-    let setting = MonitorSetting {
-        alloc,
-        rules,
-        seats: header.seats(),
-        conds: header.conds(),
-    };
     let size = header.size();
     match header.object() {
         ObjectName::Buffer => {
-            let buffer = Buffer::make(alloc, size)?;
-            Ok(count_lines(alloc, buffer, lapses, order, setting, means, lines)?)
+            let buffer = Buffer::make(alloc, size);
+            count_over(alloc, header, buffer, lines, rules, order, lapses, means)
         }
         ObjectName::Book => {
-            let book = Book::make(size)?;
-            Ok(count_lines(alloc, book, lapses, order, setting, means, lines)?)
+            let book = Book::make(size);
+            count_over(alloc, header, book, lines, rules, order, lapses, means)
         }
         ObjectName::Shop => {
-            let shop = Shop::make(size)?;
-            Ok(count_lines(alloc, shop, lapses, order, setting, means, lines)?)
+            let shop = Shop::make(size);
+            count_over(alloc, header, shop, lines, rules, order, lapses, means)
         }
         ObjectName::Flags => {
-            let flags = Flags::make(size)?;
-            Ok(count_lines(alloc, flags, lapses, order, setting, means, lines)?)
+            let flags = Flags::make(size);
+            count_over(alloc, header, flags, lines, rules, order, lapses, means)
         }
     }
 }

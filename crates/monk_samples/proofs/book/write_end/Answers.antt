@@ -1,21 +1,4 @@
-use Rattle.std.proofs.Common.{◌≡◌, true, false}
-use Rattle.monk_object.specs.Book.{book_meaning}
-use Rattle.monk_samples.specs.Members.{ends_to_write, CAN_READ, CAN_WRITE}
-use Rattle.monk_samples.specs.Styles.{has_waiting}
-use Rattle.monk_samples.proofs.VisitLaws.{finished_by, tired, visited}
 use Rattle.monk_samples.proofs.book.write_end.Goals as goal
-use Rattle.monk_samples.proofs.book.write_end.Goals.{then-waits, else-waits}
 
-pub returns-after-waits : goal.returns-after-waits
-returns-after-waits g c =
-    let k = g.K.Kind.rules in let a = c.in-Ok.active in let b = has_waiting k CAN_READ a.floor.history in
-    let next = c.if-waits.next in
-    let reads : b ≡ true → next ≡ CAN_READ = λ e. elim c.if-waits.branch [ then-waits w ↦ cc | else-waits w ↦ cc ] in
-    let writes : b ≡ false → next ≡ CAN_WRITE = λ e. elim c.if-waits.branch [ then-waits w ↦ cc | else-waits w ↦ cc ] in
-    visited k book_meaning c.args.pass (ends_to_write k) _ a c.finish.result.0 c.finish.result.1 c.in-Ok.ensures tt
-    (finished_by k book_meaning b CAN_READ CAN_WRITE next a c.finish.result.0 c.finish.result.1 reads writes
-    c.finish.ensures)
-
-pub returns-in-Err : goal.returns-in-Err
-returns-in-Err g c =
-    tired g.K.Kind.rules book_meaning c.args.pass (ends_to_write g.K.Kind.rules) c.in-Err.pass c.in-Err.ensures
+pub returns : goal.returns
+returns g c = c.end_write.ensures

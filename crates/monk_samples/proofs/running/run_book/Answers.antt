@@ -1,115 +1,42 @@
-use Rattle.std.proofs.Common.{ap, sym, subst, ◌∙◌, ◌<◌, ◌≤◌, List, ℕ, length}
-use Rattle.monk_object.specs.Book.{book_meaning}
-use Rattle.monk_hall.specs.Records.{opening_records}
-use Rattle.monk_hall.specs.Rule.{setting_of}
-use Rattle.monk_hall.specs.Tokens.{Token, tokens}
-use Rattle.monk_hall.specs.declared.setting.Setting.{Setting}
-use Rattle.monk_samples.specs.Ends.{HaveServed}
-use Rattle.std.specs.Prelude.{IfOk}
-use Rattle.monk_samples.specs.Samples.{conds_of, budget_of}
+use Rattle.std.proofs.Common.{refl, subst}
+use Rattle.std.specs.Prelude.{IfErr, IfOk}
+use Rattle.monk_samples.specs.Faults.{run_fault_of}
+use Rattle.monk_samples.specs.Runs.{HasClosed, IsFaultOfRun, run_house, run_setting}
 use Rattle.monk_samples.specs.Totals.{HasEnded}
 use Rattle.monk_samples.specs.declared.sample.Sample.{Sample}
 use Rattle.monk_samples.specs.declared.sample.Sample.TheVariants.{Book}
-use Rattle.monk_samples.proofs.MeetLaws.{seats_differ}
 use Rattle.monk_samples.proofs.ProductLaws.{book_totals}
-use Rattle.monk_samples.proofs.RunEndLaws.{some_pass, back_of, some_back, has_left, close_fault}
-use Rattle.monk_samples.proofs.RunLaws.{history_of, if_fault, if_ok, if_three}
+use Rattle.monk_samples.proofs.RunEndLaws.{has_left}
+use Rattle.monk_samples.proofs.RunLaws.{history_of, if_both, if_ok}
 use Rattle.monk_samples.proofs.running.run_book.Goals as goal
-
-pub close_by-requires-clause-of : goal.close_by-requires-clause-of
-close_by-requires-clause-of g c κs within =
-    let served =
-    subst (λ (s : Sample). HaveServed g.K.Kind.rules book_meaning
-    (g.G.Gate.answers c.args.gate.now) s c.args.rota.seats
-    c.args.rota.rounds c.in_ok-hall.hall c.in_ok-hall.passes.items c.in_ok-passes.passes.items) c.requires
-    c.in_ok-passes.ensures.served in
-    back_of g.K.Kind.rules (g.G.Gate.answers c.args.gate.now) Book c.args.rota.seats c.args.rota.rounds
-    c.in_ok-hall.hall
-    c.in_ok-hall.passes.items c.in_ok-passes.passes.items served
-
-pub close_by-requires-clause-some : goal.close_by-requires-clause-some
-close_by-requires-clause-some g c κs within =
-    let served =
-    subst (λ (s : Sample). HaveServed g.K.Kind.rules book_meaning
-    (g.G.Gate.answers c.args.gate.now) s c.args.rota.seats
-    c.args.rota.rounds c.in_ok-hall.hall c.in_ok-hall.passes.items c.in_ok-passes.passes.items) c.requires
-    c.in_ok-passes.ensures.served in
-    let seats : 2 ≤ c.in_ok-hall.hall.setting.seats =
-    subst (λ n. 2 ≤ n) (sym (ap (λ (s : Setting). s.seats) c.in_ok-hall.ensures.setting))
-    c.args.rota.seats_in_range.0 in
-    let some : 0 < length c.in_ok-hall.passes.items =
-    subst (λ (ps : List Token). 0 < length ps) (sym c.in_ok-hall.ensures.passes)
-    (some_pass c.in_ok-hall.hall.id c.in_ok-hall.hall.setting seats) in
-    some_back g.K.Kind.rules (g.G.Gate.answers c.args.gate.now) Book c.args.rota.seats c.args.rota.rounds
-    c.in_ok-hall.hall
-    c.in_ok-hall.passes.items c.in_ok-passes.passes.items served some
-
-pub close_by-requires-clause-apart : goal.close_by-requires-clause-apart
-close_by-requires-clause-apart g c κs within =
-    let served =
-    subst (λ (s : Sample). HaveServed g.K.Kind.rules book_meaning
-    (g.G.Gate.answers c.args.gate.now) s c.args.rota.seats
-    c.args.rota.rounds c.in_ok-hall.hall c.in_ok-hall.passes.items c.in_ok-passes.passes.items) c.requires
-    c.in_ok-passes.ensures.served in
-    seats_differ g.K.Kind.rules book_meaning
-    (g.G.Gate.answers c.args.gate.now) Book c.args.rota.seats c.args.rota.rounds
-    c.in_ok-hall.hall c.in_ok-hall.hall.id c.in_ok-hall.hall.setting c.in_ok-hall.hall.setting.seats 0
-    c.in_ok-passes.passes.items
-    (subst (λ (ps : List Token). HaveServed g.K.Kind.rules book_meaning
-    (g.G.Gate.answers c.args.gate.now) Book c.args.rota.seats
-    c.args.rota.rounds c.in_ok-hall.hall ps c.in_ok-passes.passes.items) c.in_ok-hall.ensures.passes served)
 
 pub returns-clause-history : goal.returns-clause-history
 returns-clause-history g c =
-    let k = g.K.Kind.rules in let hall = c.in_ok-hall.hall in
-    let setting = c.in_ok-hall.ensures.setting
-    ∙ ap (λ (state : List ℕ). setting_of state c.args.rota.seats (conds_of k)
-    (budget_of c.args.rota.seats c.args.rota.rounds)) c.in-Ok.ensures.made in
-    let served = subst (λ (s : Sample). HaveServed k book_meaning (g.G.Gate.answers c.args.gate.now) s c.args.rota.seats
-    c.args.rota.rounds hall c.in_ok-hall.passes.items c.in_ok-passes.passes.items) c.requires
-    c.in_ok-passes.ensures.served in
-    let made = c.in_ok-hall.ensures.passes
-    ∙ ap (λ n. tokens hall.id (opening_records hall.setting n 0)) (ap (λ (s : Setting). s.seats) setting) in
-    let all =
-    subst (λ (ps : List Token). HaveServed k book_meaning (g.G.Gate.answers c.args.gate.now) Book c.args.rota.seats
-    c.args.rota.rounds hall ps c.in_ok-passes.passes.items) made served in
+    let k = g.K.Kind.rules in let seats = c.args.rota.seats in let rounds = c.args.rota.rounds in
+    let setting = run_setting k Book seats rounds in
+    let closed =
+    subst (λ (s : Sample). IfOk c.run_over.result (λ v. HasClosed g.K.Kind.rules
+    (g.G.Gate.answers c.args.gate.now) s c.args.rota.seats c.args.rota.rounds v.items)) c.requires
+    c.run_over.ensures.closed in
     let ended =
-    subst (λ (s : Sample). IfOk c.close_by.result (λ v. HasEnded s v.items)) c.requires c.close_by.ensures.ended in
-    if_three c.close_by.result _ _ _ _
-    (λ v closed whole done. history_of k Book c.args.rota.seats c.args.rota.rounds hall.setting v.items setting closed
-    (λ state law. book_totals k (g.G.Gate.answers c.args.gate.now) c.args.rota.seats c.args.rota.rounds hall.id
-    hall.setting
-    hall v.items c.in_ok-passes.passes.items whole all done))
-    c.close_by.ensures.closed c.close_by.ensures.whole ended
+    subst (λ (s : Sample). IfOk c.run_over.result (λ v. HasEnded s v.items)) c.requires c.run_over.ensures.ended in
+    if_both c.run_over.result _ _ _
+    (λ v is done. history_of k Book seats rounds setting v.items refl is.closed
+    (λ state law. book_totals k (g.G.Gate.answers c.args.gate.now) seats rounds is.run.hall setting
+    (run_house k Book seats rounds is.run.hall) v.items is.run.passes is.whole is.run.served done)) closed ended
 
 pub returns-clause-served : goal.returns-clause-served
 returns-clause-served g c =
-    let served =
-    subst (λ (s : Sample). HaveServed g.K.Kind.rules book_meaning
-    (g.G.Gate.answers c.args.gate.now) s c.args.rota.seats
-    c.args.rota.rounds c.in_ok-hall.hall c.in_ok-hall.passes.items c.in_ok-passes.passes.items) c.requires
-    c.in_ok-passes.ensures.served in
-    let k = g.K.Kind.rules in
-    let setting = c.in_ok-hall.ensures.setting
-    ∙ ap (λ (state : List ℕ). setting_of state c.args.rota.seats (conds_of k)
-    (budget_of c.args.rota.seats c.args.rota.rounds)) c.in-Ok.ensures.made in
-    if_ok c.close_by.result _ _ (λ v left. has_left k
-    (g.G.Gate.answers c.args.gate.now) Book c.args.rota.seats c.args.rota.rounds
-    c.in_ok-hall.hall c.in_ok-hall.passes.items c.in_ok-hall.ensures.passes setting c.in_ok-passes.passes.items
-    v.items served left) c.close_by.ensures.left
+    let closed =
+    subst (λ (s : Sample). IfOk c.run_over.result (λ v. HasClosed g.K.Kind.rules
+    (g.G.Gate.answers c.args.gate.now) s c.args.rota.seats c.args.rota.rounds v.items)) c.requires
+    c.run_over.ensures.closed in
+    if_ok c.run_over.result _ _
+    (λ v is. has_left g.K.Kind.rules (g.G.Gate.answers c.args.gate.now) Book c.args.rota.seats c.args.rota.rounds
+    v.items is) closed
 
 pub returns-clause-fault : goal.returns-clause-fault
 returns-clause-fault g c =
-    let served =
-    subst (λ (s : Sample). HaveServed g.K.Kind.rules book_meaning
-    (g.G.Gate.answers c.args.gate.now) s c.args.rota.seats
-    c.args.rota.rounds c.in_ok-hall.hall c.in_ok-hall.passes.items c.in_ok-passes.passes.items) c.requires
-    c.in_ok-passes.ensures.served in
-    let k = g.K.Kind.rules in
-    let setting = c.in_ok-hall.ensures.setting
-    ∙ ap (λ (state : List ℕ). setting_of state c.args.rota.seats (conds_of k)
-    (budget_of c.args.rota.seats c.args.rota.rounds)) c.in-Ok.ensures.made in
-    if_fault c.close_by.result _ _ (λ e. close_fault k
-    (g.G.Gate.answers c.args.gate.now) Book c.args.rota.seats c.args.rota.rounds
-    c.in_ok-hall.hall c.in_ok-hall.passes.items c.in_ok-hall.ensures.passes setting c.in_ok-passes.passes.items e
-    served) c.close_by.ensures.fault
+    subst (λ (s : Sample). IfErr c.run_over.result (λ e. IsFaultOfRun g.K.Kind.rules
+    (g.G.Gate.answers c.args.gate.now) s c.args.rota.seats c.args.rota.rounds (run_fault_of e))) c.requires
+    c.run_over.ensures.fault

@@ -1,0 +1,51 @@
+use Rattle.std.proofs.Common.{◌≡◌, true, false, ◌&&◌, sym, ap, ◌∙◌, arith}
+use Rattle.monk_object.specs.Book as book
+use Rattle.monk_object.specs.Book.{book_meaning}
+use Rattle.monk_object.specs.Object.{Object}
+use Rattle.monk_history.specs.Meaning.Monitor.{data_of}
+use Rattle.monk_floor.specs.View.{monitor_of}
+use Rattle.monk_samples.specs.Members.{ends_to_read, CAN_READ, CAN_WRITE}
+use Rattle.monk_samples.specs.Styles.{has_waiting}
+use Rattle.monk_samples.specs.Visits.{data_after}
+use Rattle.monk_samples.proofs.PromiseLaws.{has_code, has_pred}
+use Rattle.monk_samples.proofs.VisitLaws.{finished_by, tired, visited}
+use Rattle.monk_samples.proofs.book.end_read.Goals as goal
+use Rattle.monk_samples.proofs.book.end_read.Goals.{then-holds, else-holds, then-writes, else-writes}
+
+pub returns-after-writes : goal.returns-after-writes
+returns-after-writes g c =
+    let k = g.K.Kind.rules in let o = g.T.Guarded.meaning in let a = c.in-Ok.active in let h = a.floor.history in
+    let last = book_meaning.holds (data_after k book_meaning c.args.pass.me.setting h) book.CAN_WRITE in
+    let waits = has_waiting k CAN_WRITE h in let next = c.if-writes.next in
+    let holds : c.holds.result ≡ last = c.holds.ensures
+    ∙ ap (λ f. o.holds (data_of (monitor_of k o f) h) book.CAN_WRITE) c.in-Ok.ensures.floor
+    ∙ ap (λ (x : Object). x.holds (data_after k x c.args.pass.me.setting h) book.CAN_WRITE) c.requires.book in
+    let is : c.if-holds.writes ≡ (last && waits) =
+    elim c.if-holds.branch [
+      | then-holds w ↦ rw (sym holds ∙ w.if-holds.true) cc
+      | else-holds w ↦ rw
+          (sym holds ∙ w.if-holds.false) cc
+    ] in
+    let writes : (last && waits) ≡ true → next ≡ CAN_WRITE =
+    λ e. elim c.if-writes.branch [ then-writes w ↦ cc | else-writes w ↦ cc ] in
+    let reads : (last && waits) ≡ false → next ≡ CAN_READ =
+    λ e. elim c.if-writes.branch [ then-writes w ↦ cc | else-writes w ↦ cc ] in
+    visited k o c.args.pass (ends_to_read k c.args.pass.me.setting) _ a c.finish.result.0 c.finish.result.1
+    c.in-Ok.ensures tt
+    (finished_by k o (last && waits) CAN_WRITE CAN_READ next a c.finish.result.0 c.finish.result.1
+    writes reads c.finish.ensures)
+
+pub returns-in-Err : goal.returns-in-Err
+returns-in-Err g c =
+    tired g.K.Kind.rules g.T.Guarded.meaning c.args.pass (ends_to_read g.K.Kind.rules c.args.pass.me.setting)
+    c.in-Err.pass
+    c.in-Err.ensures
+
+pub act_now-requires-clause-code : goal.act_now-requires-clause-code
+act_now-requires-clause-code g c κs within =
+    has_code g.T.Guarded.meaning book_meaning c.requires.book g.T.Guarded.CODES 1 g.T.Guarded.codes (omega arith)
+
+pub holds-requires-after_bounds : goal.holds-requires-after_bounds
+holds-requires-after_bounds g c κs within =
+    has_pred g.T.Guarded.meaning book_meaning c.requires.book g.T.Guarded.PREDICATES 1 g.T.Guarded.predicates
+    (omega arith)

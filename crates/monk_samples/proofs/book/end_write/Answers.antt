@@ -1,0 +1,27 @@
+use Rattle.std.proofs.Common.{◌≡◌, true, false, arith}
+use Rattle.monk_object.specs.Book.{book_meaning}
+use Rattle.monk_samples.specs.Members.{ends_to_write, CAN_READ, CAN_WRITE}
+use Rattle.monk_samples.specs.Styles.{has_waiting}
+use Rattle.monk_samples.proofs.PromiseLaws.{has_code}
+use Rattle.monk_samples.proofs.VisitLaws.{finished_by, tired, visited}
+use Rattle.monk_samples.proofs.book.end_write.Goals as goal
+use Rattle.monk_samples.proofs.book.end_write.Goals.{then-waits, else-waits}
+
+pub returns-after-waits : goal.returns-after-waits
+returns-after-waits g c =
+    let k = g.K.Kind.rules in let a = c.in-Ok.active in let b = has_waiting k CAN_READ a.floor.history in
+    let next = c.if-waits.next in
+    let reads : b ≡ true → next ≡ CAN_READ = λ e. elim c.if-waits.branch [ then-waits w ↦ cc | else-waits w ↦ cc ] in
+    let writes : b ≡ false → next ≡ CAN_WRITE = λ e. elim c.if-waits.branch [ then-waits w ↦ cc | else-waits w ↦ cc ] in
+    visited k g.T.Guarded.meaning c.args.pass (ends_to_write k) _ a c.finish.result.0 c.finish.result.1
+    c.in-Ok.ensures tt
+    (finished_by k g.T.Guarded.meaning b CAN_READ CAN_WRITE next a c.finish.result.0 c.finish.result.1 reads writes
+    c.finish.ensures)
+
+pub returns-in-Err : goal.returns-in-Err
+returns-in-Err g c =
+    tired g.K.Kind.rules g.T.Guarded.meaning c.args.pass (ends_to_write g.K.Kind.rules) c.in-Err.pass c.in-Err.ensures
+
+pub act_now-requires-clause-code : goal.act_now-requires-clause-code
+act_now-requires-clause-code g c κs within =
+    has_code g.T.Guarded.meaning book_meaning c.requires.book g.T.Guarded.CODES 3 g.T.Guarded.codes (omega arith)

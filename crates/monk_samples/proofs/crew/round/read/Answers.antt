@@ -1,0 +1,36 @@
+use Rattle.std.proofs.Common.{[], ◌∷◌, subst}
+use Rattle.monk_samples.specs.Members.{begins_to_read, ends_to_read}
+use Rattle.monk_samples.specs.Visits.{HasVisited}
+use Rattle.monk_samples.specs.declared.end.End.{End}
+use Rattle.monk_samples.proofs.RoundLaws.{still_of}
+use Rattle.monk_samples.proofs.VisitLaws.{visited_once, visited_twice}
+use Rattle.monk_samples.proofs.crew.round.read.Goals as goal
+
+pub returns-in-Done : goal.returns-in-Done
+returns-in-Done g c =
+    let k = g.K.Kind.rules in
+    let first =
+    subst (λ (end : End). HasVisited k g.T.Guarded.meaning c.args.pass
+    (begins_to_read ∷ []) c.begin_read-pass.result.0 end)
+    c.in-Done.is c.begin_read-pass.ensures in
+    let second =
+    subst (λ z. HasVisited k g.T.Guarded.meaning c.begin_read-pass.result.0 (ends_to_read k z ∷ []) c.end_read.result.0
+    c.end_read.result.1)
+    first.called.went.setting c.end_read.ensures in
+    let both =
+    visited_twice k g.T.Guarded.meaning c.args.pass c.begin_read-pass.result.0 c.end_read.result.0 c.end_read.result.1
+    begins_to_read (ends_to_read k c.args.pass.me.setting) first second in
+    record {
+      back = still_of c.args.hall.now c.args.pass c.end_read.result.0 _ both.called c.requires.ready.0;
+      visited = both;
+    }
+
+pub returns-in_default : goal.returns-in_default
+returns-in_default g c =
+    let k = g.K.Kind.rules in
+    let once = visited_once k g.T.Guarded.meaning c.args.pass c.begin_read-pass.result.0 c.begin_read-pass.result.1
+    begins_to_read (ends_to_read k c.args.pass.me.setting) c.in_default.not-Done c.begin_read-pass.ensures in
+    record {
+      back = still_of c.args.hall.now c.args.pass c.begin_read-pass.result.0 _ once.called c.requires.ready.0;
+      visited = once;
+    }

@@ -1,0 +1,49 @@
+use Rattle.std.proofs.Common.{List, sym, subst}
+use Rattle.std.specs.Prelude.{option_to_list}
+use Rattle.std.proofs.lemmas.List.Elements.{All-pop}
+use Rattle.monk_hall.specs.Tokens.{Token}
+use Rattle.monk_samples.specs.Crews.{IsReady}
+use Rattle.monk_samples.specs.Ends.{HaveServed, IsFaultOfCrew}
+use Rattle.monk_samples.proofs.EndLaws.{all_served, fault_then, if_err}
+use Rattle.monk_samples.proofs.RunLaws.{if_ok}
+use Rattle.monk_samples.proofs.crew.threads.work_all.Goals as goal
+
+pub workers-requires-after_bounds : goal.workers-requires-after_bounds
+workers-requires-after_bounds g c κs within =
+    (All-pop (IsReady g.K.Kind.rules c.args.hall.now) c.args.passes.items c.part_idle-working.result.0.items
+    c.part_idle-working.result.1 c.part_idle-working.ensures.all c.requires.ready).0
+
+pub returns-in_err-back-clause-fault : goal.returns-in_err-back-clause-fault
+returns-in_err-back-clause-fault g c =
+    let fault =
+    fault_then g.K.Kind.rules g.T.Guarded.meaning (g.G.Gate.answers c.args.gate.now) c.args.rota.sample
+    c.args.rota.seats
+    c.args.rota.rounds c.part_idle-working.result.0.items
+    (option_to_list c.part_idle-working.result.1) c.in_err-back.field-0.0
+    (subst (λ (ps : List Token). IsFaultOfCrew g.K.Kind.rules g.T.Guarded.meaning
+    (g.G.Gate.answers c.args.gate.now) c.args.rota.sample
+    c.args.rota.seats c.args.rota.rounds ps c.in_err-back.field-0.0) c.in_ok-workers.ensures.passes
+    c.in_err-back.ensures.1.1) in
+    let all = subst (λ (ps : List Token). IsFaultOfCrew g.K.Kind.rules g.T.Guarded.meaning
+    (g.G.Gate.answers c.args.gate.now)
+    c.args.rota.sample c.args.rota.seats c.args.rota.rounds ps c.in_err-back.field-0.0)
+    (sym c.part_idle-working.ensures.all) fault in
+    if_err c.from_residual-in_err-back.result _ _ c.from_residual-in_err-back.ensures
+    (λ e h. subst (IsFaultOfCrew g.K.Kind.rules g.T.Guarded.meaning
+    (g.G.Gate.answers c.args.gate.now) c.args.rota.sample c.args.rota.seats
+    c.args.rota.rounds c.args.passes.items) (sym h) all)
+
+pub returns-clause-served : goal.returns-clause-served
+returns-clause-served g c =
+    let idle = (All-pop (IsReady g.K.Kind.rules c.args.hall.now) c.args.passes.items c.part_idle-working.result.0.items
+    c.part_idle-working.result.1 c.part_idle-working.ensures.all c.requires.ready).1 in
+    let served = subst (λ (ps : List Token). HaveServed g.K.Kind.rules g.T.Guarded.meaning
+    (g.G.Gate.answers c.args.gate.now)
+    c.args.rota.sample c.args.rota.seats c.args.rota.rounds c.args.hall.now ps c.in_ok-back.back.items)
+    c.in_ok-workers.ensures.passes c.in_ok-back.ensures.1.0 in
+    if_ok c.with_idle.result _ _
+    (λ v e. all_served g.K.Kind.rules g.T.Guarded.meaning
+    (g.G.Gate.answers c.args.gate.now) c.args.rota.sample c.args.rota.seats
+    c.args.rota.rounds c.args.hall.now c.args.passes.items c.part_idle-working.result.0.items c.in_ok-back.back.items
+    v.items c.part_idle-working.result.1 c.part_idle-working.ensures.all e served idle c.part_idle-working.ensures.idle)
+    c.with_idle.ensures.all

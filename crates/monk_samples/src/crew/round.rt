@@ -1,0 +1,186 @@
+//! What a seat of a run does in a round, by the sample. Whatever the object's type is, it means what the sample's
+//! object does: so the threads of a run are the same for every sample.
+ghost use Rattle.std.specs.Prelude.{◌≡◌, ℕ, [], ◌∷◌};
+ghost use Rattle.monk_object.specs.Book.{book_meaning};
+ghost use Rattle.monk_object.specs.Buffer.{buffer_meaning};
+ghost use Rattle.monk_object.specs.Names.{meaning_named};
+ghost use Rattle.monk_object.specs.Shop.{shop_meaning};
+ghost use Rattle.monk_samples.specs.Crews.{IsOf, IsReady};
+ghost use Rattle.monk_samples.specs.Members.{begins_to_read, begins_to_write, ends_to_read, ends_to_write};
+ghost use Rattle.monk_samples.specs.Rounds.{round_of};
+ghost use Rattle.monk_samples.specs.Samples.{sample_object};
+ghost use Rattle.monk_samples.specs.Visits.{HasVisited};
+ghost use Rattle.monk_samples.specs.declared.sample.Sample.TheVariants as sample;
+
+use crate::book::{begin_read, begin_write, end_read, end_write};
+use crate::buffer::{put_hastily, put_into, take_from, take_hastily};
+use crate::end::End;
+use crate::rota::Rota;
+use crate::sample::Sample;
+use crate::shop::{have_cut, take_turn};
+use crate::style::Style;
+use monk_hall::{Hall, Pass};
+use monk_object::Guarded;
+use std::sync::Wait;
+use std::thread;
+
+/// A prime: rounds of one seat go through its remainders in another order than those of the next.
+const STRIDE: u32 = 251;
+
+/// A hasty seat lets others run fewer times than this before a visit.
+const MOST_TURNS: u32 = 101;
+
+/// The visits of a seat in one round.
+pub(crate) fn do_round<K: Style, T: Guarded, R: Wait>(
+    pass: Pass<K, T>,
+    rt: &R,
+    hall: &Hall<K, T>,
+    rota: Rota,
+    round: u32,
+) -> (Pass<K, T>, End)
+    requires ready { IsReady K.rules hall.now pass }
+    requires object { T.meaning ≡ meaning_named (sample_object rota.sample) }
+    ensures back { IsOf hall.now result.0 }
+    ensures visited { HasVisited K.rules T.meaning pass
+        (round_of rota.sample K.rules pass.me.setting rota.seats pass.me.seat round) result.0 result.1 }
+{
+    match rota.sample {
+        Sample::Buffer => trade(pass, rt, hall, rota, round),
+        Sample::Book => use_book(pass, rt, hall, rota),
+        Sample::Shop => visit_shop(pass, rt, hall),
+        Sample::Hasty => trade_hastily(pass, rt, hall, rota, round),
+    }
+}
+
+/// Half of the seats put the items 1 to `rounds`, and as many take as often.
+fn trade<K: Style, T: Guarded, R: Wait>(
+    pass: Pass<K, T>,
+    rt: &R,
+    hall: &Hall<K, T>,
+    rota: Rota,
+    round: u32,
+) -> (Pass<K, T>, End)
+    requires ready { IsReady K.rules hall.now pass }
+    requires object { T.meaning ≡ buffer_meaning }
+    ensures back { IsOf hall.now result.0 }
+    ensures visited { HasVisited K.rules T.meaning pass
+        (round_of sample.Buffer K.rules pass.me.setting rota.seats pass.me.seat round) result.0 result.1 }
+{
+    let seat = pass.seat();
+    if seat < rota.seats / 2 {
+        put_into(pass, rt, hall, round)
+    } else {
+        take_from(pass, rt, hall)
+    }
+}
+
+/// The same in haste.
+fn trade_hastily<K: Style, T: Guarded, R: Wait>(
+    pass: Pass<K, T>,
+    rt: &R,
+    hall: &Hall<K, T>,
+    rota: Rota,
+    round: u32,
+) -> (Pass<K, T>, End)
+    requires ready { IsReady K.rules hall.now pass }
+    requires object { T.meaning ≡ buffer_meaning }
+    ensures back { IsOf hall.now result.0 }
+    ensures visited { HasVisited K.rules T.meaning pass
+        (round_of sample.Hasty K.rules pass.me.setting rota.seats pass.me.seat round) result.0 result.1 }
+{
+    let seat = pass.seat();
+    let_others_run(seat, round);
+    if seat < rota.seats / 2 {
+        put_hastily(pass, rt, hall, round)
+    } else {
+        take_hastily(pass, rt, hall)
+    }
+}
+
+/// Half of the seats read the book, and as many write in it. The visits are the same in each round.
+fn use_book<K: Style, T: Guarded, R: Wait>(
+    pass: Pass<K, T>,
+    rt: &R,
+    hall: &Hall<K, T>,
+    rota: Rota,
+) -> (Pass<K, T>, End)
+    requires ready { IsReady K.rules hall.now pass }
+    requires object { T.meaning ≡ book_meaning }
+    ensures back { IsOf hall.now result.0 }
+    ensures visited { (round : ℕ) → HasVisited K.rules T.meaning pass
+        (round_of sample.Book K.rules pass.me.setting rota.seats pass.me.seat round) result.0 result.1 }
+{
+    let seat = pass.seat();
+    if seat < rota.seats / 2 {
+        read(pass, rt, hall)
+    } else {
+        write(pass, rt, hall)
+    }
+}
+
+/// The first seat is the barber, and every other a customer. The visits are the same in each round.
+fn visit_shop<K: Style, T: Guarded, R: Wait>(
+    pass: Pass<K, T>,
+    rt: &R,
+    hall: &Hall<K, T>,
+) -> (Pass<K, T>, End)
+    requires ready { IsReady K.rules hall.now pass }
+    requires object { T.meaning ≡ shop_meaning }
+    ensures back { IsOf hall.now result.0 }
+    ensures visited { (seats round : ℕ) → HasVisited K.rules T.meaning pass
+        (round_of sample.Shop K.rules pass.me.setting seats pass.me.seat round) result.0 result.1 }
+{
+    let seat = pass.seat();
+    if seat == 0 {
+        take_turn(pass, rt, hall)
+    } else {
+        have_cut(pass, rt, hall)
+    }
+}
+
+/// Reads the book once.
+fn read<K: Style, T: Guarded, R: Wait>(
+    pass: Pass<K, T>,
+    rt: &R,
+    hall: &Hall<K, T>,
+) -> (Pass<K, T>, End)
+    requires book { T.meaning ≡ book_meaning }
+    requires ready { IsReady K.rules hall.now pass }
+    ensures back { IsOf hall.now result.0 }
+    ensures visited { HasVisited K.rules T.meaning pass
+        (begins_to_read ∷ ends_to_read K.rules pass.me.setting ∷ []) result.0 result.1 }
+{
+    let (pass, end) = begin_read(pass, rt, hall);
+    match end {
+        End::Done => end_read(pass, rt, hall),
+        _ => (pass, end),
+    }
+}
+
+/// Writes in it once.
+fn write<K: Style, T: Guarded, R: Wait>(
+    pass: Pass<K, T>,
+    rt: &R,
+    hall: &Hall<K, T>,
+) -> (Pass<K, T>, End)
+    requires book { T.meaning ≡ book_meaning }
+    requires ready { IsReady K.rules hall.now pass }
+    ensures back { IsOf hall.now result.0 }
+    ensures visited { HasVisited K.rules T.meaning pass
+        (begins_to_write ∷ ends_to_write K.rules ∷ []) result.0 result.1 }
+{
+    let (pass, end) = begin_write(pass, rt, hall);
+    match end {
+        End::Done => end_write(pass, rt, hall),
+        _ => (pass, end),
+    }
+}
+
+/// Lets other threads run, for a while that differs from seat to seat and from round to round. So
+/// the seats of a hasty run don't fall into step, and meet in many orders.
+fn let_others_run(seat: u8, round: u32) {
+    let turns = (round % STRIDE * (u32::from(seat) + 1)) % STRIDE % MOST_TURNS;
+    for _ in 0..turns {
+        thread::yield_now();
+    }
+}
