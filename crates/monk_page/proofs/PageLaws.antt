@@ -1,5 +1,5 @@
 -- What makes a page of its parts
-use Rattle.std.proofs.Common.{◌≡◌, ◌≤◌, ℕ, false, List, [], ◌∷◌, Some, map, ap, arith, refl, sym, ◌∙◌}
+use Rattle.std.proofs.Common.{◌≡◌, ◌≤◌, ℕ, false, List, [], ◌∷◌, Option, Some, None, map, option_map, ap, arith, refl, sym, ◌∙◌}
 use Rattle.std.proofs.Common.{Global, String, rules, string_bytes}
 use Rattle.monk_history.specs.Text.{Heading}
 use Rattle.monk_history.specs.declared.event.Event.{Event}
@@ -13,7 +13,7 @@ use Rattle.serde_json.specs.Read.{max_depth, read}
 use Rattle.serde_json.specs.View.{items_of, view}
 use Rattle.serde_json.specs.Written.{compact_text, has_float}
 use Rattle.serde_json.specs.declared.value.Value.{String as Text, the_lemmas}
-use Rattle.monk_page.specs.Json.{list_json, numbers_json}
+use Rattle.monk_page.specs.Json.{list_json, numbers_json, option_json}
 use Rattle.monk_page.specs.Page.{page_json}
 use Rattle.monk_page.specs.Step.{step_json}
 use Rattle.monk_page.proofs.PlainLaws.{page_plain}
@@ -26,6 +26,12 @@ items_through : {X Y : Type 0} (f : Y → Data) (g : X → Y) (xs : List X)
     → items_of (map (λ x. f (g x)) xs) ≡ items_of (map f (map g xs))
 items_through f g [] = refl
 items_through f g (x ∷ xs) = rw (items_through f g xs) refl
+
+-- the value of what may be missing is that of what it holds
+pub option_told : {X Y : Type 0} (f : Y → Data) (g : X → Y) (o : Option X)
+    → option_json (λ x. f (g x)) o ≡ option_json f (option_map g o)
+option_told f g None = refl
+option_told f g (Some x) = refl
 
 -- the values of steps are those of what they hold
 pub steps_told : (o : ObjectName) (xs : List Step) (told : List ShownStep) (d : Data)
