@@ -169,10 +169,8 @@ fn reads_fail(alloc: Global, job: &Job<'_>, step: usize) -> bool
 }
 
 /// By one byte, by pieces that end inside a line, by all that there are.
-#[test]
-fn reads_fail_in_turn(rt: HostRuntime) -> Result<(), Fail> {
-    for job in JOBS.iter() {
-        let alloc = rt.alloc();
+fn all_reads_fail(alloc: Global, jobs: &[Job<'static>]) -> Result<(), Fail> {
+    for job in jobs {
         if !(reads_fail(alloc, job, 1)
             && reads_fail(alloc, job, 7)
             && reads_fail(alloc, job, 4096))
@@ -181,6 +179,11 @@ fn reads_fail_in_turn(rt: HostRuntime) -> Result<(), Fail> {
         }
     }
     Ok(())
+}
+
+#[test]
+fn reads_fail_in_turn(rt: HostRuntime) -> Result<(), Fail> {
+    all_reads_fail(rt.alloc(), &JOBS)
 }
 
 /// Whether a write fails, and so many bytes are taken before, or none fails.
@@ -220,10 +223,9 @@ fn writes_fail(alloc: Global, job: &Job<'_>, step: usize) -> bool
     true
 }
 
-#[test]
-fn writes_fail_in_turn(rt: HostRuntime) -> Result<(), Fail> {
-    for job in JOBS.iter() {
-        let alloc = rt.alloc();
+/// By as many bytes as above.
+fn all_writes_fail(alloc: Global, jobs: &[Job<'static>]) -> Result<(), Fail> {
+    for job in jobs {
         if !(writes_fail(alloc, job, 1)
             && writes_fail(alloc, job, 7)
             && writes_fail(alloc, job, 4096))
@@ -232,6 +234,11 @@ fn writes_fail_in_turn(rt: HostRuntime) -> Result<(), Fail> {
         }
     }
     Ok(())
+}
+
+#[test]
+fn writes_fail_in_turn(rt: HostRuntime) -> Result<(), Fail> {
+    all_writes_fail(rt.alloc(), &JOBS)
 }
 
 /// A text of which a picture of some 4000 bytes is drawn.
@@ -276,15 +283,19 @@ fn fails_at_once(alloc: Global, job: &Job<'_>) -> bool {
     matches!(told, Err(StreamFault::File)) && writer.failed()
 }
 
-/// A writer that never takes a byte.
-#[test]
-fn nothing_is_taken(rt: HostRuntime) -> Result<(), Fail> {
-    for job in JOBS.iter() {
-        if !fails_at_once(rt.alloc(), job) {
+/// Each of them fails where a writer never takes a byte; else the first that doesn't is named.
+fn all_fail_at_once(alloc: Global, jobs: &[Job<'static>]) -> Result<(), Fail> {
+    for job in jobs {
+        if !fails_at_once(alloc, job) {
             return Err(job.name)?;
         }
     }
     Ok(())
+}
+
+#[test]
+fn nothing_is_taken(rt: HostRuntime) -> Result<(), Fail> {
+    all_fail_at_once(rt.alloc(), &JOBS)
 }
 
 /// Whether the file fault is told, and the writer has failed, or neither.

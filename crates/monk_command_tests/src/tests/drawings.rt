@@ -147,14 +147,19 @@ fn is_drawn_from(alloc: Global, window: Option<Window>, drawing: &Drawing<'_>) -
         && matches!(str::from_utf8(&page), Ok(page) if shows(page, drawing))
 }
 
-#[test]
-fn histories_are_drawn(rt: HostRuntime) -> Result<(), Fail> {
-    for drawing in DRAWINGS.iter() {
-        if !is_drawn_from(rt.alloc(), None, drawing) {
+/// All of them are drawn whole; else what the first says is named that isn't.
+fn are_drawn_whole(alloc: Global, drawings: &[Drawing<'static>]) -> Result<(), Fail> {
+    for drawing in drawings {
+        if !is_drawn_from(alloc, None, drawing) {
             return Err(drawing.says)?;
         }
     }
     Ok(())
+}
+
+#[test]
+fn histories_are_drawn(rt: HostRuntime) -> Result<(), Fail> {
+    are_drawn_whole(rt.alloc(), &DRAWINGS)
 }
 
 /// A text in which a seat comes and goes 150 times, and its last lines.
