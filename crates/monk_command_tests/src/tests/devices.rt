@@ -169,10 +169,8 @@ fn reads_fail(alloc: Global, job: &Job<'_>, step: usize) -> bool
 }
 
 /// By one byte, by pieces that end inside a line, by all that there are.
-#[test]
-fn reads_fail_in_turn(rt: HostRuntime) -> Result<(), Fail> {
-    for job in JOBS.iter() {
-        let alloc = rt.alloc();
+fn all_reads_fail(alloc: Global, jobs: &[Job<'static>]) -> Result<(), Fail> {
+    for job in jobs {
         if !(reads_fail(alloc, job, 1)
             && reads_fail(alloc, job, 7)
             && reads_fail(alloc, job, 4096))
@@ -181,6 +179,11 @@ fn reads_fail_in_turn(rt: HostRuntime) -> Result<(), Fail> {
         }
     }
     Ok(())
+}
+
+#[test]
+fn reads_fail_in_turn(rt: HostRuntime) -> Result<(), Fail> {
+    all_reads_fail(rt.alloc(), &JOBS)
 }
 
 /// Whether a write fails, and so many bytes are taken before, or none fails.
@@ -200,37 +203,42 @@ fn write_fails(
     is_whole && has_failed == fails && is_due(told, &written, job, fails)
 }
 
-/// Each write fails in turn, and takes none of its bytes; then none fails.
-fn writes_fail(alloc: Global, job: &Job<'_>, step: usize, refuses: bool) -> bool
+/// Each write fails in turn, or refuses, and takes none of its bytes; then none does.
+fn writes_fail(alloc: Global, job: &Job<'_>, step: usize) -> bool
     requires { 0 < step }
 {
     let last = job.answer.len().div_ceil(step);
     for fails_at in 1..=last.saturating_add(1) {
-        let written = Expected::failing(job.answer, step, fails_at, refuses);
         let before = fails_at.saturating_sub(1).saturating_mul(step);
-        if !write_fails(alloc, job, written, before, fails_at <= last) {
+        let fails = fails_at <= last;
+        let failing = Expected::failing(job.answer, step, fails_at, false);
+        if !write_fails(alloc, job, failing, before, fails) {
+            return false;
+        }
+        let refusing = Expected::failing(job.answer, step, fails_at, true);
+        if !write_fails(alloc, job, refusing, before, fails) {
             return false;
         }
     }
     true
 }
 
-/// Whether each write fails in turn, in both ways.
-fn both_fail(alloc: Global, job: &Job<'_>, step: usize) -> bool
-    requires { 0 < step }
-{
-    writes_fail(alloc, job, step, false) && writes_fail(alloc, job, step, true)
-}
-
-#[test]
-fn writes_fail_in_turn(rt: HostRuntime) -> Result<(), Fail> {
-    for job in JOBS.iter() {
-        let alloc = rt.alloc();
-        if !(both_fail(alloc, job, 1) && both_fail(alloc, job, 7) && both_fail(alloc, job, 4096)) {
+/// By as many bytes as above.
+fn all_writes_fail(alloc: Global, jobs: &[Job<'static>]) -> Result<(), Fail> {
+    for job in jobs {
+        if !(writes_fail(alloc, job, 1)
+            && writes_fail(alloc, job, 7)
+            && writes_fail(alloc, job, 4096))
+        {
             return Err(job.name)?;
         }
     }
     Ok(())
+}
+
+#[test]
+fn writes_fail_in_turn(rt: HostRuntime) -> Result<(), Fail> {
+    all_writes_fail(rt.alloc(), &JOBS)
 }
 
 /// A text of which a picture of some 4000 bytes is drawn.
@@ -247,8 +255,8 @@ fn picture_fails(alloc: Global, status: u8, answer: &[u8]) -> bool {
     };
     reads_fail(alloc, &job, 64)
         && reads_fail(alloc, &job, 4096)
-        && both_fail(alloc, &job, 64)
-        && both_fail(alloc, &job, 4096)
+        && writes_fail(alloc, &job, 64)
+        && writes_fail(alloc, &job, 4096)
 }
 
 /// What the bytes of the picture are, a first one tells.
@@ -275,15 +283,19 @@ fn fails_at_once(alloc: Global, job: &Job<'_>) -> bool {
     matches!(told, Err(StreamFault::File)) && writer.failed()
 }
 
-/// A writer that never takes a byte.
-#[test]
-fn nothing_is_taken(rt: HostRuntime) -> Result<(), Fail> {
-    for job in JOBS.iter() {
-        if !fails_at_once(rt.alloc(), job) {
+/// Each of them fails where a writer never takes a byte; else the first that doesn't is named.
+fn all_fail_at_once(alloc: Global, jobs: &[Job<'static>]) -> Result<(), Fail> {
+    for job in jobs {
+        if !fails_at_once(alloc, job) {
             return Err(job.name)?;
         }
     }
     Ok(())
+}
+
+#[test]
+fn nothing_is_taken(rt: HostRuntime) -> Result<(), Fail> {
+    all_fail_at_once(rt.alloc(), &JOBS)
 }
 
 /// Whether the file fault is told, and the writer has failed, or neither.
@@ -303,15 +315,17 @@ fn two_lines_fail(step: usize, fails_at: usize, refuses: bool, fails: bool) -> b
     is_file_fault(told, writer.failed(), fails)
 }
 
-/// `Ep<Sp<Wp` and `PB`, each with its newline, are four writes of what is taken at once, and twelve of a byte each.
+/// How many bytes are taken at a time, and in how many writes `Ep<Sp<Wp` and `PB` are, each with its newline.
+static WRITES_OF_LINES: [(usize, usize); 2] = [(1, 12), (4096, 4)];
+
 #[test]
 fn two_lines_fail_in_turn(rt: HostRuntime) {
-    for (step, last) in [(1usize, 12usize), (4096, 4)] {
+    for (step, last) in WRITES_OF_LINES.iter() {
         for fails_at in 1..20usize {
-            let fails = fails_at <= last;
+            let fails = fails_at <= *last;
             assert!(rt;
-                two_lines_fail(step, fails_at, false, fails)
-                    && two_lines_fail(step, fails_at, true, fails)
+                two_lines_fail(*step, fails_at, false, fails)
+                    && two_lines_fail(*step, fails_at, true, fails)
             );
         }
     }
@@ -339,15 +353,17 @@ fn totals_fail<R: Threads + Wait + Sync + AllocGlobal>(
     is_file_fault(told, writer.failed(), fails)
 }
 
-/// The totals of a run are 24 bytes: `put 1 1`, `taken 1 1` and `legal` with their newlines.
+/// The same of the totals of a run, which are 24 bytes: `put 1 1`, `taken 1 1` and `legal` with their newlines.
+static WRITES_OF_TOTALS: [(usize, usize); 3] = [(1, 24), (7, 4), (4096, 1)];
+
 #[test]
 fn totals_fail_in_turn(rt: HostRuntime) {
-    for (step, last) in [(1usize, 24usize), (7, 4), (4096, 1)] {
+    for (step, last) in WRITES_OF_TOTALS.iter() {
         for fails_at in 1..=last.saturating_add(1) {
-            let fails = fails_at <= last;
+            let fails = fails_at <= *last;
             assert!(rt;
-                totals_fail(&rt, step, fails_at, false, fails)
-                    && totals_fail(&rt, step, fails_at, true, fails)
+                totals_fail(&rt, *step, fails_at, false, fails)
+                    && totals_fail(&rt, *step, fails_at, true, fails)
             );
         }
     }

@@ -127,16 +127,13 @@ static DRAWINGS: [Drawing<'static>; 18] = [
     },
 ];
 
-/// How many marks of events there are.
-fn marks_in(page: &str) -> usize {
-    page.split("<g class=\"mark\"").count().saturating_sub(1)
-}
-
 /// Whether what was written is a picture where there is one, with these marks and words.
 fn shows(page: &str, drawing: &Drawing<'_>) -> bool {
     let is_picture = page.starts_with("<svg xmlns=") && page.ends_with("</svg>\n");
+    // So many pieces lie between the marks.
+    let pieces = page.split("<g class=\"mark\"").count();
     is_picture == (drawing.status < 2)
-        && marks_in(page) == drawing.marks
+        && pieces == drawing.marks.saturating_add(1)
         && page.find(drawing.says).is_some()
 }
 
@@ -150,14 +147,19 @@ fn is_drawn_from(alloc: Global, window: Option<Window>, drawing: &Drawing<'_>) -
         && matches!(str::from_utf8(&page), Ok(page) if shows(page, drawing))
 }
 
-#[test]
-fn histories_are_drawn(rt: HostRuntime) -> Result<(), Fail> {
-    for drawing in DRAWINGS.iter() {
-        if !is_drawn_from(rt.alloc(), None, drawing) {
+/// All of them are drawn whole; else what the first says is named that isn't.
+fn are_drawn_whole(alloc: Global, drawings: &[Drawing<'static>]) -> Result<(), Fail> {
+    for drawing in drawings {
+        if !is_drawn_from(alloc, None, drawing) {
             return Err(drawing.says)?;
         }
     }
     Ok(())
+}
+
+#[test]
+fn histories_are_drawn(rt: HostRuntime) -> Result<(), Fail> {
+    are_drawn_whole(rt.alloc(), &DRAWINGS)
 }
 
 /// A text in which a seat comes and goes 150 times, and its last lines.
@@ -226,26 +228,20 @@ const FORBIDDEN_END: &[Told] = &[
     ),
 ];
 
-/// Whether what the numbers ask for is drawn, with this status.
-fn is_told_drawn(alloc: Global, input: &[u8], status: u8, told: &Told) -> bool {
-    let (from, to, marks, says) = *told;
-    let Ok(window) = Window::asked(from, to) else {
-        return false;
-    };
-    let drawing = Drawing {
-        input,
-        marks,
-        says,
-        status,
-    };
-    is_drawn_from(alloc, window, &drawing)
-}
-
 /// Nothing if all rows are drawn; else what the first one says that isn't.
 fn first_undrawn(alloc: Global, input: &[u8], status: u8, rows: &[Told]) -> Option<&'static str> {
-    for told in rows {
-        if !is_told_drawn(alloc, input, status, told) {
-            return Some(told.3);
+    for (from, to, marks, says) in rows {
+        let Ok(window) = Window::asked(*from, *to) else {
+            return Some(*says);
+        };
+        let drawing = Drawing {
+            input,
+            marks: *marks,
+            says: *says,
+            status,
+        };
+        if !is_drawn_from(alloc, window, &drawing) {
+            return Some(*says);
         }
     }
     None

@@ -5,7 +5,8 @@ use monk_commands::Task;
 use std::alloc::{AllocError, Global};
 use std::test::Fail;
 
-static STORIES: [Job<'static>; 36] = [
+/// Of kinds that have a signaller queue.
+static STORIES: [Job<'static>; 16] = [
     Job {
         name: "hoare_handover",
         task: Task::Audit,
@@ -118,6 +119,10 @@ static STORIES: [Job<'static>; 36] = [
         status: 0,
         answer: b"legal 8\n",
     },
+];
+
+/// Of immediate return and automatic signalling.
+static STORIES_OF_OTHER_MODES: [Job<'static>; 10] = [
     Job {
         name: "immediate return has no signal",
         task: Task::Audit,
@@ -188,6 +193,10 @@ static STORIES: [Job<'static>; 36] = [
         status: 0,
         answer: b"legal 10\n",
     },
+];
+
+/// Of a few events.
+static SHORT_STORIES: [Job<'static>; 10] = [
     Job {
         name: "no events",
         task: Task::Audit,
@@ -263,6 +272,16 @@ static STORIES: [Job<'static>; 36] = [
 #[test]
 fn stories_are_answered(rt: HostRuntime) -> Result<(), Fail> {
     are_answered(&rt, &STORIES)
+}
+
+#[test]
+fn stories_of_other_modes_are_answered(rt: HostRuntime) -> Result<(), Fail> {
+    are_answered(&rt, &STORIES_OF_OTHER_MODES)
+}
+
+#[test]
+fn short_stories_are_answered(rt: HostRuntime) -> Result<(), Fail> {
+    are_answered(&rt, &SHORT_STORIES)
 }
 
 static FAULTY_TEXTS: [Job<'static>; 10] = [

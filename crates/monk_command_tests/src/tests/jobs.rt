@@ -33,7 +33,14 @@ pub(crate) struct Expected<'a> {
 impl<'a> Expected<'a> {
     /// One that takes all that it gets.
     pub(crate) fn new(answer: &'a [u8]) -> Self {
-        Expected::failing(answer, usize::MAX, 0, false)
+        Expected {
+            rest: answer,
+            differs: false,
+            taken: 0,
+            step: usize::MAX,
+            writes_left: 0,
+            refuses: false,
+        }
     }
 
     /// One that takes so many bytes at a time, and fails at the write of that number or takes none.

@@ -118,8 +118,12 @@ fn plays_are_played(rt: HostRuntime) -> Result<(), Fail> {
     are_answered(&rt, &PLAYS)
 }
 
-/// Whether that is written to the play, and is legal.
-fn is_played(rt: &HostRuntime, play: &str, history: &str) -> bool {
+/// Whether a visit is played under the kind over the object, and what is written of it in that version is legal.
+fn is_visited(rt: &HostRuntime, version: u8, kind: &str, object: &str) -> Result<bool, AllocError> {
+    let commands = "0 arrive\n0 out\n0 act 0 5\n0 leave entry\n0 drop\n";
+    let play = format!(in rt.alloc(); "play {version} {kind} 2 1 {object} 8\n{commands}")?;
+    let events = "enter 0 free\nact 0 0 5 1\nleave 0 entry\n";
+    let history = format!(in rt.alloc(); "monk {version} {kind} 2 1 {object}\n{events}")?;
     let visit = Job {
         name: "a visit",
         task: Task::Play,
@@ -134,35 +138,28 @@ fn is_played(rt: &HostRuntime, play: &str, history: &str) -> bool {
         status: 0,
         answer: b"legal 3\n",
     };
-    matches!(is_answered(rt, &visit), Ok(true)) && matches!(is_answered(rt, &judged), Ok(true))
+    Ok(matches!(is_answered(rt, &visit), Ok(true)) && matches!(is_answered(rt, &judged), Ok(true)))
 }
 
-/// Whether a visit is played under the kind over the object, and what is written of it in that version is legal.
-fn is_visited(rt: &HostRuntime, version: u8, kind: &str, object: &str) -> Result<bool, AllocError> {
-    let commands = "0 arrive\n0 out\n0 act 0 5\n0 leave entry\n0 drop\n";
-    let play = format!(in rt.alloc(); "play {version} {kind} 2 1 {object} 8\n{commands}")?;
-    let events = "enter 0 free\nact 0 0 5 1\nleave 0 entry\n";
-    let history = format!(in rt.alloc(); "monk {version} {kind} 2 1 {object}\n{events}")?;
-    Ok(is_played(rt, play.as_str(), history.as_str()))
-}
+static KINDS: [&str; 10] = [
+    "PB", "NPB", "PNB", "NPNB", "PQB", "NPQB", "PIR", "NPIR", "PIS", "NPIS",
+];
 
-/// Whether a visit is played under the kind over each object, of its greatest size.
-fn is_visited_anywhere(rt: &HostRuntime, kind: &str) -> Result<bool, AllocError> {
-    for object in ["buffer 64", "book 32", "shop 64"] {
-        if !is_visited(rt, 1, kind, object)? {
-            return Ok(false);
-        }
-    }
-    is_visited(rt, 3, kind, "flags 32")
-}
+/// The objects of their greatest sizes, and the version that names each.
+static OBJECTS: [(u8, &str); 4] = [
+    (1, "buffer 64"),
+    (1, "book 32"),
+    (1, "shop 64"),
+    (3, "flags 32"),
+];
 
 #[test]
 fn each_kind_and_object(rt: HostRuntime) -> Result<(), Fail> {
-    for kind in [
-        "PB", "NPB", "PNB", "NPNB", "PQB", "NPQB", "PIR", "NPIR", "PIS", "NPIS",
-    ] {
-        if !is_visited_anywhere(&rt, kind)? {
-            return Err(kind)?;
+    for kind in KINDS.iter() {
+        for (version, object) in OBJECTS.iter() {
+            if !is_visited(&rt, *version, kind, object)? {
+                return Err(*kind)?;
+            }
         }
     }
     Ok(())

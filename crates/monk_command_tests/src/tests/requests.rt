@@ -5,7 +5,9 @@ use std::alloc::Global;
 use std::test::Fail;
 
 /// Words, and what they ask for.
-static ASKING: [(&[&str], &str); 53] = [
+type Asking = (&'static [&'static str], &'static str);
+
+static ASKING: [Asking; 28] = [
     (&["monk", "audit"], "Audit(None)"),
     (&["monk", "audit", "x.text"], "Audit(Some(\"x.text\"))"),
     (&["monk", "play"], "Play(None)"),
@@ -84,6 +86,10 @@ static ASKING: [(&[&str], &str); 53] = [
         &["monk", "fit", "--kind", "PIR", "--", "--kind", "NPIR"],
         "FitKind(Pir, [\"--kind\", \"NPIR\"], Told, [])",
     ),
+];
+
+/// The same of logs that are completed, and of runs.
+static ASKING_FOR_MORE: [Asking; 25] = [
     (&["monk", "complete", "PB"], "Complete(Pb, None)"),
     (&["monk", "complete", "NPB"], "Complete(Npb, None)"),
     (&["monk", "complete", "PNB"], "Complete(Pnb, None)"),
@@ -162,14 +168,24 @@ fn ask_for(alloc: Global, words: &[&str], wanted: &str) -> Result<bool, LineFaul
     Ok(format!(in alloc; "{line:?}")?.as_str() == wanted)
 }
 
-#[test]
-fn words_that_ask(rt: HostRuntime) -> Result<(), Fail> {
-    for (words, wanted) in ASKING.iter() {
-        if !ask_for(rt.alloc(), words, wanted)? {
+/// All of them ask for that; else what the first doesn't ask for is named.
+fn all_ask(alloc: Global, rows: &[Asking]) -> Result<(), Fail> {
+    for (words, wanted) in rows {
+        if !ask_for(alloc, words, wanted)? {
             return Err(*wanted)?;
         }
     }
     Ok(())
+}
+
+#[test]
+fn words_that_ask(rt: HostRuntime) -> Result<(), Fail> {
+    all_ask(rt.alloc(), &ASKING)
+}
+
+#[test]
+fn words_that_ask_for_a_completion_or_a_run(rt: HostRuntime) -> Result<(), Fail> {
+    all_ask(rt.alloc(), &ASKING_FOR_MORE)
 }
 
 /// Whether the words are refused with a text.
@@ -234,11 +250,19 @@ static NOTHING: [&[&str]; 49] = [
     &["monk", "record", "PB", "buffer", "8", "1001"],
 ];
 
+/// Whether all of them are.
+fn all_are_refused(alloc: Global, rows: &[&[&str]]) -> bool {
+    for words in rows {
+        if !is_refused(alloc, words) {
+            return false;
+        }
+    }
+    true
+}
+
 #[test]
 fn words_that_ask_for_nothing(rt: HostRuntime) {
-    for words in NOTHING.iter() {
-        assert!(rt; is_refused(rt.alloc(), words));
-    }
+    assert!(rt; all_are_refused(rt.alloc(), &NOTHING));
 }
 
 /// Whether that is what is written of the priorities of the entry, waiter and signaller queues.

@@ -158,11 +158,13 @@ fn end_of_run<R: Threads + Wait + Sync + AllocGlobal>(
     Ok((status, end_of(page.as_slice())))
 }
 
+static SAMPLES: [Sample; 2] = [Sample::Buffer, Sample::Book];
+
 /// It is served; where something is in its way, `checks/refused_by_tests` compares what is printed here.
 #[test]
 fn run_says_how_it_ends(rt: HostRuntime) -> Result<(), Fail> {
-    for sample in [Sample::Buffer, Sample::Book] {
-        let (status, end) = end_of_run(&rt, sample)?;
+    for sample in SAMPLES.iter() {
+        let (status, end) = end_of_run(&rt, *sample)?;
         println!(rt; "status {status}: {end}")?;
         assert!(rt; status == 0 && end == "served");
     }

@@ -4,7 +4,7 @@ use super::jobs::{Job, are_answered};
 use monk_commands::Task;
 use std::test::Fail;
 
-static TEXTS: [Job<'static>; 30] = [
+static TEXTS: [Job<'static>; 10] = [
     Job {
         name: "broadcast_wakes_all",
         task: Task::Audit,
@@ -75,6 +75,10 @@ static TEXTS: [Job<'static>; 30] = [
         status: 1,
         answer: b"forbidden 2 1 range\n",
     },
+];
+
+/// With a signal that is followed by a wait, and in other words.
+static MORE_TEXTS: [Job<'static>; 20] = [
     Job {
         name: "signal_wait_ping_pong",
         task: Task::Audit,
@@ -220,6 +224,11 @@ static TEXTS: [Job<'static>; 30] = [
 #[test]
 fn texts_of_version_two_are_answered(rt: HostRuntime) -> Result<(), Fail> {
     are_answered(&rt, &TEXTS)
+}
+
+#[test]
+fn more_texts_of_version_two_are_answered(rt: HostRuntime) -> Result<(), Fail> {
+    are_answered(&rt, &MORE_TEXTS)
 }
 
 static UPGRADES: [Job<'static>; 6] = [

@@ -71,11 +71,16 @@ fn passes_on<T: Read + Write>(both: &mut T) -> bool {
     both.flush().is_ok() && are_read && is_written && piece == [2, 0]
 }
 
+/// The same of a device over these.
+fn device_passes_on(counted: &mut Counted) -> bool {
+    let mut device = Device::new(counted);
+    passes_on(&mut device) && !device.failed()
+}
+
 #[test]
 fn device_passes_each_call_on(rt: HostRuntime) {
     let mut counted = Counted::new(NEVER);
-    let mut device = Device::new(&mut counted);
-    let well = passes_on(&mut device) && !device.failed();
+    let well = device_passes_on(&mut counted);
     // `write_all` takes three writes for its five bytes.
     assert!(rt; well && (counted.reads, counted.writes, counted.flushes) == (2, 4, 1));
 }
@@ -83,16 +88,18 @@ fn device_passes_each_call_on(rt: HostRuntime) {
 /// So many calls are made of a device.
 const MANY: u32 = 3000;
 
+/// Whether the next read, or else the next write, answers an error.
+fn call_fails(device: &mut Device<Counted>, is_read: bool) -> bool {
+    if is_read {
+        return device.read(&mut [0u8; 1]).is_err();
+    }
+    device.write(b"m").is_err()
+}
+
 /// Whether of many reads, or else writes, the failing one alone answers an error, and from it on the device tells so.
-fn tells_of(failing: u32, are_reads: bool) -> bool {
-    let mut device = Device::new(Counted::new(failing));
-    let mut piece = [0u8; 1];
+fn each_tells(device: &mut Device<Counted>, failing: u32, are_reads: bool) -> bool {
     for number in 1..=MANY {
-        let failed = if are_reads {
-            device.read(&mut piece).is_err()
-        } else {
-            device.write(b"m").is_err()
-        };
+        let failed = call_fails(device, are_reads);
         if failed != (number == failing) || device.failed() != (number >= failing) {
             return false;
         }
@@ -100,9 +107,18 @@ fn tells_of(failing: u32, are_reads: bool) -> bool {
     true
 }
 
+/// The same of a new device.
+fn tells_of(failing: u32, are_reads: bool) -> bool {
+    let mut device = Device::new(Counted::new(failing));
+    each_tells(&mut device, failing, are_reads)
+}
+
+/// The calls that fail.
+static FAILING: [u32; 4] = [1, 2, MANY, NEVER];
+
 #[test]
 fn device_tells_of_the_first_failure(rt: HostRuntime) {
-    for failing in [1, 2, MANY, NEVER] {
-        assert!(rt; tells_of(failing, true) && tells_of(failing, false));
+    for failing in FAILING.iter() {
+        assert!(rt; tells_of(*failing, true) && tells_of(*failing, false));
     }
 }

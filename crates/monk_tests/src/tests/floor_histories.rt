@@ -82,21 +82,35 @@ fn tells_of_both(rt: &HostRuntime, floor: &mut Floor<Pb, Buffer>) -> Result<bool
     Ok(signalled && left && floor.history().len() == 11)
 }
 
+/// The same of a new floor.
+fn is_told_of_both(rt: &HostRuntime) -> Result<bool, Fail> {
+    let mut floor: Floor<Pb, Buffer> = room(rt, TWO_AND_TWO)?;
+    tells_of_both(rt, &mut floor)
+}
+
 #[test]
 fn what_a_floor_tells(rt: HostRuntime) -> Result<(), Fail> {
-    let mut floor: Floor<Pb, Buffer> = room(&rt, TWO_AND_TWO)?;
-    assert!(rt; tells_of_both(&rt, &mut floor)?);
+    assert!(rt; is_told_of_both(&rt)?);
     Ok(())
+}
+
+/// Whether the floor tells of the hand-over what came of it, and is closed with it.
+fn is_closed_with_it(floor: Floor<Pb, Buffer>) -> bool
+    requires { IsRoom 2 2 ITEMS floor }
+{
+    let told = looks(&floor) == (10, 1, false, 0)
+        && floor.enters() == 2
+        && floor.history().len() == 11
+        && floor.holds(Buffer::HAS_ROOM);
+    let (buffer, history) = floor.close();
+    told && buffer.holds(Buffer::HAS_ROOM) && history.len() == 11
 }
 
 #[test]
 fn what_is_left_when_it_closes(rt: HostRuntime) -> Result<(), Fail> {
     let mut floor: Floor<Pb, Buffer> = room(&rt, TWO_AND_TWO)?;
-    assert!(rt; runs_explicitly(&rt, TWO_AND_TWO, &mut floor, &HOARE_HANDOVER, Pick::Waiter)?);
+    let made = runs_explicitly(&rt, TWO_AND_TWO, &mut floor, &HOARE_HANDOVER, Pick::Waiter)?;
     from_here(&rt)?;
-    let told = looks(&floor) == (10, 1, false, 0) && floor.enters() == 2;
-    let told = told && floor.history().len() == 11 && floor.holds(Buffer::HAS_ROOM);
-    let (buffer, history) = floor.close();
-    let well = told && buffer.holds(Buffer::HAS_ROOM) && history.len() == 11;
-    well_up_to_here(&rt, well)
+    let left = is_closed_with_it(floor);
+    well_up_to_here(&rt, made && left)
 }

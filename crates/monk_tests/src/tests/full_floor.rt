@@ -16,7 +16,7 @@ const SEATS: u8 = 32;
 const CONDS: u8 = 8;
 
 /// The order in which the conditions are signalled.
-const ORDER: [u8; 8] = [5, 2, 7, 0, 3, 6, 1, 4];
+static ORDER: [u8; 8] = [5, 2, 7, 0, 3, 6, 1, 4];
 
 /// The seat that signals: as many seats as there are conditions wait before it, three times over.
 const SIGNALLER: u8 = 24;
@@ -108,8 +108,8 @@ fn all_are_signalled(floor: &mut Floor<Pnb, Buffer>) -> bool
     ensures { IsSameSize floor.old floor.new }
 {
     let mut goes_on = steps(floor, Event::Enter(SIGNALLER, Via::Handed));
-    for cond in ORDER {
-        goes_on &= steps(floor, Event::Signal(SIGNALLER, cond, Next::Stay));
+    for cond in ORDER.iter() {
+        goes_on &= steps(floor, Event::Signal(SIGNALLER, *cond, Next::Stay));
     }
     goes_on
 }
@@ -122,10 +122,10 @@ fn all_depart(floor: &mut Floor<Pnb, Buffer>) -> bool
 {
     let mut last = SIGNALLER;
     let mut well = true;
-    for first in ORDER {
-        well &= steps(floor, Event::Leave(last, Next::Waiter(first)));
-        well &= steps(floor, Event::Resume(first, From3::Waiter));
-        last = first;
+    for first in ORDER.iter() {
+        well &= steps(floor, Event::Leave(last, Next::Waiter(*first)));
+        well &= steps(floor, Event::Resume(*first, From3::Waiter));
+        last = *first;
     }
     well & steps(floor, Event::Leave(last, Next::Entry))
 }

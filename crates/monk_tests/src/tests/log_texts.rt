@@ -126,13 +126,19 @@ fn a_text_is_counted(rt: HostRuntime) -> Result<(), Fail> {
     Ok(())
 }
 
+/// The predicate for which seat 0 waits, and the line at which a signal was missed.
+static MISSED: [(u8, Option<u32>); 2] = [(1, Some(6)), (0, None)];
+
 #[test]
 fn a_log_of_flags(rt: HostRuntime) -> Result<(), Fail> {
     let log = LogLines::check(FLAGGED)?;
     assert!(rt; log.header().object() == ObjectName::Flags);
-    for (pred, missed) in [(1, Some(6)), (0, None)] {
-        let means = [WaitsFor { cond: 0, pred }];
-        assert!(rt; log.count(rt.alloc(), KindName::Npnb, &means)?.missed == missed);
+    for (pred, missed) in MISSED.iter() {
+        let means = [WaitsFor {
+            cond: 0,
+            pred: *pred,
+        }];
+        assert!(rt; log.count(rt.alloc(), KindName::Npnb, &means)?.missed == *missed);
     }
     Ok(())
 }
@@ -140,10 +146,9 @@ fn a_log_of_flags(rt: HostRuntime) -> Result<(), Fail> {
 /// Whether the object is refused, by each call that finds something of a log.
 fn is_too_great(rt: &HostRuntime, log: &LogLines<'_>) -> Result<bool, AuditFault> {
     let allowed = LogFits::find(rt.alloc(), log, Lapses::Allowed, &[])?;
-    Ok(
-        allowed.of_kind(rt.alloc(), KindName::Pb) == Err(AuditFault::Object)
-            && log.count(rt.alloc(), KindName::Pb, &[]) == Err(AuditFault::Object),
-    )
+    let fit = allowed.of_kind(rt.alloc(), KindName::Pb);
+    let counts = log.count(rt.alloc(), KindName::Pb, &[]);
+    Ok(matches!(fit, Err(AuditFault::Object)) && matches!(counts, Err(AuditFault::Object)))
 }
 
 #[test]

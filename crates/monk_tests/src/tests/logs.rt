@@ -345,6 +345,6 @@ fn reasons_are_numbered(rt: HostRuntime) {
 fn too_great_an_object_of_a_log(rt: HostRuntime) -> Result<(), Fail> {
     let (header, lines) = read_log(rt.alloc(), b"log 1 2 1 book 33\n")?;
     let verdict = judge(rt.alloc(), &header, &[], KindName::Pb);
-    assert!(rt; lines.is_empty() && verdict == Err(AuditFault::Object));
+    assert!(rt; lines.is_empty() && matches!(verdict, Err(AuditFault::Object)));
     Ok(())
 }

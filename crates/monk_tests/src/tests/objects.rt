@@ -149,16 +149,21 @@ fn number_of<T>(made: &Result<T, ObjectFault>) -> u8 {
     }
 }
 
-/// Sizes 1 and the greatest are taken, 0 and one above are not.
+/// Sizes of buffers and shops, and the number of the fault: 1 and the greatest are taken, 0 and one above are not.
+static LARGE: [(u8, u8); 4] = [(0, 1), (1, 0), (64, 0), (65, 1)];
+
+/// The same of books and flags.
+static SMALL: [(u8, u8); 4] = [(0, 1), (1, 0), (32, 0), (33, 1)];
+
 #[test]
 fn limits_of_sizes(rt: HostRuntime) {
-    for (size, fault) in [(0, 1), (1, 0), (64, 0), (65, 1)] {
-        let buffer = number_of(&Buffer::make(rt.alloc(), size));
-        assert!(rt; buffer == fault && number_of(&Shop::make(size)) == fault);
+    for (size, fault) in LARGE.iter() {
+        let buffer = number_of(&Buffer::make(rt.alloc(), *size));
+        assert!(rt; buffer == *fault && number_of(&Shop::make(*size)) == *fault);
     }
-    for (size, fault) in [(0, 1), (1, 0), (32, 0), (33, 1)] {
-        let book = number_of(&Book::make(size));
-        assert!(rt; book == fault && number_of(&Flags::make(size)) == fault);
+    for (size, fault) in SMALL.iter() {
+        let book = number_of(&Book::make(*size));
+        assert!(rt; book == *fault && number_of(&Flags::make(*size)) == *fault);
     }
     assert!(rt; ObjectFault::Memory.number() == 2);
 }

@@ -193,6 +193,9 @@ fn first_versions(rt: HostRuntime) {
     }
 }
 
+/// How the header of each version begins.
+static FIRST_WORDS: [&[u8]; 3] = [b"monk 1", b"monk 2", b"monk 3"];
+
 /// Headers of each object, and what is told of each in the three versions.
 static OBJECTS_OF_VERSIONS: [(&[u8], [(u8, u32); 3]); 4] = [
     (b" PIS 2 0 buffer 1\n", [(0, 0), (0, 0), (0, 0)]),
@@ -204,8 +207,8 @@ static OBJECTS_OF_VERSIONS: [(&[u8], [(u8, u32); 3]); 4] = [
 #[test]
 fn objects_of_versions(rt: HostRuntime) -> Result<(), Fail> {
     for (header, told) in OBJECTS_OF_VERSIONS.iter() {
-        for (first, told) in [b"monk 1", b"monk 2", b"monk 3"].iter().zip(told.iter()) {
-            assert!(rt; outcome_of_both(&rt, *first, header)? == *told);
+        for (first, told) in FIRST_WORDS.iter().zip(told.iter()) {
+            assert!(rt; outcome_of_both(&rt, first, header)? == *told);
         }
     }
     Ok(())
@@ -259,12 +262,17 @@ fn is_written_again(rt: &HostRuntime, bytes: &[u8], step: usize) -> Result<bool,
     Ok(!device.failed() && tight.taken.as_slice() == bytes)
 }
 
+static WRITTEN: [&[u8]; 4] = [RUN, EACH, EACH_OF_VERSION_TWO, EACH_OF_VERSION_THREE];
+
+/// How often a text's lines are written, and how many bytes the writer takes at a time.
+static PIECES: [(usize, usize); 3] = [(1, 1), (90, 4095), (90, 4096)];
+
 #[test]
 fn written_and_read(rt: HostRuntime) -> Result<(), Fail> {
-    for text in [RUN, EACH, EACH_OF_VERSION_TWO, EACH_OF_VERSION_THREE] {
-        for (times, step) in [(1, 1), (90, 4095), (90, 4096)] {
-            let long = repeated(&rt, text, times)?;
-            assert!(rt; is_written_again(&rt, &long, step)?);
+    for text in WRITTEN.iter() {
+        for (times, step) in PIECES.iter() {
+            let long = repeated(&rt, text, *times)?;
+            assert!(rt; is_written_again(&rt, &long, *step)?);
         }
     }
     one_history_each();
@@ -297,14 +305,17 @@ fn is_refused(
     Ok(fails)
 }
 
+/// How many bytes a writer takes at a time, and whether it takes none where it fails.
+static WRITERS: [(usize, bool); 3] = [(1000, false), (1000, true), (4096, false)];
+
 /// The writes that fail are the first, each of them, and there are some and an end to them.
 #[test]
 fn writers_fail_in_turn(rt: HostRuntime) -> Result<(), Fail> {
     let bytes = repeated(&rt, RUN, 90)?;
-    for (step, refuses) in [(1000, false), (1000, true), (4096, false)] {
+    for (step, refuses) in WRITERS.iter() {
         let mut refused = 0u32;
         for fails_at in 1..31u32 {
-            if is_refused(&rt, &bytes, fails_at, step, refuses)? {
+            if is_refused(&rt, &bytes, fails_at, *step, *refuses)? {
                 refused = refused.wrapping_add(1);
                 assert!(rt; refused == fails_at);
             }

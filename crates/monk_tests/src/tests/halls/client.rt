@@ -2,11 +2,12 @@
 ghost use Rattle.std.specs.Prelude.{◌≡◌, ◌<◌, IfSome};
 ghost use Rattle.monk_tests.specs.Halls.{IsOneVisit, NoTwoAreActive};
 
-use crate::tests::halls::{PUT, hall, take};
+use crate::tests::halls::{PUT, two_from_here};
+use crate::tests::marks::well_up_to_here;
 use monk_hall::laws::one_is_active;
 use monk_hall::{Busy, Closed, Hall, Pass, close};
 use monk_kinds::{Kind, Npnb, Pick};
-use monk_object::{Guarded, Op};
+use monk_object::{Buffer, Guarded, Op};
 use std::test::Fail;
 
 /// A seat comes in, does an operation and ends the hall: in the closed history its events are those that it had, and
@@ -47,12 +48,18 @@ fn no_two_are_active()
     one_is_active();
 }
 
+/// Whether the closed history of a visit has its three events, and nobody else's.
+fn is_alone(hall: Hall<Npnb, Buffer>, pass: Pass<Npnb, Buffer>) -> bool
+    requires { pass.hall ≡ hall.id }
+{
+    let closed = visits_and_closes(hall, pass, PUT);
+    matches!(&closed, Some(closed) if closed.history.len() == 3)
+}
+
 #[test]
 fn history_holds_the_callers_calls(rt: HostRuntime) -> Result<(), Fail> {
     no_two_are_active();
-    let (hall, mut passes) = hall::<Npnb>(&rt, 2, 0, 4)?;
-    let pass = take(&hall, &mut passes)?;
-    let closed = visits_and_closes(hall, pass, PUT);
-    assert!(rt; matches!(&closed, Some(closed) if closed.history.len() == 3));
-    Ok(())
+    let (hall, _other, pass) = two_from_here::<Npnb>(&rt, 0, 4)?;
+    let well = is_alone(hall, pass);
+    well_up_to_here(&rt, well)
 }

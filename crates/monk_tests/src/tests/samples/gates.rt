@@ -19,17 +19,19 @@ impl Gate for OnceShut {
     }
 }
 
+static SAMPLES: [Sample; 3] = [Sample::Buffer, Sample::Book, Sample::Shop];
+
 /// Both workers are sent away from their second round. One that asked again would be let in, and the run would have an
 /// outcome; one that asked more than once for a round would be counted.
 #[test]
 fn no_is_not_asked_again(rt: HostRuntime) {
-    for sample in [Sample::Buffer, Sample::Book, Sample::Shop] {
+    for sample in SAMPLES.iter() {
         let gate = OnceShut {
             asked: AtomicU32::new(0),
             first: AtomicBool::new(false),
             second: AtomicBool::new(false),
         };
-        let outcome = run::<Pb, _, OnceShut>(&rt, rt.alloc(), sample, 2, 2, &gate);
+        let outcome = run::<Pb, _, OnceShut>(&rt, rt.alloc(), *sample, 2, 2, &gate);
         let is_late = matches!(outcome, Err(RunFault::Late));
         assert!(rt; is_late && gate.asked.load(Ordering::SeqCst) == 4);
     }

@@ -53,15 +53,18 @@ fn no_hasty_seat_misses_under_hoares_kind(rt: HostRuntime) {
     assert!(rt; matches!(&outcome, Ok(outcome) if outcome.missed == 0));
 }
 
+/// Seats and rounds of which there is no run.
+static OUT_OF_RANGE: [(u8, u32); 4] = [(1, 1), (17, 1), (2, 0), (2, 1001)];
+
 #[test]
 fn out_of_range_is_refused(rt: HostRuntime) {
-    for (seats, rounds) in [(1, 1), (17, 1), (2, 0), (2, 1001)] {
+    for (seats, rounds) in OUT_OF_RANGE.iter() {
         let outcome = run::<Pb, _, OpenGate>(
             &rt,
             rt.alloc(),
             Sample::Buffer,
-            seats,
-            rounds,
+            *seats,
+            *rounds,
             &OpenGate,
         );
         assert!(rt; matches!(outcome, Err(RunFault::Range)));
@@ -78,10 +81,12 @@ impl Gate for FirstRound {
     }
 }
 
+static SAMPLES: [Sample; 4] = [Sample::Buffer, Sample::Book, Sample::Shop, Sample::Hasty];
+
 #[test]
 fn second_round_is_late(rt: HostRuntime) {
-    for sample in [Sample::Buffer, Sample::Book, Sample::Shop, Sample::Hasty] {
-        let outcome = run::<Pb, _, FirstRound>(&rt, rt.alloc(), sample, 2, 2, &FirstRound);
+    for sample in SAMPLES.iter() {
+        let outcome = run::<Pb, _, FirstRound>(&rt, rt.alloc(), *sample, 2, 2, &FirstRound);
         assert!(rt; matches!(outcome, Err(RunFault::Late)));
     }
 }
