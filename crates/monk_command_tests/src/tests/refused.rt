@@ -5,7 +5,7 @@ mod pages;
 mod steps;
 mod streams;
 
-use super::jobs::{Job, is_answered};
+use super::jobs::is_answered;
 use std::test::Fail;
 use streams::{JOBS, is_drawn};
 
@@ -15,22 +15,14 @@ fn begins(rt: &HostRuntime, call: &str) -> Result<(), Fail> {
     Ok(())
 }
 
-/// Whether each of the jobs has its answer; or the first fault.
-fn have_answers(rt: &HostRuntime, jobs: &[Job<'static>]) -> Result<bool, Fail> {
-    for job in jobs {
-        begins(rt, job.name)?;
-        if !is_answered(rt, job)? {
-            return Ok(false);
-        }
-    }
-    Ok(true)
-}
-
 /// Each call has its answer, or hands on its fault.
 #[test]
 fn each_call(rt: HostRuntime) -> Result<(), Fail> {
     assert!(rt; halls::hall(&rt)?);
-    assert!(rt; have_answers(&rt, &JOBS)?);
+    for job in JOBS.iter() {
+        begins(&rt, job.name)?;
+        assert!(rt; is_answered(&rt, job)?);
+    }
     begins(&rt, "drawn")?;
     assert!(rt; is_drawn(&rt)?);
     assert!(rt; steps::steps(&rt)?);
