@@ -67,7 +67,7 @@ fn bare<'a>(alloc: Global) -> Result<Command<'a>, AllocError>
     Ok(program.version(VERSION).subcommand_required(true))
 }
 
-/// The program with one command more, if both were made. Here alone a command is let go.
+/// The program with one command more, if both were made.
 fn adding<'a>(
     program: Result<Command<'a>, AllocError>,
     made: Result<Command<'a>, AllocError>,
