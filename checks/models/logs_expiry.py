@@ -2,15 +2,21 @@
 
 A wait whose time ran out is read as one that ran out at once: its `wait` as a `leave`, its `lapse` as an `enter`. The search has no
 such reading: whoever waits, unserved, may be gone at any time without a line, and comes back with `lapse`, by entry."""
+from logs_board import monitor
 from logs_search import Search
 
 
-def at_once(lines):
-    """The log in which each wait that ran out did so at once."""
+def conds_under(kind, header):
+    """How many conditions a monitor of that kind has under the header."""
+    return 0 if monitor.KINDS[kind][0] == "automatic" else header.conds
+
+
+def at_once(conds, lines):
+    """The log in which each wait on one of so many conditions that ran out did so at once."""
     read, last = list(lines), {}
     for place, (verb, seat, *_) in enumerate(lines):
         wait = last.get(seat)
-        if verb == "lapse" and wait is not None and lines[wait][0] == "wait":
+        if verb == "lapse" and wait is not None and lines[wait][0] == "wait" and lines[wait][2] < conds:
             read[wait], read[place] = ("leave", seat), ("enter", seat)
         last[seat] = place
     return read

@@ -14,7 +14,7 @@ import sys
 
 sys.dont_write_bytecode = True
 from logs_board import ANY, ORDERS, REASONS, Header, Rules, behind, given, judge, line_of, monitor, opening, services, thing, waiting
-from logs_expiry import at_once
+from logs_expiry import at_once, conds_under
 
 # What a verb's words are behind the seat, with the most that each may be.
 BYTE = 255
@@ -90,7 +90,7 @@ def counted(header, lines, means=()):
 
 def fitted_alone(header, lines, kind, lapses=False, means=()):
     """What stands in one line of the log under this kind alone, where waits run out at once, and the status."""
-    lines = at_once(lines)
+    lines = at_once(conds_under(kind, header), lines)
     (said,), fits = fitted(header, lines, lapses, (kind,))
     counts, end = counted_with_end(header, lines, kind, means)
     is_well = fits and not end.startswith("busy") and (not means or counts[-1] == "missed none")

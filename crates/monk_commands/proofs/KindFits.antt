@@ -33,7 +33,8 @@ use Rattle.monk_logs.specs.declared.text.line.LogLine.{LogLine}
 use Rattle.monk_logs.proofs.PublicLaws.{kind_fit_open, kind_open_fit, log_again, log_read}
 use Rattle.monk_commands.specs.Answer.{too_big}
 use Rattle.monk_commands.specs.Fitted.{fit_line, is_fit, verdict_under}
-use Rattle.monk_commands.specs.KindFitted.{EndsWell, IsKindLogText, IsKindText, byte_in_one, counts_status}
+use Rattle.monk_commands.specs.KindFitted.{EndsWell, IsKindLogText, IsKindText, byte_in_one, conds_under}
+use Rattle.monk_commands.specs.KindFitted.{counts_status}
 use Rattle.monk_commands.specs.KindFitted.{fit_with_counts, kind_answer_of, kind_fit_of}
 use Rattle.monk_commands.specs.KindFitted.{kind_counts, kind_fit_reading, log_kind_of, log_kind_reading, named_fit_of}
 use Rattle.monk_commands.specs.KindFitted.{named_line}
@@ -134,7 +135,7 @@ module _ (k : KindName) (x : Lapses) (means : List WaitsFor) where
   log_kind_read : (input : List ℕ) (r : Result Log ReadFault) → log_at (2 ^ 25) input ≡ r
       → (log_kind_reading k x means r).status ≡ 0 → IsKindLogText k x means input
   log_kind_read input (Ok l) is e =
-      let ls = at_once l.1 in
+      let ls = at_once (conds_under k l.0) l.1 in
       let j = log_judged_by l.0 ls (ltb (most l.0.object) l.0.size) (log_fit x l.0 ls k) refl refl e in
       let t = log_read (2 ^ 25) input l is in (
         l.0,
@@ -151,7 +152,7 @@ module _ (k : KindName) (x : Lapses) (means : List WaitsFor) where
   log_kind_again : (input : List ℕ) → IsKindLogText k x means input → (log_kind_of k x means input).status ≡ 0
   log_kind_again input f =
       let h = f.0 in
-      let ls = at_once f.1.0 in
+      let ls = at_once (conds_under k h) f.1.0 in
       let t = f.1.1.0 in
       let opens = f.1.1.1.0 in
       let read_is : log_at (2 ^ 25) input ≡ Ok (log h f.1.0) = ap (log_at (2 ^ 25)) t.whole
@@ -164,7 +165,8 @@ module _ (k : KindName) (x : Lapses) (means : List WaitsFor) where
 
   log_kind_most : (r : Result Log ReadFault) → (log_kind_reading k x means r).status ≤ 2
   log_kind_most (Ok l) =
-      go (ltb (most l.0.object) l.0.size) (kind_counts k l.0 means (at_once l.1)) (log_fit x l.0 (at_once l.1) k)
+      let ls = at_once (conds_under k l.0) l.1 in
+      go (ltb (most l.0.object) l.0.size) (kind_counts k l.0 means ls) (log_fit x l.0 ls k)
     where
       by_counts : (missed : Option ℕ) (held : Option Held) → counts_status missed held ≤ 2
       by_counts None None = omega arith

@@ -3,11 +3,12 @@ use Rattle.std.specs.Prelude.{◌≡◌, ℕ, List, [], ◌∷◌, ◌++◌, ◌
 use Rattle.std.specs.Prelude.{nat_lt, if◌then◌else◌, codes}
 use Rattle.std.specs.Fmt.{decimal}
 use Rattle.std.specs.List.{flat_map}
-use Rattle.monk_kinds.specs.Names.{kind_word}
+use Rattle.monk_kinds.specs.Names.{kind_word, rules_named}
 use Rattle.monk_kinds.specs.declared.name.KindName.{KindName}
 use Rattle.monk_object.specs.Names.{most}
 use Rattle.monk_history.specs.declared.event.Event.{Event}
 use Rattle.monk_history.specs.declared.text.fault.ReadFault.{ReadFault}
+use Rattle.monk_history.specs.Meaning.Events.{has_conditions}
 use Rattle.monk_history.specs.Meaning.Legal.{IsLegal}
 use Rattle.monk_history.specs.Meaning.Named.{named_monitor}
 use Rattle.monk_history.specs.Text.{Heading}
@@ -116,9 +117,13 @@ log_kind_answer k x means h log =
     if nat_lt (most h.object) h.size then too_big
     else fit_with_counts k means (kind_counts k h means log) (log_fit x h log k)
 
+-- how many conditions a monitor of that kind has under the heading
+abbrev pub conds_under : KindName → LogHeading → ℕ
+conds_under k h = if has_conditions (rules_named k).mode then h.conds else 0
+
 -- the same for what was read as a log, where waits run out at once
 abbrev pub log_kind_reading : KindName → Lapses → List WaitsFor → Result Log ReadFault → LineAnswer
-log_kind_reading k x means (Ok l) = log_kind_answer k x means l.0 (at_once l.1)
+log_kind_reading k x means (Ok l) = log_kind_answer k x means l.0 (at_once (conds_under k l.0) l.1)
 log_kind_reading k x means (Err f) = unreadable f
 
 -- the same for a log as input
@@ -153,4 +158,5 @@ IsKindLog k x means h log =
 -- the text of a log, of a size within the object's greatest, that is such a log where waits run out at once
 abbrev pub IsKindLogText : KindName → Lapses → List WaitsFor → List ℕ → Type 0
 IsKindLogText k x means input =
-    (h : LogHeading) × ((log : List LogLine) × (IsLogOf input h log × IsKindLog k x means h (at_once log)))
+    (h : LogHeading)
+    × ((log : List LogLine) × (IsLogOf input h log × IsKindLog k x means h (at_once (conds_under k h) log)))

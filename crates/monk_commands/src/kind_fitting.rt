@@ -6,7 +6,7 @@ ghost use Rattle.monk_object.specs.Names.{most};
 ghost use Rattle.monk_history.specs.Text.Device.{inner_of, has_failed};
 ghost use Rattle.monk_logs.specs.Expiry.{at_once};
 ghost use Rattle.monk_logs.specs.declared.kind_fit.Fit.TheVariants.{In};
-ghost use Rattle.monk_commands.specs.KindFitted.{IsKindLogText, IsKindText, fit_with_counts, kind_answer_of};
+ghost use Rattle.monk_commands.specs.KindFitted.{IsKindLogText, IsKindText, conds_under, fit_with_counts, kind_answer_of};
 ghost use Rattle.monk_commands.specs.KindFitted.{kind_fit_answer, kind_fit_of, log_kind_answer, log_kind_of};
 ghost use Rattle.monk_commands.specs.KindFitted.{busy_words, counts_status, end_line, fit_status, idle_words, kind_counts, named_fit_of};
 ghost use Rattle.monk_commands.specs.LogFitted.{fit_words, log_fit};
@@ -231,6 +231,23 @@ fn log_answer(
     fit_answer(alloc, kind, means, counts, found)
 }
 
+/// How many conditions a monitor of the kind has under the header.
+fn conds_under(kind: KindName, header: &LogHeader) -> u8
+    ensures { result ≡ conds_under kind header.now }
+{
+    match kind {
+        KindName::Pis | KindName::Npis => 0,
+        KindName::Pb
+        | KindName::Npb
+        | KindName::Pnb
+        | KindName::Npnb
+        | KindName::Pqb
+        | KindName::Npqb
+        | KindName::Pir
+        | KindName::Npir => header.conds(),
+    }
+}
+
 /// The answer to a log that was read, where waits run out at once.
 fn read_answer(
     alloc: Global,
@@ -242,11 +259,13 @@ fn read_answer(
 ) -> Result<LinesAnswer, StreamFault>
     requires few { length lines.old ≤ 2 ^ 25 }
     ensures answer { IfOk result
-        (λ a. (a.status ≡ (log_kind_answer kind lapses means.now header.now (at_once lines.old)).status)
-        × (a.lines.items ≡ (log_kind_answer kind lapses means.now header.now (at_once lines.old)).text)) }
+        (λ a. (a.status ≡ (log_kind_answer kind lapses means.now header.now
+        (at_once (conds_under kind header.now) lines.old)).status)
+        × (a.lines.items ≡ (log_kind_answer kind lapses means.now header.now
+        (at_once (conds_under kind header.now) lines.old)).text)) }
     ensures no_file { IsErrOf result StreamFault.File → ⊥ }
 {
-    expire_at_once(alloc, lines)?;
+    expire_at_once(alloc, conds_under(kind, header), lines)?;
     log_answer(alloc, kind, lapses, means, header, lines)
 }
 

@@ -27,11 +27,14 @@ fn seat_of(line: LogLine) -> u8
     }
 }
 
-/// Whether the line tells of a wait on a condition.
-fn is_wait(line: LogLine) -> bool
-    ensures { result ≡ expiry.is_wait line }
+/// Whether the line tells of a wait on one of so many conditions.
+fn is_wait(conds: u8, line: LogLine) -> bool
+    ensures { result ≡ expiry.is_wait conds line }
 {
-    matches!(line, LogLine::Wait(..))
+    match line {
+        LogLine::Wait(_, cond) => cond < conds,
+        _ => false,
+    }
 }
 
 /// Whether the line tells of a wait that ran out.
@@ -43,34 +46,34 @@ fn is_lapse(line: LogLine) -> bool
 
 /// What a line is read as, by whether the line of its seat before it is a wait, and that behind it a
 /// lapse.
-fn read_as(waited: bool, lapses: bool, line: LogLine) -> LogLine
-    ensures { result ≡ expiry.read_as waited lapses line }
+fn read_as(conds: u8, waited: bool, lapses: bool, line: LogLine) -> LogLine
+    ensures { result ≡ expiry.read_as conds waited lapses line }
 {
     match line {
-        LogLine::Wait(seat, _) if lapses => LogLine::Leave(seat),
+        LogLine::Wait(seat, cond) if lapses && cond < conds => LogLine::Leave(seat),
         LogLine::Lapse(seat) if waited => LogLine::Enter(seat),
         _ => line,
     }
 }
 
 /// Of each line, whether the line of its seat before it is a wait.
-fn waited_before(alloc: Global, lines: &[LogLine]) -> Result<Vec<bool>, AllocError>
-    ensures { IfOk result (λ waited. waited.items ≡ expiry.waited_behind [] lines.now) }
+fn waited_before(alloc: Global, conds: u8, lines: &[LogLine]) -> Result<Vec<bool>, AllocError>
+    ensures { IfOk result (λ waited. waited.items ≡ expiry.waited_behind conds [] lines.now) }
 {
     let mut waited = Vec::with_capacity(alloc, lines.len())?;
     let mut waits = [false; SEATS];
     for line in lines {
         let seat = usize::from(seat_of(*line));
         waited.push(waits[seat])?;
-        waits[seat] = is_wait(*line);
+        waits[seat] = is_wait(conds, *line);
     }
     Ok(waited)
 }
 
 /// Reads each line, by whether the line of its seat before it is a wait.
-fn read_each(lines: &mut [LogLine], waited: &[bool])
-    requires { waited.now ≡ expiry.waited_behind [] lines.old }
-    ensures { lines.new ≡ expiry.at_once lines.old }
+fn read_each(conds: u8, lines: &mut [LogLine], waited: &[bool])
+    requires { waited.now ≡ expiry.waited_behind conds [] lines.old }
+    ensures { lines.new ≡ expiry.at_once conds lines.old }
 {
     let mut lapses = [false; SEATS];
     let mut at = lines.len();
@@ -78,15 +81,16 @@ fn read_each(lines: &mut [LogLine], waited: &[bool])
         at -= 1;
         let line = lines[at];
         let seat = usize::from(seat_of(line));
-        lines[at] = read_as(waited[at], lapses[seat], line);
+        lines[at] = read_as(conds, waited[at], lapses[seat], line);
         lapses[seat] = is_lapse(line);
     }
 }
 
 /// Reads each wait of the log that ran out as one that ran out at once: its `wait` becomes a `leave`,
 /// and its `lapse` an `enter`. A thread whose time has run out comes back by the entry queue, and may
-/// have left its condition long before the line that tells of it. A `lapse` of a seat that doesn't
-/// wait stays as it is.
+/// have left its condition long before the line that tells of it. Only waits on the conditions below
+/// `conds` are read so: for a kind that has no conditions that is 0, so that its log keeps what is
+/// wrong with it. A `lapse` of a seat that doesn't wait stays as it is.
 ///
 /// # Errors
 ///
@@ -95,11 +99,11 @@ fn read_each(lines: &mut [LogLine], waited: &[bool])
 /// # Cost
 ///
 /// Two passes over the lines, and memory for a byte a line.
-pub fn expire_at_once(alloc: Global, lines: &mut [LogLine]) -> Result<(), AllocError>
-    ensures read { OnOk result (lines.new ≡ expiry.at_once lines.old) }
+pub fn expire_at_once(alloc: Global, conds: u8, lines: &mut [LogLine]) -> Result<(), AllocError>
+    ensures read { OnOk result (lines.new ≡ expiry.at_once conds lines.old) }
     ensures left { OnErr result (lines.new ≡ lines.old) }
 {
-    let waited = waited_before(alloc, lines)?;
-    read_each(lines, &waited);
+    let waited = waited_before(alloc, conds, lines)?;
+    read_each(conds, lines, &waited);
     Ok(())
 }

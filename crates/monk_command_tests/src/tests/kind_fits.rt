@@ -59,7 +59,7 @@ const FOR_AN_ITEM: &[WaitsFor] = &[WaitsFor { cond: 0, pred: 1 }];
 /// Those who wait on condition 0 wait for room in a buffer, or for an item.
 const EITHER: &[WaitsFor] = &[WaitsFor { cond: 0, pred: 0 }, WaitsFor { cond: 0, pred: 1 }];
 
-static LOGS: [Job<'static>; 12] = [
+static LOGS: [Job<'static>; 14] = [
     Job {
         name: "a lost notify",
         task: Task::FitKind(KindName::Npnb, Lapses::Told, &[], "a.log"),
@@ -88,6 +88,20 @@ static LOGS: [Job<'static>; 12] = [
         input: b"log 1 2 1 buffer 1\nenter 0\nleave 0\nlapse 0\n",
         status: 1,
         answer: b"a.log: NPNB misfit 3 3 turn; served 0 passed 0 lapsed 0; left waiting 0 woken 0 inside 0; free\n",
+    },
+    Job {
+        name: "a wait that ran out on no condition",
+        task: Task::FitKind(KindName::Npnb, Lapses::Told, &[], "a.log"),
+        input: b"log 1 2 1 buffer 1\nenter 0\nwait 0 1\nlapse 0\n",
+        status: 1,
+        answer: b"a.log: NPNB misfit 2 1 range; served 0 passed 0 lapsed 0; left waiting 0 woken 0 inside 1; busy 0 1\n",
+    },
+    Job {
+        name: "a wait that ran out of a kind without waits",
+        task: Task::FitKind(KindName::Npis, Lapses::Told, &[], "a.log"),
+        input: b"log 1 2 1 buffer 1\nenter 0\nwait 0 0\nlapse 0\n",
+        status: 1,
+        answer: b"a.log: NPIS misfit 2 2 call; served 0 passed 0 lapsed 0; left waiting 0 woken 0 inside 1; busy 0 1\n",
     },
     // A putter forgets to signal the taker: at the sixth line the monitor is let go with an item there.
     Job {

@@ -11,7 +11,7 @@ struct Reading {
     read: [LogLine; 6],
 }
 
-static READINGS: [Reading; 5] = [
+static READINGS: [Reading; 6] = [
     Reading {
         name: "a wait that ran out",
         lines: [Enter(0), Wait(0, 1), Enter(1), Leave(1), Lapse(0), Leave(0)],
@@ -79,12 +79,24 @@ static READINGS: [Reading; 5] = [
             Lapse(1),
         ],
     },
+    Reading {
+        name: "a wait on no condition",
+        lines: [
+            Enter(0),
+            Wait(0, 2),
+            Lapse(0),
+            Wait(0, 1),
+            Lapse(0),
+            Leave(0),
+        ],
+        read: [Enter(0), Wait(0, 2), Lapse(0), Leave(0), Enter(0), Leave(0)],
+    },
 ];
 
 /// Whether the lines are read so.
 fn is_read(rt: &HostRuntime, row: &Reading) -> bool {
     let mut lines = row.lines;
-    match expire_at_once(rt.alloc(), &mut lines) {
+    match expire_at_once(rt.alloc(), 2, &mut lines) {
         Ok(()) => lines.as_slice() == row.read.as_slice(),
         Err(_) => false,
     }

@@ -10,14 +10,14 @@ loop-at-init c = record {
   sized = refl;
   within = omega arith;
   front = refl;
-  read = read_none c.args.lines.now;
+  read = read_none c.args.conds c.args.lines.now;
   table = λ j. table_opens is_lapse 256 j
       ∙ ap (expiry.first_is is_lapse j) (sym (drop_all _ c.args.lines.now (omega arith)));
 }
 
 pub bounds-waited-at : goal.bounds-waited-at
 bounds-waited-at c =
-    let same = waits_of_each c.args.lines.now c.args.waited.now c.requires in
+    let same = waits_of_each c.args.conds c.args.lines.now c.args.waited.now c.requires in
     let sized = c.loop-at.auto.lines in let within = c.loop-at.invariant.within in let some = c.loop-at-test.true in
     omega arith
 
@@ -35,7 +35,7 @@ loop-at-preserved c =
       sized = length-set c.loop-at.lapses c.from-seat.result c.is_lapse.result ∙ c.loop-at.invariant.sized;
       within = rw length-set (omega arith);
       front = same_front c.args.lines.now c.loop-at.lines c.loop-at.at n _ is front;
-      read = read_step c.args.lines.now c.loop-at.lines c.args.waited.now c.loop-at.at n _ _ _ is lt lt2
+      read = read_step c.args.conds c.args.lines.now c.loop-at.lines c.args.waited.now c.loop-at.at n _ _ _ is lt lt2
           c.requires front c.loop-at.invariant.read
           (ap (λ s. get_or c.loop-at.lapses s false) seat ∙ c.loop-at.invariant.table _) c.read_as.ensures;
       table = lapse_step c.args.lines.now c.loop-at.lapses c.loop-at.at n c.from-seat.result _ _ is lt seat

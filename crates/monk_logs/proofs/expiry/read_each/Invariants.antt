@@ -8,7 +8,7 @@ invariant-loop-at l = record {
   sized : length l.lapses ≡ 256;
   within : l.at ≤ length l.lines;
   front : take l.at l.lines ≡ take l.at l.initial.lines;
-  read : drop l.at l.lines ≡ drop l.at (expiry.at_once l.initial.lines);
+  read : drop l.at l.lines ≡ drop l.at (expiry.at_once l.fn.conds l.initial.lines);
   table : (j : ℕ) → get_or l.lapses j false ≡ expiry.first_is is_lapse j (drop l.at l.initial.lines);
 }
 

@@ -22,7 +22,7 @@ pub(super) fn log(rt: &HostRuntime) -> Result<bool, Fail> {
 pub(super) fn is_expired(rt: &HostRuntime) -> Result<bool, Fail> {
     begins(rt, "expired")?;
     let mut lines = [LogLine::Enter(0), LogLine::Wait(0, 0), LogLine::Lapse(0)];
-    expire_at_once(rt.alloc(), &mut lines)?;
+    expire_at_once(rt.alloc(), 1, &mut lines)?;
     Ok(lines.as_slice() == [LogLine::Enter(0), LogLine::Leave(0), LogLine::Enter(0)].as_slice())
 }
 
