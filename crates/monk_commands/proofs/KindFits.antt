@@ -23,6 +23,7 @@ use Rattle.monk_logs.specs.Expiry.{at_once}
 use Rattle.monk_logs.specs.Fit.{is_in}
 use Rattle.monk_logs.specs.Log.{LogHeading}
 use Rattle.monk_logs.specs.Log.Reading.{Log, log, log_at}
+use Rattle.monk_logs.specs.Outside.{from_inside, origin}
 use Rattle.monk_logs.specs.declared.counts.Counts.{Counts}
 use Rattle.monk_logs.specs.declared.counts.held.Held.{Held}
 use Rattle.monk_logs.specs.declared.counts.waits_for.WaitsFor.{WaitsFor}
@@ -35,9 +36,10 @@ use Rattle.monk_commands.specs.Answer.{too_big}
 use Rattle.monk_commands.specs.Fitted.{fit_line, is_fit, verdict_under}
 use Rattle.monk_commands.specs.KindFitted.{EndsWell, IsKindLogText, IsKindText, byte_in_one, conds_under}
 use Rattle.monk_commands.specs.KindFitted.{counts_status}
-use Rattle.monk_commands.specs.KindFitted.{fit_with_counts, kind_answer_of, kind_fit_of}
-use Rattle.monk_commands.specs.KindFitted.{kind_counts, kind_fit_reading, log_kind_of, log_kind_reading, named_fit_of}
-use Rattle.monk_commands.specs.KindFitted.{named_line}
+use Rattle.monk_commands.specs.KindFitted.{fit_with_counts, is_sent, judged_log, judged_means, kind_answer_of, kind_fit_of}
+use Rattle.monk_commands.specs.KindFitted.{kind_counts, kind_fit_reading, log_kind_answer, log_kind_of, log_kind_reading}
+use Rattle.monk_commands.specs.KindFitted.{named_fit_of, named_line, numbered_counts, numbered_fit, numbered_held}
+use Rattle.monk_commands.specs.KindFitted.{outside_answer, sent_answer}
 use Rattle.monk_commands.specs.LogFitted.{is_log_text, log_fit}
 use Rattle.monk_commands.specs.Streams.{Answers}
 use Rattle.monk_commands.proofs.Fits.{fit_is, legal_is, status_by}
@@ -120,23 +122,69 @@ fit_zero k means c (In o) is well =
     ap (λ (missed : Option ℕ). counts_status missed c.held) well.no_missed ∙ ap (counts_status None) well.no_held
 fit_zero k means c (Misfit n why) is well = absurd (false≢true is)
 
-module _ (k : KindName) (x : Lapses) (means : List WaitsFor) where
-  log_judged_by : (h : LogHeading) (ls : List LogLine) (big : Bool) (f : Fit) → ltb (most h.object) h.size ≡ big
-      → log_fit x h ls k ≡ f
+-- a log once its signals from outside are sent from inside
+
+held_status : (number : ℕ → ℕ) (missed : Option ℕ) (held : Option Held)
+    → counts_status missed (numbered_held number held) ≡ counts_status missed held
+held_status number None None = refl
+held_status number None (Some h) = refl
+held_status number (Some n) held = refl
+
+numbered_status : (k : KindName) (number : ℕ → ℕ) (c : Counts) (f : Fit)
+    → (fit_with_counts k [] (numbered_counts number c) (numbered_fit number f)).status
+    ≡ (fit_with_counts k [] c f).status
+numbered_status k number c (In o) = held_status number c.missed c.held
+numbered_status k number c (Misfit n why) = refl
+
+module _ (k : KindName) (x : Lapses) (h : LogHeading) where
+  outside_status : (log : List LogLine) (big : Bool) → ltb (most h.object) h.size ≡ big
+      → (outside_answer k x h log).status ≡ (log_kind_answer k x [] h (from_inside h.seats log)).status
+  outside_status log true is = rw (is, is) refl
+  outside_status log false is =
+      rw (is, is) (numbered_status k (origin h.seats log) (kind_counts k h [] (from_inside h.seats log))
+      (log_fit x h (from_inside h.seats log) k))
+
+  -- the status is that of the log as it is judged
+  sent_status : (means : List WaitsFor) (log : List LogLine) (sent : Bool) → is_sent k h log ≡ sent
+      → (sent_answer k x means h log).status
+      ≡ (log_kind_answer k x (judged_means k means h log) h (judged_log k h log)).status
+  sent_status means log true is = rw is (outside_status log (ltb (most h.object) h.size) refl)
+  sent_status means log false is = rw is refl
+
+  log_judged_by : (means : List WaitsFor) (ls : List LogLine) (big : Bool) (f : Fit)
+      → ltb (most h.object) h.size ≡ big → log_fit x h ls k ≡ f
       → (cond big too_big (fit_with_counts k means (kind_counts k h means ls) f)).status ≡ 0
       → (h.size ≤ most h.object) × ((is_in (log_fit x h ls k) ≡ true) × EndsWell (kind_counts k h means ls))
-  log_judged_by h ls true f is fits e = absurd (omega (arith, e))
-  log_judged_by h ls false (In o) is fits e = (
+  log_judged_by means ls true f is fits e = absurd (omega (arith, e))
+  log_judged_by means ls false (In o) is fits e = (
     ltb-false _ _ is,
     (ap is_in fits, ends_well (kind_counts k h means ls) _ _ refl refl e),
   )
-  log_judged_by h ls false (Misfit n why) is fits e = absurd (omega (arith, e))
+  log_judged_by means ls false (Misfit n why) is fits e = absurd (omega (arith, e))
 
+  log_most : (means : List WaitsFor) (ls : List LogLine) → (log_kind_answer k x means h ls).status ≤ 2
+  log_most means ls = go (ltb (most h.object) h.size) (kind_counts k h means ls) (log_fit x h ls k)
+    where
+      by_counts : (missed : Option ℕ) (held : Option Held) → counts_status missed held ≤ 2
+      by_counts None None = omega arith
+      by_counts None (Some h) = omega arith
+      by_counts (Some n) held = omega arith
+
+      go : (b : Bool) (c : Counts) (f : Fit) → (cond b too_big (fit_with_counts k means c f)).status ≤ 2
+      go true c f = omega arith
+      go false c (In o) = by_counts c.missed c.held
+      go false c (Misfit n why) = omega arith
+
+module _ (k : KindName) (x : Lapses) (means : List WaitsFor) where
   log_kind_read : (input : List ℕ) (r : Result Log ReadFault) → log_at (2 ^ 25) input ≡ r
       → (log_kind_reading k x means r).status ≡ 0 → IsKindLogText k x means input
   log_kind_read input (Ok l) is e =
-      let ls = at_once (conds_under k l.0) l.1 in
-      let j = log_judged_by l.0 ls (ltb (most l.0.object) l.0.size) (log_fit x l.0 ls k) refl refl e in
+      let once = at_once (conds_under k l.0) l.1 in
+      let ls = judged_log k l.0 once in
+      let said = judged_means k means l.0 once in
+      let j =
+      log_judged_by k x l.0 said ls (ltb (most l.0.object) l.0.size) (log_fit x l.0 ls k) refl refl
+      (sym (sent_status k x l.0 means once (is_sent k l.0 once) refl) ∙ e) in
       let t = log_read (2 ^ 25) input l is in (
         l.0,
         (
@@ -152,31 +200,25 @@ module _ (k : KindName) (x : Lapses) (means : List WaitsFor) where
   log_kind_again : (input : List ℕ) → IsKindLogText k x means input → (log_kind_of k x means input).status ≡ 0
   log_kind_again input f =
       let h = f.0 in
-      let ls = at_once (conds_under k h) f.1.0 in
+      let once = at_once (conds_under k h) f.1.0 in
+      let ls = judged_log k h once in
+      let said = judged_means k means h once in
       let t = f.1.1.0 in
       let opens = f.1.1.1.0 in
       let read_is : log_at (2 ^ 25) input ≡ Ok (log h f.1.0) = ap (log_at (2 ^ 25)) t.whole
       ∙ log_again (2 ^ 25) h f.1.0 t.has_text t.few in
       let size : ltb (most h.object) h.size ≡ false = le-ltb _ _ t.size in
-      let counts = kind_counts k h means ls in
+      let counts = kind_counts k h said ls in
       ap (λ (r : Result Log ReadFault). (log_kind_reading k x means r).status) read_is
-      ∙ ap (λ b. (cond b too_big (fit_with_counts k means counts (log_fit x h ls k))).status) size
-      ∙ fit_zero k means counts (log_fit x h ls k) (kind_open_fit x k h ls opens.0 opens.1) f.1.1.1.1
+      ∙ sent_status k x h means once (is_sent k h once) refl
+      ∙ ap (λ b. (cond b too_big (fit_with_counts k said counts (log_fit x h ls k))).status) size
+      ∙ fit_zero k said counts (log_fit x h ls k) (kind_open_fit x k h ls opens.0 opens.1) f.1.1.1.1
 
   log_kind_most : (r : Result Log ReadFault) → (log_kind_reading k x means r).status ≤ 2
   log_kind_most (Ok l) =
-      let ls = at_once (conds_under k l.0) l.1 in
-      go (ltb (most l.0.object) l.0.size) (kind_counts k l.0 means ls) (log_fit x l.0 ls k)
-    where
-      by_counts : (missed : Option ℕ) (held : Option Held) → counts_status missed held ≤ 2
-      by_counts None None = omega arith
-      by_counts None (Some h) = omega arith
-      by_counts (Some n) held = omega arith
-
-      go : (b : Bool) (c : Counts) (f : Fit) → (cond b too_big (fit_with_counts k means c f)).status ≤ 2
-      go true c f = omega arith
-      go false c (In o) = by_counts c.missed c.held
-      go false c (Misfit n why) = omega arith
+      let once = at_once (conds_under k l.0) l.1 in
+      subst (λ n. n ≤ 2) (sym (sent_status k x l.0 means once (is_sent k l.0 once) refl))
+      (log_most k x l.0 (judged_means k means l.0 once) (judged_log k l.0 once))
   log_kind_most (Err f) = omega arith
 
   -- ---- a text

@@ -1,10 +1,11 @@
 -- The answer to a text that is judged under one kind: one line, behind the name of the text
 use Rattle.std.specs.Prelude.{◌≡◌, ℕ, List, [], ◌∷◌, ◌++◌, ◌-◌, ◌^◌, ◌==◌, length, take, Option, Some, None, Result, Ok, Err}
-use Rattle.std.specs.Prelude.{nat_lt, if◌then◌else◌, codes}
+use Rattle.std.specs.Prelude.{nat_lt, Bool, true, false, ◌&&◌, if◌then◌else◌, codes}
 use Rattle.std.specs.Fmt.{decimal}
 use Rattle.std.specs.List.{flat_map}
 use Rattle.monk_kinds.specs.Names.{kind_word, rules_named}
 use Rattle.monk_kinds.specs.declared.name.KindName.{KindName}
+use Rattle.monk_kinds.specs.declared.name.KindName.TheVariants.{Pb, Npb, Pnb, Npnb, Pqb, Npqb, Pir, Npir, Pis, Npis}
 use Rattle.monk_object.specs.Names.{most}
 use Rattle.monk_history.specs.declared.event.Event.{Event}
 use Rattle.monk_history.specs.declared.text.fault.ReadFault.{ReadFault}
@@ -19,6 +20,7 @@ use Rattle.monk_logs.specs.Expiry.{at_once}
 use Rattle.monk_logs.specs.Lapses.{IsOpenWith}
 use Rattle.monk_logs.specs.Log.{LogHeading}
 use Rattle.monk_logs.specs.Log.Reading.{Log, log_at}
+use Rattle.monk_logs.specs.Outside.{from_inside, has_outside, origin}
 use Rattle.monk_logs.specs.Verdict.{log_monitor}
 use Rattle.monk_logs.specs.declared.counts.Counts.{Counts}
 use Rattle.monk_logs.specs.declared.counts.held.Held.{Held}
@@ -121,9 +123,64 @@ log_kind_answer k x means h log =
 abbrev pub conds_under : KindName → LogHeading → ℕ
 conds_under k h = if has_conditions (rules_named k).mode then h.conds else 0
 
+-- ---- a log with signals from outside
+
+-- whether the kind is Mesa's
+abbrev pub is_mesa : KindName → Bool
+is_mesa Pb = false
+is_mesa Npb = false
+is_mesa Pnb = false
+is_mesa Npnb = true
+is_mesa Pqb = false
+is_mesa Npqb = false
+is_mesa Pir = false
+is_mesa Npir = false
+is_mesa Pis = false
+is_mesa Npis = false
+
+-- whether it is judged as a log of Mesa's kind with signals from outside
+abbrev pub is_sent : KindName → LogHeading → List LogLine → Bool
+is_sent k h log = is_mesa k && has_outside h.seats log
+
+-- the fit, where its line is numbered so
+abbrev pub numbered_fit : (ℕ → ℕ) → Fit → Fit
+numbered_fit number (In o) = In o
+numbered_fit number (Misfit n why) = Misfit (number n) why
+
+-- who has the monitor, where the line is numbered so
+abbrev pub numbered_held : (ℕ → ℕ) → Option Held → Option Held
+numbered_held number None = None
+numbered_held number (Some h) = Some (record { seat = h.seat; line = number h.line })
+
+-- what was counted, where the line since which the monitor is held is numbered so
+abbrev pub numbered_counts : (ℕ → ℕ) → Counts → Counts
+numbered_counts number c = record {
+  served = c.served;
+  passed = c.passed;
+  lapsed = c.lapsed;
+  waiting = c.waiting;
+  woken = c.woken;
+  inside = c.inside;
+  held = numbered_held number c.held;
+  missed = c.missed;
+}
+
+-- the answer to a log whose signals from outside are sent from inside: no signal is missed, since who signals from outside
+-- has let the monitor go before
+abbrev pub outside_answer : KindName → Lapses → LogHeading → List LogLine → LineAnswer
+outside_answer k x h log =
+    if nat_lt (most h.object) h.size then too_big
+    else fit_with_counts k [] (numbered_counts (origin h.seats log) (kind_counts k h [] (from_inside h.seats log)))
+        (numbered_fit (origin h.seats log) (log_fit x h (from_inside h.seats log) k))
+
+-- the answer to a log, with signals from outside or without
+abbrev pub sent_answer : KindName → Lapses → List WaitsFor → LogHeading → List LogLine → LineAnswer
+sent_answer k x means h log =
+    if is_sent k h log then outside_answer k x h log else log_kind_answer k x means h log
+
 -- the same for what was read as a log, where waits run out at once
 abbrev pub log_kind_reading : KindName → Lapses → List WaitsFor → Result Log ReadFault → LineAnswer
-log_kind_reading k x means (Ok l) = log_kind_answer k x means l.0 (at_once (conds_under k l.0) l.1)
+log_kind_reading k x means (Ok l) = sent_answer k x means l.0 (at_once (conds_under k l.0) l.1)
 log_kind_reading k x means (Err f) = unreadable f
 
 -- the same for a log as input
@@ -155,8 +212,20 @@ abbrev pub IsKindLog : KindName → Lapses → List WaitsFor → LogHeading → 
 IsKindLog k x means h log =
     ((o : Order) × IsOpenWith x o (log_monitor k h) log) × EndsWell (kind_counts k h means log)
 
+-- the log as it is judged under the kind: with its signals sent from inside
+abbrev pub judged_log : KindName → LogHeading → List LogLine → List LogLine
+judged_log k h log = if is_sent k h log then from_inside h.seats log else log
+
+-- what is told of what its conditions are waited for: nothing where there are signals from outside
+abbrev pub judged_means : KindName → List WaitsFor → LogHeading → List LogLine → List WaitsFor
+judged_means k means h log = if is_sent k h log then [] else means
+
+-- the log is such a log, as it is judged
+abbrev pub IsSentLog : KindName → Lapses → List WaitsFor → LogHeading → List LogLine → Type 0
+IsSentLog k x means h log = IsKindLog k x (judged_means k means h log) h (judged_log k h log)
+
 -- the text of a log, of a size within the object's greatest, that is such a log where waits run out at once
 abbrev pub IsKindLogText : KindName → Lapses → List WaitsFor → List ℕ → Type 0
 IsKindLogText k x means input =
     (h : LogHeading)
-    × ((log : List LogLine) × (IsLogOf input h log × IsKindLog k x means h (at_once (conds_under k h) log)))
+    × ((log : List LogLine) × (IsLogOf input h log × IsSentLog k x means h (at_once (conds_under k h) log)))

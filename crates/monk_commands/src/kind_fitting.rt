@@ -1,31 +1,22 @@
 //! The kind-fitting stream: the text of a history or of a log in, one line of what it is under a kind out.
 
-ghost use Rattle.std.specs.Prelude.{◌≡◌, ◌≤◌, ◌^◌, ◌⊎◌, ◌++◌, false, length, IfOk, IfSome, IsErrOf, ◌↔◌, string_bytes};
-ghost use Rattle.monk_kinds.specs.Names.{kind_word};
-ghost use Rattle.monk_object.specs.Names.{most};
+ghost use Rattle.std.specs.Prelude.{◌≡◌, ◌≤◌, ◌^◌, ◌⊎◌, false, length, IfOk, IfSome, IsErrOf, ◌↔◌};
 ghost use Rattle.monk_history.specs.Text.Device.{inner_of, has_failed};
 ghost use Rattle.monk_logs.specs.Expiry.{at_once};
-ghost use Rattle.monk_logs.specs.declared.kind_fit.Fit.TheVariants.{In};
-ghost use Rattle.monk_commands.specs.KindFitted.{IsKindLogText, IsKindText, conds_under, fit_with_counts, kind_answer_of};
-ghost use Rattle.monk_commands.specs.KindFitted.{kind_fit_answer, kind_fit_of, log_kind_answer, log_kind_of};
-ghost use Rattle.monk_commands.specs.KindFitted.{busy_words, counts_status, end_line, fit_status, idle_words, kind_counts, named_fit_of};
-ghost use Rattle.monk_commands.specs.LogFitted.{fit_words, log_fit};
+ghost use Rattle.monk_commands.specs.KindFitted.{IsKindLogText, IsKindText, conds_under, kind_answer_of};
+ghost use Rattle.monk_commands.specs.KindFitted.{kind_fit_answer, kind_fit_of, log_kind_of, named_fit_of, sent_answer};
 ghost use Rattle.monk_commands.specs.Streams.{Answers, IsStreamOutcome};
 
 use crate::answer::{too_big, unreadable};
-use crate::completing::misfit_line;
 use crate::fault::StreamFault;
 use crate::fitting::{is_log, put_line};
 use crate::input::read_all;
+use crate::kind_answering::log_answer;
 use crate::lines_answer::LinesAnswer;
-use crate::log_fitting::put_text;
-use monk_audit::AuditFault;
+use crate::outside_fitting::{is_mesa, outside_answer};
 use monk_history::{Device, Event, Header, read};
 use monk_kinds::KindName;
-use monk_logs::{
-    Counts, Fit, Held, Lapses, LogHeader, LogLine, Order, WaitsFor, count, expire_at_once, fit,
-    read_log,
-};
+use monk_logs::{Lapses, LogHeader, LogLine, WaitsFor, expire_at_once, has_outside, read_log};
 use std::alloc::Global;
 use std::io::{Read, Write};
 
@@ -68,169 +59,6 @@ fn answer_to_history(
     }
 }
 
-/// The strictest order in which the log fits the kind, or why it fits in none.
-fn kind_fit(
-    alloc: Global,
-    kind: KindName,
-    lapses: Lapses,
-    header: &LogHeader,
-    lines: &[LogLine],
-) -> Result<Fit, StreamFault>
-    requires few { length lines.now ≤ 2 ^ 25 }
-    requires size { header.now.size ≤ most header.now.object }
-    ensures found { IfOk result (λ f. f ≡ log_fit lapses header.now lines.now kind) }
-    ensures no_file { IsErrOf result StreamFault.File → ⊥ }
-{
-    match fit(alloc, header, lines, kind, lapses) {
-        Ok(found) => Ok(found),
-        Err(AuditFault::Memory) => Err(StreamFault::Memory),
-        // The size is within the object's greatest.
-        Err(AuditFault::Object) => unreachable!(),
-    }
-}
-
-/// What is counted in the log as one of that kind.
-fn counts(
-    alloc: Global,
-    kind: KindName,
-    means: &[WaitsFor],
-    header: &LogHeader,
-    lines: &[LogLine],
-) -> Result<Counts, StreamFault>
-    requires few { length lines.now ≤ 2 ^ 25 }
-    requires size { header.now.size ≤ most header.now.object }
-    ensures counted { IfOk result (λ c. c ≡ kind_counts kind header.now means.now lines.now) }
-    ensures no_file { IsErrOf result StreamFault.File → ⊥ }
-{
-    match count(alloc, header, lines, kind, means) {
-        Ok(counts) => Ok(counts),
-        Err(AuditFault::Memory) => Err(StreamFault::Memory),
-        // The size is within the object's greatest.
-        Err(AuditFault::Object) => unreachable!(),
-    }
-}
-
-/// The line of a fit in that order.
-fn order_line(alloc: Global, kind: KindName, order: Order) -> Result<Vec<u8>, StreamFault>
-    ensures line { IfOk result (λ line. line.items ≡ kind_word kind ++ fit_words (In order)) }
-    ensures no_file { IsErrOf result StreamFault.File → ⊥ }
-{
-    let mut line = Vec::new(alloc);
-    line.extend_from_slice(kind.text())?;
-    line.extend_from_slice(b" fits ")?;
-    line.extend_from_slice(order.text().as_bytes())?;
-    line.extend_from_slice(b"\n")?;
-    Ok(line)
-}
-
-/// The line of a fit or of a misfit.
-fn fit_line(alloc: Global, kind: KindName, found: Fit) -> Result<Vec<u8>, StreamFault>
-    ensures line { IfOk result (λ line. line.items ≡ kind_word kind ++ fit_words found) }
-    ensures no_file { IsErrOf result StreamFault.File → ⊥ }
-{
-    match found {
-        Fit::In(order) => order_line(alloc, kind, order),
-        Fit::Misfit { line, blame } => misfit_line(alloc, kind, line, blame),
-    }
-}
-
-/// The status of a log that fits, by the first line at which a signal is missed, and by who has the
-/// monitor at the end.
-fn counts_status(missed: Option<u32>, held: Option<Held>) -> u8
-    ensures { result ≡ counts_status missed held }
-{
-    match (missed, held) {
-        (None, None) => 0,
-        (None, Some(_)) | (Some(_), _) => 1,
-    }
-}
-
-/// The status of a log.
-fn fit_status(counts: Counts, found: Fit) -> u8
-    ensures { result ≡ fit_status counts found }
-{
-    match found {
-        Fit::In(_) => counts_status(counts.missed, counts.held),
-        Fit::Misfit { .. } => 1,
-    }
-}
-
-/// How the log ends where nobody has the monitor.
-fn idle_words(inside: u64, woken: u64) -> &'static str
-    ensures { result.now ≡ idle_words inside woken }
-{
-    if inside == 0 {
-        "free\n"
-    } else if woken == 0 {
-        "open\n"
-    } else {
-        "owed\n"
-    }
-}
-
-/// Who has the monitor at the end.
-fn busy_words(alloc: Global, held: Held) -> Result<String, StreamFault>
-    ensures text { IfOk result (λ text. string_bytes text ≡ busy_words held) }
-    ensures no_file { IsErrOf result StreamFault.File → ⊥ }
-{
-    let (seat, line) = (held.seat, held.line);
-    Ok(format!(in alloc; "busy {seat} {line}\n")?)
-}
-
-/// How the log ends.
-fn end_line(alloc: Global, counts: Counts) -> Result<String, StreamFault>
-    ensures text { IfOk result (λ text. string_bytes text ≡ end_line counts) }
-    ensures no_file { IsErrOf result StreamFault.File → ⊥ }
-{
-    match counts.held {
-        Some(held) => busy_words(alloc, held),
-        None => Ok(String::from_str(alloc, idle_words(counts.inside, counts.woken))?),
-    }
-}
-
-/// The answer to a log of which this was found and counted.
-fn fit_answer(
-    alloc: Global,
-    kind: KindName,
-    means: &[WaitsFor],
-    counts: Counts,
-    found: Fit,
-) -> Result<LinesAnswer, StreamFault>
-    ensures answer { IfOk result
-        (λ a. (a.status ≡ (fit_with_counts kind means.now counts found).status)
-        × (a.lines.items ≡ (fit_with_counts kind means.now counts found).text)) }
-    ensures no_file { IsErrOf result StreamFault.File → ⊥ }
-{
-    let mut lines = fit_line(alloc, kind, found)?;
-    put_text(alloc, &mut lines, means, counts)?;
-    lines.extend_from_slice(end_line(alloc, counts)?.as_bytes())?;
-    let status = fit_status(counts, found);
-    Ok(LinesAnswer { status, lines })
-}
-
-/// The answer to a log that was read.
-fn log_answer(
-    alloc: Global,
-    kind: KindName,
-    lapses: Lapses,
-    means: &[WaitsFor],
-    header: &LogHeader,
-    lines: &[LogLine],
-) -> Result<LinesAnswer, StreamFault>
-    requires few { length lines.now ≤ 2 ^ 25 }
-    ensures answer { IfOk result
-        (λ a. (a.status ≡ (log_kind_answer kind lapses means.now header.now lines.now).status)
-        × (a.lines.items ≡ (log_kind_answer kind lapses means.now header.now lines.now).text)) }
-    ensures no_file { IsErrOf result StreamFault.File → ⊥ }
-{
-    if header.size() > header.object().greatest_size() {
-        return Ok(LinesAnswer::of_line(too_big(alloc)?));
-    }
-    let found = kind_fit(alloc, kind, lapses, header, lines)?;
-    let counts = counts(alloc, kind, means, header, lines)?;
-    fit_answer(alloc, kind, means, counts, found)
-}
-
 /// How many conditions a monitor of the kind has under the header.
 fn conds_under(kind: KindName, header: &LogHeader) -> u8
     ensures { result ≡ conds_under kind header.now }
@@ -248,6 +76,28 @@ fn conds_under(kind: KindName, header: &LogHeader) -> u8
     }
 }
 
+/// The answer to a log that was read, with signals from outside or without.
+fn sent_answer(
+    alloc: Global,
+    kind: KindName,
+    lapses: Lapses,
+    means: &[WaitsFor],
+    header: &LogHeader,
+    log: &[LogLine],
+) -> Result<LinesAnswer, StreamFault>
+    requires few { length log.now ≤ 2 ^ 25 }
+    ensures answer { IfOk result
+        (λ a. (a.status ≡ (sent_answer kind lapses means.now header.now log.now).status)
+        × (a.lines.items ≡ (sent_answer kind lapses means.now header.now log.now).text)) }
+    ensures no_file { IsErrOf result StreamFault.File → ⊥ }
+{
+    if is_mesa(kind) && has_outside(header.seats(), log) {
+        outside_answer(alloc, kind, lapses, header, log)
+    } else {
+        log_answer(alloc, kind, lapses, means, header, log)
+    }
+}
+
 /// The answer to a log that was read, where waits run out at once.
 fn read_answer(
     alloc: Global,
@@ -259,14 +109,14 @@ fn read_answer(
 ) -> Result<LinesAnswer, StreamFault>
     requires few { length lines.old ≤ 2 ^ 25 }
     ensures answer { IfOk result
-        (λ a. (a.status ≡ (log_kind_answer kind lapses means.now header.now
+        (λ a. (a.status ≡ (sent_answer kind lapses means.now header.now
         (at_once (conds_under kind header.now) lines.old)).status)
-        × (a.lines.items ≡ (log_kind_answer kind lapses means.now header.now
+        × (a.lines.items ≡ (sent_answer kind lapses means.now header.now
         (at_once (conds_under kind header.now) lines.old)).text)) }
     ensures no_file { IsErrOf result StreamFault.File → ⊥ }
 {
     expire_at_once(alloc, conds_under(kind, header), lines)?;
-    log_answer(alloc, kind, lapses, means, header, lines)
+    sent_answer(alloc, kind, lapses, means, header, lines)
 }
 
 /// The answer to the text of a log.
@@ -328,7 +178,13 @@ fn kind_answer(
 ///
 /// All of this is said of the log in which each wait that a `lapse` follows ran out at once
 /// ([`expire_at_once`]): a thread whose time has run out comes back by entry, and may have left its
-/// condition long before its `lapse`.
+/// condition long before its `lapse`. Under PIS and NPIS, which have no conditions, no wait is read
+/// so.
+///
+/// Under NPNB a seat that isn't inside may signal, as a program may that signals without the lock. Of
+/// such a log it is said what is so once these signals are sent from inside ([`send_inside`](monk_logs::send_inside)), with
+/// the numbers of the log's own lines. No signal is told as missed there, since a thread may signal
+/// long after it has let the monitor go.
 ///
 /// Where the reader has no such text, it is `unreadable LINE NUMBER WORD`, and where the size is above
 /// the object's greatest `object`, both with status 2.
@@ -337,13 +193,14 @@ fn kind_answer(
 ///
 /// [`StreamFault::File`] where the reader or the writer failed, or where the input has more than
 /// 2^31 bytes or takes more than 2^31 reads. [`StreamFault::Memory`] if a request for memory was
-/// refused.
+/// refused, or if a log has more than 2^25 lines once its signals from outside are sent from inside.
 ///
 /// # Cost
 ///
 /// One pass over the text, and one over its events. Of a log two passes over its lines that look for
-/// waits that ran out, at most three that judge, one for each order that is tried, and one that counts.
-/// Memory for the text, for the events or lines with a byte each, and for the queues.
+/// waits that ran out, and one for signals from outside; at most three that judge, one for each order
+/// that is tried; and one that counts. Memory for the text, for the events or lines with a byte each,
+/// and for the queues. The lines stand twice where a signal is from outside.
 pub fn fit_kind_stream<R: Read, W: Write>(
     alloc: Global,
     kind: KindName,

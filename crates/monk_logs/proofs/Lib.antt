@@ -15,6 +15,7 @@ mod FifoLaws
 mod CountLaws
 mod LapseLaws
 mod ExpiryLaws
+mod OutsideLaws
 mod FitLaws
 mod NeedLaws
 mod WaiterLaws

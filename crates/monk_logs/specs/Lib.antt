@@ -27,6 +27,7 @@ pub mod Counts
 pub mod Fit
 pub mod Lapses
 pub mod Expiry
+pub mod Outside
 pub mod BoardRead
 pub mod ReadStand
 pub mod Needs

@@ -8,10 +8,10 @@ use crate::text::line::LogLine;
 use std::alloc::{AllocError, Global};
 
 /// How many seats the lines of a log can name.
-const SEATS: usize = 256;
+pub(crate) const SEATS: usize = 256;
 
 /// The seat that wrote the line.
-fn seat_of(line: LogLine) -> u8
+pub(crate) fn seat_of(line: LogLine) -> u8
     ensures { result ≡ expiry.line_seat line }
 {
     match line {

@@ -17,6 +17,7 @@ mod marks;
 mod meeting;
 mod objects;
 mod orders;
+mod outsides;
 mod play_texts;
 mod refused;
 mod samples;

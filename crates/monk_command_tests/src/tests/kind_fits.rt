@@ -59,7 +59,7 @@ const FOR_AN_ITEM: &[WaitsFor] = &[WaitsFor { cond: 0, pred: 1 }];
 /// Those who wait on condition 0 wait for room in a buffer, or for an item.
 const EITHER: &[WaitsFor] = &[WaitsFor { cond: 0, pred: 0 }, WaitsFor { cond: 0, pred: 1 }];
 
-static LOGS: [Job<'static>; 14] = [
+static LOGS: [Job<'static>; 17] = [
     Job {
         name: "a lost notify",
         task: Task::FitKind(KindName::Npnb, Lapses::Told, &[], "a.log"),
@@ -102,6 +102,29 @@ static LOGS: [Job<'static>; 14] = [
         input: b"log 1 2 1 buffer 1\nenter 0\nwait 0 0\nlapse 0\n",
         status: 1,
         answer: b"a.log: NPIS misfit 2 2 call; served 0 passed 0 lapsed 0; left waiting 0 woken 0 inside 1; busy 0 1\n",
+    },
+    // Seat 1 signals behind its unlock, when seat 2 has the lock.
+    Job {
+        name: "a signal from outside",
+        task: Task::FitKind(KindName::Npnb, Lapses::Told, FOR_AN_ITEM, "a.log"),
+        input: b"log 1 3 1 buffer 1\nenter 0\nwait 0 0\nenter 1\nact 1 0 7 1\nleave 1\nenter 2\nsignal 1 0\nleave 2\nresume 0\nact 0 1 0 8\nleave 0\n",
+        status: 0,
+        answer: b"a.log: NPNB fits fifo; served 1 passed 0 lapsed 0; left waiting 0 woken 0 inside 0; free\n",
+    },
+    // Seat 0 doesn't test again; the lines of its visit have the numbers of the file.
+    Job {
+        name: "a signal from outside while nobody has the lock",
+        task: Task::FitKind(KindName::Npnb, Lapses::Told, &[], "a.log"),
+        input: b"log 1 2 1 buffer 1\nenter 0\nwait 0 0\nbroadcast 1 0\nresume 0\nact 0 1 0 8\n",
+        status: 1,
+        answer: b"a.log: NPNB misfit 5 5 reply; served 1 passed 0 lapsed 0; left waiting 0 woken 0 inside 1; busy 0 4\n",
+    },
+    Job {
+        name: "a signal from outside of another kind",
+        task: Task::FitKind(KindName::Pb, Lapses::Told, &[], "a.log"),
+        input: b"log 1 3 1 buffer 1\nenter 0\nwait 0 0\nenter 1\nact 1 0 7 1\nleave 1\nenter 2\nsignal 1 0\n",
+        status: 1,
+        answer: b"a.log: PB misfit 7 3 turn; served 0 passed 0 lapsed 0; left waiting 1 woken 0 inside 2; busy 2 6\n",
     },
     // A putter forgets to signal the taker: at the sixth line the monitor is let go with an item there.
     Job {

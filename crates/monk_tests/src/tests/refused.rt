@@ -24,6 +24,7 @@ fn each_call(rt: HostRuntime) -> Result<(), Fail> {
     assert!(rt; plays::are_read(&rt)?);
     assert!(rt; logs::log(&rt)?);
     assert!(rt; logs::is_expired(&rt)?);
+    assert!(rt; logs::is_sent_inside(&rt)?);
     assert!(rt; logs::are_judged(&rt)?);
     assert!(rt; logs::are_counted(&rt)?);
     assert!(rt; audits::are_audited(&rt)?);

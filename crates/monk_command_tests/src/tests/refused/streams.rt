@@ -105,6 +105,13 @@ pub(super) static JOBS: [Job<'static>; 22] = [
         answer: b"a.log: NPNB fits fifo; served 0 passed 0 lapsed 1; left waiting 0 woken 0 inside 1; missed none; busy 0 3\n",
     },
     Job {
+        name: "log_kind_outside",
+        task: Task::FitKind(KindName::Npnb, Lapses::Told, &[], "a.log"),
+        input: b"log 1 2 1 buffer 1\nenter 0\nwait 0 0\nsignal 1 0\n",
+        status: 0,
+        answer: b"a.log: NPNB fits fifo; served 1 passed 0 lapsed 0; left waiting 0 woken 1 inside 1; owed\n",
+    },
+    Job {
         name: "log_kind_misfit",
         task: Task::FitKind(KindName::Npis, Lapses::Told, &[], "a.log"),
         input: b"log 1 2 1 buffer 1\nenter 0\nwait 0 0\nresume 0\n",

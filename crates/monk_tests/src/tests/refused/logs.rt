@@ -2,7 +2,7 @@ use super::begins;
 use monk_kinds::KindName;
 use monk_logs::{
     Completion, Counts, Fit, Lapses, LogHeader, LogLine, LogVerdict, Order, WaitsFor, complete,
-    count, expire_at_once, fit, judge, judge_in, read_log,
+    count, expire_at_once, fit, judge, judge_in, read_log, send_inside,
 };
 use monk_object::ObjectName;
 use std::test::Fail;
@@ -24,6 +24,14 @@ pub(super) fn is_expired(rt: &HostRuntime) -> Result<bool, Fail> {
     let mut lines = [LogLine::Enter(0), LogLine::Wait(0, 0), LogLine::Lapse(0)];
     expire_at_once(rt.alloc(), 1, &mut lines)?;
     Ok(lines.as_slice() == [LogLine::Enter(0), LogLine::Leave(0), LogLine::Enter(0)].as_slice())
+}
+
+/// A signal from outside is sent from inside.
+pub(super) fn is_sent_inside(rt: &HostRuntime) -> Result<bool, Fail> {
+    begins(rt, "sent_inside")?;
+    let lines = [LogLine::Enter(0), LogLine::Wait(0, 0), LogLine::Signal(1, 0)];
+    let read = send_inside(rt.alloc(), 2, &lines)?;
+    Ok(read.len() == 5 && read.last() == Some(&LogLine::Leave(1)))
 }
 
 /// Two seats wait on two conditions, and a third signals both and goes out.

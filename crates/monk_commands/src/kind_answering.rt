@@ -1,0 +1,182 @@
+//! The answer to a log that is judged under one kind.
+
+ghost use Rattle.std.specs.Prelude.{◌≡◌, ◌≤◌, ◌^◌, ◌++◌, length, IfOk, IsErrOf, string_bytes};
+ghost use Rattle.monk_kinds.specs.Names.{kind_word};
+ghost use Rattle.monk_object.specs.Names.{most};
+ghost use Rattle.monk_logs.specs.declared.kind_fit.Fit.TheVariants.{In};
+ghost use Rattle.monk_commands.specs.KindFitted.{busy_words, counts_status, end_line, fit_status, fit_with_counts};
+ghost use Rattle.monk_commands.specs.KindFitted.{idle_words, kind_counts, log_kind_answer};
+ghost use Rattle.monk_commands.specs.LogFitted.{fit_words, log_fit};
+
+use crate::answer::too_big;
+use crate::completing::misfit_line;
+use crate::fault::StreamFault;
+use crate::lines_answer::LinesAnswer;
+use crate::log_fitting::put_text;
+use monk_audit::AuditFault;
+use monk_kinds::KindName;
+use monk_logs::{Counts, Fit, Held, Lapses, LogHeader, LogLine, Order, WaitsFor, count, fit};
+use std::alloc::Global;
+
+/// The strictest order in which the log fits the kind, or why it fits in none.
+pub(crate) fn kind_fit(
+    alloc: Global,
+    kind: KindName,
+    lapses: Lapses,
+    header: &LogHeader,
+    lines: &[LogLine],
+) -> Result<Fit, StreamFault>
+    requires few { length lines.now ≤ 2 ^ 25 }
+    requires size { header.now.size ≤ most header.now.object }
+    ensures found { IfOk result (λ f. f ≡ log_fit lapses header.now lines.now kind) }
+    ensures no_file { IsErrOf result StreamFault.File → ⊥ }
+{
+    match fit(alloc, header, lines, kind, lapses) {
+        Ok(found) => Ok(found),
+        Err(AuditFault::Memory) => Err(StreamFault::Memory),
+        // The size is within the object's greatest.
+        Err(AuditFault::Object) => unreachable!(),
+    }
+}
+
+/// What is counted in the log as one of that kind.
+pub(crate) fn counts(
+    alloc: Global,
+    kind: KindName,
+    means: &[WaitsFor],
+    header: &LogHeader,
+    lines: &[LogLine],
+) -> Result<Counts, StreamFault>
+    requires few { length lines.now ≤ 2 ^ 25 }
+    requires size { header.now.size ≤ most header.now.object }
+    ensures counted { IfOk result (λ c. c ≡ kind_counts kind header.now means.now lines.now) }
+    ensures no_file { IsErrOf result StreamFault.File → ⊥ }
+{
+    match count(alloc, header, lines, kind, means) {
+        Ok(counts) => Ok(counts),
+        Err(AuditFault::Memory) => Err(StreamFault::Memory),
+        // The size is within the object's greatest.
+        Err(AuditFault::Object) => unreachable!(),
+    }
+}
+
+/// The line of a fit in that order.
+fn order_line(alloc: Global, kind: KindName, order: Order) -> Result<Vec<u8>, StreamFault>
+    ensures line { IfOk result (λ line. line.items ≡ kind_word kind ++ fit_words (In order)) }
+    ensures no_file { IsErrOf result StreamFault.File → ⊥ }
+{
+    let mut line = Vec::new(alloc);
+    line.extend_from_slice(kind.text())?;
+    line.extend_from_slice(b" fits ")?;
+    line.extend_from_slice(order.text().as_bytes())?;
+    line.extend_from_slice(b"\n")?;
+    Ok(line)
+}
+
+/// The line of a fit or of a misfit.
+fn fit_line(alloc: Global, kind: KindName, found: Fit) -> Result<Vec<u8>, StreamFault>
+    ensures line { IfOk result (λ line. line.items ≡ kind_word kind ++ fit_words found) }
+    ensures no_file { IsErrOf result StreamFault.File → ⊥ }
+{
+    match found {
+        Fit::In(order) => order_line(alloc, kind, order),
+        Fit::Misfit { line, blame } => misfit_line(alloc, kind, line, blame),
+    }
+}
+
+/// The status of a log that fits, by the first line at which a signal is missed, and by who has the
+/// monitor at the end.
+fn counts_status(missed: Option<u32>, held: Option<Held>) -> u8
+    ensures { result ≡ counts_status missed held }
+{
+    match (missed, held) {
+        (None, None) => 0,
+        (None, Some(_)) | (Some(_), _) => 1,
+    }
+}
+
+/// The status of a log.
+fn fit_status(counts: Counts, found: Fit) -> u8
+    ensures { result ≡ fit_status counts found }
+{
+    match found {
+        Fit::In(_) => counts_status(counts.missed, counts.held),
+        Fit::Misfit { .. } => 1,
+    }
+}
+
+/// How the log ends where nobody has the monitor.
+fn idle_words(inside: u64, woken: u64) -> &'static str
+    ensures { result.now ≡ idle_words inside woken }
+{
+    if inside == 0 {
+        "free\n"
+    } else if woken == 0 {
+        "open\n"
+    } else {
+        "owed\n"
+    }
+}
+
+/// Who has the monitor at the end.
+fn busy_words(alloc: Global, held: Held) -> Result<String, StreamFault>
+    ensures text { IfOk result (λ text. string_bytes text ≡ busy_words held) }
+    ensures no_file { IsErrOf result StreamFault.File → ⊥ }
+{
+    let (seat, line) = (held.seat, held.line);
+    Ok(format!(in alloc; "busy {seat} {line}\n")?)
+}
+
+/// How the log ends.
+fn end_line(alloc: Global, counts: Counts) -> Result<String, StreamFault>
+    ensures text { IfOk result (λ text. string_bytes text ≡ end_line counts) }
+    ensures no_file { IsErrOf result StreamFault.File → ⊥ }
+{
+    match counts.held {
+        Some(held) => busy_words(alloc, held),
+        None => Ok(String::from_str(alloc, idle_words(counts.inside, counts.woken))?),
+    }
+}
+
+/// The answer to a log of which this was found and counted.
+pub(crate) fn fit_answer(
+    alloc: Global,
+    kind: KindName,
+    means: &[WaitsFor],
+    counts: Counts,
+    found: Fit,
+) -> Result<LinesAnswer, StreamFault>
+    ensures answer { IfOk result
+        (λ a. (a.status ≡ (fit_with_counts kind means.now counts found).status)
+        × (a.lines.items ≡ (fit_with_counts kind means.now counts found).text)) }
+    ensures no_file { IsErrOf result StreamFault.File → ⊥ }
+{
+    let mut lines = fit_line(alloc, kind, found)?;
+    put_text(alloc, &mut lines, means, counts)?;
+    lines.extend_from_slice(end_line(alloc, counts)?.as_bytes())?;
+    let status = fit_status(counts, found);
+    Ok(LinesAnswer { status, lines })
+}
+
+/// The answer to a log that was read.
+pub(crate) fn log_answer(
+    alloc: Global,
+    kind: KindName,
+    lapses: Lapses,
+    means: &[WaitsFor],
+    header: &LogHeader,
+    lines: &[LogLine],
+) -> Result<LinesAnswer, StreamFault>
+    requires few { length lines.now ≤ 2 ^ 25 }
+    ensures answer { IfOk result
+        (λ a. (a.status ≡ (log_kind_answer kind lapses means.now header.now lines.now).status)
+        × (a.lines.items ≡ (log_kind_answer kind lapses means.now header.now lines.now).text)) }
+    ensures no_file { IsErrOf result StreamFault.File → ⊥ }
+{
+    if header.size() > header.object().greatest_size() {
+        return Ok(LinesAnswer::of_line(too_big(alloc)?));
+    }
+    let found = kind_fit(alloc, kind, lapses, header, lines)?;
+    let counts = counts(alloc, kind, means, header, lines)?;
+    fit_answer(alloc, kind, means, counts, found)
+}

@@ -1,0 +1,106 @@
+//! The answer to a log of Mesa's kind with signals from outside.
+
+ghost use Rattle.std.specs.Prelude.{◌≡◌, ◌≤◌, ◌^◌, length, IfOk, IsErrOf};
+ghost use Rattle.monk_object.specs.Names.{most};
+ghost use Rattle.monk_logs.specs.Outside.{from_inside, origin};
+ghost use Rattle.monk_commands.specs.KindFitted.{is_mesa, numbered_counts, numbered_fit, outside_answer};
+
+use crate::answer::too_big;
+use crate::fault::StreamFault;
+use crate::kind_answering::{counts, fit_answer, kind_fit};
+use crate::lines_answer::LinesAnswer;
+use monk_kinds::KindName;
+use monk_logs::{Counts, Fit, Held, Lapses, LogHeader, LogLine, MOST_LOG_LINES, origin, send_inside};
+use std::alloc::Global;
+
+/// Whether the kind is Mesa's.
+pub(crate) fn is_mesa(kind: KindName) -> bool
+    ensures { result ≡ is_mesa kind }
+{
+    match kind {
+        KindName::Npnb => true,
+        KindName::Pb
+        | KindName::Npb
+        | KindName::Pnb
+        | KindName::Pqb
+        | KindName::Npqb
+        | KindName::Pir
+        | KindName::Npir
+        | KindName::Pis
+        | KindName::Npis => false,
+    }
+}
+
+/// The fit, where its line is that of the log.
+fn numbered_fit(seats: u8, log: &[LogLine], found: Fit) -> Fit
+    requires few { length log.now ≤ 2 ^ 25 }
+    ensures { result ≡ numbered_fit (origin seats log.now) found }
+{
+    match found {
+        Fit::In(order) => Fit::In(order),
+        Fit::Misfit { line, blame } => Fit::Misfit {
+            line: origin(seats, log, line),
+            blame,
+        },
+    }
+}
+
+/// What was counted, where the line since which the monitor is held is that of the log.
+fn numbered_counts(seats: u8, log: &[LogLine], counts: Counts) -> Counts
+    requires few { length log.now ≤ 2 ^ 25 }
+    ensures { result ≡ numbered_counts (origin seats log.now) counts }
+{
+    let held = counts.held.map(|held| Held {
+        seat: held.seat,
+        line: origin(seats, log, held.line),
+    });
+    Counts { held, ..counts }
+}
+
+/// The answer to a log, by what its signals from outside are read as.
+fn answer_to_read(
+    alloc: Global,
+    kind: KindName,
+    lapses: Lapses,
+    header: &LogHeader,
+    log: &[LogLine],
+    read: &[LogLine],
+) -> Result<LinesAnswer, StreamFault>
+    requires few { length log.now ≤ 2 ^ 25 }
+    requires size { header.now.size ≤ most header.now.object }
+    requires read { read.now ≡ from_inside header.now.seats log.now }
+    ensures answer { IfOk result
+        (λ a. (a.status ≡ (outside_answer kind lapses header.now log.now).status)
+        × (a.lines.items ≡ (outside_answer kind lapses header.now log.now).text)) }
+    ensures no_file { IsErrOf result StreamFault.File → ⊥ }
+{
+    if read.len() > MOST_LOG_LINES as usize {
+        return Err(StreamFault::Memory);
+    }
+    let found = kind_fit(alloc, kind, lapses, header, read)?;
+    let counts = counts(alloc, kind, &[], header, read)?;
+    let seats = header.seats();
+    let numbered = numbered_counts(seats, log, counts);
+    fit_answer(alloc, kind, &[], numbered, numbered_fit(seats, log, found))
+}
+
+/// The answer to a log that was read, where signals from outside are sent from inside.
+pub(crate) fn outside_answer(
+    alloc: Global,
+    kind: KindName,
+    lapses: Lapses,
+    header: &LogHeader,
+    log: &[LogLine],
+) -> Result<LinesAnswer, StreamFault>
+    requires few { length log.now ≤ 2 ^ 25 }
+    ensures answer { IfOk result
+        (λ a. (a.status ≡ (outside_answer kind lapses header.now log.now).status)
+        × (a.lines.items ≡ (outside_answer kind lapses header.now log.now).text)) }
+    ensures no_file { IsErrOf result StreamFault.File → ⊥ }
+{
+    if header.size() > header.object().greatest_size() {
+        return Ok(LinesAnswer::of_line(too_big(alloc)?));
+    }
+    let read = send_inside(alloc, header.seats(), log)?;
+    answer_to_read(alloc, kind, lapses, header, log, &read)
+}

@@ -1,0 +1,10 @@
+use Rattle.std.proofs.Common.{◌≡◌, take, drop, reverse}
+use Rattle.monk_logs.specs.Outside as outside
+use Rattle.monk_logs.proofs.outside.has_outside.Given as goal
+
+abbrev pub invariant-loop-line : goal.invariant-loop-line
+invariant-loop-line l = record {
+  presence : outside.IsPresence l.presence (reverse (take l.line-index l.lines));
+  found : outside.outside_behind l.seats (reverse (take l.line-index l.lines)) (drop l.line-index l.lines)
+      ≡ outside.has_outside l.seats l.lines;
+}

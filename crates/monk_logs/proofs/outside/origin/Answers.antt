@@ -1,0 +1,27 @@
+use Rattle.std.proofs.Common.{arith}
+use Rattle.monk_logs.proofs.OutsideLaws.{origin_end, origin_found, origin_step, presence_more}
+use Rattle.monk_logs.proofs.outside.origin.Goals as goal
+
+pub loop-read-preserved : goal.loop-read-preserved
+loop-read-preserved c =
+    let has = c.loop-read.invariant.presence in
+    let same = c.loop-read.invariant.number in
+    record {
+      presence = presence_more _ c.args.lines.now c.loop-read.read-index _ c.loop-read-test.true
+          (c.step.ensures _ has);
+      number = omega (arith, same);
+      origin = origin_step c.args.seats c.args.lines.now c.loop-read.read-index _ c.loop-read.left c.told-told.result
+          c.loop-read.number c.args.line c.loop-read-test.true (c.told-told.ensures _ has) c.if-left-told.false
+          c.loop-read.invariant.origin;
+    }
+
+pub returns-then-left-told : goal.returns-then-left-told
+returns-then-left-told c =
+    origin_found c.args.seats c.args.lines.now c.loop-read.read-index _ c.loop-read.left c.told-told.result
+    c.loop-read.number c.args.line c.loop-read-test.true (c.told-told.ensures _ c.loop-read.invariant.presence)
+    c.if-left-told.true c.loop-read.invariant.origin
+
+pub returns : goal.returns
+returns c =
+    origin_end c.args.seats c.args.lines.now c.loop-read.read-index c.loop-read.left c.loop-read.number c.args.line
+    c.loop-read-test.false c.loop-read.invariant.origin
