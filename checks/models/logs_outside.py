@@ -1,0 +1,77 @@
+"""Logs of programs that signal without the lock: how `monk fit --kind NPNB` reads them, and a plain search for what it says of them.
+
+A signal of a seat that isn't inside is read as one by the seat that has the monitor, or as a visit of its own where nobody has it. The
+search has no such reading: at any moment a seat that is outside may signal, and the turn stays whose it is."""
+import itertools
+
+from logs_board import ANY, FIFO
+from logs_expiry import ExpirySearch
+from logs_search import Situation
+
+KIND = "NPNB"
+SIGNALS = ("signal", "broadcast")
+LETTING_GO = ("leave", "wait", "until")
+
+
+def told(lines):
+    """Each line, with whether it is a signal from outside, and who has the monitor before it, or None."""
+    inside, holder = set(), None
+    for line in lines:
+        verb, seat, *_ = line
+        is_outside = verb in SIGNALS and seat not in inside
+        yield line, is_outside, holder
+        if not is_outside:
+            holder = None if verb in LETTING_GO else seat
+        if verb in ("enter", "leave"):
+            inside = inside | {seat} if verb == "enter" else inside - {seat}
+
+
+def read_as(line, is_outside, holder):
+    """The lines as which a line is read."""
+    verb, seat, *cond = line
+    if not is_outside:
+        return [line]
+    return [("enter", seat), line, ("leave", seat)] if holder is None else [(verb, holder, *cond)]
+
+
+def from_inside(lines):
+    """The lines as they are read, and for each of these its origin, the number of the line that it is of."""
+    read = [(origin, it) for origin, each in enumerate(told(lines), 1) for it in read_as(*each)]
+    return [it for _, it in read], [origin for origin, _ in read]
+
+
+def has_outside(lines):
+    """Whether a signal is from outside."""
+    return any(is_outside for _, is_outside, _ in told(lines))
+
+
+class OutsideSearch(ExpirySearch):
+    """Which runs begin with the lines so far, where seats signal from outside too, and each wait may run out without a line."""
+
+    def __init__(self, header, order, lapses=False):
+        super().__init__(KIND, header, order)
+        self.lapses = lapses
+
+    def steps_from(self, at):
+        """What may be done in a situation and with those who are gone, and what may be signalled there."""
+        found, (key, gone) = super().steps_from(at), at
+        outside = set(range(self.header.seats)) - Situation(self, key).inside
+        for verb, cond in itertools.product(SIGNALS, range(self.header.conds)):
+            thens = {((then, gone), ()) for then in self.signalled(key, verb, cond)}
+            found |= {(verb, seat, cond): thens for seat in outside}
+        return found
+
+    def signalled(self, key, verb, cond):
+        """The situations behind a signal from outside. Where the turn is open, a seat that it served may be the next to go on."""
+        queue = Situation(self, key).waits[cond]
+        for served in [queue] if verb == "broadcast" else [[seat] for seat in queue] if self.order == ANY and queue else [queue[:1]]:
+            there = Situation(self, key)
+            there.waits[cond] = [seat for seat in queue if seat not in served]
+            there.waiters += served
+            yield there.key()
+            fronts = there.waiters[:1] if self.order == FIFO else served
+            for seat in set(served) & set(fronts) if there.turn == "open" else ():
+                chosen = Situation(self, there.key())
+                chosen.waiters.remove(seat)
+                chosen.turn = f"due {seat} waiter"
+                yield chosen.key()
