@@ -34,6 +34,12 @@ def read_as(line, is_outside, holder):
     return [("enter", seat), line, ("leave", seat)] if holder is None else [(verb, holder, *cond)]
 
 
+def read_behind(log, line):
+    """The lines as which a line is read behind a log."""
+    *_, last = told((*log, line))
+    return read_as(*last)
+
+
 def from_inside(lines):
     """The lines as they are read, and for each of these its origin, the number of the line that it is of."""
     read = [(origin, it) for origin, each in enumerate(told(lines), 1) for it in read_as(*each)]
