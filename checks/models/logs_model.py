@@ -16,7 +16,7 @@ import sys
 sys.dont_write_bytecode = True
 from logs_board import ANY, ORDERS, REASONS, Header, Rules, behind, given, judge, line_of, monitor, opening, services, thing, waiting
 from logs_expiry import at_once, conds_under
-from logs_outside import KIND, from_inside, has_outside
+from logs_outside import OUTSIDE_KIND, from_inside, has_outside
 
 # What a verb's words are behind the seat, with the most that each may be.
 BYTE = 255
@@ -94,7 +94,7 @@ def fitted_alone(header, lines, kind, lapses=False, means=()):
     """What stands in one line of the log under this kind alone, where waits run out at once, and the status. Under NPNB signals
     from outside are read as from inside; of a log with one no signal is missed, since it may come behind the release."""
     lines, origins = at_once(conds_under(kind, header), lines), None
-    if kind == KIND:
+    if kind == OUTSIDE_KIND:
         means = () if has_outside(lines) else means
         lines, origins = from_inside(lines)
     (said,), fits = fitted(header, lines, lapses, (kind,), origins)

@@ -1,14 +1,16 @@
-"""Logs of programs that signal without the lock: how `monk fit --kind NPNB` reads them, and a plain search for what it says of them.
+"""Logs of programs that signal without the lock: how `monk fit --kind NPNB` reads them, and a plain search for what it
+says of them.
 
-A signal of a seat that isn't inside is read as one by the seat that has the monitor, or as a visit of its own where nobody has it. The
-search has no such reading: at any moment a seat that is outside may signal, and the turn stays whose it is."""
+A signal of a seat that isn't inside is read as one by the seat that has the monitor. Where nobody has it, it is read as
+a visit: the seat enters, signals and leaves. The search has no such reading: at any moment a seat that is outside may
+signal, and the turn stays whose it is."""
 import itertools
 
 from logs_board import ANY, FIFO
 from logs_expiry import ExpirySearch
 from logs_search import Situation
 
-KIND = "NPNB"
+OUTSIDE_KIND = "NPNB"
 SIGNALS = ("signal", "broadcast")
 LETTING_GO = ("leave", "wait", "until")
 
@@ -55,7 +57,7 @@ class OutsideSearch(ExpirySearch):
     """Which runs begin with the lines so far, where seats signal from outside too, and each wait may run out without a line."""
 
     def __init__(self, header, order, lapses=False):
-        super().__init__(KIND, header, order)
+        super().__init__(OUTSIDE_KIND, header, order)
         self.lapses = lapses
 
     def steps_from(self, at):
@@ -68,16 +70,26 @@ class OutsideSearch(ExpirySearch):
         return found
 
     def signalled(self, key, verb, cond):
-        """The situations behind a signal from outside. Where the turn is open, a seat that it served may be the next to go on."""
-        queue = Situation(self, key).waits[cond]
-        for served in [queue] if verb == "broadcast" else [[seat] for seat in queue] if self.order == ANY and queue else [queue[:1]]:
+        """The situations behind a signal from outside."""
+        for served in self.servable(verb, Situation(self, key).waits[cond]):
             there = Situation(self, key)
-            there.waits[cond] = [seat for seat in queue if seat not in served]
+            there.waits[cond] = [seat for seat in there.waits[cond] if seat not in served]
             there.waiters += served
             yield there.key()
-            fronts = there.waiters[:1] if self.order == FIFO else served
-            for seat in set(served) & set(fronts) if there.turn == "open" else ():
-                chosen = Situation(self, there.key())
-                chosen.waiters.remove(seat)
-                chosen.turn = f"due {seat} waiter"
-                yield chosen.key()
+            if there.turn == "open":
+                yield from self.chosen(there.key(), served)
+
+    def servable(self, verb, queue):
+        """The seats that a signal may serve, of those who wait: all together, or one, or nobody if nobody waits."""
+        if verb == "broadcast":
+            return [queue]
+        return [[seat] for seat in queue] if self.order == ANY and queue else [queue[:1]]
+
+    def chosen(self, key, served):
+        """The situations in which a seat that was served while the turn is open is the next to go on."""
+        fronts = Situation(self, key).waiters[:1] if self.order == FIFO else served
+        for seat in set(served) & set(fronts):
+            there = Situation(self, key)
+            there.waiters.remove(seat)
+            there.turn = f"due {seat} waiter"
+            yield there.key()
