@@ -8,7 +8,7 @@ import itertools
 
 from logs_board import ANY, FIFO
 from logs_expiry import ExpirySearch
-from logs_search import Situation
+from logs_search import Search, Situation
 
 OUTSIDE_KIND = "NPNB"
 SIGNALS = ("signal", "broadcast")
@@ -53,19 +53,14 @@ def has_outside(lines):
     return any(is_outside for _, is_outside, _ in told(lines))
 
 
-class OutsideSearch(ExpirySearch):
-    """Which runs begin with the lines so far, where seats signal from outside too, and each wait may run out without a line."""
+class SignalSearch(Search):
+    """Which runs begin with the lines so far, where seats signal from outside too."""
 
-    def __init__(self, header, order, lapses=False):
-        super().__init__(OUTSIDE_KIND, header, order)
-        self.lapses = lapses
-
-    def steps_from(self, at):
-        """What may be done in a situation and with those who are gone, and what may be signalled there."""
-        found, (key, gone) = super().steps_from(at), at
-        outside = set(range(self.header.seats)) - Situation(self, key).inside
+    def steps_from(self, key):
+        """What may be done in a situation, and what may be signalled there."""
+        found, outside = super().steps_from(key), set(range(self.header.seats)) - Situation(self, key).inside
         for verb, cond in itertools.product(SIGNALS, range(self.header.conds)):
-            thens = {((then, gone), ()) for then in self.signalled(key, verb, cond)}
+            thens = {(then, ()) for then in self.signalled(key, verb, cond)}
             found |= {(verb, seat, cond): thens for seat in outside}
         return found
 
@@ -93,3 +88,11 @@ class OutsideSearch(ExpirySearch):
             there.waiters.remove(seat)
             there.turn = f"due {seat} waiter"
             yield there.key()
+
+
+class OutsideSearch(ExpirySearch, SignalSearch):
+    """The same, where each wait may run out without a line too."""
+
+    def __init__(self, header, order, lapses=False):
+        super().__init__(OUTSIDE_KIND, header, order)
+        self.lapses = lapses
