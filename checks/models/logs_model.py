@@ -95,8 +95,8 @@ def fitted_alone(header, lines, kind, lapses=False, means=()):
     from outside are read as from inside; of a log with one no signal is missed, since it may come behind the release."""
     lines, origins = at_once(conds_under(kind, header), lines), None
     if kind == OUTSIDE_KIND:
-        means = () if has_outside(lines) else means
-        lines, origins = from_inside(lines)
+        means = () if has_outside(header, lines) else means
+        lines, origins = from_inside(header, lines)
     (said,), fits = fitted(header, lines, lapses, (kind,), origins)
     counts, end = counted_with_end(header, lines, kind, means, origins)
     is_well = fits and not end.startswith("busy") and (not means or counts[-1] == "missed none")

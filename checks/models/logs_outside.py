@@ -2,7 +2,7 @@
 says of them.
 
 A signal of a seat that isn't inside is read as one by the seat that has the monitor. Where nobody has it, it is read as
-a visit: the seat enters, signals and leaves. The search has no such reading: at any moment a seat that is outside may
+a visit: the seat enters, signals and leaves. A signal of a seat that isn't there stays as it is. The search has no such reading: at any moment a seat that is outside may
 signal, and the turn stays whose it is."""
 import itertools
 
@@ -15,12 +15,12 @@ SIGNALS = ("signal", "broadcast")
 LETTING_GO = ("leave", "wait", "until")
 
 
-def told(lines):
+def told(header, lines):
     """Each line, with whether it is a signal from outside, and who has the monitor before it, or None."""
     inside, holder = set(), None
     for line in lines:
         verb, seat, *_ = line
-        is_outside = verb in SIGNALS and seat not in inside
+        is_outside = verb in SIGNALS and seat < header.seats and seat not in inside
         yield line, is_outside, holder
         if not is_outside:
             holder = None if verb in LETTING_GO else seat
@@ -36,21 +36,21 @@ def read_as(line, is_outside, holder):
     return [("enter", seat), line, ("leave", seat)] if holder is None else [(verb, holder, *cond)]
 
 
-def read_behind(log, line):
+def read_behind(header, log, line):
     """The lines as which a line is read behind a log."""
-    *_, last = told((*log, line))
+    *_, last = told(header, (*log, line))
     return read_as(*last)
 
 
-def from_inside(lines):
+def from_inside(header, lines):
     """The lines as they are read, and for each of these its origin, the number of the line that it is of."""
-    read = [(origin, it) for origin, each in enumerate(told(lines), 1) for it in read_as(*each)]
+    read = [(origin, it) for origin, each in enumerate(told(header, lines), 1) for it in read_as(*each)]
     return [it for _, it in read], [origin for origin, _ in read]
 
 
-def has_outside(lines):
+def has_outside(header, lines):
     """Whether a signal is from outside."""
-    return any(is_outside for _, is_outside, _ in told(lines))
+    return any(is_outside for _, is_outside, _ in told(header, lines))
 
 
 class SignalSearch(Search):
