@@ -1,6 +1,7 @@
 """How a log is judged, in one pass over its lines, by the rules that docs/LOGS.md tells of boards: a plain model, which shares
 nothing with monk. That it comes to the same as the definitions is what checks/logs tries. Kinds and objects are those of
 monitor.py."""
+import itertools
 from collections import namedtuple
 
 import monitor
@@ -305,10 +306,11 @@ def behind(rules, course, line):
     return blame(rules, board, event, line)
 
 
-def judge(rules, lines):
-    """None where a log fits, else the first line with which no run begins, counted from 1, and the test that it fails."""
+def judge(rules, lines, origins=None):
+    """None where a log fits, else the first line with which no run begins, and the test that it fails. Lines have the numbers
+    that are given, or are counted from 1."""
     course = opening(rules.header)
-    for step, line in enumerate(lines, 1):
+    for step, line in zip(origins or itertools.count(1), lines):
         course = behind(rules, course, line)
         if isinstance(course, str):
             return step, course

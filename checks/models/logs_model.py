@@ -9,12 +9,14 @@ The status is 0 where a kind fits, 1 where none does, 2 where the text can't be 
 
 How it judges is told in logs_board.py."""
 import argparse
+import itertools
 import re
 import sys
 
 sys.dont_write_bytecode = True
 from logs_board import ANY, ORDERS, REASONS, Header, Rules, behind, given, judge, line_of, monitor, opening, services, thing, waiting
 from logs_expiry import at_once, conds_under
+from logs_outside import OUTSIDE_KIND, from_inside, has_outside
 
 # What a verb's words are behind the seat, with the most that each may be.
 BYTE = 255
@@ -61,11 +63,11 @@ def ending(held, inside, woken):
     return "owed" if woken else "open" if inside else "free"
 
 
-def counted_with_end(header, lines, kind="NPNB", means=()):
+def counted_with_end(header, lines, kind="NPNB", means=(), origins=None):
     """The lines of counts as one of the kind, up to the first misfit, and how the log ends there."""
     rules, course, count, missed = Rules(kind, header, ANY, True), opening(header), dict.fromkeys(("served", "passed", "lapsed"), 0), None
     held = None
-    for step, line in enumerate(lines, 1):
+    for step, line in zip(origins or itertools.count(1), lines):
         before, then = standing(course)[0], behind(rules, course, line)
         if isinstance(then, str):
             break
@@ -89,20 +91,24 @@ def counted(header, lines, means=()):
 
 
 def fitted_alone(header, lines, kind, lapses=False, means=()):
-    """What stands in one line of the log under this kind alone, where waits run out at once, and the status."""
-    lines = at_once(conds_under(kind, header), lines)
-    (said,), fits = fitted(header, lines, lapses, (kind,))
-    counts, end = counted_with_end(header, lines, kind, means)
+    """What stands in one line of the log under this kind alone, where waits run out at once, and the status. Under NPNB signals
+    from outside are read as from inside; of a log with one no signal is missed, since it may come behind the release."""
+    lines, origins = at_once(conds_under(kind, header), lines), None
+    if kind == OUTSIDE_KIND:
+        means = () if has_outside(header, lines) else means
+        lines, origins = from_inside(header, lines)
+    (said,), fits = fitted(header, lines, lapses, (kind,), origins)
+    counts, end = counted_with_end(header, lines, kind, means, origins)
     is_well = fits and not end.startswith("busy") and (not means or counts[-1] == "missed none")
     return "; ".join([said, *counts, end]), 0 if is_well else 1
 
 
-def fitted(header, lines, lapses=False, kinds=monitor.KINDS):
+def fitted(header, lines, lapses=False, kinds=monitor.KINDS, origins=None):
     """A line for each kind, and whether a kind fits."""
     said = []
     for kind in kinds:
         for order in ORDERS:
-            misfit = judge(Rules(kind, header, order, lapses), lines)
+            misfit = judge(Rules(kind, header, order, lapses), lines, origins)
             if not misfit:
                 said.append(f"{kind} fits {order}")
                 break
