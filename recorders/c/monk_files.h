@@ -255,7 +255,7 @@ static void write_log(struct log *log, const char *prefix) {
     told.first = told.written++ ? told.first : told.number;
     write_names(log, name);
     if (log->left_out)
-        say("monk: %s: it lacks %d signals by threads that did not hold the mutex\n", name, log->left_out);
+        say("monk: %s: it lacks signals by threads that did not hold the mutex: %d\n", name, log->left_out);
     if (log->stopped)
         say("monk: %s: it ends early, since %s\n", name, log->stopped);
 }
