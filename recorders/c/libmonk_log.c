@@ -291,7 +291,7 @@ static inline struct monitor *waited_with(struct condition *c) {
    the mutex that its thread locked last. Gives the condition, whose order is held until the signal is sent; or null. */
 SELDOM static struct condition *tell_in_order(struct condition *c, struct thread *thread, enum verb verb) {
     if (!take_order(&c->order)) {
-        leave_out(waited_with(c));
+        give_up(log_beside(waited_with(c)));
         return 0;
     }
     struct monitor *m = waited_with(c), *last = m ? 0 : last_held(thread);

@@ -80,9 +80,9 @@ static int count_waits(void) {
     return waits;
 }
 
-/* No signal is noted while its log's order is held. (Where it can't be got, this handles a signal that came to who has it.) */
+/* No signal is noted while its log's order is held. A handler of a signal doesn't wait for what its thread may hold. */
 static void write_in_order(struct log *log, const char *prefix) {
-    int has_order = take_order(&log->order);
+    int has_order = !busy && take_order(&log->order);
     seat_outsiders(log);
     if (prefix && log->waits && log->length)
         write_log(log, prefix);

@@ -10,7 +10,8 @@
 enum {
     TRIES = 4000,           /* before a thread sleeps: a signal that wakes somebody takes a microsecond or two */
     NAPS = 10000,           /* before it gives up, which is about a second */
-    NAP_NANOSECONDS = 20000
+    NAP_NANOSECONDS = 20000,
+    STUCK = -1              /* in place of the process: somebody gave up; so others needn't wait as long */
 };
 
 /* In each thread, without a call that might ask for memory. */
@@ -37,9 +38,10 @@ static inline void get_idle(void) {
 /* A lock has the number of the process that holds it, and 0 if it is free. So a child finds no lock held by a thread that it
    doesn't have. */
 static inline int try_order(atomic_int *order) {
-    int before = atomic_load_explicit(order, memory_order_relaxed);
-    return before != process + 1 && atomic_compare_exchange_strong_explicit(order, &before, process + 1, memory_order_acquire,
-                                                                            memory_order_relaxed);
+    int before = atomic_load_explicit(order, memory_order_relaxed), mine = process + 1;
+    if (before == mine || before == STUCK)
+        return 0;
+    return atomic_compare_exchange_strong_explicit(order, &before, mine, memory_order_acquire, memory_order_relaxed);
 }
 
 /* Not a point at which a thread can be cancelled. */
@@ -53,12 +55,14 @@ SELDOM static void nap(void) {
 }
 
 SELDOM static int await_order(atomic_int *order) {
-    for (long tries = 0; tries < TRIES + NAPS; tries++) {
+    int theirs = process + 1;
+    for (int tries = 0; tries < TRIES + NAPS && atomic_load(order) != STUCK; tries++) {
         if (try_order(order))
             return 1;
         if (tries >= TRIES)
             nap();
     }
+    atomic_compare_exchange_strong(order, &theirs, STUCK);
     return 0;
 }
 

@@ -1,7 +1,8 @@
-/* Signals by threads that don't hold the mutex. Part of libmonk_log.c. Such a signal has to stand behind the `wait` of a thread that
-   it serves and before its `resume`. So the condition's order is held while the signal is noted and sent, and while these lines
-   are written. The signal is no line yet, since other threads write lines meanwhile without any lock: it is noted with its
-   place, and gets its seat when the log is written. So a thread that is never inside takes no seat from another. */
+/* Signals by threads that don't hold the mutex. Part of libmonk_log.c. Such a signal has to stand behind the `wait` of a
+   thread that it serves and before its `resume`. So the condition's order is held while the signal is noted and sent, and
+   while these lines are written. The signal is no line yet, since other threads write lines meanwhile without any lock. It
+   is noted with its place, and gets its seat when the log is written. So a thread that is never inside takes no seat from
+   another. */
 #ifndef MONK_OUTSIDE_H
 #define MONK_OUTSIDE_H
 
@@ -53,21 +54,27 @@ static struct log *log_beside(struct monitor *m) {
     return m && atomic_load(&m->process) == process ? atomic_load(&m->log) : 0;
 }
 
-static void leave_out(struct monitor *m) {
-    struct log *log = log_beside(m);
-    atomic_fetch_add(log ? &log->left_out : &seen.left_out, 1);
+/* A lock that is needed can't be got: a log that can't have the signal ends before it. */
+static void give_up(struct log *log) {
+    if (log)
+        stop(log, NO_ORDER);
+    atomic_fetch_add(&seen.left_out, 1);
 }
 
-/* While the condition's order is held; m is the mutex with which somebody has waited on it last, or null. A thread that waits with
-   that mutex is inside: only its signal handler can come here. */
+/* While the condition's order is held; m is the mutex with which somebody has waited on it last, or null. A thread that waits
+   with that mutex is inside: only its signal handler can come here. */
 static void note(struct monitor *m, struct condition *c, struct thread *thread, enum verb verb) {
     struct log *log = log_beside(m);
-    if (!log || thread->waits_with == m || !take_order(&log->order)) {
-        leave_out(m);
-        return;
+    if (!log)
+        atomic_fetch_add(&seen.left_out, 1);
+    else if (thread->waits_with == m)
+        atomic_fetch_add(&log->left_out, 1);
+    else if (!take_order(&log->order))
+        give_up(log);
+    else {
+        note_in(log, m, c, thread, verb);
+        end_order(&log->order);
     }
-    note_in(log, m, c, thread, verb);
-    end_order(&log->order);
 }
 
 /* A wait that was refused has not let the mutex go, so its line is still the last. Signals that came meanwhile stand before it. */

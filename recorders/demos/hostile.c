@@ -22,8 +22,10 @@
      child      signals without the mutex, in a child too
      none       no mutex
      unwaited   a mutex on whose conditions nobody waits */
+#include <errno.h>
 #include <pthread.h>
 #include <signal.h>
+#include <stdatomic.h>
 #include <stdio.h>
 #include <stdlib.h>
 #include <string.h>
@@ -321,19 +323,21 @@ static void refused(void) {
 
 static pthread_cond_t other_cond = PTHREAD_COND_INITIALIZER;
 static pthread_t waiting;
-static volatile sig_atomic_t is_handled;
+static atomic_int is_handled;
 
 static void handle(int number) {
+    int error = errno;
     (void)number;
     pthread_cond_signal(&other_cond);
-    is_handled = 1;
+    atomic_store(&is_handled, 1);
+    errno = error;
 }
 
 /* Once it has the lock, the other waits. */
 static void *disturb(void *unused) {
     pthread_mutex_lock(&fixed.lock);
     pthread_kill(waiting, SIGUSR1);
-    while (!is_handled)
+    while (!atomic_load(&is_handled))
         usleep(1);
     pthread_mutex_unlock(&fixed.lock);
     set(&fixed);
