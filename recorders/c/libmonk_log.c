@@ -212,8 +212,8 @@ static void begin_wait(struct wait *it) {
     it->times = holds(thread, m) ? m->times : 1;
     struct log *log = log_of(m, thread);
     unsigned number = log ? number_of(log, c) : 0;
-    let_go(m, thread);
     thread->waits_with = m;
+    let_go(m, thread);
     int has_order = begin_line(c, log);
     atomic_store(&c->monitor, m);
     atomic_store(&c->of, m->known.serial);
@@ -231,8 +231,8 @@ static void end_wait(struct wait *it, enum verb verb, int was_refused) {
     if (!c)
         return;
     struct log *log = present_log(it->monitor);
-    it->thread->waits_with = 0;
     hold(it->monitor, it->thread, it->times);
+    it->thread->waits_with = 0;
     if (log && log->waiting)
         log->waiting--;
     if (log && was_refused) {
@@ -287,8 +287,9 @@ static inline struct monitor *waited_with(struct condition *c) {
     return m && atomic_load_explicit(&c->of, memory_order_relaxed) == m->known.serial ? m : 0;
 }
 
-/* A signal by a thread that doesn't hold the mutex, or of a condition on which nobody has waited yet: then it is taken for one of
-   the mutex that its thread locked last. Gives the condition, whose order is held until the signal is sent; or null. */
+/* A signal by a thread that doesn't hold the mutex, or of a condition on which nobody has waited yet. Then the mutex isn't known:
+   it is taken for the one that the thread locked last. Gives the condition, whose order is held until the signal is sent; or
+   null. */
 SELDOM static struct condition *tell_in_order(struct condition *c, struct thread *thread, enum verb verb) {
     if (!take_order(&c->order)) {
         give_up(log_beside(waited_with(c)));
