@@ -291,6 +291,8 @@ static inline struct monitor *waited_with(struct condition *c) {
    it is taken for the one that the thread locked last. Gives the condition, whose order is held until the signal is sent; or
    null. */
 SELDOM static struct condition *tell_in_order(struct condition *c, struct thread *thread, enum verb verb) {
+    if (is_closed())
+        return 0;
     if (!take_order(&c->order)) {
         give_up(log_beside(waited_with(c)));
         return 0;
@@ -314,7 +316,7 @@ static struct condition *tell(enum verb verb, const void *cond, const void *call
     }
     struct condition *c = condition_of(cond, caller);
     struct thread *thread = self();
-    if (!c || !thread || is_closed())
+    if (!c || !thread)
         return 0;
     struct monitor *m = waited_with(c);
     if (!holds(thread, m))
@@ -328,9 +330,10 @@ static struct condition *tell(enum verb verb, const void *cond, const void *call
 #define SIGNALS(name, field, verb, type)                        \
     int name(type *cond) {                                      \
         struct condition *in_order = tell(verb, cond, CALLER);  \
+        if (!in_order)                                          \
+            return real.field(cond);                            \
         int result = real.field(cond);                          \
-        if (in_order)                                           \
-            end_order(&in_order->order);                        \
+        end_order(&in_order->order);                            \
         return result;                                          \
     }
 
