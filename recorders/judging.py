@@ -33,10 +33,14 @@ class Said:
         found = self.kinds[kind]
         return found in ORDERS and ORDERS.index(found) <= ORDERS.index(order)
 
+    def fits_alone(self):
+        """Whether it fits NPNB where waits run out at once, and signals may come from outside."""
+        return self.alone[0].startswith("NPNB fits ")
+
     def is_right_alone(self):
-        """Whether it fits NPNB where waits run out at once, misses nothing, and ends with nobody inside."""
-        fit, *counts, end = self.alone
-        return fit.startswith("NPNB fits ") and end == "free" and all(it == "missed none" for it in counts if it.startswith("missed"))
+        """Whether it fits so, misses nothing, and ends with nobody inside."""
+        counts, end = self.alone[1:-1], self.alone[-1]
+        return self.fits_alone() and end == "free" and all(it == "missed none" for it in counts if it.startswith("missed"))
 
     def is_left(self):
         return self.counts["waiting"] + self.counts["woken"] > 0

@@ -6,13 +6,14 @@
    When the program ends, the logs are written into PREFIX.1, PREFIX.2, .. (no file is written over), one for each mutex
    with a wait, and beside each the names in it, PREFIX.1.names. The last line on standard error tells what was seen. A
    child that is forked writes PREFIX.PID.1, .. . A line is written by the thread that holds the mutex. So the lines
-   stand in the order in which things happened, and the recorder needs no lock for them. MONK_OBJECT is the end of the
-   first line, `buffer 1` if it isn't set. After MONK_SECONDS the logs are written and the program is ended with status
-   124, for programs that hang. With MONK_SHAKE=SEED threads let others go first at random.
+   stand in the order in which things happened. Signals by other threads need a lock for that, and so do the lines of waits:
+   one of the recorder's own (monk_outside.h). MONK_OBJECT is the end of the first line, `buffer 1` if it isn't set. After
+   MONK_SECONDS the logs are written and the program is ended with status 124, for programs that hang. With MONK_SHAKE=SEED
+   threads let others go first at random.
 
-   The parts: monk_memory.h, what is known of an address; monk_lines.h, the lines; monk_files.h and monk_ends.h, how they are
-   written at the end; monk_real.h, the functions behind these; monk_shake.h. What the recorder can't see is told in
-   recorders/README.md. */
+   The parts: monk_order.h, locks; monk_memory.h, what is known of an address; monk_lines.h, the lines; monk_outside.h, signals
+   by threads that don't hold the mutex; monk_files.h and monk_ends.h, how all are written at the end; monk_real.h, the
+   functions behind these; monk_shake.h. What the recorder can't see is told in recorders/README.md. */
 #define _GNU_SOURCE
 #include "monk_ends.h"
 
@@ -62,7 +63,7 @@ static inline int entered(const void *mutex, int result, const void *caller) {
     if (atomic_load_explicit(&m->lost_one, memory_order_relaxed))
         renew(m);
     hold(m, thread, 1);
-    put(m->log, thread, ENTER, 0);
+    put(present_log(m), thread, ENTER, 0);
     return result;
 }
 
@@ -74,7 +75,7 @@ static inline void leave(const void *mutex, const void *caller) {
         m = monitor_of(mutex, caller);
     if (!holds(thread, m) || --m->times > 0)
         return;
-    put(m->log, thread, LEAVE, 0);
+    put(present_log(m), thread, LEAVE, 0);
     let_go(m, thread);
 }
 
@@ -164,6 +165,7 @@ struct wait {
     const struct timespec *until;
     clockid_t clock;
     struct monitor *monitor;
+    struct condition *condition; /* null where there is no memory for what is known */
     struct thread *thread;
     int times;
     size_t before; /* how long the log was */
@@ -184,38 +186,62 @@ static int call_wait(const struct wait *it) {
     }
 }
 
+/* For a line of a wait: it is written while the condition's order is held, so that it stands on the right side of each signal.
+   Whether the order was got; a log that has to go on without it ends. */
+static int begin_line(struct condition *c, struct log *log) {
+    int has_order = take_order(&c->order);
+    if (log && !has_order)
+        stop(log, NO_ORDER);
+    return has_order;
+}
+
+static void end_line(struct condition *c, int has_order) {
+    if (has_order)
+        end_order(&c->order);
+}
+
+/* The line comes last, right before the wait itself: a signal of another thread that comes between them finds nobody. */
 static void begin_wait(struct wait *it) {
     struct monitor *m = it->monitor = monitor_of(it->mutex, it->caller);
     struct condition *c = condition_of(it->cond, it->caller);
     struct thread *thread = it->thread = self();
     if (!m || !c || !thread)
         return;
+    it->condition = c;
     refresh(m);
     it->times = holds(thread, m) ? m->times : 1;
     struct log *log = log_of(m, thread);
+    unsigned number = log ? number_of(log, c) : 0;
+    thread->waits_with = m;
+    let_go(m, thread);
+    int has_order = begin_line(c, log);
     atomic_store(&c->monitor, m);
     atomic_store(&c->of, m->known.serial);
     if (log) {
         log->waits++;
         log->waiting++;
-        it->before = log->length;
-        put(log, thread, WAIT, number_of(log, c));
+        it->before = length_of(log);
+        put(log, thread, WAIT, number);
     }
-    let_go(m, thread);
+    end_line(c, has_order);
 }
 
 static void end_wait(struct wait *it, enum verb verb, int was_refused) {
-    if (!it->monitor || !it->thread)
+    struct condition *c = it->condition;
+    if (!c)
         return;
-    struct log *log = it->monitor->log;
+    struct log *log = present_log(it->monitor);
     hold(it->monitor, it->thread, it->times);
+    it->thread->waits_with = 0;
     if (log && log->waiting)
         log->waiting--;
-    /* a wait that was refused has not let the mutex go, so its line is still the last */
-    if (log && was_refused)
-        log->length = it->before;
-    else
-        put(log, it->thread, verb, 0);
+    if (log && was_refused) {
+        take_back(log, it->before);
+        return;
+    }
+    int has_order = begin_line(c, log);
+    put(log, it->thread, verb, 0);
+    end_line(c, has_order);
 }
 
 /* The thread is cancelled while it waits; it has the mutex again. */
@@ -255,47 +281,66 @@ int cnd_timedwait(cnd_t *cond, mtx_t *mutex, const struct timespec *until) {
     return wait_by((struct wait){.form = TIMED_OF_C11, .cond = cond, .mutex = mutex, .until = until, .caller = CALLER});
 }
 
-/* A signal is written down where its caller holds the mutex; else it is counted. Of a condition on which nobody has waited yet
-   the mutex isn't known: it is taken for the last that its caller has locked. */
-static void tell(enum verb verb, const void *cond, const void *caller) {
+/* The mutex with which a condition was last waited on, or null. */
+static inline struct monitor *waited_with(struct condition *c) {
+    struct monitor *m = atomic_load_explicit(&c->monitor, memory_order_relaxed);
+    return m && atomic_load_explicit(&c->of, memory_order_relaxed) == m->known.serial ? m : 0;
+}
+
+/* A signal by a thread that doesn't hold the mutex, or of a condition on which nobody has waited yet. Then the mutex isn't known:
+   it is taken for the one that the thread locked last. Gives the condition, whose order is held until the signal is sent; or
+   null. */
+SELDOM static struct condition *tell_in_order(struct condition *c, struct thread *thread, enum verb verb) {
+    if (is_closed())
+        return 0;
+    if (!take_order(&c->order)) {
+        give_up(log_beside(waited_with(c)));
+        return 0;
+    }
+    struct monitor *m = waited_with(c), *last = m ? 0 : last_held(thread);
+    struct log *log = last ? log_of(last, thread) : 0;
+    if (log)
+        put(log, thread, verb, number_of(log, c));
+    else
+        note(m, c, thread, verb);
+    return c;
+}
+
+/* Gives a condition whose order is to be let go when the signal is sent, or null. */
+static struct condition *tell(enum verb verb, const void *cond, const void *caller) {
     init();
     shake();
+    if (busy) {
+        atomic_fetch_add(&seen.left_out, 1);
+        return 0;
+    }
     struct condition *c = condition_of(cond, caller);
     struct thread *thread = self();
     if (!c || !thread)
-        return;
-    struct monitor *m = atomic_load_explicit(&c->monitor, memory_order_relaxed);
-    int is_known = m && atomic_load_explicit(&c->of, memory_order_relaxed) == m->known.serial;
-    if (!is_known)
-        m = last_held(thread);
-    struct log *log = holds(thread, m) ? log_of(m, thread) : 0;
+        return 0;
+    struct monitor *m = waited_with(c);
+    if (!holds(thread, m))
+        return tell_in_order(c, thread, verb);
+    struct log *log = log_of(m, thread);
     if (log)
         put(log, thread, verb, number_of(log, c));
-    else if (is_known && m->log)
-        atomic_fetch_add(&m->log->strays, 1);
-    else
-        atomic_fetch_add(&seen.strays, 1);
+    return 0;
 }
 
-int pthread_cond_signal(pthread_cond_t *cond) {
-    tell(SIGNAL, cond, CALLER);
-    return real.signal(cond);
-}
+#define SIGNALS(name, field, verb, type)                        \
+    int name(type *cond) {                                      \
+        struct condition *in_order = tell(verb, cond, CALLER);  \
+        if (!in_order)                                          \
+            return real.field(cond);                            \
+        int result = real.field(cond);                          \
+        end_order(&in_order->order);                            \
+        return result;                                          \
+    }
 
-int pthread_cond_broadcast(pthread_cond_t *cond) {
-    tell(BROADCAST, cond, CALLER);
-    return real.broadcast(cond);
-}
-
-int cnd_signal(cnd_t *cond) {
-    tell(SIGNAL, cond, CALLER);
-    return real.cnd_signal(cond);
-}
-
-int cnd_broadcast(cnd_t *cond) {
-    tell(BROADCAST, cond, CALLER);
-    return real.cnd_broadcast(cond);
-}
+SIGNALS(pthread_cond_signal, signal, SIGNAL, pthread_cond_t)
+SIGNALS(pthread_cond_broadcast, broadcast, BROADCAST, pthread_cond_t)
+SIGNALS(cnd_signal, cnd_signal, SIGNAL, cnd_t)
+SIGNALS(cnd_broadcast, cnd_broadcast, BROADCAST, cnd_t)
 
 int pthread_cond_init(pthread_cond_t *cond, const pthread_condattr_t *attributes) {
     init();

@@ -50,8 +50,10 @@ static void say_last(const char *prefix, int waits) {
         add(line, "; cut at thread 33: %d", told.cut_by_threads);
     if (told.cut_by_conds)
         add(line, "; cut at condition 9: %d", told.cut_by_conds);
-    if (told.strays + seen.strays)
-        add(line, "; signals without the mutex: %d", told.strays + seen.strays);
+    if (told.noted + told.left_out)
+        add(line, "; signals without the mutex: %d", told.noted + told.left_out);
+    if (told.left_out)
+        add(line, ", left out: %d", told.left_out);
     if (seen.stray_acts)
         add(line, "; acts without the mutex, left out: %d", seen.stray_acts);
     if (seen.without_memory)
@@ -71,22 +73,37 @@ static const char *prefix_of(char name[PREFIX]) {
     return name;
 }
 
+static int count_waits(void) {
+    int waits = 0;
+    for (struct log *log = atomic_load(&all_logs); log; log = log->next)
+        waits += log->waits > 0;
+    return waits;
+}
+
+/* No signal is noted while its log's order is held. A handler of a signal doesn't wait for what its thread may hold. */
+static void write_in_order(struct log *log, const char *prefix) {
+    int has_order = !busy && take_order(&log->order);
+    seat_outsiders(log);
+    if (prefix && log->waits && log->length)
+        write_log(log, prefix);
+    told.noted += (int)log->noted;
+    told.left_out += log->left_out;
+    told.cut_by_threads += log->stopped == MORE_THREADS;
+    told.cut_by_conds += log->stopped == MORE_CONDS;
+    if (has_order)
+        end_order(&log->order);
+}
+
 static void write_all(void) {
     char name[PREFIX];
     const char *prefix = prefix_of(name);
     struct timespec settle = {0, TO_SETTLE * MILLISECOND};
-    int waits = 0;
-    for (struct log *log = atomic_load(&all_logs); log; log = log->next) {
-        waits += log->waits > 0;
-        told.strays += log->strays;
-        told.cut_by_threads += log->stopped == MORE_THREADS;
-        told.cut_by_conds += log->stopped == MORE_CONDS;
-    }
+    int waits = count_waits();
     if (waits && atomic_load(&seen.threads) > 1)
         nanosleep(&settle, 0);
-    for (struct log *log = atomic_load(&all_logs); log && prefix; log = log->next)
-        if (log->waits && log->length)
-            write_log(log, prefix);
+    for (struct log *log = atomic_load(&all_logs); log; log = log->next)
+        write_in_order(log, prefix);
+    told.left_out += seen.left_out;
     say_last(prefix, waits);
 }
 

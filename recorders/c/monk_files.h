@@ -13,7 +13,7 @@
 #include <sys/stat.h>
 #include <time.h>
 
-#include "monk_lines.h"
+#include "monk_outside.h"
 
 enum {
     PREFIX = 4096,
@@ -165,7 +165,7 @@ static void write_names(const struct log *log, const char *name) {
 
 static struct {
     int number, first, written, taken; /* of files; how many names there were already */
-    int cut_by_threads, cut_by_conds, strays;
+    int cut_by_threads, cut_by_conds, noted, left_out; /* signals from outside that are in logs, and that aren't */
     int error;
 } told;
 
@@ -214,7 +214,27 @@ static size_t print_line(struct page *page, const uint32_t *at) {
     return verb == ACT ? WORDS_OF_ACT : 1;
 }
 
-static void write_log(const struct log *log, const char *prefix) {
+/* The signals from outside from the given one on that have their place at that of a line; gives how many are written by then. */
+static size_t print_outside(struct page *page, struct log *log, size_t from, size_t place) {
+    for (; from < log->noted && log->outside[from].place <= place; from++) {
+        struct outside it = log->outside[from];
+        uint32_t seat = (uint32_t)seat_at_the_end(log, it.thread);
+        uint32_t word = it.verb | seat << VERB_BITS | (uint32_t)it.number << 2 * VERB_BITS;
+        print_line(page, &word);
+    }
+    return from;
+}
+
+static void print_lines(struct page *page, struct log *log) {
+    size_t length = log->length, outside = 0;
+    for (size_t at = 0; at < length && !page->error;) {
+        outside = print_outside(page, log, outside, at);
+        at += print_line(page, log->words + at);
+    }
+    print_outside(page, log, outside, WORDS);
+}
+
+static void write_log(struct log *log, const char *prefix) {
     static struct page page;
     const char *object = getenv("MONK_OBJECT");
     char name[NAME];
@@ -226,8 +246,7 @@ static void write_log(const struct log *log, const char *prefix) {
         return;
     }
     print(&page, "log 1 %d %d %s\n", log->nseats, log->nconds, object ? object : "buffer 1");
-    for (size_t at = 0; at < log->length && !page.error;)
-        at += print_line(&page, log->words + at);
+    print_lines(&page, log);
     close_page(&page, name);
     if (page.error)
         told.error = page.error;
@@ -235,8 +254,8 @@ static void write_log(const struct log *log, const char *prefix) {
         return;
     told.first = told.written++ ? told.first : told.number;
     write_names(log, name);
-    if (log->strays)
-        say("monk: %s: %d signals by threads that did not hold the mutex; it lacks them\n", name, log->strays);
+    if (log->left_out)
+        say("monk: %s: it lacks signals by threads that did not hold the mutex: %d\n", name, log->left_out);
     if (log->stopped)
         say("monk: %s: it ends early, since %s\n", name, log->stopped);
 }

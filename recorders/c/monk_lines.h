@@ -19,9 +19,6 @@ enum {
     VERB_BITS = 8
 };
 
-/* In each thread, without a call that might ask for memory. */
-#define OF_THREAD static __thread __attribute__((tls_model("initial-exec")))
-
 enum verb { ENTER, RESUME, LAPSE, LEAVE, WAIT, SIGNAL, BROADCAST, ACT };
 
 struct monitor;
@@ -32,6 +29,7 @@ struct thread {
     unsigned long number, dice; /* which one it is, and where its dice stand (monk_shake.h) */
     unsigned calls_left, is_slow;
     struct monitor *held[HELD]; /* the mutexes that it holds, the last at the end; some may be another's by now */
+    struct monitor *waits_with; /* the mutex of the wait that it is in */
     int depth, id, has_ended;
     char name[NAME_OF_THREAD];
 };
@@ -42,30 +40,43 @@ struct condition {
     atomic_ulong of;                   /* and the serial of that */
     atomic_int uses;                   /* by its place in the tree, and by logs */
     atomic_int is_gone;
+    /* Held for each line of a wait on it, and for a signal from outside together with its call. */
+    atomic_int order;
 };
 
-/* The lines of a mutex. Changed by the thread that holds the mutex, but for what is atomic. A line is one word: verb, seat and
-   condition, each of 8 bits. An act has its code there, and three words more. */
+/* A signal by a thread that doesn't hold the mutex: it stands before the word of the log that has its place. */
+struct outside {
+    struct thread *thread;
+    uint32_t place;
+    uint16_t verb, number;
+};
+
+/* The lines of a mutex. Changed by the thread that holds the mutex, but for what is atomic, and what has a lock. A line is one
+   word: verb, seat and condition, each of 8 bits. An act has its code there, and three words more. */
 struct log {
     struct known known;
     struct log *next;
     uint32_t *words;
-    size_t length, room;
+    atomic_size_t length;
+    size_t room;
     struct thread *seats[SEATS];
-    struct condition *conds[CONDS];
     int nconds, nseats, latest, latest_cond; /* the seat and the condition that were asked for last */
-    int waits, waiting;         /* how many there were, and are */
-    const char *stopped;        /* why no more lines are written, if so */
-    atomic_int strays;          /* signals by threads that didn't hold the mutex */
+    int waits, waiting;            /* how many there were, and are */
+    _Atomic(const char *) stopped; /* why no more lines are written, if so */
+    atomic_int left_out;           /* signals from outside that it lacks */
+    atomic_int order;              /* held by who changes what follows, and by who isn't the holder of the mutex and reads it */
+    struct condition *conds[CONDS];
+    struct outside *outside;
+    size_t noted, outside_room;
 };
 
 /* A mutex. Most have no conditions, and so no log. */
 struct monitor {
     struct known known;
     _Atomic(struct thread *) owner;
-    struct log *log;
+    _Atomic(struct log *) log;
     int times;           /* how often its owner has locked it */
-    int process;         /* the one that it was last locked in */
+    atomic_int process;  /* the one that it was last locked in */
     atomic_int lost_one; /* a condition of it was destroyed */
 };
 
@@ -74,12 +85,12 @@ static struct pool conditions = {sizeof(struct condition), 0}, logs = {sizeof(st
 static _Atomic(struct log *) all_logs;
 static struct known *idle_logs; /* of those, the ones that no mutex has */
 static struct {
-    atomic_int mutexes, strays, stray_acts, without_memory;
+    atomic_int mutexes, stray_acts, without_memory;
+    atomic_int left_out; /* signals from outside that are of no log */
     atomic_ulong threads;
 } seen;
 /* no line is written any more */
 static atomic_int closed;
-static int process;
 static pthread_key_t end_of_thread;
 static int has_key;
 OF_THREAD struct thread *me;
@@ -134,8 +145,8 @@ static void release(struct condition *it) {
 /* Lines without a wait tell nothing; others are kept to the end. */
 static void close_log(struct monitor *m) {
     struct log *log = m->log;
-    m->log = 0;
-    if (!log || log->waits)
+    atomic_store(&m->log, 0);
+    if (!log || log->waits || !take_order(&log->order))
         return;
     for (int i = 0; i < log->nconds; i++)
         release(log->conds[i]);
@@ -143,8 +154,10 @@ static void close_log(struct monitor *m) {
     memset(log->conds, 0, sizeof log->conds);
     log->nconds = log->nseats = log->latest = log->latest_cond = 0;
     log->length = 0;
-    log->stopped = 0;
-    atomic_fetch_add(&seen.strays, atomic_exchange(&log->strays, 0));
+    atomic_store(&log->stopped, NULL);
+    atomic_fetch_add(&seen.left_out, atomic_exchange(&log->left_out, 0) + (int)log->noted);
+    log->noted = 0;
+    end_order(&log->order);
     lock_memory();
     log->known.next_free = idle_logs;
     idle_logs = &log->known;
@@ -222,12 +235,27 @@ static void forget_condition(const void *cond) {
 
 /* The first reason stays. */
 static void stop(struct log *log, const char *why) {
-    if (!log->stopped)
-        log->stopped = why;
+    const char *none = 0;
+    atomic_compare_exchange_strong(&log->stopped, &none, why);
+}
+
+static inline int is_stopped(struct log *log) { return atomic_load_explicit(&log->stopped, memory_order_relaxed) != 0; }
+
+static inline int is_closed(void) { return atomic_load_explicit(&closed, memory_order_relaxed); }
+
+/* As far as the holder of the mutex sees it; another thread sees it so if a lock orders the two. */
+static inline size_t length_of(struct log *log) { return atomic_load_explicit(&log->length, memory_order_relaxed); }
+
+static inline void append(struct log *log, uint32_t word) {
+    size_t at = length_of(log);
+    log->words[at] = word;
+    atomic_store_explicit(&log->length, at + 1, memory_order_relaxed);
 }
 
 static const char MORE_THREADS[] = "there are more than 32 threads, and a log has no more seats";
 static const char MORE_CONDS[] = "there are more than 8 conditions, and a log has no more";
+static const char NO_MEMORY[] = "there is no memory", TOO_LONG[] = "it is long enough";
+static const char NO_ORDER[] = "a signal by a thread that did not hold the mutex took too long";
 
 SELDOM static int find_seat(struct log *log, struct thread *thread) {
     for (int i = 0; i < log->nseats; i++)
@@ -245,16 +273,11 @@ static inline int seat_of(struct log *log, struct thread *thread) {
     return log->seats[log->latest] == thread ? log->latest : find_seat(log, thread);
 }
 
-/* The number of a condition that is gone is used again where there is no other. */
-SELDOM static int find_number(struct log *log, struct condition *c) {
-    int gone = CONDS;
-    for (int i = log->nconds - 1; i >= 0; i--) {
-        if (log->conds[i] == c)
-            return log->latest_cond = i;
-        if (atomic_load(&log->conds[i]->is_gone))
-            gone = i;
-    }
-    int number = log->nconds < CONDS ? log->nconds++ : gone;
+/* While the log's order is held. The number of a condition that is gone is used again where there is no other. */
+static int new_number(struct log *log, struct condition *c) {
+    int number = log->nconds < CONDS ? log->nconds++ : 0;
+    while (number < CONDS && log->conds[number] && !atomic_load(&log->conds[number]->is_gone))
+        number++;
     if (number == CONDS) {
         stop(log, MORE_CONDS);
         return 0;
@@ -263,6 +286,19 @@ SELDOM static int find_number(struct log *log, struct condition *c) {
     atomic_fetch_add(&c->uses, 1);
     log->conds[number] = c;
     return log->latest_cond = number;
+}
+
+SELDOM static int find_number(struct log *log, struct condition *c) {
+    for (int i = 0; i < log->nconds; i++)
+        if (log->conds[i] == c)
+            return log->latest_cond = i;
+    if (!take_order(&log->order)) {
+        stop(log, NO_ORDER);
+        return 0;
+    }
+    int number = new_number(log, c);
+    end_order(&log->order);
+    return number;
 }
 
 static inline int number_of(struct log *log, struct condition *c) {
@@ -275,9 +311,9 @@ SELDOM static int grow(struct log *log) {
     if (!log->room)
         words = take_block(room * size);
     else if (log->room < WORDS)
-        words = grow_block(log->words, log->length * size, log->room * size, room * size);
+        words = grow_block(log->words, length_of(log) * size, log->room * size, room * size);
     if (!words) {
-        stop(log, log->room < WORDS ? "there is no memory" : "it is long enough");
+        stop(log, log->room < WORDS ? NO_MEMORY : TOO_LONG);
         return 0;
     }
     log->words = words;
@@ -285,27 +321,27 @@ SELDOM static int grow(struct log *log) {
     return 1;
 }
 
-static inline int has_room(struct log *log, size_t more) { return log->length + more <= log->room || grow(log); }
+static inline int has_room(struct log *log, size_t more) { return length_of(log) + more <= log->room || grow(log); }
 
 /* What stands before a line that isn't written is a log too. */
 static inline void put(struct log *log, struct thread *thread, enum verb verb, unsigned number) {
-    if (!log || log->stopped || atomic_load_explicit(&closed, memory_order_relaxed))
+    if (!log || is_stopped(log) || is_closed())
         return;
     int seat = seat_of(log, thread);
-    if (!log->stopped && has_room(log, 1))
-        log->words[log->length++] = verb | (unsigned)seat << VERB_BITS | number << 2 * VERB_BITS;
+    if (!is_stopped(log) && has_room(log, 1))
+        append(log, verb | (unsigned)seat << VERB_BITS | number << 2 * VERB_BITS);
 }
 
 static void put_act(struct log *log, struct thread *thread, unsigned code, unsigned arg, unsigned long reply) {
-    if (!log || log->stopped || !has_room(log, WORDS_OF_ACT))
+    if (!log || is_stopped(log) || !has_room(log, WORDS_OF_ACT))
         return;
-    size_t before = log->length;
+    size_t before = length_of(log);
     put(log, thread, ACT, code);
-    if (log->length == before)
+    if (length_of(log) == before)
         return;
-    log->words[log->length++] = arg;
-    log->words[log->length++] = (uint32_t)reply;
-    log->words[log->length++] = (uint32_t)(reply >> 32);
+    append(log, arg);
+    append(log, (uint32_t)reply);
+    append(log, (uint32_t)(reply >> 32));
 }
 
 SELDOM static struct log *new_log(const struct monitor *m) {
@@ -329,10 +365,10 @@ SELDOM static struct log *new_log(const struct monitor *m) {
 
 /* What a mutex has of the process before a fork is not of this one. */
 static inline void refresh(struct monitor *m) {
-    if (m->process == process)
+    if (atomic_load_explicit(&m->process, memory_order_relaxed) == process)
         return;
-    m->process = process;
-    m->log = 0;
+    atomic_store(&m->log, 0);
+    atomic_store(&m->process, process);
     atomic_fetch_add_explicit(&seen.mutexes, 1, memory_order_relaxed);
 }
 
@@ -354,14 +390,18 @@ SELDOM static struct log *begin_log(struct monitor *m, struct thread *thread) {
     struct log *log = new_log(m);
     if (!log)
         return 0;
-    m->log = log;
+    atomic_store(&m->log, log);
     if (atomic_load(&m->owner) == thread)
         put(log, thread, ENTER, 0);
     return log;
 }
 
+/* The log that a mutex has, if it has one. */
+static inline struct log *present_log(struct monitor *m) { return atomic_load_explicit(&m->log, memory_order_relaxed); }
+
 static inline struct log *log_of(struct monitor *m, struct thread *thread) {
-    return m->log ? m->log : begin_log(m, thread);
+    struct log *log = present_log(m);
+    return log ? log : begin_log(m, thread);
 }
 
 #endif

@@ -13,6 +13,8 @@
 #include <string.h>
 #include <sys/mman.h>
 
+#include "monk_order.h"
+
 enum {
     CHUNK = 1 << 20,   /* bytes that are asked for at once */
     LARGE = 1 << 16,   /* what is as large is asked for by itself */
@@ -23,9 +25,6 @@ enum {
     LEVELS = 3,
     LEVEL = 1 << LEVEL_BITS
 };
-
-/* What is seldom called stands by itself, so that the usual way keeps no registers for it. */
-#define SELDOM __attribute__((noinline, cold))
 
 /* Begins what is known of a mutex or a condition. Its memory never becomes that of another kind of thing, since a signal may look at
    it while another thread gives it back. */
@@ -48,11 +47,15 @@ static void *free_blocks[CLASSES];
 static unsigned long serials;
 
 static void lock_memory(void) {
+    get_busy();
     while (atomic_flag_test_and_set_explicit(&memory_lock, memory_order_acquire))
         ;
 }
 
-static void unlock_memory(void) { atomic_flag_clear_explicit(&memory_lock, memory_order_release); }
+static void unlock_memory(void) {
+    atomic_flag_clear_explicit(&memory_lock, memory_order_release);
+    get_idle();
+}
 
 static void *map(size_t size) {
     void *at = mmap(0, size, PROT_READ | PROT_WRITE, MAP_PRIVATE | MAP_ANONYMOUS | MAP_NORESERVE, -1, 0);

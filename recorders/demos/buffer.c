@@ -3,6 +3,7 @@
      good       two conditions, each signalled
      all        one condition, and broadcasts
      timed      as good, with waits that run out
+     late       signals behind the unlock
      pair       as good, of one putter and one taker, with room for one item: no later signal makes up for one that is lost
      if         a fault: who waited doesn't test again
      forgotten  a fault: who takes signals nobody
@@ -22,7 +23,7 @@ enum { PUTTERS = 3, SIZE = 2, ITEMS = 20, PUT = 0, TAKE = 1, SHORT = 20000, SECO
 static pthread_mutex_t lock = PTHREAD_MUTEX_INITIALIZER;
 static pthread_cond_t not_full = PTHREAD_COND_INITIALIZER, not_empty = PTHREAD_COND_INITIALIZER;
 static unsigned ring[SIZE], first, count, size = SIZE;
-static int all, timed, once, forgotten;
+static int all, timed, late, once, forgotten;
 
 static int is_full(void) { return count == size; }
 static int is_empty(void) { return count == 0; }
@@ -47,11 +48,15 @@ static void wait_while(int (*holds)(void), pthread_cond_t *cond) {
     }
 }
 
-static void tell(pthread_cond_t *cond) {
+static void tell_and_leave(pthread_cond_t *cond) {
+    if (late)
+        pthread_mutex_unlock(&lock);
     if (all)
         pthread_cond_broadcast(&not_full);
-    else
+    else if (cond)
         pthread_cond_signal(cond);
+    if (!late)
+        pthread_mutex_unlock(&lock);
 }
 
 static void put(unsigned item) {
@@ -59,8 +64,7 @@ static void put(unsigned item) {
     wait_while(is_full, &not_full);
     ring[(first + count++) % SIZE] = item;
     MONK_ACT(PUT, item, 1);
-    tell(&not_empty);
-    pthread_mutex_unlock(&lock);
+    tell_and_leave(&not_empty);
 }
 
 static void take(void) {
@@ -69,9 +73,7 @@ static void take(void) {
     unsigned item = ring[first++ % SIZE];
     count--;
     MONK_ACT(TAKE, 0, item + 1ul);
-    if (!forgotten)
-        tell(&not_full);
-    pthread_mutex_unlock(&lock);
+    tell_and_leave(forgotten ? 0 : &not_full);
 }
 
 static void *putter(void *unused) {
@@ -95,6 +97,7 @@ int main(int words, char **word) {
     size = is_pair ? 1 : SIZE;
     all = !strcmp(style, "all");
     timed = !strcmp(style, "timed");
+    late = !strcmp(style, "late");
     once = !strcmp(style, "if");
     forgotten = !strcmp(style, "forgotten");
     /* the conditions are numbered in the order in which they are first met, so a putter meets its own first */

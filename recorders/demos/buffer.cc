@@ -2,7 +2,7 @@
 
      good       notifies under the lock
      timed      waits 20 microseconds at a time
-     late       notifies behind it: the recorder can't write that down, and says so
+     late       notifies behind it
      if         a fault: who waited doesn't test again
      forgotten  a fault: who takes notifies nobody */
 #include <chrono>

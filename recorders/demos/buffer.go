@@ -2,6 +2,7 @@
 //
 //	good       two conditions, each signalled
 //	all        one condition, and broadcasts
+//	late       signals behind the unlock
 //	if         a fault: who waited doesn't test again
 //	forgotten  a fault: who takes signals nobody
 //
@@ -59,34 +60,40 @@ func (b *buffer) waitWhile(holds func() bool, cond *monklog.Cond, seat uint64) {
 	}
 }
 
-func (b *buffer) tell(cond *monklog.Cond, seat uint64) {
+func (b *buffer) tellAndLeave(cond *monklog.Cond, seat uint64) {
+	if b.style == "late" {
+		b.monitor.Unlock(seat)
+		cond.Signal(seat)
+		return
+	}
 	if b.style == "all" {
 		cond.Broadcast(seat)
-	} else {
+	} else if cond != nil {
 		cond.Signal(seat)
 	}
+	b.monitor.Unlock(seat)
 }
 
 func (b *buffer) put(seat, item uint64) {
 	b.monitor.Lock(seat)
-	defer b.monitor.Unlock(seat)
 	b.waitWhile(func() bool { return len(b.items) >= size }, b.notFull, seat)
 	b.items = append(b.items, item)
 	b.monitor.Act(seat, put, item, 1)
-	b.tell(b.notEmpty, seat)
+	b.tellAndLeave(b.notEmpty, seat)
 }
 
 func (b *buffer) take(seat uint64) {
 	b.monitor.Lock(seat)
-	defer b.monitor.Unlock(seat)
 	b.waitWhile(func() bool { return len(b.items) == 0 }, b.notEmpty, seat)
 	item := uint64(0)
 	if len(b.items) > 0 {
 		item, b.items = b.items[0], b.items[1:]
 	}
 	b.monitor.Act(seat, take, 0, item+1)
-	if b.style != "forgotten" {
-		b.tell(b.notFull, seat)
+	if b.style == "forgotten" {
+		b.tellAndLeave(nil, seat)
+	} else {
+		b.tellAndLeave(b.notFull, seat)
 	}
 }
 

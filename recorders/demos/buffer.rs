@@ -3,6 +3,7 @@
 //! - `good`: two conditions, each notified
 //! - `all`: one condition, and `notify_all`
 //! - `timed`: as good, with waits that run out
+//! - `late`: notifies once it has left
 //! - `if`: a fault: who waited doesn't test again
 //! - `forgotten`: a fault: who takes notifies nobody
 //!
@@ -37,6 +38,7 @@ enum Style {
     Good,
     All,
     Timed,
+    Late,
     If,
     Forgotten,
 }
@@ -46,6 +48,7 @@ impl Style {
         match name {
             "all" => Style::All,
             "timed" => Style::Timed,
+            "late" => Style::Late,
             "if" => Style::If,
             "forgotten" => Style::Forgotten,
             _ => Style::Good,
@@ -58,16 +61,19 @@ impl Style {
                 Style::Timed => drop(inside.wait_timeout(condition, SHORT)),
                 Style::All => inside.wait(NOT_FULL),
                 Style::If => return inside.wait(condition),
-                Style::Good | Style::Forgotten => inside.wait(condition),
+                Style::Good | Style::Late | Style::Forgotten => inside.wait(condition),
             }
         }
     }
 
-    fn notify(self, inside: &mut Inside, condition: usize) {
-        if self == Style::All {
-            inside.notify_all(NOT_FULL);
-        } else {
-            inside.notify_one(condition);
+    fn notify(self, buffer: &Buffer, seat: usize, mut inside: Inside, condition: usize) {
+        match self {
+            Style::All => inside.notify_all(NOT_FULL),
+            Style::Late => {
+                drop(inside);
+                buffer.notify_one(seat, condition);
+            }
+            _ => inside.notify_one(condition),
         }
     }
 
@@ -76,7 +82,7 @@ impl Style {
         self.wait_while(&mut inside, NOT_FULL, |items| items.len() >= SIZE);
         inside.push_back(item);
         inside.act(PUT, item, 1);
-        self.notify(&mut inside, NOT_EMPTY);
+        self.notify(buffer, seat, inside, NOT_EMPTY);
     }
 
     fn take(self, buffer: &Buffer, seat: usize) {
@@ -85,7 +91,7 @@ impl Style {
         let item = inside.pop_front().unwrap_or(0);
         inside.act(TAKE, 0, u64::from(item) + 1);
         if self != Style::Forgotten {
-            self.notify(&mut inside, NOT_FULL);
+            self.notify(buffer, seat, inside, NOT_FULL);
         }
     }
 }

@@ -15,9 +15,17 @@
      threads    40 threads of one mutex
      conds      ten conditions of one mutex
      lost       a signal without the mutex, before anybody waits
+     outside    two threads wait for each other, and signal without the mutex
+     outsiders  40 threads that signal without the mutex, and are never inside
+     refused    waits that are refused, while another thread signals without the mutex
+     handler    a signal of a thread that waits itself, by its handler of SIGUSR1
+     child      signals without the mutex, in a child too
      none       no mutex
      unwaited   a mutex on whose conditions nobody waits */
+#include <errno.h>
 #include <pthread.h>
+#include <signal.h>
+#include <stdatomic.h>
 #include <stdio.h>
 #include <stdlib.h>
 #include <string.h>
@@ -27,7 +35,7 @@
 
 #include "../c/monk_log.h"
 
-enum { MANY = 100000, AGAIN = 10, THREADS = 40, CONDS = 10, STATUS = 7, WRONG = 3, PUT = 0, ITEM = 5 };
+enum { MANY = 100000, AGAIN = 10, THREADS = 40, CONDS = 10, ROUNDS = 500, STATUS = 7, WRONG = 3, PUT = 0, ITEM = 5 };
 
 struct monitor {
     pthread_mutex_t lock;
@@ -244,6 +252,124 @@ static void lost(void) {
     meet(&fixed);
 }
 
+/* ---- signals without the mutex */
+
+static void *set_outside(void *it) {
+    struct monitor *m = it;
+    pthread_mutex_lock(&m->lock);
+    m->set = 1;
+    pthread_mutex_unlock(&m->lock);
+    pthread_cond_signal(&m->is_set);
+    return 0;
+}
+
+static struct monitor sides[2] = {{PTHREAD_MUTEX_INITIALIZER, PTHREAD_COND_INITIALIZER, 0},
+                                  {PTHREAD_MUTEX_INITIALIZER, PTHREAD_COND_INITIALIZER, 0}};
+
+/* Waits for its own side, and tells the other. */
+static void *answer(void *it) {
+    struct monitor *mine = it, *other = mine == &sides[0] ? &sides[1] : &sides[0];
+    for (int i = 0; i < ROUNDS; i++) {
+        await(mine);
+        set_outside(other);
+    }
+    return 0;
+}
+
+static void outside(void) {
+    pthread_t threads[2];
+    for (int i = 0; i < 2; i++)
+        pthread_create(&threads[i], 0, answer, &sides[i]);
+    set_outside(&sides[0]);
+    for (int i = 0; i < 2; i++)
+        pthread_join(threads[i], 0);
+}
+
+static void *signal_only(void *unused) {
+    pthread_cond_signal(&fixed.is_set);
+    pthread_barrier_wait(&everybody);
+    return unused;
+}
+
+static void outsiders(void) {
+    pthread_t all[THREADS];
+    meet(&fixed);
+    pthread_barrier_init(&everybody, 0, THREADS);
+    for (int i = 0; i < THREADS; i++)
+        pthread_create(&all[i], 0, signal_only, 0);
+    for (int i = 0; i < THREADS; i++)
+        pthread_join(all[i], 0);
+    meet(&fixed);
+}
+
+static void *signal_often(void *unused) {
+    for (int i = 0; i < ROUNDS; i++)
+        pthread_cond_signal(&fixed.is_set);
+    return unused;
+}
+
+static void refused(void) {
+    struct timespec no_time = {0, -1};
+    pthread_t thread;
+    meet(&fixed);
+    pthread_create(&thread, 0, signal_often, 0);
+    for (int i = 0; i < ROUNDS; i++) {
+        pthread_mutex_lock(&fixed.lock);
+        pthread_cond_timedwait(&fixed.is_set, &fixed.lock, &no_time);
+        pthread_mutex_unlock(&fixed.lock);
+    }
+    pthread_join(thread, 0);
+}
+
+static pthread_cond_t other_cond = PTHREAD_COND_INITIALIZER;
+static pthread_t waiting;
+static atomic_int is_handled;
+
+static void handle(int number) {
+    int error = errno;
+    (void)number;
+    pthread_cond_signal(&other_cond);
+    atomic_store(&is_handled, 1);
+    errno = error;
+}
+
+/* Once it has the lock, the other waits. */
+static void *disturb(void *unused) {
+    pthread_mutex_lock(&fixed.lock);
+    pthread_kill(waiting, SIGUSR1);
+    while (!atomic_load(&is_handled))
+        usleep(1);
+    pthread_mutex_unlock(&fixed.lock);
+    set(&fixed);
+    return unused;
+}
+
+static void handler(void) {
+    struct timespec past = {0, 0};
+    pthread_t thread;
+    signal(SIGUSR1, handle);
+    waiting = pthread_self();
+    pthread_mutex_lock(&fixed.lock);
+    pthread_cond_timedwait(&other_cond, &fixed.lock, &past);
+    pthread_create(&thread, 0, disturb, 0);
+    while (!fixed.set)
+        pthread_cond_wait(&fixed.is_set, &fixed.lock);
+    pthread_mutex_unlock(&fixed.lock);
+    pthread_join(thread, 0);
+}
+
+static void child(void) {
+    meet(&fixed);
+    pthread_cond_signal(&fixed.is_set);
+    pid_t pid = fork();
+    pthread_cond_signal(&fixed.is_set);
+    meet(&fixed);
+    pthread_cond_signal(&fixed.is_set);
+    if (!pid)
+        exit(0);
+    waitpid(pid, 0, 0);
+}
+
 static void is_its_own(void) {
     if (pthread_getspecific(early_key))
         _Exit(WRONG);
@@ -260,7 +386,8 @@ static const struct {
 } styles[] = {
     {"many", many}, {"living", living}, {"again", again}, {"renewed", renewed}, {"quick", quick}, {"at-once", at_once},
     {"Exit", Exit}, {"hang", hang}, {"forks", forks}, {"c11", c11}, {"acts", acts}, {"threads", threads}, {"conds", conds},
-    {"lost", lost}, {"early", is_its_own}, {"none", none}, {"unwaited", unwaited},
+    {"lost", lost}, {"outside", outside}, {"outsiders", outsiders}, {"refused", refused}, {"handler", handler}, {"child", child},
+    {"early", is_its_own}, {"none", none}, {"unwaited", unwaited},
 };
 
 int main(int words, char **word) {

@@ -1,5 +1,6 @@
 // Package monklog records one monitor of a sync.Mutex and its sync.Conds. Each line is written by the goroutine that
-// holds the mutex. A goroutine has no name, so each says the seat that it was given, from 0.
+// holds the mutex, but for signals by seats that are outside: they are noted with their place. A goroutine has no name,
+// so each says the seat that it was given, from 0.
 //
 // What a recorder can't see is told in recorders/README.md.
 package monklog
@@ -18,6 +19,8 @@ const (
 	seats      = 32
 	conditions = 8
 	statusLate = 124
+	// in place of a length
+	ended = -1
 )
 
 func min(one, other int) int {
@@ -35,7 +38,16 @@ type Monitor struct {
 	conds   int
 	stopped string
 	active  atomic.Uint64 // the seat that has the mutex, from 1
-	strays  atomic.Int64  // signals of seats that hadn't
+	length  atomic.Int64  // how long the lines are, or ended
+	order   sync.Mutex    // held for each line of a wait, and for a signal from outside together with its call
+	outside []signal
+	leftOut int
+}
+
+// signal is one by a seat that hadn't the mutex: a line, and how long the lines before it are.
+type signal struct {
+	place int64
+	line  string
 }
 
 // Cond stands in place of a sync.Cond.
@@ -51,6 +63,7 @@ func (m *Monitor) put(verb string, numbers ...uint64) {
 		m.stopped = fmt.Sprintf("there are more than %d threads, and a log has no more seats", seats)
 	}
 	if m.stopped != "" {
+		m.length.Store(ended)
 		return
 	}
 	m.count++
@@ -59,12 +72,24 @@ func (m *Monitor) put(verb string, numbers ...uint64) {
 		fmt.Fprintf(&m.lines, " %d", number)
 	}
 	m.lines.WriteByte('\n')
+	m.length.Store(int64(m.lines.Len()))
+}
+
+// gate is the monitor's mutex as a sync.Cond uses it: Wait lets it go once its caller is among those that wait.
+type gate struct{ m *Monitor }
+
+func (g gate) Lock() { g.m.mutex.Lock() }
+
+func (g gate) Unlock() {
+	g.m.order.Unlock()
+	g.m.active.Store(0)
+	g.m.mutex.Unlock()
 }
 
 // Cond makes a condition of the monitor, before any goroutine uses it.
 func (m *Monitor) Cond() *Cond {
 	m.conds++
-	return &Cond{m, sync.NewCond(&m.mutex), m.conds - 1}
+	return &Cond{m, sync.NewCond(gate{m}), m.conds - 1}
 }
 
 func (m *Monitor) Lock(seat uint64) {
@@ -92,43 +117,61 @@ func (c *Cond) on(verb string, seat uint64) {
 	c.monitor.put(verb, seat, uint64(c.number))
 }
 
-// tell writes a signal down where its caller has the mutex; else it is counted.
-func (c *Cond) tell(verb string, seat uint64) {
-	if c.monitor.active.Load() == seat+1 {
+// tell writes a signal down and calls it. One from outside is noted: whom it serves can't write yet that it goes on.
+func (c *Cond) tell(verb string, seat uint64, call func()) {
+	m := c.monitor
+	if m.active.Load() == seat+1 {
 		c.on(verb, seat)
-	} else {
-		c.monitor.strays.Add(1)
+		call()
+		return
 	}
+	m.order.Lock()
+	defer m.order.Unlock()
+	place := m.length.Load()
+	if seat >= seats || c.number >= conditions || place == ended {
+		m.leftOut++
+	} else {
+		m.outside = append(m.outside, signal{place, fmt.Sprintf("%s %d %d\n", verb, seat, c.number)})
+	}
+	call()
 }
 
+// Wait holds the order until its caller is among those that wait (gate), so a signal from outside finds whom the lines show.
 func (c *Cond) Wait(seat uint64) {
+	m := c.monitor
+	m.order.Lock()
 	c.on("wait", seat)
-	c.monitor.active.Store(0)
 	c.raw.Wait()
-	c.monitor.active.Store(seat + 1)
-	c.monitor.put("resume", seat)
+	m.active.Store(seat + 1)
+	m.order.Lock()
+	defer m.order.Unlock()
+	m.put("resume", seat)
 }
 
 func (c *Cond) Signal(seat uint64) {
-	c.tell("signal", seat)
-	c.raw.Signal()
+	c.tell("signal", seat, c.raw.Signal)
 }
 
 func (c *Cond) Broadcast(seat uint64) {
-	c.tell("broadcast", seat)
-	c.raw.Broadcast()
+	c.tell("broadcast", seat, c.raw.Broadcast)
 }
 
 // Summary is what was seen, in words.
 func (m *Monitor) Summary() string {
 	m.mutex.Lock()
 	defer m.mutex.Unlock()
-	said := fmt.Sprintf("%d lines, %d conditions", m.count, m.conds)
+	m.order.Lock()
+	defer m.order.Unlock()
+	noted := len(m.outside)
+	said := fmt.Sprintf("%d lines, %d conditions", m.count+noted, m.conds)
 	if m.stopped != "" {
 		said += "; it ends early, since " + m.stopped
 	}
-	if strays := m.strays.Load(); strays > 0 {
-		said += fmt.Sprintf("; signals without the mutex: %d; it lacks them", strays)
+	if noted+m.leftOut > 0 {
+		said += fmt.Sprintf("; signals without the mutex: %d", noted+m.leftOut)
+	}
+	if m.leftOut > 0 {
+		said += fmt.Sprintf(", left out: %d", m.leftOut)
 	}
 	return said
 }
@@ -169,5 +212,19 @@ func (m *Monitor) EndAfter(long time.Duration, path string, seats int, object st
 func (m *Monitor) Text(count int, object string) string {
 	m.mutex.Lock()
 	defer m.mutex.Unlock()
-	return fmt.Sprintf("log 1 %d %d %s\n", min(count, seats), min(m.conds, conditions), object) + m.lines.String()
+	m.order.Lock()
+	defer m.order.Unlock()
+	return fmt.Sprintf("log 1 %d %d %s\n", min(count, seats), min(m.conds, conditions), object) + m.merged()
+}
+
+// merged is the lines with the signals from outside at their places.
+func (m *Monitor) merged() string {
+	var text strings.Builder
+	lines, written := m.lines.String(), int64(0)
+	for _, it := range m.outside {
+		text.WriteString(lines[written:it.place])
+		text.WriteString(it.line)
+		written = it.place
+	}
+	return text.String() + lines[written:]
 }

@@ -1,4 +1,5 @@
-//! Records one monitor of a `std::sync::Mutex` and its `Condvar`s. Each line is written by the thread that holds the mutex.
+//! Records one monitor of a `std::sync::Mutex` and its `Condvar`s. Each line is written by the thread that holds the mutex, but
+//! for signals by seats that are outside: they are noted with their place.
 //!
 //! What a recorder can't see is told in recorders/README.md.
 
@@ -8,6 +9,7 @@ use std::io::Write as _;
 use std::ops::{Deref, DerefMut};
 use std::path::PathBuf;
 use std::process::exit;
+use std::sync::atomic::{AtomicUsize, Ordering};
 use std::sync::{Arc, Condvar, Mutex, MutexGuard};
 use std::thread;
 use std::time::Duration;
@@ -16,6 +18,17 @@ use std::time::Duration;
 pub struct Monitor<T, const CONDITIONS: usize> {
     inner: Mutex<Recorded<T>>,
     conditions: [Condvar; CONDITIONS],
+    // how long the lines are, or ENDED
+    length: AtomicUsize,
+    // held for each line of a wait, and for a signal from outside together with its call
+    order: Mutex<Outside>,
+}
+
+// Signals by seats that are outside, and what the lines had before each.
+#[derive(Default)]
+struct Outside {
+    signals: Vec<(usize, String)>,
+    left_out: usize,
 }
 
 struct Recorded<T> {
@@ -29,6 +42,7 @@ struct Recorded<T> {
 const SEATS: usize = 32;
 const MOST_CONDITIONS: usize = 8;
 const STATUS_LATE: i32 = 124;
+const ENDED: usize = usize::MAX;
 
 /// A seat that is inside; it leaves when this is dropped.
 pub struct Inside<'a, T, const CONDITIONS: usize> {
@@ -44,7 +58,9 @@ impl<T, const CONDITIONS: usize> Monitor<T, CONDITIONS> {
         let conditions = std::array::from_fn(|_| Condvar::new());
         let many = "there are more than 8 conditions, and a log has no more";
         let stopped = (CONDITIONS > MOST_CONDITIONS).then_some(many);
-        Monitor { inner: Mutex::new(Recorded { lines, stopped, data }), conditions }
+        let length = AtomicUsize::new(if stopped.is_some() { ENDED } else { 0 });
+        let inner = Mutex::new(Recorded { lines, stopped, data });
+        Monitor { inner, conditions, length, order: Mutex::default() }
     }
 
     /// Comes in. Each thread has a seat of its own, from 0.
@@ -55,17 +71,58 @@ impl<T, const CONDITIONS: usize> Monitor<T, CONDITIONS> {
         inside
     }
 
+    /// A signal by a seat that is outside.
+    pub fn notify_one(&self, seat: usize, condition: usize) {
+        self.tell("signal", seat, condition, Condvar::notify_one);
+    }
+
+    /// A signal to all by a seat that is outside.
+    pub fn notify_all(&self, seat: usize, condition: usize) {
+        self.tell("broadcast", seat, condition, Condvar::notify_all);
+    }
+
+    // Whom it serves has written that it waits, and can't write yet that it goes on.
+    fn tell(&self, verb: &str, seat: usize, condition: usize, call: fn(&Condvar)) {
+        let condvar = &self.conditions[condition];
+        let mut outside = self.order.lock().unwrap();
+        let place = self.length.load(Ordering::Relaxed);
+        if seat >= SEATS || place == ENDED {
+            outside.left_out += 1;
+        } else {
+            outside.signals.push((place, format!("{verb} {seat} {condition}\n")));
+        }
+        call(condvar);
+    }
+
     /// The log so far, of so many seats; `object` is the object and its size, as `buffer 4`.
     pub fn text(&self, seats: usize, object: &str) -> String {
+        let (inner, outside) = (self.inner.lock().unwrap(), self.order.lock().unwrap());
         let (seats, conditions) = (seats.min(SEATS), CONDITIONS.min(MOST_CONDITIONS));
-        format!("log 1 {seats} {conditions} {object}\n{}", self.inner.lock().unwrap().lines)
+        let mut text = format!("log 1 {seats} {conditions} {object}\n");
+        let mut written = 0;
+        for (place, line) in &outside.signals {
+            text += &inner.lines[written..*place];
+            text += line;
+            written = *place;
+        }
+        text + &inner.lines[written..]
     }
 
     /// What was seen, in words.
     pub fn summary(&self) -> String {
-        let inner = self.inner.lock().unwrap();
-        let cut = inner.stopped.map_or(String::new(), |why| format!("; it ends early, since {why}"));
-        format!("{} lines, {CONDITIONS} conditions{cut}", inner.lines.lines().count())
+        let (inner, outside) = (self.inner.lock().unwrap(), self.order.lock().unwrap());
+        let (noted, left_out) = (outside.signals.len(), outside.left_out);
+        let mut said = format!("{} lines, {CONDITIONS} conditions", inner.lines.lines().count() + noted);
+        if let Some(why) = inner.stopped {
+            said += &format!("; it ends early, since {why}");
+        }
+        if noted + left_out > 0 {
+            said += &format!("; signals without the mutex: {}", noted + left_out);
+        }
+        if left_out > 0 {
+            said += &format!(", left out: {left_out}");
+        }
+        said
     }
 
     // In a moment.
@@ -110,9 +167,19 @@ impl<T, const CONDITIONS: usize> Inside<'_, T, CONDITIONS> {
             guard.stopped = Some("there are more than 32 threads, and a log has no more seats");
         }
         // what stands before a line that isn't written is a log too
-        if guard.stopped.is_none() {
+        let length = if guard.stopped.is_none() {
             writeln!(guard.lines, "{verb} {seat}{numbers}").unwrap();
-        }
+            guard.lines.len()
+        } else {
+            ENDED
+        };
+        self.monitor.length.store(length, Ordering::Relaxed);
+    }
+
+    // A line of a wait: on the right side of each signal from outside.
+    fn put_in_order(&mut self, verb: &str, numbers: Arguments<'_>) {
+        let _order = self.monitor.order.lock().unwrap();
+        self.put(verb, numbers);
     }
 
     /// An operation on the data: its code, what it was given, what it replied (docs/MONITORS.md).
@@ -121,19 +188,19 @@ impl<T, const CONDITIONS: usize> Inside<'_, T, CONDITIONS> {
     }
 
     pub fn wait(&mut self, condition: usize) {
-        self.put("wait", format_args!(" {condition}"));
+        self.put_in_order("wait", format_args!(" {condition}"));
         let guard = self.guard.take().unwrap();
         self.guard = Some(self.monitor.conditions[condition].wait(guard).unwrap());
-        self.put("resume", format_args!(""));
+        self.put_in_order("resume", format_args!(""));
     }
 
     /// Waits for so long at most; whether the wait ended before.
     pub fn wait_timeout(&mut self, condition: usize, time: Duration) -> bool {
-        self.put("wait", format_args!(" {condition}"));
+        self.put_in_order("wait", format_args!(" {condition}"));
         let guard = self.guard.take().unwrap();
         let (guard, end) = self.monitor.conditions[condition].wait_timeout(guard, time).unwrap();
         self.guard = Some(guard);
-        self.put(if end.timed_out() { "lapse" } else { "resume" }, format_args!(""));
+        self.put_in_order(if end.timed_out() { "lapse" } else { "resume" }, format_args!(""));
         !end.timed_out()
     }
 
