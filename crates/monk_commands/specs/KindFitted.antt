@@ -165,8 +165,8 @@ numbered_counts number c = record {
   missed = c.missed;
 }
 
--- the answer to a log whose signals from outside are sent from inside: no signal is missed, since who signals from outside
--- has let the monitor go before
+-- the answer to a log whose signals from outside are sent from inside: no signal is missed, since who signals from
+-- outside has let the monitor go before
 abbrev pub outside_answer : KindName → Lapses → LogHeading → List LogLine → LineAnswer
 outside_answer k x h log =
     if nat_lt (most h.object) h.size then too_big

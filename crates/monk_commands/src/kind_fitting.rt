@@ -182,9 +182,9 @@ fn kind_answer(
 /// so.
 ///
 /// Under NPNB a seat that isn't inside may signal, as a program may that signals without the lock. Of
-/// such a log it is said what is so once these signals are sent from inside ([`send_inside`](monk_logs::send_inside)), with
-/// the numbers of the log's own lines. No signal is told as missed there, since a thread may signal
-/// long after it has let the monitor go.
+/// such a log it is said what is so once these signals are sent from inside
+/// ([`send_inside`](monk_logs::send_inside)), with the numbers of the log's own lines. No signal is
+/// told as missed there, since a thread may signal long after it has let the monitor go.
 ///
 /// Where the reader has no such text, it is `unreadable LINE NUMBER WORD`, and where the size is above
 /// the object's greatest `object`, both with status 2.

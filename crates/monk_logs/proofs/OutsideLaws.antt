@@ -28,7 +28,8 @@ inside_more table l before at such is_at is lt has j =
     ⊎_elim
     (λ e. rw (eq-eqb (line_seat l) j e)
     (ap (λ i. get_or (set table at such) i false) (sym (is_at ∙ e))
-    ∙ (get_or-set_same table at such false lt ∙ (is ∙ ap (inside_after l) (has at ∙ ap (λ i. is_inside i before) (is_at ∙ e))))))
+    ∙ (get_or-set_same table at such false lt
+    ∙ (is ∙ ap (inside_after l) (has at ∙ ap (λ i. is_inside i before) (is_at ∙ e))))))
     (λ ne. rw (ne_eqb (line_seat l) j ne)
     (get_or-set_other table at j such false (λ e. ne (sym is_at ∙ sym e)) ∙ has j))
     (cases_eq (line_seat l) j)
@@ -46,8 +47,8 @@ outside_more : (seats : ℕ) (log : List LogLine) (i : ℕ) (l : LogLine) → i 
 unfolding outside_behind
 outside_more seats log i l lt =
     at_drop_more (outside_behind seats (reverse (take i log))) log i l lt
-    ∙ ap (λ before. is_from_outside seats (reverse (take i log)) (get_or log i l) || outside_behind seats before (drop (i + 1) log))
-    (sym (before_more log i l lt))
+    ∙ ap (λ before. is_from_outside seats (reverse (take i log)) (get_or log i l)
+    || outside_behind seats before (drop (i + 1) log)) (sym (before_more log i l lt))
 
 pub outside_step : (seats : ℕ) (log : List LogLine) (i : ℕ) (l : LogLine) → i < length log
     → is_from_outside seats (reverse (take i log)) (get_or log i l) ≡ false
@@ -78,8 +79,8 @@ pub told_more : (seats : ℕ) (log : List LogLine) (i : ℕ) (l : LogLine) → i
 unfolding inside_behind
 told_more seats log i l lt =
     at_drop_more (inside_behind seats (reverse (take i log))) log i l lt
-    ∙ ap (λ before. told_inside seats (reverse (take i log)) (get_or log i l) ++ inside_behind seats before (drop (i + 1) log))
-    (sym (before_more log i l lt))
+    ∙ ap (λ before. told_inside seats (reverse (take i log)) (get_or log i l)
+    ++ inside_behind seats before (drop (i + 1) log)) (sym (before_more log i l lt))
 
 pub told_step : (seats : ℕ) (log read now : List LogLine) (i : ℕ) (l : LogLine) → i < length log
     → now ≡ read ++ told_inside seats (reverse (take i log)) (get_or log i l)
@@ -92,11 +93,13 @@ told_step seats log read now i l lt is has =
     ∙ ap (λ (ls : List LogLine). read ++ ls) (sym (told_more seats log i l lt)) ∙ has
 
 pub told_all : (seats : ℕ) (log read : List LogLine) (i : ℕ) → length log ≤ i
-    → read ++ inside_behind seats (reverse (take i log)) (drop i log) ≡ from_inside seats log → read ≡ from_inside seats log
+    → read ++ inside_behind seats (reverse (take i log)) (drop i log) ≡ from_inside seats log
+    → read ≡ from_inside seats log
 unfolding inside_behind
 told_all seats log read i le has =
     sym (append-nil read)
-    ∙ ap (λ (ls : List LogLine). read ++ ls) (sym (at_drop_all (inside_behind seats (reverse (take i log))) log i le)) ∙ has
+    ∙ ap (λ (ls : List LogLine). read ++ ls)
+    (sym (at_drop_all (inside_behind seats (reverse (take i log))) log i le)) ∙ has
 
 -- ---- the lines of both
 
@@ -128,7 +131,8 @@ origin_found seats log i l left told number line lt is le has =
 pub origin_step : (seats : ℕ) (log : List LogLine) (i : ℕ) (l : LogLine) (left told number line : ℕ) → i < length log
     → told ≡ length (told_inside seats (reverse (take i log)) (get_or log i l)) → told < left
     → number + origin_behind seats (reverse (take i log)) (drop i log) left ≡ origin seats log line
-    → number + 1 + origin_behind seats (reverse (take (i + 1) log)) (drop (i + 1) log) (left - told) ≡ origin seats log line
+    → number + 1 + origin_behind seats (reverse (take (i + 1) log)) (drop (i + 1) log) (left - told)
+    ≡ origin seats log line
 origin_step seats log i l left told number line lt is gt has =
     let later = origin_more seats log i l left lt
     ∙ ap (λ b. cond b 1 (suc (origin_behind seats (reverse (take (i + 1) log)) (drop (i + 1) log)
@@ -138,7 +142,8 @@ origin_step seats log i l left told number line lt is gt has =
     omega (arith, later, has)
 
 pub origin_end : (seats : ℕ) (log : List LogLine) (i : ℕ) (left number line : ℕ) → length log ≤ i
-    → number + origin_behind seats (reverse (take i log)) (drop i log) left ≡ origin seats log line → number ≡ origin seats log line
+    → number + origin_behind seats (reverse (take i log)) (drop i log) left ≡ origin seats log line
+    → number ≡ origin seats log line
 unfolding origin_behind
 origin_end seats log i left number line le has =
     let none = at_drop_all (λ rest. origin_behind seats (reverse (take i log)) rest left) log i le in

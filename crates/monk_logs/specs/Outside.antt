@@ -1,7 +1,8 @@
 -- Logs of programs that signal without the lock. A signal from outside is a line `signal` or `broadcast` of a seat that
--- isn't inside (and that there is). It is read as sent from inside: by the seat that has the monitor, or, where nobody has it, in a visit of
--- its own
-use Rattle.std.specs.Prelude.{◌≡◌, ℕ, suc, ◌-◌, ◌==◌, ◌&&◌, ◌||◌, not, nat_le, nat_lt, Bool, true, false, if◌then◌else◌}
+-- the log has and that isn't inside. It is read as sent from inside: by the seat that has the monitor, or, if nobody
+-- has it, in a visit of its own
+use Rattle.std.specs.Prelude.{◌≡◌, ℕ, suc, ◌-◌, ◌==◌, ◌&&◌, ◌||◌, not, nat_le, nat_lt, if◌then◌else◌}
+use Rattle.std.specs.Prelude.{Bool, true, false}
 use Rattle.std.specs.Prelude.{List, [], ◌∷◌, ◌++◌, length, get_or, Option, Some, None}
 use Rattle.monk_logs.specs.Expiry.{line_seat}
 use Rattle.monk_logs.specs.declared.outside.presence.Presence.{Presence}
@@ -64,7 +65,8 @@ is_signal (Broadcast s c) = true
 is_signal (Until s p) = false
 is_signal (Act s op r) = false
 
--- whether the line is a signal by one of so many seats that isn't inside, where these lines stand before, the last first
+-- whether the line is a signal by one of so many seats that isn't inside, where these lines stand before it, the last
+-- first
 abbrev pub is_from_outside : ℕ → List LogLine → LogLine → Bool
 is_from_outside seats before l = is_signal l && nat_lt (line_seat l) seats && not (is_inside (line_seat l) before)
 

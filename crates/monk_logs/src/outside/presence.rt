@@ -1,6 +1,6 @@
 //! Who is inside behind the lines of a log, and who has the monitor.
 
-ghost use Rattle.std.specs.Prelude.{◌≡◌, ◌∷◌, [], List, length};
+ghost use Rattle.std.specs.Prelude.{◌≡◌, ◌∷◌, [], List};
 ghost use Rattle.monk_logs.specs.Outside as outside;
 ghost use Rattle.monk_logs.specs.Outside.{IsPresence};
 ghost use Rattle.monk_logs.specs.declared.text.line.LogLine.{LogLine};

@@ -6,6 +6,7 @@ abbrev pub invariant-loop-read : goal.invariant-loop-read
 invariant-loop-read l = record {
   presence : outside.IsPresence l.presence (reverse (take l.read-index l.lines));
   number : l.number ≡ l.read-index;
-  origin : l.number + outside.origin_behind l.seats (reverse (take l.read-index l.lines)) (drop l.read-index l.lines) l.left
+  origin : l.number
+      + outside.origin_behind l.seats (reverse (take l.read-index l.lines)) (drop l.read-index l.lines) l.left
       ≡ outside.origin l.seats l.lines l.fn.line;
 }
