@@ -171,7 +171,7 @@ abbrev pub outside_answer : KindName → Lapses → LogHeading → List LogLine 
 outside_answer k x h log =
     if nat_lt (most h.object) h.size then too_big
     else fit_with_counts k [] (numbered_counts (origin h.seats log) (kind_counts k h [] (from_inside h.seats log)))
-        (numbered_fit (origin h.seats log) (log_fit x h (from_inside h.seats log) k))
+    (numbered_fit (origin h.seats log) (log_fit x h (from_inside h.seats log) k))
 
 -- the answer to a log, with signals from outside or without
 abbrev pub sent_answer : KindName → Lapses → List WaitsFor → LogHeading → List LogLine → LineAnswer

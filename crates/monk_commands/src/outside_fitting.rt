@@ -10,7 +10,9 @@ use crate::fault::StreamFault;
 use crate::kind_answering::{counts, fit_answer, kind_fit};
 use crate::lines_answer::LinesAnswer;
 use monk_kinds::KindName;
-use monk_logs::{Counts, Fit, Held, Lapses, LogHeader, LogLine, MOST_LOG_LINES, origin, send_inside};
+use monk_logs::{
+    Counts, Fit, Held, Lapses, LogHeader, LogLine, MOST_LOG_LINES, origin, send_inside,
+};
 use std::alloc::Global;
 
 /// Whether the kind is Mesa's.

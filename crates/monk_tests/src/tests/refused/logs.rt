@@ -29,7 +29,11 @@ pub(super) fn is_expired(rt: &HostRuntime) -> Result<bool, Fail> {
 /// A signal from outside is sent from inside.
 pub(super) fn is_sent_inside(rt: &HostRuntime) -> Result<bool, Fail> {
     begins(rt, "sent_inside")?;
-    let lines = [LogLine::Enter(0), LogLine::Wait(0, 0), LogLine::Signal(1, 0)];
+    let lines = [
+        LogLine::Enter(0),
+        LogLine::Wait(0, 0),
+        LogLine::Signal(1, 0),
+    ];
     let read = send_inside(rt.alloc(), 2, &lines)?;
     Ok(read.len() == 5 && read.last() == Some(&LogLine::Leave(1)))
 }
