@@ -137,19 +137,19 @@ numbered_status k number c (In o) = held_status number c.missed c.held
 numbered_status k number c (Misfit n why) = refl
 
 module _ (k : KindName) (x : Lapses) (h : LogHeading) where
-  outside_status : (log : List LogLine) (big : Bool) → ltb (most h.object) h.size ≡ big
-      → (outside_answer k x h log).status ≡ (log_kind_answer k x [] h (from_inside h.seats log)).status
-  outside_status log true is = rw (is, is) refl
-  outside_status log false is =
-      rw (is, is) (numbered_status k (origin h.seats log) (kind_counts k h [] (from_inside h.seats log))
-      (log_fit x h (from_inside h.seats log) k))
+  outside_status : (ls : List LogLine) (big : Bool) → ltb (most h.object) h.size ≡ big
+      → (outside_answer k x h ls).status ≡ (log_kind_answer k x [] h (from_inside h.seats ls)).status
+  outside_status ls true is = rw is refl
+  outside_status ls false is =
+      rw is (numbered_status k (origin h.seats ls) (kind_counts k h [] (from_inside h.seats ls))
+      (log_fit x h (from_inside h.seats ls) k))
 
   -- the status is that of the log as it is judged
-  sent_status : (means : List WaitsFor) (log : List LogLine) (sent : Bool) → is_sent k h log ≡ sent
-      → (sent_answer k x means h log).status
-      ≡ (log_kind_answer k x (judged_means k means h log) h (judged_log k h log)).status
-  sent_status means log true is = rw is (outside_status log (ltb (most h.object) h.size) refl)
-  sent_status means log false is = rw is refl
+  sent_status : (means : List WaitsFor) (ls : List LogLine) (sent : Bool) → is_sent k h ls ≡ sent
+      → (sent_answer k x means h ls).status
+      ≡ (log_kind_answer k x (judged_means k means h ls) h (judged_log k h ls)).status
+  sent_status means ls true is = rw is (outside_status ls (ltb (most h.object) h.size) refl)
+  sent_status means ls false is = rw is refl
 
   log_judged_by : (means : List WaitsFor) (ls : List LogLine) (big : Bool) (f : Fit)
       → ltb (most h.object) h.size ≡ big → log_fit x h ls k ≡ f
