@@ -5,7 +5,7 @@ use monk_kinds::KindName;
 use monk_logs::{Lapses, WaitsFor};
 
 /// By the names that `checks/fail_alloc` knows them by.
-pub(super) static JOBS: [Job<'static>; 22] = [
+pub(super) static JOBS: [Job<'static>; 23] = [
     Job {
         name: "legal",
         task: Task::Audit,
