@@ -8,6 +8,9 @@ use std::test::Fail;
 /// How many seats the logs have.
 const SEATS: u8 = 255;
 
+/// The most lines that a log has here.
+const MOST_LINES: usize = 16;
+
 /// Lines, what they are read as, and which of them each line tells that is read.
 struct Reading {
     name: &'static str,
@@ -137,14 +140,17 @@ static READINGS: [Reading; 7] = [
 
 /// Whether each line that is read tells that line of the log, and one behind them the last.
 fn have_origins(row: &Reading) -> bool {
-    let mut number = 0;
+    if row.lines.len() > MOST_LINES {
+        return false;
+    }
+    let mut number: u32 = 0;
     for line in row.origins {
-        number += 1;
+        number = number.saturating_add(1);
         if origin(SEATS, row.lines, number) != *line {
             return false;
         }
     }
-    origin(SEATS, row.lines, number + 1) as usize == row.lines.len()
+    origin(SEATS, row.lines, number.saturating_add(1)) as usize == row.lines.len()
 }
 
 /// Whether the lines are read so.
