@@ -5,9 +5,12 @@ import shutil
 import subprocess
 
 HERE = os.path.dirname(os.path.abspath(__file__))
-# How long a recorded run may last, in seconds, and one that may hang; how many signals there are to one that is dropped.
-LONG, LONG_IF_HANGING, EVERY = "20", "0.3", "7"
-HANGING, STATUS_LATE = ("if", "forgotten", "drop"), 124
+# How long a recorded run may last, in seconds, one that may hang, and one that is shaken besides; how many signals there are to
+# one that is dropped.
+LONG, LONG_IF_HANGING, LONG_IF_SHAKEN, EVERY = "20", "0.3", "0.6", "7"
+HANGING, STATUS_LATE = ("if", "forgotten", "drop", "single", "early", "returns", "deadlock"), 124
+# The faults that take a rare order: each run is shaken by a seed of its own.
+SHAKEN, SMALL = ("early", "unlocked", "deadlock"), ("pair", "drop", "single", "early")
 TOOLS = {"c": ("gcc",), "c++": ("gcc", "g++"), "python": ("python3",), "java": ("javac", "java"), "go": ("go",), "rust": ("rustc",)}
 # The input of the unmodified programs: lines enough that sort takes threads.
 ROWS, PRIME = 300000, 999983
@@ -74,7 +77,17 @@ WRITERS = {
 }
 
 
-def run_recorded(folder, style, prefix):
+def shaking(style, seed):
+    """What the environment has besides, where a style is shaken."""
+    return {"MONK_SHAKE": str(seed)} if style in SHAKEN else {}
+
+
+def seconds_of(style):
+    """How long a run may last."""
+    return LONG if style not in HANGING else LONG_IF_SHAKEN if style in SHAKEN else LONG_IF_HANGING
+
+
+def run_recorded(folder, style, prefix, seed):
     """Runs a program with the recorder loaded; what it says on standard error."""
     drops, program = style == "drop", os.path.join(folder, "buffer")
     words = [*UNMODIFIED[style], input_of(folder)] if style in UNMODIFIED else [program, "pair" if drops else style]
@@ -82,9 +95,10 @@ def run_recorded(folder, style, prefix):
         **os.environ,
         "LD_PRELOAD": os.path.join(folder, "libmonk_log.so") + (f" {folder}/libdrop.so" if drops else ""),
         "MONK_LOG": prefix,
-        "MONK_OBJECT": "buffer 1" if style in ("pair", "drop") else "buffer 2",
-        "MONK_SECONDS": LONG_IF_HANGING if style in HANGING else LONG,
+        "MONK_OBJECT": "buffer 1" if style in SMALL else "buffer 2",
+        "MONK_SECONDS": seconds_of(style),
         "MONK_DROP": EVERY,
+        **shaking(style, seed),
     }
     ran = subprocess.run(words, env=env, cwd=folder, stdout=subprocess.DEVNULL, stderr=subprocess.PIPE, text=True)
     if ran.returncode not in (0, STATUS_LATE):
@@ -111,14 +125,15 @@ def run(language, style, folder, times):
     """Runs a demonstration some times; its logs, and what was said on standard error."""
     prefix, said = os.path.join(folder, f"{style.replace(' ', '_')}.log"), ""
     if language in WRITERS:
-        subprocess.run([*WRITERS[language](folder, style), prefix, str(times), style], check=True)
+        env = {**os.environ, **shaking(style, 1)}
+        subprocess.run([*WRITERS[language](folder, style), prefix, str(times), style], env=env, check=True)
     for number in range(0 if language in WRITERS else times):
         name = f"{prefix}.{number}"
         if style.startswith("hoare"):
             with open(name, "w") as file:
                 subprocess.run([os.path.join(folder, "hoare"), *style.split()[1:]], stdout=file, check=True)
         else:
-            said += run_recorded(folder, style, name)
+            said += run_recorded(folder, style, name, number + 1)
     return logs_of(prefix), said
 
 

@@ -37,10 +37,17 @@ class Said:
         """Whether it fits NPNB where waits run out at once, and signals may come from outside."""
         return self.alone[0].startswith("NPNB fits ")
 
+    def misses_alone(self):
+        """Whether a signal is missed so."""
+        return any(it.startswith("missed ") and it != "missed none" for it in self.alone[1:])
+
+    def end(self):
+        """How it ends, in one word."""
+        return self.alone[-1].partition(" ")[0]
+
     def is_right_alone(self):
         """Whether it fits so, misses nothing, and ends with nobody inside."""
-        counts, end = self.alone[1:-1], self.alone[-1]
-        return self.fits_alone() and end == "free" and all(it == "missed none" for it in counts if it.startswith("missed"))
+        return self.fits_alone() and not self.misses_alone() and self.end() == "free"
 
     def is_left(self):
         return self.counts["waiting"] + self.counts["woken"] > 0

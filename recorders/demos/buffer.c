@@ -7,10 +7,17 @@
      pair       as good, of one putter and one taker, with room for one item: no later signal makes up for one that is lost
      if         a fault: who waited doesn't test again
      forgotten  a fault: who takes signals nobody
+     single     a fault: as all, with room for one item, and signals: one may wake a thread that can't go on, and no other
+     early      a fault: as pair, but who puts takes no lock: its signal may come between a taker's test and its wait
+     returns    a fault: a taker returns without its unlock
+     deadlock   a fault: each takes two items, one after the other, and puts them back; there are two in all
 
    It knows nothing of the recorder but MONK_ACT, by which it tells what it did to the buffer. Condition 0 is the one on which
-   a putter waits (predicate 0 of a buffer), condition 1 the one on which a taker waits (predicate 1). */
+   a putter waits (predicate 0 of a buffer), condition 1 the one on which a taker waits (predicate 1). With early it tells no
+   acts, since they are told under the lock. */
 #include <pthread.h>
+#include <sched.h>
+#include <stdatomic.h>
 #include <stdio.h>
 #include <string.h>
 #include <time.h>
@@ -18,15 +25,19 @@
 #include "../c/monk_log.h"
 
 /* as many putters as takers */
-enum { PUTTERS = 3, SIZE = 2, ITEMS = 20, PUT = 0, TAKE = 1, SHORT = 20000, SECOND = 1000000000 };
+enum { PUTTERS = 3, SIZE = 2, ITEMS = 20, ITEMS_IF_EARLY = 1000, PUT = 0, TAKE = 1, SHORT = 20000, SECOND = 1000000000 };
 
 static pthread_mutex_t lock = PTHREAD_MUTEX_INITIALIZER;
 static pthread_cond_t not_full = PTHREAD_COND_INITIALIZER, not_empty = PTHREAD_COND_INITIALIZER;
-static unsigned ring[SIZE], first, count, size = SIZE;
-static int all, timed, late, once, forgotten;
+static unsigned ring[SIZE], first, size = SIZE, items = ITEMS;
+static atomic_uint count; /* (early reads it without the lock) */
+static int all, timed, late, once, forgotten, single, early, returns, deadlock;
 
 static int is_full(void) { return count == size; }
 static int is_empty(void) { return count == 0; }
+
+/* The condition that stands for this one. */
+static pthread_cond_t *shared(pthread_cond_t *cond) { return all || single ? &not_full : cond; }
 
 static void wait_for_a_while(pthread_cond_t *cond) {
     struct timespec until;
@@ -42,7 +53,7 @@ static void wait_while(int (*holds)(void), pthread_cond_t *cond) {
         if (timed)
             wait_for_a_while(cond);
         else
-            pthread_cond_wait(all ? &not_full : cond, &lock);
+            pthread_cond_wait(shared(cond), &lock);
         if (once)
             break;
     }
@@ -52,9 +63,9 @@ static void tell_and_leave(pthread_cond_t *cond) {
     if (late)
         pthread_mutex_unlock(&lock);
     if (all)
-        pthread_cond_broadcast(&not_full);
+        pthread_cond_broadcast(shared(cond));
     else if (cond)
-        pthread_cond_signal(cond);
+        pthread_cond_signal(shared(cond));
     if (!late)
         pthread_mutex_unlock(&lock);
 }
@@ -67,46 +78,79 @@ static void put(unsigned item) {
     tell_and_leave(&not_empty);
 }
 
-static void take(void) {
+static void put_without_lock(unsigned item) {
+    while (is_full())
+        sched_yield();
+    ring[first % SIZE] = item;
+    count++;
+    pthread_cond_signal(&not_empty);
+}
+
+static unsigned take(void) {
     pthread_mutex_lock(&lock);
     wait_while(is_empty, &not_empty);
     unsigned item = ring[first++ % SIZE];
     count--;
-    MONK_ACT(TAKE, 0, item + 1ul);
-    tell_and_leave(forgotten ? 0 : &not_full);
+    if (!early)
+        MONK_ACT(TAKE, 0, item + 1ul);
+    if (!returns || item != ITEMS / 2)
+        tell_and_leave(forgotten ? 0 : &not_full);
+    return item;
 }
 
 static void *putter(void *unused) {
     (void)unused;
-    for (unsigned item = 1; item <= ITEMS; item++)
-        put(item);
+    for (unsigned item = 1; item <= items; item++)
+        (early ? put_without_lock : put)(item);
     return 0;
 }
 
 static void *taker(void *unused) {
     (void)unused;
-    for (int taken = 0; taken < ITEMS; taken++)
+    for (unsigned taken = 0; taken < items; taken++)
         take();
     return 0;
 }
 
-int main(int words, char **word) {
-    const char *style = words > 1 ? word[1] : "good";
-    int is_pair = !strcmp(style, "pair"), putters = is_pair ? 1 : PUTTERS;
-    pthread_t threads[2 * PUTTERS];
-    size = is_pair ? 1 : SIZE;
+static void *borrower(void *unused) {
+    (void)unused;
+    for (unsigned round = 0; round < items; round++) {
+        unsigned one = take(), other = take();
+        put(one);
+        put(other);
+    }
+    return 0;
+}
+
+/* Gives how many putters there are. */
+static int begin(const char *style) {
+    int is_pair = !strcmp(style, "pair");
     all = !strcmp(style, "all");
     timed = !strcmp(style, "timed");
     late = !strcmp(style, "late");
     once = !strcmp(style, "if");
     forgotten = !strcmp(style, "forgotten");
+    single = !strcmp(style, "single");
+    early = !strcmp(style, "early");
+    returns = !strcmp(style, "returns");
+    deadlock = !strcmp(style, "deadlock");
+    size = is_pair || single || early ? 1 : SIZE;
+    items = early ? ITEMS_IF_EARLY : ITEMS;
+    return is_pair || early ? 1 : PUTTERS;
+}
+
+int main(int words, char **word) {
+    int putters = begin(words > 1 ? word[1] : "good");
+    pthread_t threads[2 * PUTTERS];
     /* the conditions are numbered in the order in which they are first met, so a putter meets its own first */
     pthread_mutex_lock(&lock);
     pthread_cond_signal(&not_full);
-    pthread_cond_signal(all ? &not_full : &not_empty);
+    pthread_cond_signal(shared(&not_empty));
     pthread_mutex_unlock(&lock);
+    for (unsigned item = 1; deadlock && item <= SIZE; item++)
+        put(item);
     for (int i = 0; i < 2 * putters; i++)
-        pthread_create(&threads[i], 0, i < putters ? putter : taker, 0);
+        pthread_create(&threads[i], 0, deadlock ? borrower : i < putters ? putter : taker, 0);
     for (int i = 0; i < 2 * putters; i++)
         pthread_join(threads[i], 0);
     return 0;

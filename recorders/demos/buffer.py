@@ -7,67 +7,84 @@ queue      queue.Queue of the standard library
 if         a fault: who waited doesn't test again
 two        the same fault, one putter and two takers, and threads take turns as seldom as ever
 forgotten  a fault: who takes notifies nobody
+single     a fault: as all, with room for one item, and notify: one may wake a thread that can't go on, and no other
+unlocked   a fault: as pair, but who takes tests without the lock: a notify may come between the test and the wait
+returns    a fault: a taker returns without its release
+deadlock   a fault: each takes two items, one after the other, and puts them back; there are two in all
 pair       one putter and one taker, with room for one item
 drop       the same, and a fault of the library: every seventh notify wakes nobody
 
 Putters wait on condition 0 (predicate 0 of a buffer), takers on condition 1 (predicate 1)."""
+from __future__ import annotations
+
 import os
 import queue
 import sys
 import threading
 import time
+from typing import Callable
 
 sys.dont_write_bytecode = True
 sys.path.insert(0, os.path.join(os.path.dirname(os.path.abspath(__file__)), "../python"))
 import monk_log
 
 # As many putters as takers; a pair has less room, so that no later notify makes up for one that was lost.
-PUTTERS, SIZE, SIZE_OF_PAIR, ITEMS, ITEMS_OF_TWO = 3, 2, 1, 12, 20
+PUTTERS, SIZE, SIZE_IF_SMALL, ITEMS, ITEMS_OF_TWO, ITEMS_IF_UNLOCKED = 3, 2, 1, 12, 20, 200
 PUT, TAKE = 0, 1
 # How long a timed wait lasts, when threads take turns, and how long a run may last, in seconds; of those that may hang.
-SHORT, SWITCH, LONG, LONG_IF_HANGING, LONG_IF_SHAKEN = 0.0002, 0.00002, 20, 0.4, 2
-HANGING = ("if", "two", "forgotten", "drop")
+SHORT, SWITCH, LONG, LONG_IF_HANGING, LONG_IF_SHAKEN, LONG_OF_TWO = 0.0002, 0.00002, 20, 0.4, 0.8, 2
+HANGING = ("if", "two", "forgotten", "drop", "single", "unlocked", "returns", "deadlock")
+ONE_CONDITION, PAIRS = ("all", "single"), ("pair", "drop", "unlocked")
+SMALL = (*PAIRS, "single")
 EVERY = 7
 
 
-def is_pair(style):
-    return style in ("pair", "drop")
-
-
 class Buffer:
-    def __init__(self, style):
+    def __init__(self, style: str):
         self.recorder = monk_log.Recorder()
         self.lock = self.recorder.lock()
         self.not_full = self.recorder.condition(self.lock)
-        self.not_empty = self.not_full if style == "all" else self.recorder.condition(self.lock)
-        self.style, self.items, self.size = style, [], SIZE_OF_PAIR if is_pair(style) else SIZE
+        self.not_empty = self.not_full if style in ONE_CONDITION else self.recorder.condition(self.lock)
+        self.style, self.size = style, SIZE_IF_SMALL if style in SMALL else SIZE
+        self.items: list[int] = []
 
-    def wait_while(self, holds, condition):
+    def wait_while(self, holds: Callable[[], bool], condition: monk_log.Condition) -> None:
         while holds():
             condition.wait(SHORT if self.style == "timed" else None)
             if self.style in ("if", "two"):
                 break
 
-    def tell(self, condition):
+    def tell(self, condition: monk_log.Condition) -> None:
         if self.style == "all":
             condition.notify_all()
         else:
             condition.notify()
 
-    def put(self, item):
+    def put(self, item: int) -> None:
         with self.lock:
             self.wait_while(lambda: len(self.items) >= self.size, self.not_full)
             self.items.append(item)
             self.recorder.act(PUT, item, 1)
             self.tell(self.not_empty)
 
-    def get(self):
-        with self.lock:
-            self.wait_while(lambda: not self.items, self.not_empty)
-            item = self.items.pop(0) if self.items else 0
-            self.recorder.act(TAKE, 0, item + 1)
-            if self.style != "forgotten":
-                self.tell(self.not_full)
+    def take(self) -> int:
+        """While the lock is held."""
+        item = self.items.pop(0) if self.items else 0
+        self.recorder.act(TAKE, 0, item + 1)
+        if self.style != "forgotten":
+            self.tell(self.not_full)
+        return item
+
+    def get(self) -> int:
+        while self.style == "unlocked" and not self.items:
+            with self.lock:
+                self.not_empty.wait()
+        self.lock.acquire()
+        self.wait_while(lambda: not self.items, self.not_empty)
+        item = self.take()
+        if self.style != "returns" or item != ITEMS // 2:
+            self.lock.release()
+        return item
 
 
 class Dropping(threading.Condition):
@@ -75,41 +92,63 @@ class Dropping(threading.Condition):
 
     notified = 0
 
-    def notify(self, n=1):
+    def notify(self, n: int = 1) -> None:
         Dropping.notified += 1
         if Dropping.notified % EVERY:
             super().notify(n)
 
 
-def run(style):
+def works_of(style: str, buffer: queue.Queue[int] | Buffer) -> list[Callable[[], None]]:
+    """What each thread does."""
+    putters = 1 if style in PAIRS or style == "two" else PUTTERS
+    takers, items = (2, ITEMS_OF_TWO) if style == "two" else (putters, ITEMS_IF_UNLOCKED if style == "unlocked" else ITEMS)
+
+    def put() -> None:
+        for item in range(1, takers // putters * items + 1):
+            buffer.put(item)
+
+    def take() -> None:
+        for _ in range(items):
+            buffer.get()
+
+    def borrow() -> None:
+        for _ in range(items):
+            for item in [buffer.get(), buffer.get()]:
+                buffer.put(item)
+
+    return [borrow] * (putters + takers) if style == "deadlock" else [put] * putters + [take] * takers
+
+
+def seconds_of(style: str) -> float:
+    """How long a run may last."""
+    if style not in HANGING:
+        return LONG
+    if style == "two":
+        return LONG_OF_TWO
+    return LONG_IF_SHAKEN if monk_log.SEED else LONG_IF_HANGING
+
+
+def run(style: str) -> str:
     """The log of one run."""
+    buffer: queue.Queue[int] | Buffer
     if style == "queue":
         buffer = queue.Queue(SIZE)
         recorder = monk_log.record_queue(buffer, int)
     else:
         buffer = Buffer(style)
         recorder = buffer.recorder
-
-    def put():
-        for item in range(1, takers // putters * items + 1):
-            buffer.put(item)
-
-    def take():
-        for _ in range(items):
-            buffer.get()
-
-    putters = 1 if is_pair(style) or style == "two" else PUTTERS
-    takers, items = (2, ITEMS_OF_TWO) if style == "two" else (putters, ITEMS)
-    threads = [threading.Thread(target=work, daemon=True) for work in [put] * putters + [take] * takers]
+    for item in range(1, SIZE + 1) if style == "deadlock" else ():
+        buffer.put(item)
+    threads = [threading.Thread(target=work, daemon=True) for work in works_of(style, buffer)]
     for thread in threads:
         thread.start()
-    end = time.monotonic() + (LONG_IF_SHAKEN if style == "two" else LONG_IF_HANGING if style in HANGING else LONG)
+    end = time.monotonic() + seconds_of(style)
     for thread in threads:
         thread.join(max(0, end - time.monotonic()))
-    return recorder.text(f"buffer {SIZE_OF_PAIR if is_pair(style) else SIZE}")
+    return recorder.text(f"buffer {SIZE_IF_SMALL if style in SMALL else SIZE}")
 
 
-def main():
+def main() -> None:
     prefix, runs, style = sys.argv[1], int(sys.argv[2]), sys.argv[3]
     if style != "two":
         sys.setswitchinterval(SWITCH)

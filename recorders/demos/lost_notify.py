@@ -15,7 +15,7 @@ import monk_log
 
 PUT, TAKE, ITEM = 0, 1, 7
 # How long the first taker waits, and how long the others are given, in seconds.
-PATIENCE, LONG = 0.03, 0.06
+PATIENCE, LONG = 0.1, 0.2
 
 
 class Mended(threading.Condition):
