@@ -12,11 +12,12 @@ import argparse
 import itertools
 import re
 import sys
+from collections import namedtuple
 
 sys.dont_write_bytecode = True
-from logs_board import ANY, ORDERS, REASONS, Header, Rules, behind, given, judge, line_of, monitor, opening, services, thing, waiting
+from logs_board import ANY, ORDERS, REASONS, Header, Rules, behind, given, judge, line_of, monitor, opening, services, thing, unserved, waiting
 from logs_expiry import at_once, conds_under
-from logs_outside import OUTSIDE_KIND, from_inside, has_outside
+from logs_outside import OUTSIDE_KIND, SIGNALS, from_inside, has_outside
 
 # What a verb's words are behind the seat, with the most that each may be.
 BYTE = 255
@@ -30,6 +31,10 @@ NUMBER = re.compile("0|[1-9][0-9]*")
 
 
 # ---- the counts, of the log as one of NPNB in any order, where waits may lapse
+
+# The lines that count seats, that of the signals that found nobody, that of the first signal that is missed if it is told what is
+# waited for, and how the log ends.
+Counts = namedtuple("Counts", "seats unheard missed end")
 
 
 def standing(course):
@@ -49,6 +54,11 @@ def is_missed(rules, course, means):
     return any(all(holds(pred) for told, pred in means if told == cond) for cond in conds)
 
 
+def finds_nobody(items, line):
+    """Whether the line is a signal on whose condition nobody waits unserved."""
+    return line[0] in SIGNALS and not unserved(items, line[2])
+
+
 def held_behind(step, line, held):
     """Who has the monitor behind the line, and since which one."""
     if line[0] in ("enter", "resume", "lapse"):
@@ -63,10 +73,10 @@ def ending(held, inside, woken):
     return "owed" if woken else "open" if inside else "free"
 
 
-def counted_with_end(header, lines, kind="NPNB", means=(), origins=None):
-    """The lines of counts as one of the kind, up to the first misfit, and how the log ends there."""
+def counted_as(header, lines, kind="NPNB", means=(), origins=None):
+    """The counts as one of the kind, up to the first misfit."""
     rules, course, count, missed = Rules(kind, header, ANY, True), opening(header), dict.fromkeys(("served", "passed", "lapsed"), 0), None
-    held = None
+    held, unheard = None, []
     for step, line in zip(origins or itertools.count(1), lines):
         before, then = standing(course)[0], behind(rules, course, line)
         if isinstance(then, str):
@@ -78,16 +88,20 @@ def counted_with_end(header, lines, kind="NPNB", means=(), origins=None):
         count["lapsed"] += line[0] in ("resume", "lapse") and not gone
         if missed is None and line[0] in ("leave", "wait") and is_missed(rules, course, means):
             missed = step
+        if finds_nobody(before, line):
+            unheard.append(step)
         held = held_behind(step, line, held)
     items, inside = standing(course)
     said = [" ".join(f"{word} {number}" for word, number in count.items())]
     said.append(f"left waiting {len(items) - 2 * services(items)} woken {services(items)} inside {len(inside)}")
-    return said + ([f"missed {missed or 'none'}"] if means else []), ending(held, inside, services(items))
+    nobody = f"unheard {len(unheard)} {unheard[-1]}" if unheard else "unheard none"
+    return Counts(said, nobody, [f"missed {missed or 'none'}"] if means else [], ending(held, inside, services(items)))
 
 
 def counted(header, lines, means=()):
     """The lines of counts, up to the first misfit."""
-    return counted_with_end(header, lines, means=means)[0]
+    counts = counted_as(header, lines, means=means)
+    return counts.seats + counts.missed
 
 
 def fitted_alone(header, lines, kind, lapses=False, means=()):
@@ -98,9 +112,9 @@ def fitted_alone(header, lines, kind, lapses=False, means=()):
         means = () if has_outside(header, lines) else means
         lines, origins = from_inside(header, lines)
     (said,), fits = fitted(header, lines, lapses, (kind,), origins)
-    counts, end = counted_with_end(header, lines, kind, means, origins)
-    is_well = fits and not end.startswith("busy") and (not means or counts[-1] == "missed none")
-    return "; ".join([said, *counts, end]), 0 if is_well else 1
+    counts = counted_as(header, lines, kind, means, origins)
+    is_well = fits and not counts.end.startswith("busy") and (not means or counts.missed == ["missed none"])
+    return "; ".join([said, *counts.seats, counts.unheard, *counts.missed, counts.end]), 0 if is_well else 1
 
 
 def fitted(header, lines, lapses=False, kinds=monitor.KINDS, origins=None):

@@ -23,7 +23,7 @@ use Rattle.monk_commands.specs.Answer.{LineAnswer, answer_of, reading_answer, to
 use Rattle.monk_commands.specs.Explained.{BeginsAsAudit, IsExplained, IsExplanationOf, explain_reading, told_answer}
 
 -- the verdict that is told is that of the audit
-verdict_told : (k : KindName) (o : ObjectName) (m : Monitor) (es : List Event) (v : Verdict)
+pub verdict_told : (k : KindName) (o : ObjectName) (m : Monitor) (es : List Event) (v : Verdict)
     → (account_by k o m es v).verdict ≡ v
 verdict_told k o m es (Legal n) = refl
 verdict_told k o m es (Forbidden step reason) = refl

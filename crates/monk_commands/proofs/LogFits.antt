@@ -147,14 +147,15 @@ pub fit_statuses : (x : Lapses) (means : List WaitsFor) (status : ℕ) (bytes : 
     → status ≡ (fit_answer_of x means bytes).status → status ≤ 2
 fit_statuses x means status bytes h = subst (λ n. n ≤ 2) (sym h) (statuses_by x means bytes (is_log_text bytes))
 
--- four texts that are put behind a page, one after the other
-pub put_four : (a b d e old one two three page : List ℕ) → one ≡ old ++ a → two ≡ one ++ b → three ≡ two ++ d
-    → page ≡ three ++ e
-    → page ≡ old ++ (a ++ (b ++ (d ++ e)))
-put_four a b d e old one two three page is_one is_two is_three is =
-    is ∙ ap (λ (xs : List ℕ). xs ++ e)
-    (is_three ∙ ap (λ (xs : List ℕ). xs ++ d) (is_two ∙ ap (λ (xs : List ℕ). xs ++ b) is_one))
-    ∙ append_assoc ((old ++ a) ++ b) d e ∙ append_assoc (old ++ a) b (d ++ e) ∙ append_assoc old a (b ++ (d ++ e))
+-- texts that are put behind a page, one after the other
+pub put_two : (a b old one page : List ℕ) → one ≡ old ++ a → page ≡ one ++ b → page ≡ old ++ (a ++ b)
+put_two a b old one page is_one is = is ∙ ap (λ (xs : List ℕ). xs ++ b) is_one ∙ append_assoc old a b
+
+pub put_three : (a b d old one two page : List ℕ) → one ≡ old ++ a → two ≡ one ++ b → page ≡ two ++ d
+    → page ≡ old ++ (a ++ (b ++ d))
+put_three a b d old one two page is_one is_two is =
+    is ∙ ap (λ (xs : List ℕ). xs ++ d) (put_two a b old one two is_one is_two)
+    ∙ append_assoc old (a ++ b) d ∙ ap (λ (xs : List ℕ). old ++ xs) (append_assoc a b d)
 
 -- what is answered to the bytes that were read is answered to the input
 pub fit_known : (x : Lapses) (means : List WaitsFor) (known before after : Option (List ℕ)) (bytes : List ℕ)

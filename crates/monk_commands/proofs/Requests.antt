@@ -59,10 +59,10 @@ number_tried E G bits o r name f only is none value = go (one_text f name) refl 
         let read = only t (Ok v) (subst (TriesOne G t) told (value t e)) in
         record { text = t; found = sym (one_text-rows f name) ∙ e; digits = read.0.0; number = read.1 }
 
-pub monk_is_simple : (fitted completed : KindNames) (run recorded : RunNames)
-    → is_simple (monk_app fitted completed run recorded) ≡ true
+pub monk_is_simple : (fitted explained completed : KindNames) (run recorded : RunNames)
+    → is_simple (monk_app fitted explained completed run recorded) ≡ true
 unfolding clap_on_literals
-monk_is_simple fitted completed run recorded = refl
+monk_is_simple fitted explained completed run recorded = refl
 
 -- what a test that is exact says of what it has found
 pub found_exactly : (A : Type 0) (o : Option A) (F G : A → Type 0) → ((x : A) → (o ≡ Some x) ↔ F x)

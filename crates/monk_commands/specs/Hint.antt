@@ -9,7 +9,7 @@ use Rattle.monk_commands.specs.declared.hint.Hint.{Hint}
 use Rattle.monk_commands.specs.declared.hint.Hint.TheVariants as hint
 use Rattle.monk_commands.specs.declared.task.Task.{Task}
 use Rattle.monk_commands.specs.declared.task.Task.TheVariants.{Audit, Play, Upgrade, Fit, FitKind}
-use Rattle.monk_commands.specs.declared.task.Task.TheVariants.{Trace, Explain, Draw, Page, Complete}
+use Rattle.monk_commands.specs.declared.task.Task.TheVariants.{Trace, Explain, ExplainKind, Draw, Page, Complete}
 use Rattle.monk_commands.specs.declared.text_name.TextName.{TextName}
 use Rattle.monk_commands.specs.declared.text_name.TextName.TheVariants as name
 use Rattle.monk_history.specs.declared.text.fault.Flaw.TheVariants as flaw
@@ -64,6 +64,7 @@ reads (Fit lapses means) t = not (is_play t)
 reads (FitKind kind lapses means n) t = not (is_play t)
 reads Trace t = is_play t
 reads Explain t = is_history t
+reads (ExplainKind kind lapses means) t = not (is_play t)
 reads (Draw window) t = is_history t
 reads (Page window) t = is_history t
 reads (Complete kind) t = is_log t
@@ -77,6 +78,7 @@ wanted (Fit lapses means) = name.History
 wanted (FitKind kind lapses means n) = name.History
 wanted Trace = name.Play
 wanted Explain = name.History
+wanted (ExplainKind kind lapses means) = name.History
 wanted (Draw window) = name.History
 wanted (Page window) = name.History
 wanted (Complete kind) = name.Log
@@ -225,7 +227,7 @@ header_form name.Log = codes "log 1 SEATS CONDS OBJECT SIZE"
 abbrev pub commands_that_read : TextName → List ℕ
 commands_that_read name.History = codes "monk audit, explain, draw, page, fit or upgrade"
 commands_that_read name.Play = codes "monk play or trace"
-commands_that_read name.Log = codes "monk fit or complete"
+commands_that_read name.Log = codes "monk fit, complete or explain --kind"
 
 -- the sentence of a hint
 abbrev pub sentence : Hint → List ℕ

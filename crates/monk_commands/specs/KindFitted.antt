@@ -24,6 +24,7 @@ use Rattle.monk_logs.specs.Outside.{from_inside, has_outside, origin}
 use Rattle.monk_logs.specs.Verdict.{log_monitor}
 use Rattle.monk_logs.specs.declared.counts.Counts.{Counts}
 use Rattle.monk_logs.specs.declared.counts.held.Held.{Held}
+use Rattle.monk_logs.specs.declared.counts.unheard.Unheard.{Unheard}
 use Rattle.monk_logs.specs.declared.counts.waits_for.WaitsFor.{WaitsFor}
 use Rattle.monk_logs.specs.declared.kind_fit.Fit.{Fit}
 use Rattle.monk_logs.specs.declared.kind_fit.Fit.TheVariants.{In, Misfit}
@@ -34,7 +35,7 @@ use Rattle.monk_commands.specs.Answer.{LineAnswer, too_big, unreadable}
 use Rattle.monk_commands.specs.Completed.{IsLogOf}
 use Rattle.monk_commands.specs.Fitted.{fit_line, is_fit, verdict_under}
 use Rattle.monk_commands.specs.Legal.{IsTextOf}
-use Rattle.monk_commands.specs.LogFitted.{counts_text, fit_words, is_log_text, log_fit}
+use Rattle.monk_commands.specs.LogFitted.{fit_words, is_log_text, log_fit, missed_line, seats_text}
 
 -- ---- lines as one
 
@@ -102,11 +103,24 @@ abbrev pub fit_status : Counts → Fit → ℕ
 fit_status c (In o) = counts_status c.missed c.held
 fit_status c (Misfit n why) = 1
 
+-- how many signals found nobody who waits, and which line is the last of them
+abbrev pub unheard_words : Unheard → List ℕ
+unheard_words u = codes "unheard " ++ decimal u.number ++ codes " " ++ decimal u.line ++ codes "\n"
+
+-- the same, where there may be none
+abbrev pub unheard_line : Option Unheard → List ℕ
+unheard_line None = codes "unheard none\n"
+unheard_line (Some u) = unheard_words u
+
+-- the lines of the counts: of seats, of those signals, and of the first that is missed
+abbrev pub kind_counts_text : List WaitsFor → Counts → List ℕ
+kind_counts_text means c = seats_text c ++ (unheard_line c.unheard ++ missed_line means c.missed)
+
 -- the line of the fit or misfit, and behind it the lines of the counts and of the end
 abbrev pub fit_with_counts : KindName → List WaitsFor → Counts → Fit → LineAnswer
 fit_with_counts k means c f = record {
   status = fit_status c f;
-  text = kind_word k ++ fit_words f ++ counts_text means c ++ end_line c;
+  text = kind_word k ++ fit_words f ++ kind_counts_text means c ++ end_line c;
 }
 
 -- what is counted in the log as one of that kind
@@ -152,7 +166,13 @@ abbrev pub numbered_held : (ℕ → ℕ) → Option Held → Option Held
 numbered_held number None = None
 numbered_held number (Some h) = Some (record { seat = h.seat; line = number h.line })
 
--- what was counted, where the line since which the monitor is held is numbered so
+-- the signals that found nobody, where the line of the last is numbered so
+abbrev pub numbered_unheard : (ℕ → ℕ) → Option Unheard → Option Unheard
+numbered_unheard number None = None
+numbered_unheard number (Some u) = Some (record { number = u.number; line = number u.line })
+
+-- what was counted, where the lines are numbered so: since which the monitor is held, and that of the last signal that
+-- found nobody
 abbrev pub numbered_counts : (ℕ → ℕ) → Counts → Counts
 numbered_counts number c = record {
   served = c.served;
@@ -163,6 +183,7 @@ numbered_counts number c = record {
   inside = c.inside;
   held = numbered_held number c.held;
   missed = c.missed;
+  unheard = numbered_unheard number c.unheard;
 }
 
 -- the answer to a log whose signals from outside are sent from inside: no signal is missed, since who signals from

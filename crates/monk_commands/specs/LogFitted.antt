@@ -65,6 +65,10 @@ waiting_words c = codes "left waiting " ++ decimal c.waiting
 abbrev pub inside_words : Counts → List ℕ
 inside_words c = codes " woken " ++ decimal c.woken ++ codes " inside " ++ decimal c.inside ++ codes "\n"
 
+-- the lines that count seats
+abbrev pub seats_text : Counts → List ℕ
+seats_text c = gone_line c ++ (waiting_words c ++ inside_words c)
+
 -- the words of the first line that was missed
 abbrev pub missed_words : Option ℕ → List ℕ
 missed_words None = codes "missed none\n"
@@ -81,7 +85,7 @@ log_counts h means log = counts_of (log_monitor Npnb h) means log
 
 -- the lines of the counts
 abbrev pub counts_text : List WaitsFor → Counts → List ℕ
-counts_text means c = gone_line c ++ (waiting_words c ++ (inside_words c ++ missed_line means c.missed))
+counts_text means c = seats_text c ++ missed_line means c.missed
 
 -- the lines that count what happens in the log
 abbrev pub counts_lines : LogHeading → List WaitsFor → List LogLine → List ℕ

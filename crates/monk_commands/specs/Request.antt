@@ -23,7 +23,7 @@ use Rattle.monk_samples.specs.declared.sample.Sample.{Sample}
 use Rattle.monk_samples.specs.declared.sample.Sample.TheVariants.{Buffer, Book, Shop, Hasty}
 use Rattle.monk_commands.specs.declared.request.Line.{Line}
 use Rattle.monk_commands.specs.declared.request.Line.TheVariants.{Classify, Audit, Play, Upgrade, Fit, FitKind}
-use Rattle.monk_commands.specs.declared.request.Line.TheVariants.{Trace, Explain, Draw, Page, Complete, Run, Record}
+use Rattle.monk_commands.specs.declared.request.Line.TheVariants.{Trace, Explain, ExplainKind, Draw, Page, Complete, Run, Record}
 
 -- a word that must stand there, and that the parser takes
 abbrev pub required_rule : Text → ValueParser → Rule
@@ -109,13 +109,21 @@ window_app name =
     with_rule (with_rule (with_rule (new_app name) (number_rule (codes "from"))) (number_rule (codes "to")))
     (new_rule (codes "FILE"))
 
--- the command that takes a kind or none, what a log may tell, and files
-abbrev pub fit_app : KindNames → App
-fit_app n =
-    with_rule (with_rule (with_rule (with_rule (new_app (codes "fit")) (chosen_rule (codes "kind") (Names n.kinds)))
+-- a command of that name that takes a kind or none, what a log may tell, and then what that rule says
+abbrev pub judging_app : Text → Rule → KindNames → App
+judging_app name last n =
+    with_rule (with_rule (with_rule (with_rule (new_app name) (chosen_rule (codes "kind") (Names n.kinds)))
     (flag_rule (codes "lapses")))
     (repeated_rule (codes "means")))
-    files_rule
+    last
+
+-- the command that takes a kind or none, what a log may tell, and files
+abbrev pub fit_app : KindNames → App
+fit_app n = judging_app (codes "fit") files_rule n
+
+-- the command that takes a kind or none, what a log may tell, and a file
+abbrev pub explain_app : KindNames → App
+explain_app n = judging_app (codes "explain") (new_rule (codes "FILE")) n
 
 -- the command that takes a kind, and a file
 abbrev pub complete_app : KindNames → App
@@ -144,33 +152,42 @@ bare_app =
 abbrev pub plain_app : KindNames → App
 plain_app fitted =
     with_subcommand (with_subcommand (with_subcommand (with_subcommand (with_subcommand (with_subcommand
-    (with_subcommand (with_subcommand (with_subcommand bare_app classify_app.top) (file_app (codes "audit")).top)
+    (with_subcommand (with_subcommand bare_app classify_app.top) (file_app (codes "audit")).top)
     (file_app (codes "play")).top) (file_app (codes "upgrade")).top) (fit_app fitted).top)
-    (file_app (codes "trace")).top) (file_app (codes "explain")).top) (window_app (codes "draw")).top) (window_app (codes "page")).top
+    (file_app (codes "trace")).top) (window_app (codes "draw")).top) (window_app (codes "page")).top
 
 -- the program with its commands
-abbrev pub monk_app : KindNames → KindNames → RunNames → RunNames → App
-monk_app fitted completed run recorded =
-    with_subcommand (with_subcommand (with_subcommand (plain_app fitted) (complete_app completed).top)
-    (run_app (codes "run") run).top) (run_app (codes "record") recorded).top
+abbrev pub monk_app : KindNames → KindNames → KindNames → RunNames → RunNames → App
+monk_app fitted explained completed run recorded =
+    with_subcommand (with_subcommand (with_subcommand (with_subcommand (plain_app fitted) (explain_app explained).top)
+    (complete_app completed).top) (run_app (codes "run") run).top) (run_app (codes "record") recorded).top
 
 -- the command line of the program
 pub record IsMonk (a : App) : Type 0 where
   pub fitted : KindNames
+  pub explained : KindNames
   pub completed : KindNames
   pub run : RunNames
   pub recorded : RunNames
-  pub is : a ≡ monk_app fitted completed run recorded
+  pub is : a ≡ monk_app fitted explained completed run recorded
 
 -- the command is the program with the commands that need no kind
 pub record IsPlainMonk (c : Command) : Type 0 where
   pub fitted : KindNames
   pub is : app_of c ≡ plain_app fitted
 
--- the command is `fit`
-pub record IsFitCommand (c : Command) : Type 0 where
+-- the command has that name, takes a kind or none and what a log may tell, and then what that rule says
+pub record IsJudgingCommand (name : Text) (last : Rule) (c : Command) : Type 0 where
   pub names : KindNames
-  pub is : IsSubcommand c (fit_app names)
+  pub is : IsSubcommand c (judging_app name last names)
+
+-- the command is `fit`
+abbrev pub IsFitCommand : Command → Type 0
+IsFitCommand c = IsJudgingCommand (codes "fit") files_rule c
+
+-- the command is `explain`
+abbrev pub IsExplainCommand : Command → Type 0
+IsExplainCommand c = IsJudgingCommand (codes "explain") (new_rule (codes "FILE")) c
 
 -- the command is `complete`
 pub record IsCompleteCommand (c : Command) : Type 0 where
@@ -192,6 +209,7 @@ command_word (Fit file lapses means) = codes "fit"
 command_word (FitKind kind files lapses means) = codes "fit"
 command_word (Trace file) = codes "trace"
 command_word (Explain file) = codes "explain"
+command_word (ExplainKind kind file lapses means) = codes "explain"
 command_word (Draw file window) = codes "draw"
 command_word (Page file window) = codes "page"
 command_word (Complete kind file) = codes "complete"
@@ -277,7 +295,11 @@ ValuesAre (FitKind kind files lapses means) rows = (first_of (codes "kind") rows
     × (words_or_none (all_of (codes "FILE") rows) ≡ map string_bytes files.items)
     × AreLogValues lapses means.items rows
 ValuesAre (Trace file) rows = first_of (codes "FILE") rows ≡ option_map string_bytes file
-ValuesAre (Explain file) rows = first_of (codes "FILE") rows ≡ option_map string_bytes file
+ValuesAre (Explain file) rows = (first_of (codes "FILE") rows ≡ option_map string_bytes file)
+    × (first_of (codes "kind") rows ≡ None)
+ValuesAre (ExplainKind kind file lapses means) rows = (first_of (codes "kind") rows ≡ Some (kind_word kind))
+    × (first_of (codes "FILE") rows ≡ option_map string_bytes file)
+    × AreLogValues lapses means.items rows
 ValuesAre (Draw file window) rows = (first_of (codes "FILE") rows ≡ option_map string_bytes file)
     × IsWindowIn window rows
 ValuesAre (Page file window) rows = (first_of (codes "FILE") rows ≡ option_map string_bytes file)
@@ -297,6 +319,7 @@ RunIsInRange (Fit file lapses means) = Unit {0}
 RunIsInRange (FitKind kind files lapses means) = Unit {0}
 RunIsInRange (Trace file) = Unit {0}
 RunIsInRange (Explain file) = Unit {0}
+RunIsInRange (ExplainKind kind file lapses means) = Unit {0}
 RunIsInRange (Draw file window) = Unit {0}
 RunIsInRange (Page file window) = Unit {0}
 RunIsInRange (Complete kind file) = Unit {0}

@@ -32,7 +32,11 @@ fn told(alloc: Global, telling: &Telling) -> Result<LineAnswer, StreamFault>
 }
 
 /// The answer to a history that was read.
-fn explained(alloc: Global, header: &Header, events: &[Event]) -> Result<LineAnswer, StreamFault>
+pub(crate) fn explained(
+    alloc: Global,
+    header: &Header,
+    events: &[Event],
+) -> Result<LineAnswer, StreamFault>
     requires few { length events.now ≤ 2 ^ 25 }
     ensures answer { IfOk result
         (λ a. IsExplained (Ok (history header.now events.now)) a.status (λ text. string_bytes a.text ≡ text)) }

@@ -1,4 +1,4 @@
-//! What the words of `fit` ask for.
+//! What the words of `fit` and of `explain` ask for.
 
 ghost use Rattle.std.specs.Prelude.{◌≡◌, IfOk, codes, if◌then◌else◌, option_map};
 ghost use Rattle.clap.specs.Words.{first_of, found_of, rows_of};
@@ -6,7 +6,7 @@ ghost use Rattle.monk_kinds.specs.Names.{kind_word};
 ghost use Rattle.monk_logs.specs.declared.lapses.Lapses.{Lapses};
 ghost use Rattle.monk_commands.specs.Request.{AreLapses, IsRead};
 
-use crate::file_words::{files_of, one_file};
+use crate::file_words::{file_of, files_of, one_file};
 use crate::meaning_words::meanings_of;
 use crate::request::{Line, LineFault};
 use clap::ArgMatches;
@@ -60,5 +60,20 @@ pub(crate) fn line_to_fit(alloc: Global, matches: &ArgMatches<'_>) -> Result<Lin
             let file = one_file(alloc, matches)?;
             Ok(Line::Fit(file, lapses, means))
         }
+    }
+}
+
+pub(crate) fn line_to_explain(alloc: Global, matches: &ArgMatches<'_>) -> Result<Line, LineFault>
+    ensures { IfOk result (λ l. IsRead (codes "explain") l (rows_of (found_of matches.now))) }
+{
+    let lapses = lapses_of(matches);
+    let kind = one_kind(alloc, matches)?;
+    let file = file_of(alloc, matches)?;
+    match kind {
+        Some(kind) => {
+            let means = meanings_of(alloc, matches)?;
+            Ok(Line::ExplainKind(kind, file, lapses, means))
+        }
+        None => Ok(Line::Explain(file)),
     }
 }

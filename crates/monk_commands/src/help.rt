@@ -48,13 +48,14 @@ pub(crate) static UPGRADE: Help = Help {
 pub(crate) static FIT: Help = Help {
     about: "Tells under which kinds a history is legal, or which kinds a log fits",
     example: "Example: monk fit examples/threads_at_a_buffer.log --means 0=0 --means 1=1\n\
+        With --kind it writes one line for each file.\n\
         Example: monk fit --kind NPNB logs/*.log\n\
         Status: 0 fits a kind, 1 fits none, 2 unreadable; 3 wrong words, 4 a failed file or no memory.\n\
         With --kind the worst of all files: 0 fits it, 1 doesn't or missed a signal\n\
         Read: docs/LOGS.md",
 };
 
-pub(crate) const ONE_KIND: &str = "Judge under this kind alone: one line for each file";
+pub(crate) const ONE_KIND: &str = "Judge under this kind alone";
 
 pub(crate) const LAPSES: &str = "In a log, a `resume` may be a timed wait that ran out";
 
@@ -71,8 +72,11 @@ pub(crate) static TRACE: Help = Help {
 pub(crate) static EXPLAIN: Help = Help {
     about: "Tells whether a history is legal, how the monitor stands, and what is wrong",
     example: "Example: monk explain examples/hoare_handover_under_mesa.history\n\
-        Status: 0 legal, 1 forbidden, 2 unreadable; 3 wrong words, 4 a failed file or no memory\n\
-        Read: docs/TEXT.md",
+        With --kind it judges a history or a log under that kind.\n\
+        Example: monk explain --kind NPNB examples/woken_by_nobody.log\n\
+        Status: 0 legal, 1 forbidden, 2 unreadable; 3 wrong words, 4 a failed file or no memory.\n\
+        Of a log 0 fits, 1 doesn't or missed a signal or is busy\n\
+        Read: docs/TEXT.md, of logs docs/LOGS.md",
 };
 
 pub(crate) static DRAW: Help = Help {

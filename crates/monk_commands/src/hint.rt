@@ -126,7 +126,7 @@ fn is_control(byte: u8) -> bool
 }
 
 /// The first line.
-fn first_line(front: &[u8]) -> Option<&[u8]>
+pub(crate) fn first_line(front: &[u8]) -> Option<&[u8]>
     ensures { option_map (λ x. x.now) result ≡ slice_get (lines_of front.now) 0 }
 {
     front.split(|byte| *byte == b'\n').nth(0)

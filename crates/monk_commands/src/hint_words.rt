@@ -93,6 +93,6 @@ fn commands_that_read(text: TextName) -> &'static str
     match text {
         TextName::History => "monk audit, explain, draw, page, fit or upgrade",
         TextName::Play => "monk play or trace",
-        TextName::Log => "monk fit or complete",
+        TextName::Log => "monk fit, complete or explain --kind",
     }
 }

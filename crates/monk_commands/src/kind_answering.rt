@@ -1,21 +1,24 @@
 //! The answer to a log that is judged under one kind.
 
-ghost use Rattle.std.specs.Prelude.{◌≡◌, ◌≤◌, ◌^◌, ◌++◌, length, IfOk, IsErrOf, string_bytes};
+ghost use Rattle.std.specs.Prelude.{◌≡◌, ◌≤◌, ◌^◌, ◌++◌, length, IfOk, OnOk, IsErrOf, string_bytes};
 ghost use Rattle.monk_kinds.specs.Names.{kind_word};
 ghost use Rattle.monk_object.specs.Names.{most};
 ghost use Rattle.monk_logs.specs.declared.kind_fit.Fit.TheVariants.{In};
 ghost use Rattle.monk_commands.specs.KindFitted.{busy_words, counts_status, end_line, fit_status, fit_with_counts};
-ghost use Rattle.monk_commands.specs.KindFitted.{idle_words, kind_counts, log_kind_answer};
+ghost use Rattle.monk_commands.specs.KindFitted.{idle_words, kind_counts, kind_counts_text, log_kind_answer, unheard_line};
+ghost use Rattle.monk_commands.specs.KindFitted.{unheard_words};
 ghost use Rattle.monk_commands.specs.LogFitted.{fit_words, log_fit};
 
 use crate::answer::too_big;
 use crate::completing::misfit_line;
 use crate::fault::StreamFault;
 use crate::lines_answer::LinesAnswer;
-use crate::log_fitting::put_text;
+use crate::log_fitting::{missed_line, put_seats};
 use monk_audit::AuditFault;
 use monk_kinds::KindName;
-use monk_logs::{Counts, Fit, Held, Lapses, LogHeader, LogLine, Order, WaitsFor, count, fit};
+use monk_logs::{
+    Counts, Fit, Held, Lapses, LogHeader, LogLine, Order, Unheard, WaitsFor, count, fit,
+};
 use std::alloc::Global;
 
 /// The strictest order in which the log fits the kind, or why it fits in none.
@@ -82,6 +85,42 @@ fn fit_line(alloc: Global, kind: KindName, found: Fit) -> Result<Vec<u8>, Stream
         Fit::In(order) => order_line(alloc, kind, order),
         Fit::Misfit { line, blame } => misfit_line(alloc, kind, line, blame),
     }
+}
+
+/// How many signals found nobody, and which line is the last of them.
+fn unheard_words(alloc: Global, unheard: Unheard) -> Result<String, StreamFault>
+    ensures text { IfOk result (λ text. string_bytes text ≡ unheard_words unheard) }
+    ensures no_file { IsErrOf result StreamFault.File → ⊥ }
+{
+    let (number, line) = (unheard.number, unheard.line);
+    Ok(format!(in alloc; "unheard {number} {line}\n")?)
+}
+
+/// What is said of the signals that found nobody.
+fn unheard_line(alloc: Global, unheard: Option<Unheard>) -> Result<String, StreamFault>
+    ensures text { IfOk result (λ text. string_bytes text ≡ unheard_line unheard) }
+    ensures no_file { IsErrOf result StreamFault.File → ⊥ }
+{
+    match unheard {
+        Some(unheard) => unheard_words(alloc, unheard),
+        None => Ok(String::from_str(alloc, "unheard none\n")?),
+    }
+}
+
+/// Puts the lines of these counts behind the page.
+fn put_counts(
+    alloc: Global,
+    page: &mut Vec<u8>,
+    means: &[WaitsFor],
+    counts: Counts,
+) -> Result<(), StreamFault>
+    ensures lines { OnOk result (page.new.items ≡ page.old.items ++ kind_counts_text means.now counts) }
+    ensures no_file { IsErrOf result StreamFault.File → ⊥ }
+{
+    put_seats(alloc, page, counts)?;
+    page.extend_from_slice(unheard_line(alloc, counts.unheard)?.as_bytes())?;
+    page.extend_from_slice(missed_line(alloc, means, counts.missed)?.as_bytes())?;
+    Ok(())
 }
 
 /// The status of a log that fits, by the first line at which a signal is missed, and by who has the
@@ -152,7 +191,7 @@ pub(crate) fn fit_answer(
     ensures no_file { IsErrOf result StreamFault.File → ⊥ }
 {
     let mut lines = fit_line(alloc, kind, found)?;
-    put_text(alloc, &mut lines, means, counts)?;
+    put_counts(alloc, &mut lines, means, counts)?;
     lines.extend_from_slice(end_line(alloc, counts)?.as_bytes())?;
     let status = fit_status(counts, found);
     Ok(LinesAnswer { status, lines })

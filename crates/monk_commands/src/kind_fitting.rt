@@ -60,7 +60,7 @@ fn answer_to_history(
 }
 
 /// How many conditions a monitor of the kind has under the header.
-fn conds_under(kind: KindName, header: &LogHeader) -> u8
+pub(crate) fn conds_under(kind: KindName, header: &LogHeader) -> u8
     ensures { result ≡ conds_under kind header.now }
 {
     match kind {
@@ -77,7 +77,7 @@ fn conds_under(kind: KindName, header: &LogHeader) -> u8
 }
 
 /// The answer to a log that was read, with signals from outside or without.
-fn sent_answer(
+pub(crate) fn sent_answer(
     alloc: Global,
     kind: KindName,
     lapses: Lapses,
@@ -169,12 +169,13 @@ fn kind_answer(
 /// strictest order in which the log could be of the kind ([`fit`](monk_logs::fit)). Behind both stand
 /// `; served N passed N lapsed N` and `; left waiting N woken N inside N`, which count the log as one
 /// of that kind, in any order and with lapses allowed, up to its first misfit there
-/// ([`Counts`](monk_logs::Counts)); and, where `means` tells what is waited for, `; missed STEP` or
-/// `; missed none`. Last stands who has the monitor behind what was counted: `; busy SEAT STEP` where
-/// a seat has it, with the line since which it has it; `; free` where nobody is inside; `; owed` where
-/// a seat was served that is not back; and else `; open`, where each seat inside waits unserved. Of a
-/// log that fits, the status is 1 where a signal is missed or a seat has the monitor at the end, else
-/// 0. `lapses` and `means` are for logs alone.
+/// ([`Counts`](monk_logs::Counts)). Then it is told how many signals found nobody who waits, and which
+/// line is the last of them: `; unheard N STEP`, or `; unheard none`; and, where `means` tells what is
+/// waited for, `; missed STEP` or `; missed none`. Last stands who has the monitor behind what was
+/// counted: `; busy SEAT STEP` where a seat has it, with the line since which it has it; `; free` where
+/// nobody is inside; `; owed` where a seat was served that is not back; and else `; open`, where each
+/// seat inside waits unserved. Of a log that fits, the status is 1 where a signal is missed or a seat
+/// has the monitor at the end, else 0. `lapses` and `means` are for logs alone.
 ///
 /// All of this is said of the log in which each wait that a `lapse` follows ran out at once
 /// ([`expire_at_once`]): a thread whose time has run out comes back by entry, and may have left its

@@ -1,4 +1,4 @@
-//! Lines that are written as one, behind the name of what they answer.
+//! Lines that are written one by one, or as one behind the name of what they answer.
 
 ghost use Rattle.std.specs.Prelude.{◌≡◌, ◌++◌, false, IfOk, OnOk, string_bytes};
 ghost use Rattle.std.specs.Io.KnownBytes.{Appends};
@@ -29,6 +29,21 @@ impl LinesAnswer {
         LinesAnswer {
             status: answer.status,
             lines: answer.text.into_bytes(),
+        }
+    }
+
+    /// Writes the lines; the result is the status.
+    pub(crate) fn put<W: Write>(&self, writer: &mut Device<W>) -> Result<u8, StreamFault>
+        requires { has_failed writer.old ≡ false }
+        ensures lines { IfOk result
+            (λ status. (status ≡ self.now.status)
+            × Appends (W.contents (inner_of writer.old)) (W.contents (inner_of writer.new))
+            self.now.lines.items) }
+        ensures writing { IsWriting writer.old writer.new result }
+    {
+        match writer.write_all(&self.lines) {
+            Ok(()) => Ok(self.status),
+            Err(_) => Err(StreamFault::File),
         }
     }
 

@@ -10,7 +10,7 @@ ghost use Rattle.monk_logs.specs.Leads.{read_log};
 ghost use Rattle.monk_commands.specs.LogFitted.{counts_lines, fits_some_kind, log_counts, log_fit, log_fit_answer};
 ghost use Rattle.monk_commands.specs.LogFitted.{gone_line, inside_words, log_fit_line, log_fit_lines, log_fit_of, missed_line};
 ghost use Rattle.monk_commands.specs.LogFitted.{missed_words};
-ghost use Rattle.monk_commands.specs.LogFitted.{counts_text, waiting_words};
+ghost use Rattle.monk_commands.specs.LogFitted.{counts_text, seats_text, waiting_words};
 ghost use Rattle.monk_commands.specs.Streams.{IsWriting};
 
 use crate::answer::{put, too_big, unreadable};
@@ -142,6 +142,21 @@ fn inside_words(alloc: Global, counts: Counts) -> Result<String, StreamFault>
     Ok(format!(in alloc; " woken {woken} inside {inside}\n")?)
 }
 
+/// Puts the lines that count seats behind the page.
+pub(crate) fn put_seats(
+    alloc: Global,
+    page: &mut Vec<u8>,
+    counts: Counts,
+) -> Result<(), StreamFault>
+    ensures lines { OnOk result (page.new.items ≡ page.old.items ++ seats_text counts) }
+    ensures no_file { IsErrOf result StreamFault.File → ⊥ }
+{
+    page.extend_from_slice(gone_line(alloc, counts)?.as_bytes())?;
+    page.extend_from_slice(waiting_words(alloc, counts)?.as_bytes())?;
+    page.extend_from_slice(inside_words(alloc, counts)?.as_bytes())?;
+    Ok(())
+}
+
 /// What is said of a missed signal.
 fn missed_words(alloc: Global, missed: Option<u32>) -> Result<String, StreamFault>
     ensures text { IfOk result (λ text. string_bytes text ≡ missed_words missed) }
@@ -154,7 +169,7 @@ fn missed_words(alloc: Global, missed: Option<u32>) -> Result<String, StreamFaul
 }
 
 /// The line of a missed signal, where it is told what those wait for who wait on a condition.
-fn missed_line(
+pub(crate) fn missed_line(
     alloc: Global,
     means: &[WaitsFor],
     missed: Option<u32>,
@@ -169,7 +184,7 @@ fn missed_line(
 }
 
 /// Puts the lines of these counts behind the page.
-pub(crate) fn put_text(
+fn put_text(
     alloc: Global,
     page: &mut Vec<u8>,
     means: &[WaitsFor],
@@ -178,9 +193,7 @@ pub(crate) fn put_text(
     ensures lines { OnOk result (page.new.items ≡ page.old.items ++ counts_text means.now counts) }
     ensures no_file { IsErrOf result StreamFault.File → ⊥ }
 {
-    page.extend_from_slice(gone_line(alloc, counts)?.as_bytes())?;
-    page.extend_from_slice(waiting_words(alloc, counts)?.as_bytes())?;
-    page.extend_from_slice(inside_words(alloc, counts)?.as_bytes())?;
+    put_seats(alloc, page, counts)?;
     page.extend_from_slice(missed_line(alloc, means, counts.missed)?.as_bytes())?;
     Ok(())
 }

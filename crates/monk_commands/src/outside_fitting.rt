@@ -1,9 +1,10 @@
 //! The answer to a log of Mesa's kind with signals from outside.
 
-ghost use Rattle.std.specs.Prelude.{◌≡◌, ◌≤◌, ◌^◌, length, IfOk, IsErrOf};
+ghost use Rattle.std.specs.Prelude.{◌≡◌, ◌≤◌, IfOk, IsErrOf};
 ghost use Rattle.monk_object.specs.Names.{most};
 ghost use Rattle.monk_logs.specs.Outside.{from_inside, origin};
 ghost use Rattle.monk_commands.specs.KindFitted.{is_mesa, numbered_counts, numbered_fit, outside_answer};
+ghost use Rattle.monk_commands.specs.LogFitted.{log_fit};
 
 use crate::answer::too_big;
 use crate::fault::StreamFault;
@@ -11,7 +12,7 @@ use crate::kind_answering::{counts, fit_answer, kind_fit};
 use crate::lines_answer::LinesAnswer;
 use monk_kinds::KindName;
 use monk_logs::{
-    Counts, Fit, Held, Lapses, LogHeader, LogLine, MOST_LOG_LINES, origin, send_inside,
+    Counts, Fit, Held, Lapses, LogHeader, LogLine, MOST_LOG_LINES, Unheard, origin, send_inside,
 };
 use std::alloc::Global;
 
@@ -35,7 +36,6 @@ pub(crate) fn is_mesa(kind: KindName) -> bool
 
 /// The fit, where its line is that of the log.
 fn numbered_fit(seats: u8, log: &[LogLine], found: Fit) -> Fit
-    requires few { length log.now ≤ 2 ^ 25 }
     ensures { result ≡ numbered_fit (origin seats log.now) found }
 {
     match found {
@@ -47,16 +47,23 @@ fn numbered_fit(seats: u8, log: &[LogLine], found: Fit) -> Fit
     }
 }
 
-/// What was counted, where the line since which the monitor is held is that of the log.
+/// What was counted, where the lines that it names are those of the log.
 fn numbered_counts(seats: u8, log: &[LogLine], counts: Counts) -> Counts
-    requires few { length log.now ≤ 2 ^ 25 }
     ensures { result ≡ numbered_counts (origin seats log.now) counts }
 {
     let held = counts.held.map(|held| Held {
         seat: held.seat,
         line: origin(seats, log, held.line),
     });
-    Counts { held, ..counts }
+    let unheard = counts.unheard.map(|unheard| Unheard {
+        number: unheard.number,
+        line: origin(seats, log, unheard.line),
+    });
+    Counts {
+        held,
+        unheard,
+        ..counts
+    }
 }
 
 /// The answer to a log, by what its signals from outside are read as.
@@ -68,7 +75,6 @@ fn answer_to_read(
     log: &[LogLine],
     read: &[LogLine],
 ) -> Result<LinesAnswer, StreamFault>
-    requires few { length log.now ≤ 2 ^ 25 }
     requires size { header.now.size ≤ most header.now.object }
     requires read { read.now ≡ from_inside header.now.seats log.now }
     ensures answer { IfOk result
@@ -86,6 +92,28 @@ fn answer_to_read(
     fit_answer(alloc, kind, &[], numbered, numbered_fit(seats, log, found))
 }
 
+/// The fit of a log, where signals from outside are sent from inside.
+pub(crate) fn outside_fit(
+    alloc: Global,
+    kind: KindName,
+    lapses: Lapses,
+    header: &LogHeader,
+    log: &[LogLine],
+) -> Result<Fit, StreamFault>
+    requires size { header.now.size ≤ most header.now.object }
+    ensures found { IfOk result
+        (λ f. f ≡ numbered_fit (origin header.now.seats log.now)
+        (log_fit lapses header.now (from_inside header.now.seats log.now) kind)) }
+    ensures no_file { IsErrOf result StreamFault.File → ⊥ }
+{
+    let read = send_inside(alloc, header.seats(), log)?;
+    if read.len() > MOST_LOG_LINES as usize {
+        return Err(StreamFault::Memory);
+    }
+    let found = kind_fit(alloc, kind, lapses, header, &read)?;
+    Ok(numbered_fit(header.seats(), log, found))
+}
+
 /// The answer to a log that was read, where signals from outside are sent from inside.
 pub(crate) fn outside_answer(
     alloc: Global,
@@ -94,7 +122,6 @@ pub(crate) fn outside_answer(
     header: &LogHeader,
     log: &[LogLine],
 ) -> Result<LinesAnswer, StreamFault>
-    requires few { length log.now ≤ 2 ^ 25 }
     ensures answer { IfOk result
         (λ a. (a.status ≡ (outside_answer kind lapses header.now log.now).status)
         × (a.lines.items ≡ (outside_answer kind lapses header.now log.now).text)) }

@@ -9,6 +9,7 @@ use crate::completing::complete_stream;
 use crate::explaining::explain_stream;
 use crate::fault::StreamFault;
 use crate::fitting::fit_stream;
+use crate::kind_explaining::explain_kind_stream;
 use crate::kind_fitting::fit_kind_stream;
 use crate::playing::play_stream;
 use crate::show::Show;
@@ -41,6 +42,9 @@ pub enum Task<'a> {
     Trace,
     /// The verdict on a history, and why, by [`explain_stream`].
     Explain,
+    /// The verdict on a history or a log under the kind, and why, by [`explain_kind_stream`]: of a log
+    /// with what it says of waits.
+    ExplainKind(KindName, Lapses, &'a [WaitsFor]),
     /// The picture of a history, by [`show_stream`]: of the events that are asked for.
     Draw(Option<Window>),
     /// The page of a history, by [`show_stream`]: of the events that are asked for.
@@ -89,6 +93,9 @@ impl Task<'_> {
             }
             Task::Trace => trace_stream(alloc, reader, writer),
             Task::Explain => explain_stream(alloc, reader, writer),
+            Task::ExplainKind(kind, lapses, means) => {
+                explain_kind_stream(alloc, kind, lapses, means, reader, writer)
+            }
             Task::Draw(window) => show_stream(alloc, Show::Picture, window, reader, writer),
             Task::Page(window) => show_stream(alloc, Show::Page, window, reader, writer),
             Task::Complete(kind) => complete_stream(alloc, kind, reader, writer),

@@ -40,7 +40,9 @@ impl TextName {
             }
             Task::Play | Task::Trace => self == TextName::Play,
             Task::Complete(_) => self == TextName::Log,
-            Task::Fit(_, _) | Task::FitKind(_, _, _, _) => self != TextName::Play,
+            Task::Fit(_, _) | Task::FitKind(_, _, _, _) | Task::ExplainKind(_, _, _) => {
+                self != TextName::Play
+            }
         }
     }
 

@@ -6,14 +6,15 @@ ghost use Rattle.clap.specs.Words.{AddsArg, AddsSubcommand, App, app_of, first_o
 ghost use Rattle.clap.specs.Words.{subcommand_rows_of};
 ghost use Rattle.clap.specs.declared.builder.value_parser.ValueParser.TheVariants.{Signed};
 ghost use Rattle.monk_samples.specs.Samples.{IsInRange};
-ghost use Rattle.monk_commands.specs.Request.{AreRunValues, IsAsked, IsCompleteCommand, IsFitCommand};
+ghost use Rattle.monk_commands.specs.Request.{AreRunValues, IsAsked, IsCompleteCommand, IsExplainCommand};
+ghost use Rattle.monk_commands.specs.Request.{IsFitCommand, IsJudgingCommand};
 ghost use Rattle.monk_commands.specs.Request.{IsMonk, IsOwnApp, IsPlainMonk, IsRead, IsRunCommand, IsSubcommand};
 ghost use Rattle.monk_commands.specs.Request.{bare_app, classify_app, file_app, priority, required_rule, sample_word};
 ghost use Rattle.monk_commands.specs.Request.{window_app};
 
 use crate::arguments::{chosen, file, files, flag, number, repeated, required};
 use crate::file_words::file_of;
-use crate::fit_words::line_to_fit;
+use crate::fit_words::{line_to_explain, line_to_fit};
 use crate::help::{
     AUDIT, CLASSIFY, COMPLETE, DRAW, EXPLAIN, FIT, FROM, Help, LAPSES, MEANS, ONE_KIND, PAGE, PLAY,
     PRIORITY, RECORD, RUN, TO, TRACE, UPGRADE,
@@ -39,7 +40,8 @@ const VERSION: &str = "1.0.0";
 fn command<'a>(alloc: Global) -> Result<Command<'a>, AllocError>
     ensures { IfOk result (λ c. IsMonk (app_of c)) }
 {
-    let program = adding(plain(alloc), completing(alloc));
+    let program = adding(plain(alloc), explaining(alloc));
+    let program = adding(program, completing(alloc));
     let program = adding(program, running(alloc, "run", &RUN));
     adding(program, running(alloc, "record", &RECORD))
 }
@@ -54,7 +56,6 @@ fn plain<'a>(alloc: Global) -> Result<Command<'a>, AllocError>
     let program = adding(program, with_file(alloc, "upgrade", &UPGRADE));
     let program = adding(program, fitting(alloc));
     let program = adding(program, with_file(alloc, "trace", &TRACE));
-    let program = adding(program, with_file(alloc, "explain", &EXPLAIN));
     let program = adding(program, showing(alloc, "draw", &DRAW));
     adding(program, showing(alloc, "page", &PAGE))
 }
@@ -113,16 +114,34 @@ fn classify<'a>(alloc: Global) -> Result<Command<'a>, AllocError>
     taking(command, priority(alloc, "SIGNALLER"))
 }
 
-/// The command that takes a kind or none, what a log may tell, and files, or standard input where none is named.
-fn fitting<'a>(alloc: Global) -> Result<Command<'a>, AllocError>
-    ensures { IfOk result IsFitCommand }
+/// A command that takes a kind or none, what a log may tell, and last what it reads.
+fn judging<'a>(
+    alloc: Global,
+    name: &'a str,
+    help: &Help,
+    last: Arg<'a>,
+) -> Result<Command<'a>, AllocError>
+    requires local { last.global ≡ false }
+    ensures { IfOk result (IsJudgingCommand name.entry.now (rule_of last.entry)) }
 {
     let kinds = ValueParser::Names(KINDS.as_slice());
     let kind = chosen(alloc, "kind", ONE_KIND, "KIND", kinds);
-    let command = described(alloc, "fit", &FIT).arg(kind);
+    let command = described(alloc, name, help).arg(kind);
     let command = taking(command, flag(alloc, "lapses", LAPSES));
     let command = taking(command, repeated(alloc, "means", MEANS, "COND=PRED"));
-    taking(command, files(alloc))
+    taking(command, last)
+}
+
+fn fitting<'a>(alloc: Global) -> Result<Command<'a>, AllocError>
+    ensures { IfOk result IsFitCommand }
+{
+    judging(alloc, "fit", &FIT, files(alloc))
+}
+
+fn explaining<'a>(alloc: Global) -> Result<Command<'a>, AllocError>
+    ensures { IfOk result IsExplainCommand }
+{
+    judging(alloc, "explain", &EXPLAIN, file(alloc))
 }
 
 /// A command that shows some events of a file, or of standard input where none is named.
@@ -292,7 +311,6 @@ fn line_to_read(
         "play" => Ok(Some(Line::Play(file))),
         "upgrade" => Ok(Some(Line::Upgrade(file))),
         "trace" => Ok(Some(Line::Trace(file))),
-        "explain" => Ok(Some(Line::Explain(file))),
         _ => Ok(None),
     }
 }
@@ -307,6 +325,7 @@ fn line_of_text(
 {
     match name {
         "fit" => Ok(Some(line_to_fit(alloc, matches)?)),
+        "explain" => Ok(Some(line_to_explain(alloc, matches)?)),
         "draw" => Ok(Some(line_to_draw(alloc, matches)?)),
         "page" => Ok(Some(line_to_page(alloc, matches)?)),
         _ => line_to_read(alloc, name, matches),

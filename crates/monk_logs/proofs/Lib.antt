@@ -16,6 +16,7 @@ mod CountLaws
 mod LapseLaws
 mod ExpiryLaws
 mod OutsideLaws
+mod LastLineLaws
 mod FitLaws
 mod NeedLaws
 mod WaiterLaws

@@ -148,3 +148,9 @@ unfolding origin_behind
 origin_end seats log i left number line le has =
     let none = at_drop_all (λ rest. origin_behind seats (reverse (take i log)) rest left) log i le in
     omega (arith, none, has)
+
+-- each line that is counted takes one at least of those that are left
+pub number_fits : (number left line : ℕ) → number + left ≤ line → (left ≡ 0 → number ≡ 0) → line < 4294967296
+    → number + 1 < 4294967296
+number_fits number zero line within first fits = let none = first refl in omega (arith, none)
+number_fits number (suc left) line within first fits = omega (arith, within, fits)

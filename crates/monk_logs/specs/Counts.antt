@@ -11,6 +11,7 @@ use Rattle.monk_logs.specs.Board.{items_with, opening_board, waiting_item}
 use Rattle.monk_logs.specs.BoardCourse.{BoardCourse, board_settled}
 use Rattle.monk_logs.specs.Items.{line, seats_in, services, services_in}
 use Rattle.monk_logs.specs.ReadStand.{read_over}
+use Rattle.monk_logs.specs.Unheard.{finds_nobody, number_unheard, unheard_after}
 use Rattle.monk_logs.specs.declared.counts.Counts.{Counts}
 use Rattle.monk_logs.specs.declared.counts.held.Held.{Held}
 use Rattle.monk_logs.specs.declared.board.item.Item.{Item}
@@ -166,9 +167,10 @@ held_after n (Act s op r) before = held_still s n before
 abbrev pub takes_service : ℕ → ℕ → Bool
 takes_service before after = nat_lt after before
 
--- with line n, by how many seats are to come back before it and behind it, and by whether a signal is missed there
-abbrev pub with_line : ℕ → LogLine → ℕ → ℕ → Bool → Tally → Tally
-with_line n l before after missed k = record {
+-- with line n, by how many seats are to come back before it and behind it, by whether a signal is missed there, and by
+-- whether it is a signal that finds nobody
+abbrev pub with_line : ℕ → LogLine → ℕ → ℕ → Bool → Bool → Tally → Tally
+with_line n l before after missed unheard k = record {
   back = one_if k.back (is_back l && takes_service before after);
   lapsed = one_if k.lapsed (is_back l && not (takes_service before after));
   passed = one_if k.passed (is_enter l && not (after == 0));
@@ -176,16 +178,27 @@ with_line n l before after missed k = record {
   left = one_if k.left (is_leave l);
   held = held_after n l k.held;
   missed = first_missed k.missed missed n;
+  unheard = unheard_after n unheard k.unheard;
 }
 
 -- with line n, which leads from x to y
 abbrev pub tally_after : Object → List WaitsFor → ℕ → BoardCourse → LogLine → BoardCourse → Tally → Tally
 tally_after o means n x l y k =
-    with_line n l (woken_now x) (woken_now y) (lets_go l && lacks_some_signal o y.board.state (items_now y) means) k
+    with_line n l (woken_now x) (woken_now y) (lets_go l && lacks_some_signal o y.board.state (items_now y) means)
+    (finds_nobody l (items_now x)) k
 
 -- the tally before the first line
 abbrev pub nothing_tallied : Tally
-nothing_tallied = record { back = 0; lapsed = 0; passed = 0; entered = 0; left = 0; held = None; missed = None }
+nothing_tallied = record {
+  back = 0;
+  lapsed = 0;
+  passed = 0;
+  entered = 0;
+  left = 0;
+  held = None;
+  missed = None;
+  unheard = None;
+}
 
 -- no number is above that
 pub record IsWithin (n : ℕ) (k : Tally) : Type 0 where
@@ -194,6 +207,7 @@ pub record IsWithin (n : ℕ) (k : Tally) : Type 0 where
   pub passed : k.passed ≤ n
   pub entered : k.entered ≤ n
   pub left : k.left ≤ n
+  pub unheard : number_unheard k.unheard ≤ n
 
 -- ---- a log
 
@@ -221,6 +235,7 @@ counts_by k waiting woken = record {
   inside = k.entered - k.left;
   held = k.held;
   missed = k.missed;
+  unheard = k.unheard;
 }
 
 -- the counts as they are at that place of the log

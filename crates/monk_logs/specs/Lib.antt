@@ -23,11 +23,13 @@ pub mod BoardStand
 pub mod BoardLegal
 pub mod BoardShown
 pub mod BoardMoves
+pub mod Unheard
 pub mod Counts
 pub mod Fit
 pub mod Lapses
 pub mod Expiry
 pub mod Outside
+pub mod LastLine
 pub mod BoardRead
 pub mod ReadStand
 pub mod Needs

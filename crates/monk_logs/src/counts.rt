@@ -3,10 +3,12 @@
 pub mod counting;
 pub mod held;
 pub mod tally;
+pub mod unheard;
 pub mod waiters;
 pub mod waits_for;
 
 use crate::counts::held::Held;
+use crate::counts::unheard::Unheard;
 
 /// What happens in a log, counted, up to its first misfit.
 #[derive(Clone, Copy, Debug, PartialEq, Eq)]
@@ -30,4 +32,7 @@ pub struct Counts {
     /// holds for which they wait there, and no seat that was signalled there is still to come back.
     /// The lines behind the log's first one are counted from 1.
     pub missed: Option<u32>,
+    /// The lines `signal` and `broadcast` that found nobody who waits unserved on their condition, if
+    /// there is one. Who came to wait later may have come too late for such a signal.
+    pub unheard: Option<Unheard>,
 }

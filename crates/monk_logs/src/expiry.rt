@@ -10,23 +10,6 @@ use std::alloc::{AllocError, Global};
 /// How many seats the lines of a log can name.
 pub(crate) const SEATS: usize = 256;
 
-/// The seat that wrote the line.
-pub(crate) fn seat_of(line: LogLine) -> u8
-    ensures { result ≡ expiry.line_seat line }
-{
-    match line {
-        LogLine::Enter(seat)
-        | LogLine::Resume(seat)
-        | LogLine::Lapse(seat)
-        | LogLine::Leave(seat)
-        | LogLine::Wait(seat, _)
-        | LogLine::Signal(seat, _)
-        | LogLine::Broadcast(seat, _)
-        | LogLine::Until(seat, _)
-        | LogLine::Act(seat, ..) => seat,
-    }
-}
-
 /// Whether the line tells of a wait on one of so many conditions.
 fn is_wait(conds: u8, line: LogLine) -> bool
     ensures { result ≡ expiry.is_wait conds line }
@@ -63,7 +46,7 @@ fn waited_before(alloc: Global, conds: u8, lines: &[LogLine]) -> Result<Vec<bool
     let mut waited = Vec::with_capacity(alloc, lines.len())?;
     let mut waits = [false; SEATS];
     for line in lines {
-        let seat = usize::from(seat_of(*line));
+        let seat = usize::from(line.seat());
         waited.push(waits[seat])?;
         waits[seat] = is_wait(conds, *line);
     }
@@ -80,7 +63,7 @@ fn read_each(conds: u8, lines: &mut [LogLine], waited: &[bool])
     while at > 0 {
         at -= 1;
         let line = lines[at];
-        let seat = usize::from(seat_of(line));
+        let seat = usize::from(line.seat());
         lines[at] = read_as(conds, waited[at], lapses[seat], line);
         lapses[seat] = is_lapse(line);
     }

@@ -2,12 +2,11 @@
 
 pub mod presence;
 
-ghost use Rattle.std.specs.Prelude.{◌≡◌, ◌≤◌, ◌++◌, ◌^◌, List, length, IfOk, OnOk};
+ghost use Rattle.std.specs.Prelude.{◌≡◌, ◌≤◌, ◌++◌, List, length, IfOk, OnOk};
 ghost use Rattle.monk_logs.specs.Outside as outside;
 ghost use Rattle.monk_logs.specs.Outside.{IsPresence};
 ghost use Rattle.monk_logs.specs.declared.text.line.LogLine.{LogLine};
 
-use crate::expiry::seat_of;
 use crate::outside::presence::Presence;
 use crate::text::line::LogLine;
 use std::alloc::{AllocError, Global};
@@ -30,7 +29,7 @@ fn sent_by(holder: u8, line: LogLine) -> LogLine
 fn push_visit(read: &mut Vec<LogLine>, line: LogLine) -> Result<(), AllocError>
     ensures { OnOk result (read.new.items ≡ read.old.items ++ outside.sent_under None line) }
 {
-    let seat = seat_of(line);
+    let seat = line.seat();
     read.push(LogLine::Enter(seat))?;
     read.push(line)?;
     read.push(LogLine::Leave(seat))?;
@@ -60,7 +59,8 @@ fn push_told(
 
 /// How many lines the line is read as.
 fn told(seats: u8, presence: &Presence, line: LogLine) -> u32
-    ensures { (before : List LogLine) → IsPresence presence.now before
+    ensures some { 1 ≤ result }
+    ensures count { (before : List LogLine) → IsPresence presence.now before
         → result ≡ length (outside.told_inside seats before line) }
 {
     if presence.holder().is_none() && presence.is_from_outside(seats, line) {
@@ -94,8 +94,8 @@ pub fn has_outside(seats: u8, lines: &[LogLine]) -> bool
 
 /// The log in which each signal is sent from inside. If a seat has the monitor, a signal from outside
 /// is read as sent by that seat. If nobody has it, the signal is read as a visit of its seat: `enter`,
-/// the signal, and `leave`. Under NPNB a signaller stays where it is, and whoever comes in may go before those who
-/// were served. So the signal serves whom it serves, and changes nothing else.
+/// the signal, and `leave`. Under NPNB a signaller stays where it is, and whoever comes in may go
+/// before those who were served. So the signal serves whom it serves, and changes nothing else.
 ///
 /// # Errors
 ///
@@ -116,13 +116,13 @@ pub fn send_inside(alloc: Global, seats: u8, lines: &[LogLine]) -> Result<Vec<Lo
     Ok(read)
 }
 
-/// The line of the log that is told by that line of [`send_inside`]'s. Both are counted from 1.
+/// The line of the log that is told by that line of [`send_inside`]'s. Both are counted from 1. Behind
+/// the last line of [`send_inside`]'s it is the number of the log's lines.
 ///
 /// # Cost
 ///
 /// One pass over the lines, up to that line.
 pub fn origin(seats: u8, lines: &[LogLine], line: u32) -> u32
-    requires few { length lines.now ≤ 2 ^ 25 }
     ensures { result ≡ outside.origin seats lines.now line }
 {
     let mut presence = Presence::new();

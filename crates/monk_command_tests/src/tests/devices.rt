@@ -14,7 +14,7 @@ use std::sync::Wait;
 use std::test::Fail;
 use std::thread::Threads;
 
-static JOBS: [Job<'static>; 12] = [
+static JOBS: [Job<'static>; 13] = [
     Job {
         name: "legal",
         task: Task::Audit,
@@ -62,7 +62,7 @@ static JOBS: [Job<'static>; 12] = [
         task: Task::FitKind(KindName::Npnb, Lapses::Told, &[], "-"),
         input: b"log 1 1 1 buffer 1\nenter 0\nwait 0 0\n",
         status: 0,
-        answer: b"-: NPNB fits fifo; served 0 passed 0 lapsed 0; left waiting 1 woken 0 inside 1; open\n",
+        answer: b"-: NPNB fits fifo; served 0 passed 0 lapsed 0; left waiting 1 woken 0 inside 1; unheard none; open\n",
     },
     Job {
         name: "explained",
@@ -70,6 +70,13 @@ static JOBS: [Job<'static>; 12] = [
         input: b"monk 1 PB 2 1 buffer 1\nenter 0 free\nwait 0 0 entry\nenter 0 free\n",
         status: 1,
         answer: b"forbidden 3 4 place\nline: 4\nevent: enter 0 free\nkind: PB blocking 1 3 2\nturn: open\ninside: 0\ndata: 1 (buffer of 1: empty)\ncondition 0: 0\nwaiter:\nsignaller:\nwhy: seat 0 is inside already\n",
+    },
+    Job {
+        name: "a log explained",
+        task: Task::ExplainKind(KindName::Npnb, Lapses::Told, &[]),
+        input: b"log 1 1 1 buffer 1\nenter 0\nwait 0 0\n",
+        status: 0,
+        answer: b"NPNB fits fifo\nserved 0 passed 0 lapsed 0\nleft waiting 1 woken 0 inside 1\nunheard none\nopen\nseat 0: 2 wait 0 0\n",
     },
     Job {
         name: "not drawn",

@@ -1,9 +1,10 @@
-//! Inputs that a command can't read, and what to do about them.
+//! Inputs that a command can't read, and what to do about them; and options that name what an input doesn't have.
 
-use monk_commands::{Task, hint_for};
+use monk_commands::{Task, hint_for, option_hint_for};
 use monk_kinds::KindName;
-use monk_logs::Lapses;
+use monk_logs::{Lapses, WaitsFor};
 use std::alloc::Global;
+use std::fmt;
 use std::test::Fail;
 
 /// A command, the front of its input, and the hint, which is empty where there is none.
@@ -38,7 +39,7 @@ static HINTS: [Row; 17] = [
     (
         Task::Trace,
         b"log 1 2 0 buffer 1\n",
-        "this is a log: give it to monk fit or complete",
+        "this is a log: give it to monk fit, complete or explain --kind",
     ),
     (
         Task::Complete(KindName::Pb),
@@ -93,12 +94,103 @@ static HINTS: [Row; 17] = [
     (Task::Audit, b"monk 1 PB 2 0 buffer 1\nstay 0\n", ""),
 ];
 
-/// Whether that is the hint.
-fn is_hinted(alloc: Global, row: &Row) -> bool {
-    let (task, front, wanted) = row;
-    match hint_for(task, front) {
+/// A meaning of a condition that isn't there, and those of predicates that some object or none has.
+const ON_NINE: WaitsFor = WaitsFor { cond: 9, pred: 9 };
+
+const ON_TWO: WaitsFor = WaitsFor { cond: 2, pred: 1 };
+
+const FOR_ONE: WaitsFor = WaitsFor { cond: 1, pred: 1 };
+
+const FOR_TWO: WaitsFor = WaitsFor { cond: 0, pred: 2 };
+
+const FOR_THREE: WaitsFor = WaitsFor { cond: 0, pred: 3 };
+
+const FOR_31: WaitsFor = WaitsFor { cond: 0, pred: 31 };
+
+const FOR_32: WaitsFor = WaitsFor { cond: 0, pred: 32 };
+
+const AN_OPTION_OF_A_HISTORY: &str = "--means and --lapses are for logs, and this is a history";
+
+static OPTION_HINTS: [Row; 16] = [
+    (
+        Task::Fit(Lapses::Told, &[FOR_ONE]),
+        b"log 1 3 2 buffer 4\n",
+        "",
+    ),
+    (
+        Task::Fit(Lapses::Told, &[ON_TWO]),
+        b"log 1 3 2 buffer 4\n",
+        "--means 2=1: the log has no condition 2; it has 2, counted from 0",
+    ),
+    (
+        Task::Fit(Lapses::Allowed, &[FOR_ONE, FOR_TWO, ON_NINE]),
+        b"log 1 3 2 buffer 4\nenter 0\n",
+        "--means 0=2: a buffer has no predicate 2; it has 2, counted from 0",
+    ),
+    (
+        Task::FitKind(KindName::Pb, Lapses::Told, &[ON_NINE], "-"),
+        b"log 1 3 0 buffer 4\n",
+        "--means 9=9: the log has no condition 9; it has none",
+    ),
+    (
+        Task::Fit(Lapses::Told, &[FOR_TWO]),
+        b"log 1 3 1 book 4\n",
+        "--means 0=2: a book has no predicate 2; it has 2, counted from 0",
+    ),
+    (
+        Task::Fit(Lapses::Told, &[FOR_TWO]),
+        b"log 1 3 1 shop 4\n",
+        "",
+    ),
+    (
+        Task::FitKind(KindName::Pis, Lapses::Told, &[FOR_TWO, FOR_THREE], "x.log"),
+        b"log 1 3 1 shop 4\n",
+        "--means 0=3: a shop has no predicate 3; it has 3, counted from 0",
+    ),
+    (
+        Task::Fit(Lapses::Told, &[FOR_31]),
+        b"log 2 3 1 flags 4\n",
+        "",
+    ),
+    (
+        Task::Fit(Lapses::Told, &[FOR_32]),
+        b"log 2 3 1 flags 4\n",
+        "--means 0=32: an object of flags has no predicate 32; it has 32, counted from 0",
+    ),
+    (Task::Fit(Lapses::Allowed, &[]), b"log 1 3 2 buffer 4\n", ""),
+    (
+        Task::Fit(Lapses::Allowed, &[]),
+        b"monk 1 PB 2 0 buffer 1\n",
+        AN_OPTION_OF_A_HISTORY,
+    ),
+    (
+        Task::FitKind(KindName::Npnb, Lapses::Told, &[FOR_ONE], "-"),
+        b"monk 1 PB 2 2 buffer 1\n",
+        AN_OPTION_OF_A_HISTORY,
+    ),
+    (
+        Task::Fit(Lapses::Told, &[]),
+        b"monk 1 PB 2 0 buffer 1\n",
+        "",
+    ),
+    (Task::Complete(KindName::Pb), b"log 1 3 0 buffer 4\n", ""),
+    (
+        Task::ExplainKind(KindName::Npnb, Lapses::Told, &[FOR_ONE, ON_TWO]),
+        b"log 1 3 2 buffer 4\n",
+        "--means 2=1: the log has no condition 2; it has 2, counted from 0",
+    ),
+    (
+        Task::ExplainKind(KindName::Npnb, Lapses::Allowed, &[]),
+        b"monk 1 PB 2 0 buffer 1\n",
+        AN_OPTION_OF_A_HISTORY,
+    ),
+];
+
+/// Whether the hint prints itself so; of none the text is empty.
+fn prints<T: Copy + fmt::Display>(alloc: Global, hint: Option<T>, wanted: &str) -> bool {
+    match hint {
         Some(hint) => {
-            matches!(&format!(in alloc; "{hint}"), Ok(text) if text.as_str() == *wanted)
+            matches!(&format!(in alloc; "{hint}"), Ok(text) if text.as_str() == wanted)
         }
         None => wanted.is_empty(),
     }
@@ -106,9 +198,19 @@ fn is_hinted(alloc: Global, row: &Row) -> bool {
 
 #[test]
 fn inputs_that_are_no_texts_are_hinted_at(rt: HostRuntime) -> Result<(), Fail> {
-    for row in HINTS.iter() {
-        if !is_hinted(rt.alloc(), row) {
-            return Err(row.2)?;
+    for (task, front, wanted) in HINTS.iter() {
+        if !prints(rt.alloc(), hint_for(task, front), wanted) {
+            return Err(*wanted)?;
+        }
+    }
+    Ok(())
+}
+
+#[test]
+fn options_that_name_what_is_not_there_are_hinted_at(rt: HostRuntime) -> Result<(), Fail> {
+    for (task, front, wanted) in OPTION_HINTS.iter() {
+        if !prints(rt.alloc(), option_hint_for(task, front), wanted) {
+            return Err(*wanted)?;
         }
     }
     Ok(())

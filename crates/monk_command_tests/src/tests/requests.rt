@@ -7,7 +7,7 @@ use std::test::Fail;
 /// Words, and what they ask for.
 type Asking = (&'static [&'static str], &'static str);
 
-static ASKING: [Asking; 28] = [
+static ASKING: [Asking; 30] = [
     (&["monk", "audit"], "Audit(None)"),
     (&["monk", "audit", "x.text"], "Audit(Some(\"x.text\"))"),
     (&["monk", "play"], "Play(None)"),
@@ -18,6 +18,21 @@ static ASKING: [Asking; 28] = [
     (&["monk", "trace", "x.text"], "Trace(Some(\"x.text\"))"),
     (&["monk", "explain"], "Explain(None)"),
     (&["monk", "explain", "x.text"], "Explain(Some(\"x.text\"))"),
+    (
+        &["monk", "explain", "--kind", "NPNB"],
+        "ExplainKind(Npnb, None, Told, [])",
+    ),
+    (
+        &[
+            "monk",
+            "explain",
+            "x.log",
+            "--lapses",
+            "--means=0=1",
+            "--kind=PQB",
+        ],
+        "ExplainKind(Pqb, Some(\"x.log\"), Allowed, [WaitsFor { cond: 0, pred: 1 }])",
+    ),
     (&["monk", "draw"], "Draw(None, None)"),
     (&["monk", "draw", "x.text"], "Draw(Some(\"x.text\"), None)"),
     (

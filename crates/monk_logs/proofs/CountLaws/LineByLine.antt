@@ -10,6 +10,7 @@ use Rattle.monk_logs.specs.BoardShown.{course_or}
 use Rattle.monk_logs.specs.Counts.{Counted, count_state, counts_at, counts_from, counts_in, items_now, lacks_some_signal, lets_go}
 use Rattle.monk_logs.specs.Counts.{nothing_tallied, tally_after, then_or, with_line, woken_now}
 use Rattle.monk_logs.specs.ReadStand.{board_read_over, read_over}
+use Rattle.monk_logs.specs.Unheard.{finds_nobody}
 use Rattle.monk_logs.specs.declared.blame.Blame.{Blame}
 use Rattle.monk_logs.specs.declared.blame.LineVerdict.{LineVerdict}
 use Rattle.monk_logs.specs.declared.blame.LineVerdict.TheVariants as line
@@ -78,13 +79,16 @@ where_so true x h = refl
 where_so false x h = absurd cc
 
 pub line_counted : (o : Object) (means : List WaitsFor) (n : ℕ) (x y : BoardCourse) (l : LogLine) (k t : Tally)
-    (before after : ℕ) (missed : Bool) → t ≡ with_line n l before after missed k → before ≡ woken_now x
+    (before after : ℕ) (missed unheard : Bool) → t ≡ with_line n l before after missed unheard k → before ≡ woken_now x
     → after ≡ woken_now y → missed ≡ (lets_go l && lacks_some_signal o y.board.state (items_now y) means)
+    → unheard ≡ finds_nobody l (items_now x)
     → t ≡ tally_after o means n x l y k
-line_counted o means n x y l k t before after missed is b a m =
-    is ∙ ap (λ (w : ℕ). with_line n l w after missed k) b
-    ∙ ap (λ (w : ℕ). with_line n l (woken_now x) w missed k) a
-    ∙ ap (λ (w : Bool). with_line n l (woken_now x) (woken_now y) w k) m
+line_counted o means n x y l k t before after missed unheard is b a m u =
+    is ∙ ap (λ (w : ℕ). with_line n l w after missed unheard k) b
+    ∙ ap (λ (w : ℕ). with_line n l (woken_now x) w missed unheard k) a
+    ∙ ap (λ (w : Bool). with_line n l (woken_now x) (woken_now y) w unheard k) m
+    ∙ ap (λ (w : Bool). with_line n l (woken_now x) (woken_now y)
+    (lets_go l && lacks_some_signal o y.board.state (items_now y) means) w k) u
 
 -- ---- the opening state of the object has no part in what is counted from a board
 

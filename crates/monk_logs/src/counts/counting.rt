@@ -11,12 +11,13 @@ ghost use Rattle.monk_logs.specs.Counts.{counts_in, counts_of};
 ghost use Rattle.monk_logs.specs.Made.{IsMadeAs};
 ghost use Rattle.monk_logs.specs.Needs.{LeadsBy, LeadsLog};
 ghost use Rattle.monk_logs.specs.ReadStand.{read_verdict};
+ghost use Rattle.monk_logs.specs.Unheard as unheards;
 ghost use Rattle.monk_logs.specs.Verdict.{header_monitor, log_monitor};
 
 use crate::blame::LineVerdict;
 use crate::board::Board;
 use crate::board::item::Item;
-use crate::board::items::{seats_at, services_at};
+use crate::board::items::{seats_at, services_at, unserved_at};
 use crate::board::items_moves::{join, serve};
 use crate::board::led::Led;
 use crate::board::needs::Needs;
@@ -58,6 +59,13 @@ fn waits_unsignalled(items: &[Item], cond: u8) -> bool
     ensures { result ≡ tallies.waits_unsignalled cond items.now }
 {
     seats_at(items, cond) > 0 && services_at(items, cond) == 0
+}
+
+/// Whether nobody waits unserved on the condition.
+fn nobody_waits(items: &[Item], cond: u8) -> bool
+    ensures { result ≡ unheards.nobody_waits cond items.now }
+{
+    unserved_at(items, cond) == 0
 }
 
 /// Whether each predicate holds for which they wait on the condition.
@@ -106,6 +114,27 @@ fn misses_signal<T: Guarded>(
     Ok(lacks_some_signal(object, items, means))
 }
 
+/// Whether the line, before which the board stands so, is a signal that finds nobody. The list is for
+/// the items that stand then.
+#[inline(always)]
+fn finds_nobody(
+    line: LogLine,
+    board: &Board,
+    pending: Pending,
+    items: &mut Vec<Item>,
+) -> Result<bool, AllocError>
+    ensures { IfOk result (λ r. (state : List ℕ) → r
+        ≡ unheards.finds_nobody line (tallies.items_now (board_course (board_shown board.now state) pending))) }
+{
+    match line {
+        LogLine::Signal(_, cond) | LogLine::Broadcast(_, cond) => {
+            take_items(items, board, pending)?;
+            Ok(nobody_waits(items, cond))
+        }
+        _ => Ok(false),
+    }
+}
+
 /// Judges the lines one after the other, over the object in its opening state, as
 /// [`follow`](crate::board::following), and counts what happens in them up to the first misfit.
 fn count_lines<T: Guarded, L: LineSource>(
@@ -140,6 +169,7 @@ fn count_lines<T: Guarded, L: LineSource>(
     while let Some(line) = lines.next() {
         number += 1;
         needs = Needs::of_line(line).with(needs);
+        let is_unheard = finds_nobody(line, &board, pending, &mut items)?;
         match line_read(
             lapses,
             order,
@@ -159,7 +189,14 @@ fn count_lines<T: Guarded, L: LineSource>(
         }
         let is_missed = misses_signal(line, &object, &board, pending, &mut items, means)?;
         let now = Waiters::now(&board, pending);
-        tally = tally.with_line(number, line, waiters.woken, now.woken, is_missed);
+        tally = tally.with_line(
+            number,
+            line,
+            waiters.woken,
+            now.woken,
+            is_missed,
+            is_unheard,
+        );
         waiters = now;
     }
     let verdict = LogVerdict::Fits;

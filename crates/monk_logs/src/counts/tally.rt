@@ -6,6 +6,7 @@ ghost use Rattle.monk_logs.specs.Counts.{IsWithin, counts_by, one_if};
 
 use crate::counts::Counts;
 use crate::counts::held::{Held, held_after};
+use crate::counts::unheard::{Unheard, unheard_after};
 use crate::counts::waiters::Waiters;
 use crate::text::line::LogLine;
 
@@ -26,6 +27,8 @@ pub(crate) struct Tally {
     pub(crate) held: Option<Held>,
     /// The first line with a missed signal.
     pub(crate) missed: Option<u32>,
+    /// The signals that found nobody.
+    pub(crate) unheard: Option<Unheard>,
 }
 
 /// One more, where that is so.
@@ -53,10 +56,11 @@ impl Tally {
         left: 0,
         held: None,
         missed: None,
+        unheard: None,
     };
 
     /// With a line more, by its number, by how many seats are to come back before it and behind it,
-    /// and by whether a signal is missed there.
+    /// by whether a signal is missed there, and by whether it is a signal that finds nobody.
     #[inline(always)]
     pub(crate) fn with_line(
         self,
@@ -65,9 +69,10 @@ impl Tally {
         before: usize,
         now: usize,
         is_missed: bool,
+        is_unheard: bool,
     ) -> Tally
         requires { IsWithin (2 ^ 32) self }
-        ensures counted { result ≡ tallies.with_line number line before now is_missed self }
+        ensures counted { result ≡ tallies.with_line number line before now is_missed is_unheard self }
         ensures within { (n : ℕ) → IsWithin n self → IsWithin (n + 1) result }
     {
         let missed = match self.missed {
@@ -75,9 +80,11 @@ impl Tally {
             missed => missed,
         };
         let held = held_after(number, line, self.held);
+        let unheard = unheard_after(number, is_unheard, self.unheard);
         let counted = Tally {
             held,
             missed,
+            unheard,
             ..self
         };
         match line {
@@ -115,6 +122,7 @@ impl Tally {
             inside: self.entered.saturating_sub(self.left),
             held: self.held,
             missed: self.missed,
+            unheard: self.unheard,
         }
     }
 }

@@ -5,7 +5,7 @@ ghost use Rattle.monk_logs.specs.Outside as outside;
 ghost use Rattle.monk_logs.specs.Outside.{IsPresence};
 ghost use Rattle.monk_logs.specs.declared.text.line.LogLine.{LogLine};
 
-use crate::expiry::{SEATS, seat_of};
+use crate::expiry::SEATS;
 use crate::text::line::LogLine;
 
 /// Who is inside, and who has the monitor.
@@ -69,7 +69,7 @@ impl Presence {
         ensures { (before : List LogLine) → IsPresence self.now before
             → result ≡ outside.is_from_outside seats before line }
     {
-        let seat = seat_of(line);
+        let seat = line.seat();
         is_signal(line) && seat < seats && !self.inside[usize::from(seat)]
     }
 
@@ -77,7 +77,7 @@ impl Presence {
     pub(crate) fn step(&mut self, line: LogLine)
         ensures { (before : List LogLine) → IsPresence self.old before → IsPresence self.new (line ∷ before) }
     {
-        let seat = usize::from(seat_of(line));
+        let seat = usize::from(line.seat());
         self.inside[seat] = inside_after(line, self.inside[seat]);
         self.holder = holder_after(line, self.holder);
     }

@@ -1,5 +1,8 @@
 //! A line of a log.
 
+ghost use Rattle.std.specs.Prelude.{◌≡◌};
+ghost use Rattle.monk_logs.specs.Expiry.{line_seat};
+
 use monk_object::Op;
 
 /// What a thread knows and writes down while it holds the lock. The first number is its seat. Whom the scheduler chose,
@@ -24,4 +27,23 @@ pub enum LogLine {
     Until(u8, u8),
     /// It did that to the object, with this reply.
     Act(u8, Op, u64),
+}
+
+impl LogLine {
+    /// The seat that wrote the line.
+    pub fn seat(self) -> u8
+        ensures { result ≡ line_seat self }
+    {
+        match self {
+            LogLine::Enter(seat)
+            | LogLine::Resume(seat)
+            | LogLine::Lapse(seat)
+            | LogLine::Leave(seat)
+            | LogLine::Wait(seat, _)
+            | LogLine::Signal(seat, _)
+            | LogLine::Broadcast(seat, _)
+            | LogLine::Until(seat, _)
+            | LogLine::Act(seat, ..) => seat,
+        }
+    }
 }

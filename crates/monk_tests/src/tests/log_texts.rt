@@ -110,6 +110,7 @@ const COUNTED: Counts = Counts {
     inside: 1,
     held: None,
     missed: Some(2),
+    unheard: None,
 };
 
 /// Whether the fits of that log have these counts.

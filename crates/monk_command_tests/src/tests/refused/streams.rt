@@ -5,7 +5,7 @@ use monk_kinds::KindName;
 use monk_logs::{Lapses, WaitsFor};
 
 /// By the names that `checks/fail_alloc` knows them by.
-pub(super) static JOBS: [Job<'static>; 23] = [
+pub(super) static JOBS: [Job<'static>; 24] = [
     Job {
         name: "legal",
         task: Task::Audit,
@@ -102,21 +102,21 @@ pub(super) static JOBS: [Job<'static>; 23] = [
         ),
         input: b"log 1 2 1 buffer 1\nenter 0\nwait 0 0\nresume 0\n",
         status: 1,
-        answer: b"a.log: NPNB fits fifo; served 0 passed 0 lapsed 1; left waiting 0 woken 0 inside 1; missed none; busy 0 3\n",
+        answer: b"a.log: NPNB fits fifo; served 0 passed 0 lapsed 1; left waiting 0 woken 0 inside 1; unheard none; missed none; busy 0 3\n",
     },
     Job {
         name: "log_kind_outside",
         task: Task::FitKind(KindName::Npnb, Lapses::Told, &[], "a.log"),
         input: b"log 1 2 1 buffer 1\nenter 0\nwait 0 0\nsignal 1 0\n",
         status: 0,
-        answer: b"a.log: NPNB fits fifo; served 1 passed 0 lapsed 0; left waiting 0 woken 1 inside 1; owed\n",
+        answer: b"a.log: NPNB fits fifo; served 1 passed 0 lapsed 0; left waiting 0 woken 1 inside 1; unheard none; owed\n",
     },
     Job {
         name: "log_kind_misfit",
         task: Task::FitKind(KindName::Npis, Lapses::Told, &[], "a.log"),
         input: b"log 1 2 1 buffer 1\nenter 0\nwait 0 0\nresume 0\n",
         status: 1,
-        answer: b"a.log: NPIS misfit 2 2 call; served 0 passed 0 lapsed 0; left waiting 0 woken 0 inside 1; busy 0 1\n",
+        answer: b"a.log: NPIS misfit 2 2 call; served 0 passed 0 lapsed 0; left waiting 0 woken 0 inside 1; unheard none; busy 0 1\n",
     },
     Job {
         name: "log_not_kind_fitted",
@@ -138,6 +138,13 @@ pub(super) static JOBS: [Job<'static>; 23] = [
         input: b"monk 1 PNB 2 1 buffer 1\nenter 0 free\nwait 0 0 entry\nenter 1 free\nsignal 1 0 waiter 0\n",
         status: 1,
         answer: b"forbidden 4 6 choice\nline: 5\nevent: signal 1 0 waiter 0\nkind: PNB non-blocking 1 2 3\nturn: of 1\ninside: 0 1\ndata: 1 (buffer of 1: empty)\ncondition 0: 0\nwaiter:\nsignaller:\nfronts: waiter 0, signaller 1\nmay: stay\nwhy: seat 1 has to stay active, since PNB puts signallers above waiters\n",
+    },
+    Job {
+        name: "log_explained",
+        task: Task::ExplainKind(KindName::Npnb, Lapses::Told, &[]),
+        input: b"log 1 2 1 buffer 1\nenter 0\nwait 0 0\nresume 0\n",
+        status: 1,
+        answer: b"NPNB misfit 3 6 unserved\nserved 0 passed 0 lapsed 1\nleft waiting 0 woken 0 inside 1\nunheard none\nbusy 0 3\nline: 4\nevent: resume 0\nwhy: this seat goes on, but no signal can have served it, or its predicate doesn't hold\nseat 0: 2 wait 0 0\n",
     },
     Job {
         name: "not_explained",

@@ -1,22 +1,14 @@
 use Rattle.std.proofs.Common.{◌∙◌, ◌++◌, List, ℕ, ap}
-use Rattle.monk_commands.specs.LogFitted.{gone_line, inside_words, missed_line, waiting_words}
-use Rattle.monk_commands.proofs.LogFits.{put_four}
+use Rattle.monk_commands.specs.LogFitted.{missed_line, seats_text}
+use Rattle.monk_commands.proofs.LogFits.{put_two}
 use Rattle.monk_commands.proofs.log_fitting.put_text.Goals as goal
 
 pub returns-clause-lines : goal.returns-clause-lines
 returns-clause-lines c =
     let k = c.args.counts in
-    let one = c.extend_from_slice.new.self.items in
-    let two = c.extend_from_slice-2.new.self.items in
-    let three = c.extend_from_slice-3.new.self.items in
-    put_four (gone_line k) (waiting_words k) (inside_words k)
-    (missed_line c.args.means.now k.missed) c.args.page.now.items one two three
-    c.extend_from_slice-4.new.self.items
+    let one = c.put_seats.new.page.items in
+    put_two (seats_text k) (missed_line c.args.means.now k.missed)
+    c.args.page.now.items one c.extend_from_slice.new.self.items
+    c.in_ok-put_seats.ensures.lines
     (c.in_ok-extend_from_slice.ensures.items
-    ∙ ap (λ (xs : List ℕ). c.args.page.now.items ++ xs) (c.as_bytes.ensures.value ∙ c.in_ok-gone_line.ensures.text))
-    (c.in_ok-extend_from_slice-2.ensures.items
-    ∙ ap (λ (xs : List ℕ). one ++ xs) (c.as_bytes-2.ensures.value ∙ c.in_ok-waiting_words.ensures.text))
-    (c.in_ok-extend_from_slice-3.ensures.items
-    ∙ ap (λ (xs : List ℕ). two ++ xs) (c.as_bytes-3.ensures.value ∙ c.in_ok-inside_words.ensures.text))
-    (c.in_ok-extend_from_slice-4.ensures.items
-    ∙ ap (λ (xs : List ℕ). three ++ xs) (c.as_bytes-4.ensures.value ∙ c.in_ok-missed_line.ensures.text))
+    ∙ ap (λ (xs : List ℕ). one ++ xs) (c.as_bytes.ensures.value ∙ c.in_ok-missed_line.ensures.text))

@@ -32,9 +32,3 @@ returns-in-trace c =
     let values =
     file_in (found_of c.args.matches.now) (option_map string_bytes c.in_ok-file.file) c.in_ok-file.ensures in
     record { command = sym c.in-trace.is; values = values; in_range = tt }
-
-pub returns-in-explain : goal.returns-in-explain
-returns-in-explain c =
-    let values =
-    file_in (found_of c.args.matches.now) (option_map string_bytes c.in_ok-file.file) c.in_ok-file.ensures in
-    record { command = sym c.in-explain.is; values = values; in_range = tt }

@@ -24,11 +24,8 @@ fit n = with_subcommand upgrade (fit_app n).top
 abbrev trace : KindNames → App
 trace n = with_subcommand (fit n) (file_app (codes "trace")).top
 
-abbrev explain : KindNames → App
-explain n = with_subcommand (trace n) (file_app (codes "explain")).top
-
 abbrev draw : KindNames → App
-draw n = with_subcommand (explain n) (window_app (codes "draw")).top
+draw n = with_subcommand (trace n) (window_app (codes "draw")).top
 
 pub returns : goal.returns
 returns c =
@@ -49,13 +46,10 @@ returns c =
     let to_trace = with_more fit (file_app (codes "trace")) c.adding-program-5.result c.with_file-4.result
     c.adding-program-6.result to_fit
     c.with_file-4.ensures c.adding-program-6.ensures in
-    let to_explain = with_more trace (file_app (codes "explain")) c.adding-program-6.result c.with_file-5.result
+    let to_draw = with_more trace (window_app (codes "draw")) c.adding-program-6.result c.showing.result
     c.adding-program-7.result to_trace
-    c.with_file-5.ensures c.adding-program-7.ensures in
-    let to_draw = with_more explain (window_app (codes "draw")) c.adding-program-7.result c.showing.result
-    c.adding-program-8.result to_explain
-    c.showing.ensures c.adding-program-8.ensures in
-    let to_page = with_more draw (window_app (codes "page")) c.adding-program-8.result c.showing-2.result
+    c.showing.ensures c.adding-program-7.ensures in
+    let to_page = with_more draw (window_app (codes "page")) c.adding-program-7.result c.showing-2.result
     c.adding.result to_draw
     c.showing-2.ensures c.adding.ensures in
     IfOk-weaker c.adding.result (HasNames plain_app) IsPlainMonk (λ r h. record { fitted = h.names; is = h.is })

@@ -30,7 +30,7 @@ loop-at-preserved c =
     let n = c.loop-at.at - 1 in
     let front = c.loop-at.invariant.front in
     let line = same_line c.args.lines.now c.loop-at.lines c.loop-at.at n _ is front in
-    let seat = c.from-seat.ensures ∙ c.seat_of.ensures ∙ ap expiry.line_seat line in
+    let seat = c.from-seat.ensures ∙ c.seat.ensures ∙ ap expiry.line_seat line in
     record {
       sized = length-set c.loop-at.lapses c.from-seat.result c.is_lapse.result ∙ c.loop-at.invariant.sized;
       within = rw length-set (omega arith);

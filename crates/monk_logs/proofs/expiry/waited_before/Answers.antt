@@ -16,7 +16,7 @@ loop-line-preserved c =
     let conds = c.args.conds in
     let lines = c.args.lines.now in
     let i = c.loop-line.line-index in
-    let seat = c.from-seat.ensures ∙ c.seat_of.ensures in
+    let seat = c.from-seat.ensures ∙ c.seat.ensures in
     record {
       sized = length-set c.loop-line.waits c.from-seat.result c.is_wait.result ∙ c.loop-line.invariant.sized;
       found = ap (λ ws. ws ++ expiry.waited_behind conds (reverse (take (i + 1) lines)) (drop (i + 1) lines))

@@ -84,6 +84,7 @@ const COUNTS: Counts = Counts {
     inside: 1,
     held: None,
     missed: None,
+    unheard: None,
 };
 
 /// They are counted, and completed to as many events.

@@ -32,6 +32,7 @@ loop-line-init g c =
         passed = omega arith;
         entered = omega arith;
         left = omega arith;
+        unheard = omega arith;
       };
       sound = c.in_ok-board.ensures.sound;
       held = tt;
@@ -109,9 +110,10 @@ loop-line-preserved g c =
           (line_counted g.T.Guarded.meaning c.args.means.now (c.loop-line.number + 1)
           (board_course a c.loop-line.pending)
           (board_course b c.in-Fits.left) c.in-Some.line k c.with_line-tally.result
-          _ _ _ c.with_line-tally.ensures.counted c.loop-line.invariant.woken
+          _ _ _ _ c.with_line-tally.ensures.counted c.loop-line.invariant.woken
           (c.now-now.ensures.woken (g.T.Guarded.state c.line_read.new.object))
-          c.in_ok-is_missed.ensures);
+          c.in_ok-is_missed.ensures
+          (c.in_ok-is_unheard.ensures (g.T.Guarded.state c.loop-line.object)));
       room = omega arith;
       seats = c.now-now.ensures.seats (g.T.Guarded.state c.line_read.new.object);
       woken = c.now-now.ensures.woken (g.T.Guarded.state c.line_read.new.object);

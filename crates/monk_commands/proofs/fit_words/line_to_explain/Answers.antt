@@ -1,0 +1,27 @@
+use Rattle.std.proofs.Common.{◌∙◌, ap, refl, sym, codes}
+use Rattle.std.specs.Prelude.{option_map}
+use Rattle.clap.specs.Words.{found_of}
+use Rattle.clap.proofs.WalkLemmas.{first_value-rows}
+use Rattle.monk_kinds.specs.Names.{kind_word}
+use Rattle.monk_commands.proofs.fit_words.line_to_explain.Goals as goal
+
+pub returns-in_ok-means-in-Some : goal.returns-in_ok-means-in-Some
+returns-in_ok-means-in-Some c = record {
+  command = refl;
+  values = (
+    c.in_ok-kind.ensures ∙ ap (option_map kind_word) c.in-Some.is,
+    sym (first_value-rows (found_of c.args.matches.now) (codes "FILE")) ∙ sym c.in_ok-file.ensures,
+    (c.lapses_of-lapses.ensures, c.in_ok-means-in-Some.ensures),
+  );
+  in_range = tt;
+}
+
+pub returns-in-None : goal.returns-in-None
+returns-in-None c = record {
+  command = refl;
+  values = (
+    sym (first_value-rows (found_of c.args.matches.now) (codes "FILE")) ∙ sym c.in_ok-file.ensures,
+    c.in_ok-kind.ensures ∙ ap (option_map kind_word) c.in-None.is,
+  );
+  in_range = tt;
+}
