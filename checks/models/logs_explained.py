@@ -3,7 +3,7 @@ from logs_model import text_of
 
 SENTENCES = {
     "range": "a number of this line is out of range",
-    "call": "monitors of this kind have no such call, or a signal wants its leave or wait here",
+    "call": "monitors of this kind have no such call, or this line isn't the leave or wait that a signal needs",
     "turn": "it can't be this seat's turn: it is outside or active already, or somebody else is active",
     "place": "this seat is inside already",
     "reply": "the object replies otherwise: this seat relied on something that doesn't hold",

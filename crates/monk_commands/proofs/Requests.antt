@@ -1,6 +1,8 @@
 -- What clap's matches say of the command and its values.
 use Rattle.std.proofs.Common.{◌≡◌, ℕ, ◌+◌, ◌<◌, List, [], ◌∷◌, ◌++◌, length, get_or, take, map, Option, Some, None, Result, Ok, true}
-use Rattle.std.proofs.Common.{refl, sym, ap, subst, ◌∙◌, Bor}
+use Rattle.std.proofs.Common.{eqb, refl, sym, ap, subst, ◌∙◌, Bor}
+use Rattle.std.proofs.Math.Dec.{eqb-suc-zero}
+use Rattle.std.proofs.lemmas.Bool.{false≢true}
 use Rattle.std.proofs.lemmas.List.{length-map, map-append, take_more}
 use Rattle.std.specs.Str.Parse.{ParsesUnsigned}
 use Rattle.clap.specs.declared.parser.matches.Found.{Found}
@@ -10,7 +12,10 @@ use Rattle.std.specs.Prelude.{◌↔◌, IfSome, option_map}
 use Rattle.clap.specs.Words.{Row, Text, TriesOne, all_of, matched_of, one_text, raw_values, rows_of, is_simple}
 use Rattle.clap.proofs.OnLiterals.{clap_on_literals}
 use Rattle.monk_logs.specs.declared.counts.waits_for.WaitsFor.{WaitsFor}
-use Rattle.monk_commands.specs.Request.{AreMeanings, HasNumber, IsAsked, IsMeaning, IsRead, KindNames, MayHaveNumber}
+use Rattle.monk_logs.specs.declared.lapses.Lapses.{Lapses}
+use Rattle.monk_logs.specs.declared.lapses.Lapses.TheVariants.{Told}
+use Rattle.monk_commands.specs.Request.{AreLogValues, AreMeanings, HasNumber, IsAsked, IsMeaning, IsRead, KindNames}
+use Rattle.monk_commands.specs.Request.{MayHaveNumber}
 use Rattle.monk_commands.specs.Request.{RunNames, monk_app, words_or_none}
 
 -- what is read in the rows of a command is asked for where that command was found
@@ -94,6 +99,12 @@ meanings_more words i t ws new w within are is more =
     (sym (ap texts (take_more words i t within)
     ∙ map-append (λ (x : Bor Text). x.now) (take i words) (get_or words i t ∷ [])))
     (words_more (texts (take i words)) ws (get_or words i t).now w are is))
+
+-- no option for logs is given
+pub none_given : (lapses : Lapses) (means : List WaitsFor) (rows : List Row) → lapses ≡ Told
+    → eqb (length means) 0 ≡ true → AreLogValues lapses means rows → AreLogValues Told [] rows
+none_given lapses [] rows is empty values = subst (λ (x : Lapses). AreLogValues x [] rows) is values
+none_given lapses (w ∷ ws) rows is empty values = absurd (false≢true (sym (eqb-suc-zero (length ws)) ∙ empty))
 
 -- ---- words that are kept
 

@@ -296,7 +296,7 @@ ValuesAre (FitKind kind files lapses means) rows = (first_of (codes "kind") rows
     × AreLogValues lapses means.items rows
 ValuesAre (Trace file) rows = first_of (codes "FILE") rows ≡ option_map string_bytes file
 ValuesAre (Explain file) rows = (first_of (codes "FILE") rows ≡ option_map string_bytes file)
-    × (first_of (codes "kind") rows ≡ None)
+    × (first_of (codes "kind") rows ≡ None) × AreLogValues Told [] rows
 ValuesAre (ExplainKind kind file lapses means) rows = (first_of (codes "kind") rows ≡ Some (kind_word kind))
     × (first_of (codes "FILE") rows ≡ option_map string_bytes file)
     × AreLogValues lapses means.items rows

@@ -1,17 +1,17 @@
 //! What the words of `fit` and of `explain` ask for.
 
-ghost use Rattle.std.specs.Prelude.{◌≡◌, IfOk, codes, if◌then◌else◌, option_map};
+ghost use Rattle.std.specs.Prelude.{◌≡◌, IfOk, None, codes, if◌then◌else◌, option_map};
 ghost use Rattle.clap.specs.Words.{first_of, found_of, rows_of};
 ghost use Rattle.monk_kinds.specs.Names.{kind_word};
 ghost use Rattle.monk_logs.specs.declared.lapses.Lapses.{Lapses};
-ghost use Rattle.monk_commands.specs.Request.{AreLapses, IsRead};
+ghost use Rattle.monk_commands.specs.Request.{AreLapses, AreLogValues, IsRead};
 
 use crate::file_words::{file_of, files_of, one_file};
 use crate::meaning_words::meanings_of;
 use crate::request::{Line, LineFault};
 use clap::ArgMatches;
 use monk_kinds::KindName;
-use monk_logs::Lapses;
+use monk_logs::{Lapses, WaitsFor};
 use std::alloc::Global;
 
 /// Which lines of a log may tell of a wait that ran out, by whether the flag is set.
@@ -63,17 +63,36 @@ pub(crate) fn line_to_fit(alloc: Global, matches: &ArgMatches<'_>) -> Result<Lin
     }
 }
 
+/// What `explain` asks for if no kind is named. The options for logs go with a kind alone.
+fn line_without_kind(
+    alloc: Global,
+    matches: &ArgMatches<'_>,
+    lapses: Lapses,
+    means: &[WaitsFor],
+) -> Result<Line, LineFault>
+    requires kind { first_of (codes "kind") (rows_of (found_of matches.now)) ≡ None }
+    requires values { AreLogValues lapses means.now (rows_of (found_of matches.now)) }
+    ensures { IfOk result (λ l. IsRead (codes "explain") l (rows_of (found_of matches.now))) }
+{
+    match lapses {
+        Lapses::Told if means.is_empty() => Ok(Line::Explain(file_of(alloc, matches)?)),
+        Lapses::Told | Lapses::Allowed => {
+            let text = "error: explain takes --lapses and --means only with --kind";
+            Err(LineFault::Words(String::from_str(alloc, text)?))
+        }
+    }
+}
+
 pub(crate) fn line_to_explain(alloc: Global, matches: &ArgMatches<'_>) -> Result<Line, LineFault>
     ensures { IfOk result (λ l. IsRead (codes "explain") l (rows_of (found_of matches.now))) }
 {
     let lapses = lapses_of(matches);
-    let kind = one_kind(alloc, matches)?;
-    let file = file_of(alloc, matches)?;
-    match kind {
+    let means = meanings_of(alloc, matches)?;
+    match one_kind(alloc, matches)? {
         Some(kind) => {
-            let means = meanings_of(alloc, matches)?;
+            let file = file_of(alloc, matches)?;
             Ok(Line::ExplainKind(kind, file, lapses, means))
         }
-        None => Ok(Line::Explain(file)),
+        None => line_without_kind(alloc, matches, lapses, &means),
     }
 }

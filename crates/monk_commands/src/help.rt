@@ -51,7 +51,7 @@ pub(crate) static FIT: Help = Help {
         With --kind it writes one line for each file.\n\
         Example: monk fit --kind NPNB logs/*.log\n\
         Status: 0 fits a kind, 1 fits none, 2 unreadable; 3 wrong words, 4 a failed file or no memory.\n\
-        With --kind the worst of all files: 0 fits it, 1 doesn't or missed a signal\n\
+        With --kind the worst of all files: 0 fits it, 1 doesn't, misses a signal or ends busy\n\
         Read: docs/LOGS.md",
 };
 
@@ -75,7 +75,7 @@ pub(crate) static EXPLAIN: Help = Help {
         With --kind it judges a history or a log under that kind.\n\
         Example: monk explain --kind NPNB examples/woken_by_nobody.log\n\
         Status: 0 legal, 1 forbidden, 2 unreadable; 3 wrong words, 4 a failed file or no memory.\n\
-        Of a log 0 fits, 1 doesn't or missed a signal or is busy\n\
+        Of a log 0 fits, 1 doesn't, misses a signal or ends busy\n\
         Read: docs/TEXT.md, of logs docs/LOGS.md",
 };
 

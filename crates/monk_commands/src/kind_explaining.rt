@@ -159,13 +159,13 @@ fn explanation(
 /// Of a history that is what [`explain_stream`](crate::explain_stream) writes, whatever kind the
 /// history's header names.
 ///
-/// Of a log, whose first word is `log`, what [`fit_kind_stream`](crate::fit_kind_stream) says comes
-/// first, with its status: the line of the fit or misfit, the counts, and who has the monitor at the
-/// end, here each in a line of its own. Of a misfit three lines follow: `line: LINE`, the number of the
-/// line in the text; `event: EVENT`, the line itself; and `why: SENTENCE`. Last stands where everybody
-/// was before that line, or else at the end: a row `seat SEAT: STEP EVENT` with the last line of each
-/// seat that has one, and a row `condition COND: STEP EVENT` with the last signal to each condition
-/// that has one. A STEP counts the lines behind the log's first one from 1.
+/// Of a log, whose first word is `log`, first stands what [`fit_kind_stream`](crate::fit_kind_stream)
+/// says, each part in a line of its own. The status is the same. Of a misfit three lines follow:
+/// `line: LINE`, the number of the line in the text; `event: EVENT`, the line itself; and
+/// `why: SENTENCE`. Then comes a row `seat SEAT: STEP EVENT` with the last line of each seat that has
+/// one, and a row `condition COND: STEP EVENT` with the last signal to each condition that has one. Of
+/// a misfit the rows are of the lines before it. A STEP counts the lines behind the log's first one
+/// from 1.
 ///
 /// # Errors
 ///
@@ -176,8 +176,8 @@ fn explanation(
 /// # Cost
 ///
 /// Of a history that of [`explain_stream`](crate::explain_stream). Of a log that of
-/// [`fit_kind_stream`](crate::fit_kind_stream), and its passes that judge once more; and for each seat
-/// and each condition one pass over the lines and one over the text.
+/// [`fit_kind_stream`](crate::fit_kind_stream), whose passes that judge are made twice. Each seat and
+/// each condition adds a pass over the lines and one over the text.
 pub fn explain_kind_stream<R: Read, W: Write>(
     alloc: Global,
     kind: KindName,
@@ -193,8 +193,8 @@ pub fn explain_kind_stream<R: Read, W: Write>(
     ensures answer { IfOk result
         (Answers (explain_kind_of kind lapses means.now) (R.remaining (inner_of reader.old))
         (W.contents (inner_of writer.old)) (W.contents (inner_of writer.new))) }
-    // The status is 0 exactly for the text of a history that is legal under the kind, or of a log that
-    // is open under it in some order, misses no signal, and lets the monitor go at its end.
+    // The status is 0 exactly for two texts: a history that is legal under the kind, and a log that is
+    // open under it in some order, misses no signal, and ends with nobody having the monitor.
     ensures fits { IfOk result
         (λ status. IfSome (R.remaining (inner_of reader.old))
         (λ input. (status ≡ 0) ↔ (IsKindText kind input ⊎ IsKindLogText kind lapses means.now input))) }

@@ -218,8 +218,8 @@ pub fn fit_kind_stream<R: Read, W: Write>(
     ensures answer { IfOk result
         (Answers (named_fit_of kind lapses means.now name.now) (R.remaining (inner_of reader.old))
         (W.contents (inner_of writer.old)) (W.contents (inner_of writer.new))) }
-    // The status is 0 exactly for the text of a history that is legal under the kind, or of a log that
-    // is open under it in some order, misses no signal, and lets the monitor go at its end.
+    // The status is 0 exactly for two texts: a history that is legal under the kind, and a log that is
+    // open under it in some order, misses no signal, and ends with nobody having the monitor.
     ensures fits { IfOk result
         (λ status. IfSome (R.remaining (inner_of reader.old))
         (λ input. (status ≡ 0) ↔ (IsKindText kind input ⊎ IsKindLogText kind lapses means.now input))) }

@@ -31,7 +31,7 @@ fn blame_sentence(blame: Blame) -> &'static str
     match blame {
         Blame::Range => "a number of this line is out of range",
         Blame::Call =>
-            "monitors of this kind have no such call, or a signal wants its leave or wait here",
+            "monitors of this kind have no such call, or this line isn't the leave or wait that a signal needs",
         Blame::Turn =>
             "it can't be this seat's turn: it is outside or active already, or somebody else is active",
         Blame::Place => "this seat is inside already",
@@ -181,9 +181,8 @@ fn put_rows(
     Ok(())
 }
 
-/// Puts behind the page how the log of these bytes stands: the line that misfits, if there is one, and
-/// before that line, or else at the end, the last line of each seat and the last signal to each
-/// condition.
+/// Puts behind the page the line of these bytes that misfits, if there is one. Then come the last line
+/// of each seat and the last signal to each condition, before that line or at the end.
 pub(crate) fn put_standing(
     alloc: Global,
     page: &mut Vec<u8>,

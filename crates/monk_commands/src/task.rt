@@ -43,7 +43,7 @@ pub enum Task<'a> {
     /// The verdict on a history, and why, by [`explain_stream`].
     Explain,
     /// The verdict on a history or a log under the kind, and why, by [`explain_kind_stream`]: of a log
-    /// with what it says of waits.
+    /// with its counts, and with the last line of each seat.
     ExplainKind(KindName, Lapses, &'a [WaitsFor]),
     /// The picture of a history, by [`show_stream`]: of the events that are asked for.
     Draw(Option<Window>),

@@ -6,7 +6,7 @@ ghost use Rattle.monk_logs.specs.LastLine.{last_line};
 use crate::subject::Subject;
 use crate::text::line::LogLine;
 
-/// The number of the last line about it, counted from 1; `None` where there is none.
+/// The number of the last line about the subject, counted from 1; `None` where there is none.
 ///
 /// # Cost
 ///

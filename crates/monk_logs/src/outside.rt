@@ -116,8 +116,8 @@ pub fn send_inside(alloc: Global, seats: u8, lines: &[LogLine]) -> Result<Vec<Lo
     Ok(read)
 }
 
-/// The line of the log that is told by that line of [`send_inside`]'s. Both are counted from 1. Behind
-/// the last line of [`send_inside`]'s it is the number of the log's lines.
+/// The number of the line of the log that the line of [`send_inside`]'s result tells. Both are counted
+/// from 1. If the result has no such line, it is the number of the log's lines.
 ///
 /// # Cost
 ///

@@ -1,11 +1,11 @@
-//! What a line of a log can be about.
+//! A seat or a condition, whose last line is asked for.
 
 ghost use Rattle.std.specs.Prelude.{◌≡◌};
 ghost use Rattle.monk_logs.specs.LastLine as last_lines;
 
 use crate::text::line::LogLine;
 
-/// What a line of a log can be about.
+/// What the last line of a log is asked of: a seat or a condition.
 #[derive(Clone, Copy, Debug, PartialEq, Eq)]
 pub enum Subject {
     /// A seat: each line that it wrote.

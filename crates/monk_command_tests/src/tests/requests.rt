@@ -213,7 +213,7 @@ fn is_refused(alloc: Global, words: &[&str]) -> bool {
 
 /// Words that ask for nothing; of a picture also numbers of no events, of a run a number out of
 /// range, and another kind or sample.
-static NOTHING: [&[&str]; 49] = [
+static NOTHING: [&[&str]; 53] = [
     &["monk", "adit"],
     &["monk", "help"],
     &["monk", "--help"],
@@ -223,6 +223,10 @@ static NOTHING: [&[&str]; 49] = [
     &["monk", "play", "a", "b"],
     &["monk", "upgrade", "a", "b"],
     &["monk", "explain", "a", "b"],
+    &["monk", "explain", "--lapses", "a"],
+    &["monk", "explain", "--means", "0=1"],
+    &["monk", "explain", "--means", "1"],
+    &["monk", "explain", "--kind", "npnb", "a"],
     &["monk", "draw", "a", "b"],
     &["monk", "page", "a", "b"],
     &["monk", "page", "--from", "8", "--to", "7"],

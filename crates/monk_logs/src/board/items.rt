@@ -136,7 +136,15 @@ pub(crate) fn seats_at(items: &[Item], cond: u8) -> usize
 pub(crate) fn unserved_at(items: &[Item], cond: u8) -> usize
     ensures { result ≡ length (unserved_in (line cond items.now)) }
 {
-    seats_at(items, cond).saturating_sub(services_at(items, cond))
+    let (mut seats, mut services): (usize, usize) = (0, 0);
+    for item in items {
+        match *item {
+            Item::Waiting(_, at) if at == cond => seats += 1,
+            Item::Service(at) if at == cond => services += 1,
+            _ => {}
+        }
+    }
+    seats.saturating_sub(services)
 }
 
 /// Whether the seat is one of the first so many that wait on the condition.

@@ -115,7 +115,7 @@ fn misses_signal<T: Guarded>(
 }
 
 /// Whether the line, before which the board stands so, is a signal that finds nobody. The list is for
-/// the items that stand then.
+/// the items that stand then, if a release before the line has changed them.
 #[inline(always)]
 fn finds_nobody(
     line: LogLine,
@@ -127,10 +127,13 @@ fn finds_nobody(
         ≡ unheards.finds_nobody line (tallies.items_now (board_course (board_shown board.now state) pending))) }
 {
     match line {
-        LogLine::Signal(_, cond) | LogLine::Broadcast(_, cond) => {
-            take_items(items, board, pending)?;
-            Ok(nobody_waits(items, cond))
-        }
+        LogLine::Signal(_, cond) | LogLine::Broadcast(_, cond) => match pending {
+            Pending::Release(_) => {
+                take_items(items, board, pending)?;
+                Ok(nobody_waits(items, cond))
+            }
+            Pending::Settled | Pending::Half(..) => Ok(nobody_waits(&board.items, cond)),
+        },
         _ => Ok(false),
     }
 }
