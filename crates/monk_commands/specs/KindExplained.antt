@@ -37,7 +37,8 @@ line_at input n = unwrap_or (slice_get (lines_of input) n) []
 -- what is wrong with a line, by what is to blame
 abbrev pub blame_sentence : Blame → List ℕ
 blame_sentence Range = codes "a number of this line is out of range"
-blame_sentence Call = codes "monitors of this kind have no such call, or this line isn't the leave or wait that a signal needs"
+blame_sentence Call =
+    codes "monitors of this kind have no such call, or this line isn't the leave or wait that a signal needs"
 blame_sentence Turn = codes "it can't be this seat's turn: it is outside or active already, or somebody else is active"
 blame_sentence Place = codes "this seat is inside already"
 blame_sentence Reply = codes "the object replies otherwise: this seat relied on something that doesn't hold"
