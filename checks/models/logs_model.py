@@ -28,6 +28,8 @@ VERBS = {
 }
 MOST = {"seats": 32, "conds": 8, "buffer": 64, "book": 32, "shop": 64, "flags": 32}
 NUMBER = re.compile("0|[1-9][0-9]*")
+# With what a seat comes in or goes on.
+COMING = ("enter", "resume", "lapse")
 
 
 # ---- the counts, of the log as one of NPNB in any order, where waits may lapse
@@ -61,16 +63,33 @@ def finds_nobody(items, line):
 
 def held_behind(step, line, held):
     """Who has the monitor behind the line, and since which one."""
-    if line[0] in ("enter", "resume", "lapse"):
+    if line[0] in COMING:
         return line[1], step
     return None if line[0] in ("leave", "wait", "until") else held or (line[1], step)
 
 
-def ending(held, inside, woken):
-    """How the log ends."""
+def ending(held, inside, woken, seats):
+    """How the log of so many seats ends."""
     if held:
         return "busy {} {}".format(*held)
-    return "owed" if woken else "open" if inside else "free"
+    if woken or not inside:
+        return "owed" if woken else "free"
+    return "dead" if inside == seats else "open"
+
+
+def crossing(lines, seat):
+    """The last signal to the condition on which the seat waits in its last line, by another since the seat came in or went on."""
+    *_, last = (step for step, line in enumerate(lines, 1) if line[1] == seat)
+    verb, _, *cond = lines[last - 1]
+    visit = itertools.takewhile(lambda step: lines[step - 1] not in [(word, seat) for word in COMING], range(last - 1, 0, -1))
+    signals = [step for step in visit if lines[step - 1][0] in SIGNALS and lines[step - 1][1] != seat and [lines[step - 1][2]] == cond]
+    return signals[0] if verb == "wait" and signals else None
+
+
+def crossed(lines):
+    """How many seats a signal crossed so on their way to sleep, and which line is the last such signal."""
+    signals = [step for step in (crossing(lines, seat) for seat in {line[1] for line in lines}) if step]
+    return f"crossed {len(signals)} {max(signals)}" if signals else "crossed none"
 
 
 def counted_as(header, lines, kind="NPNB", means=(), origins=None):
@@ -95,7 +114,7 @@ def counted_as(header, lines, kind="NPNB", means=(), origins=None):
     said = [" ".join(f"{word} {number}" for word, number in count.items())]
     said.append(f"left waiting {len(items) - 2 * services(items)} woken {services(items)} inside {len(inside)}")
     nobody = f"unheard {len(unheard)} {unheard[-1]}" if unheard else "unheard none"
-    return Counts(said, nobody, [f"missed {missed or 'none'}"] if means else [], ending(held, inside, services(items)))
+    return Counts(said, nobody, [f"missed {missed or 'none'}"] if means else [], ending(held, len(inside), services(items), header.seats))
 
 
 def counted(header, lines, means=()):
@@ -107,6 +126,7 @@ def counted(header, lines, means=()):
 def fitted_alone(header, lines, kind, lapses=False, means=()):
     """What stands in one line of the log under this kind alone, where waits run out at once, and the status. Under NPNB signals
     from outside are read as from inside; of a log with one no signal is missed, since it may come behind the release."""
+    on_the_way = crossed(lines)
     lines, origins = at_once(conds_under(kind, header), lines), None
     if kind == OUTSIDE_KIND:
         means = () if has_outside(header, lines) else means
@@ -114,7 +134,7 @@ def fitted_alone(header, lines, kind, lapses=False, means=()):
     (said,), fits = fitted(header, lines, lapses, (kind,), origins)
     counts = counted_as(header, lines, kind, means, origins)
     is_well = fits and not counts.end.startswith("busy") and (not means or counts.missed == ["missed none"])
-    return "; ".join([said, *counts.seats, counts.unheard, *counts.missed, counts.end]), 0 if is_well else 1
+    return "; ".join([said, *counts.seats, counts.unheard, on_the_way, *counts.missed, counts.end]), 0 if is_well else 1
 
 
 def fitted(header, lines, lapses=False, kinds=monitor.KINDS, origins=None):

@@ -19,6 +19,7 @@ use Rattle.monk_history.specs.Text.Reading.{History, history, text_at}
 use Rattle.monk_history.proofs.PublicLaws.Texts.{text_again, text_read}
 use Rattle.monk_audit.proofs.PublicLaws.{is_verdict}
 use Rattle.monk_audit.specs.Under.{under}
+use Rattle.monk_logs.specs.Crossed.{crossed_of}
 use Rattle.monk_logs.specs.Expiry.{at_once}
 use Rattle.monk_logs.specs.Fit.{is_in}
 use Rattle.monk_logs.specs.Log.{LogHeading}
@@ -27,6 +28,7 @@ use Rattle.monk_logs.specs.Outside.{from_inside, origin}
 use Rattle.monk_logs.specs.declared.counts.Counts.{Counts}
 use Rattle.monk_logs.specs.declared.counts.held.Held.{Held}
 use Rattle.monk_logs.specs.declared.counts.waits_for.WaitsFor.{WaitsFor}
+use Rattle.monk_logs.specs.declared.crossed.Crossed.{Crossed}
 use Rattle.monk_logs.specs.declared.kind_fit.Fit.{Fit}
 use Rattle.monk_logs.specs.declared.kind_fit.Fit.TheVariants.{In, Misfit}
 use Rattle.monk_logs.specs.declared.lapses.Lapses.{Lapses}
@@ -116,11 +118,11 @@ ends_well c None None is_missed is_held e = record { no_missed = is_missed; no_h
 ends_well c None (Some h) is_missed is_held e = absurd (omega (arith, e))
 ends_well c (Some n) held is_missed is_held e = absurd (omega (arith, e))
 
-fit_zero : (k : KindName) (means : List WaitsFor) (c : Counts) (f : Fit) → is_in f ≡ true → EndsWell c
-    → (fit_with_counts k means c f).status ≡ 0
-fit_zero k means c (In o) is well =
+fit_zero : (k : KindName) (means : List WaitsFor) (seats : ℕ) (y : Option Crossed) (c : Counts) (f : Fit)
+    → is_in f ≡ true → EndsWell c → (fit_with_counts k means seats y c f).status ≡ 0
+fit_zero k means seats y c (In o) is well =
     ap (λ (missed : Option ℕ). counts_status missed c.held) well.no_missed ∙ ap (counts_status None) well.no_held
-fit_zero k means c (Misfit n why) is well = absurd (false≢true is)
+fit_zero k means seats y c (Misfit n why) is well = absurd (false≢true is)
 
 -- a log once its signals from outside are sent from inside
 
@@ -130,30 +132,30 @@ held_status number None None = refl
 held_status number None (Some h) = refl
 held_status number (Some n) held = refl
 
-numbered_status : (k : KindName) (number : ℕ → ℕ) (c : Counts) (f : Fit)
-    → (fit_with_counts k [] (numbered_counts number c) (numbered_fit number f)).status
-    ≡ (fit_with_counts k [] c f).status
-numbered_status k number c (In o) = held_status number c.missed c.held
-numbered_status k number c (Misfit n why) = refl
+numbered_status : (k : KindName) (seats : ℕ) (y : Option Crossed) (number : ℕ → ℕ) (c : Counts) (f : Fit)
+    → (fit_with_counts k [] seats y (numbered_counts number c) (numbered_fit number f)).status
+    ≡ (fit_with_counts k [] seats y c f).status
+numbered_status k seats y number c (In o) = held_status number c.missed c.held
+numbered_status k seats y number c (Misfit n why) = refl
 
-module _ (k : KindName) (x : Lapses) (h : LogHeading) where
+module _ (k : KindName) (x : Lapses) (h : LogHeading) (y : Option Crossed) where
   outside_status : (ls : List LogLine) (big : Bool) → ltb (most h.object) h.size ≡ big
-      → (outside_answer k x h ls).status ≡ (log_kind_answer k x [] h (from_inside h.seats ls)).status
+      → (outside_answer k x h y ls).status ≡ (log_kind_answer k x [] h y (from_inside h.seats ls)).status
   outside_status ls true is = rw is refl
   outside_status ls false is =
-      rw is (numbered_status k (origin h.seats ls) (kind_counts k h [] (from_inside h.seats ls))
+      rw is (numbered_status k h.seats y (origin h.seats ls) (kind_counts k h [] (from_inside h.seats ls))
       (log_fit x h (from_inside h.seats ls) k))
 
   -- the status is that of the log as it is judged
   sent_status : (means : List WaitsFor) (ls : List LogLine) (sent : Bool) → is_sent k h ls ≡ sent
-      → (sent_answer k x means h ls).status
-      ≡ (log_kind_answer k x (judged_means k means h ls) h (judged_log k h ls)).status
+      → (sent_answer k x means h y ls).status
+      ≡ (log_kind_answer k x (judged_means k means h ls) h y (judged_log k h ls)).status
   sent_status means ls true is = rw is (outside_status ls (ltb (most h.object) h.size) refl)
   sent_status means ls false is = rw is refl
 
   log_judged_by : (means : List WaitsFor) (ls : List LogLine) (big : Bool) (f : Fit)
       → ltb (most h.object) h.size ≡ big → log_fit x h ls k ≡ f
-      → (cond big too_big (fit_with_counts k means (kind_counts k h means ls) f)).status ≡ 0
+      → (cond big too_big (fit_with_counts k means h.seats y (kind_counts k h means ls) f)).status ≡ 0
       → (h.size ≤ most h.object) × ((is_in (log_fit x h ls k) ≡ true) × EndsWell (kind_counts k h means ls))
   log_judged_by means ls true f is fits e = absurd (omega (arith, e))
   log_judged_by means ls false (In o) is fits e = (
@@ -162,7 +164,7 @@ module _ (k : KindName) (x : Lapses) (h : LogHeading) where
   )
   log_judged_by means ls false (Misfit n why) is fits e = absurd (omega (arith, e))
 
-  log_most : (means : List WaitsFor) (ls : List LogLine) → (log_kind_answer k x means h ls).status ≤ 2
+  log_most : (means : List WaitsFor) (ls : List LogLine) → (log_kind_answer k x means h y ls).status ≤ 2
   log_most means ls = go (ltb (most h.object) h.size) (kind_counts k h means ls) (log_fit x h ls k)
     where
       by_counts : (missed : Option ℕ) (held : Option Held) → counts_status missed held ≤ 2
@@ -170,7 +172,7 @@ module _ (k : KindName) (x : Lapses) (h : LogHeading) where
       by_counts None (Some h) = omega arith
       by_counts (Some n) held = omega arith
 
-      go : (b : Bool) (c : Counts) (f : Fit) → (cond b too_big (fit_with_counts k means c f)).status ≤ 2
+      go : (b : Bool) (c : Counts) (f : Fit) → (cond b too_big (fit_with_counts k means h.seats y c f)).status ≤ 2
       go true c f = omega arith
       go false c (In o) = by_counts c.missed c.held
       go false c (Misfit n why) = omega arith
@@ -182,9 +184,10 @@ module _ (k : KindName) (x : Lapses) (means : List WaitsFor) where
       let once = at_once (conds_under k l.0) l.1 in
       let ls = judged_log k l.0 once in
       let said = judged_means k means l.0 once in
+      let y = crossed_of l.1 in
       let j =
-      log_judged_by k x l.0 said ls (ltb (most l.0.object) l.0.size) (log_fit x l.0 ls k) refl refl
-      (sym (sent_status k x l.0 means once (is_sent k l.0 once) refl) ∙ e) in
+      log_judged_by k x l.0 y said ls (ltb (most l.0.object) l.0.size) (log_fit x l.0 ls k) refl refl
+      (sym (sent_status k x l.0 y means once (is_sent k l.0 once) refl) ∙ e) in
       let t = log_read (2 ^ 25) input l is in (
         l.0,
         (
@@ -209,16 +212,18 @@ module _ (k : KindName) (x : Lapses) (means : List WaitsFor) where
       ∙ log_again (2 ^ 25) h f.1.0 t.has_text t.few in
       let size : ltb (most h.object) h.size ≡ false = le-ltb _ _ t.size in
       let counts = kind_counts k h said ls in
+      let y = crossed_of f.1.0 in
       ap (λ (r : Result Log ReadFault). (log_kind_reading k x means r).status) read_is
-      ∙ sent_status k x h means once (is_sent k h once) refl
-      ∙ ap (λ b. (cond b too_big (fit_with_counts k said counts (log_fit x h ls k))).status) size
-      ∙ fit_zero k said counts (log_fit x h ls k) (kind_open_fit x k h ls opens.0 opens.1) f.1.1.1.1
+      ∙ sent_status k x h y means once (is_sent k h once) refl
+      ∙ ap (λ b. (cond b too_big (fit_with_counts k said h.seats y counts (log_fit x h ls k))).status) size
+      ∙ fit_zero k said h.seats y counts (log_fit x h ls k) (kind_open_fit x k h ls opens.0 opens.1) f.1.1.1.1
 
   log_kind_most : (r : Result Log ReadFault) → (log_kind_reading k x means r).status ≤ 2
   log_kind_most (Ok l) =
       let once = at_once (conds_under k l.0) l.1 in
-      subst (λ n. n ≤ 2) (sym (sent_status k x l.0 means once (is_sent k l.0 once) refl))
-      (log_most k x l.0 (judged_means k means l.0 once) (judged_log k l.0 once))
+      let y = crossed_of l.1 in
+      subst (λ n. n ≤ 2) (sym (sent_status k x l.0 y means once (is_sent k l.0 once) refl))
+      (log_most k x l.0 y (judged_means k means l.0 once) (judged_log k l.0 once))
   log_kind_most (Err f) = omega arith
 
   -- ---- a text

@@ -157,6 +157,11 @@ put_three a b d old one two page is_one is_two is =
     is ∙ ap (λ (xs : List ℕ). xs ++ d) (put_two a b old one two is_one is_two)
     ∙ append_assoc old (a ++ b) d ∙ ap (λ (xs : List ℕ). old ++ xs) (append_assoc a b d)
 
+pub put_four : (a b d e old one two three page : List ℕ) → one ≡ old ++ a → two ≡ one ++ b → three ≡ two ++ d
+    → page ≡ three ++ e → page ≡ old ++ (a ++ (b ++ (d ++ e)))
+put_four a b d e old one two three page is_one is_two is_three is =
+    put_three a b (d ++ e) old one two page is_one is_two (put_two d e two three page is_three is)
+
 -- what is answered to the bytes that were read is answered to the input
 pub fit_known : (x : Lapses) (means : List WaitsFor) (known before after : Option (List ℕ)) (bytes : List ℕ)
     (status : ℕ)

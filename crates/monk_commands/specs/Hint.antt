@@ -9,7 +9,7 @@ use Rattle.monk_commands.specs.declared.hint.Hint.{Hint}
 use Rattle.monk_commands.specs.declared.hint.Hint.TheVariants as hint
 use Rattle.monk_commands.specs.declared.task.Task.{Task}
 use Rattle.monk_commands.specs.declared.task.Task.TheVariants.{Audit, Play, Upgrade, Fit, FitKind}
-use Rattle.monk_commands.specs.declared.task.Task.TheVariants.{Trace, Explain, ExplainKind, Draw, Page, Complete}
+use Rattle.monk_commands.specs.declared.task.Task.TheVariants.{Trace, Explain, ExplainKind, Draw, Page, Complete, CompleteRun}
 use Rattle.monk_commands.specs.declared.text_name.TextName.{TextName}
 use Rattle.monk_commands.specs.declared.text_name.TextName.TheVariants as name
 use Rattle.monk_history.specs.declared.text.fault.Flaw.TheVariants as flaw
@@ -20,6 +20,7 @@ use Rattle.monk_kinds.specs.Names.{kind_word, kinds, with_text}
 use Rattle.monk_kinds.specs.declared.name.KindName.{KindName}
 use Rattle.monk_object.specs.Names.{most, object_of, object_word}
 use Rattle.monk_object.specs.declared.name.ObjectName.{ObjectName}
+use Rattle.monk_object.specs.declared.name.ObjectName.TheVariants.{Buffer, Book, Shop, Flags}
 
 -- ---- the texts
 
@@ -68,6 +69,7 @@ reads (ExplainKind kind lapses means) t = not (is_play t)
 reads (Draw window) t = is_history t
 reads (Page window) t = is_history t
 reads (Complete kind) t = is_log t
+reads (CompleteRun kind order) t = is_log t
 
 -- the text that it reads, a history where it reads two
 abbrev pub wanted : Task → TextName
@@ -82,6 +84,7 @@ wanted (ExplainKind kind lapses means) = name.History
 wanted (Draw window) = name.History
 wanted (Page window) = name.History
 wanted (Complete kind) = name.Log
+wanted (CompleteRun kind order) = name.Log
 
 -- ---- by single bytes
 
@@ -229,6 +232,13 @@ commands_that_read name.History = codes "monk audit, explain, draw, page, fit or
 commands_that_read name.Play = codes "monk play or trace"
 commands_that_read name.Log = codes "monk fit, complete or explain --kind"
 
+-- what stands before the word of an object in a sentence: flags are many
+abbrev pub article : ObjectName → List ℕ
+article Buffer = codes "a "
+article Book = codes "a "
+article Shop = codes "a "
+article Flags = codes ""
+
 -- the sentence of a hint
 abbrev pub sentence : Hint → List ℕ
 sentence (hint.Empty t) =
@@ -244,7 +254,7 @@ sentence hint.NoObject = codes "there is no such object: the objects are buffer,
 sentence hint.Seats = codes "the number of seats is out of range: 1 to " ++ decimal most_seats
 sentence hint.Conds = codes "the number of conditions is out of range: 0 to " ++ decimal most_conds
 sentence (hint.Size o) =
-    codes "the size is out of range: that of a " ++ object_word o ++ codes " is 1 to " ++ decimal (most o)
+    codes "the size is out of range: that of " ++ article o ++ object_word o ++ codes " is 1 to " ++ decimal (most o)
 sentence hint.Comment = codes "a line begins with #: a text has no comments"
 sentence hint.Blank = codes "a line is blank: a text has no blank lines"
 sentence (hint.NoHeader t) =

@@ -9,6 +9,7 @@ use Rattle.monk_history.specs.declared.text.fault.ReadFault.{ReadFault}
 use Rattle.monk_history.specs.Text.Lines.{lines_of}
 use Rattle.monk_history.specs.Text.Reading.{History, text_at}
 use Rattle.monk_audit.specs.Under.{under}
+use Rattle.monk_logs.specs.Crossed.{crossed_of}
 use Rattle.monk_logs.specs.Expiry.{at_once}
 use Rattle.monk_logs.specs.LastLine.{last_line}
 use Rattle.monk_logs.specs.Log.{LogHeading}
@@ -17,6 +18,7 @@ use Rattle.monk_logs.specs.Outside.{from_inside, origin}
 use Rattle.monk_logs.specs.declared.blame.Blame.{Blame}
 use Rattle.monk_logs.specs.declared.blame.Blame.TheVariants.{Range, Call, Turn, Place, Reply, Unserved, Served, Order, Choice}
 use Rattle.monk_logs.specs.declared.counts.waits_for.WaitsFor.{WaitsFor}
+use Rattle.monk_logs.specs.declared.crossed.Crossed.{Crossed}
 use Rattle.monk_logs.specs.declared.kind_fit.Fit.{Fit}
 use Rattle.monk_logs.specs.declared.kind_fit.Fit.TheVariants.{In, Misfit}
 use Rattle.monk_logs.specs.declared.lapses.Lapses.{Lapses}
@@ -27,6 +29,8 @@ use Rattle.monk_commands.specs.Answer.{LineAnswer, unreadable}
 use Rattle.monk_commands.specs.Explained.{explain_answer}
 use Rattle.monk_commands.specs.KindFitted.{conds_under, is_sent, numbered_fit, sent_answer}
 use Rattle.monk_commands.specs.LogFitted.{is_log_text, log_fit}
+use Rattle.monk_commands.specs.declared.log_standing.Rows.{Rows}
+use Rattle.monk_commands.specs.declared.log_standing.Rows.TheVariants.{Seats, Conditions}
 
 -- ---- what is wrong
 
@@ -83,6 +87,11 @@ row_by input it (Some n) = row_label it n ++ line_at input n ++ codes "\n"
 abbrev pub row : List ℕ → List LogLine → Subject → List ℕ
 row input log it = row_by input it (last_line it log)
 
+-- the seat or the condition that has the row of that number
+abbrev pub subject_of : Rows → ℕ → Subject
+subject_of Seats n = Seat n
+subject_of Conditions n = Condition n
+
 -- the rows of the numbers below that one
 unfoldable pub rows_below : (ℕ → List ℕ) → ℕ → List ℕ
 rows_below row_of zero = []
@@ -110,16 +119,18 @@ abbrev pub standing_of : KindName → Lapses → List ℕ → LogHeading → Lis
 standing_of k x input h log =
     if nat_lt (most h.object) h.size then [] else standing_text input h log (found_fit k x h log)
 
--- what is said of a log that is judged under the kind, and how it stands
-abbrev pub explain_log : KindName → Lapses → List WaitsFor → List ℕ → LogHeading → List LogLine → LineAnswer
-explain_log k x means input h log = record {
-  status = (sent_answer k x means h log).status;
-  text = (sent_answer k x means h log).text ++ standing_of k x input h log;
+-- what is said of a log that is judged under the kind, with those seats crossed, and how it stands
+abbrev pub explain_log :
+    KindName → Lapses → List WaitsFor → List ℕ → LogHeading → Option Crossed → List LogLine → LineAnswer
+explain_log k x means input h y log = record {
+  status = (sent_answer k x means h y log).status;
+  text = (sent_answer k x means h y log).text ++ standing_of k x input h log;
 }
 
 -- the same for what was read as a log, where waits run out at once
 abbrev pub explain_log_reading : KindName → Lapses → List WaitsFor → List ℕ → Result Log ReadFault → LineAnswer
-explain_log_reading k x means input (Ok l) = explain_log k x means input l.0 (at_once (conds_under k l.0) l.1)
+explain_log_reading k x means input (Ok l) =
+    explain_log k x means input l.0 (crossed_of l.1) (at_once (conds_under k l.0) l.1)
 explain_log_reading k x means input (Err f) = unreadable f
 
 -- ---- a text

@@ -16,6 +16,7 @@ use Rattle.monk_history.specs.Text.{Heading}
 use Rattle.monk_history.specs.Text.Reading.{History, text_at}
 use Rattle.monk_audit.specs.Under.{under}
 use Rattle.monk_logs.specs.Counts.{counts_of}
+use Rattle.monk_logs.specs.Crossed.{crossed_of}
 use Rattle.monk_logs.specs.Expiry.{at_once}
 use Rattle.monk_logs.specs.Lapses.{IsOpenWith}
 use Rattle.monk_logs.specs.Log.{LogHeading}
@@ -26,6 +27,7 @@ use Rattle.monk_logs.specs.declared.counts.Counts.{Counts}
 use Rattle.monk_logs.specs.declared.counts.held.Held.{Held}
 use Rattle.monk_logs.specs.declared.counts.unheard.Unheard.{Unheard}
 use Rattle.monk_logs.specs.declared.counts.waits_for.WaitsFor.{WaitsFor}
+use Rattle.monk_logs.specs.declared.crossed.Crossed.{Crossed}
 use Rattle.monk_logs.specs.declared.kind_fit.Fit.{Fit}
 use Rattle.monk_logs.specs.declared.kind_fit.Fit.TheVariants.{In, Misfit}
 use Rattle.monk_logs.specs.declared.lapses.Lapses.{Lapses}
@@ -80,23 +82,25 @@ counts_status None None = 0
 counts_status None (Some h) = 1
 counts_status (Some n) held = 1
 
--- how the log ends where nobody has the monitor, by how many are inside and how many of them are to come back
-abbrev pub idle_words : ℕ → ℕ → List ℕ
-idle_words inside woken =
-    if inside == 0 then codes "free\n" else if woken == 0 then codes "open\n" else codes "owed\n"
+-- how the log of so many seats ends where nobody has the monitor, by how many are inside and how many of them are to
+-- come back: dead where all are inside and none is to come back
+abbrev pub idle_words : ℕ → ℕ → ℕ → List ℕ
+idle_words seats inside woken =
+    if inside == 0 then codes "free\n" else if nat_lt 0 woken then codes "owed\n"
+    else if inside == seats then codes "dead\n" else codes "open\n"
 
 -- who has the monitor, and since which line
 abbrev pub busy_words : Held → List ℕ
 busy_words h = codes "busy " ++ decimal h.seat ++ codes " " ++ decimal h.line ++ codes "\n"
 
--- how the log ends: by who has the monitor, if somebody has it, since which line
-abbrev pub end_words : Option Held → ℕ → ℕ → List ℕ
-end_words None inside woken = idle_words inside woken
-end_words (Some h) inside woken = busy_words h
+-- how the log of so many seats ends: by who has the monitor, if somebody has it, since which line
+abbrev pub end_words : ℕ → Option Held → ℕ → ℕ → List ℕ
+end_words seats None inside woken = idle_words seats inside woken
+end_words seats (Some h) inside woken = busy_words h
 
 -- the same, of what was counted
-abbrev pub end_line : Counts → List ℕ
-end_line c = end_words c.held c.inside c.woken
+abbrev pub end_line : ℕ → Counts → List ℕ
+end_line seats c = end_words seats c.held c.inside c.woken
 
 -- the status of a log: 1 where it misfits
 abbrev pub fit_status : Counts → Fit → ℕ
@@ -112,26 +116,36 @@ abbrev pub unheard_line : Option Unheard → List ℕ
 unheard_line None = codes "unheard none\n"
 unheard_line (Some u) = unheard_words u
 
--- the lines of the counts: of seats, of those signals, and of the first that is missed
-abbrev pub kind_counts_text : List WaitsFor → Counts → List ℕ
-kind_counts_text means c = seats_text c ++ (unheard_line c.unheard ++ missed_line means c.missed)
+-- how many seats a signal crossed on their way to sleep, and which line is the last of these signals
+abbrev pub crossed_words : Crossed → List ℕ
+crossed_words y = codes "crossed " ++ decimal y.seats ++ codes " " ++ decimal y.line ++ codes "\n"
 
--- the line of the fit or misfit, and behind it the lines of the counts and of the end
-abbrev pub fit_with_counts : KindName → List WaitsFor → Counts → Fit → LineAnswer
-fit_with_counts k means c f = record {
+-- the same, where there may be none
+abbrev pub crossed_line : Option Crossed → List ℕ
+crossed_line None = codes "crossed none\n"
+crossed_line (Some y) = crossed_words y
+
+-- the lines of the counts: of seats, of those signals, of the seats that were crossed, and of the first that is missed
+abbrev pub kind_counts_text : List WaitsFor → Option Crossed → Counts → List ℕ
+kind_counts_text means y c =
+    seats_text c ++ (unheard_line c.unheard ++ (crossed_line y ++ missed_line means c.missed))
+
+-- the line of the fit or misfit, and behind it the lines of the counts and of the end, of a log of so many seats
+abbrev pub fit_with_counts : KindName → List WaitsFor → ℕ → Option Crossed → Counts → Fit → LineAnswer
+fit_with_counts k means seats y c f = record {
   status = fit_status c f;
-  text = kind_word k ++ fit_words f ++ kind_counts_text means c ++ end_line c;
+  text = kind_word k ++ fit_words f ++ kind_counts_text means y c ++ end_line seats c;
 }
 
 -- what is counted in the log as one of that kind
 abbrev pub kind_counts : KindName → LogHeading → List WaitsFor → List LogLine → Counts
 kind_counts k h means log = counts_of (log_monitor k h) means log
 
--- the answer to a log under the kind
-abbrev pub log_kind_answer : KindName → Lapses → List WaitsFor → LogHeading → List LogLine → LineAnswer
-log_kind_answer k x means h log =
+-- the answer to a log under the kind, with those seats crossed
+abbrev pub log_kind_answer : KindName → Lapses → List WaitsFor → LogHeading → Option Crossed → List LogLine → LineAnswer
+log_kind_answer k x means h y log =
     if nat_lt (most h.object) h.size then too_big
-    else fit_with_counts k means (kind_counts k h means log) (log_fit x h log k)
+    else fit_with_counts k means h.seats y (kind_counts k h means log) (log_fit x h log k)
 
 -- how many conditions a monitor of that kind has under the heading
 abbrev pub conds_under : KindName → LogHeading → ℕ
@@ -188,20 +202,22 @@ numbered_counts number c = record {
 
 -- the answer to a log whose signals from outside are sent from inside: no signal is missed, since who signals from
 -- outside has let the monitor go before
-abbrev pub outside_answer : KindName → Lapses → LogHeading → List LogLine → LineAnswer
-outside_answer k x h log =
+abbrev pub outside_answer : KindName → Lapses → LogHeading → Option Crossed → List LogLine → LineAnswer
+outside_answer k x h y log =
     if nat_lt (most h.object) h.size then too_big
-    else fit_with_counts k [] (numbered_counts (origin h.seats log) (kind_counts k h [] (from_inside h.seats log)))
+    else fit_with_counts k [] h.seats y
+    (numbered_counts (origin h.seats log) (kind_counts k h [] (from_inside h.seats log)))
     (numbered_fit (origin h.seats log) (log_fit x h (from_inside h.seats log) k))
 
 -- the answer to a log, with signals from outside or without
-abbrev pub sent_answer : KindName → Lapses → List WaitsFor → LogHeading → List LogLine → LineAnswer
-sent_answer k x means h log =
-    if is_sent k h log then outside_answer k x h log else log_kind_answer k x means h log
+abbrev pub sent_answer : KindName → Lapses → List WaitsFor → LogHeading → Option Crossed → List LogLine → LineAnswer
+sent_answer k x means h y log =
+    if is_sent k h log then outside_answer k x h y log else log_kind_answer k x means h y log
 
--- the same for what was read as a log, where waits run out at once
+-- the same for what was read as a log, where waits run out at once; which seats were crossed is told of the log as it
+-- was read
 abbrev pub log_kind_reading : KindName → Lapses → List WaitsFor → Result Log ReadFault → LineAnswer
-log_kind_reading k x means (Ok l) = sent_answer k x means l.0 (at_once (conds_under k l.0) l.1)
+log_kind_reading k x means (Ok l) = sent_answer k x means l.0 (crossed_of l.1) (at_once (conds_under k l.0) l.1)
 log_kind_reading k x means (Err f) = unreadable f
 
 -- the same for a log as input

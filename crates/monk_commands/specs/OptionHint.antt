@@ -16,7 +16,7 @@ use Rattle.monk_commands.specs.declared.option_hint.OptionHint.{OptionHint}
 use Rattle.monk_commands.specs.declared.option_hint.OptionHint.TheVariants as hint
 use Rattle.monk_commands.specs.declared.task.Task.{Task}
 use Rattle.monk_commands.specs.declared.task.Task.TheVariants.{Audit, Play, Upgrade, Fit, FitKind}
-use Rattle.monk_commands.specs.declared.task.Task.TheVariants.{Trace, Explain, ExplainKind, Draw, Page, Complete}
+use Rattle.monk_commands.specs.declared.task.Task.TheVariants.{Trace, Explain, ExplainKind, Draw, Page, Complete, CompleteRun}
 use Rattle.monk_commands.specs.declared.text_name.TextName.{TextName}
 use Rattle.monk_commands.specs.declared.text_name.TextName.TheVariants as name
 
@@ -73,6 +73,7 @@ option_hint_of (ExplainKind kind lapses means) front = fit_hint lapses means.now
 option_hint_of (Draw window) front = None
 option_hint_of (Page window) front = None
 option_hint_of (Complete kind) front = None
+option_hint_of (CompleteRun kind order) front = None
 
 -- ---- the sentences
 

@@ -17,13 +17,17 @@ use Rattle.monk_kinds.specs.declared.name.KindName.{KindName}
 use Rattle.monk_logs.specs.declared.lapses.Lapses.{Lapses}
 use Rattle.monk_logs.specs.declared.lapses.Lapses.TheVariants.{Told, Allowed}
 use Rattle.monk_logs.specs.declared.counts.waits_for.WaitsFor.{WaitsFor}
+use Rattle.monk_logs.specs.declared.runs.run_order.RunOrder.{RunOrder}
+use Rattle.monk_logs.specs.declared.runs.run_order.RunOrder.TheVariants.{Wake, Any}
+use Rattle.monk_logs.specs.Fit.{order_word}
+use Rattle.monk_logs.specs.RunFound.{order_of}
 use Rattle.monk_object.specs.Names.{object_word}
 use Rattle.monk_samples.specs.Samples.{IsInRange, sample_object}
 use Rattle.monk_samples.specs.declared.sample.Sample.{Sample}
 use Rattle.monk_samples.specs.declared.sample.Sample.TheVariants.{Buffer, Book, Shop, Hasty}
 use Rattle.monk_commands.specs.declared.request.Line.{Line}
 use Rattle.monk_commands.specs.declared.request.Line.TheVariants.{Classify, Audit, Play, Upgrade, Fit, FitKind}
-use Rattle.monk_commands.specs.declared.request.Line.TheVariants.{Trace, Explain, ExplainKind, Draw, Page, Complete, Run, Record}
+use Rattle.monk_commands.specs.declared.request.Line.TheVariants.{Trace, Explain, ExplainKind, Draw, Page, Complete, CompleteRun, Run, Record}
 
 -- a word that must stand there, and that the parser takes
 abbrev pub required_rule : Text → ValueParser → Rule
@@ -125,10 +129,26 @@ fit_app n = judging_app (codes "fit") files_rule n
 abbrev pub explain_app : KindNames → App
 explain_app n = judging_app (codes "explain") (new_rule (codes "FILE")) n
 
--- the command that takes a kind, and a file
-abbrev pub complete_app : KindNames → App
+-- the orders in which a run is looked for
+abbrev pub run_orders : List RunOrder
+run_orders = Wake ∷ Any ∷ []
+
+-- the word of such an order
+abbrev pub run_order_word : RunOrder → Text
+run_order_word o = order_word (order_of o)
+
+-- lists that have exactly the names of the kinds and of those orders
+pub record CompleteNames : Type 0 where
+  pub kinds : NameList
+  pub orders : NameList
+  pub all_kinds : words_in kinds ≡ map kind_word monitor_kinds
+  pub all_orders : words_in orders ≡ map run_order_word run_orders
+
+-- the command that takes a kind, an order or none, and a file
+abbrev pub complete_app : CompleteNames → App
 complete_app n =
-    with_rule (with_rule (new_app (codes "complete")) (required_rule (codes "KIND") (Names n.kinds)))
+    with_rule (with_rule (with_rule (new_app (codes "complete")) (required_rule (codes "KIND") (Names n.kinds)))
+    (chosen_rule (codes "order") (Names n.orders)))
     (new_rule (codes "FILE"))
 
 -- the command has these rules, and none that is for its subcommands too
@@ -157,7 +177,7 @@ plain_app fitted =
     (file_app (codes "trace")).top) (window_app (codes "draw")).top) (window_app (codes "page")).top
 
 -- the program with its commands
-abbrev pub monk_app : KindNames → KindNames → KindNames → RunNames → RunNames → App
+abbrev pub monk_app : KindNames → KindNames → CompleteNames → RunNames → RunNames → App
 monk_app fitted explained completed run recorded =
     with_subcommand (with_subcommand (with_subcommand (with_subcommand (plain_app fitted) (explain_app explained).top)
     (complete_app completed).top) (run_app (codes "run") run).top) (run_app (codes "record") recorded).top
@@ -166,7 +186,7 @@ monk_app fitted explained completed run recorded =
 pub record IsMonk (a : App) : Type 0 where
   pub fitted : KindNames
   pub explained : KindNames
-  pub completed : KindNames
+  pub completed : CompleteNames
   pub run : RunNames
   pub recorded : RunNames
   pub is : a ≡ monk_app fitted explained completed run recorded
@@ -191,7 +211,7 @@ IsExplainCommand c = IsJudgingCommand (codes "explain") (new_rule (codes "FILE")
 
 -- the command is `complete`
 pub record IsCompleteCommand (c : Command) : Type 0 where
-  pub names : KindNames
+  pub names : CompleteNames
   pub is : IsSubcommand c (complete_app names)
 
 -- the command is one that runs a sample
@@ -213,6 +233,7 @@ command_word (ExplainKind kind file lapses means) = codes "explain"
 command_word (Draw file window) = codes "draw"
 command_word (Page file window) = codes "page"
 command_word (Complete kind file) = codes "complete"
+command_word (CompleteRun kind order file) = codes "complete"
 command_word (Run kind sample seats rounds) = codes "run"
 command_word (Record kind sample seats rounds) = codes "record"
 
@@ -305,6 +326,9 @@ ValuesAre (Draw file window) rows = (first_of (codes "FILE") rows ≡ option_map
 ValuesAre (Page file window) rows = (first_of (codes "FILE") rows ≡ option_map string_bytes file)
     × IsWindowIn window rows
 ValuesAre (Complete kind file) rows = (first_of (codes "KIND") rows ≡ Some (kind_word kind))
+    × (first_of (codes "order") rows ≡ None) × (first_of (codes "FILE") rows ≡ option_map string_bytes file)
+ValuesAre (CompleteRun kind order file) rows = (first_of (codes "KIND") rows ≡ Some (kind_word kind))
+    × (first_of (codes "order") rows ≡ Some (run_order_word order))
     × (first_of (codes "FILE") rows ≡ option_map string_bytes file)
 ValuesAre (Run kind sample seats rounds) rows = AreRunValues kind sample seats rounds rows
 ValuesAre (Record kind sample seats rounds) rows = AreRunValues kind sample seats rounds rows
@@ -323,6 +347,7 @@ RunIsInRange (ExplainKind kind file lapses means) = Unit {0}
 RunIsInRange (Draw file window) = Unit {0}
 RunIsInRange (Page file window) = Unit {0}
 RunIsInRange (Complete kind file) = Unit {0}
+RunIsInRange (CompleteRun kind order file) = Unit {0}
 RunIsInRange (Run kind sample seats rounds) = IsInRange seats rounds
 RunIsInRange (Record kind sample seats rounds) = IsInRange seats rounds
 

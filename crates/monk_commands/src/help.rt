@@ -97,9 +97,13 @@ pub(crate) static PAGE: Help = Help {
         Read: docs/TEXT.md",
 };
 
+pub(crate) const ORDER: &str =
+    "Not in order of arrival: a run, with whom each signal serves, in this order";
+
 pub(crate) static COMPLETE: Help = Help {
     about: "Turns a log into a history of a given kind",
     example: "Example: monk complete NPNB examples/threads_at_a_buffer.log\n\
+        Example: monk complete --order any NPNB examples/if_for_while.log\n\
         Status: 0 completed, 1 a misfit, 2 unreadable; 3 wrong words, 4 a failed file or no memory\n\
         Read: docs/LOGS.md",
 };

@@ -1,11 +1,12 @@
 //! The sentences of the hints.
 
 ghost use Rattle.std.specs.Prelude.{◌≡◌};
-ghost use Rattle.monk_commands.specs.Hint.{commands_that_read, header_form};
+ghost use Rattle.monk_commands.specs.Hint.{article, commands_that_read, header_form};
 
 use crate::hint::Hint;
 use crate::text_name::TextName;
 use monk_history::{MOST_CONDS, MOST_SEATS};
+use monk_object::ObjectName;
 use std::fmt;
 
 /// One sentence, without a line's end: what is odd, and what to do.
@@ -58,7 +59,8 @@ impl fmt::Display for Hint {
             ),
             Hint::Size(object) => write!(
                 f,
-                "the size is out of range: that of a {} is 1 to {}",
+                "the size is out of range: that of {}{} is 1 to {}",
+                article(object),
                 object.as_str(),
                 object.greatest_size()
             ),
@@ -94,5 +96,15 @@ fn commands_that_read(text: TextName) -> &'static str
         TextName::History => "monk audit, explain, draw, page, fit or upgrade",
         TextName::Play => "monk play or trace",
         TextName::Log => "monk fit, complete or explain --kind",
+    }
+}
+
+/// What stands before the word of the object in a sentence: flags are many.
+fn article(object: ObjectName) -> &'static str
+    ensures { result.now ≡ article object }
+{
+    match object {
+        ObjectName::Buffer | ObjectName::Book | ObjectName::Shop => "a ",
+        ObjectName::Flags => "",
     }
 }

@@ -4,7 +4,8 @@ ghost use Rattle.std.specs.Prelude.{◌≡◌, ◌≤◌, ◌^◌, ◌++◌, len
 ghost use Rattle.monk_kinds.specs.Names.{kind_word};
 ghost use Rattle.monk_object.specs.Names.{most};
 ghost use Rattle.monk_logs.specs.declared.kind_fit.Fit.TheVariants.{In};
-ghost use Rattle.monk_commands.specs.KindFitted.{busy_words, counts_status, end_line, fit_status, fit_with_counts};
+ghost use Rattle.monk_commands.specs.KindFitted.{busy_words, counts_status, crossed_line, crossed_words, end_line};
+ghost use Rattle.monk_commands.specs.KindFitted.{fit_status, fit_with_counts};
 ghost use Rattle.monk_commands.specs.KindFitted.{idle_words, kind_counts, kind_counts_text, log_kind_answer, unheard_line};
 ghost use Rattle.monk_commands.specs.KindFitted.{unheard_words};
 ghost use Rattle.monk_commands.specs.LogFitted.{fit_words, log_fit};
@@ -17,7 +18,7 @@ use crate::log_fitting::{missed_line, put_seats};
 use monk_audit::AuditFault;
 use monk_kinds::KindName;
 use monk_logs::{
-    Counts, Fit, Held, Lapses, LogHeader, LogLine, Order, Unheard, WaitsFor, count, fit,
+    Counts, Crossed, Fit, Held, Lapses, LogHeader, LogLine, Order, Unheard, WaitsFor, count, fit,
 };
 use std::alloc::Global;
 
@@ -107,18 +108,40 @@ fn unheard_line(alloc: Global, unheard: Option<Unheard>) -> Result<String, Strea
     }
 }
 
+/// How many seats a signal crossed on their way to sleep, and which line is the last of these signals.
+fn crossed_words(alloc: Global, crossed: Crossed) -> Result<String, StreamFault>
+    ensures text { IfOk result (λ text. string_bytes text ≡ crossed_words crossed) }
+    ensures no_file { IsErrOf result StreamFault.File → ⊥ }
+{
+    let (seats, line) = (crossed.seats, crossed.line);
+    Ok(format!(in alloc; "crossed {seats} {line}\n")?)
+}
+
+/// What is said of the seats that a signal crossed on their way to sleep.
+fn crossed_line(alloc: Global, crossed: Option<Crossed>) -> Result<String, StreamFault>
+    ensures text { IfOk result (λ text. string_bytes text ≡ crossed_line crossed) }
+    ensures no_file { IsErrOf result StreamFault.File → ⊥ }
+{
+    match crossed {
+        Some(crossed) => crossed_words(alloc, crossed),
+        None => Ok(String::from_str(alloc, "crossed none\n")?),
+    }
+}
+
 /// Puts the lines of these counts behind the page.
 fn put_counts(
     alloc: Global,
     page: &mut Vec<u8>,
     means: &[WaitsFor],
+    crossed: Option<Crossed>,
     counts: Counts,
 ) -> Result<(), StreamFault>
-    ensures lines { OnOk result (page.new.items ≡ page.old.items ++ kind_counts_text means.now counts) }
+    ensures lines { OnOk result (page.new.items ≡ page.old.items ++ kind_counts_text means.now crossed counts) }
     ensures no_file { IsErrOf result StreamFault.File → ⊥ }
 {
     put_seats(alloc, page, counts)?;
     page.extend_from_slice(unheard_line(alloc, counts.unheard)?.as_bytes())?;
+    page.extend_from_slice(crossed_line(alloc, crossed)?.as_bytes())?;
     page.extend_from_slice(missed_line(alloc, means, counts.missed)?.as_bytes())?;
     Ok(())
 }
@@ -144,16 +167,18 @@ fn fit_status(counts: Counts, found: Fit) -> u8
     }
 }
 
-/// How the log ends where nobody has the monitor.
-fn idle_words(inside: u64, woken: u64) -> &'static str
-    ensures { result.now ≡ idle_words inside woken }
+/// How the log of so many seats ends where nobody has the monitor.
+fn idle_words(seats: u8, inside: u64, woken: u64) -> &'static str
+    ensures { result.now ≡ idle_words seats inside woken }
 {
     if inside == 0 {
         "free\n"
-    } else if woken == 0 {
-        "open\n"
-    } else {
+    } else if woken > 0 {
         "owed\n"
+    } else if inside == u64::from(seats) {
+        "dead\n"
+    } else {
+        "open\n"
     }
 }
 
@@ -166,50 +191,56 @@ fn busy_words(alloc: Global, held: Held) -> Result<String, StreamFault>
     Ok(format!(in alloc; "busy {seat} {line}\n")?)
 }
 
-/// How the log ends.
-fn end_line(alloc: Global, counts: Counts) -> Result<String, StreamFault>
-    ensures text { IfOk result (λ text. string_bytes text ≡ end_line counts) }
+/// How the log of so many seats ends.
+fn end_line(alloc: Global, seats: u8, counts: Counts) -> Result<String, StreamFault>
+    ensures text { IfOk result (λ text. string_bytes text ≡ end_line seats counts) }
     ensures no_file { IsErrOf result StreamFault.File → ⊥ }
 {
     match counts.held {
         Some(held) => busy_words(alloc, held),
-        None => Ok(String::from_str(alloc, idle_words(counts.inside, counts.woken))?),
+        None => {
+            let words = idle_words(seats, counts.inside, counts.woken);
+            Ok(String::from_str(alloc, words)?)
+        }
     }
 }
 
-/// The answer to a log of which this was found and counted.
+/// The answer to a log of so many seats, of which this was found and counted.
 pub(crate) fn fit_answer(
     alloc: Global,
     kind: KindName,
     means: &[WaitsFor],
+    seats: u8,
+    crossed: Option<Crossed>,
     counts: Counts,
     found: Fit,
 ) -> Result<LinesAnswer, StreamFault>
     ensures answer { IfOk result
-        (λ a. (a.status ≡ (fit_with_counts kind means.now counts found).status)
-        × (a.lines.items ≡ (fit_with_counts kind means.now counts found).text)) }
+        (λ a. (a.status ≡ (fit_with_counts kind means.now seats crossed counts found).status)
+        × (a.lines.items ≡ (fit_with_counts kind means.now seats crossed counts found).text)) }
     ensures no_file { IsErrOf result StreamFault.File → ⊥ }
 {
     let mut lines = fit_line(alloc, kind, found)?;
-    put_counts(alloc, &mut lines, means, counts)?;
-    lines.extend_from_slice(end_line(alloc, counts)?.as_bytes())?;
+    put_counts(alloc, &mut lines, means, crossed, counts)?;
+    lines.extend_from_slice(end_line(alloc, seats, counts)?.as_bytes())?;
     let status = fit_status(counts, found);
     Ok(LinesAnswer { status, lines })
 }
 
-/// The answer to a log that was read.
+/// The answer to a log that was read, with those seats crossed.
 pub(crate) fn log_answer(
     alloc: Global,
     kind: KindName,
     lapses: Lapses,
     means: &[WaitsFor],
     header: &LogHeader,
+    crossed: Option<Crossed>,
     lines: &[LogLine],
 ) -> Result<LinesAnswer, StreamFault>
     requires few { length lines.now ≤ 2 ^ 25 }
     ensures answer { IfOk result
-        (λ a. (a.status ≡ (log_kind_answer kind lapses means.now header.now lines.now).status)
-        × (a.lines.items ≡ (log_kind_answer kind lapses means.now header.now lines.now).text)) }
+        (λ a. (a.status ≡ (log_kind_answer kind lapses means.now header.now crossed lines.now).status)
+        × (a.lines.items ≡ (log_kind_answer kind lapses means.now header.now crossed lines.now).text)) }
     ensures no_file { IsErrOf result StreamFault.File → ⊥ }
 {
     if header.size() > header.object().greatest_size() {
@@ -217,5 +248,5 @@ pub(crate) fn log_answer(
     }
     let found = kind_fit(alloc, kind, lapses, header, lines)?;
     let counts = counts(alloc, kind, means, header, lines)?;
-    fit_answer(alloc, kind, means, counts, found)
+    fit_answer(alloc, kind, means, header.seats(), crossed, counts, found)
 }

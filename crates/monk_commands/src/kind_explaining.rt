@@ -4,6 +4,7 @@ ghost use Rattle.std.specs.Prelude.{◌≡◌, ◌≤◌, ◌^◌, ◌⊎◌, fa
 ghost use Rattle.monk_object.specs.Names.{most};
 ghost use Rattle.monk_history.specs.Text.Device.{inner_of, has_failed};
 ghost use Rattle.monk_history.specs.Text.Reading.{text_at};
+ghost use Rattle.monk_logs.specs.Crossed.{crossed_of};
 ghost use Rattle.monk_logs.specs.Expiry.{at_once};
 ghost use Rattle.monk_logs.specs.Log.Reading.{log_at};
 ghost use Rattle.monk_commands.specs.KindExplained.{explain_kind_of, explain_log, explain_log_reading, explain_under};
@@ -24,7 +25,10 @@ use crate::outside_fitting::{is_mesa, outside_fit};
 use monk_audit::under;
 use monk_history::{Device, read};
 use monk_kinds::KindName;
-use monk_logs::{Fit, Lapses, LogHeader, LogLine, WaitsFor, expire_at_once, has_outside, read_log};
+use monk_logs::{
+    Crossed, Fit, Lapses, LogHeader, LogLine, WaitsFor, expire_at_once, find_crossed, has_outside,
+    read_log,
+};
 use std::alloc::Global;
 use std::io::{Read, Write};
 
@@ -48,23 +52,25 @@ fn found_fit(
     }
 }
 
-/// The answer to a log that was read from these bytes, where waits ran out at once.
-fn log_explanation(
+/// The answer to a log that was read from these bytes, with those seats crossed, where waits ran out at
+/// once.
+fn answer_to_expired_log(
     alloc: Global,
     kind: KindName,
     lapses: Lapses,
     means: &[WaitsFor],
     header: &LogHeader,
+    crossed: Option<Crossed>,
     log: &[LogLine],
     bytes: &[u8],
 ) -> Result<LinesAnswer, StreamFault>
     requires few { length log.now ≤ 2 ^ 25 }
     ensures answer { IfOk result
-        (λ a. (a.status ≡ (explain_log kind lapses means.now bytes.now header.now log.now).status)
-        × (a.lines.items ≡ (explain_log kind lapses means.now bytes.now header.now log.now).text)) }
+        (λ a. (a.status ≡ (explain_log kind lapses means.now bytes.now header.now crossed log.now).status)
+        × (a.lines.items ≡ (explain_log kind lapses means.now bytes.now header.now crossed log.now).text)) }
     ensures no_file { IsErrOf result StreamFault.File → ⊥ }
 {
-    let mut answer = sent_answer(alloc, kind, lapses, means, header, log)?;
+    let mut answer = sent_answer(alloc, kind, lapses, means, header, crossed, log)?;
     if header.size() <= header.object().greatest_size() {
         let found = found_fit(alloc, kind, lapses, header, log)?;
         put_standing(alloc, &mut answer.lines, bytes, header, log, found)?;
@@ -73,7 +79,7 @@ fn log_explanation(
 }
 
 /// The answer to a log that was read from these bytes.
-fn read_explanation(
+fn answer_to_read_log(
     alloc: Global,
     kind: KindName,
     lapses: Lapses,
@@ -84,18 +90,19 @@ fn read_explanation(
 ) -> Result<LinesAnswer, StreamFault>
     requires few { length lines.old ≤ 2 ^ 25 }
     ensures answer { IfOk result
-        (λ a. (a.status ≡ (explain_log kind lapses means.now bytes.now header.now
+        (λ a. (a.status ≡ (explain_log kind lapses means.now bytes.now header.now (crossed_of lines.old)
         (at_once (conds_under kind header.now) lines.old)).status)
-        × (a.lines.items ≡ (explain_log kind lapses means.now bytes.now header.now
+        × (a.lines.items ≡ (explain_log kind lapses means.now bytes.now header.now (crossed_of lines.old)
         (at_once (conds_under kind header.now) lines.old)).text)) }
     ensures no_file { IsErrOf result StreamFault.File → ⊥ }
 {
+    let crossed = find_crossed(lines);
     expire_at_once(alloc, conds_under(kind, header), lines)?;
-    log_explanation(alloc, kind, lapses, means, header, lines, bytes)
+    answer_to_expired_log(alloc, kind, lapses, means, header, crossed, lines, bytes)
 }
 
 /// The answer to the text of a log.
-fn explanation_of_log(
+fn answer_to_log_text(
     alloc: Global,
     kind: KindName,
     lapses: Lapses,
@@ -110,14 +117,14 @@ fn explanation_of_log(
 {
     match read_log(alloc, bytes) {
         Ok((header, mut lines)) => {
-            read_explanation(alloc, kind, lapses, means, &header, &mut lines, bytes)
+            answer_to_read_log(alloc, kind, lapses, means, &header, &mut lines, bytes)
         }
         Err(fault) => Ok(LinesAnswer::of_line(unreadable(alloc, fault)?)),
     }
 }
 
 /// The answer to the text of a history.
-fn explanation_of_history(
+fn answer_to_history_text(
     alloc: Global,
     kind: KindName,
     bytes: &[u8],
@@ -135,7 +142,7 @@ fn explanation_of_history(
 }
 
 /// The answer to a text.
-fn explanation(
+fn answer_to_text(
     alloc: Global,
     kind: KindName,
     lapses: Lapses,
@@ -148,9 +155,9 @@ fn explanation(
     ensures no_file { IsErrOf result StreamFault.File → ⊥ }
 {
     if is_log(bytes) {
-        explanation_of_log(alloc, kind, lapses, means, bytes)
+        answer_to_log_text(alloc, kind, lapses, means, bytes)
     } else {
-        explanation_of_history(alloc, kind, bytes)
+        answer_to_history_text(alloc, kind, bytes)
     }
 }
 
@@ -202,6 +209,6 @@ pub fn explain_kind_stream<R: Read, W: Write>(
     ensures outcome { IsStreamOutcome R.remaining reader.old reader.new writer.old writer.new result }
 {
     let bytes = read_all(alloc, reader)?;
-    let answer = explanation(alloc, kind, lapses, means, &bytes)?;
+    let answer = answer_to_text(alloc, kind, lapses, means, &bytes)?;
     answer.put(writer)
 }

@@ -2,6 +2,7 @@
 
 ghost use Rattle.std.specs.Prelude.{◌≡◌, ◌≤◌, ◌^◌, ◌⊎◌, false, length, IfOk, IfSome, IsErrOf, ◌↔◌};
 ghost use Rattle.monk_history.specs.Text.Device.{inner_of, has_failed};
+ghost use Rattle.monk_logs.specs.Crossed.{crossed_of};
 ghost use Rattle.monk_logs.specs.Expiry.{at_once};
 ghost use Rattle.monk_commands.specs.KindFitted.{IsKindLogText, IsKindText, conds_under, kind_answer_of};
 ghost use Rattle.monk_commands.specs.KindFitted.{kind_fit_answer, kind_fit_of, log_kind_of, named_fit_of, sent_answer};
@@ -16,7 +17,10 @@ use crate::lines_answer::LinesAnswer;
 use crate::outside_fitting::{is_mesa, outside_answer};
 use monk_history::{Device, Event, Header, read};
 use monk_kinds::KindName;
-use monk_logs::{Lapses, LogHeader, LogLine, WaitsFor, expire_at_once, has_outside, read_log};
+use monk_logs::{
+    Crossed, Lapses, LogHeader, LogLine, WaitsFor, expire_at_once, find_crossed, has_outside,
+    read_log,
+};
 use std::alloc::Global;
 use std::io::{Read, Write};
 
@@ -76,25 +80,26 @@ pub(crate) fn conds_under(kind: KindName, header: &LogHeader) -> u8
     }
 }
 
-/// The answer to a log that was read, with signals from outside or without.
+/// The answer to a log that was read, with those seats crossed, with signals from outside or without.
 pub(crate) fn sent_answer(
     alloc: Global,
     kind: KindName,
     lapses: Lapses,
     means: &[WaitsFor],
     header: &LogHeader,
+    crossed: Option<Crossed>,
     log: &[LogLine],
 ) -> Result<LinesAnswer, StreamFault>
     requires few { length log.now ≤ 2 ^ 25 }
     ensures answer { IfOk result
-        (λ a. (a.status ≡ (sent_answer kind lapses means.now header.now log.now).status)
-        × (a.lines.items ≡ (sent_answer kind lapses means.now header.now log.now).text)) }
+        (λ a. (a.status ≡ (sent_answer kind lapses means.now header.now crossed log.now).status)
+        × (a.lines.items ≡ (sent_answer kind lapses means.now header.now crossed log.now).text)) }
     ensures no_file { IsErrOf result StreamFault.File → ⊥ }
 {
     if is_mesa(kind) && has_outside(header.seats(), log) {
-        outside_answer(alloc, kind, lapses, header, log)
+        outside_answer(alloc, kind, lapses, header, crossed, log)
     } else {
-        log_answer(alloc, kind, lapses, means, header, log)
+        log_answer(alloc, kind, lapses, means, header, crossed, log)
     }
 }
 
@@ -109,14 +114,15 @@ fn read_answer(
 ) -> Result<LinesAnswer, StreamFault>
     requires few { length lines.old ≤ 2 ^ 25 }
     ensures answer { IfOk result
-        (λ a. (a.status ≡ (sent_answer kind lapses means.now header.now
+        (λ a. (a.status ≡ (sent_answer kind lapses means.now header.now (crossed_of lines.old)
         (at_once (conds_under kind header.now) lines.old)).status)
-        × (a.lines.items ≡ (sent_answer kind lapses means.now header.now
+        × (a.lines.items ≡ (sent_answer kind lapses means.now header.now (crossed_of lines.old)
         (at_once (conds_under kind header.now) lines.old)).text)) }
     ensures no_file { IsErrOf result StreamFault.File → ⊥ }
 {
+    let crossed = find_crossed(lines);
     expire_at_once(alloc, conds_under(kind, header), lines)?;
-    sent_answer(alloc, kind, lapses, means, header, lines)
+    sent_answer(alloc, kind, lapses, means, header, crossed, lines)
 }
 
 /// The answer to the text of a log.
@@ -170,17 +176,20 @@ fn kind_answer(
 /// `; served N passed N lapsed N` and `; left waiting N woken N inside N`, which count the log as one
 /// of that kind, in any order and with lapses allowed, up to its first misfit there
 /// ([`Counts`](monk_logs::Counts)). Then it is told how many signals found nobody who waits, and which
-/// line is the last of them: `; unheard N STEP`, or `; unheard none`; and, where `means` tells what is
-/// waited for, `; missed STEP` or `; missed none`. Last stands who has the monitor behind what was
-/// counted: `; busy SEAT STEP` where a seat has it, with the line since which it has it; `; free` where
-/// nobody is inside; `; owed` where a seat was served that is not back; and else `; open`, where each
-/// seat inside waits unserved. Of a log that fits, the status is 1 where a signal is missed or a seat
-/// has the monitor at the end, else 0. `lapses` and `means` are for logs alone.
+/// line is the last of them: `; unheard N STEP`, or `; unheard none`. Then, of all lines, how many
+/// seats a signal crossed on their way to sleep, and which line is the last of these signals
+/// ([`find_crossed`]): `; crossed N STEP`, or `; crossed none`. Where `means` tells what is waited
+/// for, `; missed STEP` or `; missed none` follows. Last stands who has the monitor behind what was
+/// counted: `; busy SEAT STEP` where a seat has it, with the line since which it has it; `; free`
+/// where nobody is inside; `; owed` where a seat was served that is not back; `; dead` where each seat
+/// of the header is inside and waits unserved; and else `; open`, where each seat inside waits
+/// unserved. Of a log that fits, the status is 1 where a signal is missed or a seat has the monitor at
+/// the end, else 0. `lapses` and `means` are for logs alone.
 ///
-/// All of this is said of the log in which each wait that a `lapse` follows ran out at once
-/// ([`expire_at_once`]): a thread whose time has run out comes back by entry, and may have left its
-/// condition long before its `lapse`. Under PIS and NPIS, which have no conditions, no wait is read
-/// so.
+/// All but the crossed seats is said of the log in which each wait that a `lapse` follows ran out at
+/// once ([`expire_at_once`]): a thread whose time has run out comes back by entry, and may have left
+/// its condition long before its `lapse`. Under PIS and NPIS, which have no conditions, no wait is
+/// read so.
 ///
 /// Under NPNB a seat that isn't inside may signal, as a program may that signals without the lock. Of
 /// such a log it is said what is so once these signals are sent from inside
@@ -198,10 +207,10 @@ fn kind_answer(
 ///
 /// # Cost
 ///
-/// One pass over the text, and one over its events. Of a log two passes over its lines that look for
-/// waits that ran out, and one for signals from outside; at most three that judge, one for each order
-/// that is tried; and one that counts. Memory for the text, for the events or lines with a byte each,
-/// and for the queues. The lines stand twice where a signal is from outside.
+/// One pass over the text, and one over its events. Of a log one pass over its lines that looks for
+/// crossed seats, two for waits that ran out, and one for signals from outside; at most three that
+/// judge, one for each order that is tried; and one that counts. Memory for the text, for the events
+/// or lines with a byte each, and for the queues. The lines stand twice where a signal is from outside.
 pub fn fit_kind_stream<R: Read, W: Write>(
     alloc: Global,
     kind: KindName,

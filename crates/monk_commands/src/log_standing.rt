@@ -4,7 +4,7 @@ ghost use Rattle.std.specs.Prelude.{◌≡◌, ◌++◌, IfOk, OnOk, IsErrOf, op
 ghost use Rattle.monk_history.specs.Text.Lines.{lines_of};
 ghost use Rattle.monk_logs.specs.declared.subject.Subject.{Subject};
 ghost use Rattle.monk_commands.specs.KindExplained.{blame_sentence, line_at, lines_before, misfit_text, row, row_label};
-ghost use Rattle.monk_commands.specs.KindExplained.{condition_label, rows_below, rows_text, seat_label, standing_text};
+ghost use Rattle.monk_commands.specs.KindExplained.{condition_label, rows_below, rows_text, seat_label, standing_text, subject_of};
 
 use crate::fault::StreamFault;
 use monk_logs::{Blame, Fit, LogHeader, LogLine, Subject, last_line};
@@ -127,40 +127,41 @@ fn put_row(
     Ok(())
 }
 
-/// Puts the rows of so many seats behind the page.
-#[tactic(auto, unfolding(crate::specs::KindExplained::rows_below))]
-fn put_seats(
-    alloc: Global,
-    page: &mut Vec<u8>,
-    bytes: &[u8],
-    log: &[LogLine],
-    seats: u8,
-) -> Result<(), StreamFault>
-    ensures rows { OnOk result
-        (page.new.items ≡ page.old.items ++ rows_below (λ s. row bytes.now log.now (Subject.Seat s)) seats) }
-    ensures no_file { IsErrOf result StreamFault.File → ⊥ }
-{
-    for seat in 0..seats {
-        put_row(alloc, page, bytes, log, Subject::Seat(seat))?;
-    }
-    Ok(())
+/// What has rows of its own.
+#[derive(Clone, Copy)]
+enum Rows {
+    Seats,
+    Conditions,
 }
 
-/// Puts the rows of so many conditions behind the page.
+impl Rows {
+    /// What has the row of that number.
+    fn subject(self, number: u8) -> Subject
+        ensures { result ≡ subject_of self number }
+    {
+        match self {
+            Rows::Seats => Subject::Seat(number),
+            Rows::Conditions => Subject::Condition(number),
+        }
+    }
+}
+
+/// Puts so many rows behind the page.
 #[tactic(auto, unfolding(crate::specs::KindExplained::rows_below))]
-fn put_conditions(
+fn put_rows_below(
     alloc: Global,
     page: &mut Vec<u8>,
     bytes: &[u8],
     log: &[LogLine],
-    conds: u8,
+    rows: Rows,
+    many: u8,
 ) -> Result<(), StreamFault>
     ensures rows { OnOk result
-        (page.new.items ≡ page.old.items ++ rows_below (λ c. row bytes.now log.now (Subject.Condition c)) conds) }
+        (page.new.items ≡ page.old.items ++ rows_below (λ n. row bytes.now log.now (subject_of rows n)) many) }
     ensures no_file { IsErrOf result StreamFault.File → ⊥ }
 {
-    for cond in 0..conds {
-        put_row(alloc, page, bytes, log, Subject::Condition(cond))?;
+    for number in 0..many {
+        put_row(alloc, page, bytes, log, rows.subject(number))?;
     }
     Ok(())
 }
@@ -176,8 +177,8 @@ fn put_rows(
     ensures rows { OnOk result (page.new.items ≡ page.old.items ++ rows_text bytes.now header.now log.now) }
     ensures no_file { IsErrOf result StreamFault.File → ⊥ }
 {
-    put_seats(alloc, page, bytes, log, header.seats())?;
-    put_conditions(alloc, page, bytes, log, header.conds())?;
+    put_rows_below(alloc, page, bytes, log, Rows::Seats, header.seats())?;
+    put_rows_below(alloc, page, bytes, log, Rows::Conditions, header.conds())?;
     Ok(())
 }
 

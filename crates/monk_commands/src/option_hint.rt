@@ -60,7 +60,8 @@ pub fn option_hint_for(task: &Task<'_>, front: &[u8]) -> Option<OptionHint>
         | Task::Explain
         | Task::Draw(_)
         | Task::Page(_)
-        | Task::Complete(_) => None,
+        | Task::Complete(_)
+        | Task::CompleteRun(..) => None,
     }
 }
 

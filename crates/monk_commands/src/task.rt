@@ -12,6 +12,7 @@ use crate::fitting::fit_stream;
 use crate::kind_explaining::explain_kind_stream;
 use crate::kind_fitting::fit_kind_stream;
 use crate::playing::play_stream;
+use crate::run_completing::complete_run_stream;
 use crate::show::Show;
 use crate::showing::show_stream;
 use crate::tracing::trace_stream;
@@ -19,7 +20,7 @@ use crate::upgrading::upgrade_stream;
 use monk_draw::Window;
 use monk_history::Device;
 use monk_kinds::KindName;
-use monk_logs::{Lapses, WaitsFor};
+use monk_logs::{Lapses, RunOrder, WaitsFor};
 use std::alloc::Global;
 use std::io::{Read, Write};
 
@@ -51,6 +52,9 @@ pub enum Task<'a> {
     Page(Option<Window>),
     /// A legal history of a monitor of the kind that tells a log, by [`complete_stream`].
     Complete(KindName),
+    /// A run of a monitor of the kind, with its queues in that order, that tells a log, by
+    /// [`complete_run_stream`].
+    CompleteRun(KindName, RunOrder),
 }
 
 impl Task<'_> {
@@ -99,6 +103,9 @@ impl Task<'_> {
             Task::Draw(window) => show_stream(alloc, Show::Picture, window, reader, writer),
             Task::Page(window) => show_stream(alloc, Show::Page, window, reader, writer),
             Task::Complete(kind) => complete_stream(alloc, kind, reader, writer),
+            Task::CompleteRun(kind, order) => {
+                complete_run_stream(alloc, kind, order, reader, writer)
+            }
         }
     }
 }

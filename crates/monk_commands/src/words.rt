@@ -1,6 +1,6 @@
 //! The program's words, read with `clap`.
 
-ghost use Rattle.std.specs.Prelude.{◌≡◌, false, IfOk, IfSome, IsOkAnd, Some, codes, map, pos};
+ghost use Rattle.std.specs.Prelude.{◌≡◌, false, IfOk, IfSome, IsOkAnd, Some, codes, map, option_map, pos};
 ghost use Rattle.monk_kinds.specs.Names.{kind_word};
 ghost use Rattle.clap.specs.Words.{AddsArg, AddsSubcommand, App, app_of, first_of, found_of, new_app, rows_of, rule_of, subcommand_of};
 ghost use Rattle.clap.specs.Words.{subcommand_rows_of};
@@ -10,14 +10,14 @@ ghost use Rattle.monk_commands.specs.Request.{AreRunValues, IsAsked, IsCompleteC
 ghost use Rattle.monk_commands.specs.Request.{IsFitCommand, IsJudgingCommand};
 ghost use Rattle.monk_commands.specs.Request.{IsMonk, IsOwnApp, IsPlainMonk, IsRead, IsRunCommand, IsSubcommand};
 ghost use Rattle.monk_commands.specs.Request.{bare_app, classify_app, file_app, priority, required_rule, sample_word};
-ghost use Rattle.monk_commands.specs.Request.{window_app};
+ghost use Rattle.monk_commands.specs.Request.{run_order_word, window_app};
 
 use crate::arguments::{chosen, file, files, flag, number, repeated, required};
 use crate::file_words::file_of;
 use crate::fit_words::{line_to_explain, line_to_fit};
 use crate::help::{
-    AUDIT, CLASSIFY, COMPLETE, DRAW, EXPLAIN, FIT, FROM, Help, LAPSES, MEANS, ONE_KIND, PAGE, PLAY,
-    PRIORITY, RECORD, RUN, TO, TRACE, UPGRADE,
+    AUDIT, CLASSIFY, COMPLETE, DRAW, EXPLAIN, FIT, FROM, Help, LAPSES, MEANS, ONE_KIND, ORDER,
+    PAGE, PLAY, PRIORITY, RECORD, RUN, TO, TRACE, UPGRADE,
 };
 use crate::request::{Line, LineFault};
 use crate::window_words::window_of;
@@ -25,6 +25,7 @@ use clap::builder::ValueParser;
 use clap::error::ErrorKind;
 use clap::{Arg, ArgMatches, Command, value_parser};
 use monk_kinds::KindName;
+use monk_logs::RunOrder;
 use monk_object::ObjectName;
 use monk_samples::Sample;
 use std::alloc::{AllocError, Global};
@@ -32,6 +33,8 @@ use std::alloc::{AllocError, Global};
 static KINDS: [&str; 10] = [
     "PB", "NPB", "PNB", "NPNB", "PQB", "NPQB", "PIR", "NPIR", "PIS", "NPIS",
 ];
+
+static ORDERS: [&str; 2] = ["wake", "any"];
 
 static SAMPLES: [&str; 4] = ["buffer", "book", "shop", "hasty"];
 
@@ -153,13 +156,15 @@ fn showing<'a>(alloc: Global, name: &'a str, help: &Help) -> Result<Command<'a>,
     taking(command, file(alloc))
 }
 
-/// The command that takes a kind, and a file, or standard input where none is named.
+/// The command that takes a kind, an order or none, and a file, or standard input where none is named.
 fn completing<'a>(alloc: Global) -> Result<Command<'a>, AllocError>
     ensures { IfOk result IsCompleteCommand }
 {
     let kinds = ValueParser::Names(KINDS.as_slice());
+    let orders = ValueParser::Names(ORDERS.as_slice());
     let kind = required(alloc, "KIND", "The kind of monitor", kinds);
     let command = described(alloc, "complete", &COMPLETE).arg(kind);
+    let command = taking(command, chosen(alloc, "order", ORDER, "ORDER", orders));
     taking(command, file(alloc))
 }
 
@@ -228,6 +233,33 @@ fn kind_of(matches: &ArgMatches<'_>) -> Option<KindName>
     KindName::of_text(matches.get_str("KIND")?.as_bytes())
 }
 
+fn run_order(word: &str) -> Option<RunOrder>
+    ensures { IfSome result (λ order. word.now ≡ run_order_word order) }
+{
+    if word == "wake" {
+        return Some(RunOrder::Wake);
+    }
+    if word == "any" {
+        return Some(RunOrder::Any);
+    }
+    None
+}
+
+/// The order in which to look for a run, if one is named.
+fn order_of(alloc: Global, matches: &ArgMatches<'_>) -> Result<Option<RunOrder>, LineFault>
+    ensures { IfOk result
+        (λ order. first_of (codes "order") (rows_of (found_of matches.now)) ≡ option_map run_order_word order) }
+{
+    let Some(word) = matches.get_str("order") else {
+        return Ok(None);
+    };
+    match run_order(word) {
+        Some(order) => Ok(Some(order)),
+        // clap lets no other word through.
+        None => Err(LineFault::Words(String::new(alloc))),
+    }
+}
+
 fn sample_of(name: &str) -> Option<Sample>
     ensures { IfSome result (λ sample. name.now ≡ sample_word sample) }
 {
@@ -277,9 +309,14 @@ fn line_to_page(alloc: Global, matches: &ArgMatches<'_>) -> Result<Line, LineFau
 fn line_to_complete(alloc: Global, matches: &ArgMatches<'_>) -> Result<Option<Line>, LineFault>
     ensures { IfOk result (λ found. IfSome found (λ l. IsRead (codes "complete") l (rows_of (found_of matches.now)))) }
 {
-    match kind_of(matches) {
-        Some(kind) => Ok(Some(Line::Complete(kind, file_of(alloc, matches)?))),
-        None => Ok(None),
+    let Some(kind) = kind_of(matches) else {
+        return Ok(None);
+    };
+    let file = file_of(alloc, matches)?;
+    let order = order_of(alloc, matches)?;
+    match order {
+        Some(order) => Ok(Some(Line::CompleteRun(kind, order, file))),
+        None => Ok(Some(Line::Complete(kind, file))),
     }
 }
 

@@ -2,3 +2,4 @@
 pub mod LineByLine
 pub mod OneCourse
 pub mod KindCounts
+pub mod KeptItems

@@ -6,6 +6,7 @@ mod MadeLaws
 mod CompletionLaws
 mod StepLaws
 mod OrderLaws
+mod RunLaws
 mod BoardLaws
 mod ItemLaws
 mod ShownLaws
@@ -17,6 +18,8 @@ mod LapseLaws
 mod ExpiryLaws
 mod OutsideLaws
 mod LastLineLaws
+mod CrossedLaws
 mod FitLaws
 mod NeedLaws
 mod WaiterLaws
+mod TimedLaws

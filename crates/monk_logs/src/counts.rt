@@ -2,6 +2,7 @@
 
 pub mod counting;
 pub mod held;
+pub mod so_far;
 pub mod tally;
 pub mod unheard;
 pub mod waiters;

@@ -1,6 +1,6 @@
 //! What holds of every log.
 
-ghost use Rattle.std.specs.Prelude.{◌≡◌, ◌↔◌, IsTrue, List, false, is_some, map};
+ghost use Rattle.std.specs.Prelude.{◌≡◌, ◌↔◌, IsTrue, List, [], false, is_some, map};
 ghost use Rattle.monk_kinds.specs.Kind.{IsKind};
 ghost use Rattle.monk_history.specs.declared.event.Event.{Event};
 ghost use Rattle.monk_history.specs.Meaning.Legal.{IsLegal};
@@ -14,8 +14,13 @@ ghost use Rattle.monk_logs.specs.BoardStand.{board_verdict};
 ghost use Rattle.monk_logs.specs.BoardRead.{judge_read};
 ghost use Rattle.monk_logs.specs.FitsIn.{IsOpenIn, has_lapse};
 ghost use Rattle.monk_logs.specs.Lapses.{IsOpenWith};
+ghost use Rattle.monk_logs.specs.Expiry.{at_once};
 ghost use Rattle.monk_logs.specs.Run.{IsRun};
+ghost use Rattle.monk_logs.specs.ServedRun.{IsServedRun, steps_of};
+ghost use Rattle.monk_logs.specs.declared.runs.run_step.RunStep.{RunStep};
 ghost use Rattle.monk_logs.specs.Stand.{verdict_on};
+ghost use Rattle.monk_logs.specs.Timed.{IsRunLog, IsTimedLog, IsTimedOpen, offered_conds};
+ghost use Rattle.monk_logs.specs.Whom.{run_from};
 ghost use Rattle.monk_logs.specs.VerdictIn.{FitsExactlyIn, MisfitsExactlyIn};
 ghost use Rattle.monk_logs.specs.declared.lapses.Lapses.{Lapses};
 ghost use Rattle.monk_logs.specs.declared.order.Order.{Order};
@@ -39,6 +44,19 @@ pub fn judged_is_open()
 pub fn boards_are_exact()
     ensures { (o : Order) → (m : Monitor) → (steps : List Step)
         → IsRun o m steps ↔ IsTrue (is_some (board_steps o m (opening_board m) steps)) }
+{}
+
+/// A run that says whom each signal serves is a run. And if any seat of a queue may be chosen, each
+/// run is one in which signals serve whom `run_from` says. Of the seats that are known to have been
+/// served by then, because they go on later, a signal serves the one that came last to its condition.
+pub fn served_runs()
+    ensures runs { (o : Order) → (m : Monitor) → (run : List RunStep) → IsServedRun o m (λ t. Unit {0}) run
+        → IsRun o m (steps_of run) }
+    ensures wake { (m : Monitor) → (steps : List Step) → IsRun Wake m steps
+        → IsServedRun Wake m (λ t. Unit {0}) (run_from [] steps) }
+    ensures any { (m : Monitor) → (steps : List Step) → IsRun Any m steps
+        → IsServedRun Any m (λ t. Unit {0}) (run_from [] steps) }
+    ensures steps { (steps : List Step) → steps_of (run_from [] steps) ≡ steps }
 {}
 
 /// Whatever a monitor may do in order of arrival, it may also do if any seat of a queue may be
@@ -88,4 +106,22 @@ pub fn fifo_is_legal()
     ensures logs { (m : Monitor) → (log : List LogLine) → has_lapse log ≡ false → IsOpenIn Fifo m log ↔ IsOpen m log }
     ensures verdicts { (m : Monitor) → (log : List LogLine) → has_lapse log ≡ false
         → board_verdict Fifo m log ≡ verdict_on m log }
+{}
+
+/// Where waits have time limits, a wait may run out at any time, and no line tells of that: its seat
+/// is gone from the condition before its line `lapse`. It may as well have run out at once, as
+/// `at_once` reads it. So a log tells some run with time limits, behind which nobody is gone,
+/// exactly where that reading tells some run. Then the reading is open, whatever a `resume` may
+/// tell: no such log is blamed. Where the reading of a log is open, some run with time limits begins
+/// with what the log tells. And a log that is open as it stands is open as it is read. All this
+/// holds in every order, for every monitor.
+pub fn time_limits_are_exact()
+    ensures logs { (o : Order) → (m : Monitor) → (log : List LogLine)
+        → IsTimedLog o m log ↔ IsRunLog o m (at_once (offered_conds m) log) }
+    ensures opens { (o : Order) → (m : Monitor) → (x : Lapses) → (log : List LogLine)
+        → IsTimedLog o m log → IsOpenWith x o m (at_once (offered_conds m) log) }
+    ensures begins { (o : Order) → (m : Monitor) → (log : List LogLine)
+        → IsOpenIn o m (at_once (offered_conds m) log) → IsTimedOpen o m log }
+    ensures keeps { (o : Order) → (m : Monitor) → (log : List LogLine)
+        → IsOpenIn o m log → IsOpenIn o m (at_once (offered_conds m) log) }
 {}

@@ -4,6 +4,7 @@
 mod audits;
 mod calls;
 mod completions;
+mod crossings;
 mod expiries;
 mod floor_entry;
 mod floor_histories;

@@ -5,7 +5,7 @@ use super::jobs::{Expected, Job};
 use monk_commands::{Show, StreamFault, Task, classify_stream, run_stream, show_stream};
 use monk_history::Device;
 use monk_kinds::KindName;
-use monk_logs::Lapses;
+use monk_logs::{Lapses, RunOrder};
 use monk_samples::Sample;
 use std::alloc::Global;
 use std::io;
@@ -14,7 +14,7 @@ use std::sync::Wait;
 use std::test::Fail;
 use std::thread::Threads;
 
-static JOBS: [Job<'static>; 13] = [
+static JOBS: [Job<'static>; 14] = [
     Job {
         name: "legal",
         task: Task::Audit,
@@ -62,7 +62,7 @@ static JOBS: [Job<'static>; 13] = [
         task: Task::FitKind(KindName::Npnb, Lapses::Told, &[], "-"),
         input: b"log 1 1 1 buffer 1\nenter 0\nwait 0 0\n",
         status: 0,
-        answer: b"-: NPNB fits fifo; served 0 passed 0 lapsed 0; left waiting 1 woken 0 inside 1; unheard none; open\n",
+        answer: b"-: NPNB fits fifo; served 0 passed 0 lapsed 0; left waiting 1 woken 0 inside 1; unheard none; crossed none; dead\n",
     },
     Job {
         name: "explained",
@@ -76,7 +76,7 @@ static JOBS: [Job<'static>; 13] = [
         task: Task::ExplainKind(KindName::Npnb, Lapses::Told, &[]),
         input: b"log 1 1 1 buffer 1\nenter 0\nwait 0 0\n",
         status: 0,
-        answer: b"NPNB fits fifo\nserved 0 passed 0 lapsed 0\nleft waiting 1 woken 0 inside 1\nunheard none\nopen\nseat 0: 2 wait 0 0\n",
+        answer: b"NPNB fits fifo\nserved 0 passed 0 lapsed 0\nleft waiting 1 woken 0 inside 1\nunheard none\ncrossed none\ndead\nseat 0: 2 wait 0 0\n",
     },
     Job {
         name: "not drawn",
@@ -98,6 +98,13 @@ static JOBS: [Job<'static>; 13] = [
         input: b"log 1 2 1 buffer 1\nenter 0\nwait 0 0\nenter 1\nsignal 1 0\nresume 0\nleave 0\nresume 1\n",
         status: 0,
         answer: b"monk 2 NPB 2 1 buffer 1\nenter 0 free\nwait 0 0 entry\nenter 1 handed\nsignal 1 0 waiter 0\nresume 0 waiter\nleave 0 signaller 1\nresume 1 signaller\n",
+    },
+    Job {
+        name: "completed to a run",
+        task: Task::CompleteRun(KindName::Npnb, RunOrder::Any),
+        input: b"log 1 2 1 buffer 1\nenter 0\nwait 0 0\nenter 1\nsignal 1 0\nleave 1\nresume 0\n",
+        status: 0,
+        answer: b"run any NPNB 2 1 buffer 1\nenter 0 free\nwait 0 0 entry\nenter 1 handed\nsignal 1 0 stay serves 0\nleave 1 waiter 0\nresume 0 waiter\n",
     },
     Job {
         name: "misfit",

@@ -10,7 +10,7 @@ use std::test::Fail;
 /// A command, the front of its input, and the hint, which is empty where there is none.
 type Row = (Task<'static>, &'static [u8], &'static str);
 
-static HINTS: [Row; 17] = [
+static HINTS: [Row; 18] = [
     (
         Task::Audit,
         b"",
@@ -80,6 +80,11 @@ static HINTS: [Row; 17] = [
         Task::Draw(None),
         b"monk 1 PB 2 0 book 33\n",
         "the size is out of range: that of a book is 1 to 32",
+    ),
+    (
+        Task::Audit,
+        b"monk 3 PB 2 0 flags 33\n",
+        "the size is out of range: that of flags is 1 to 32",
     ),
     (
         Task::Audit,

@@ -15,7 +15,7 @@ static MISFITS: [Job<'static>; 4] = [
         task: Task::ExplainKind(KindName::Npnb, Lapses::Told, &[]),
         input: b"log 1 2 1 buffer 1\nenter 0\nact 0 1 0 0\nwait 0 0\nenter 1\nact 1 0 7 1\nleave 1\nresume 0\nact 0 1 0 8\nleave 0\n",
         status: 1,
-        answer: b"NPNB misfit 7 6 unserved\nserved 0 passed 0 lapsed 1\nleft waiting 0 woken 0 inside 0\nunheard none\nfree\nline: 8\nevent: resume 0\nwhy: this seat goes on, but no signal can have served it, or its predicate doesn't hold\nseat 0: 3 wait 0 0\nseat 1: 6 leave 1\n",
+        answer: b"NPNB misfit 7 6 unserved\nserved 0 passed 0 lapsed 1\nleft waiting 0 woken 0 inside 0\nunheard none\ncrossed none\nfree\nline: 8\nevent: resume 0\nwhy: this seat goes on, but no signal can have served it, or its predicate doesn't hold\nseat 0: 3 wait 0 0\nseat 1: 6 leave 1\n",
     },
     // Seat 2 takes the item before seat 0, which was signalled and doesn't test again.
     Job {
@@ -23,7 +23,7 @@ static MISFITS: [Job<'static>; 4] = [
         task: Task::ExplainKind(KindName::Npnb, Lapses::Told, FOR_AN_ITEM),
         input: b"log 1 3 1 buffer 1\nenter 0\nact 0 1 0 0\nwait 0 0\nenter 1\nact 1 0 7 1\nsignal 1 0\nleave 1\nenter 2\nact 2 1 0 8\nleave 2\nresume 0\nact 0 1 0 8\nleave 0\n",
         status: 1,
-        answer: b"NPNB misfit 12 5 reply\nserved 1 passed 1 lapsed 0\nleft waiting 0 woken 0 inside 1\nunheard none\nmissed none\nbusy 0 11\nline: 13\nevent: act 0 1 0 8\nwhy: the object replies otherwise: this seat relied on something that doesn't hold\nseat 0: 11 resume 0\nseat 1: 7 leave 1\nseat 2: 10 leave 2\ncondition 0: 6 signal 1 0\n",
+        answer: b"NPNB misfit 12 5 reply\nserved 1 passed 1 lapsed 0\nleft waiting 0 woken 0 inside 1\nunheard none\ncrossed none\nmissed none\nbusy 0 11\nline: 13\nevent: act 0 1 0 8\nwhy: the object replies otherwise: this seat relied on something that doesn't hold\nseat 0: 11 resume 0\nseat 1: 7 leave 1\nseat 2: 10 leave 2\ncondition 0: 6 signal 1 0\n",
     },
     // The signal of seat 1 is read as a visit, but the lines keep their numbers.
     Job {
@@ -31,14 +31,14 @@ static MISFITS: [Job<'static>; 4] = [
         task: Task::ExplainKind(KindName::Npnb, Lapses::Told, &[]),
         input: b"log 1 3 1 buffer 1\nenter 0\nwait 0 0\nsignal 1 0\nresume 0\nact 0 1 0 5\n",
         status: 1,
-        answer: b"NPNB misfit 5 5 reply\nserved 1 passed 0 lapsed 0\nleft waiting 0 woken 0 inside 1\nunheard none\nbusy 0 4\nline: 6\nevent: act 0 1 0 5\nwhy: the object replies otherwise: this seat relied on something that doesn't hold\nseat 0: 4 resume 0\nseat 1: 3 signal 1 0\ncondition 0: 3 signal 1 0\n",
+        answer: b"NPNB misfit 5 5 reply\nserved 1 passed 0 lapsed 0\nleft waiting 0 woken 0 inside 1\nunheard none\ncrossed none\nbusy 0 4\nline: 6\nevent: act 0 1 0 5\nwhy: the object replies otherwise: this seat relied on something that doesn't hold\nseat 0: 4 resume 0\nseat 1: 3 signal 1 0\ncondition 0: 3 signal 1 0\n",
     },
     Job {
         name: "a misfit in the first line",
         task: Task::ExplainKind(KindName::Pb, Lapses::Told, &[]),
         input: b"log 1 1 0 buffer 1\nleave 0\n",
         status: 1,
-        answer: b"PB misfit 1 3 turn\nserved 0 passed 0 lapsed 0\nleft waiting 0 woken 0 inside 0\nunheard none\nfree\nline: 2\nevent: leave 0\nwhy: it can't be this seat's turn: it is outside or active already, or somebody else is active\n",
+        answer: b"PB misfit 1 3 turn\nserved 0 passed 0 lapsed 0\nleft waiting 0 woken 0 inside 0\nunheard none\ncrossed none\nfree\nline: 2\nevent: leave 0\nwhy: it can't be this seat's turn: it is outside or active already, or somebody else is active\n",
     },
 ];
 
@@ -48,14 +48,14 @@ static FITS: [Job<'static>; 4] = [
         task: Task::ExplainKind(KindName::Npnb, Lapses::Told, &[]),
         input: b"log 1 2 1 buffer 1\nenter 0\nact 0 1 0 0\nwait 0 0\nenter 1\nact 1 0 7 1\nsignal 1 0\n",
         status: 1,
-        answer: b"NPNB fits fifo\nserved 1 passed 0 lapsed 0\nleft waiting 0 woken 1 inside 2\nunheard none\nbusy 1 4\nseat 0: 3 wait 0 0\nseat 1: 6 signal 1 0\ncondition 0: 6 signal 1 0\n",
+        answer: b"NPNB fits fifo\nserved 1 passed 0 lapsed 0\nleft waiting 0 woken 1 inside 2\nunheard none\ncrossed none\nbusy 1 4\nseat 0: 3 wait 0 0\nseat 1: 6 signal 1 0\ncondition 0: 6 signal 1 0\n",
     },
     Job {
         name: "a wait that ran out",
         task: Task::ExplainKind(KindName::Npnb, Lapses::Told, &[]),
         input: b"log 1 2 1 buffer 1\nenter 0\nact 0 1 0 0\nwait 0 0\nenter 1\nact 1 0 7 1\nsignal 1 0\nleave 1\nlapse 0\nact 0 1 0 8\nleave 0\n",
         status: 0,
-        answer: b"NPNB fits fifo\nserved 0 passed 0 lapsed 0\nleft waiting 0 woken 0 inside 0\nunheard 1 6\nfree\nseat 0: 10 leave 0\nseat 1: 7 leave 1\ncondition 0: 6 signal 1 0\n",
+        answer: b"NPNB fits fifo\nserved 0 passed 0 lapsed 0\nleft waiting 0 woken 0 inside 0\nunheard 1 6\ncrossed none\nfree\nseat 0: 10 leave 0\nseat 1: 7 leave 1\ncondition 0: 6 signal 1 0\n",
     },
     // Seat 2 has no line, and nobody signals condition 0.
     Job {
@@ -63,14 +63,14 @@ static FITS: [Job<'static>; 4] = [
         task: Task::ExplainKind(KindName::Pnb, Lapses::Told, &[]),
         input: b"log 1 3 2 buffer 1\nenter 0\nwait 0 1\nenter 1\nbroadcast 1 1\nleave 1\nresume 0\n",
         status: 1,
-        answer: b"PNB fits fifo\nserved 1 passed 0 lapsed 0\nleft waiting 0 woken 0 inside 1\nunheard none\nbusy 0 6\nseat 0: 6 resume 0\nseat 1: 5 leave 1\ncondition 1: 4 broadcast 1 1\n",
+        answer: b"PNB fits fifo\nserved 1 passed 0 lapsed 0\nleft waiting 0 woken 0 inside 1\nunheard none\ncrossed none\nbusy 0 6\nseat 0: 6 resume 0\nseat 1: 5 leave 1\ncondition 1: 4 broadcast 1 1\n",
     },
     Job {
         name: "a wake-up by nobody, with lapses",
         task: Task::ExplainKind(KindName::Npnb, Lapses::Allowed, FOR_AN_ITEM),
         input: b"log 1 2 1 buffer 1\nenter 0\nwait 0 0\nresume 0\n",
         status: 1,
-        answer: b"NPNB fits fifo\nserved 0 passed 0 lapsed 1\nleft waiting 0 woken 0 inside 1\nunheard none\nmissed none\nbusy 0 3\nseat 0: 3 resume 0\n",
+        answer: b"NPNB fits fifo\nserved 0 passed 0 lapsed 1\nleft waiting 0 woken 0 inside 1\nunheard none\ncrossed none\nmissed none\nbusy 0 3\nseat 0: 3 resume 0\n",
     },
 ];
 

@@ -104,7 +104,7 @@ static ASKING: [Asking; 30] = [
 ];
 
 /// The same of logs that are completed, and of runs.
-static ASKING_FOR_MORE: [Asking; 25] = [
+static ASKING_FOR_MORE: [Asking; 27] = [
     (&["monk", "complete", "PB"], "Complete(Pb, None)"),
     (&["monk", "complete", "NPB"], "Complete(Npb, None)"),
     (&["monk", "complete", "PNB"], "Complete(Pnb, None)"),
@@ -118,6 +118,14 @@ static ASKING_FOR_MORE: [Asking; 25] = [
     (
         &["monk", "complete", "NPIR", "x.log"],
         "Complete(Npir, Some(\"x.log\"))",
+    ),
+    (
+        &["monk", "complete", "--order", "any", "NPNB"],
+        "CompleteRun(Npnb, Any, None)",
+    ),
+    (
+        &["monk", "complete", "PB", "--order=wake", "x.log"],
+        "CompleteRun(Pb, Wake, Some(\"x.log\"))",
     ),
     (
         &["monk", "run", "PB", "book", "2", "1"],
@@ -213,7 +221,7 @@ fn is_refused(alloc: Global, words: &[&str]) -> bool {
 
 /// Words that ask for nothing; of a picture also numbers of no events, of a run a number out of
 /// range, and another kind or sample.
-static NOTHING: [&[&str]; 53] = [
+static NOTHING: [&[&str]; 56] = [
     &["monk", "adit"],
     &["monk", "help"],
     &["monk", "--help"],
@@ -249,6 +257,11 @@ static NOTHING: [&[&str]; 53] = [
     &["monk", "complete"],
     &["monk", "complete", "x.log"],
     &["monk", "complete", "PB", "a", "b"],
+    &["monk", "complete", "--order", "fifo", "PB"],
+    &["monk", "complete", "--order", "any"],
+    &[
+        "monk", "complete", "PB", "--order", "any", "--order", "wake",
+    ],
     &["monk", "classify", "1", "2"],
     &["monk", "classify", "1", "2", "3", "4"],
     &["monk", "classify", "1", "2", "256"],

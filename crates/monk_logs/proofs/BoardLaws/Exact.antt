@@ -24,7 +24,7 @@ use Rattle.monk_logs.proofs.BoardLaws.Choice.{release_chosen}
 use Rattle.monk_logs.proofs.BoardLaws.Completeness.{step_ok, taken_judged}
 use Rattle.monk_logs.proofs.BoardLaws.Lists.{run_lines-push, steps-push}
 use Rattle.monk_logs.proofs.BoardLaws.Orderly.{orderly}
-use Rattle.monk_logs.proofs.BoardLaws.Soundness.{IsStillOn, StepsTell, judged_steps}
+use Rattle.monk_logs.proofs.BoardLaws.Soundness.{IsStillOn, SomeTell, judged_steps}
 use Rattle.monk_logs.proofs.CourseLaws.Soundness.{erased_with_next, rest_of}
 use Rattle.monk_logs.proofs.OrderLaws.Exact.{run_taken, taken_run}
 
@@ -74,9 +74,9 @@ module _ (o : Order) (m : Monitor) (steps : List Step) (b : Board)
         (release_open (event.SignalLeave s c Stay) refl still))
     pending_open (Release e) still = release_open e still.1 still.0
 
-told_open : (o : Order) (m : Monitor) (log : List LogLine) (x : BoardCourse) → StepsTell o m log x → IsOpenIn o m log
+told_open : (o : Order) (m : Monitor) (log : List LogLine) (x : BoardCourse) → SomeTell o m log x → IsOpenIn o m log
 told_open o m log x t =
-    subst (IsOpenIn o m) t.told (pending_open o m t.steps x.board t.taken x.pending t.still)
+    subst (IsOpenIn o m) t.tell.told (pending_open o m t.steps x.board t.tell.taken x.pending t.tell.still)
 
 judged_open_at : (o : Order) (m : Monitor) (log : List LogLine) (x : Option BoardCourse) → board_judge o m log ≡ x
     → is_some x ≡ true → IsOpenIn o m log

@@ -18,7 +18,7 @@ kept_twice : (o : Option (List Event)) (a b : List Event) → kept_with (kept_wi
 kept_twice None a b = refl
 kept_twice (Some h) a b = ap (λ (x : List Event). Some x) (append_assoc h a b)
 
-led_to : (now later : Board) (test : Bool) (why : Blame) → Ok now ≡ cond test (Ok later) (Err why) → now ≡ later
+pub led_to : (now later : Board) (test : Bool) (why : Blame) → Ok now ≡ cond test (Ok later) (Err why) → now ≡ later
 led_to now later true why h = cc
 led_to now later false why h = absurd cc
 

@@ -29,6 +29,7 @@ use Rattle.monk_logs.specs.Course.{judge}
 use Rattle.monk_logs.specs.Course.{due_from}
 use Rattle.monk_logs.specs.Erasure.{erasure_of, erasure}
 use Rattle.monk_logs.specs.Fits.{IsOpen}
+use Rattle.monk_logs.specs.ServedRun.{untold}
 use Rattle.monk_logs.specs.declared.text.line.LogLine.{LogLine}
 use Rattle.monk_logs.specs.declared.text.line.LogLine.TheVariants.{Enter, Resume, Lapse, Leave, Wait, Signal, Broadcast, Until, Act}
 use Rattle.monk_logs.specs.declared.board.pending.Pending.{Pending}
@@ -40,9 +41,7 @@ use Rattle.monk_logs.proofs.CourseLaws.Tests.{passed, called_from_tests}
 
 -- the lines of what is still to be known
 abbrev pub rest_of : Pending → List LogLine
-rest_of Settled = []
-rest_of (Half s c) = Signal s c ∷ []
-rest_of (Release e) = erasure_of e
+rest_of p = untold p
 
 -- the last of the events has no choice
 abbrev pub EndsSettled : List Event → Type 0

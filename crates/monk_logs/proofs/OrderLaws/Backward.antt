@@ -16,6 +16,7 @@ use Rattle.monk_logs.specs.Chances.{chances, permits_by}
 use Rattle.monk_logs.specs.Items.{line, seats_in, keeps_up, was_served}
 use Rattle.monk_logs.specs.Order.{is_among, apart, may_go}
 use Rattle.monk_logs.specs.Run.{AreWaiters, IsAfter, IsMove, chosen_waiter, queues_with, taken_signaller}
+use Rattle.monk_logs.specs.Whom.{known_before, known_given}
 use Rattle.monk_logs.specs.declared.board.item.Item.{Item}
 use Rattle.monk_logs.specs.declared.board.item.Item.TheVariants.{Waiting}
 use Rattle.monk_logs.specs.declared.order.Order.{Order}
@@ -31,7 +32,7 @@ use Rattle.monk_logs.proofs.OrderLaws.Lists.{Distinct, among_here}
 use Rattle.monk_logs.proofs.OrderLaws.Passes.{Passes}
 use Rattle.monk_logs.proofs.OrderLaws.Sound.{Sound, distinct_with, keeps_with, was_served_chosen, sound_distinct}
 use Rattle.monk_logs.proofs.OrderLaws.Stands.{Stands, among, call_back, empty_waiters, signals_same, standing, stands_so, stay_same}
-use Rattle.monk_logs.proofs.OrderLaws.Unserving.{Before, unserved}
+use Rattle.monk_logs.proofs.OrderLaws.Unserving.{Before, served_before, unserved}
 
 -- ---- before somebody came
 
@@ -100,11 +101,16 @@ are_waiters o xs ys (inr e) h = loose_waiters o Any xs ys e h
 
 -- ---- the step
 
+-- who was served before it, and whom it served, where those are served behind it
+abbrev pub were_known : Board → Event → List ℕ → List ℕ
+were_known b e vs = known_before e b.items (known_given e vs)
+
+abbrev pub was_given : Board → Event → List ℕ → List ℕ
+was_given b e vs = served_before b e (known_given e vs)
+
 pub record Leads (o : Order) (m : Monitor) (b : Board) (e : Event) (vs : List ℕ) : Type 0 where
-  pub waiters : List ℕ
-  pub served : List ℕ
-  pub fits : Fits o (among waiters) b.items
-  pub move : IsMove o m (standing b waiters) e served (standing (board_after m.object b e) vs)
+  pub fits : Fits o (among (were_known b e vs)) b.items
+  pub move : IsMove o m (standing b (were_known b e vs)) e (was_given b e vs) (standing (board_after m.object b e) vs)
 
 module _ (o : Order) (loose : IsLoose o) (m : Monitor) (b : Board) (e : Event) (vs : List ℕ) (sound : Sound b)
     (p : Passes o m b e)
@@ -122,48 +128,54 @@ module _ (o : Order) (loose : IsLoose o) (m : Monitor) (b : Board) (e : Event) (
         unchosen o vs (next_of e) (items_with b e) (distinct_with b e sound) (keeps_with b e sound)
         (was_served_chosen o m b e p) behind.0
 
-    before : Before o b e (chosen_waiter (next_of e) ++ vs)
+    abbrev waiters : List ℕ
+    waiters = were_known b e vs
+
+    abbrev served : List ℕ
+    served = was_given b e vs
+
+    before : Before o b e (chosen_waiter (next_of e) ++ vs) waiters served
     before = unserved o b (chosen_waiter (next_of e) ++ vs) sound e fit_before
 
-    stands : Stands o b (standing b before.waiters)
-    stands = stands_so o b before.waiters before.fits
+    stands : Stands o b (standing b waiters)
+    stands = stands_so o b waiters before.fits
 
-    fit : Fits o (among (before.waiters ++ before.served)) (items_with b e)
-    fit = fits_same o (among (chosen_waiter (next_of e) ++ vs)) (among (before.waiters ++ before.served))
+    fit : Fits o (among (waiters ++ served)) (items_with b e)
+    fit = fits_same o (among (chosen_waiter (next_of e) ++ vs)) (among (waiters ++ served))
         (items_with b e) before.same
         fit_before
 
-    sigs_same : signallers_with b e ≡ b.signallers ++ signals (standing b before.waiters).condition e
-    sigs_same = ap (λ (xs : List ℕ). b.signallers ++ xs) (sym (signals_same o b (standing b before.waiters) e stands))
+    sigs_same : signallers_with b e ≡ b.signallers ++ signals (standing b waiters).condition e
+    sigs_same = ap (λ (xs : List ℕ). b.signallers ++ xs) (sym (signals_same o b (standing b waiters) e stands))
 
     like : AreLike (board_chances o m.object b e)
-        (chances o (queues_with m.object (standing b before.waiters) e before.served)) (next_of e)
+        (chances o (queues_with m.object (standing b waiters) e served)) (next_of e)
     like = record {
       no_waiter =
-          sym (empty_waiters o (before.waiters ++ before.served) (items_with b e) (distinct_with b e sound) fit);
+          sym (empty_waiters o (waiters ++ served) (items_with b e) (distinct_with b e sound) fit);
       no_signaller = ap (λ (xs : List ℕ). is_empty xs) sigs_same;
       no_ready = refl;
       signaller = λ j k. subst (λ (xs : List ℕ). may_go o j xs ≡ true) sigs_same k;
       ready = λ j k. k;
       waiter =
-          λ j is k. may_go_from o loose j (before.waiters ++ before.served)
+          λ j is k. may_go_from o loose j (waiters ++ served)
           (sym (before.same j) ∙ chosen_back (next_of e) vs j is);
     }
 
-    comes_to : IsAfter o m.object (standing b before.waiters) e before.served (standing (board_after m.object b e) vs)
+    comes_to : IsAfter o m.object (standing b waiters) e served (standing (board_after m.object b e) vs)
     comes_to = record {
       condition = λ c. condition_after m b e (chosen_waiter (next_of e) ++ vs) vs c (distinct_with b e sound) rest
           (chosen_back (next_of e) vs) behind.1
           ∙ ap (λ (xs : List ℕ). xs ++ waiting_by c e)
-          (apart_same (chosen_waiter (next_of e) ++ vs) (before.waiters ++ before.served)
+          (apart_same (chosen_waiter (next_of e) ++ vs) (waiters ++ served)
           (seats_in (line c b.items)) before.same
-          ∙ apart_twice before.waiters before.served (seats_in (line c b.items)));
-      waiters = are_waiters o vs (apart (chosen_waiter (next_of e)) (before.waiters ++ before.served)) loose
+          ∙ apart_twice waiters served (seats_in (line c b.items)));
+      waiters = are_waiters o vs (apart (chosen_waiter (next_of e)) (waiters ++ served)) loose
           (λ j. rest j ∙ (among_apart j (chosen_waiter (next_of e)) (chosen_waiter (next_of e) ++ vs)
           ∙ (ap (λ (x : Bool). x && not (is_among j (chosen_waiter (next_of e)))) (before.same j)
-          ∙ sym (among_apart j (chosen_waiter (next_of e)) (before.waiters ++ before.served)))));
+          ∙ sym (among_apart j (chosen_waiter (next_of e)) (waiters ++ served)))));
       signallers = ap (λ (xs : List ℕ). apart (taken_signaller (next_of e) xs) (b.signallers ++ xs))
-          (sym (signals_same o b (standing b before.waiters) e stands));
+          (sym (signals_same o b (standing b waiters) e stands));
       untils = refl;
       state = refl;
       turn = refl;
@@ -173,18 +185,16 @@ module _ (o : Order) (loose : IsLoose o) (m : Monitor) (b : Board) (e : Event) (
 
     pub leads : Leads o m b e vs
     leads = record {
-      waiters = before.waiters;
-      served = before.served;
       fits = before.fits;
       move = record {
         serves = before.serves;
-        may_call = call_back o b (standing b before.waiters) (sound_distinct b sound) stands m e p.may_call;
+        may_call = call_back o b (standing b waiters) (sound_distinct b sound) stands m e p.may_call;
         right_reply = p.right_reply;
         permitted = subst (λ (x : Bool). permits_by m.kind x
-            (chances o (queues_with m.object (standing b before.waiters) e before.served)) e ≡ true)
-            (sym (stay_same o m.object b (standing b before.waiters) e stands))
+            (chances o (queues_with m.object (standing b waiters) e served)) e ≡ true)
+            (sym (stay_same o m.object b (standing b waiters) e stands))
             (permits_like m.kind (must_stay m.object (sight b) e) (board_chances o m.object b e)
-            (chances o (queues_with m.object (standing b before.waiters) e before.served)) e like p.permitted);
+            (chances o (queues_with m.object (standing b waiters) e served)) e like p.permitted);
         comes_to = comes_to;
       };
     }

@@ -64,7 +64,7 @@ times_less j s (x ∷ xs) m =
 abbrev pub until_seats : List (ℕ × ℕ) → List ℕ
 until_seats us = map (λ w. w.0) us
 
-seats_filter : (p : ℕ → Bool) (us : List (ℕ × ℕ)) → until_seats (filter (λ w. p w.0) us) ≡ filter p (until_seats us)
+pub seats_filter : (p : ℕ → Bool) (us : List (ℕ × ℕ)) → until_seats (filter (λ w. p w.0) us) ≡ filter p (until_seats us)
 seats_filter p [] = refl
 seats_filter p (w ∷ us) =
     ⊎_elim (λ h. rw h (ap (λ (xs : List ℕ). w.0 ∷ xs) (seats_filter p us))) (λ h. rw h (seats_filter p us))

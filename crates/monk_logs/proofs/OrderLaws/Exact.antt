@@ -15,7 +15,7 @@ use Rattle.monk_logs.specs.declared.order.Order.TheVariants.{Fifo, Wake, Any}
 use Rattle.monk_logs.specs.declared.board.step.Step.{Step}
 use Rattle.monk_logs.specs.declared.board.step.Step.TheVariants.{Did, Lapsed}
 use Rattle.monk_logs.proofs.FifoLaws.Boards.{Alike, follows_in_turn, lapse_in_turn, lapse_leads_in_turn, leads_in_turn}
-use Rattle.monk_logs.proofs.OrderLaws.Backward.{leads}
+use Rattle.monk_logs.proofs.OrderLaws.Backward.{leads, was_given, were_known}
 use Rattle.monk_logs.proofs.OrderLaws.Chances.{IsLoose, loose_or_not}
 use Rattle.monk_logs.proofs.OrderLaws.Fits.{Fits}
 use Rattle.monk_logs.proofs.OrderLaws.Forward.{follows}
@@ -57,7 +57,7 @@ record Told (o : Order) (m : Monitor) (b : Board) (steps : List Step) : Type 0 w
   fits : Fits o (among served) b.items
   runs : Runs o m (standing b served) steps
 
-none_is_none : (o : Order) (m : Monitor) (steps : List Step) → is_some (board_from o m None steps) ≡ true → ⊥
+pub none_is_none : (o : Order) (m : Monitor) (steps : List Step) → is_some (board_from o m None steps) ≡ true → ⊥
 unfolding board_from
 none_is_none o m steps h = false≢true h
 
@@ -77,10 +77,10 @@ taken_runs o m loose (Did e ∷ steps) b sound h =
     let more = taken_runs o m loose steps (board_after m.object b e) (sound_after o m b e sound p) w.1 in
     let l = leads o loose m b e more.served sound p more.fits in
     record {
-      served = l.waiters;
+      served = were_known b e more.served;
       fits = l.fits;
       runs = record {
-        served = l.served;
+        served = was_given b e more.served;
         next = standing (board_after m.object b e) more.served;
         move = l.move;
         goes_on = more.runs;
@@ -159,7 +159,7 @@ opening_stands o m = stands_so o (opening_board m) [] (opening_fits o)
 pub opening_alike : (m : Monitor) → Alike (opening_board m) (opening_situation m)
 opening_alike m = record { stands = opening_stands Wake m; waiters = refl }
 
-nobody_there : (ws : List ℕ) → ((j : ℕ) → is_among j ws ≡ true → is_among j [] ≡ true) → ws ≡ []
+pub nobody_there : (ws : List ℕ) → ((j : ℕ) → is_among j ws ≡ true → is_among j [] ≡ true) → ws ≡ []
 nobody_there [] h = refl
 nobody_there (w ∷ ws) h = absurd (false≢true (h w (among_here w ws)))
 

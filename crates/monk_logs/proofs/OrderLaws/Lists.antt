@@ -1,10 +1,12 @@
 -- Who is in a queue
 use Rattle.std.proofs.Common.{◌≡◌, ℕ, ◌+◌, ◌≤◌, Bool, true, false, cond, ◌&&◌, ◌||◌, eqb, List, [], ◌∷◌, ◌++◌, refl, sym}
+use Rattle.std.proofs.Common.{Some, None}
 use Rattle.std.proofs.Common.{ap, ◌∙◌, ◌⊎◌, inl, inr, arith, filter, subst, ⊎_elim}
 use Rattle.std.proofs.lemmas.Bool.{eqb-true, eq-eqb, ne_eqb, cases_Bool, cases_eq, or_left, or_right, false≢true, false_from_ne_true}
 use Rattle.std.proofs.lemmas.List.Folds.{list_any-append}
 use Rattle.monk_history.specs.Meaning.Standing.{times}
 use Rattle.monk_logs.specs.Order.{is_among}
+use Rattle.monk_logs.specs.Whom.{but_last, but_seat, last_known}
 
 -- ---- tests
 
@@ -123,3 +125,22 @@ find_step p x xs (inr c) (inr h) = inr (none_more p x xs c h)
 pub find_last : (p : ℕ → Bool) (xs : List ℕ) → SomeLast p xs ⊎ NoneOf p xs
 find_last p [] = inr (λ j h. absurd (false≢true h))
 find_last p (x ∷ xs) = find_step p x xs (cases_Bool (p x)) (find_last p xs)
+
+-- ---- the last of those who are known
+
+none_known : (known queue : List ℕ) → NoneOf (λ j. is_among j known) queue → last_known known queue ≡ None
+none_known known [] none = refl
+none_known known (x ∷ queue) none =
+    rw (none_known known queue (none_later (λ j. is_among j known) x queue none))
+    (rw (none x (among_here x queue)) refl)
+
+pub last_is : (known : List ℕ) (w : ℕ) (queue : List ℕ) → IsLast (λ j. is_among j known) w queue
+    → last_known known queue ≡ Some w
+last_is known w [] h = absurd h
+last_is known w (x ∷ queue) (inl h) = rw (last_is known w queue h) refl
+last_is known w (x ∷ queue) (inr h) =
+    rw (none_known known queue h.2) (rw h.1 (ap (λ (j : ℕ). Some j) h.0))
+
+pub last_out : (known : List ℕ) (w : ℕ) (queue : List ℕ) → IsLast (λ j. is_among j known) w queue
+    → but_last queue known ≡ but_seat w known
+last_out known w queue h = rw (last_is known w queue h) refl

@@ -73,27 +73,28 @@ owned_turn v s Open h = absurd (false≢true h)
 owned_turn v s (Due j q) h = absurd (false≢true h)
 owned_turn v s (Owned j) h = ap (λ (x : ℕ). cond {A = ℕ} (eqb x s) 1 0) (eqb-true j v h)
 
-due_turn : (v s : ℕ) (q : From3) (t : Turn) → is_due v q t ≡ true → has_turn s t ≡ cond (eqb v s) 1 0
+pub due_turn : (v s : ℕ) (q : From3) (t : Turn) → is_due v q t ≡ true → has_turn s t ≡ cond (eqb v s) 1 0
 due_turn v s q Open h = absurd (false≢true h)
 due_turn v s q (Due j r) h =
     ap (λ (x : ℕ). cond {A = ℕ} (eqb x s) 1 0) (eqb-true j v (and_parts (j == v) (is_queue r q) h).0)
 due_turn v s q (Owned j) h = absurd (false≢true h)
 
-inside_still : (b : Bool) → ◌≡◌ {A = ℕ} (cond ((b && true) || false) 1 0) (cond b 1 0)
+pub inside_still : (b : Bool) → ◌≡◌ {A = ℕ} (cond ((b && true) || false) 1 0) (cond b 1 0)
 inside_still true = refl
 inside_still false = refl
 
-inside_out : (b c : Bool) → ◌≤◌ (cond c 1 0) (cond b 1 0) → cond ((b && not c) || false) 1 0 + cond c 1 0 ≡ cond b 1 0
+pub inside_out : (b c : Bool) → ◌≤◌ (cond c 1 0) (cond b 1 0)
+    → cond ((b && not c) || false) 1 0 + cond c 1 0 ≡ cond b 1 0
 inside_out true true h = omega arith
 inside_out true false h = omega arith
 inside_out false true h = absurd (omega arith)
 inside_out false false h = omega arith
 
-inside_in : (b c : Bool) → cond b 1 0 ≤ cond ((b && true) || c) 1 0
+pub inside_in : (b c : Bool) → cond b 1 0 ≤ cond ((b && true) || c) 1 0
 inside_in true c = omega arith
 inside_in false c = omega arith
 
-inside_new : (b : Bool) → ◌≡◌ {A = ℕ} (cond ((b && true) || true) 1 0) 1
+pub inside_new : (b : Bool) → ◌≡◌ {A = ℕ} (cond ((b && true) || true) 1 0) 1
 inside_new true = refl
 inside_new false = refl
 

@@ -1,14 +1,16 @@
 -- Whom a signal served, forward and back
 use Rattle.std.proofs.Common.{◌≡◌, ℕ, Bool, true, false, ◌&&◌, ◌||◌, not, eqb, List, [], ◌∷◌, ◌++◌, refl, sym, ap, ◌∙◌}
-use Rattle.std.proofs.Common.{⊎_elim, subst, Option, append-nil, append_assoc, map, filter}
+use Rattle.std.proofs.Common.{⊎_elim, subst, Option, append-nil, append_assoc, length, map, filter}
 use Rattle.std.proofs.lemmas.Bool.{cases_eq, ne_eqb, and_parts, or_right}
 use Rattle.monk_logs.specs.Items.{line, seats_in}
 use Rattle.monk_logs.specs.Order.{is_among, may_be_served}
+use Rattle.monk_logs.specs.Whom.{but_last, but_lasts, but_seat}
 use Rattle.monk_logs.specs.declared.board.item.Item.{Item}
 use Rattle.monk_logs.specs.declared.board.item.Item.TheVariants.{Service}
 use Rattle.monk_logs.specs.declared.order.Order.{Order}
-use Rattle.monk_logs.proofs.OrderLaws.Lists.{AgreeBut, AgreeOn, Distinct, IsLast, SomeLast, agree_apart, apart_from, find_last, last_among}
-use Rattle.monk_logs.proofs.OrderLaws.Lists.{last_passes, same_number}
+use Rattle.monk_logs.proofs.OrderLaws.Lists.{AgreeBut, AgreeOn, Distinct, IsLast, SomeLast, agree_apart, among_filter, apart_from, find_last}
+use Rattle.monk_logs.proofs.OrderLaws.Lists.{last_among, last_out, last_passes, same_number}
+use Rattle.monk_logs.proofs.OrderLaws.Stands.{among}
 use Rattle.monk_logs.proofs.OrderLaws.Covers.{Covers, covers_agree, never_given, served_back}
 use Rattle.monk_logs.proofs.OrderLaws.Fits.{Fits, all_seats_one, fits_same, line_one, line_one_other, not_elsewhere}
 use Rattle.monk_logs.proofs.OrderLaws.Fits.{seats_line_one, serve_one}
@@ -71,11 +73,11 @@ pub but_it : (q : ℕ → Bool) (w : ℕ) → but w q w ≡ false
 but_it q w = and-false (q w) (not (eqb w w)) (rw (same_number w) refl)
 
 -- before the last service of condition c
-pub record Unserved (o : Order) (q : ℕ → Bool) (c : ℕ) (items : List Item) : Type 0 where
-  pub seat : ℕ
+pub record Unserved (o : Order) (q : ℕ → Bool) (c : ℕ) (items : List Item) (seat : ℕ) : Type 0 where
   pub was : q seat ≡ true
   pub among : is_among seat (seats_in (line c items)) ≡ true
   pub may_be : may_be_served o seat (others (but seat q) (line c items)) ≡ true
+  pub last : IsLast q seat (seats_in (line c items))
   pub fits : Fits o (but seat q) items
 
 module _ (o : Order) (q : ℕ → Bool) (c : ℕ) (items : List Item) (dis : Distinct (all_seats items))
@@ -110,16 +112,16 @@ module _ (o : Order) (q : ℕ → Bool) (c : ℕ) (items : List Item) (dis : Dis
     unserve_line : (d : ℕ) → Covers (but last.seat q) 0 (line d items) × Led o (but last.seat q) (line d items)
     unserve_line d = ⊎_elim (unserve_here d) (unserve_there d) (cases_eq c d)
 
-    unserve_last : Unserved o q c items
+    unserve_last : Unserved o q c items last.seat
     unserve_last =
         let w = last.seat in
         let l = line c items in
         record {
-          seat = w;
           was = last_passes q w (seats_in l) last.last;
           among = last_among q w (seats_in l) last.last;
           may_be = (led_unserved q (but w q) w l (distinct_line c items dis) last.last o (but_it q w) (but_other q w)
               (subst (λ (k : List (Option ℕ)). Led o q k) (line_one c c items refl) (f.led c))).may_be;
+          last = last.last;
           fits = record {
             covers = λ d. (unserve_line d).0;
             led = λ d. (unserve_line d).1;
@@ -128,39 +130,55 @@ module _ (o : Order) (q : ℕ → Bool) (c : ℕ) (items : List Item) (dis : Dis
           };
         }
 
+pub record SomeUnserved (o : Order) (q : ℕ → Bool) (c : ℕ) (items : List Item) : Type 0 where
+  pub seat : ℕ
+  pub is : Unserved o q c items seat
+
 pub unserve_one : (o : Order) (q : ℕ → Bool) (c : ℕ) (items : List Item) → Distinct (all_seats items)
-    → Fits o q (items ++ Service c ∷ []) → Unserved o q c items
+    → Fits o q (items ++ Service c ∷ []) → SomeUnserved o q c items
 unserve_one o q c items d f =
-    ⊎_elim (λ last. unserve_last o q c items d f last)
+    ⊎_elim (λ last. record { seat = last.seat; is = unserve_last o q c items d f last })
     (λ none. absurd (never_given q (line c items) none
     (subst (λ (k : List (Option ℕ)). Covers q 0 k) (line_one c c items refl) (f.covers c))))
     (find_last q (seats_in (line c items)))
 
 -- ---- before several services of one condition
 
-pub record Below (o : Order) (q : ℕ → Bool) (c : ℕ) (items : List Item) : Type 0 where
-  pub before : ℕ → Bool
-  pub fits : Fits o before items
-  pub below : (j : ℕ) → before j ≡ true → q j ≡ true
-  pub outside : (j : ℕ) → is_among j (seats_in (line c items)) ≡ false → q j ≡ before j
+pub record Below (o : Order) (vs : List ℕ) (c : ℕ) (items : List Item) (n : ℕ) : Type 0 where
+  pub fits : Fits o (among (but_lasts n (seats_in (line c items)) vs)) items
+  pub below : (j : ℕ) → is_among j (but_lasts n (seats_in (line c items)) vs) ≡ true → is_among j vs ≡ true
+  pub outside : (j : ℕ) → is_among j (seats_in (line c items)) ≡ false
+      → is_among j vs ≡ is_among j (but_lasts n (seats_in (line c items)) vs)
 
-pub unserve_all : (o : Order) (q : ℕ → Bool) (c : ℕ) (ws : List ℕ) (items : List Item) → Distinct (all_seats items)
-    → Fits o q (items ++ map (λ s. Service c) ws) → Below o q c items
-unserve_all o q c [] items d f = record {
-  before = q;
-  fits = subst (λ (xs : List Item). Fits o q xs) (append-nil items) f;
+pub unserve_all : (o : Order) (vs : List ℕ) (c : ℕ) (ws : List ℕ) (items : List Item) → Distinct (all_seats items)
+    → Fits o (among vs) (items ++ map (λ s. Service c) ws) → Below o vs c items (length ws)
+unserve_all o vs c [] items d f = record {
+  fits = subst (λ (xs : List Item). Fits o (among vs) xs) (append-nil items) f;
   below = λ j h. h;
   outside = λ j h. refl;
 }
-unserve_all o q c (w ∷ ws) items d f =
+unserve_all o vs c (w ∷ ws) items d f =
     let more : List Item = items ++ Service c ∷ [] in
-    let b = unserve_all o q c ws more (distinct_one c items d)
-    (subst (λ (xs : List Item). Fits o q xs) (sym (append_assoc items (Service c ∷ []) (map (λ s. Service c) ws))) f) in
-    let u = unserve_one o b.before c items d b.fits in
+    let queue = seats_in (line c items) in
+    let same : seats_in (line c more) ≡ queue = seats_line_one c items in
+    let b = unserve_all o vs c ws more (distinct_one c items d)
+    (subst (λ (xs : List Item). Fits o (among vs) xs)
+    (sym (append_assoc items (Service c ∷ []) (map (λ s. Service c) ws))) f) in
+    let known : List ℕ = but_lasts (length ws) queue vs in
+    let u = unserve_one o (among known) c items d
+    (subst (λ (xs : List ℕ). Fits o (among (but_lasts (length ws) xs vs)) more) same b.fits) in
+    let is : but_last queue known ≡ but_seat u.seat known = last_out known u.seat queue u.is.last in
+    let at : (j : ℕ) → is_among j (but_last queue known) ≡ but u.seat (among known) j = λ j.
+    ap (is_among j) is ∙ among_filter (λ k. not (eqb u.seat k)) j known in
+    let before : (j : ℕ) → is_among j known ≡ true → is_among j vs ≡ true =
+    subst (λ (xs : List ℕ). (j : ℕ) → is_among j (but_lasts (length ws) xs vs) ≡ true → is_among j vs ≡ true) same
+    b.below in
+    let apart : (j : ℕ) → is_among j queue ≡ false → is_among j vs ≡ is_among j known =
+    subst (λ (xs : List ℕ). (j : ℕ) → is_among j xs ≡ false → is_among j vs
+    ≡ is_among j (but_lasts (length ws) xs vs)) same b.outside in
     record {
-      before = but u.seat b.before;
-      fits = u.fits;
-      below = λ j h. b.below j (and_parts (b.before j) (not (eqb u.seat j)) h).0;
-      outside = λ j h. b.outside j (subst (λ (xs : List ℕ). is_among j xs ≡ false) (sym (seats_line_one c items)) h)
-          ∙ but_other b.before u.seat j (λ e. apart_from u.seat j (seats_in (line c items)) u.among h (sym e));
+      fits = fits_same o (but u.seat (among known)) (among (but_last queue known)) items (λ j. sym (at j)) u.is.fits;
+      below = λ j h. before j (and_parts (is_among j known) (not (eqb u.seat j)) (sym (at j) ∙ h)).0;
+      outside = λ j h. apart j h
+          ∙ (but_other (among known) u.seat j (λ e. apart_from u.seat j queue u.is.among h (sym e)) ∙ sym (at j));
     }

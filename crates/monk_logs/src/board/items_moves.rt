@@ -100,7 +100,7 @@ pub(crate) fn join(items: &mut Vec<Item>, event: Event) -> Result<(), AllocError
 }
 
 /// Whether the item tells that the seat waits.
-fn is_waiting_of(item: Item, seat: u8) -> bool
+pub(crate) fn is_waiting_of(item: Item, seat: u8) -> bool
     ensures { result ≡ lines.is_waiting_of seat item }
 {
     match item {

@@ -179,6 +179,7 @@ fn settled_line(order: Order, board: &Board, seat: u8) -> LogLine
 }
 
 /// A seat that goes on, where its wait may have run out.
+#[inline(always)]
 fn resume_read<T: Guarded>(
     order: Order,
     setting: MonitorSetting,

@@ -24,8 +24,8 @@ use crate::board::needs::Needs;
 use crate::board::pending::Pending;
 use crate::board::reading::line_read;
 use crate::counts::Counts;
-use crate::counts::tally::{Tally, lets_go};
-use crate::counts::waiters::Waiters;
+use crate::counts::so_far::SoFar;
+use crate::counts::tally::lets_go;
 use crate::counts::waits_for::WaitsFor;
 use crate::lapses::Lapses;
 use crate::order::Order;
@@ -41,6 +41,7 @@ use monk_object::{Book, Buffer, Flags, Guarded, ObjectFault, ObjectName, Shop};
 use std::alloc::{AllocError, Global};
 
 /// Makes the list that of the items, with what the event before has made of them, its choice aside.
+#[inline(always)]
 fn take_items(now: &mut Vec<Item>, board: &Board, pending: Pending) -> Result<(), AllocError>
     ensures { OnOk result ((state : List ℕ)
         → now.new.items ≡ tallies.items_now (board_course (board_shown board.now state) pending)) }
@@ -166,8 +167,7 @@ fn count_lines<T: Guarded, L: LineSource>(
     let mut needs = Needs::none();
     let mut pending = Pending::Settled;
     let mut items = Vec::new(alloc);
-    let mut waiters = Waiters::now(&board, pending);
-    let mut tally = Tally::NOTHING;
+    let mut so_far = SoFar::NOTHING;
     let mut number = 0;
     while let Some(line) = lines.next() {
         number += 1;
@@ -187,23 +187,14 @@ fn count_lines<T: Guarded, L: LineSource>(
             LineVerdict::Misfits(blame) => {
                 let line = number;
                 let verdict = LogVerdict::Misfit { line, blame };
-                return Ok((Led { verdict, needs }, tally.counts(waiters)));
+                return Ok((Led { verdict, needs }, so_far.counts()));
             }
         }
         let is_missed = misses_signal(line, &object, &board, pending, &mut items, means)?;
-        let now = Waiters::now(&board, pending);
-        tally = tally.with_line(
-            number,
-            line,
-            waiters.woken,
-            now.woken,
-            is_missed,
-            is_unheard,
-        );
-        waiters = now;
+        so_far = so_far.with_line(number, line, is_missed, is_unheard, &board, pending);
     }
     let verdict = LogVerdict::Fits;
-    Ok((Led { verdict, needs }, tally.counts(waiters)))
+    Ok((Led { verdict, needs }, so_far.counts()))
 }
 
 /// Judges the lines over that object, if it was made as the header names it, and counts them.

@@ -39,6 +39,16 @@ fn one_if(count: u64, is: bool) -> u64
     if is { count + 1 } else { count }
 }
 
+/// The first line that was missed: the one before, or this one if it is.
+fn first_missed(before: Option<u32>, is_missed: bool, number: u32) -> Option<u32>
+    ensures { result ≡ tallies.first_missed before is_missed number }
+{
+    match before {
+        None if is_missed => Some(number),
+        before => before,
+    }
+}
+
 /// Whether the monitor is let go.
 pub(crate) fn lets_go(line: LogLine) -> bool
     ensures { result ≡ tallies.lets_go line }
@@ -75,16 +85,10 @@ impl Tally {
         ensures counted { result ≡ tallies.with_line number line before now is_missed is_unheard self }
         ensures within { (n : ℕ) → IsWithin n self → IsWithin (n + 1) result }
     {
-        let missed = match self.missed {
-            None if is_missed => Some(number),
-            missed => missed,
-        };
-        let held = held_after(number, line, self.held);
-        let unheard = unheard_after(number, is_unheard, self.unheard);
         let counted = Tally {
-            held,
-            missed,
-            unheard,
+            held: held_after(number, line, self.held),
+            missed: first_missed(self.missed, is_missed, number),
+            unheard: unheard_after(number, is_unheard, self.unheard),
             ..self
         };
         match line {

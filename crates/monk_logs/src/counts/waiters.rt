@@ -1,17 +1,20 @@
 //! Who waits on conditions behind a line, counted.
 
-ghost use Rattle.std.specs.Prelude.{◌≡◌, ◌+◌, ◌++◌, ◌≤◌, ◌<◌, ◌^◌, ℕ, List, length, map, take};
+ghost use Rattle.std.specs.Prelude.{◌≡◌, ◌+◌, ◌++◌, ◌≤◌, ◌<◌, ◌^◌, ℕ, List, false, length, map, take};
 ghost use Rattle.monk_logs.specs.Board.{given_by, waiting_item};
 ghost use Rattle.monk_logs.specs.BoardCourse.{board_course};
 ghost use Rattle.monk_logs.specs.BoardShown.{board_shown};
-ghost use Rattle.monk_logs.specs.Counts.{items_now, waiting_seats, woken_among};
+ghost use Rattle.monk_logs.specs.Counts.{items_now, waiting_seats};
 ghost use Rattle.monk_logs.specs.Items.{line, services, unserved_in};
+ghost use Rattle.monk_logs.specs.Recount as recounts;
+ghost use Rattle.monk_logs.specs.Recount.{AreAmong, needs_recount};
 ghost use Rattle.monk_logs.specs.declared.board.item.Item.{Item};
 
 use crate::board::Board;
 use crate::board::item::Item;
 use crate::board::items::{services_of, unserved_at};
 use crate::board::pending::Pending;
+use crate::text::line::LogLine;
 use monk_history::Event;
 
 /// How many wait on conditions, and how many of them signals served.
@@ -67,47 +70,76 @@ fn joined(event: Event) -> usize
     }
 }
 
+/// Whether the items of the board behind the line may be others than those that stood before it.
+#[inline(always)]
+fn needs_recount(line: LogLine) -> bool
+    ensures { result ≡ recounts.needs_recount line }
+{
+    matches!(
+        line,
+        LogLine::Resume(_) | LogLine::Lapse(_) | LogLine::Broadcast(..)
+    )
+}
+
 impl Waiters {
+    /// Nobody waits yet.
+    pub(crate) const NOBODY: Waiters = Waiters { seats: 0, woken: 0 };
+
     /// Those among the items.
     #[inline(always)]
     #[tactic(auto, using(crate::proofs::WaiterLaws::either_item))]
     fn among(items: &[Item]) -> Waiters
-        ensures seats { result.seats ≡ waiting_seats items.now }
-        ensures woken { result.woken ≡ woken_among items.now }
-        ensures small { result.seats + result.woken < 2 ^ 63 }
+        ensures { AreAmong result items.now }
     {
         let woken = services_of(items);
         let seats = items.len() - woken;
         Waiters { seats, woken }
     }
 
-    /// Those behind an event whose choice is to come.
+    /// Those among the items of the board behind a line, by those before it: they are counted anew
+    /// only where they may be others.
     #[inline(always)]
-    fn released(items: &[Item], event: Event) -> Waiters
-        ensures seats { result.seats
-            ≡ waiting_seats ((items.now ++ given_by event items.now) ++ waiting_item event) }
-        ensures woken { result.woken ≡ woken_among ((items.now ++ given_by event items.now) ++ waiting_item event) }
-        ensures small { result.woken < 2 ^ 63 }
+    #[tactic(auto, using(crate::proofs::WaiterLaws::either_item))]
+    fn on_board(self, line: LogLine, items: &[Item]) -> Waiters
+        requires { needs_recount line ≡ false → AreAmong self items.now }
+        ensures among { AreAmong result items.now }
+        ensures small { result.seats + result.woken < 2 ^ 63 }
     {
-        let before = Waiters::among(items);
-        Waiters {
-            seats: before.seats + joined(event),
-            woken: before.woken + given(items, event),
+        let _many = items.len();
+        if needs_recount(line) {
+            Waiters::among(items)
+        } else {
+            self
         }
     }
 
-    /// Those on the board, with what the event before makes of its items, its choice aside.
+    /// Those among the items, with what an event makes of them whose choice is to come.
     #[inline(always)]
-    pub(crate) fn now(board: &Board, pending: Pending) -> Waiters
-        ensures seats { (state : List ℕ)
-            → result.seats ≡ waiting_seats (items_now (board_course (board_shown board.now state) pending)) }
-        ensures woken { (state : List ℕ)
-            → result.woken ≡ woken_among (items_now (board_course (board_shown board.now state) pending)) }
+    fn released(self, items: &[Item], event: Event) -> Waiters
+        requires among { AreAmong self items.now }
+        requires small { self.seats + self.woken < 2 ^ 63 }
+        ensures among { AreAmong result ((items.now ++ given_by event items.now) ++ waiting_item event) }
         ensures small { result.woken < 2 ^ 63 }
     {
+        Waiters {
+            seats: self.seats + joined(event),
+            woken: self.woken + given(items, event),
+        }
+    }
+
+    /// Those behind a line, by those before it, with what the line's event makes of the items of the
+    /// board, its choice aside.
+    #[inline(always)]
+    pub(crate) fn behind(self, line: LogLine, board: &Board, pending: Pending) -> Waiters
+        requires { needs_recount line ≡ false → AreAmong self board.now.items.items }
+        ensures among { (state : List ℕ)
+            → AreAmong result (items_now (board_course (board_shown board.now state) pending)) }
+        ensures small { result.woken < 2 ^ 63 }
+    {
+        let there = self.on_board(line, &board.items);
         match pending {
-            Pending::Release(event) => Waiters::released(&board.items, event),
-            Pending::Settled | Pending::Half(..) => Waiters::among(&board.items),
+            Pending::Release(event) => there.released(&board.items, event),
+            Pending::Settled | Pending::Half(..) => there,
         }
     }
 }

@@ -2,10 +2,10 @@ use crate::tests::jobs::{Expected, Job};
 use monk_commands::{StreamFault, Task};
 use monk_history::Device;
 use monk_kinds::KindName;
-use monk_logs::{Lapses, WaitsFor};
+use monk_logs::{Lapses, RunOrder, WaitsFor};
 
 /// By the names that `checks/fail_alloc` knows them by.
-pub(super) static JOBS: [Job<'static>; 24] = [
+pub(super) static JOBS: [Job<'static>; 25] = [
     Job {
         name: "legal",
         task: Task::Audit,
@@ -102,21 +102,21 @@ pub(super) static JOBS: [Job<'static>; 24] = [
         ),
         input: b"log 1 2 1 buffer 1\nenter 0\nwait 0 0\nresume 0\n",
         status: 1,
-        answer: b"a.log: NPNB fits fifo; served 0 passed 0 lapsed 1; left waiting 0 woken 0 inside 1; unheard none; missed none; busy 0 3\n",
+        answer: b"a.log: NPNB fits fifo; served 0 passed 0 lapsed 1; left waiting 0 woken 0 inside 1; unheard none; crossed none; missed none; busy 0 3\n",
     },
     Job {
         name: "log_kind_outside",
         task: Task::FitKind(KindName::Npnb, Lapses::Told, &[], "a.log"),
         input: b"log 1 2 1 buffer 1\nenter 0\nwait 0 0\nsignal 1 0\n",
         status: 0,
-        answer: b"a.log: NPNB fits fifo; served 1 passed 0 lapsed 0; left waiting 0 woken 1 inside 1; unheard none; owed\n",
+        answer: b"a.log: NPNB fits fifo; served 1 passed 0 lapsed 0; left waiting 0 woken 1 inside 1; unheard none; crossed none; owed\n",
     },
     Job {
         name: "log_kind_misfit",
         task: Task::FitKind(KindName::Npis, Lapses::Told, &[], "a.log"),
         input: b"log 1 2 1 buffer 1\nenter 0\nwait 0 0\nresume 0\n",
         status: 1,
-        answer: b"a.log: NPIS misfit 2 2 call; served 0 passed 0 lapsed 0; left waiting 0 woken 0 inside 1; unheard none; busy 0 1\n",
+        answer: b"a.log: NPIS misfit 2 2 call; served 0 passed 0 lapsed 0; left waiting 0 woken 0 inside 1; unheard none; crossed none; busy 0 1\n",
     },
     Job {
         name: "log_not_kind_fitted",
@@ -144,7 +144,7 @@ pub(super) static JOBS: [Job<'static>; 24] = [
         task: Task::ExplainKind(KindName::Npnb, Lapses::Told, &[]),
         input: b"log 1 2 1 buffer 1\nenter 0\nwait 0 0\nresume 0\n",
         status: 1,
-        answer: b"NPNB misfit 3 6 unserved\nserved 0 passed 0 lapsed 1\nleft waiting 0 woken 0 inside 1\nunheard none\nbusy 0 3\nline: 4\nevent: resume 0\nwhy: this seat goes on, but no signal can have served it, or its predicate doesn't hold\nseat 0: 2 wait 0 0\n",
+        answer: b"NPNB misfit 3 6 unserved\nserved 0 passed 0 lapsed 1\nleft waiting 0 woken 0 inside 1\nunheard none\ncrossed none\nbusy 0 3\nline: 4\nevent: resume 0\nwhy: this seat goes on, but no signal can have served it, or its predicate doesn't hold\nseat 0: 2 wait 0 0\n",
     },
     Job {
         name: "not_explained",
@@ -166,6 +166,13 @@ pub(super) static JOBS: [Job<'static>; 24] = [
         input: b"log 1 2 1 buffer 1\nenter 0\nwait 0 0\nenter 1\nsignal 1 0\nresume 0\nleave 0\nresume 1\n",
         status: 0,
         answer: b"monk 2 PB 2 1 buffer 1\nenter 0 free\nwait 0 0 entry\nenter 1 handed\nsignal 1 0 waiter 0\nresume 0 waiter\nleave 0 signaller 1\nresume 1 signaller\n",
+    },
+    Job {
+        name: "completed to a run",
+        task: Task::CompleteRun(KindName::Npnb, RunOrder::Any),
+        input: b"log 1 2 1 buffer 1\nenter 0\nwait 0 0\nenter 1\nsignal 1 0\nleave 1\nresume 0\n",
+        status: 0,
+        answer: b"run any NPNB 2 1 buffer 1\nenter 0 free\nwait 0 0 entry\nenter 1 handed\nsignal 1 0 stay serves 0\nleave 1 waiter 0\nresume 0 waiter\n",
     },
     Job {
         name: "misfit",

@@ -10,6 +10,6 @@ returns-clause-rows c =
     let seats : List ℕ = rows_below (λ s. row bytes log (Seat s)) c.seats.result in
     let conditions : List ℕ = rows_below (λ k. row bytes log (Condition k)) c.conds.result in
     rw (← c.seats.ensures, ← c.conds.ensures)
-    (c.in_ok-put_conditions.ensures.rows
-    ∙ (ap (λ (l : List ℕ). l ++ conditions) c.in_ok-put_seats.ensures.rows
+    (c.in_ok-put_rows_below-2.ensures.rows
+    ∙ (ap (λ (l : List ℕ). l ++ conditions) c.in_ok-put_rows_below.ensures.rows
     ∙ append_assoc c.args.page.now.items seats conditions))

@@ -1,13 +1,16 @@
-use Rattle.std.proofs.Common.{ap, ℕ, ◌∙◌, ◌+◌, ◌-◌, List, arith, length}
+use Rattle.std.proofs.Common.{ap, subst, sym, ℕ, ◌∙◌, ◌+◌, ◌-◌, List, arith, length}
+use Rattle.monk_logs.specs.Board.{Board}
 use Rattle.monk_logs.specs.BoardCourse.{board_course}
 use Rattle.monk_logs.specs.BoardShown.{board_shown}
-use Rattle.monk_logs.specs.Counts.{count_state, counts_by, items_now, waiting_seats}
+use Rattle.monk_logs.specs.Counts.{count_state, counts_by, items_now, waiting_seats, woken_among}
 use Rattle.monk_logs.specs.Needs.{needs_with, told_needs}
+use Rattle.monk_logs.specs.Recount.{AreAmong}
 use Rattle.monk_logs.specs.ReadStand.{board_read_over}
 use Rattle.monk_logs.specs.Stand.{monitor_in}
 use Rattle.monk_logs.specs.declared.board.needs.Needs.{Needs}
 use Rattle.monk_logs.specs.declared.lapses.Lapses.{Lapses}
 use Rattle.monk_logs.specs.declared.text.line.LogLine.{LogLine}
+use Rattle.monk_logs.proofs.CountLaws.KeptItems.{items_kept}
 use Rattle.monk_logs.proofs.CountLaws.LineByLine.{count_ends, count_goes_on, count_misfits, count_opens, line_counted}
 use Rattle.monk_logs.proofs.LapseLaws.Following.{read_fits, read_goes_held, read_goes_on, read_misfits, read_opens}
 use Rattle.monk_logs.proofs.NeedLaws.Following.{need_ends, need_goes_on, need_misfits, need_opens}
@@ -23,9 +26,11 @@ loop-line-init g c =
       counted = count_opens c.args.lapses c.args.order k.rules k.seats k.conds g.T.Guarded.meaning d c.args.means.now
           (board_shown c.in_ok-board.board d) (g.L.LineSource.left c.args.lines) (c.in_ok-board.ensures.stands d);
       room = omega arith;
-      seats = c.now-waiters.ensures.seats d;
-      woken = c.now-waiters.ensures.woken d;
-      small = c.now-waiters.ensures.small;
+      among = record {
+        seats = sym (ap (λ (b : Board). waiting_seats b.items) (c.in_ok-board.ensures.stands d));
+        woken = sym (ap (λ (b : Board). woken_among b.items) (c.in_ok-board.ensures.stands d));
+      };
+      small = omega arith;
       few = record {
         back = omega arith;
         lapsed = omega arith;
@@ -73,13 +78,13 @@ returns-in-Misfits-clause-leads g c = λ told. record {
 
 pub returns-in-Misfits-clause-counted : goal.returns-in-Misfits-clause-counted
 returns-in-Misfits-clause-counted g c =
-    let k = c.loop-line.tally in
+    let k = c.loop-line.so_far.tally in
     c.counts.ensures
-    ∙ ap (λ (seats : ℕ). counts_by k (seats - c.loop-line.waiters.woken) c.loop-line.waiters.woken)
-    c.loop-line.invariant.seats
+    ∙ ap (λ (seats : ℕ). counts_by k (seats - c.loop-line.so_far.waiters.woken) c.loop-line.so_far.waiters.woken)
+    c.loop-line.invariant.among.seats
     ∙ ap (λ (woken : ℕ). counts_by k (waiting_seats (items_now (board_course
     (board_shown c.loop-line.board (g.T.Guarded.state c.loop-line.object)) c.loop-line.pending)) - woken) woken)
-    c.loop-line.invariant.woken
+    c.loop-line.invariant.among.woken
     ∙ count_misfits c.args.lapses c.args.order (monitor_in c.args.setting g.T.Guarded.meaning) c.args.means.now
     (g.L.LineSource.left c.loop-line.lines) (g.L.LineSource.left c.next.new.self) c.loop-line.number c.in-Some.line
     (board_shown c.loop-line.board (g.T.Guarded.state c.loop-line.object))
@@ -87,12 +92,21 @@ returns-in-Misfits-clause-counted g c =
     c.loop-line.pending k c.in_ok-left.field-0 _ _ c.loop-line.invariant.counted c.in-Some.ensures
     c.in_ok-left.ensures.judged c.in-Misfits.is
 
+pub with_line-so_far-requires-clause-among : goal.with_line-so_far-requires-clause-among
+with_line-so_far-requires-clause-among g c =
+    λ same. subst (AreAmong c.loop-line.so_far.waiters)
+    (sym (items_kept c.args.lapses c.args.order (monitor_in c.args.setting g.T.Guarded.meaning) c.in-Some.line
+    (board_shown c.loop-line.board (g.T.Guarded.state c.loop-line.object))
+    (board_shown c.line_read.new.board (g.T.Guarded.state c.line_read.new.object))
+    c.loop-line.pending c.in-Fits.left c.in_ok-left.field-0 c.in_ok-left.ensures.judged c.in-Fits.is same))
+    c.loop-line.invariant.among
+
 pub loop-line-preserved : goal.loop-line-preserved
 loop-line-preserved g c =
     let m = monitor_in c.args.setting g.T.Guarded.meaning in
     let a = board_shown c.loop-line.board (g.T.Guarded.state c.loop-line.object) in
     let b = board_shown c.line_read.new.board (g.T.Guarded.state c.line_read.new.object) in
-    let k = c.loop-line.tally in
+    let k = c.loop-line.so_far.tally in
     let taken = ap (λ (l : List LogLine). length l) c.in-Some.ensures in
     record {
       verdict =
@@ -104,21 +118,20 @@ loop-line-preserved g c =
           count_goes_on c.args.lapses c.args.order m c.args.means.now
           (g.L.LineSource.left c.loop-line.lines) (g.L.LineSource.left c.next.new.self)
           c.loop-line.number c.in-Some.line a b c.loop-line.pending c.in-Fits.left k
-          c.in_ok-left.field-0 c.with_line-tally.result _ c.loop-line.invariant.counted c.in-Some.ensures
+          c.in_ok-left.field-0 c.with_line-so_far.result.tally _ c.loop-line.invariant.counted c.in-Some.ensures
           c.in_ok-left.ensures.judged
           c.in-Fits.is
           (line_counted g.T.Guarded.meaning c.args.means.now (c.loop-line.number + 1)
           (board_course a c.loop-line.pending)
-          (board_course b c.in-Fits.left) c.in-Some.line k c.with_line-tally.result
-          _ _ _ _ c.with_line-tally.ensures.counted c.loop-line.invariant.woken
-          (c.now-now.ensures.woken (g.T.Guarded.state c.line_read.new.object))
+          (board_course b c.in-Fits.left) c.in-Some.line k c.with_line-so_far.result.tally
+          _ _ _ _ c.with_line-so_far.ensures.counted c.loop-line.invariant.among.woken
+          (c.with_line-so_far.ensures.among (g.T.Guarded.state c.line_read.new.object)).woken
           c.in_ok-is_missed.ensures
           (c.in_ok-is_unheard.ensures (g.T.Guarded.state c.loop-line.object)));
       room = omega arith;
-      seats = c.now-now.ensures.seats (g.T.Guarded.state c.line_read.new.object);
-      woken = c.now-now.ensures.woken (g.T.Guarded.state c.line_read.new.object);
-      small = c.now-now.ensures.small;
-      few = c.with_line-tally.ensures.within c.loop-line.number c.loop-line.invariant.few;
+      among = c.with_line-so_far.ensures.among (g.T.Guarded.state c.line_read.new.object);
+      small = c.with_line-so_far.ensures.small;
+      few = c.with_line-so_far.ensures.within c.loop-line.number c.loop-line.invariant.few;
       sound = c.in_ok-left.ensures.sound c.in-Fits.left c.in-Fits.is;
       held = read_goes_held c.args.lapses c.args.order m c.in-Some.line a b c.loop-line.pending c.in-Fits.left
           c.in_ok-left.field-0 c.in_ok-left.ensures.judged c.in-Fits.is;
@@ -158,13 +171,13 @@ returns-clause-leads g c = λ told. record {
 
 pub returns-clause-counted : goal.returns-clause-counted
 returns-clause-counted g c =
-    let k = c.loop-line.tally in
+    let k = c.loop-line.so_far.tally in
     c.counts-2.ensures
-    ∙ ap (λ (seats : ℕ). counts_by k (seats - c.loop-line.waiters.woken) c.loop-line.waiters.woken)
-    c.loop-line.invariant.seats
+    ∙ ap (λ (seats : ℕ). counts_by k (seats - c.loop-line.so_far.waiters.woken) c.loop-line.so_far.waiters.woken)
+    c.loop-line.invariant.among.seats
     ∙ ap (λ (woken : ℕ). counts_by k (waiting_seats (items_now (board_course
     (board_shown c.loop-line.board (g.T.Guarded.state c.loop-line.object)) c.loop-line.pending)) - woken) woken)
-    c.loop-line.invariant.woken
+    c.loop-line.invariant.among.woken
     ∙ count_ends c.args.lapses c.args.order (monitor_in c.args.setting g.T.Guarded.meaning) c.args.means.now
     (g.L.LineSource.left c.loop-line.lines)
     c.loop-line.number

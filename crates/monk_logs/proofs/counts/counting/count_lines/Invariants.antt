@@ -6,8 +6,9 @@ use Rattle.monk_history.specs.Meaning.Monitor.{monitor}
 use Rattle.monk_logs.specs.BoardCourse.{board_course}
 use Rattle.monk_logs.specs.BoardShown.{IsBoardOf, board_shown}
 use Rattle.monk_logs.specs.BoardStand.{IsHeldOver}
-use Rattle.monk_logs.specs.Counts.{IsWithin, count_state, counts_from, counts_in, items_now, waiting_seats, woken_now}
+use Rattle.monk_logs.specs.Counts.{IsWithin, count_state, counts_from, counts_in, items_now}
 use Rattle.monk_logs.specs.Needs.{is_fits, meets, widest}
+use Rattle.monk_logs.specs.Recount.{AreAmong}
 use Rattle.monk_logs.specs.ReadStand.{read_verdict, read_verdict_from}
 use Rattle.monk_logs.specs.Stand.{monitor_in}
 use Rattle.monk_logs.specs.declared.lapses.Lapses.TheVariants.{Told}
@@ -24,16 +25,15 @@ invariant-loop-line g l =
           ≡ read_verdict l.lapses l.order
           (monitor l.setting.rules l.setting.seats l.setting.conds o (g.T.Guarded.state l.fn.object))
           (g.L.LineSource.left l.fn.lines);
-      counted : counts_from l.lapses l.order m l.means l.number (count_state (board_course now l.pending) l.tally)
-          (g.L.LineSource.left l.lines)
+      counted : counts_from l.lapses l.order m l.means l.number
+          (count_state (board_course now l.pending) l.so_far.tally) (g.L.LineSource.left l.lines)
           ≡ counts_in l.lapses l.order (monitor l.setting.rules l.setting.seats l.setting.conds o
           (g.T.Guarded.state l.fn.object)) l.means
           (g.L.LineSource.left l.fn.lines);
       room : l.number + length (g.L.LineSource.left l.lines) ≤ most_lines;
-      seats : l.waiters.seats ≡ waiting_seats (items_now (board_course now l.pending));
-      woken : l.waiters.woken ≡ woken_now (board_course now l.pending);
-      small : l.waiters.woken < 2 ^ 63;
-      few : IsWithin l.number l.tally;
+      among : AreAmong l.so_far.waiters (items_now (board_course now l.pending));
+      small : l.so_far.waiters.woken < 2 ^ 63;
+      few : IsWithin l.number l.so_far.tally;
       sound : IsBoardOf l.setting.seats l.setting.conds g.T.Guarded.PREDICATES l.board;
       held : IsHeldOver m now l.pending;
       leads : l.lapses ≡ Told → (k : Rules) → widest k ≡ l.setting.rules

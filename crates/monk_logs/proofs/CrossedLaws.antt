@@ -1,0 +1,200 @@
+-- How the seats are found that a signal crossed on their way to sleep
+use Rattle.std.proofs.Common.{◌≡◌, ℕ, zero, suc, ◌+◌, ◌-◌, ◌<◌, ◌≤◌, ◌∙◌, Bool, true, false, cond, ⊎_elim}
+use Rattle.std.proofs.Common.{List, [], ◌∷◌, ◌++◌, length, get_or, set, take, replicate, reverse, Option, Some, None}
+use Rattle.std.proofs.Common.{refl, sym, ap, arith, subst, length-take, take_all, get_or-set_same, get_or-set_other}
+use Rattle.std.specs.Prelude.{IfSome, if◌then◌else◌, slice_range}
+use Rattle.std.specs.Option.{option_or}
+use Rattle.std.proofs.lemmas.Bool.{cases_eq, eq-eqb, ne_eqb}
+use Rattle.std.proofs.lemmas.List.{length-reverse, reverse-append}
+use Rattle.monk_logs.specs.Crossed.{begins, crossed_below, crosses, crossing, crossing_at, crossing_in, with_seat}
+use Rattle.monk_logs.specs.declared.crossed.Crossed.{Crossed}
+use Rattle.monk_logs.specs.Expiry.{line_seat}
+use Rattle.monk_logs.specs.LastLine.{has, last_behind, last_line}
+use Rattle.monk_logs.specs.declared.subject.Subject.TheVariants.{Seat}
+use Rattle.monk_logs.specs.declared.text.line.LogLine.{LogLine}
+use Rattle.monk_logs.specs.declared.text.line.LogLine.TheVariants.{Enter, Resume, Lapse, Leave, Wait, Signal, Broadcast, Until, Act}
+use Rattle.monk_logs.proofs.ExpiryLaws.{before_more}
+use Rattle.monk_logs.proofs.LastLineLaws.{last_more}
+
+-- ---- the number of each seat's last line
+
+-- no number
+abbrev none : Option ℕ
+none = None
+
+pub nothing_last : (n j : ℕ) → get_or (replicate n none) j none ≡ last_line (Seat j) []
+unfolding last_behind
+nothing_last zero j = refl
+nothing_last (suc n) zero = refl
+nothing_last (suc n) (suc j) = nothing_last n j
+
+pub numbers_more : (table : List (Option ℕ)) (log : List LogLine) (i at number : ℕ) (l : LogLine)
+    → i < length log → at ≡ line_seat (get_or log i l) → number ≡ i + 1 → at < length table
+    → ((j : ℕ) → get_or table j None ≡ last_line (Seat j) (take i log))
+    → (j : ℕ) → get_or (set table at (Some number)) j None ≡ last_line (Seat j) (take (i + 1) log)
+numbers_more table log i at number l lt is_at is small has_last j =
+    ⊎_elim
+    (λ e. ap (λ k. get_or (set table at (Some number)) k none) (sym (is_at ∙ e))
+    ∙ get_or-set_same table at (Some number) none small
+    ∙ ap Some is
+    ∙ last_more (Seat j) log i l (last_line (Seat j) (take i log)) true lt
+    (eq-eqb (line_seat (get_or log i l)) j e) refl)
+    (λ ne. get_or-set_other table at j (Some number) none (λ e. ne (sym is_at ∙ sym e))
+    ∙ last_more (Seat j) log i l (get_or table j None) false lt
+    (ne_eqb (line_seat (get_or log i l)) j ne) (has_last j))
+    (cases_eq (line_seat (get_or log i l)) j)
+
+-- ---- the signal that crossed one seat
+
+-- what the number of a seat's last line tells of it
+abbrev pub crossing_by : List LogLine → LogLine → Option ℕ → Option ℕ
+crossing_by log d None = None
+crossing_by log d (Some n) = crossing_at (get_or log (n - 1) d) (reverse (take (n - 1) log))
+
+by_more : (log : List LogLine) (d : LogLine) (i : ℕ)
+    → crossing_by log d (Some (i + 1)) ≡ crossing_at (get_or log i d) (reverse (take i log))
+by_more log d i =
+    ap (λ n. crossing_at (get_or log n d) (reverse (take n log))) (omega arith)
+
+crossing_take : (s : ℕ) (log : List LogLine) (d : LogLine) (i : ℕ) → i ≤ length log
+    → crossing s (reverse (take i log)) ≡ crossing_by log d (last_line (Seat s) (take i log))
+unfolding crossing last_behind
+crossing_take s log d zero le = refl
+crossing_take s log d (suc i) le =
+    let lt : i < length log = omega arith in
+    let on : i + 1 ≡ suc i = omega arith in
+    let l = get_or log i d in
+    let before = last_line (Seat s) (take i log) in
+    subst (λ n. crossing s (reverse (take n log)) ≡ crossing_by log d (last_line (Seat s) (take n log))) on
+    (ap (crossing s) (before_more log i d lt)
+    ∙ ⊎_elim
+    (λ e. ap (λ b. cond b (crossing_at l (reverse (take i log))) (crossing s (reverse (take i log))))
+    (eq-eqb (line_seat l) s e)
+    ∙ sym (by_more log d i)
+    ∙ ap (crossing_by log d) (last_more (Seat s) log i d before true lt (eq-eqb (line_seat l) s e) refl))
+    (λ ne. ap (λ b. cond b (crossing_at l (reverse (take i log))) (crossing s (reverse (take i log))))
+    (ne_eqb (line_seat l) s ne)
+    ∙ crossing_take s log d i (omega arith)
+    ∙ ap (crossing_by log d) (last_more (Seat s) log i d before false lt (ne_eqb (line_seat l) s ne) refl))
+    (cases_eq (line_seat l) s))
+
+pub crossing_told : (s : ℕ) (log : List LogLine) (d : LogLine) (number : Option ℕ)
+    → number ≡ last_line (Seat s) log → crossing_by log d number ≡ crossing s (reverse log)
+crossing_told s log d number is =
+    ap (crossing_by log d) (is ∙ ap (last_line (Seat s)) (sym (take_all (length log) log (omega arith))))
+    ∙ sym (crossing_take s log d (length log) (omega arith))
+    ∙ ap (λ (xs : List LogLine). crossing s (reverse xs)) (take_all (length log) log (omega arith))
+
+-- ---- the number is one of a line
+
+or_within : (n k : ℕ) (b : Bool) (o : Option ℕ) → IfSome o (λ m. (suc n < m) × (m ≤ suc n + k))
+    → IfSome (option_or o (cond b (Some (suc n)) None)) (λ m. (n < m) × (m ≤ n + suc k))
+or_within n k true None w = (omega arith, omega arith)
+or_within n k false None w = w
+or_within n k b (Some m) w = let low = w.0 in let high = w.1 in (omega arith, omega arith)
+
+pub last_within : (p : LogLine → Bool) (n : ℕ) (log : List LogLine)
+    → IfSome (last_behind p n log) (λ m. (n < m) × (m ≤ n + length log))
+unfolding last_behind
+last_within p n [] = tt
+last_within p n (l ∷ log) = or_within n (length log) (p l) (last_behind p (suc n) log) (last_within p (suc n) log)
+
+-- ---- one line more, from the last to the first
+
+pub crossing_more : (s c : ℕ) (log : List LogLine) (n at : ℕ) (l : LogLine) → at ≡ n + 1 → n < length log
+    → crossing_in s c (reverse (take at log))
+    ≡ (if crosses s c (get_or log n l) then Some at
+    else if begins s (get_or log n l) then None else crossing_in s c (reverse (take n log)))
+unfolding crossing_in
+crossing_more s c log n at l is lt =
+    ap (λ k. crossing_in s c (reverse (take k log))) is ∙ ap (crossing_in s c) (before_more log n l lt)
+    ∙ ap (λ k. if crosses s c (get_or log n l) then Some k
+    else if begins s (get_or log n l) then None else crossing_in s c (reverse (take n log)))
+    (let long = length-reverse (take n log) in let taken = length-take n log in omega (arith, lt, is, long, taken))
+
+-- the last of them is a signal to the condition by another seat
+pub found_crossing : (s c : ℕ) (log : List LogLine) (n at : ℕ) (l : LogLine) (whole : Option ℕ) → at ≡ n + 1
+    → n < length log → crosses s c (get_or log n l) ≡ true
+    → crossing_in s c (reverse (take at log)) ≡ whole → Some at ≡ whole
+found_crossing s c log n at l whole is lt crossed same =
+    sym (ap (λ b. if b then Some at else if begins s (get_or log n l) then None
+    else crossing_in s c (reverse (take n log))) crossed)
+    ∙ sym (crossing_more s c log n at l is lt) ∙ same
+
+-- the seat begins with the last of them
+pub found_beginning : (s c : ℕ) (log : List LogLine) (n at : ℕ) (l : LogLine) (whole : Option ℕ) → at ≡ n + 1
+    → n < length log → crosses s c (get_or log n l) ≡ false → begins s (get_or log n l) ≡ true
+    → crossing_in s c (reverse (take at log)) ≡ whole → None ≡ whole
+found_beginning s c log n at l whole is lt crossed begun same =
+    sym (ap (λ b. if b then none else crossing_in s c (reverse (take n log))) begun)
+    ∙ sym (ap (λ b. if b then Some at else if begins s (get_or log n l) then None
+    else crossing_in s c (reverse (take n log))) crossed)
+    ∙ sym (crossing_more s c log n at l is lt) ∙ same
+
+-- the last of them is neither
+pub crossing_before : (s c : ℕ) (log : List LogLine) (n at : ℕ) (l : LogLine) (whole : Option ℕ) → at ≡ n + 1
+    → n < length log → crosses s c (get_or log n l) ≡ false → begins s (get_or log n l) ≡ false
+    → crossing_in s c (reverse (take at log)) ≡ whole → crossing_in s c (reverse (take n log)) ≡ whole
+crossing_before s c log n at l whole is lt crossed begun same =
+    sym (ap (λ b. if b then none else crossing_in s c (reverse (take n log))) begun)
+    ∙ sym (ap (λ b. if b then Some at else if begins s (get_or log n l) then None
+    else crossing_in s c (reverse (take n log))) crossed)
+    ∙ sym (crossing_more s c log n at l is lt) ∙ same
+
+pub crossing_none : (s c : ℕ) (log : List LogLine) (at : ℕ) (whole : Option ℕ) → at ≡ 0
+    → crossing_in s c (reverse (take at log)) ≡ whole → None ≡ whole
+unfolding crossing_in
+crossing_none s c log at whole is same =
+    sym (ap (λ k. crossing_in s c (reverse (take k log))) is) ∙ same
+
+-- ---- the line that is found
+
+-- the signal that crossed the last line, where these lines stand, the last first
+abbrev head_crossing : List LogLine → Option ℕ
+head_crossing [] = None
+head_crossing (l ∷ before) = crossing_at l before
+
+pub told_within : (s : ℕ) (log : List LogLine) (n : ℕ) → Some n ≡ last_line (Seat s) log
+    → (0 < n) × (n ≤ 0 + length log)
+told_within s log n is =
+    subst (λ o. IfSome o (λ m. (0 < m) × (m ≤ 0 + length log))) (sym is) (last_within (has (Seat s)) 0 log)
+
+pub crossing_front : (s : ℕ) (log front before : List LogLine) (line : LogLine) (n : ℕ)
+    → Some n ≡ last_line (Seat s) log → front ≡ slice_range log 0 n → front ≡ before ++ line ∷ []
+    → crossing_at line (reverse before) ≡ crossing s (reverse log)
+crossing_front s log front before line n is taken parts =
+    let within = told_within s log n is in
+    let low = within.0 in
+    let high = within.1 in
+    let lt : n - 1 < length log = omega arith in
+    ap head_crossing (sym (reverse-append before (line ∷ [])))
+    ∙ ap (λ (xs : List LogLine). head_crossing (reverse xs)) (sym parts ∙ taken)
+    ∙ ap (λ k. head_crossing (reverse (take k log))) (let same : n - 0 ≡ n - 1 + 1 = omega arith in same)
+    ∙ ap head_crossing (before_more log (n - 1) line lt)
+    ∙ crossing_told s log line (Some n) is
+
+-- no signal crossed a line that isn't a wait
+pub no_crossing : (l : LogLine) (before : List LogLine) → ((s c : ℕ) → l ≡ Wait s c → ⊥) → None ≡ crossing_at l before
+no_crossing (Enter s) before other = refl
+no_crossing (Resume s) before other = refl
+no_crossing (Lapse s) before other = refl
+no_crossing (Leave s) before other = refl
+no_crossing (Wait s c) before other = absurd (other s c refl)
+no_crossing (Signal s c) before other = refl
+no_crossing (Broadcast s c) before other = refl
+no_crossing (Until s p) before other = refl
+no_crossing (Act s op r) before other = refl
+
+-- ---- one seat more
+
+pub nobody_crossed : (before : List LogLine) → None ≡ crossed_below before 0
+unfolding crossed_below
+nobody_crossed before = refl
+
+pub seat_more : (before : List LogLine) (s : ℕ) (signal : Option ℕ) (found : Option Crossed)
+    → signal ≡ crossing s before → found ≡ crossed_below before s
+    → with_seat signal found ≡ crossed_below before (s + 1)
+unfolding crossed_below
+seat_more before s signal found is so_far =
+    ap (λ n. with_seat n found) is ∙ ap (with_seat (crossing s before)) so_far
+    ∙ ap (crossed_below before) (let on : suc s ≡ s + 1 = omega arith in on)

@@ -1,0 +1,22 @@
+-- Logs of programs whose waits have time limits
+pub mod Members
+pub mod Rooms
+pub mod Served
+pub mod Moves
+pub mod Seating
+pub mod Away
+pub mod Lines
+pub mod Coming
+pub mod Holds
+pub mod Left
+pub mod Ahead
+pub mod Back
+pub mod Readings
+pub mod Right
+pub mod Origins
+pub mod Gone
+pub mod Waiting
+pub mod GoneSeats
+pub mod Through
+pub mod Within
+pub mod Beginnings
