@@ -14,7 +14,7 @@ use Rattle.clap.proofs.OnLiterals.{clap_on_literals}
 use Rattle.monk_logs.specs.declared.counts.waits_for.WaitsFor.{WaitsFor}
 use Rattle.monk_logs.specs.declared.lapses.Lapses.{Lapses}
 use Rattle.monk_logs.specs.declared.lapses.Lapses.TheVariants.{Told}
-use Rattle.monk_commands.specs.Request.{AreLogValues, AreMeanings, CompleteNames, HasNumber, IsAsked, IsMeaning, IsRead, KindNames}
+use Rattle.monk_commands.specs.Request.{AreLogValues, AreMeanings, RunChoices, HasNumber, IsAsked, IsMeaning, IsRead, KindNames}
 use Rattle.monk_commands.specs.Request.{MayHaveNumber}
 use Rattle.monk_commands.specs.Request.{RunNames, monk_app, words_or_none}
 
@@ -64,10 +64,10 @@ number_tried E G bits o r name f only is none value = go (one_text f name) refl 
         let read = only t (Ok v) (subst (TriesOne G t) told (value t e)) in
         record { text = t; found = sym (one_text-rows f name) ∙ e; digits = read.0.0; number = read.1 }
 
-pub monk_is_simple : (fitted explained : KindNames) (completed : CompleteNames) (run recorded : RunNames)
-    → is_simple (monk_app fitted explained completed run recorded) ≡ true
+pub monk_is_simple : (fitted explained : KindNames) (drawn completed : RunChoices) (run recorded : RunNames)
+    → is_simple (monk_app fitted explained drawn completed run recorded) ≡ true
 unfolding clap_on_literals
-monk_is_simple fitted explained completed run recorded = refl
+monk_is_simple fitted explained drawn completed run recorded = refl
 
 -- what a test that is exact says of what it has found
 pub found_exactly : (A : Type 0) (o : Option A) (F G : A → Type 0) → ((x : A) → (o ≡ Some x) ↔ F x)

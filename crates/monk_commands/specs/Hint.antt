@@ -9,7 +9,8 @@ use Rattle.monk_commands.specs.declared.hint.Hint.{Hint}
 use Rattle.monk_commands.specs.declared.hint.Hint.TheVariants as hint
 use Rattle.monk_commands.specs.declared.task.Task.{Task}
 use Rattle.monk_commands.specs.declared.task.Task.TheVariants.{Audit, Play, Upgrade, Fit, FitKind}
-use Rattle.monk_commands.specs.declared.task.Task.TheVariants.{Trace, Explain, ExplainKind, Draw, Page, Complete, CompleteRun}
+use Rattle.monk_commands.specs.declared.task.Task.TheVariants.{Trace, Explain, ExplainKind, Draw, DrawRun, Page}
+use Rattle.monk_commands.specs.declared.task.Task.TheVariants.{Complete, CompleteRun}
 use Rattle.monk_commands.specs.declared.text_name.TextName.{TextName}
 use Rattle.monk_commands.specs.declared.text_name.TextName.TheVariants as name
 use Rattle.monk_history.specs.declared.text.fault.Flaw.TheVariants as flaw
@@ -67,6 +68,7 @@ reads Trace t = is_play t
 reads Explain t = is_history t
 reads (ExplainKind kind lapses means) t = not (is_play t)
 reads (Draw window) t = is_history t
+reads (DrawRun kind order window) t = is_log t
 reads (Page window) t = is_history t
 reads (Complete kind) t = is_log t
 reads (CompleteRun kind order) t = is_log t
@@ -82,6 +84,7 @@ wanted Trace = name.Play
 wanted Explain = name.History
 wanted (ExplainKind kind lapses means) = name.History
 wanted (Draw window) = name.History
+wanted (DrawRun kind order window) = name.Log
 wanted (Page window) = name.History
 wanted (Complete kind) = name.Log
 wanted (CompleteRun kind order) = name.Log
@@ -230,7 +233,7 @@ header_form name.Log = codes "log 1 SEATS CONDS OBJECT SIZE"
 abbrev pub commands_that_read : TextName → List ℕ
 commands_that_read name.History = codes "monk audit, explain, draw, page, fit or upgrade"
 commands_that_read name.Play = codes "monk play or trace"
-commands_that_read name.Log = codes "monk fit, complete or explain --kind"
+commands_that_read name.Log = codes "monk fit, complete, explain --kind or draw --kind"
 
 -- what stands before the word of an object in a sentence: flags are many
 abbrev pub article : ObjectName → List ℕ

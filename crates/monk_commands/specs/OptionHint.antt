@@ -16,7 +16,8 @@ use Rattle.monk_commands.specs.declared.option_hint.OptionHint.{OptionHint}
 use Rattle.monk_commands.specs.declared.option_hint.OptionHint.TheVariants as hint
 use Rattle.monk_commands.specs.declared.task.Task.{Task}
 use Rattle.monk_commands.specs.declared.task.Task.TheVariants.{Audit, Play, Upgrade, Fit, FitKind}
-use Rattle.monk_commands.specs.declared.task.Task.TheVariants.{Trace, Explain, ExplainKind, Draw, Page, Complete, CompleteRun}
+use Rattle.monk_commands.specs.declared.task.Task.TheVariants.{Trace, Explain, ExplainKind, Draw, DrawRun, Page}
+use Rattle.monk_commands.specs.declared.task.Task.TheVariants.{Complete, CompleteRun}
 use Rattle.monk_commands.specs.declared.text_name.TextName.{TextName}
 use Rattle.monk_commands.specs.declared.text_name.TextName.TheVariants as name
 
@@ -71,6 +72,7 @@ option_hint_of Trace front = None
 option_hint_of Explain front = None
 option_hint_of (ExplainKind kind lapses means) front = fit_hint lapses means.now (first_words front)
 option_hint_of (Draw window) front = None
+option_hint_of (DrawRun kind order window) front = None
 option_hint_of (Page window) front = None
 option_hint_of (Complete kind) front = None
 option_hint_of (CompleteRun kind order) front = None

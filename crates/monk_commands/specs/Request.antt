@@ -27,7 +27,8 @@ use Rattle.monk_samples.specs.declared.sample.Sample.{Sample}
 use Rattle.monk_samples.specs.declared.sample.Sample.TheVariants.{Buffer, Book, Shop, Hasty}
 use Rattle.monk_commands.specs.declared.request.Line.{Line}
 use Rattle.monk_commands.specs.declared.request.Line.TheVariants.{Classify, Audit, Play, Upgrade, Fit, FitKind}
-use Rattle.monk_commands.specs.declared.request.Line.TheVariants.{Trace, Explain, ExplainKind, Draw, Page, Complete, CompleteRun, Run, Record}
+use Rattle.monk_commands.specs.declared.request.Line.TheVariants.{Trace, Explain, ExplainKind, Draw, DrawRun, Page}
+use Rattle.monk_commands.specs.declared.request.Line.TheVariants.{Complete, CompleteRun, Run, Record}
 
 -- a word that must stand there, and that the parser takes
 abbrev pub required_rule : Text → ValueParser → Rule
@@ -138,17 +139,27 @@ abbrev pub run_order_word : RunOrder → Text
 run_order_word o = order_word (order_of o)
 
 -- lists that have exactly the names of the kinds and of those orders
-pub record CompleteNames : Type 0 where
+pub record RunChoices : Type 0 where
   pub kinds : NameList
   pub orders : NameList
   pub all_kinds : words_in kinds ≡ map kind_word monitor_kinds
   pub all_orders : words_in orders ≡ map run_order_word run_orders
 
 -- the command that takes a kind, an order or none, and a file
-abbrev pub complete_app : CompleteNames → App
+abbrev pub complete_app : RunChoices → App
 complete_app n =
     with_rule (with_rule (with_rule (new_app (codes "complete")) (required_rule (codes "KIND") (Names n.kinds)))
     (chosen_rule (codes "order") (Names n.orders)))
+    (new_rule (codes "FILE"))
+
+-- the command that takes a kind and an order or none, the first and the last of the events that it shows, and a file
+abbrev pub draw_app : RunChoices → App
+draw_app n =
+    with_rule (with_rule (with_rule (with_rule (with_rule (new_app (codes "draw"))
+    (chosen_rule (codes "kind") (Names n.kinds)))
+    (chosen_rule (codes "order") (Names n.orders)))
+    (number_rule (codes "from")))
+    (number_rule (codes "to")))
     (new_rule (codes "FILE"))
 
 -- the command has these rules, and none that is for its subcommands too
@@ -171,25 +182,27 @@ bare_app =
 -- with the commands that need no kind
 abbrev pub plain_app : KindNames → App
 plain_app fitted =
-    with_subcommand (with_subcommand (with_subcommand (with_subcommand (with_subcommand (with_subcommand
-    (with_subcommand (with_subcommand bare_app classify_app.top) (file_app (codes "audit")).top)
+    with_subcommand (with_subcommand (with_subcommand (with_subcommand (with_subcommand
+    (with_subcommand bare_app classify_app.top) (file_app (codes "audit")).top)
     (file_app (codes "play")).top) (file_app (codes "upgrade")).top) (fit_app fitted).top)
-    (file_app (codes "trace")).top) (window_app (codes "draw")).top) (window_app (codes "page")).top
+    (file_app (codes "trace")).top
 
 -- the program with its commands
-abbrev pub monk_app : KindNames → KindNames → CompleteNames → RunNames → RunNames → App
-monk_app fitted explained completed run recorded =
-    with_subcommand (with_subcommand (with_subcommand (with_subcommand (plain_app fitted) (explain_app explained).top)
+abbrev pub monk_app : KindNames → KindNames → RunChoices → RunChoices → RunNames → RunNames → App
+monk_app fitted explained drawn completed run recorded =
+    with_subcommand (with_subcommand (with_subcommand (with_subcommand (with_subcommand (with_subcommand
+    (plain_app fitted) (explain_app explained).top) (draw_app drawn).top) (window_app (codes "page")).top)
     (complete_app completed).top) (run_app (codes "run") run).top) (run_app (codes "record") recorded).top
 
 -- the command line of the program
 pub record IsMonk (a : App) : Type 0 where
   pub fitted : KindNames
   pub explained : KindNames
-  pub completed : CompleteNames
+  pub drawn : RunChoices
+  pub completed : RunChoices
   pub run : RunNames
   pub recorded : RunNames
-  pub is : a ≡ monk_app fitted explained completed run recorded
+  pub is : a ≡ monk_app fitted explained drawn completed run recorded
 
 -- the command is the program with the commands that need no kind
 pub record IsPlainMonk (c : Command) : Type 0 where
@@ -209,9 +222,14 @@ IsFitCommand c = IsJudgingCommand (codes "fit") files_rule c
 abbrev pub IsExplainCommand : Command → Type 0
 IsExplainCommand c = IsJudgingCommand (codes "explain") (new_rule (codes "FILE")) c
 
+-- the command is `draw`
+pub record IsDrawCommand (c : Command) : Type 0 where
+  pub names : RunChoices
+  pub is : IsSubcommand c (draw_app names)
+
 -- the command is `complete`
 pub record IsCompleteCommand (c : Command) : Type 0 where
-  pub names : CompleteNames
+  pub names : RunChoices
   pub is : IsSubcommand c (complete_app names)
 
 -- the command is one that runs a sample
@@ -231,6 +249,7 @@ command_word (Trace file) = codes "trace"
 command_word (Explain file) = codes "explain"
 command_word (ExplainKind kind file lapses means) = codes "explain"
 command_word (Draw file window) = codes "draw"
+command_word (DrawRun kind order file window) = codes "draw"
 command_word (Page file window) = codes "page"
 command_word (Complete kind file) = codes "complete"
 command_word (CompleteRun kind order file) = codes "complete"
@@ -302,6 +321,11 @@ AreRunValues kind sample seats rounds rows =
     × (first_of (codes "SAMPLE") rows ≡ Some (sample_word sample))
     × HasNumber (codes "SEATS") seats rows × HasNumber (codes "ROUNDS") rounds rows
 
+-- the order of a run is the one of that word, and where no word names one the widest
+abbrev pub IsOrderOrAny : RunOrder → Option Text → Type 0
+IsOrderOrAny o None = o ≡ Any
+IsOrderOrAny o (Some word) = run_order_word o ≡ word
+
 -- the values of the line are those that clap has found, in the rows of its command
 abbrev pub ValuesAre : Line → List Row → Type 0
 ValuesAre (Classify e w s) rows = HasNumber (codes "ENTRY") e rows × HasNumber (codes "WAITER") w rows
@@ -322,7 +346,10 @@ ValuesAre (ExplainKind kind file lapses means) rows = (first_of (codes "kind") r
     × (first_of (codes "FILE") rows ≡ option_map string_bytes file)
     × AreLogValues lapses means.items rows
 ValuesAre (Draw file window) rows = (first_of (codes "FILE") rows ≡ option_map string_bytes file)
-    × IsWindowIn window rows
+    × (first_of (codes "kind") rows ≡ None) × (first_of (codes "order") rows ≡ None) × IsWindowIn window rows
+ValuesAre (DrawRun kind order file window) rows = (first_of (codes "kind") rows ≡ Some (kind_word kind))
+    × IsOrderOrAny order (first_of (codes "order") rows)
+    × (first_of (codes "FILE") rows ≡ option_map string_bytes file) × IsWindowIn window rows
 ValuesAre (Page file window) rows = (first_of (codes "FILE") rows ≡ option_map string_bytes file)
     × IsWindowIn window rows
 ValuesAre (Complete kind file) rows = (first_of (codes "KIND") rows ≡ Some (kind_word kind))
@@ -345,6 +372,7 @@ RunIsInRange (Trace file) = Unit {0}
 RunIsInRange (Explain file) = Unit {0}
 RunIsInRange (ExplainKind kind file lapses means) = Unit {0}
 RunIsInRange (Draw file window) = Unit {0}
+RunIsInRange (DrawRun kind order file window) = Unit {0}
 RunIsInRange (Page file window) = Unit {0}
 RunIsInRange (Complete kind file) = Unit {0}
 RunIsInRange (CompleteRun kind order file) = Unit {0}

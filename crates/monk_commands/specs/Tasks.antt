@@ -9,13 +9,15 @@ use Rattle.monk_commands.specs.KindFitted.{named_fit_of}
 use Rattle.monk_commands.specs.LogFitted.{fit_answer_of}
 use Rattle.monk_commands.specs.Played.{IsAnswerTo}
 use Rattle.monk_commands.specs.RunCompleted.{IsRunAnswer}
+use Rattle.monk_commands.specs.RunDrawn.{IsDrawnAnswer}
 use Rattle.monk_commands.specs.Shown.{IsShowingOf}
 use Rattle.monk_commands.specs.Upgraded.{upgrade_of}
 use Rattle.monk_commands.specs.declared.report.Report.TheVariants as report
 use Rattle.monk_commands.specs.declared.show.Show.TheVariants as show
 use Rattle.monk_commands.specs.declared.task.Task.{Task}
 use Rattle.monk_commands.specs.declared.task.Task.TheVariants.{Audit, Play, Upgrade, Fit, FitKind}
-use Rattle.monk_commands.specs.declared.task.Task.TheVariants.{Trace, Explain, ExplainKind, Draw, Page, Complete, CompleteRun}
+use Rattle.monk_commands.specs.declared.task.Task.TheVariants.{Trace, Explain, ExplainKind, Draw, DrawRun, Page}
+use Rattle.monk_commands.specs.declared.task.Task.TheVariants.{Complete, CompleteRun}
 
 -- the answer of a command that reads an input
 abbrev pub IsTaskAnswer : Task → List ℕ → ℕ → (List ℕ → Type 0) → Type 0
@@ -30,6 +32,7 @@ IsTaskAnswer Explain input status Puts = IsExplanationOf input status Puts
 IsTaskAnswer (ExplainKind kind lapses means) input status Puts =
     IsGiven (explain_kind_of kind lapses means.now input) status Puts
 IsTaskAnswer (Draw window) input status Puts = IsShowingOf show.Picture window input status Puts
+IsTaskAnswer (DrawRun kind order window) input status Puts = IsDrawnAnswer kind order window input status Puts
 IsTaskAnswer (Page window) input status Puts = IsShowingOf show.Page window input status Puts
 IsTaskAnswer (Complete kind) input status Puts = IsAnswerToLog kind input status Puts
 IsTaskAnswer (CompleteRun kind order) input status Puts = IsRunAnswer kind order input status Puts

@@ -23,7 +23,7 @@ use std::alloc::Global;
 use std::io::{Read, Write};
 
 /// The header of a history of the kind over what the log's first line names, in the version that has every event.
-fn header_of(kind: KindName, header: &LogHeader) -> Header
+pub(crate) fn header_of(kind: KindName, header: &LogHeader) -> Header
     ensures header { result ≡ completed_heading kind header.now }
     ensures writable { (events : List Event) → IsTrue (is_writable result events) }
 {

@@ -79,14 +79,20 @@ pub(crate) static EXPLAIN: Help = Help {
         Read: docs/TEXT.md, of logs docs/LOGS.md",
 };
 
+pub(crate) const DRAWN_KIND: &str = "Draw a log: a run of a monitor of this kind that tells it";
+
+pub(crate) const DRAWN_ORDER: &str = "With --kind, the order of its queues; with none `any`";
+
 pub(crate) static DRAW: Help = Help {
-    about: "Draws a history as a picture",
+    about: "Draws a history, or a run that tells a log, as a picture",
     example: "Events are numbered from 1. With neither option the picture shows the last 200, or the last 200\n\
         up to the forbidden one; with --from alone the first 2000 from there on; with --to alone the\n\
         last 2000 up to there; with both at most 2000.\n\
         Example: monk draw examples/hoare_handover.history --from 4 --to 7\n\
-        Status: 0 legal, 1 forbidden, 2 unreadable; 3 wrong words, 4 a failed file or no memory\n\
-        Read: docs/TEXT.md",
+        Example: monk draw --kind NPNB examples/if_for_while.log\n\
+        Status: 0 legal, 1 forbidden, 2 unreadable; 3 wrong words, 4 a failed file or no memory.\n\
+        Of a log 0 fits, 1 misfits\n\
+        Read: docs/TEXT.md, of logs docs/LOGS.md",
 };
 
 pub(crate) static PAGE: Help = Help {

@@ -59,6 +59,7 @@ pub fn option_hint_for(task: &Task<'_>, front: &[u8]) -> Option<OptionHint>
         | Task::Trace
         | Task::Explain
         | Task::Draw(_)
+        | Task::DrawRun(..)
         | Task::Page(_)
         | Task::Complete(_)
         | Task::CompleteRun(..) => None,

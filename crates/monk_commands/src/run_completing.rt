@@ -5,7 +5,9 @@ ghost use Rattle.std.specs.Io.KnownBytes.{Appends};
 ghost use Rattle.monk_object.specs.Names.{most};
 ghost use Rattle.monk_history.specs.Text.Device.{inner_of, has_failed};
 ghost use Rattle.monk_logs.specs.Log.Reading.{log};
-ghost use Rattle.monk_logs.specs.RunFound.{verdict_found};
+ghost use Rattle.monk_logs.specs.RunFound.{order_of, verdict_found};
+ghost use Rattle.monk_logs.specs.Verdict.{log_monitor};
+ghost use Rattle.monk_logs.specs.VerdictIn.{MisfitsExactlyIn};
 ghost use Rattle.monk_commands.specs.KindFitted.{conds_under, is_sent, judged_log};
 ghost use Rattle.monk_commands.specs.RunCompleted.{IsFoundOf, IsRunAnswer, IsRunOnce, IsRunText, IsRunVerdict};
 ghost use Rattle.monk_commands.specs.Streams.{IsStreamOutcome};
@@ -28,7 +30,7 @@ use std::alloc::Global;
 use std::io::{Read, Write};
 
 /// The run that the lines tell, or why there is none.
-fn found(
+pub(crate) fn found(
     alloc: Global,
     kind: KindName,
     order: RunOrder,
@@ -38,6 +40,8 @@ fn found(
     requires few { length judged.now ≤ 2 ^ 25 }
     requires size { header.now.size ≤ most header.now.object }
     ensures found { IfOk result (IsFoundOf kind order header.now judged.now) }
+    ensures misfit { IfOk result (λ r. MisfitsExactlyIn (order_of order) (log_monitor kind header.now) judged.now
+        (verdict_found r)) }
     ensures no_file { IsErrOf result StreamFault.File → ⊥ }
 {
     match find_run(alloc, header, judged, kind, order) {

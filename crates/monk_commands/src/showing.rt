@@ -64,7 +64,7 @@ fn status_of(verdict: Verdict) -> u8
 }
 
 /// The answer where events are asked for that are behind the last that can be shown.
-fn behind(alloc: Global, last: usize) -> Result<LineAnswer, StreamFault>
+pub(crate) fn behind(alloc: Global, last: usize) -> Result<LineAnswer, StreamFault>
     ensures answer { IfOk result (λ a. (a.status ≡ (behind last).status) × (string_bytes a.text ≡ (behind last).text)) }
     ensures no_file { IsErrOf result StreamFault.File → ⊥ }
 {

@@ -13,6 +13,7 @@ use crate::kind_explaining::explain_kind_stream;
 use crate::kind_fitting::fit_kind_stream;
 use crate::playing::play_stream;
 use crate::run_completing::complete_run_stream;
+use crate::run_drawing::draw_run_stream;
 use crate::show::Show;
 use crate::showing::show_stream;
 use crate::tracing::trace_stream;
@@ -48,6 +49,9 @@ pub enum Task<'a> {
     ExplainKind(KindName, Lapses, &'a [WaitsFor]),
     /// The picture of a history, by [`show_stream`]: of the events that are asked for.
     Draw(Option<Window>),
+    /// The picture of a run of a monitor of the kind, with its queues in that order, that tells a log,
+    /// by [`draw_run_stream`]: of the steps that are asked for.
+    DrawRun(KindName, RunOrder, Option<Window>),
     /// The page of a history, by [`show_stream`]: of the events that are asked for.
     Page(Option<Window>),
     /// A legal history of a monitor of the kind that tells a log, by [`complete_stream`].
@@ -101,6 +105,9 @@ impl Task<'_> {
                 explain_kind_stream(alloc, kind, lapses, means, reader, writer)
             }
             Task::Draw(window) => show_stream(alloc, Show::Picture, window, reader, writer),
+            Task::DrawRun(kind, order, window) => {
+                draw_run_stream(alloc, kind, order, window, reader, writer)
+            }
             Task::Page(window) => show_stream(alloc, Show::Page, window, reader, writer),
             Task::Complete(kind) => complete_stream(alloc, kind, reader, writer),
             Task::CompleteRun(kind, order) => {

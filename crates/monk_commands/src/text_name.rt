@@ -39,7 +39,7 @@ impl TextName {
                 self == TextName::History
             }
             Task::Play | Task::Trace => self == TextName::Play,
-            Task::Complete(_) | Task::CompleteRun(..) => self == TextName::Log,
+            Task::Complete(_) | Task::CompleteRun(..) | Task::DrawRun(..) => self == TextName::Log,
             Task::Fit(_, _) | Task::FitKind(_, _, _, _) | Task::ExplainKind(_, _, _) => {
                 self != TextName::Play
             }
@@ -52,7 +52,7 @@ impl TextName {
     {
         match task {
             Task::Play | Task::Trace => TextName::Play,
-            Task::Complete(_) | Task::CompleteRun(..) => TextName::Log,
+            Task::Complete(_) | Task::CompleteRun(..) | Task::DrawRun(..) => TextName::Log,
             _ => TextName::History,
         }
     }

@@ -6,26 +6,28 @@ ghost use Rattle.clap.specs.Words.{AddsArg, AddsSubcommand, App, app_of, first_o
 ghost use Rattle.clap.specs.Words.{subcommand_rows_of};
 ghost use Rattle.clap.specs.declared.builder.value_parser.ValueParser.TheVariants.{Signed};
 ghost use Rattle.monk_samples.specs.Samples.{IsInRange};
-ghost use Rattle.monk_commands.specs.Request.{AreRunValues, IsAsked, IsCompleteCommand, IsExplainCommand};
+ghost use Rattle.monk_commands.specs.Request.{AreRunValues, IsAsked, IsCompleteCommand, IsDrawCommand};
+ghost use Rattle.monk_commands.specs.Request.{IsExplainCommand};
 ghost use Rattle.monk_commands.specs.Request.{IsFitCommand, IsJudgingCommand};
 ghost use Rattle.monk_commands.specs.Request.{IsMonk, IsOwnApp, IsPlainMonk, IsRead, IsRunCommand, IsSubcommand};
 ghost use Rattle.monk_commands.specs.Request.{bare_app, classify_app, file_app, priority, required_rule, sample_word};
-ghost use Rattle.monk_commands.specs.Request.{run_order_word, window_app};
+ghost use Rattle.monk_commands.specs.Request.{window_app};
 
 use crate::arguments::{chosen, file, files, flag, number, repeated, required};
 use crate::file_words::file_of;
+use crate::draw_words::line_to_draw;
 use crate::fit_words::{line_to_explain, line_to_fit};
 use crate::help::{
-    AUDIT, CLASSIFY, COMPLETE, DRAW, EXPLAIN, FIT, FROM, Help, LAPSES, MEANS, ONE_KIND, ORDER,
+    AUDIT, CLASSIFY, COMPLETE, DRAW, DRAWN_KIND, DRAWN_ORDER, EXPLAIN, FIT, FROM, Help, LAPSES, MEANS, ONE_KIND, ORDER,
     PAGE, PLAY, PRIORITY, RECORD, RUN, TO, TRACE, UPGRADE,
 };
+use crate::order_words::order_of;
 use crate::request::{Line, LineFault};
 use crate::window_words::window_of;
 use clap::builder::ValueParser;
 use clap::error::ErrorKind;
 use clap::{Arg, ArgMatches, Command, value_parser};
 use monk_kinds::KindName;
-use monk_logs::RunOrder;
 use monk_object::ObjectName;
 use monk_samples::Sample;
 use std::alloc::{AllocError, Global};
@@ -44,6 +46,8 @@ fn command<'a>(alloc: Global) -> Result<Command<'a>, AllocError>
     ensures { IfOk result (λ c. IsMonk (app_of c)) }
 {
     let program = adding(plain(alloc), explaining(alloc));
+    let program = adding(program, drawing(alloc));
+    let program = adding(program, with_window(alloc, "page", &PAGE));
     let program = adding(program, completing(alloc));
     let program = adding(program, running(alloc, "run", &RUN));
     adding(program, running(alloc, "record", &RECORD))
@@ -58,9 +62,7 @@ fn plain<'a>(alloc: Global) -> Result<Command<'a>, AllocError>
     let program = adding(program, with_file(alloc, "play", &PLAY));
     let program = adding(program, with_file(alloc, "upgrade", &UPGRADE));
     let program = adding(program, fitting(alloc));
-    let program = adding(program, with_file(alloc, "trace", &TRACE));
-    let program = adding(program, showing(alloc, "draw", &DRAW));
-    adding(program, showing(alloc, "page", &PAGE))
+    adding(program, with_file(alloc, "trace", &TRACE))
 }
 
 /// The program without commands.
@@ -148,10 +150,24 @@ fn explaining<'a>(alloc: Global) -> Result<Command<'a>, AllocError>
 }
 
 /// A command that shows some events of a file, or of standard input where none is named.
-fn showing<'a>(alloc: Global, name: &'a str, help: &Help) -> Result<Command<'a>, AllocError>
+fn with_window<'a>(alloc: Global, name: &'a str, help: &Help) -> Result<Command<'a>, AllocError>
     ensures { IfOk result (λ c. IsSubcommand c (window_app name.entry.now)) }
 {
     let command = described(alloc, name, help).arg(number(alloc, "from", FROM));
+    let command = taking(command, number(alloc, "to", TO));
+    taking(command, file(alloc))
+}
+
+/// The command that draws some events of a history, or of a run of that kind in that order that tells a log.
+fn drawing<'a>(alloc: Global) -> Result<Command<'a>, AllocError>
+    ensures { IfOk result IsDrawCommand }
+{
+    let kinds = ValueParser::Names(KINDS.as_slice());
+    let orders = ValueParser::Names(ORDERS.as_slice());
+    let kind = chosen(alloc, "kind", DRAWN_KIND, "KIND", kinds);
+    let command = described(alloc, "draw", &DRAW).arg(kind);
+    let command = taking(command, chosen(alloc, "order", DRAWN_ORDER, "ORDER", orders));
+    let command = taking(command, number(alloc, "from", FROM));
     let command = taking(command, number(alloc, "to", TO));
     taking(command, file(alloc))
 }
@@ -233,33 +249,6 @@ fn kind_of(matches: &ArgMatches<'_>) -> Option<KindName>
     KindName::of_text(matches.get_str("KIND")?.as_bytes())
 }
 
-fn run_order(word: &str) -> Option<RunOrder>
-    ensures { IfSome result (λ order. word.now ≡ run_order_word order) }
-{
-    if word == "wake" {
-        return Some(RunOrder::Wake);
-    }
-    if word == "any" {
-        return Some(RunOrder::Any);
-    }
-    None
-}
-
-/// The order in which to look for a run, if one is named.
-fn order_of(alloc: Global, matches: &ArgMatches<'_>) -> Result<Option<RunOrder>, LineFault>
-    ensures { IfOk result
-        (λ order. first_of (codes "order") (rows_of (found_of matches.now)) ≡ option_map run_order_word order) }
-{
-    let Some(word) = matches.get_str("order") else {
-        return Ok(None);
-    };
-    match run_order(word) {
-        Some(order) => Ok(Some(order)),
-        // clap lets no other word through.
-        None => Err(LineFault::Words(String::new(alloc))),
-    }
-}
-
 fn sample_of(name: &str) -> Option<Sample>
     ensures { IfSome result (λ sample. name.now ≡ sample_word sample) }
 {
@@ -288,14 +277,6 @@ fn run_of(matches: &ArgMatches<'_>) -> Option<(KindName, Sample, u8, u32)>
         return None;
     }
     Some((kind, sample, seats, rounds))
-}
-
-fn line_to_draw(alloc: Global, matches: &ArgMatches<'_>) -> Result<Line, LineFault>
-    ensures { IfOk result (λ l. IsRead (codes "draw") l (rows_of (found_of matches.now))) }
-{
-    let file = file_of(alloc, matches)?;
-    let window = window_of(alloc, matches)?;
-    Ok(Line::Draw(file, window))
 }
 
 fn line_to_page(alloc: Global, matches: &ArgMatches<'_>) -> Result<Line, LineFault>

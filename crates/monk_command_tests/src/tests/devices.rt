@@ -2,7 +2,7 @@
 ghost use Rattle.std.specs.Prelude.{◌<◌};
 
 use super::jobs::{Expected, Job};
-use monk_commands::{Show, StreamFault, Task, classify_stream, run_stream, show_stream};
+use monk_commands::{StreamFault, Task, classify_stream, run_stream};
 use monk_history::Device;
 use monk_kinds::KindName;
 use monk_logs::{Lapses, RunOrder};
@@ -100,7 +100,7 @@ static JOBS: [Job<'static>; 14] = [
         answer: b"monk 2 NPB 2 1 buffer 1\nenter 0 free\nwait 0 0 entry\nenter 1 handed\nsignal 1 0 waiter 0\nresume 0 waiter\nleave 0 signaller 1\nresume 1 signaller\n",
     },
     Job {
-        name: "completed to a run",
+        name: "run completed",
         task: Task::CompleteRun(KindName::Npnb, RunOrder::Any),
         input: b"log 1 2 1 buffer 1\nenter 0\nwait 0 0\nenter 1\nsignal 1 0\nleave 1\nresume 0\n",
         status: 0,
@@ -255,37 +255,48 @@ fn writes_fail_in_turn(rt: HostRuntime) -> Result<(), Fail> {
     all_writes_fail(rt.alloc(), &JOBS)
 }
 
-/// A text of which a picture of some 4000 bytes is drawn.
-const DRAWN: &[u8] = b"monk 1 PB 1 0 buffer 1\nenter 0 free\nleave 0 entry\n";
+/// Texts of which pictures of some 4000 bytes are drawn.
+static DRAWN: [(Task<'static>, &[u8]); 2] = [
+    (
+        Task::Draw(None),
+        b"monk 1 PB 1 0 buffer 1\nenter 0 free\nleave 0 entry\n",
+    ),
+    (
+        Task::DrawRun(KindName::Npnb, RunOrder::Wake, None),
+        b"log 1 1 0 buffer 1\nenter 0\nleave 0\n",
+    ),
+];
 
 /// Whether each read and write of this picture fails in turn.
-fn picture_fails(alloc: Global, status: u8, answer: &[u8]) -> bool {
-    let job = Job {
-        name: "drawn",
-        task: Task::Draw(None),
-        input: DRAWN,
-        status,
-        answer,
-    };
-    reads_fail(alloc, &job, 64)
-        && reads_fail(alloc, &job, 4096)
-        && writes_fail(alloc, &job, 64)
-        && writes_fail(alloc, &job, 4096)
+fn picture_fails(alloc: Global, job: &Job<'_>) -> bool {
+    reads_fail(alloc, job, 64)
+        && reads_fail(alloc, job, 4096)
+        && writes_fail(alloc, job, 64)
+        && writes_fail(alloc, job, 4096)
 }
 
-/// What the bytes of the picture are, a first one tells.
+/// Whether the picture of the text does. What its bytes are, a first one tells.
+fn drawing_fails(alloc: Global, task: Task<'static>, input: &[u8]) -> bool {
+    let mut page = Vec::new(alloc);
+    let told = task.stream(alloc, &mut Device::new(input), &mut Device::new(&mut page));
+    let Ok(status) = told else {
+        return false;
+    };
+    let job = Job {
+        name: "drawn",
+        task,
+        input,
+        status,
+        answer: &page,
+    };
+    picture_fails(alloc, &job)
+}
+
 #[test]
 fn pictures_fail_in_turn(rt: HostRuntime) {
-    let alloc = rt.alloc();
-    let mut page = Vec::new(alloc);
-    let told = show_stream(
-        alloc,
-        Show::Picture,
-        None,
-        &mut Device::new(DRAWN),
-        &mut Device::new(&mut page),
-    );
-    assert!(rt; matches!(told, Ok(status) if picture_fails(alloc, status, &page)));
+    for (task, input) in DRAWN.iter() {
+        assert!(rt; drawing_fails(rt.alloc(), *task, input));
+    }
 }
 
 /// Whether the file fault is told where a writer never takes a byte.

@@ -8,11 +8,11 @@ use std::test::Fail;
 
 /// A text that is to be drawn, how many marks its picture has, and what is written in it.
 #[derive(Clone, Copy)]
-struct Drawing<'a> {
-    input: &'a [u8],
-    marks: usize,
-    says: &'static str,
-    status: u8,
+pub(super) struct Drawing<'a> {
+    pub(super) input: &'a [u8],
+    pub(super) marks: usize,
+    pub(super) says: &'static str,
+    pub(super) status: u8,
 }
 
 static DRAWINGS: [Drawing<'static>; 18] = [
@@ -128,7 +128,7 @@ static DRAWINGS: [Drawing<'static>; 18] = [
 ];
 
 /// Whether what was written is a picture where there is one, with these marks and words.
-fn shows(page: &str, drawing: &Drawing<'_>) -> bool {
+pub(super) fn shows(page: &str, drawing: &Drawing<'_>) -> bool {
     let is_picture = page.starts_with("<svg xmlns=") && page.ends_with("</svg>\n");
     // So many pieces lie between the marks.
     let pieces = page.split("<g class=\"mark\"").count();

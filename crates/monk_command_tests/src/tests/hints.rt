@@ -37,9 +37,14 @@ static HINTS: [Row; 18] = [
         "this is a play: give it to monk play or trace",
     ),
     (
+        Task::DrawRun(KindName::Pb, RunOrder::Any, None),
+        b"monk 1 PB 2 0 buffer 1\n",
+        "this is a history: give it to monk audit, explain, draw, page, fit or upgrade",
+    ),
+    (
         Task::Trace,
         b"log 1 2 0 buffer 1\n",
-        "this is a log: give it to monk fit, complete or explain --kind",
+        "this is a log: give it to monk fit, complete, explain --kind or draw --kind",
     ),
     (
         Task::Complete(KindName::Pb),

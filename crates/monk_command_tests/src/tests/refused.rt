@@ -7,7 +7,7 @@ mod streams;
 
 use super::jobs::is_answered;
 use std::test::Fail;
-use streams::{JOBS, is_drawn};
+use streams::{JOBS, PICTURES, is_drawn};
 
 /// Names the call that is made next, so that it can be seen in which one a request was refused.
 fn begins(rt: &HostRuntime, call: &str) -> Result<(), Fail> {
@@ -23,8 +23,10 @@ fn each_call(rt: HostRuntime) -> Result<(), Fail> {
         begins(&rt, job.name)?;
         assert!(rt; is_answered(&rt, job)?);
     }
-    begins(&rt, "drawn")?;
-    assert!(rt; is_drawn(&rt)?);
+    for picture in PICTURES.iter() {
+        begins(&rt, picture.name)?;
+        assert!(rt; is_drawn(&rt, picture)?);
+    }
     assert!(rt; steps::steps(&rt)?);
     assert!(rt; pages::page_of_four(&rt)?);
     Ok(())

@@ -104,7 +104,7 @@ static ASKING: [Asking; 30] = [
 ];
 
 /// The same of logs that are completed, and of runs.
-static ASKING_FOR_MORE: [Asking; 27] = [
+static ASKING_FOR_MORE: [Asking; 29] = [
     (&["monk", "complete", "PB"], "Complete(Pb, None)"),
     (&["monk", "complete", "NPB"], "Complete(Npb, None)"),
     (&["monk", "complete", "PNB"], "Complete(Pnb, None)"),
@@ -118,6 +118,16 @@ static ASKING_FOR_MORE: [Asking; 27] = [
     (
         &["monk", "complete", "NPIR", "x.log"],
         "Complete(Npir, Some(\"x.log\"))",
+    ),
+    (
+        &["monk", "draw", "--kind", "NPNB"],
+        "DrawRun(Npnb, Any, None, None)",
+    ),
+    (
+        &[
+            "monk", "draw", "x.log", "--order=wake", "--from", "7", "--to", "8", "--kind", "PB",
+        ],
+        "DrawRun(Pb, Wake, Some(\"x.log\"), Some(Window { from: 7, to: 8 }))",
     ),
     (
         &["monk", "complete", "--order", "any", "NPNB"],
@@ -221,7 +231,7 @@ fn is_refused(alloc: Global, words: &[&str]) -> bool {
 
 /// Words that ask for nothing; of a picture also numbers of no events, of a run a number out of
 /// range, and another kind or sample.
-static NOTHING: [&[&str]; 56] = [
+static NOTHING: [&[&str]; 59] = [
     &["monk", "adit"],
     &["monk", "help"],
     &["monk", "--help"],
@@ -254,6 +264,9 @@ static NOTHING: [&[&str]; 56] = [
     &["monk", "fit", "--means", "1"],
     &["monk", "fit", "--means", "0=256"],
     &["monk", "fit", "--lapses", "--lapses"],
+    &["monk", "draw", "--order", "any"],
+    &["monk", "draw", "--kind", "NPNB", "--order", "fifo"],
+    &["monk", "draw", "--kind", "NPNB", "--kind", "PB"],
     &["monk", "complete"],
     &["monk", "complete", "x.log"],
     &["monk", "complete", "PB", "a", "b"],

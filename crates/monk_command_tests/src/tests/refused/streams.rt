@@ -168,7 +168,7 @@ pub(super) static JOBS: [Job<'static>; 25] = [
         answer: b"monk 2 PB 2 1 buffer 1\nenter 0 free\nwait 0 0 entry\nenter 1 handed\nsignal 1 0 waiter 0\nresume 0 waiter\nleave 0 signaller 1\nresume 1 signaller\n",
     },
     Job {
-        name: "completed to a run",
+        name: "run_completed",
         task: Task::CompleteRun(KindName::Npnb, RunOrder::Any),
         input: b"log 1 2 1 buffer 1\nenter 0\nwait 0 0\nenter 1\nsignal 1 0\nleave 1\nresume 0\n",
         status: 0,
@@ -190,15 +190,48 @@ pub(super) static JOBS: [Job<'static>; 25] = [
     },
 ];
 
-/// Whether a drawing of three events, the last of which is forbidden, was written, or a fault with nothing written.
-pub(super) fn is_drawn(rt: &HostRuntime) -> Result<bool, StreamFault> {
-    let input: &[u8] = b"monk 1 PB 2 1 buffer 1\nenter 0 free\nwait 0 0 entry\nenter 0 free\n";
+/// A text that is drawn, and the status.
+pub(super) struct Picture<'a> {
+    pub(super) name: &'static str,
+    task: Task<'a>,
+    input: &'a [u8],
+    status: u8,
+}
+
+/// By the names that `checks/fail_alloc` knows them by.
+pub(super) static PICTURES: [Picture<'static>; 3] = [
+    Picture {
+        name: "drawn",
+        task: Task::Draw(None),
+        input: b"monk 1 PB 2 1 buffer 1\nenter 0 free\nwait 0 0 entry\nenter 0 free\n",
+        status: 1,
+    },
+    Picture {
+        name: "run_drawn",
+        task: Task::DrawRun(KindName::Npnb, RunOrder::Any, None),
+        input: b"log 1 2 1 buffer 1\nenter 0\nwait 0 0\nenter 1\nsignal 1 0\nleave 1\nresume 0\n",
+        status: 0,
+    },
+    Picture {
+        name: "run_drawn_misfit",
+        task: Task::DrawRun(KindName::Npnb, RunOrder::Any, None),
+        input: b"log 1 2 1 buffer 1\nenter 0\nwait 0 0\nsignal 1 0\nenter 0\n",
+        status: 1,
+    },
+];
+
+/// Whether a picture was written, or a fault with nothing written.
+pub(super) fn is_drawn(rt: &HostRuntime, drawn: &Picture<'_>) -> Result<bool, StreamFault> {
     let front: &[u8] = b"<svg ";
     let mut picture = Expected::new(front);
-    let mut reader = Device::new(input);
-    let told = Task::Draw(None).stream(rt.alloc(), &mut reader, &mut Device::new(&mut picture));
+    let mut reader = Device::new(drawn.input);
+    let told = drawn
+        .task
+        .stream(rt.alloc(), &mut reader, &mut Device::new(&mut picture));
     match told {
-        Ok(status) => Ok(status == 1 && picture.agrees() && picture.taken > front.len()),
+        Ok(status) => {
+            Ok(status == drawn.status && picture.agrees() && picture.taken > front.len())
+        }
         Err(fault) if picture.taken == 0 => Err(fault),
         Err(_) => Ok(false),
     }

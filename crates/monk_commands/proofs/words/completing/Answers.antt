@@ -2,19 +2,19 @@ use Rattle.std.proofs.Common.{rules, codes}
 use Rattle.std.proofs.lemmas.Result.{IfOk-weaker}
 use Rattle.clap.specs.Words.{App, new_app, new_rule, with_rule}
 use Rattle.clap.specs.declared.builder.value_parser.ValueParser.TheVariants.{Names}
-use Rattle.monk_commands.specs.Request.{CompleteNames, IsCompleteCommand, IsOwnApp, chosen_rule, complete_app, required_rule}
+use Rattle.monk_commands.specs.Request.{RunChoices, IsCompleteCommand, IsOwnApp, chosen_rule, complete_app, required_rule}
 use Rattle.monk_commands.proofs.Programs.{first_taken, next_taken, own_subcommand}
 use Rattle.monk_commands.proofs.words.completing.Goals as goal
 
-abbrev one : CompleteNames → App
+abbrev one : RunChoices → App
 one n = with_rule (new_app (codes "complete")) (required_rule (codes "KIND") (Names n.kinds))
 
-abbrev two : CompleteNames → App
+abbrev two : RunChoices → App
 two n = with_rule (one n) (chosen_rule (codes "order") (Names n.orders))
 
 pub returns : goal.returns
 returns c =
-    let names : CompleteNames = record {
+    let names : RunChoices = record {
       kinds = c.as_slice.result;
       orders = c.as_slice-2.result;
       all_kinds = search rules;

@@ -2,7 +2,6 @@ use Rattle.std.proofs.Common.{codes}
 use Rattle.std.proofs.lemmas.Result.{IfOk-weaker}
 use Rattle.clap.specs.Words.{App, with_subcommand}
 use Rattle.monk_commands.specs.Request.{IsPlainMonk, KindNames, bare_app, classify_app, file_app, fit_app, plain_app}
-use Rattle.monk_commands.specs.Request.{window_app}
 use Rattle.monk_commands.proofs.Programs.{HasNames, with_fit, with_more, with_one}
 use Rattle.monk_commands.proofs.words.plain.Goals as goal
 
@@ -21,12 +20,6 @@ upgrade = with_subcommand play (file_app (codes "upgrade")).top
 abbrev fit : KindNames → App
 fit n = with_subcommand upgrade (fit_app n).top
 
-abbrev trace : KindNames → App
-trace n = with_subcommand (fit n) (file_app (codes "trace")).top
-
-abbrev draw : KindNames → App
-draw n = with_subcommand (trace n) (window_app (codes "draw")).top
-
 pub returns : goal.returns
 returns c =
     let to_classify = with_one bare_app classify_app c.bare.result c.classify.result c.adding-program.result
@@ -44,13 +37,7 @@ returns c =
     let to_fit = with_fit upgrade c.adding-program-4.result c.fitting.result c.adding-program-5.result to_upgrade
     c.fitting.ensures c.adding-program-5.ensures in
     let to_trace = with_more fit (file_app (codes "trace")) c.adding-program-5.result c.with_file-4.result
-    c.adding-program-6.result to_fit
-    c.with_file-4.ensures c.adding-program-6.ensures in
-    let to_draw = with_more trace (window_app (codes "draw")) c.adding-program-6.result c.showing.result
-    c.adding-program-7.result to_trace
-    c.showing.ensures c.adding-program-7.ensures in
-    let to_page = with_more draw (window_app (codes "page")) c.adding-program-7.result c.showing-2.result
-    c.adding.result to_draw
-    c.showing-2.ensures c.adding.ensures in
+    c.adding.result to_fit
+    c.with_file-4.ensures c.adding.ensures in
     IfOk-weaker c.adding.result (HasNames plain_app) IsPlainMonk (λ r h. record { fitted = h.names; is = h.is })
-    to_page
+    to_trace

@@ -3,7 +3,7 @@ use Rattle.std.proofs.lemmas.Result.{IfOk-weaker}
 use Rattle.clap.specs.Words.{App, Text, new_app, new_rule, with_rule}
 use Rattle.monk_commands.specs.Request.{IsOwnApp, IsSubcommand, number_rule, window_app}
 use Rattle.monk_commands.proofs.Programs.{first_taken, next_taken, own_subcommand}
-use Rattle.monk_commands.proofs.words.showing.Goals as goal
+use Rattle.monk_commands.proofs.words.with_window.Goals as goal
 
 abbrev one : Text → App
 one name = with_rule (new_app name) (number_rule (codes "from"))

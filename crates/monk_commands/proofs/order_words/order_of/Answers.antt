@@ -1,7 +1,7 @@
 use Rattle.std.proofs.Common.{◌∙◌, ap, sym, Some, List, ℕ, codes}
 use Rattle.clap.specs.Words.{found_of}
 use Rattle.clap.proofs.WalkLemmas.{first_value-rows}
-use Rattle.monk_commands.proofs.words.order_of.Goals as goal
+use Rattle.monk_commands.proofs.order_words.order_of.Goals as goal
 
 pub returns-in_default : goal.returns-in_default
 returns-in_default c =

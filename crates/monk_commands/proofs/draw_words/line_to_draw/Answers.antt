@@ -1,7 +1,7 @@
 use Rattle.std.proofs.Common.{◌∙◌, refl, sym, codes}
 use Rattle.clap.specs.Words.{found_of}
 use Rattle.clap.proofs.WalkLemmas.{first_value-rows}
-use Rattle.monk_commands.proofs.words.line_to_draw.Goals as goal
+use Rattle.monk_commands.proofs.draw_words.line_to_draw.Goals as goal
 
 pub returns : goal.returns
 returns c =
