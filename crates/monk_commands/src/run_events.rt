@@ -66,20 +66,21 @@ fn put_untold(events: &mut Vec<Event>, left: Pending) -> Result<(), AllocError>
     ensures { OnOk result (events.new.items ≡ events.old.items ++ drawn.untold_events left) }
 {
     match left {
-        Pending::Settled => Ok(()),
-        Pending::Half(seat, cond) => events.push(Event::Signal(seat, cond, Next::Stay)),
-        Pending::Release(event) => events.push(untold_release(event)),
+        Pending::Settled => {}
+        Pending::Half(seat, cond) => events.push(Event::Signal(seat, cond, Next::Stay))?,
+        Pending::Release(event) => events.push(untold_release(event))?,
     }
+    Ok(())
 }
 
 /// Puts the line that misfits behind the events.
 fn put_wrong(events: &mut Vec<Event>, wrong: Option<LogLine>) -> Result<(), AllocError>
     ensures { OnOk result (events.new.items ≡ events.old.items ++ drawn.wrong_events wrong) }
 {
-    match wrong {
-        Some(line) => events.push(line_event(line)),
-        None => Ok(()),
+    if let Some(line) = wrong {
+        events.push(line_event(line))?;
     }
+    Ok(())
 }
 
 /// The events of a run, of what is left to be known where it ends, and of the line that misfits.

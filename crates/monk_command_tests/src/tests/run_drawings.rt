@@ -22,7 +22,7 @@ static DRAWINGS: [RunDrawing; 14] = [
         Drawing {
             input: LAST_SERVED,
             marks: 8,
-            says: "<rect class=\"waiter\" x=\"502\" y=\"@1\" width=\"152\" height=\"18\" rx=\"4\"/>\n",
+            says: "<rect class=\"waiter\" x=\"502\" y=\"160\" width=\"152\" height=\"18\" rx=\"4\"/>\n",
             status: 0,
         },
     ),
@@ -33,7 +33,7 @@ static DRAWINGS: [RunDrawing; 14] = [
         Drawing {
             input: LAST_SERVED,
             marks: 8,
-            says: "<rect class=\"condition\" x=\"198\" y=\"@0\" width=\"@w\" height=\"18\" rx=\"4\"/>\n",
+            says: "<rect class=\"condition\" x=\"198\" y=\"98\" width=\"510\" height=\"18\" rx=\"4\"/>\n",
             status: 0,
         },
     ),
@@ -77,7 +77,7 @@ static DRAWINGS: [RunDrawing; 14] = [
         Drawing {
             input: b"log 1 3 1 shop 2\nenter 0\nwait 0 0\nenter 1\nwait 1 0\nenter 2\nbroadcast 2 0\nleave 2\nresume 1\n",
             marks: 8,
-            says: "<rect class=\"waiter\" x=\"502\" y=\"@0\" width=\"@v\" height=\"18\" rx=\"4\"/>\n",
+            says: "<rect class=\"waiter\" x=\"502\" y=\"98\" width=\"206\" height=\"18\" rx=\"4\"/>\n",
             status: 0,
         },
     ),
