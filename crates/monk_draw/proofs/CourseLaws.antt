@@ -2,19 +2,16 @@
 use Rattle.std.proofs.Common.{◌≡◌, ℕ, ◌+◌, ◌<◌, ◌≤◌, zero, suc, List, [], ◌∷◌, ◌++◌, length, take, get_or, refl, sym, ap, subst, ◌∙◌}
 use Rattle.std.proofs.Common.{append_assoc, arith, add-one, Option, Some, true, if◌then◌else◌}
 use Rattle.std.specs.Prelude.{slice_get, slice_set}
-use Rattle.std.proofs.lemmas.List.{append-nil, take_more}
+use Rattle.std.proofs.lemmas.List.{append-nil, length-append, length-take-le, take_more}
 use Rattle.monk_history.specs.declared.event.Event.{Event}
 use Rattle.monk_draw.specs.Hand.{handed, handed_by}
 use Rattle.monk_draw.specs.Layout.{column_at, left_edge}
-use Rattle.monk_draw.specs.Seats.{AreAfter, moved, place_in, stay_in}
-use Rattle.monk_draw.specs.Stand.{place_after}
+use Rattle.monk_draw.specs.Seats.{moved, stay_in}
 use Rattle.monk_draw.specs.Stretches.{ended, ended_before, ended_below, entry_stretches, last_below, place_at, start}
 use Rattle.monk_draw.specs.Stretches.{same_place, stay_at, stretch_to, stretches}
 use Rattle.monk_draw.specs.declared.place.SeatPlace.{SeatPlace}
-use Rattle.monk_draw.specs.declared.seats.DrawnSeats.{DrawnSeats}
 use Rattle.monk_draw.specs.declared.stay.Stay.{Stay}
 use Rattle.monk_draw.specs.declared.stretch.Stretch.{Stretch}
-use Rattle.monk_draw.proofs.SeatLaws.{place_is}
 
 -- those that end are the same, where the seats below that number stay and stand the same
 pub ended_same : (stays others : ℕ → Stay) (places theirs : ℕ → SeatPlace) (x n : ℕ)
@@ -37,20 +34,24 @@ last_same stays others end (suc n) stay =
     (last_same stays others end n (λ s below. stay s (omega (arith, below))))
     ∙ ap (λ (one : Stay). last_below others end n ++ stretch_to n one end ∷ []) (stay n (omega arith))
 
+-- where each seat stands after some events
+abbrev pub Places : Type 0
+Places = List Event → ℕ → SeatPlace
+
 -- how a seat stays after one event more
-pub stay_more : (past es : List Event) (column s : ℕ)
-    → moved (stay_at past es column s) (place_at past es (suc column) s) (column_at column)
-    ≡ stay_at past es (suc column) s
+pub stay_more : (place : Places) (past es : List Event) (column s : ℕ)
+    → moved (stay_at place past es column s) (place_at place past es (suc column) s) (column_at column)
+    ≡ stay_at place past es (suc column) s
 unfolding start
-stay_more past es column s = refl
+stay_more place past es column s = refl
 
 -- and before the first
-pub stay_first : (past es : List Event) (seats : DrawnSeats) (s : ℕ) → AreAfter past seats
-    → record { place = place_in seats s; from = left_edge } ≡ stay_at past es 0 s
+pub stay_first : (place : Places) (past es : List Event) (now : ℕ → SeatPlace) (s : ℕ) → now s ≡ place past s
+    → record { place = now s; from = left_edge } ≡ stay_at place past es 0 s
 unfolding start
-stay_first past es seats s are =
+stay_first place past es now s is =
     ap (λ (p : SeatPlace). record { place = p; from = left_edge })
-    (place_is past seats s are ∙ ap (λ (h : List Event). place_after h s) (sym (append-nil past)))
+    (is ∙ ap (λ (h : List Event). place h s) (sym (append-nil past)))
 
 -- the events so far and one more
 pub one_more : (past es : List Event) (column : ℕ) (d : Event) → column < length es
@@ -111,21 +112,22 @@ last_more stays end k stay is =
     ∙ ap (λ n. last_below stays end n) (sym (add-one k))
 
 -- those of one column more
-pub column_more : (seats : ℕ) (past es : List Event) (column : ℕ) (e : Event) (here : List Stretch)
+pub column_more : (place : Places) (seats : ℕ) (past es : List Event) (column : ℕ) (e : Event) (here : List Stretch)
     → slice_get es column ≡ Some e
-    → here ≡ ended_below (stay_at past es column) (place_at past es (suc column)) (column_at column) seats
-    → (ended_before seats past es column ++ entry_stretches seats (column_at column) (handed_by e)) ++ here
-    ≡ ended_before seats past es (column + 1)
+    → here ≡ ended_below (stay_at place past es column) (place_at place past es (suc column)) (column_at column) seats
+    → (ended_before place seats past es column ++ entry_stretches seats (column_at column) (handed_by e)) ++ here
+    ≡ ended_before place seats past es (column + 1)
 unfolding ended_before
-column_more seats past es column e here at is =
-    append_assoc (ended_before seats past es column) (entry_stretches seats (column_at column) (handed_by e)) here
-    ∙ (ap (λ (l : List Stretch). ended_before seats past es column
+column_more place seats past es column e here at is =
+    append_assoc (ended_before place seats past es column) (entry_stretches seats (column_at column) (handed_by e)) here
+    ∙ (ap (λ (l : List Stretch). ended_before place seats past es column
     ++ (entry_stretches seats (column_at column) (handed_by e) ++ l))
     is
-    ∙ (ap (λ (o : Option Event). ended_before seats past es column
+    ∙ (ap (λ (o : Option Event). ended_before place seats past es column
     ++ (entry_stretches seats (column_at column) (handed o)
-    ++ ended_below (stay_at past es column) (place_at past es (suc column)) (column_at column) seats)) (sym at)
-    ∙ ap (λ n. ended_before seats past es n) (sym (add-one column))))
+    ++ ended_below (stay_at place past es column) (place_at place past es (suc column)) (column_at column) seats))
+    (sym at)
+    ∙ ap (λ n. ended_before place seats past es n) (sym (add-one column))))
 
 -- the one that is read is the one that is kept
 pub kept_at : (xs : List Stay) (i : ℕ) (y : Stay) → i < length xs → y ≡ get_or xs i y → y ≡ stay_in xs i
@@ -140,56 +142,64 @@ event_at (e ∷ es) (suc i) d below = event_at es i d (omega (arith, below))
 
 -- ---- one event more, by what is kept
 
-pub after_event : (past es : List Event) (column : ℕ) (d : Event) (seats : DrawnSeats) → column < length es
-    → AreAfter ((past ++ take column es) ++ get_or es column d ∷ []) seats
-    → AreAfter (past ++ take (column + 1) es) seats
-after_event past es column d seats below are =
-    subst (λ (h : List Event). AreAfter h seats)
-    (one_more past es column d below ∙ ap (λ n. past ++ take n es) (sym (add-one column))) are
+-- how many events there are so far
+pub length_so_far : (past es : List Event) (column n : ℕ) → column < length es → n ≡ length past
+    → n + column ≡ length (past ++ take column es)
+length_so_far past es column n below is =
+    let taken = length-take-le column es (omega (arith, below)) in
+    ap (λ k. k + column) is ∙ sym (length-append past (take column es) ∙ ap (λ k. length past + k) taken)
+
+-- those so far and one more
+pub so_far : (past es : List Event) (column : ℕ) (d : Event) → column < length es
+    → (past ++ take column es) ++ get_or es column d ∷ [] ≡ past ++ take (column + 1) es
+so_far past es column d below =
+    one_more past es column d below ∙ ap (λ n. past ++ take n es) (sym (add-one column))
 
 -- where a seat stands by it
-stands_at : (past es : List Event) (column : ℕ) (seats : DrawnSeats) (s : ℕ)
-    → AreAfter (past ++ take (column + 1) es) seats
-    → place_in seats s ≡ place_at past es (suc column) s
-stands_at past es column seats s are =
-    place_is (past ++ take (column + 1) es) seats s are
-    ∙ ap (λ n. place_after (past ++ take n es) s) (add-one column)
+stands_at : (place : Places) (past es : List Event) (column : ℕ) (now : ℕ → SeatPlace) (s : ℕ)
+    → ((j : ℕ) → now j ≡ place (past ++ take (column + 1) es) j)
+    → now s ≡ place_at place past es (suc column) s
+stands_at place past es column now s tells =
+    tells s ∙ ap (λ n. place (past ++ take n es) s) (add-one column)
 
 -- the stretches
-pub drawn_more : (seats : ℕ) (past es : List Event) (column : ℕ) (d : Event) (stays : List Stay) (now : DrawnSeats)
-    (x : ℕ)
-    → column < length es → x ≡ column_at column → AreAfter (past ++ take (column + 1) es) now
-    → ((s : ℕ) → s < seats → stay_in stays s ≡ stay_at past es column s)
-    → (ended_before seats past es column ++ entry_stretches seats x (handed_by (get_or es column d)))
-    ++ ended_below (stay_in stays) (place_in now) x seats ≡ ended_before seats past es (column + 1)
-drawn_more seats past es column d stays now x below at are stay =
-    ap (λ n. (ended_before seats past es column ++ entry_stretches seats n (handed_by (get_or es column d)))
-    ++ ended_below (stay_in stays) (place_in now) n seats) at
-    ∙ column_more seats past es column (get_or es column d)
-    (ended_below (stay_in stays) (place_in now) (column_at column) seats)
+pub drawn_more : (place : Places) (seats : ℕ) (past es : List Event) (column : ℕ) (d : Event) (stays : List Stay)
+    (now : ℕ → SeatPlace) (x : ℕ)
+    → column < length es → x ≡ column_at column → ((s : ℕ) → now s ≡ place (past ++ take (column + 1) es) s)
+    → ((s : ℕ) → s < seats → stay_in stays s ≡ stay_at place past es column s)
+    → (ended_before place seats past es column ++ entry_stretches seats x (handed_by (get_or es column d)))
+    ++ ended_below (stay_in stays) now x seats ≡ ended_before place seats past es (column + 1)
+drawn_more place seats past es column d stays now x below at tells stay =
+    ap (λ n. (ended_before place seats past es column ++ entry_stretches seats n (handed_by (get_or es column d)))
+    ++ ended_below (stay_in stays) now n seats) at
+    ∙ column_more place seats past es column (get_or es column d)
+    (ended_below (stay_in stays) now (column_at column) seats)
     (event_at es column d below)
-    (ended_same (stay_in stays) (stay_at past es column) (place_in now) (place_at past es (suc column))
+    (ended_same (stay_in stays) (stay_at place past es column) now (place_at place past es (suc column))
     (column_at column) seats
-    stay (λ s. stands_at past es column now s are))
+    stay (λ s. stands_at place past es column now s tells))
 
 -- and how the seats stay then
-pub stays_more : (past es : List Event) (column s : ℕ) (stay : Stay) (now : DrawnSeats) (x : ℕ)
-    → x ≡ column_at column → AreAfter (past ++ take (column + 1) es) now → stay ≡ stay_at past es column s
-    → moved stay (place_in now s) x ≡ stay_at past es (column + 1) s
-stays_more past es column s stay now x at are is =
-    ap (λ (one : Stay). moved one (place_in now s) x) is
-    ∙ (ap (λ (p : SeatPlace). moved (stay_at past es column s) p x) (stands_at past es column now s are)
-    ∙ (ap (λ n. moved (stay_at past es column s) (place_at past es (suc column) s) n) at
-    ∙ (stay_more past es column s ∙ ap (λ n. stay_at past es n s) (sym (add-one column)))))
+pub stays_more : (place : Places) (past es : List Event) (column s : ℕ) (stay : Stay) (now : ℕ → SeatPlace) (x : ℕ)
+    → x ≡ column_at column → ((j : ℕ) → now j ≡ place (past ++ take (column + 1) es) j)
+    → stay ≡ stay_at place past es column s
+    → moved stay (now s) x ≡ stay_at place past es (column + 1) s
+stays_more place past es column s stay now x at tells is =
+    ap (λ (one : Stay). moved one (now s) x) is
+    ∙ (ap (λ (p : SeatPlace). moved (stay_at place past es column s) p x) (stands_at place past es column now s tells)
+    ∙ (ap (λ n. moved (stay_at place past es column s) (place_at place past es (suc column) s) n) at
+    ∙ (stay_more place past es column s ∙ ap (λ n. stay_at place past es n s) (sym (add-one column)))))
 
 -- behind the last event stand those that last to the end
-pub all_drawn : (seats : ℕ) (past es : List Event) (column end : ℕ) (stays : List Stay) → column ≡ length es
-    → ((s : ℕ) → s < seats → stay_in stays s ≡ stay_at past es column s)
-    → ended_before seats past es column ++ last_below (stay_in stays) end seats ≡ stretches seats past es end
-all_drawn seats past es column end stays at stay =
-    ap (λ (l : List Stretch). ended_before seats past es column ++ l)
-    (last_same (stay_in stays) (stay_at past es column) end seats stay)
-    ∙ ap (λ n. ended_before seats past es n ++ last_below (stay_at past es n) end seats) at
+pub all_drawn : (place : Places) (seats : ℕ) (past es : List Event) (column end : ℕ) (stays : List Stay)
+    → column ≡ length es
+    → ((s : ℕ) → s < seats → stay_in stays s ≡ stay_at place past es column s)
+    → ended_before place seats past es column ++ last_below (stay_in stays) end seats
+    ≡ stretches place seats past es end
+all_drawn place seats past es column end stays at stay =
+    ap (λ (l : List Stretch). ended_before place seats past es column ++ l)
+    (last_same (stay_in stays) (stay_at place past es column) end seats stay)
+    ∙ ap (λ n. ended_before place seats past es n ++ last_below (stay_at place past es n) end seats) at
 
 -- a seat that comes to the same place ends no stretch
 pub none_ended : (s : ℕ) (stay : Stay) (place : SeatPlace) (x : ℕ) → same_place stay.place place ≡ true

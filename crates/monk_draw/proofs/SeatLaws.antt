@@ -26,13 +26,36 @@ pub left_more : (b : Bool) (es : List Event) (e : Event)
 left_more true es e = ap left_at (last_put None es e)
 left_more false es e = ap (λ (l : List Event). left_at (last_or None l)) (append-nil es)
 
-put_at : (ps : List SeatPlace) (i : ℕ) (p : SeatPlace) (s : ℕ) → i < length ps
+-- a place that is set
+pub put_at : (ps : List SeatPlace) (i : ℕ) (p : SeatPlace) (s : ℕ) → i < length ps
     → left_in (slice_set ps i p) s ≡ cond (eqb i s) p (left_in ps s)
 put_at [] i p s l = absurd (omega arith)
 put_at (q ∷ qs) zero p zero l = refl
 put_at (q ∷ qs) zero p (suc s) l = rw (eqb-zero-suc s) refl
 put_at (q ∷ qs) (suc i) p zero l = rw (eqb-suc-zero i) refl
 put_at (q ∷ qs) (suc i) p (suc s) l = rw (eqb-suc-suc i s) (put_at qs i p s (omega arith))
+
+-- where a seat stands by what is kept is where it stands
+place_is : (h : List Event) (seats : DrawnSeats)
+    → ((s : ℕ) → left_in seats.left.items s ≡ left_at (last_or None (events_of h s)))
+    → ((c : ℕ) → queue_in seats.queues c ≡ condition c h)
+    → (s : ℕ) → place_in seats s ≡ place_after h s
+unfolding place_after
+place_is h seats lefts queues s =
+    ap (λ (p : SeatPlace). if_served (λ c. has s (queue_in seats.queues c)) p) (lefts s)
+    ∙ ap (λ (q : ℕ → List ℕ). if_served (λ c. has s (q c)) (left_at (last_or None (events_of h s))))
+    (λ i c. queues c i)
+
+all_after : (h : List Event) (seats : DrawnSeats) → IsWhole seats
+    → ((s : ℕ) → left_in seats.left.items s ≡ left_at (last_or None (events_of h s)))
+    → ((c : ℕ) → queue_in seats.queues c ≡ condition c h)
+    → AreAfter h seats
+all_after h seats whole lefts queues = record {
+  whole = whole;
+  lefts = lefts;
+  queues = queues;
+  places = place_is h seats lefts queues;
+}
 
 -- one event more: it leaves its own seat somewhere, and moves the queues
 pub after_more : (h : List Event) (e : Event) (old new : DrawnSeats)
@@ -41,21 +64,18 @@ pub after_more : (h : List Event) (e : Event) (old new : DrawnSeats)
     → ((c : ℕ) → queue_in new.queues c ≡ drop (length (served_by c e (queue_in old.queues c))) (queue_in old.queues c)
     ++ waiting_by c e)
     → AreAfter h old → AreAfter (h ++ e ∷ []) new
-after_more h e old new below whole put moved was = record {
-  whole = whole;
-  lefts =
-      λ s. ap (λ (ps : List SeatPlace). left_in ps s) put
-      ∙ (put_at old.left.items (seat_of e) (left_by e) s below
-      ∙ (ap (λ (p : SeatPlace). cond (eqb (seat_of e) s) (left_by e) p) (was.lefts s)
-      ∙ (sym (left_more (eqb (seat_of e) s) (events_of h s) e)
-      ∙ ap (λ (l : List Event). left_at (last_or None l)) (sym (events_of-push h e s)))));
-  queues =
-      λ c. moved c
-      ∙ (ap (λ (q : List ℕ). drop (length (served_by c e q)) q ++ waiting_by c e) (was.queues c)
-      ∙ sym (condition-push c h e));
-}
+after_more h e old new below whole put moved was =
+    all_after (h ++ e ∷ []) new whole
+    (λ s. ap (λ (ps : List SeatPlace). left_in ps s) put
+    ∙ (put_at old.left.items (seat_of e) (left_by e) s below
+    ∙ (ap (λ (p : SeatPlace). cond (eqb (seat_of e) s) (left_by e) p) (was.lefts s)
+    ∙ (sym (left_more (eqb (seat_of e) s) (events_of h s) e)
+    ∙ ap (λ (l : List Event). left_at (last_or None l)) (sym (events_of-push h e s))))))
+    (λ c. moved c
+    ∙ (ap (λ (q : List ℕ). drop (length (served_by c e q)) q ++ waiting_by c e) (was.queues c)
+    ∙ sym (condition-push c h e)))
 
-outside_all : (n s : ℕ) → left_in (replicate n Outside) s ≡ Outside
+pub outside_all : (n s : ℕ) → left_in (replicate n Outside) s ≡ Outside
 outside_all zero s = refl
 outside_all (suc n) zero = refl
 outside_all (suc n) (suc s) = outside_all n s
@@ -64,16 +84,6 @@ outside_all (suc n) (suc s) = outside_all n s
 pub after_none : (seats : DrawnSeats) → IsWhole seats → seats.left.items ≡ replicate numbers Outside
     → ((c : ℕ) → queue_in seats.queues c ≡ []) → AreAfter [] seats
 unfolding condition waits served_so_far events_of
-after_none seats whole outside empty = record {
-  whole = whole;
-  lefts = λ s. ap (λ (ps : List SeatPlace). left_in ps s) outside ∙ outside_all numbers s;
-  queues = empty;
-}
-
--- where a seat stands by them is where it stands
-pub place_is : (h : List Event) (seats : DrawnSeats) (s : ℕ) → AreAfter h seats → place_in seats s ≡ place_after h s
-unfolding place_after
-place_is h seats s are =
-    ap (λ (p : SeatPlace). if_served (λ c. has s (queue_in seats.queues c)) p) (are.lefts s)
-    ∙ ap (λ (q : ℕ → List ℕ). if_served (λ c. has s (q c)) (left_at (last_or None (events_of h s))))
-    (λ i c. are.queues c i)
+after_none seats whole outside empty =
+    all_after [] seats whole
+    (λ s. ap (λ (ps : List SeatPlace). left_in ps s) outside ∙ outside_all numbers s) empty

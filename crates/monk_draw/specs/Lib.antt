@@ -12,8 +12,11 @@ pub mod Stretch
 pub mod Hand
 pub mod Legend
 pub mod Stand
+pub mod RunStand
 pub mod AtPlace
 pub mod Stretches
 pub mod Seats
+pub mod RunSeats
 pub mod Scene
 pub mod Picture
+pub mod RunPicture

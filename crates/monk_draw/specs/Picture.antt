@@ -1,4 +1,4 @@
--- What a picture of a history has
+-- What a picture has; `place` says where each seat stands after some events
 use Rattle.std.specs.Prelude.{◌≡◌, ℕ, ◌+◌, ◌-◌, List, Option, Some, None, ◌++◌, length, nat_lt, slice_get, take}
 use Rattle.std.specs.Prelude.{if◌then◌else◌, codes}
 use Rattle.monk_history.specs.Meaning.Events.{seat_of}
@@ -11,6 +11,7 @@ use Rattle.monk_draw.specs.Layout.{lane_at}
 use Rattle.monk_draw.specs.Legend.{legend_text}
 use Rattle.monk_draw.specs.Mark.{marks}
 use Rattle.monk_draw.specs.Scene.{legend_of}
+use Rattle.monk_draw.specs.Stand.{place_after}
 use Rattle.monk_draw.specs.Stretch.{stretches_text}
 use Rattle.monk_draw.specs.Stretches.{stretches}
 use Rattle.monk_draw.specs.Style.{style}
@@ -18,6 +19,7 @@ use Rattle.monk_draw.specs.Surface.{background, columns_below, columns_foot, hea
 use Rattle.monk_draw.specs.Tags.{tags}
 use Rattle.monk_draw.specs.Window.{last_of, not_shown, shown_events}
 use Rattle.monk_draw.specs.declared.legend.Legend.{Legend}
+use Rattle.monk_draw.specs.declared.place.SeatPlace.{SeatPlace}
 use Rattle.monk_draw.specs.declared.view.View.{View}
 use Rattle.monk_draw.specs.declared.window.Window.{Window}
 
@@ -72,21 +74,27 @@ above seats columns lanes allowed reason last e legend =
     tags seats columns ++ (wrong seats allowed last reason e ++ legend_text legend (lane_at lanes))
 
 -- all but the marks and the end, of these events behind those that aren't shown
-unfoldable pub front : Heading → ℕ → List Event → List Event → Option ℕ → ℕ → List ℕ → List ℕ
-front h seats past shown fault last reason =
+unfoldable pub front : (List Event → ℕ → SeatPlace) → Heading → ℕ → List Event → List Event → Option ℕ → ℕ → List ℕ
+    → List ℕ
+front place h seats past shown fault last reason =
     let e = forbidden_event fault last shown in
     let allowed = allowed_with e (length shown) in
     let lanes = lanes_for seats shown in
-    let drawn = stretches seats past (take allowed shown) (lanes_end (length shown)) in
+    let drawn = stretches place seats past (take allowed shown) (lanes_end (length shown)) in
     ground h seats (length shown) lanes ++ (stretches_text drawn ++ (hands seats allowed shown
     ++ above seats (length shown) lanes allowed reason last e (legend_of drawn allowed shown)))
 
--- the picture: all that stands under the marks, the marks and the end
-abbrev pub picture : Heading → List Event → Option Window → Option ℕ → List ℕ → List ℕ
-picture h events w fault reason =
+-- the picture where seats stand there: all that stands under the marks, the marks and the end
+abbrev pub picture_by : (List Event → ℕ → SeatPlace) → Heading → List Event → Option Window → Option ℕ → List ℕ
+    → List ℕ
+picture_by place h events w fault reason =
     let last = last_of w fault events in
-    (front h h.seats (take (not_shown w last) events) (shown_events w fault events) fault last reason
+    (front place h h.seats (take (not_shown w last) events) (shown_events w fault events) fault last reason
     ++ all_marks h events w fault) ++ codes "</svg>\n"
+
+-- the picture of a history
+abbrev pub picture : Heading → List Event → Option Window → Option ℕ → List ℕ → List ℕ
+picture = picture_by place_after
 
 -- these bytes are the picture of the history
 abbrev pub IsPicture : Heading → List Event → Option Window → Option ℕ → List ℕ → List ℕ → Type 0

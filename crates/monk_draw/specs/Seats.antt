@@ -7,7 +7,7 @@ use Rattle.monk_history.specs.Meaning.Conditions.{condition}
 use Rattle.monk_history.specs.Meaning.Counts.{events_of}
 use Rattle.monk_history.specs.QueueAt.{seats_at}
 use Rattle.monk_history.specs.declared.event.Event.{Event}
-use Rattle.monk_draw.specs.Stand.{has, if_served, left_at}
+use Rattle.monk_draw.specs.Stand.{has, if_served, left_at, place_after}
 use Rattle.monk_draw.specs.Stretches.{same_place}
 use Rattle.monk_draw.specs.declared.place.SeatPlace.{SeatPlace}
 use Rattle.monk_draw.specs.declared.place.SeatPlace.TheVariants.{Outside}
@@ -45,6 +45,7 @@ pub record AreAfter (h : List Event) (seats : DrawnSeats) : Type 0 where
   pub whole : IsWhole seats
   pub lefts : (s : ℕ) → left_in seats.left.items s ≡ left_at (last_or None (events_of h s))
   pub queues : (c : ℕ) → queue_in seats.queues c ≡ condition c h
+  pub places : (s : ℕ) → place_in seats s ≡ place_after h s
 
 -- how a seat has stayed, as it is kept
 abbrev pub stay_in : List Stay → ℕ → Stay

@@ -1,4 +1,4 @@
-//! A picture of a history.
+//! A picture of a history, or of a run.
 #![tactic(auto)]
 
 mod frame;
@@ -12,9 +12,11 @@ mod mark;
 mod picture;
 mod place;
 mod queues;
+mod run_seats;
 mod scene;
 mod seats;
 mod span;
+mod standing;
 mod stay;
 mod stretch;
 mod style;
@@ -24,7 +26,7 @@ mod view;
 mod window;
 mod window_fault;
 
-pub use picture::draw;
+pub use picture::{draw, draw_run};
 pub use span::{MOST_SHOWN, Span, is_behind, showable};
 pub use window::Window;
 pub use window_fault::WindowFault;

@@ -1,18 +1,22 @@
-//! The picture of a history.
+//! The picture of a history, and that of a run.
 
-ghost use Rattle.std.specs.Prelude.{◌≡◌, ◌≤◌, ◌++◌, IfOk, OnOk, length, slice_range, string_bytes, take};
+ghost use Rattle.std.specs.Prelude.{◌≡◌, ◌≤◌, ◌++◌, [], IfOk, OnOk, length, slice_range, string_bytes, take};
 ghost use Rattle.std.specs.List.{list_any};
 ghost use Rattle.monk_history.specs.Limits.{most_lines};
 ghost use Rattle.monk_history.specs.Meaning.Acts.{is_refused_act};
-ghost use Rattle.monk_draw.specs.Picture.{HasMarks, IsPicture, above, allowed_with, front, ground, lanes_for};
+ghost use Rattle.monk_draw.specs.Picture.{HasMarks, IsPicture, above, allowed_with, front, ground, lanes_for, picture_by};
+ghost use Rattle.monk_draw.specs.RunPicture.{IsRunPicture};
 
 use crate::frame::{forbidden_event, put_wrong};
 use crate::hand::put_hands;
 use crate::heading::put_heading;
 use crate::legend::{Legend, put_legend};
 use crate::mark::put_marks;
+use crate::run_seats::RunSeats;
 use crate::scene::put_stretches;
+use crate::seats::DrawnSeats;
 use crate::span::{Span, showable};
+use crate::standing::Standing;
 use crate::style::put_style;
 use crate::surface::{Surface, put_background};
 use crate::tags::put_tags;
@@ -109,12 +113,14 @@ fn put_above(
 }
 
 /// Puts all but the marks and the end.
-fn put_front(
+fn put_front<S: Standing>(
     alloc: Global,
     page: &mut String,
     header: &Header,
     view: View,
+    standing: S,
     events: &[Event],
+    served: &[Option<u8>],
     last: usize,
     forbidden: Option<u32>,
     reason: &str,
@@ -123,8 +129,9 @@ fn put_front(
     requires before { view.before ≤ last }
     requires last { last ≤ length events.now }
     requires few { length events.now ≤ most_lines }
-    ensures { OnOk result (string_bytes page.new ≡ string_bytes page.old ++ front header.now view.seats
-        (take view.before events.now) (slice_range events.now view.before last) forbidden last reason.now) }
+    requires none { S.is_of served.now [] standing }
+    ensures { OnOk result (string_bytes page.new ≡ string_bytes page.old ++ front (S.stands served.now) header.now
+        view.seats (take view.before events.now) (slice_range events.now view.before last) forbidden last reason.now) }
 {
     let shown = &events[view.before..last];
     let surface = Surface {
@@ -141,8 +148,10 @@ fn put_front(
         page,
         &mut legend,
         view.seats,
+        standing,
         past,
         &shown[..allowed],
+        served,
         surface.end(),
     )?;
     put_hands(page, &mut legend, view.seats, shown, allowed)?;
@@ -158,6 +167,40 @@ fn put_front(
         wrong,
         legend,
     )
+}
+
+/// Draws, with what is kept before any event.
+fn draw_by<S: Standing>(
+    alloc: Global,
+    standing: S,
+    header: &Header,
+    events: &[Event],
+    served: &[Option<u8>],
+    window: Option<Window>,
+    forbidden: Option<u32>,
+    reason: &str,
+) -> Result<String, AllocError>
+    requires few { length events.now ≤ most_lines }
+    requires none { S.is_of served.now [] standing }
+    ensures marks { IfOk result (λ page. HasMarks header.now events.now window forbidden (string_bytes page)) }
+    ensures picture { IfOk result (λ page. string_bytes page
+        ≡ picture_by (S.stands served.now) header.now events.now window forbidden reason.now) }
+{
+    let Span { before, last } = Span::of(window, showable(forbidden, events.len()));
+    let shown = &events[before..last];
+    let view = View {
+        seats: seats_of(header),
+        object: header.object(),
+        before,
+        allowed: allowed_with(forbidden_event(forbidden, last, shown), shown.len()),
+    };
+    let mut page = String::new(alloc);
+    put_front(
+        alloc, &mut page, header, view, standing, events, served, last, forbidden, reason,
+    )?;
+    put_marks(&mut page, view, shown)?;
+    page.push_str("</svg>\n")?;
+    Ok(page)
 }
 
 /// The picture of a history as an SVG text: a lane for each seat, a column for each event, to the right.
@@ -192,19 +235,47 @@ pub fn draw(
     ensures picture { IfOk result (λ page. IsPicture header.now events.now window forbidden reason.now
         (string_bytes page)) }
 {
-    let Span { before, last } = Span::of(window, showable(forbidden, events.len()));
-    let shown = &events[before..last];
-    let view = View {
-        seats: seats_of(header),
-        object: header.object(),
-        before,
-        allowed: allowed_with(forbidden_event(forbidden, last, shown), shown.len()),
-    };
-    let mut page = String::new(alloc);
-    put_front(
-        alloc, &mut page, header, view, events, last, forbidden, reason,
-    )?;
-    put_marks(&mut page, view, shown)?;
-    page.push_str("</svg>\n")?;
-    Ok(page)
+    let standing = DrawnSeats::new(alloc)?;
+    draw_by(
+        alloc, standing, header, events, &[], window, forbidden, reason,
+    )
+}
+
+/// The picture of a run: that of a history, but a signal serves the seat that `served` names.
+///
+/// `served` has a seat for each event that serves one: for a signal the seat that it wakes, which
+/// need not be the front of the condition's queue. `None` stands where an event serves nobody, and
+/// beyond the end of `served` too. A broadcast serves all that wait on its condition, and names
+/// nobody. A seat that waits on a condition is drawn there up to the event that serves it, and then
+/// in the waiter queue up to its own next event. All else is as [`draw`] has it.
+///
+/// # Errors
+///
+/// `AllocError` where a growth was refused.
+///
+/// # Cost
+///
+/// As that of [`draw`]: an event that is not shown takes constant time, but a broadcast one pass
+/// over the numbers of seats. Where the seats stand takes some 0.5 kB. The same of a run that isn't
+/// legal.
+pub fn draw_run(
+    alloc: Global,
+    header: &Header,
+    events: &[Event],
+    served: &[Option<u8>],
+    window: Option<Window>,
+    forbidden: Option<u32>,
+    reason: &str,
+) -> Result<String, AllocError>
+    requires few { length events.now ≤ most_lines }
+    // Behind everything else stand the marks of the events that are shown, in order, and the end.
+    ensures marks { IfOk result (λ page. HasMarks header.now events.now window forbidden (string_bytes page)) }
+    // Byte for byte the picture is its definition.
+    ensures picture { IfOk result (λ page. IsRunPicture header.now events.now served.now window forbidden reason.now
+        (string_bytes page)) }
+{
+    let standing = RunSeats::new(alloc)?;
+    draw_by(
+        alloc, standing, header, events, served, window, forbidden, reason,
+    )
 }

@@ -1,8 +1,8 @@
 //! Where a seat is.
 
-ghost use Rattle.std.specs.Prelude.{◌≡◌};
+ghost use Rattle.std.specs.Prelude.{◌≡◌, ◌==◌, false, not};
 ghost use Rattle.monk_draw.specs.Legend.{place_words};
-ghost use Rattle.monk_draw.specs.Stand.{left_by};
+ghost use Rattle.monk_draw.specs.Stand.{if_served, left_by};
 ghost use Rattle.monk_draw.specs.Stretch.{is_outside, place_class};
 
 use monk_history::{Event, Next};
@@ -42,6 +42,32 @@ impl SeatPlace {
             Event::Signal(_, _, Next::Stay) | Event::Until(_, _, Next::Stay) => SeatPlace::Active,
             Event::Signal(..) => SeatPlace::Signaller,
             Event::Until(_, pred, _) => SeatPlace::Until(pred),
+        }
+    }
+
+    /// Where a seat stands that an event serves.
+    pub(crate) fn served(self) -> SeatPlace
+        ensures { result ≡ if_served (λ c. false) self }
+    {
+        match self {
+            SeatPlace::Condition(_) => SeatPlace::Waiter,
+            place => place,
+        }
+    }
+
+    /// Where it stands, if an event serves all that wait on the condition.
+    pub(crate) fn served_on(self, cond: u8) -> SeatPlace
+        ensures { result ≡ if_served (λ c. not (cond == c)) self }
+    {
+        match self {
+            SeatPlace::Condition(own) => {
+                if cond == own {
+                    SeatPlace::Waiter
+                } else {
+                    SeatPlace::Condition(own)
+                }
+            }
+            place => place,
         }
     }
 

@@ -4,14 +4,14 @@ ghost use Rattle.std.specs.Prelude.{◌≡◌, ℕ, ◌<◌, ◌≤◌, IfOk, On
 ghost use Rattle.monk_history.specs.Limits.{most_lines};
 ghost use Rattle.monk_draw.specs.Layout.{left_edge};
 ghost use Rattle.monk_draw.specs.Scene.{PutsStretches};
-ghost use Rattle.monk_draw.specs.Seats.{IsWhole, moved, place_in, stay_in};
+ghost use Rattle.monk_draw.specs.Seats.{moved, stay_in};
 ghost use Rattle.monk_draw.specs.Stretches.{ended, ended_below, entry_stretch, entry_stretches, last_below, stretch_to, stretches};
 
 use crate::hand::handed;
 use crate::layout::{COLUMN, LEFT, column_at, lane_of};
 use crate::legend::Legend;
 use crate::place::SeatPlace;
-use crate::seats::DrawnSeats;
+use crate::standing::{Standing, after, named_at};
 use crate::stay::Stay;
 use crate::stretch::{Stretch, put_stretch};
 use crate::view::View;
@@ -63,20 +63,20 @@ fn put_change(
 }
 
 /// Puts the stretches that end there, since seats come to where they stand now, and notes how they stay then.
-fn put_changes(
+fn put_changes<S: Standing>(
     page: &mut String,
     legend: &mut Legend,
     stays: &mut Vec<Stay>,
-    seats: &DrawnSeats,
+    seats: &S,
     count: u8,
     x: u64,
 ) -> Result<(), AllocError>
-    requires whole { IsWhole seats.now }
+    requires all { S.has_all seats.now }
     requires count { length stays.old.items ≡ count }
-    ensures page { OnOk result (PutsStretches (ended_below (stay_in stays.old.items) (place_in seats.now) x count)
+    ensures page { OnOk result (PutsStretches (ended_below (stay_in stays.old.items) (S.kept_place seats.now) x count)
         (string_bytes page.old) (string_bytes page.new) legend.old legend.new) }
     ensures stays { OnOk result
-        ((s : ℕ) → s < count → stay_in stays.new.items s ≡ moved (stay_in stays.old.items s) (place_in seats.now s) x) }
+        ((s : ℕ) → s < count → stay_in stays.new.items s ≡ moved (stay_in stays.old.items s) (S.kept_place seats.now s) x) }
     ensures count { length stays.new.items ≡ count }
 {
     for seat in 0..count {
@@ -139,11 +139,11 @@ fn put_last(
 }
 
 /// How the seats stay before the first event that is shown.
-fn first_stays(alloc: Global, seats: &DrawnSeats, count: u8) -> Result<Vec<Stay>, AllocError>
-    requires { IsWhole seats.now }
+fn first_stays<S: Standing>(alloc: Global, seats: &S, count: u8) -> Result<Vec<Stay>, AllocError>
+    requires { S.has_all seats.now }
     ensures count { IfOk result (λ v. length v.items ≡ count) }
     ensures stays { IfOk result
-        (λ v. (s : ℕ) → s < count → stay_in v.items s ≡ record { place = place_in seats.now s; from = left_edge }) }
+        (λ v. (s : ℕ) → s < count → stay_in v.items s ≡ record { place = S.kept_place seats.now s; from = left_edge }) }
 {
     let mut stays = Vec::new(alloc);
     for seat in 0..count {
@@ -155,25 +155,30 @@ fn first_stays(alloc: Global, seats: &DrawnSeats, count: u8) -> Result<Vec<Stay>
     Ok(stays)
 }
 
-/// Puts the stretches of the allowed events that are shown, up to the end; `past` are the events before them.
-pub(crate) fn put_stretches(
+/// Puts the stretches of the allowed events that are shown, up to the end; `past` are the events before them, `seats` what
+/// is kept before any event, and `served` the seats that the events name.
+pub(crate) fn put_stretches<S: Standing>(
     alloc: Global,
     page: &mut String,
     legend: &mut Legend,
     count: u8,
+    seats: S,
     past: &[Event],
     events: &[Event],
+    served: &[Option<u8>],
     end: u64,
 ) -> Result<(), AllocError>
+    requires before { S.is_of served.now [] seats }
+    requires few_past { length past.now ≤ most_lines }
     requires few { length events.now ≤ most_lines }
-    ensures { OnOk result (PutsStretches (stretches count past.now events.now end) (string_bytes page.old)
-        (string_bytes page.new) legend.old legend.new) }
+    ensures { OnOk result (PutsStretches (stretches (S.stands served.now) count past.now events.now end)
+        (string_bytes page.old) (string_bytes page.new) legend.old legend.new) }
 {
-    let mut seats = DrawnSeats::after(alloc, past)?;
+    let mut seats = after(seats, past, served)?;
     let mut stays = first_stays(alloc, &seats, count)?;
     for (column, event) in events.iter().enumerate() {
         let x = column_at(column as u32);
-        seats.follow(*event)?;
+        seats.follow(*event, named_at(served, past.len() + column))?;
         put_entry(page, legend, count, handed(Some(*event)), x)?;
         put_changes(page, legend, &mut stays, &seats, count, x)?;
     }

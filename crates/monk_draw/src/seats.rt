@@ -1,15 +1,15 @@
-//! Where all seats stand, event by event.
+//! Where all seats of a history stand, event by event.
 
-ghost use Rattle.std.specs.Prelude.{◌≡◌, OnOk, IfOk, List, [], ◌∷◌, ◌++◌};
-ghost use Rattle.monk_history.specs.declared.event.Event.{Event};
-ghost use Rattle.monk_draw.specs.Seats.{AreAfter, IsWhole, place_in};
+ghost use Rattle.std.specs.Prelude.{IfOk, []};
+ghost use Rattle.monk_draw.specs.Seats.{AreAfter};
 
 use crate::place::SeatPlace;
 use crate::queues::{DrawnQueues, NUMBERS};
+use crate::standing::Standing;
 use monk_history::Event;
 use std::alloc::{AllocError, Global};
 
-/// What is kept of some events, so that it says where each seat stands.
+/// What is kept of the events of a history, in which a signal serves the front of its condition's queue.
 #[derive(Drop)]
 pub(crate) struct DrawnSeats {
     /// Where its own last event left each seat, by its number.
@@ -20,7 +20,7 @@ pub(crate) struct DrawnSeats {
 
 impl DrawnSeats {
     /// Before any event all are outside.
-    fn new(alloc: Global) -> Result<DrawnSeats, AllocError>
+    pub(crate) fn new(alloc: Global) -> Result<DrawnSeats, AllocError>
         ensures { IfOk result (AreAfter []) }
     {
         Ok(DrawnSeats {
@@ -28,33 +28,32 @@ impl DrawnSeats {
             queues: DrawnQueues::new(alloc)?,
         })
     }
+}
 
-    /// Those after the events.
-    pub(crate) fn after(alloc: Global, events: &[Event]) -> Result<DrawnSeats, AllocError>
-        ensures { IfOk result (AreAfter events.now) }
-    {
-        let mut seats = DrawnSeats::new(alloc)?;
-        for event in events {
-            seats.follow(*event)?;
-        }
-        Ok(seats)
-    }
+/// Nobody need be named: the queues say whom an event serves.
+impl Standing for DrawnSeats {
+    ghost use Rattle.monk_draw.specs.Seats.{AreAfter, IsWhole, place_in};
+    ghost use Rattle.monk_draw.specs.Stand.{place_after};
 
-    /// One event more.
-    pub(crate) fn follow(&mut self, event: Event) -> Result<(), AllocError>
-        requires { IsWhole self.old }
-        ensures { OnOk result ((h : List Event) → AreAfter h self.old → AreAfter (h ++ event ∷ []) self.new) }
-    {
+    ghost stands = { λ served. place_after };
+
+    ghost kept_place = { place_in };
+
+    ghost has_all = { IsWhole };
+
+    ghost is_of = { λ served. AreAfter };
+
+    ghost complete = { λ served h seats are. are.whole };
+
+    ghost tells = { λ served h seats are. are.places };
+
+    fn follow(&mut self, event: Event, _named: Option<u8>) -> Result<(), AllocError> {
         self.queues.follow(event)?;
         self.left[event.seat() as usize] = SeatPlace::left_by(event);
         Ok(())
     }
 
-    /// Where the seat stands.
-    pub(crate) fn place(&self, seat: u8) -> SeatPlace
-        requires { IsWhole self.now }
-        ensures { result ≡ place_in self.now seat }
-    {
+    fn place(&self, seat: u8) -> SeatPlace {
         match self.left[seat as usize] {
             SeatPlace::Condition(cond) => {
                 if self.queues.has(cond, seat) {

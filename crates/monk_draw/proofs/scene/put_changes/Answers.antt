@@ -2,7 +2,7 @@ use Rattle.std.proofs.Common.{◌≡◌, ◌<◌, ◌∙◌, ℕ, length, refl, 
 use Rattle.std.specs.Prelude.{string_bytes}
 use Rattle.monk_draw.specs.Scene.{PutsStretches}
 use Rattle.std.proofs.lemmas.List.{length-set}
-use Rattle.monk_draw.specs.Seats.{moved, place_in, stay_in}
+use Rattle.monk_draw.specs.Seats.{moved, stay_in}
 use Rattle.monk_draw.specs.Stretches.{ended_below}
 use Rattle.monk_draw.specs.declared.place.SeatPlace.{SeatPlace}
 use Rattle.monk_draw.specs.declared.stay.Stay.{Stay}
@@ -12,7 +12,7 @@ use Rattle.monk_draw.proofs.scene.put_changes.Goals as goal
 
 pub loop-seat-init : goal.loop-seat-init
 unfolding ended_below
-loop-seat-init c = record {
+loop-seat-init g c = record {
   page = no_stretches _ _;
   count = c.requires.count;
   done = λ s below. absurd (omega (arith, below));
@@ -20,11 +20,11 @@ loop-seat-init c = record {
 }
 
 pub loop-seat-preserved : goal.loop-seat-preserved
-loop-seat-preserved c =
+loop-seat-preserved g c =
     let i = c.loop-seat.seat in
     let kept = c.loop-seat.stays.items in
     let stays = stay_in c.args.stays.now.items in
-    let places = place_in c.args.seats.now in
+    let places = g.S.Standing.kept_place c.args.seats.now in
     let below : i < length kept = omega (arith, c.loop-seat-test.true, c.loop-seat.invariant.count) in
     let at : c.index-stay.result.now ≡ stays i =
     kept_at kept i c.index-stay.result.now below c.index-stay.ensures ∙ c.loop-seat.invariant.rest i (omega arith) in
@@ -46,9 +46,9 @@ loop-seat-preserved c =
     }
 
 pub returns-clause-page : goal.returns-clause-page
-returns-clause-page c =
+returns-clause-page g c =
     let all : c.loop-seat.seat ≡ c.args.count = omega (arith, c.loop-seat.auto.seat-end, c.loop-seat-test.false) in
     subst (λ (n : ℕ). PutsStretches
-    (ended_below (stay_in c.args.stays.now.items) (place_in c.args.seats.now) c.args.x n)
+    (ended_below (stay_in c.args.stays.now.items) (g.S.Standing.kept_place c.args.seats.now) c.args.x n)
     (string_bytes c.args.page.now) (string_bytes c.loop-seat.page) c.args.legend.now c.loop-seat.legend) all
     c.loop-seat.invariant.page

@@ -4,10 +4,10 @@ use Rattle.monk_draw.specs.Picture.{allowed_with}
 use Rattle.monk_draw.specs.Window.{shown_last}
 use Rattle.monk_draw.proofs.MarkLaws.{has_marks}
 use Rattle.monk_draw.proofs.PictureLaws.{is_picture}
-use Rattle.monk_draw.proofs.picture.draw.Goals as goal
+use Rattle.monk_draw.proofs.picture.draw_by.Goals as goal
 
 pub returns : goal.returns
-returns c =
+returns g c =
     let before = c.of-before.result.before in
     let last = c.of-before.result.last in
     let last_is = c.of-before.ensures.last ∙ ap (λ n. shown_last c.args.window n) c.showable.ensures.value in
@@ -23,7 +23,7 @@ returns c =
           c.of-before.ensures.before allowed_is last_is
           c.in_ok-put_marks.ensures c.in_ok-push_str.ensures.bytes;
       picture =
-          is_picture c.args.header.now c.args.events.now c.args.window c.args.forbidden c.args.reason.now
+          is_picture (g.S.Standing.stands c.args.served.now) c.args.header.now c.args.events.now c.args.window c.args.forbidden c.args.reason.now
           c.seats_of.result
           c.object.result before c.allowed_with.result last (string_bytes c.new-page.result)
           (string_bytes c.put_front.new.page)

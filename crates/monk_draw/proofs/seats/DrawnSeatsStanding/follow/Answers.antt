@@ -4,10 +4,10 @@ use Rattle.std.proofs.lemmas.List.{length-set}
 use Rattle.monk_history.specs.Meaning.Events.{seat_of}
 use Rattle.monk_draw.specs.declared.place.SeatPlace.{SeatPlace}
 use Rattle.monk_draw.proofs.SeatLaws.{after_more}
-use Rattle.monk_draw.proofs.seats.DrawnSeats.follow.Goals as goal
+use Rattle.monk_draw.proofs.seats.DrawnSeatsStanding.follow.Goals as goal
 
 pub returns : goal.returns
-returns c h was =
+returns c served h named was =
     let left = c.args.self.now.left.items in
     after_more h c.args.event c.args.self.now _ (omega (arith, c.seat.type_inv, c.seat.ensures, c.requires.lefts))
     (record {
