@@ -143,11 +143,11 @@ event_at (e ∷ es) (suc i) d below = event_at es i d (omega (arith, below))
 -- ---- one event more, by what is kept
 
 -- how many events there are so far
-pub length_so_far : (past es : List Event) (column n : ℕ) → column < length es → n ≡ length past
-    → n + column ≡ length (past ++ take column es)
-length_so_far past es column n below is =
+pub length_so_far : (past es : List Event) (column : ℕ) → column < length es
+    → length past + column ≡ length (past ++ take column es)
+length_so_far past es column below =
     let taken = length-take-le column es (omega (arith, below)) in
-    ap (λ k. k + column) is ∙ sym (length-append past (take column es) ∙ ap (λ k. length past + k) taken)
+    sym (length-append past (take column es) ∙ ap (λ k. length past + k) taken)
 
 -- those so far and one more
 pub so_far : (past es : List Event) (column : ℕ) (d : Event) → column < length es
