@@ -1,9 +1,9 @@
 -- Where a seat of a run stands, after one event more
-use Rattle.std.proofs.Common.{◌≡◌, ◌≢◌, ℕ, ◌<◌, ◌≤◌, ◌+◌, ◌==◌, zero, suc, eqb, cond, not, ◌&&◌, ◌||◌, Bool, true, false, Option, Some, None}
-use Rattle.std.proofs.Common.{List, [], ◌∷◌, ◌++◌, length, get_or, reverse, refl, sym, ap, subst, ◌∙◌, arith, replicate}
-use Rattle.std.specs.Prelude.{nat_lt, slice_set, take_while}
+use Rattle.std.proofs.Common.{◌≡◌, ◌≢◌, ℕ, ◌<◌, ◌≤◌, ◌+◌, ◌==◌, zero, suc, cond, not, ◌||◌, Bool, true, false, Option, None}
+use Rattle.std.proofs.Common.{List, [], ◌∷◌, ◌++◌, length, get_or, reverse, refl, sym, ap, ◌∙◌, arith, replicate}
+use Rattle.std.specs.Prelude.{slice_set, take_while}
 use Rattle.std.specs.List.{last_or, list_any}
-use Rattle.std.proofs.lemmas.Bool.{eqb-false, eqb-true, ltb-false, ltb-true}
+use Rattle.std.proofs.lemmas.Bool.{eqb-false, eqb-true}
 use Rattle.std.proofs.lemmas.List.{length-replicate, reverse-append}
 use Rattle.std.proofs.lemmas.List.Sums.{take_while-cons}
 use Rattle.monk_history.specs.Meaning.Counts.{events_of}
@@ -11,7 +11,7 @@ use Rattle.monk_history.specs.Meaning.Events.{seat_of}
 use Rattle.monk_history.specs.declared.event.Event.{Event}
 use Rattle.monk_history.proofs.PublicLaws.Meaning.{events_of-push}
 use Rattle.monk_draw.specs.RunSeats.{AreAfterRun, HasAll}
-use Rattle.monk_draw.specs.RunStand.{behind_last, is_named, named_at, run_place_after, serves_seat, was_served}
+use Rattle.monk_draw.specs.RunStand.{behind_last, named_at, run_place_after, serves_seat, was_served}
 use Rattle.monk_draw.specs.RunStand.{with_named}
 use Rattle.monk_draw.specs.Seats.{left_in, numbers}
 use Rattle.monk_draw.specs.Stand.{if_served, left_at, left_by}
@@ -111,7 +111,8 @@ run_place-push served h e s =
     stands_next (seat_of e == s) e left (λ c. serves_seat c s x) (λ c. was_served c s run)
     ∙ (ap (λ (w : ℕ → Bool). if_served (λ c. not (w c)) (cond (seat_of e == s) (left_by e) left))
     (λ i c. sym (was_served-push c s run x) i)
-    ∙ (ap (λ (r : List (Event × Option ℕ)). if_served (λ c. not (was_served c s r)) (cond (seat_of e == s) (left_by e) left))
+    ∙ (ap (λ (r : List (Event × Option ℕ)). if_served (λ c. not (was_served c s r))
+    (cond (seat_of e == s) (left_by e) left))
     (sym (with_named-push h served e))
     ∙ ap (λ (p : SeatPlace). if_served (λ c. not (was_served c s (with_named (h ++ e ∷ []) served))) p)
     (sym (left_more (seat_of e == s) (events_of h s) e)
@@ -125,22 +126,6 @@ pub kept_place_at : (ps : List SeatPlace) (i : ℕ) (p : SeatPlace) → i < leng
 kept_place_at [] i p below is = absurd (omega (arith, below))
 kept_place_at (q ∷ ps) zero p below is = is
 kept_place_at (q ∷ ps) (suc i) p below is = kept_place_at ps i p (omega (arith, below)) is
-
--- there is none beyond the end
-none_beyond : (ps : List SeatPlace) (s : ℕ) → length ps ≤ s → left_in ps s ≡ Outside
-none_beyond [] s above = refl
-none_beyond (p ∷ ps) zero above = absurd (omega (arith, above))
-none_beyond (p ∷ ps) (suc s) above = none_beyond ps s (omega (arith, above))
-
--- the seat that is named is served
-pub named_set : (ps : List SeatPlace) (j : ℕ) (p : SeatPlace) (s : ℕ) → j < length ps
-    → p ≡ if_served (λ c. false) (left_in ps j)
-    → left_in (slice_set ps j p) s ≡ if_served (λ c. not (is_named s (Some j))) (left_in ps s)
-named_set ps j p s below is = put_at ps j p s below ∙ one (j == s) refl
-  where
-    one : (b : Bool) → (j == s) ≡ b → cond b p (left_in ps s) ≡ if_served (λ c. not b) (left_in ps s)
-    one true own = is ∙ ap (λ n. if_served (λ c. false) (left_in ps n)) (eqb-true j s own)
-    one false other = sym (unserved (left_in ps s))
 
 -- one seat more is served of those that wait: those below it and it are done, those above it are as they were
 pub done_next : (old ps : List SeatPlace) (waits : ℕ → Bool) (k : ℕ) (p : SeatPlace) → k < length ps
@@ -161,20 +146,6 @@ rest_next old ps k p below rest s over = put_at ps k p s below ∙ one (k == s) 
     one : (b : Bool) → (k == s) ≡ b → cond b p (left_in ps s) ≡ left_in old s
     one true own = let same = eqb-true k s own in absurd (omega (arith, over, same))
     one false other = rest s (omega (arith, over))
-
--- all are done
-pub done_all : (old ps : List SeatPlace) (waits : ℕ → Bool) (k : ℕ) → length old ≤ k
-    → ((s : ℕ) → s < k → left_in ps s ≡ if_served waits (left_in old s))
-    → ((s : ℕ) → k ≤ s → left_in ps s ≡ left_in old s)
-    → (s : ℕ) → left_in ps s ≡ if_served waits (left_in old s)
-done_all old ps waits k few done rest s = one (nat_lt s k) refl
-  where
-    one : (b : Bool) → nat_lt s k ≡ b → left_in ps s ≡ if_served waits (left_in old s)
-    one true below = done s (ltb-true s k below)
-    one false above =
-        let over = ltb-false s k above in
-        let none = none_beyond old s (omega (arith, over, few)) in
-        rest s over ∙ (none ∙ sym (ap (λ (p : SeatPlace). if_served waits p) none))
 
 -- before any event
 pub run_none : (served : List (Option ℕ)) (seats : RunSeats) → seats.places.items ≡ replicate numbers Outside
@@ -200,6 +171,7 @@ run_more served h e named old new between names below all served_by put was = re
       ∙ (ap (λ (p : SeatPlace). cond (seat_of e == s) (left_by e) p)
       (served_by s
       ∙ (ap (λ (o : Option ℕ). if_served (λ c. not (serves_seat c s (e, o))) (left_in old.places.items s)) names
-      ∙ ap (λ (p : SeatPlace). if_served (λ c. not (serves_seat c s (e, named_at served (length h)))) p) (was.places s)))
+      ∙ ap (λ (p : SeatPlace). if_served (λ c. not (serves_seat c s (e, named_at served (length h)))) p)
+      (was.places s)))
       ∙ run_place-push served h e s));
 }

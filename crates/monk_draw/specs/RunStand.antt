@@ -1,6 +1,6 @@
 -- Where a seat stands after a run, in which an event names the seat that it serves: where its own last event left it,
 -- and of a seat that waits on a condition whether an event behind its wait serves it
-use Rattle.std.specs.Prelude.{ℕ, ◌==◌, Bool, true, false, not, ◌||◌, Option, Some, None, List, [], ◌∷◌, reverse}
+use Rattle.std.specs.Prelude.{ℕ, ◌==◌, Bool, false, not, ◌||◌, Option, Some, None, List, [], ◌∷◌, reverse}
 use Rattle.std.specs.Prelude.{take_while, slice_index_or}
 use Rattle.std.specs.List.{last_or, list_any}
 use Rattle.monk_history.specs.Meaning.Conditions.{is_at}

@@ -23,7 +23,8 @@ returns g c =
           c.of-before.ensures.before allowed_is last_is
           c.in_ok-put_marks.ensures c.in_ok-push_str.ensures.bytes;
       picture =
-          is_picture (g.S.Standing.stands c.args.served.now) c.args.header.now c.args.events.now c.args.window c.args.forbidden c.args.reason.now
+          is_picture (g.S.Standing.stands c.args.served.now) c.args.header.now c.args.events.now c.args.window
+          c.args.forbidden c.args.reason.now
           c.seats_of.result
           c.object.result before c.allowed_with.result last (string_bytes c.new-page.result)
           (string_bytes c.put_front.new.page)

@@ -1,4 +1,4 @@
-use Rattle.std.proofs.Common.{◌≡◌, ◌∙◌, ◌+◌, ◌++◌, ℕ, Option, List, get_or, subst, sym, ap, take, arith}
+use Rattle.std.proofs.Common.{◌∙◌, ◌+◌, ◌++◌, ℕ, Option, List, get_or, subst, sym, ap, take, arith}
 use Rattle.std.proofs.lemmas.List.{append-nil}
 use Rattle.std.proofs.lemmas.Result.{on_ok_weaker}
 use Rattle.monk_history.specs.declared.event.Event.{Event}
@@ -24,7 +24,8 @@ loop-column-init g c =
     let seats = c.in_ok-seats.seats in
     record {
       page = no_stretches _ _;
-      seats = subst (λ (h : List Event). g.S.Standing.is_of served h seats) (sym (append-nil past)) c.in_ok-seats.ensures;
+      seats =
+          subst (λ (h : List Event). g.S.Standing.is_of served h seats) (sym (append-nil past)) c.in_ok-seats.ensures;
       length = c.in_ok-stays.ensures.count;
       stays =
           λ s below. c.in_ok-stays.ensures.stays s below

@@ -14,7 +14,8 @@ loop-seat-preserved c =
     let waits : ℕ → Bool = λ d. not (c.args.cond == d) in
     let below : i < length now = omega (arith, c.loop-seat-test.true, c.loop-seat.invariant.all) in
     let at : c.index-place.result.now ≡ left_in old i =
-    kept_place_at now i c.index-place.result.now below c.index-place.ensures ∙ c.loop-seat.invariant.rest i (omega arith) in
+    kept_place_at now i c.index-place.result.now below c.index-place.ensures
+    ∙ c.loop-seat.invariant.rest i (omega arith) in
     record {
       all = length-set now i c.served_on.result ∙ c.loop-seat.invariant.all;
       done =
