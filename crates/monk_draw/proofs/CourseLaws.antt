@@ -45,6 +45,12 @@ pub stay_more : (place : Places) (past es : List Event) (column s : ℕ)
 unfolding start
 stay_more place past es column s = refl
 
+-- by the same stay and the same place
+pub moved_same : (y stay own : Stay) (place there : SeatPlace) (x : ℕ) → y ≡ moved stay place x → stay ≡ own
+    → place ≡ there → y ≡ moved own there x
+moved_same y stay own place there x is same stands =
+    is ∙ (ap (λ (one : Stay). moved one place x) same ∙ ap (λ (p : SeatPlace). moved own p x) stands)
+
 -- and before the first
 pub stay_first : (place : Places) (past es : List Event) (now : ℕ → SeatPlace) (s : ℕ) → now s ≡ place past s
     → record { place = now s; from = left_edge } ≡ stay_at place past es 0 s
