@@ -27,7 +27,7 @@ abbrev pub is_named : ℕ → Option ℕ → Bool
 is_named s None = false
 is_named s (Some j) = j == s
 
--- the condition all of whose seats the event serves, if it is a broadcast
+-- the condition on which the event is a broadcast, if it is one
 abbrev pub broadcast_on : Event → Option ℕ
 broadcast_on (Enter s via) = None
 broadcast_on (Act s op r) = None

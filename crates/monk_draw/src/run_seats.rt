@@ -12,7 +12,7 @@ use crate::standing::Standing;
 use monk_history::Event;
 use std::alloc::{AllocError, Global};
 
-/// The condition all of whose seats the event serves, if it is a broadcast.
+/// The condition on which the event is a broadcast, if it is one.
 fn broadcast_on(event: Event) -> Option<u8>
     ensures { result ≡ broadcast_on event }
 {
