@@ -1,5 +1,5 @@
 -- Stretches end column by column
-use Rattle.std.proofs.Common.{◌≡◌, ℕ, ◌+◌, ◌<◌, ◌≤◌, zero, suc, List, [], ◌∷◌, ◌++◌, length, take, get_or, refl, sym, ap, subst, ◌∙◌}
+use Rattle.std.proofs.Common.{◌≡◌, ℕ, ◌+◌, ◌<◌, ◌≤◌, zero, suc, List, [], ◌∷◌, ◌++◌, length, take, get_or, refl, sym, ap, ◌∙◌}
 use Rattle.std.proofs.Common.{append_assoc, arith, add-one, Option, Some, true, if◌then◌else◌}
 use Rattle.std.specs.Prelude.{slice_get, slice_set}
 use Rattle.std.proofs.lemmas.List.{append-nil, length-append, length-take-le, take_more}
@@ -44,6 +44,12 @@ pub stay_more : (place : Places) (past es : List Event) (column s : ℕ)
     ≡ stay_at place past es (suc column) s
 unfolding start
 stay_more place past es column s = refl
+
+-- by the same stay and the same place
+pub moved_same : (y stay own : Stay) (place there : SeatPlace) (x : ℕ) → y ≡ moved stay place x → stay ≡ own
+    → place ≡ there → y ≡ moved own there x
+moved_same y stay own place there x is same stands =
+    is ∙ (ap (λ (one : Stay). moved one place x) same ∙ ap (λ (p : SeatPlace). moved own p x) stands)
 
 -- and before the first
 pub stay_first : (place : Places) (past es : List Event) (now : ℕ → SeatPlace) (s : ℕ) → now s ≡ place past s
@@ -143,11 +149,11 @@ event_at (e ∷ es) (suc i) d below = event_at es i d (omega (arith, below))
 -- ---- one event more, by what is kept
 
 -- how many events there are so far
-pub length_so_far : (past es : List Event) (column n : ℕ) → column < length es → n ≡ length past
-    → n + column ≡ length (past ++ take column es)
-length_so_far past es column n below is =
+pub length_so_far : (past es : List Event) (column : ℕ) → column < length es
+    → length past + column ≡ length (past ++ take column es)
+length_so_far past es column below =
     let taken = length-take-le column es (omega (arith, below)) in
-    ap (λ k. k + column) is ∙ sym (length-append past (take column es) ∙ ap (λ k. length past + k) taken)
+    sym (length-append past (take column es) ∙ ap (λ k. length past + k) taken)
 
 -- those so far and one more
 pub so_far : (past es : List Event) (column : ℕ) (d : Event) → column < length es

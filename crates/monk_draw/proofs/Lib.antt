@@ -8,3 +8,4 @@ mod CourseLaws
 mod HandLaws
 mod LegendLaws
 mod PictureLaws
+mod RunLaws

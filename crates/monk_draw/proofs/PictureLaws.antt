@@ -39,7 +39,8 @@ front_by h seats shown lanes e allowed last reason drawn =
 abbrev drawn_of : Places → ℕ → List Event → List Event → ℕ → List Stretch
 drawn_of place seats past shown allowed = stretches place seats past (take allowed shown) (lanes_end (length shown))
 
-same_front : (place : Places) (h : Heading) (seats : ℕ) (past shown : List Event) (fault : Option ℕ) (last : ℕ) (reason : List ℕ)
+same_front : (place : Places) (h : Heading) (seats : ℕ) (past shown : List Event) (fault : Option ℕ) (last : ℕ)
+    (reason : List ℕ)
     (lanes : ℕ) (e : Option Event) (allowed : ℕ)
     → lanes ≡ lanes_for seats shown → e ≡ forbidden_event fault last shown → allowed ≡ allowed_with e (length shown)
     → front_by h seats shown lanes e allowed last reason (drawn_of place seats past shown allowed)
@@ -47,14 +48,16 @@ same_front : (place : Places) (h : Heading) (seats : ℕ) (past shown : List Eve
 unfolding front
 same_front place h seats past shown fault last reason lanes e allowed of_lanes of_event of_allowed =
     ap (λ n. front_by h seats shown n e allowed last reason (drawn_of place seats past shown allowed)) of_lanes
-    ∙ (ap (λ n. front_by h seats shown (lanes_for seats shown) e n last reason (drawn_of place seats past shown n)) of_allowed
+    ∙ (ap (λ n. front_by h seats shown (lanes_for seats shown) e n last reason (drawn_of place seats past shown n))
+    of_allowed
     ∙ ap
     (λ (x : Option Event). front_by h seats shown (lanes_for seats shown) x (allowed_with x (length shown)) last reason
     (drawn_of place seats past shown (allowed_with x (length shown))))
     of_event)
 
 -- all but the marks and the end, from the texts that are put one after the other
-pub puts_front : (place : Places) (h : Heading) (seats : ℕ) (past shown : List Event) (fault : Option ℕ) (last : ℕ) (reason : List ℕ)
+pub puts_front : (place : Places) (h : Heading) (seats : ℕ) (past shown : List Event) (fault : Option ℕ) (last : ℕ)
+    (reason : List ℕ)
     (old grounded stretched handed new : List ℕ) (start between with_hands legend : Legend) (lanes : ℕ)
     (e : Option Event)
     (allowed end : ℕ) (some : Bool)
@@ -98,7 +101,8 @@ shown_front place h es w fault reason seats before last of_seats behind at =
     ∙ ap (λ n. front place h h.seats (take (not_shown w n) es) (slice_range es (not_shown w n) n) fault n reason) at)
 
 -- a page with all but the marks, the marks behind it, and the end
-pub is_picture : (place : Places) (h : Heading) (es : List Event) (w : Option Window) (fault : Option ℕ) (reason : List ℕ)
+pub is_picture : (place : Places) (h : Heading) (es : List Event) (w : Option Window) (fault : Option ℕ)
+    (reason : List ℕ)
     (seats : ℕ) (object : ObjectName)
     (before allowed last : ℕ) (empty under marked all : List ℕ)
     → seats ≡ h.seats → object ≡ h.object → before ≡ not_shown w last

@@ -1,8 +1,9 @@
 -- Where a seat stands after a run, in which an event names the seat that it serves: where its own last event left it,
 -- and of a seat that waits on a condition whether an event behind its wait serves it
-use Rattle.std.specs.Prelude.{ℕ, ◌==◌, Bool, true, false, not, ◌||◌, Option, Some, None, List, [], ◌∷◌, reverse}
+use Rattle.std.specs.Prelude.{ℕ, ◌==◌, Bool, false, not, ◌||◌, Option, Some, None, List, [], ◌∷◌, reverse}
 use Rattle.std.specs.Prelude.{take_while, slice_index_or}
 use Rattle.std.specs.List.{last_or, list_any}
+use Rattle.monk_history.specs.Meaning.Conditions.{is_at}
 use Rattle.monk_history.specs.Meaning.Counts.{events_of}
 use Rattle.monk_history.specs.Meaning.Events.{seat_of}
 use Rattle.monk_history.specs.declared.event.Event.{Event}
@@ -26,22 +27,22 @@ abbrev pub is_named : ℕ → Option ℕ → Bool
 is_named s None = false
 is_named s (Some j) = j == s
 
--- whether the event is a broadcast on condition c
-abbrev pub is_broadcast_on : ℕ → Event → Bool
-is_broadcast_on c (Enter s via) = false
-is_broadcast_on c (Act s op r) = false
-is_broadcast_on c (Leave s x) = false
-is_broadcast_on c (Wait s d x) = false
-is_broadcast_on c (Signal s d x) = false
-is_broadcast_on c (SignalLeave s d x) = false
-is_broadcast_on c (Until s p x) = false
-is_broadcast_on c (Resume s q) = false
-is_broadcast_on c (SignalAll s d) = d == c
-is_broadcast_on c (SignalWait s d w x) = false
+-- the condition on which the event is a broadcast, if it is one
+abbrev pub broadcast_on : Event → Option ℕ
+broadcast_on (Enter s via) = None
+broadcast_on (Act s op r) = None
+broadcast_on (Leave s x) = None
+broadcast_on (Wait s c x) = None
+broadcast_on (Signal s c x) = None
+broadcast_on (SignalLeave s c x) = None
+broadcast_on (Until s p x) = None
+broadcast_on (Resume s q) = None
+broadcast_on (SignalAll s c) = Some c
+broadcast_on (SignalWait s c d x) = None
 
--- whether the event serves seat s, if the seat waits on condition c: it names the seat, or is a broadcast on c
+-- whether the event serves seat s, if the seat waits on condition c: it is a broadcast on c, or names the seat
 abbrev pub serves_seat : ℕ → ℕ → Event × Option ℕ → Bool
-serves_seat c s x = is_named s x.1 || is_broadcast_on c x.0
+serves_seat c s x = is_at c (broadcast_on x.0) || is_named s x.1
 
 -- the events behind the last one of seat s, the newest first
 abbrev pub behind_last : ℕ → List (Event × Option ℕ) → List (Event × Option ℕ)

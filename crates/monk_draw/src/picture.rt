@@ -237,7 +237,14 @@ pub fn draw(
 {
     let standing = DrawnSeats::new(alloc)?;
     draw_by(
-        alloc, standing, header, events, &[], window, forbidden, reason,
+        alloc,
+        standing,
+        header,
+        events,
+        &[],
+        window,
+        forbidden,
+        reason,
     )
 }
 

@@ -1,9 +1,9 @@
 //! Where all seats of a run stand, event by event.
 
-ghost use Rattle.std.specs.Prelude.{◌≡◌, ℕ, ◌==◌, IfOk, List, Option, [], length, not};
+ghost use Rattle.std.specs.Prelude.{◌≡◌, ℕ, ◌==◌, IfOk, List, Option, [], not};
 ghost use Rattle.monk_draw.specs.RunSeats.{AreAfterRun, HasAll};
-ghost use Rattle.monk_draw.specs.RunStand.{is_named};
-ghost use Rattle.monk_draw.specs.Seats.{left_in, numbers};
+ghost use Rattle.monk_draw.specs.RunStand.{broadcast_on, is_named, serves_seat};
+ghost use Rattle.monk_draw.specs.Seats.{left_in};
 ghost use Rattle.monk_draw.specs.Stand.{if_served};
 
 use crate::place::SeatPlace;
@@ -11,6 +11,24 @@ use crate::queues::NUMBERS;
 use crate::standing::Standing;
 use monk_history::Event;
 use std::alloc::{AllocError, Global};
+
+/// The condition on which the event is a broadcast, if it is one.
+fn broadcast_on(event: Event) -> Option<u8>
+    ensures { result ≡ broadcast_on event }
+{
+    match event {
+        Event::SignalAll(_, cond) => Some(cond),
+        Event::Enter(..)
+        | Event::Act(..)
+        | Event::Leave(..)
+        | Event::Wait(..)
+        | Event::Signal(..)
+        | Event::SignalLeave(..)
+        | Event::Until(..)
+        | Event::Resume(..)
+        | Event::SignalWait(..) => None,
+    }
+}
 
 /// What is kept of the events of a run, in which a signal serves the seat that it names.
 #[derive(Drop)]
@@ -54,6 +72,19 @@ impl RunSeats {
             self.places[seat] = place.served_on(cond);
         }
     }
+
+    /// Whom the event serves, which names that seat, is in the waiter queue.
+    fn serve_by(&mut self, event: Event, named: Option<u8>)
+        requires { HasAll self.old }
+        ensures served { (s : ℕ) → left_in self.new.places.items s
+            ≡ if_served (λ c. not (serves_seat c s (event, named))) (left_in self.old.places.items s) }
+        ensures all { HasAll self.new }
+    {
+        self.serve(named);
+        if let Some(cond) = broadcast_on(event) {
+            self.serve_all(cond);
+        }
+    }
 }
 
 impl Standing for RunSeats {
@@ -73,10 +104,7 @@ impl Standing for RunSeats {
     ghost tells = { λ served h seats are. are.places };
 
     fn follow(&mut self, event: Event, named: Option<u8>) -> Result<(), AllocError> {
-        self.serve(named);
-        if let Event::SignalAll(_, cond) = event {
-            self.serve_all(cond);
-        }
+        self.serve_by(event, named);
         self.places[event.seat() as usize] = SeatPlace::left_by(event);
         Ok(())
     }

@@ -75,8 +75,8 @@ fn put_changes<S: Standing>(
     requires count { length stays.old.items ≡ count }
     ensures page { OnOk result (PutsStretches (ended_below (stay_in stays.old.items) (S.kept_place seats.now) x count)
         (string_bytes page.old) (string_bytes page.new) legend.old legend.new) }
-    ensures stays { OnOk result
-        ((s : ℕ) → s < count → stay_in stays.new.items s ≡ moved (stay_in stays.old.items s) (S.kept_place seats.now s) x) }
+    ensures stays { OnOk result ((s : ℕ) → s < count
+        → stay_in stays.new.items s ≡ moved (stay_in stays.old.items s) (S.kept_place seats.now s) x) }
     ensures count { length stays.new.items ≡ count }
 {
     for seat in 0..count {
@@ -155,8 +155,8 @@ fn first_stays<S: Standing>(alloc: Global, seats: &S, count: u8) -> Result<Vec<S
     Ok(stays)
 }
 
-/// Puts the stretches of the allowed events that are shown, up to the end; `past` are the events before them, `seats` what
-/// is kept before any event, and `served` the seats that the events name.
+/// Puts the stretches of the allowed events that are shown, up to the end; `past` are the events before them. What is
+/// kept before any event is `seats`, and `served` has the seats that the events name.
 pub(crate) fn put_stretches<S: Standing>(
     alloc: Global,
     page: &mut String,

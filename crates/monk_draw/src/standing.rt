@@ -38,7 +38,8 @@ pub(crate) trait Standing: Drop {
         ensures { result ≡ kept_place self.now seat };
 
     /// What is kept of events is complete.
-    ghost complete: { (served : List (Option ℕ)) (h : List Event) (seats : Self) → is_of served h seats → has_all seats };
+    ghost complete: { (served : List (Option ℕ)) (h : List Event) (seats : Self) → is_of served h seats
+        → has_all seats };
 
     /// It says where each seat stands after them.
     ghost tells: { (served : List (Option ℕ)) (h : List Event) (seats : Self) → is_of served h seats

@@ -9,7 +9,8 @@ pub returns : goal.returns
 returns g c =
     let shown = slice_range c.args.events.now c.args.view.before c.args.last in
     on_ok_weaker c.put_above.result
-    (puts_front (g.S.Standing.stands c.args.served.now) c.args.header.now c.args.view.seats (take c.args.view.before c.args.events.now) shown
+    (puts_front (g.S.Standing.stands c.args.served.now) c.args.header.now c.args.view.seats
+    (take c.args.view.before c.args.events.now) shown
     c.args.forbidden c.args.last c.args.reason.now
     (string_bytes c.args.page.now) (string_bytes c.put_ground.new.page) (string_bytes c.put_stretches.new.page)
     (string_bytes c.put_hands.new.page) (string_bytes c.put_above.new.page) c.new-legend.result

@@ -7,5 +7,7 @@ use Rattle.monk_draw.proofs.scene.first_stays.Given as goal
 abbrev pub invariant-loop-seat : goal.invariant-loop-seat
 invariant-loop-seat g l = record {
   count : length l.stays.items ≡ l.seat;
-  stays : (s : ℕ) → s < l.seat → stay_in l.stays.items s ≡ record { place = g.S.Standing.kept_place l.seats s; from = left_edge };
+  stays :
+      (s : ℕ) → s < l.seat
+      → stay_in l.stays.items s ≡ record { place = g.S.Standing.kept_place l.seats s; from = left_edge };
 }

@@ -1,12 +1,10 @@
-use Rattle.std.proofs.Common.{◌≡◌, ◌<◌, ◌∙◌, ℕ, length, refl, ap, subst, arith}
+use Rattle.std.proofs.Common.{◌≡◌, ◌<◌, ◌∙◌, ◌+◌, ◌++◌, ℕ, length, refl, subst, arith}
 use Rattle.std.specs.Prelude.{string_bytes}
 use Rattle.monk_draw.specs.Scene.{PutsStretches}
 use Rattle.std.proofs.lemmas.List.{length-set}
 use Rattle.monk_draw.specs.Seats.{moved, stay_in}
-use Rattle.monk_draw.specs.Stretches.{ended_below}
-use Rattle.monk_draw.specs.declared.place.SeatPlace.{SeatPlace}
-use Rattle.monk_draw.specs.declared.stay.Stay.{Stay}
-use Rattle.monk_draw.proofs.CourseLaws.{done_more, ended_more, kept_at, rest_more}
+use Rattle.monk_draw.specs.Stretches.{ended, ended_below}
+use Rattle.monk_draw.proofs.CourseLaws.{done_more, ended_more, kept_at, moved_same, rest_more}
 use Rattle.monk_draw.proofs.StretchLaws.{more_stretches, no_stretches, same_stretches}
 use Rattle.monk_draw.proofs.scene.put_changes.Goals as goal
 
@@ -29,14 +27,15 @@ loop-seat-preserved g c =
     let at : c.index-stay.result.now ≡ stays i =
     kept_at kept i c.index-stay.result.now below c.index-stay.ensures ∙ c.loop-seat.invariant.rest i (omega arith) in
     let now : c.in_ok-stays.field-0 ≡ moved (stays i) (places i) c.args.x =
-    c.in_ok-stays.ensures.stay
-    ∙ (ap (λ (stay : Stay). moved stay c.place.result c.args.x) at
-    ∙ ap (λ (place : SeatPlace). moved (stays i) place c.args.x) c.place.ensures) in
+    moved_same c.in_ok-stays.field-0 c.index-stay.result.now (stays i) c.place.result (places i) c.args.x
+    c.in_ok-stays.ensures.stay at c.place.ensures in
+    let before = ended_below stays places c.args.x i in
+    let here = ended i c.index-stay.result.now c.place.result c.args.x in
     record {
       page =
-          same_stretches _ _ _ _ _ _ (ended_more stays places c.args.x i c.index-stay.result.now c.place.result
-          at c.place.ensures)
-          (more_stretches _ _ _ _ _ _ _ _ c.loop-seat.invariant.page c.in_ok-stays.ensures.page);
+          same_stretches (before ++ here) (ended_below stays places c.args.x (i + 1)) _ _ _ _
+          (ended_more stays places c.args.x i c.index-stay.result.now c.place.result at c.place.ensures)
+          (more_stretches before here _ _ _ _ _ _ c.loop-seat.invariant.page c.in_ok-stays.ensures.page);
       count = length-set kept i c.in_ok-stays.field-0 ∙ c.loop-seat.invariant.count;
       done =
           done_more kept (λ s. moved (stays s) (places s) c.args.x) i c.in_ok-stays.field-0 below

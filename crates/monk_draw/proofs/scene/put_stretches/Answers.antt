@@ -1,4 +1,4 @@
-use Rattle.std.proofs.Common.{◌≡◌, ◌∙◌, ◌+◌, ◌++◌, ℕ, Option, List, get_or, subst, sym, ap, take, arith}
+use Rattle.std.proofs.Common.{◌∙◌, ◌+◌, ◌++◌, ℕ, Option, List, get_or, subst, sym, ap, take, arith}
 use Rattle.std.proofs.lemmas.List.{append-nil}
 use Rattle.std.proofs.lemmas.Result.{on_ok_weaker}
 use Rattle.monk_history.specs.declared.event.Event.{Event}
@@ -24,7 +24,8 @@ loop-column-init g c =
     let seats = c.in_ok-seats.seats in
     record {
       page = no_stretches _ _;
-      seats = subst (λ (h : List Event). g.S.Standing.is_of served h seats) (sym (append-nil past)) c.in_ok-seats.ensures;
+      seats =
+          subst (λ (h : List Event). g.S.Standing.is_of served h seats) (sym (append-nil past)) c.in_ok-seats.ensures;
       length = c.in_ok-stays.ensures.count;
       stays =
           λ s below. c.in_ok-stays.ensures.stays s below
@@ -45,7 +46,7 @@ put_changes-requires-clause-all g c =
     let served = c.args.served.now in
     g.met.S.Standing.complete served _ c.follow.new.self
     (c.in_ok-follow.ensures served (past ++ take at es)
-    (c.named_at.ensures ∙ ap (named_at served) (length_so_far past es at c.len.result c.loop-column-test.true c.len.ensures))
+    (c.named_at.ensures ∙ ap (named_at served) (length_so_far past es at c.loop-column-test.true))
     c.loop-column.invariant.seats)
 
 pub loop-column-preserved : goal.loop-column-preserved
@@ -60,7 +61,7 @@ loop-column-preserved g c =
     let are : g.S.Standing.is_of served (past ++ take (at + 1) es) now =
     subst (λ (h : List Event). g.S.Standing.is_of served h now) (so_far past es at some_event c.loop-column-test.true)
     (c.in_ok-follow.ensures served (past ++ take at es)
-    (c.named_at.ensures ∙ ap (named_at served) (length_so_far past es at c.len.result c.loop-column-test.true c.len.ensures))
+    (c.named_at.ensures ∙ ap (named_at served) (length_so_far past es at c.loop-column-test.true))
     c.loop-column.invariant.seats) in
     let tells = g.met.S.Standing.tells served (past ++ take (at + 1) es) now are in
     record {
