@@ -125,11 +125,18 @@ fn is_control(byte: u8) -> bool
     byte < b' ' && byte != b'\t' && byte != b'\n' && byte != b'\r'
 }
 
+/// The line of that number, from 0.
+pub(crate) fn line_at(front: &[u8], number: usize) -> Option<&[u8]>
+    ensures { option_map (λ x. x.now) result ≡ slice_get (lines_of front.now) number }
+{
+    front.split(|byte| *byte == b'\n').nth(number)
+}
+
 /// The first line.
 pub(crate) fn first_line(front: &[u8]) -> Option<&[u8]>
     ensures { option_map (λ x. x.now) result ≡ slice_get (lines_of front.now) 0 }
 {
-    front.split(|byte| *byte == b'\n').nth(0)
+    line_at(front, 0)
 }
 
 /// Whether it is that byte, and stands behind a line feed.

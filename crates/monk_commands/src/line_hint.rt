@@ -1,0 +1,121 @@
+//! What form a line should have that can't be read.
+
+ghost use Rattle.std.specs.Prelude.{◌≡◌, option_map, slice_get};
+ghost use Rattle.monk_history.specs.Text.Lines.{lines_of};
+ghost use Rattle.monk_commands.specs.LineHint as hint;
+
+use crate::hint::{first_line, line_at};
+use crate::line_form::LineSet;
+use crate::task::Task;
+use crate::text_name::TextName;
+use monk_history::lines::{CheckedLines, Flaw, LineWords};
+use monk_history::{Event, Header, MOST_LINES, ReadFault};
+use monk_logs::LogLines;
+use monk_world::PlayLines;
+use std::fmt;
+
+/// What form a line should have that can't be read. It prints itself as one sentence.
+#[derive(Clone, Copy, Debug, PartialEq, Eq)]
+pub struct LineHint {
+    /// Which line it is. The first line of the text has number 1.
+    pub line: u32,
+    /// The lines that the text may have.
+    pub lines: LineSet,
+    /// The form of the lines that begin as it does; `None` where none does.
+    pub form: Option<&'static str>,
+    /// What is wrong: a word or a number.
+    pub flaw: Flaw,
+}
+
+/// The hint for an input that the task can't read, by the front of the input; `None` where no line of
+/// the front is at fault but the first.
+///
+/// # Cost
+///
+/// At most three passes over the front. No memory is taken.
+pub fn line_hint_for(task: &Task<'_>, front: &[u8]) -> Option<LineHint>
+    ensures { option_map hint.said result ≡ hint.line_hint_of task.now front.now }
+{
+    let mut words = LineWords::of(first_line(front)?);
+    let text = TextName::of_word(words.next()?)?;
+    if !text.is_read_by(task) {
+        return None;
+    }
+    let lines = LineSet::of(text, words.next()?);
+    hint_by(lines, front, fault_in(text, front)?)
+}
+
+/// The first fault of a text of that name.
+fn fault_in(text: TextName, front: &[u8]) -> Option<ReadFault>
+    ensures { result ≡ hint.fault_in text front.now }
+{
+    match text {
+        TextName::History => CheckedLines::<Header, Event>::check(front, MOST_LINES).err(),
+        TextName::Play => PlayLines::check(front).err(),
+        TextName::Log => LogLines::check(front).err(),
+    }
+}
+
+/// What is wrong within a line, by the number of the fault.
+fn flaw_numbered(number: u8) -> Option<Flaw>
+    ensures { result ≡ hint.flaw_numbered number }
+{
+    match number {
+        ReadFault::WORD => Some(Flaw::Word),
+        ReadFault::NUMBER => Some(Flaw::Number),
+        _ => None,
+    }
+}
+
+/// By the fault, if it is within a line behind the first.
+fn hint_by(lines: LineSet, front: &[u8], fault: ReadFault) -> Option<LineHint>
+    ensures { option_map hint.said result ≡ hint.said_by_fault lines front.now fault }
+{
+    if fault.line < 2 {
+        return None;
+    }
+    let flaw = flaw_numbered(fault.number)?;
+    Some(LineHint {
+        line: fault.line,
+        lines,
+        form: form_at(lines, front, fault.line),
+        flaw,
+    })
+}
+
+/// The form that a line should have, by the word that names it. The first line has number 1.
+fn form_at(lines: LineSet, front: &[u8], line: u32) -> Option<&'static str>
+    ensures { option_map (λ x. x.now) result ≡ hint.form_at lines front.now line }
+{
+    let line = line_at(front, line.saturating_sub(1) as usize)?;
+    lines.form(lines.naming_word(LineWords::of(line))?)
+}
+
+/// One sentence, without a line's end: which line it is, and what it should be.
+impl fmt::Display for LineHint {
+    ghost use Rattle.std.specs.Prelude.{Some};
+    ghost use Rattle.monk_commands.specs.LineHint.{line_sentence, said};
+
+    ghost output = { λ h. Some (line_sentence (said h)) };
+
+    fn fmt<W: fmt::Write>(&self, f: &mut fmt::Formatter<W>) -> fmt::Result {
+        write!(f, "line {} should ", self.line)?;
+        match self.form {
+            Some(form) => write!(f, "be `{form}`")?,
+            None => write!(f, "{}", self.lines.beginnings())?,
+        }
+        write!(f, "{}", number_words(self.flaw))
+    }
+}
+
+/// What is said of numbers, where one is wrong.
+fn number_words(flaw: Flaw) -> &'static str
+    ensures { result.now ≡ hint.number_words flaw }
+{
+    match flaw {
+        Flaw::Word => "",
+        Flaw::Number => {
+            "; SEAT, COND, PRED and CODE are 0 to 255, ARG is at most 4294967295, REPLY at most 18446744073709551615"
+        }
+    }
+}
