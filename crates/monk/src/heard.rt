@@ -6,7 +6,7 @@ use std::io;
 use std::io::Read;
 
 /// How many bytes of the front are kept.
-const FRONT: usize = 4096;
+const FRONT: usize = 65_536;
 
 /// A reader that passes its reads on, and keeps the first bytes that came, and the system's number
 /// for the last read that failed.

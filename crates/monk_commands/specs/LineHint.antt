@@ -1,5 +1,5 @@
 -- What is said of a line that can't be read: the form of such a line
-use Rattle.std.specs.Prelude.{ℕ, ◌-◌, ◌==◌, Bool, true, false, List, [], ◌∷◌, ◌++◌, Option, Some, None, Result, Ok, Err, nat_lt}
+use Rattle.std.specs.Prelude.{ℕ, ◌-◌, ◌==◌, Bool, List, [], ◌∷◌, ◌++◌, Option, Some, None, Result, Ok, Err, nat_lt}
 use Rattle.std.specs.Prelude.{if◌then◌else◌, slice_get, codes, option_map}
 use Rattle.std.specs.Option.{option_bind}
 use Rattle.std.specs.List.{find}
@@ -46,7 +46,10 @@ log_forms =
 abbrev pub later_events : List Form
 later_events =
     (codes "signal-all", codes "signal-all SEAT COND")
-    ∷ (codes "signal-wait", codes "signal-wait SEAT COND COND (stay | entry | waiter SEAT | signaller SEAT | until SEAT)")
+    ∷ (
+      codes "signal-wait",
+      codes "signal-wait SEAT COND COND (stay | entry | waiter SEAT | signaller SEAT | until SEAT)",
+    )
     ∷ []
 
 -- those of a history in all versions

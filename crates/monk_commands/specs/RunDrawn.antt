@@ -1,6 +1,6 @@
--- The answer to a log of which a run is drawn: a picture of a run that tells the log, or that tells the lines before the
--- first with which no run begins, and that line
-use Rattle.std.specs.Prelude.{◌≡◌, ℕ, ◌-◌, ◌<◌, ◌≤◌, ◌^◌, ◌⊎◌, Bool, false, true, List, [], ◌++◌, length, take, slice_get}
+-- The answer to a log of which a run is drawn: a picture of a run that tells the log, or that tells
+-- the lines before the first with which no run begins, and that line
+use Rattle.std.specs.Prelude.{◌≡◌, ℕ, ◌-◌, ◌<◌, ◌≤◌, ◌^◌, ◌⊎◌, false, true, List, [], ◌++◌, length, take, slice_get}
 use Rattle.std.specs.Prelude.{Option, Some, None, Result, Ok, Err, codes}
 use Rattle.std.specs.Fmt.{decimal}
 use Rattle.monk_kinds.specs.declared.name.KindName.{KindName}
@@ -71,8 +71,8 @@ verdict_status (Misfit n why) = 1
 
 -- ---- the picture
 
--- the picture of these events, which serve those seats, with the verdict's status; or the answer where those that are asked
--- for are behind the last
+-- the picture of these events, which serve those seats, with the verdict's status; or the answer
+-- where those that are asked for are behind the last
 abbrev pub IsPictureBy : Option Window → KindName → LogHeading → LogVerdict → List Event → List (Option ℕ) → List ℕ → ℕ
     → (List ℕ → Type 0) → Type 0
 IsPictureBy w k h v events served reason status Puts =
@@ -92,7 +92,8 @@ pub record IsRunDrawn (k : KindName) (o : RunOrder) (w : Option Window) (h : Log
 -- ---- the answer
 
 -- the answer to a log in which waits ran out at once: signals from outside are sent from inside
-abbrev pub IsDrawnOnce : KindName → RunOrder → Option Window → LogHeading → List LogLine → ℕ → (List ℕ → Type 0) → Type 0
+abbrev pub IsDrawnOnce :
+    KindName → RunOrder → Option Window → LogHeading → List LogLine → ℕ → (List ℕ → Type 0) → Type 0
 IsDrawnOnce k o w h log status Puts =
     ((h.size ≤ most h.object)
     × IsRunDrawn k o w h log (board_verdict (order_of o) (log_monitor k h) (judged_log k h log)) status Puts)

@@ -1,7 +1,7 @@
--- The events by which the run that a log tells is drawn. A line whose choice no other line tells is drawn as an event too:
--- one that lets go of the monitor as if the entry queue went on, and a signal as one whose caller stays
+-- The events by which the run that a log tells is drawn. A line whose choice no other line tells is
+-- drawn as an event too: one that lets go of the monitor as if the entry queue went on, and a signal
+-- as one whose caller stays
 use Rattle.std.specs.Prelude.{ℕ, List, [], ◌∷◌, ◌++◌, Option, Some, None, map}
-use Rattle.monk_history.specs.Meaning.Release.{with_next}
 use Rattle.monk_history.specs.declared.event.Event.{Event}
 use Rattle.monk_history.specs.declared.event.Event.TheVariants as event
 use Rattle.monk_history.specs.declared.event.From3.TheVariants.{Waiter}

@@ -32,7 +32,10 @@ fn lapses_of(matches: &ArgMatches<'_>) -> Lapses
 }
 
 /// The kind under which alone to judge, if one is named.
-pub(crate) fn one_kind(alloc: Global, matches: &ArgMatches<'_>) -> Result<Option<KindName>, LineFault>
+pub(crate) fn one_kind(
+    alloc: Global,
+    matches: &ArgMatches<'_>,
+) -> Result<Option<KindName>, LineFault>
     ensures { IfOk result
         (λ kind. first_of (codes "kind") (rows_of (found_of matches.now)) ≡ option_map kind_word kind) }
 {

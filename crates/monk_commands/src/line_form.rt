@@ -95,10 +95,18 @@ fn first_event(word: &[u8]) -> Option<&'static str>
         b"enter" => Some("enter SEAT (free | handed)"),
         b"act" => Some("act SEAT CODE ARG REPLY"),
         b"leave" => Some("leave SEAT (stay | entry | waiter SEAT | signaller SEAT | until SEAT)"),
-        b"wait" => Some("wait SEAT COND (stay | entry | waiter SEAT | signaller SEAT | until SEAT)"),
-        b"signal" => Some("signal SEAT COND (stay | entry | waiter SEAT | signaller SEAT | until SEAT)"),
-        b"signal-leave" => Some("signal-leave SEAT COND (stay | entry | waiter SEAT | signaller SEAT | until SEAT)"),
-        b"until" => Some("until SEAT PRED (stay | entry | waiter SEAT | signaller SEAT | until SEAT)"),
+        b"wait" => Some(
+            "wait SEAT COND (stay | entry | waiter SEAT | signaller SEAT | until SEAT)",
+        ),
+        b"signal" => Some(
+            "signal SEAT COND (stay | entry | waiter SEAT | signaller SEAT | until SEAT)",
+        ),
+        b"signal-leave" => Some(
+            "signal-leave SEAT COND (stay | entry | waiter SEAT | signaller SEAT | until SEAT)",
+        ),
+        b"until" => Some(
+            "until SEAT PRED (stay | entry | waiter SEAT | signaller SEAT | until SEAT)",
+        ),
         b"resume" => Some("resume SEAT (waiter | signaller | until)"),
         _ => None,
     }
@@ -110,7 +118,9 @@ fn later_event(word: &[u8]) -> Option<&'static str>
 {
     match word {
         b"signal-all" => Some("signal-all SEAT COND"),
-        b"signal-wait" => Some("signal-wait SEAT COND COND (stay | entry | waiter SEAT | signaller SEAT | until SEAT)"),
+        b"signal-wait" => Some(
+            "signal-wait SEAT COND COND (stay | entry | waiter SEAT | signaller SEAT | until SEAT)",
+        ),
         _ => None,
     }
 }

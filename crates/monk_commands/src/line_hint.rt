@@ -1,7 +1,6 @@
 //! What form a line should have that can't be read.
 
-ghost use Rattle.std.specs.Prelude.{◌≡◌, option_map, slice_get};
-ghost use Rattle.monk_history.specs.Text.Lines.{lines_of};
+ghost use Rattle.std.specs.Prelude.{◌≡◌, option_map};
 ghost use Rattle.monk_commands.specs.LineHint as hint;
 
 use crate::hint::{first_line, line_at};

@@ -22,7 +22,10 @@ fn run_order(word: &str) -> Option<RunOrder>
 }
 
 /// The order in which to look for a run, if one is named.
-pub(crate) fn order_of(alloc: Global, matches: &ArgMatches<'_>) -> Result<Option<RunOrder>, LineFault>
+pub(crate) fn order_of(
+    alloc: Global,
+    matches: &ArgMatches<'_>,
+) -> Result<Option<RunOrder>, LineFault>
     ensures { IfOk result
         (λ order. first_of (codes "order") (rows_of (found_of matches.now)) ≡ option_map run_order_word order) }
 {

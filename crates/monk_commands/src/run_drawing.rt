@@ -120,9 +120,7 @@ fn wrong_line(verdict: LogVerdict, judged: &[LogLine]) -> Option<LogLine>
 {
     match verdict {
         LogVerdict::Fits => None,
-        LogVerdict::Misfit { line, .. } => {
-            judged.get(line.saturating_sub(1) as usize).copied()
-        }
+        LogVerdict::Misfit { line, .. } => { judged.get(line.saturating_sub(1) as usize).copied() }
     }
 }
 
@@ -152,12 +150,7 @@ fn reason_of(alloc: Global, verdict: LogVerdict) -> Result<String, StreamFault>
 }
 
 /// The verdict, where the line that misfits has its number in the log.
-fn numbered(
-    header: &LogHeader,
-    log: &[LogLine],
-    sent: bool,
-    verdict: LogVerdict,
-) -> LogVerdict
+fn numbered(header: &LogHeader, log: &[LogLine], sent: bool, verdict: LogVerdict) -> LogVerdict
     ensures { (k : KindName) → sent ≡ is_sent k header.now log.now
         → result ≡ drawn.numbered (number_in k header.now log.now) verdict }
 {

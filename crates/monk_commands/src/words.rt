@@ -1,6 +1,6 @@
 //! The program's words, read with `clap`.
 
-ghost use Rattle.std.specs.Prelude.{◌≡◌, false, IfOk, IfSome, IsOkAnd, Some, codes, map, option_map, pos};
+ghost use Rattle.std.specs.Prelude.{◌≡◌, false, IfOk, IfSome, IsOkAnd, Some, codes, map, pos};
 ghost use Rattle.monk_kinds.specs.Names.{kind_word};
 ghost use Rattle.clap.specs.Words.{AddsArg, AddsSubcommand, App, app_of, first_of, found_of, new_app, rows_of, rule_of, subcommand_of};
 ghost use Rattle.clap.specs.Words.{subcommand_rows_of};
@@ -14,12 +14,12 @@ ghost use Rattle.monk_commands.specs.Request.{bare_app, classify_app, file_app, 
 ghost use Rattle.monk_commands.specs.Request.{window_app};
 
 use crate::arguments::{chosen, file, files, flag, number, repeated, required};
-use crate::file_words::file_of;
 use crate::draw_words::line_to_draw;
+use crate::file_words::file_of;
 use crate::fit_words::{line_to_explain, line_to_fit};
 use crate::help::{
-    AUDIT, CLASSIFY, COMPLETE, DRAW, DRAWN_KIND, DRAWN_ORDER, EXPLAIN, FIT, FROM, Help, LAPSES, MEANS, ONE_KIND, ORDER,
-    PAGE, PLAY, PRIORITY, RECORD, RUN, TO, TRACE, UPGRADE,
+    AUDIT, CLASSIFY, COMPLETE, DRAW, DRAWN_KIND, DRAWN_ORDER, EXPLAIN, FIT, FROM, Help, LAPSES,
+    MEANS, ONE_KIND, ORDER, PAGE, PLAY, PRIORITY, RECORD, RUN, TO, TRACE, UPGRADE,
 };
 use crate::order_words::order_of;
 use crate::request::{Line, LineFault};
@@ -166,7 +166,10 @@ fn drawing<'a>(alloc: Global) -> Result<Command<'a>, AllocError>
     let orders = ValueParser::Names(ORDERS.as_slice());
     let kind = chosen(alloc, "kind", DRAWN_KIND, "KIND", kinds);
     let command = described(alloc, "draw", &DRAW).arg(kind);
-    let command = taking(command, chosen(alloc, "order", DRAWN_ORDER, "ORDER", orders));
+    let command = taking(
+        command,
+        chosen(alloc, "order", DRAWN_ORDER, "ORDER", orders),
+    );
     let command = taking(command, number(alloc, "from", FROM));
     let command = taking(command, number(alloc, "to", TO));
     taking(command, file(alloc))

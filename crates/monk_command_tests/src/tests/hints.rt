@@ -1,8 +1,8 @@
 //! Inputs that a command can't read, and what to do about them; and options that name what an input doesn't have.
 
-use monk_commands::{Task, hint_for, option_hint_for};
+use monk_commands::{Task, hint_for, line_hint_for, option_hint_for};
 use monk_kinds::KindName;
-use monk_logs::{Lapses, WaitsFor};
+use monk_logs::{Lapses, RunOrder, WaitsFor};
 use std::alloc::Global;
 use std::fmt;
 use std::test::Fail;
@@ -10,7 +10,7 @@ use std::test::Fail;
 /// A command, the front of its input, and the hint, which is empty where there is none.
 type Row = (Task<'static>, &'static [u8], &'static str);
 
-static HINTS: [Row; 18] = [
+static HINTS: [Row; 19] = [
     (
         Task::Audit,
         b"",
@@ -102,6 +102,67 @@ static HINTS: [Row; 18] = [
         "the first line is no header: a history begins with `monk 1 KIND SEATS CONDS OBJECT SIZE`",
     ),
     (Task::Audit, b"monk 1 PB 2 0 buffer 1\nstay 0\n", ""),
+];
+
+static LINE_HINTS: [Row; 14] = [
+    (
+        Task::Audit,
+        b"monk 1 PB 2 0 buffer 1\nenter 0 free\nstay 0\n",
+        "line 3 should begin with enter, act, leave, wait, signal, signal-leave, until or resume",
+    ),
+    // Version 1 has no such event.
+    (
+        Task::Upgrade,
+        b"monk 1 PNB 2 1 buffer 1\nsignal-all 0 0\n",
+        "line 2 should begin with enter, act, leave, wait, signal, signal-leave, until or resume",
+    ),
+    (
+        Task::Explain,
+        b"monk 3 PNB 2 1 flags 1\nstay 0\n",
+        "line 2 should begin with enter, act, leave, wait, signal, signal-leave, until, resume, signal-all or signal-wait",
+    ),
+    (
+        Task::Page(None),
+        b"monk 2 PIR 2 1 buffer 1\nsignal-wait 0 0 entry\n",
+        "line 2 should be `signal-wait SEAT COND COND (stay | entry | waiter SEAT | signaller SEAT | until SEAT)`; SEAT, COND, PRED and CODE are 0 to 255, ARG is at most 4294967295, REPLY at most 18446744073709551615",
+    ),
+    (
+        Task::Draw(None),
+        b"monk 1 PB 2 0 buffer 1\nleave 0\n",
+        "line 2 should be `leave SEAT (stay | entry | waiter SEAT | signaller SEAT | until SEAT)`",
+    ),
+    (
+        Task::Fit(Lapses::Told, &[]),
+        b"log 1 1 0 buffer 1\nenter 0\nstay 0\n",
+        "line 3 should begin with enter, resume, lapse, leave, wait, signal, broadcast, until or act",
+    ),
+    // The first line that is at fault decides.
+    (
+        Task::DrawRun(KindName::Npnb, RunOrder::Any, None),
+        b"log 1 1 1 buffer 1\nenter 0\nwait 0\nstay 0\n",
+        "line 3 should be `wait SEAT COND`",
+    ),
+    (
+        Task::Complete(KindName::Pb),
+        b"log 1 1 1 buffer 1\nact 0 1 00 1\n",
+        "line 2 should be `act SEAT CODE ARG REPLY`; SEAT, COND, PRED and CODE are 0 to 255, ARG is at most 4294967295, REPLY at most 18446744073709551615",
+    ),
+    (
+        Task::Play,
+        b"play 1 PB 2 0 buffer 1 8\n0 arrives\n",
+        "line 2 should be SEAT and then arrive, look, out, peek, drop, grant, act, leave, wait, signal, signal-leave or until",
+    ),
+    (
+        Task::Trace,
+        b"play 2 PB 2 0 buffer 1 8\n0 signal-all\n",
+        "line 2 should be `SEAT signal-all COND`",
+    ),
+    // A line that isn't ended has another fault, and so has a first line.
+    (Task::Audit, b"monk 1 PB 2 0 buffer 1\nenter 0", ""),
+    (Task::Audit, b"monk 1 PB 2 0 buffer\nstay 0\n", ""),
+    // What the command doesn't read has a hint of its own.
+    (Task::Audit, b"log 1 1 0 buffer 1\nstay 0\n", ""),
+    (Task::Audit, b"monk 1 PB 2 0 buffer 1\nenter 0 free\n", ""),
 ];
 
 /// A meaning of a condition that isn't there, and those of predicates that some object or none has.
@@ -210,6 +271,16 @@ fn prints<T: Copy + fmt::Display>(alloc: Global, hint: Option<T>, wanted: &str) 
 fn inputs_that_are_no_texts_are_hinted_at(rt: HostRuntime) -> Result<(), Fail> {
     for (task, front, wanted) in HINTS.iter() {
         if !prints(rt.alloc(), hint_for(task, front), wanted) {
+            return Err(*wanted)?;
+        }
+    }
+    Ok(())
+}
+
+#[test]
+fn lines_that_are_none_are_hinted_at(rt: HostRuntime) -> Result<(), Fail> {
+    for (task, front, wanted) in LINE_HINTS.iter() {
+        if !prints(rt.alloc(), line_hint_for(task, front), wanted) {
             return Err(*wanted)?;
         }
     }

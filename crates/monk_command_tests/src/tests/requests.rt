@@ -125,7 +125,16 @@ static ASKING_FOR_MORE: [Asking; 29] = [
     ),
     (
         &[
-            "monk", "draw", "x.log", "--order=wake", "--from", "7", "--to", "8", "--kind", "PB",
+            "monk",
+            "draw",
+            "x.log",
+            "--order=wake",
+            "--from",
+            "7",
+            "--to",
+            "8",
+            "--kind",
+            "PB",
         ],
         "DrawRun(Pb, Wake, Some(\"x.log\"), Some(Window { from: 7, to: 8 }))",
     ),

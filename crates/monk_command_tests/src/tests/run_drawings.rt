@@ -12,7 +12,8 @@ use std::test::Fail;
 type RunDrawing = (KindName, RunOrder, Drawing<'static>);
 
 /// Two wait, one signal comes, and the one that came last goes on.
-const LAST_SERVED: &[u8] = b"log 1 3 1 shop 2\nenter 0\nwait 0 0\nenter 1\nwait 1 0\nenter 2\nsignal 2 0\nleave 2\nresume 1\n";
+const LAST_SERVED: &[u8] =
+    b"log 1 3 1 shop 2\nenter 0\nwait 0 0\nenter 1\nwait 1 0\nenter 2\nsignal 2 0\nleave 2\nresume 1\n";
 
 static DRAWINGS: [RunDrawing; 14] = [
     // Seat 1 is in the waiter queue from the signal, step 6, to its resume, step 8.
