@@ -143,6 +143,7 @@ static int is_ending(int number) { return number == ENDING[0] || number == ENDIN
 static void end_by_signal(int number) {
     struct sigaction plain = {.sa_handler = SIG_DFL};
     sigset_t this_one;
+    how_it_ended = "by a signal";
     finish();
     real.sigaction(number, &plain, 0);
     sigemptyset(&this_one);
@@ -207,6 +208,7 @@ static void *watch_time(void *milliseconds) {
     long left = (long)milliseconds;
     struct timespec time = {left / 1000, left % 1000 * MILLISECOND};
     nanosleep(&time, 0);
+    how_it_ended = "after MONK_SECONDS";
     _exit(STATUS_LATE);
 }
 

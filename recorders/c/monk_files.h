@@ -139,6 +139,9 @@ static void read_name(struct thread *thread) {
     close(file);
 }
 
+/* How the program ended. */
+static const char *how_it_ended = "by itself";
+
 static void write_names(const struct log *log, const char *name) {
     static struct page page;
     char beside[NAME + 8];
@@ -158,6 +161,7 @@ static void write_names(const struct log *log, const char *name) {
         read_name(log->seats[i]);
         print(&page, "seat %d thread %d %s\n", i, log->seats[i]->id, log->seats[i]->name);
     }
+    print(&page, "ended %s\n", how_it_ended);
     close_page(&page, beside);
 }
 

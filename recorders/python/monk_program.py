@@ -23,6 +23,7 @@ class Program:
     def __init__(self) -> None:
         self.recorders: list[Recorder] = []
         self.front = ""  # of the last line, of a child that was forked
+        self.how_it_ended = "by itself"
         self.prefix, self._is_written, self._is_refused = os.environ.get("MONK_LOG"), threading_lock(), False
 
     def recorder(self) -> Recorder | None:
@@ -106,7 +107,7 @@ class Program:
                 with open(name, "x") as file:
                     file.write(recorder.text(os.environ.get("MONK_OBJECT", "buffer 1")))
                 with open(f"{name}.names", "x") as file:
-                    file.writelines(names_of(recorder))
+                    file.writelines([*names_of(recorder), f"ended {self.how_it_ended}\n"])
             except FileExistsError:
                 continue
             except OSError as error:
@@ -151,12 +152,14 @@ def names_of(recorder: Recorder) -> list[str]:
 
 def end_late(program: Program, seconds: float) -> None:
     time.sleep(seconds)
+    program.how_it_ended = "after MONK_SECONDS"
     program.write()
     exit_at_once(STATUS_LATE)
 
 
 def end_by_signal(program: Program) -> Callable[[int, types.FrameType | None], None]:
     def end(number: int, _: types.FrameType | None) -> None:
+        program.how_it_ended = "by a signal"
         program.write()
         signal.signal(number, signal.SIG_DFL)
         os.kill(os.getpid(), number)
