@@ -1,13 +1,18 @@
 use Rattle.std.proofs.Common.{◌∙◌, refl, sym, codes}
 use Rattle.clap.specs.Words.{found_of}
 use Rattle.clap.proofs.WalkLemmas.{first_value-rows}
-use Rattle.monk_commands.proofs.draw_words.line_to_draw.Goals as goal
+use Rattle.monk_commands.proofs.draw_words.line_of_kind.Goals as goal
 
 pub returns : goal.returns
 returns c =
     let found = found_of c.args.matches.now in
     record {
       command = refl;
-      values = (sym (first_value-rows found (codes "FILE")) ∙ sym c.in_ok-file.ensures, c.in_ok-window.ensures);
+      values = (
+        c.requires.kind,
+        c.in_ok-order.ensures,
+        sym (first_value-rows found (codes "FILE")) ∙ sym c.in_ok-file.ensures,
+        c.in_ok-window.ensures,
+      );
       in_range = tt;
     }
