@@ -2,7 +2,9 @@
 use Rattle.std.proofs.Common.{◌≡◌, ℕ, ◌+◌, ◌-◌, ◌≤◌, ◌^◌, inl, inr, List, [], ◌∷◌, ◌++◌, length, map, take, Option, Some, None}
 use Rattle.std.proofs.Common.{Result, Ok, Err, refl, ap, subst, sym, arith}
 use Rattle.std.specs.Prelude.{IfSome, slice_get}
+use Rattle.std.proofs.Math.Nat.{min-le_left, min-le_right}
 use Rattle.std.proofs.lemmas.List.{length-append, length-map, length-take}
+use Rattle.std.proofs.lemmas.Option.{slice_get_within}
 use Rattle.monk_draw.specs.declared.window.Window.{Window}
 use Rattle.monk_kinds.specs.declared.name.KindName.{KindName}
 use Rattle.monk_object.specs.Names.{most}
@@ -11,7 +13,7 @@ use Rattle.monk_history.specs.declared.event.Event.TheVariants as event
 use Rattle.monk_history.specs.declared.text.fault.ReadFault.{ReadFault}
 use Rattle.monk_logs.specs.BoardStand.{board_verdict}
 use Rattle.monk_logs.specs.Expiry.{at_once}
-use Rattle.monk_logs.specs.FitsIn.{IsOpenIn, run_lines}
+use Rattle.monk_logs.specs.FitsIn.{IsOpenIn, run_lines, step_lines}
 use Rattle.monk_logs.specs.Log.{LogHeading}
 use Rattle.monk_logs.specs.Log.Reading.{Log, log_at}
 use Rattle.monk_logs.specs.RunFound.{order_of}
@@ -20,6 +22,7 @@ use Rattle.monk_logs.specs.Verdict.{log_monitor}
 use Rattle.monk_logs.specs.VerdictIn.{FitsExactlyIn}
 use Rattle.monk_logs.specs.declared.board.pending.Pending.{Pending}
 use Rattle.monk_logs.specs.declared.board.pending.Pending.TheVariants.{Settled, Half, Release}
+use Rattle.monk_logs.specs.declared.board.step.Step.{Step}
 use Rattle.monk_logs.specs.declared.board.step.Step.TheVariants.{Did, Lapsed}
 use Rattle.monk_logs.specs.declared.runs.run_order.RunOrder.{RunOrder}
 use Rattle.monk_logs.specs.declared.runs.run_step.RunStep.{RunStep}
@@ -48,12 +51,15 @@ event_line (event.Resume s q) = omega (arith)
 event_line (event.SignalAll s c) = omega (arith)
 event_line (event.SignalWait s c d x) = omega (arith)
 
+step_line : (step : Step) → 1 ≤ length (step_lines step)
+step_line (Did e) = event_line e
+step_line (Lapsed s) = omega (arith)
+
 -- so a run has no more steps than lines
 steps_few : (run : List RunStep) → length run ≤ length (run_lines (steps_of run))
 steps_few [] = omega (arith)
-steps_few (record { step = Did e; served = w } ∷ run) =
-    omega (arith, event_line e, steps_few run, length-append (untold (Release e)) (run_lines (steps_of run)))
-steps_few (record { step = Lapsed s; served = w } ∷ run) = omega (arith, steps_few run)
+steps_few (r ∷ run) =
+    omega (arith, step_line r.step, steps_few run, length-append (step_lines r.step) (run_lines (steps_of run)))
 
 untold_few : (p : Pending) → length (untold_events p) ≤ length (untold p)
 untold_few Settled = omega (arith)
@@ -68,8 +74,9 @@ told_few (Misfit n why) log = at (slice_get log (n - 1)) refl
   where
     at : (l : Option LogLine) → slice_get log (n - 1) ≡ l
         → length (take (n - 1) log) + length (wrong_events l) ≤ length log
-    at None is = omega (arith, length-take (n - 1) log)
-    at (Some l) is = omega (arith, length-take (n - 1) log)
+    at None is = omega (arith, length-take (n - 1) log, min-le_right (n - 1) (length log))
+    at (Some l) is =
+        omega (arith, length-take (n - 1) log, min-le_left (n - 1) (length log), slice_get_within log (n - 1) l is)
 
 pub events_few : (o : RunOrder) (k : KindName) (h : LogHeading) (log : List LogLine) (v : LogVerdict)
     (run : List RunStep) (left : Pending) → length log ≤ 2 ^ 25

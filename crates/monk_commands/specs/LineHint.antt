@@ -1,7 +1,7 @@
 -- What is said of a line that can't be read: the form of such a line
 use Rattle.std.specs.Prelude.{ℕ, ◌-◌, ◌==◌, Bool, List, [], ◌∷◌, ◌++◌, Option, Some, None, Result, Ok, Err, nat_lt}
 use Rattle.std.specs.Prelude.{if◌then◌else◌, slice_get, codes, option_map}
-use Rattle.std.specs.Option.{option_bind}
+use Rattle.std.specs.Option.{option_and_then}
 use Rattle.std.specs.List.{find}
 use Rattle.std.specs.Str.{bytes_eq}
 use Rattle.std.specs.Fmt.{decimal}
@@ -131,7 +131,7 @@ words_at front n = words_left (slice_get (lines_of front) (n - 1))
 
 -- the form that a line should have, by the word that names it
 abbrev pub form_at : LineSet → List ℕ → ℕ → Option (List ℕ)
-form_at lines front n = option_bind (naming_word lines (words_at front n)) (form_named lines)
+form_at lines front n = option_and_then (form_named lines) (naming_word lines (words_at front n))
 
 -- ---- the fault
 

@@ -91,24 +91,24 @@ impl LineSet {
 fn first_event(word: &[u8]) -> Option<&'static str>
     ensures { option_map (λ x. x.now) result ≡ hint.form_by hint.first_events word.now }
 {
-    match word {
-        b"enter" => Some("enter SEAT (free | handed)"),
-        b"act" => Some("act SEAT CODE ARG REPLY"),
-        b"leave" => Some("leave SEAT (stay | entry | waiter SEAT | signaller SEAT | until SEAT)"),
-        b"wait" => Some(
-            "wait SEAT COND (stay | entry | waiter SEAT | signaller SEAT | until SEAT)",
-        ),
-        b"signal" => Some(
-            "signal SEAT COND (stay | entry | waiter SEAT | signaller SEAT | until SEAT)",
-        ),
-        b"signal-leave" => Some(
-            "signal-leave SEAT COND (stay | entry | waiter SEAT | signaller SEAT | until SEAT)",
-        ),
-        b"until" => Some(
-            "until SEAT PRED (stay | entry | waiter SEAT | signaller SEAT | until SEAT)",
-        ),
-        b"resume" => Some("resume SEAT (waiter | signaller | until)"),
-        _ => None,
+    if word == b"enter".as_slice() {
+        Some("enter SEAT (free | handed)")
+    } else if word == b"act".as_slice() {
+        Some("act SEAT CODE ARG REPLY")
+    } else if word == b"leave".as_slice() {
+        Some("leave SEAT (stay | entry | waiter SEAT | signaller SEAT | until SEAT)")
+    } else if word == b"wait".as_slice() {
+        Some("wait SEAT COND (stay | entry | waiter SEAT | signaller SEAT | until SEAT)")
+    } else if word == b"signal".as_slice() {
+        Some("signal SEAT COND (stay | entry | waiter SEAT | signaller SEAT | until SEAT)")
+    } else if word == b"signal-leave".as_slice() {
+        Some("signal-leave SEAT COND (stay | entry | waiter SEAT | signaller SEAT | until SEAT)")
+    } else if word == b"until".as_slice() {
+        Some("until SEAT PRED (stay | entry | waiter SEAT | signaller SEAT | until SEAT)")
+    } else if word == b"resume".as_slice() {
+        Some("resume SEAT (waiter | signaller | until)")
+    } else {
+        None
     }
 }
 
@@ -116,12 +116,14 @@ fn first_event(word: &[u8]) -> Option<&'static str>
 fn later_event(word: &[u8]) -> Option<&'static str>
     ensures { option_map (λ x. x.now) result ≡ hint.form_by hint.later_events word.now }
 {
-    match word {
-        b"signal-all" => Some("signal-all SEAT COND"),
-        b"signal-wait" => Some(
+    if word == b"signal-all".as_slice() {
+        Some("signal-all SEAT COND")
+    } else if word == b"signal-wait".as_slice() {
+        Some(
             "signal-wait SEAT COND COND (stay | entry | waiter SEAT | signaller SEAT | until SEAT)",
-        ),
-        _ => None,
+        )
+    } else {
+        None
     }
 }
 
@@ -129,20 +131,32 @@ fn later_event(word: &[u8]) -> Option<&'static str>
 fn first_command(word: &[u8]) -> Option<&'static str>
     ensures { option_map (λ x. x.now) result ≡ hint.form_by hint.first_commands word.now }
 {
-    match word {
-        b"arrive" => Some("SEAT arrive"),
-        b"look" => Some("SEAT look"),
-        b"out" => Some("SEAT out"),
-        b"peek" => Some("SEAT peek"),
-        b"drop" => Some("SEAT drop"),
-        b"grant" => Some("SEAT grant"),
-        b"act" => Some("SEAT act CODE ARG"),
-        b"leave" => Some("SEAT leave (entry | waiter | signaller)"),
-        b"wait" => Some("SEAT wait COND (entry | waiter | signaller)"),
-        b"signal" => Some("SEAT signal COND (entry | waiter | signaller)"),
-        b"signal-leave" => Some("SEAT signal-leave COND (entry | waiter | signaller)"),
-        b"until" => Some("SEAT until PRED (entry | waiter | signaller)"),
-        _ => None,
+    if word == b"arrive".as_slice() {
+        Some("SEAT arrive")
+    } else if word == b"look".as_slice() {
+        Some("SEAT look")
+    } else if word == b"out".as_slice() {
+        Some("SEAT out")
+    } else if word == b"peek".as_slice() {
+        Some("SEAT peek")
+    } else if word == b"drop".as_slice() {
+        Some("SEAT drop")
+    } else if word == b"grant".as_slice() {
+        Some("SEAT grant")
+    } else if word == b"act".as_slice() {
+        Some("SEAT act CODE ARG")
+    } else if word == b"leave".as_slice() {
+        Some("SEAT leave (entry | waiter | signaller)")
+    } else if word == b"wait".as_slice() {
+        Some("SEAT wait COND (entry | waiter | signaller)")
+    } else if word == b"signal".as_slice() {
+        Some("SEAT signal COND (entry | waiter | signaller)")
+    } else if word == b"signal-leave".as_slice() {
+        Some("SEAT signal-leave COND (entry | waiter | signaller)")
+    } else if word == b"until".as_slice() {
+        Some("SEAT until PRED (entry | waiter | signaller)")
+    } else {
+        None
     }
 }
 
@@ -150,10 +164,12 @@ fn first_command(word: &[u8]) -> Option<&'static str>
 fn later_command(word: &[u8]) -> Option<&'static str>
     ensures { option_map (λ x. x.now) result ≡ hint.form_by hint.later_commands word.now }
 {
-    match word {
-        b"signal-all" => Some("SEAT signal-all COND"),
-        b"signal-wait" => Some("SEAT signal-wait COND COND (entry | waiter | signaller)"),
-        _ => None,
+    if word == b"signal-all".as_slice() {
+        Some("SEAT signal-all COND")
+    } else if word == b"signal-wait".as_slice() {
+        Some("SEAT signal-wait COND COND (entry | waiter | signaller)")
+    } else {
+        None
     }
 }
 
@@ -161,16 +177,25 @@ fn later_command(word: &[u8]) -> Option<&'static str>
 fn log_line(word: &[u8]) -> Option<&'static str>
     ensures { option_map (λ x. x.now) result ≡ hint.form_by hint.log_forms word.now }
 {
-    match word {
-        b"enter" => Some("enter SEAT"),
-        b"resume" => Some("resume SEAT"),
-        b"lapse" => Some("lapse SEAT"),
-        b"leave" => Some("leave SEAT"),
-        b"wait" => Some("wait SEAT COND"),
-        b"signal" => Some("signal SEAT COND"),
-        b"broadcast" => Some("broadcast SEAT COND"),
-        b"until" => Some("until SEAT PRED"),
-        b"act" => Some("act SEAT CODE ARG REPLY"),
-        _ => None,
+    if word == b"enter".as_slice() {
+        Some("enter SEAT")
+    } else if word == b"resume".as_slice() {
+        Some("resume SEAT")
+    } else if word == b"lapse".as_slice() {
+        Some("lapse SEAT")
+    } else if word == b"leave".as_slice() {
+        Some("leave SEAT")
+    } else if word == b"wait".as_slice() {
+        Some("wait SEAT COND")
+    } else if word == b"signal".as_slice() {
+        Some("signal SEAT COND")
+    } else if word == b"broadcast".as_slice() {
+        Some("broadcast SEAT COND")
+    } else if word == b"until".as_slice() {
+        Some("until SEAT PRED")
+    } else if word == b"act".as_slice() {
+        Some("act SEAT CODE ARG REPLY")
+    } else {
+        None
     }
 }

@@ -1,10 +1,10 @@
 use Rattle.std.proofs.Common.{rules, tests}
 use Rattle.std.proofs.lemmas.Iterator.Consumers.{nth_from_yields_List}
 use Rattle.std.proofs.lemmas.Iterator.Splits.{YieldsList-from_slice_split}
-use Rattle.monk_commands.proofs.hint.first_line.Goals as goal
+use Rattle.monk_commands.proofs.hint.line_at.Goals as goal
 
 pub returns : goal.returns
 returns c =
-    nth_from_yields_List _ _ 0 c.nth.ensures.ran
+    nth_from_yields_List _ _ c.args.number c.nth.ensures.ran
     (YieldsList-from_slice_split _ _ c.args.front.now c.split.ensures.rest c.split.ensures.done c.split.ensures.closure
     (λ x r q k. search (rules, tests)))
