@@ -9,3 +9,4 @@ mod HandLaws
 mod LegendLaws
 mod PictureLaws
 mod RunLaws
+mod FrontLaws
