@@ -10,3 +10,4 @@ mod LegendLaws
 mod PictureLaws
 mod RunLaws
 mod FrontLaws
+mod RunPictureLaws
