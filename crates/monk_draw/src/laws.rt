@@ -20,8 +20,8 @@ pub fn seats_are_where_they_stand()
     ensures { (m : Monitor) (h : List Event) → IsLegal m h → (s : ℕ) → IsAt (place_after h s) (situation m h) s }
 {}
 
-/// A legal history is drawn as the run in which each signal names the front of its condition's queue: after it each seat
-/// stands where it stands in that run, whatever comes behind, and the pictures are the same.
+/// A legal history is drawn as the run in which each signal names the front of its condition's queue: each seat stands
+/// there as it stands in that run, whatever comes behind, and the pictures are the same.
 pub fn histories_are_drawn_as_runs()
     ensures places { (m : Monitor) (h more : List Event) → IsLegal m h → (s : ℕ)
         → run_place_after (fronts (h ++ more)) h s ≡ place_after h s }
