@@ -9,3 +9,5 @@ mod HandLaws
 mod LegendLaws
 mod PictureLaws
 mod RunLaws
+mod FrontLaws
+mod RunPictureLaws

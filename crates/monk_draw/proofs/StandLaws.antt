@@ -298,7 +298,7 @@ any_event m t e s rest a is =
     (other_event m t e s rest a other is))
 
 -- where the last event of a seat left it, after one event more
-left_then : (h : List Event) (e : Event) (s : ℕ)
+pub left_then : (h : List Event) (e : Event) (s : ℕ)
     → cond (seat_of e == s) (left_by e) (left_at (last_or None (events_of h s)))
     ≡ left_at (last_or None (events_of (h ++ e ∷ []) s))
 left_then h e s =

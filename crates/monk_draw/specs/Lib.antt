@@ -13,6 +13,7 @@ pub mod Hand
 pub mod Legend
 pub mod Stand
 pub mod RunStand
+pub mod Fronts
 pub mod AtPlace
 pub mod Stretches
 pub mod Seats

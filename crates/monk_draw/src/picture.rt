@@ -169,7 +169,7 @@ fn put_front<S: Standing>(
     )
 }
 
-/// Draws, with what is kept before any event.
+/// Draws the events; `standing` is what is kept before any of them.
 fn draw_by<S: Standing>(
     alloc: Global,
     standing: S,
@@ -250,11 +250,11 @@ pub fn draw(
 
 /// The picture of a run: that of a history, but a signal serves the seat that `served` names.
 ///
-/// `served` has a seat for each event that serves one: for a signal the seat that it wakes, which
-/// need not be the front of the condition's queue. `None` stands where an event serves nobody, and
-/// beyond the end of `served` too. A broadcast serves all that wait on its condition, and names
-/// nobody. A seat that waits on a condition is drawn there up to the event that serves it, and then
-/// in the waiter queue up to its own next event. All else is as [`draw`] has it.
+/// `served` has an entry for each event, in order: the seat that the event serves, or `None`. Beyond
+/// its end stands `None` too. A signal may serve any seat that waits on its condition, and not only
+/// the front of the queue. A broadcast serves all that wait on its condition, and names nobody. A
+/// seat that waits on a condition is drawn there up to the event that serves it, and from there on
+/// in the waiter queue, up to its own next event. All else is as [`draw`] has it.
 ///
 /// # Errors
 ///

@@ -15,7 +15,8 @@ returns g c =
     let shown = slice_range c.args.events.now before last in
     let allowed_is : c.allowed_with.result ≡ allowed_of c.args.forbidden last shown =
     c.allowed_with.ensures.value
-    ∙ ap (λ e. allowed_with e (length shown)) {y = forbidden_event c.args.forbidden last shown} c.forbidden_event.ensures in
+    ∙ ap (λ e. allowed_with e (length shown)) {y = forbidden_event c.args.forbidden last shown}
+    c.forbidden_event.ensures in
     record {
       marks =
           has_marks c.args.header.now c.args.events.now c.args.window c.args.forbidden c.seats_of.result
