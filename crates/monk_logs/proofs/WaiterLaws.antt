@@ -56,7 +56,7 @@ seats-given : (c : ℕ) (xs : List ℕ) → waiting_seats (map (λ s. Service c)
 seats-given c [] = refl
 seats-given c (x ∷ xs) = seats-given c xs
 
-services-append : (xs ys : List Item) → length (services (xs ++ ys)) ≡ length (services xs) + length (services ys)
+pub services-append : (xs ys : List Item) → length (services (xs ++ ys)) ≡ length (services xs) + length (services ys)
 services-append [] ys = omega arith
 services-append (Waiting s c ∷ xs) ys = services-append xs ys
 services-append (Service c ∷ xs) ys = omega (arith, services-append xs ys)
@@ -80,7 +80,7 @@ seats_given (Resume s q) items = refl
 seats_given (SignalAll s c) items = seats-given c (unserved_in (line c items))
 seats_given (SignalWait s c d x) items = seats-given c (take 1 (unserved_in (line c items)))
 
-services_joined : (e : Event) → length (services (waiting_item e)) ≡ zero
+pub services_joined : (e : Event) → length (services (waiting_item e)) ≡ zero
 services_joined (Enter s v) = refl
 services_joined (Act s op r) = refl
 services_joined (Leave s x) = refl

@@ -29,6 +29,7 @@ pub mod BoardLegal
 pub mod BoardShown
 pub mod BoardMoves
 pub mod Unheard
+pub mod GoingOn
 pub mod Counts
 pub mod Recount
 pub mod Fit
