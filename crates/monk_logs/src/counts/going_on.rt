@@ -1,12 +1,12 @@
 //! Whether a seat inside can go on.
 
-ghost use Rattle.std.specs.Prelude.{◌≡◌, ◌<◌, ◌++◌, [], All};
-ghost use Rattle.monk_logs.specs.Board.{items_with, waiting_item};
+ghost use Rattle.std.specs.Prelude.{◌≡◌, ◌<◌, ◌==◌, ◌&&◌, [], All};
+ghost use Rattle.monk_history.specs.Meaning.Signallers.{is_empty};
+ghost use Rattle.monk_history.specs.Meaning.Untils.{ready_of};
 ghost use Rattle.monk_logs.specs.BoardCourse.{board_course};
-ghost use Rattle.monk_logs.specs.BoardMoves.{board_served};
 ghost use Rattle.monk_logs.specs.BoardShown.{IsBoardOf, board_shown};
 ghost use Rattle.monk_logs.specs.BoardStand.{IsHeldOver};
-ghost use Rattle.monk_logs.specs.Counts.{woken_among, woken_now};
+ghost use Rattle.monk_logs.specs.Counts.{woken_now};
 ghost use Rattle.monk_logs.specs.GoingOn as goings;
 ghost use Rattle.monk_logs.specs.Stand.{monitor_in};
 
@@ -14,19 +14,16 @@ use crate::board::Board;
 use crate::board::lines::is_open;
 use crate::board::pending::Pending;
 use crate::setting::MonitorSetting;
-use monk_history::Event;
 use monk_object::Guarded;
 
-/// Whether nobody inside is to go on behind an event whose choice is to come, where so many were
-/// served and are not back. A signaller that joins by the event has served somebody.
+/// Whether nobody inside is to go on, where so many were served and are not back.
 #[inline(always)]
-fn is_idle<T: Guarded>(object: &T, board: &Board, event: Event, woken: usize) -> bool
-    requires holds { All (λ w. w.1 < T.PREDICATES) (board_shown board.now []).untils }
-    requires woken { woken
-        ≡ woken_among (items_with (board_shown board.now (T.state object.now)) event ++ waiting_item event) }
-    ensures { result ≡ goings.is_idle T.meaning (board_served (board_shown board.now (T.state object.now)) event) }
+fn is_idle<T: Guarded>(object: &T, board: &Board, woken: usize) -> bool
+    requires { All (λ w. w.1 < T.PREDICATES) (board_shown board.now []).untils }
+    ensures { result ≡ ((woken == 0) && (is_empty (board_shown board.now []).signallers
+        && is_empty (ready_of T.meaning (T.state object.now) (board_shown board.now []).untils))) }
 {
-    woken == 0 && board.signallers.is_empty() && board.rest.first_ready(object).is_none()
+    woken == 0 && (board.signallers.is_empty() && board.rest.first_ready(object).is_none())
 }
 
 /// Whether a seat inside can go on there, where so many were served and are not back.
@@ -47,7 +44,7 @@ pub(crate) fn can_go_on<T: Guarded>(
         Pending::Settled => !is_open(board.rest.turn()),
         Pending::Half(..) => true,
         Pending::Release(event) => {
-            !is_idle(object, board, event, woken) || board.must_stay(object, event)
+            !is_idle(object, board, woken) || board.must_stay(object, event)
         }
     }
 }

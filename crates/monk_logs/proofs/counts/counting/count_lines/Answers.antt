@@ -105,6 +105,13 @@ with_line-so_far-requires-clause-among g c =
     c.loop-line.pending c.in-Fits.left c.in_ok-left.field-0 c.in_ok-left.ensures.judged c.in-Fits.is same))
     c.loop-line.invariant.among
 
+pub can_go_on-going-requires-clause-held : goal.can_go_on-going-requires-clause-held
+can_go_on-going-requires-clause-held g c = λ lifetimes outlives.
+    read_goes_held c.args.lapses c.args.order (monitor_in c.args.setting g.T.Guarded.meaning) c.in-Some.line
+    (board_shown c.loop-line.board (g.T.Guarded.state c.loop-line.object))
+    (board_shown c.line_read.new.board (g.T.Guarded.state c.line_read.new.object))
+    c.loop-line.pending c.in-Fits.left c.in_ok-left.field-0 c.in_ok-left.ensures.judged c.in-Fits.is
+
 pub loop-line-preserved : goal.loop-line-preserved
 loop-line-preserved g c =
     let m = monitor_in c.args.setting g.T.Guarded.meaning in
