@@ -1,4 +1,5 @@
 -- Logs behind which nobody inside can go on
-mod Insiders
-mod Numbers
-mod Nobody
+pub mod Insiders
+pub mod Numbers
+pub mod Nobody
+pub mod Ends

@@ -31,6 +31,7 @@ pub mod BoardMoves
 pub mod Unheard
 pub mod GoingOn
 pub mod Counts
+pub mod Dead
 pub mod Recount
 pub mod Fit
 pub mod Lapses

@@ -4,11 +4,11 @@ use Rattle.std.proofs.lemmas.Bool.{cases_eq}
 use Rattle.monk_logs.proofs.OrderLaws.Seated.{one_at_most}
 
 -- how many of the first seats are inside
-pub insiders : ℕ → (ℕ → Bool) → ℕ
+abbrev pub insiders : ℕ → (ℕ → Bool) → ℕ
 insiders zero inside = 0
 insiders (suc n) inside = insiders n inside + cond (inside n) 1 0
 
-few_inside : (n : ℕ) (f : ℕ → Bool) → insiders n f ≤ n
+pub few_inside : (n : ℕ) (f : ℕ → Bool) → insiders n f ≤ n
 few_inside zero f = omega arith
 few_inside (suc n) f = omega (arith, few_inside n f, one_at_most (f n))
 
@@ -18,7 +18,7 @@ as_many (suc n) f g same =
     omega (
       arith,
       as_many n f g (λ j l. same j (omega (arith, l))),
-      ap (λ (b : Bool). cond b 1 0) (same n (omega arith)),
+      ap (λ (b : Bool). cond {A = ℕ} b 1 0) (same n (omega arith)),
     )
 
 -- one seat more
@@ -30,15 +30,15 @@ one_more (suc n) s f g l out here same =
     (λ is. omega (
       arith,
       as_many n f g (λ j k. same j (λ e. omega (arith, k, e, is))),
-      ap (λ (i : ℕ). cond (f i) 1 0) is,
-      ap (λ (b : Bool). cond b 1 0) out,
-      ap (λ (i : ℕ). cond (g i) 1 0) is,
-      ap (λ (b : Bool). cond b 1 0) here,
+      ap (λ (i : ℕ). cond {A = ℕ} (f i) 1 0) is,
+      ap (λ (b : Bool). cond {A = ℕ} b 1 0) out,
+      ap (λ (i : ℕ). cond {A = ℕ} (g i) 1 0) is,
+      ap (λ (b : Bool). cond {A = ℕ} b 1 0) here,
     ))
     (λ ne. omega (
       arith,
       one_more n s f g (omega (arith, l, ne)) out here same,
-      ap (λ (b : Bool). cond b 1 0) (same n ne),
+      ap (λ (b : Bool). cond {A = ℕ} b 1 0) (same n ne),
     ))
     (cases_eq s n)
 
@@ -51,6 +51,6 @@ pub all_inside : (n j : ℕ) (f : ℕ → Bool) → n ≤ insiders n f → j < n
 all_inside zero j f many l = absurd (omega (arith, l))
 all_inside (suc n) j f many l =
     ⊎_elim
-    (λ is. here (f j) (omega (arith, few_inside n f, many, ap (λ (i : ℕ). cond (f i) 1 0) is)))
+    (λ is. here (f j) (omega (arith, few_inside n f, many, ap (λ (i : ℕ). cond {A = ℕ} (f i) 1 0) is)))
     (λ ne. all_inside n j f (omega (arith, many, one_at_most (f n))) (omega (arith, l, ne)))
     (cases_eq j n)

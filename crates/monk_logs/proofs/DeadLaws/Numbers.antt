@@ -24,20 +24,20 @@ use Rattle.monk_logs.proofs.OrderLaws.Seated.{owned_turn}
 use Rattle.monk_logs.proofs.OrderLaws.Sound.{Sound, sound_opening}
 
 -- how many of the lines are entries, and how many tell that a seat left
-pub entries : List LogLine → ℕ
+abbrev pub entries : List LogLine → ℕ
 entries [] = 0
 entries (l ∷ log) = cond (is_enter l) 1 0 + entries log
 
-pub leaves : List LogLine → ℕ
+abbrev pub leaves : List LogLine → ℕ
 leaves [] = 0
 leaves (l ∷ log) = cond (is_leave l) 1 0 + leaves log
 
 pub entries-append : (xs ys : List LogLine) → entries (xs ++ ys) ≡ entries xs + entries ys
-entries-append [] ys = refl
+entries-append [] ys = omega arith
 entries-append (l ∷ xs) ys = omega (arith, entries-append xs ys)
 
 pub leaves-append : (xs ys : List LogLine) → leaves (xs ++ ys) ≡ leaves xs + leaves ys
-leaves-append [] ys = refl
+leaves-append [] ys = omega arith
 leaves-append (l ∷ xs) ys = omega (arith, leaves-append xs ys)
 
 -- ---- an event
@@ -113,7 +113,7 @@ module _ (o : Order) (m : Monitor) (b : Board) (sound : Sound b) where
       ≡ leaves (erasure_of e) + insiders m.seats x.inside) g.comes (event_moves e g.passes)
   step_moves (Lapsed s) c h =
       let g = goes o m b (Lapsed s) c h in
-      subst (λ (x : Board). ◌≡◌ {A = ℕ} (insiders m.seats b.inside) (insiders m.seats x.inside)) g.comes refl
+      omega (arith, ap (λ (x : Board). insiders m.seats x.inside) g.comes)
 
 -- ---- all steps
 
@@ -145,8 +145,8 @@ steps_move : (o : Order) (m : Monitor) (steps : List Step) (x : Option Board) (c
 unfolding board_from
 steps_move o m steps None c h b is sound = absurd cc
 steps_move o m [] (Some a) c h b is sound =
-    let same : b ≡ c = cc in
-    ap (λ (z : Board). insiders m.seats z.inside) same
+    let end : b ≡ c = cc in
+    omega (arith, ap (λ (z : Board). insiders m.seats z.inside) end)
 steps_move o m (step ∷ steps) (Some a) c h b is sound =
     let same : a ≡ b = cc in
     step_first o m b step steps (board_step o m b step) c sound refl
