@@ -3,3 +3,5 @@ pub mod Insiders
 pub mod Numbers
 pub mod Nobody
 pub mod Ends
+pub mod Follows
+pub mod Exact

@@ -129,9 +129,12 @@ pub fn time_limits_are_exact()
         → IsOpenIn o m log → IsOpenIn o m (at_once (offered_conds m) log) }
 {}
 
-/// If all seats of the monitor are inside at the end of a log and none of them can go on, only a
-/// wait that runs out can come next: no line but a `lapse` can follow, in any order of the queues.
+/// Behind a log at whose end all seats of the monitor are inside and none of them can go on, only a
+/// wait that runs out can come: no line but a `lapse` can follow it, in any order of the queues. And
+/// it is only behind those: any other log that is open in an order can go on so in that order.
 pub fn dead_logs_end()
-    ensures ends { (m : Monitor) (means : List WaitsFor) (log : List LogLine) → IsDead m (counts_of m means log)
+    ensures dead { (m : Monitor) (means : List WaitsFor) (log : List LogLine) → IsDead m (counts_of m means log)
         → (o : Order) → MayFollow o m log → ⊥ }
+    ensures others { (o : Order) → (m : Monitor) → (means : List WaitsFor) → (log : List LogLine)
+        → (IsDead m (counts_of m means log) → ⊥) → IsOpenIn o m log → MayFollow o m log }
 {}

@@ -39,14 +39,14 @@ use Rattle.monk_logs.proofs.BoardLaws.Lists.{judge-append}
 use Rattle.monk_logs.proofs.BoardLaws.Soundness.{IsStillOn, SomeTell, judged_steps}
 use Rattle.monk_logs.proofs.BoardLaws.Standing.{over_same}
 use Rattle.monk_logs.proofs.CourseLaws.Soundness.{rest_of}
-use Rattle.monk_logs.proofs.DeadLaws.Insiders.{all_inside, few_inside, insiders}
+use Rattle.monk_logs.proofs.DeadLaws.Insiders.{all_inside, few_inside}
 use Rattle.monk_logs.proofs.DeadLaws.Nobody.{AreInside, LetsNobodyOut, none_leads_on}
 use Rattle.monk_logs.proofs.DeadLaws.Numbers.{entries, entries-append, leaves, leaves-append, steps_inside}
 use Rattle.monk_logs.proofs.OrderLaws.Wider.{fifo_is_wake, wake_is_any}
 
 -- ---- the counts of a log that is read to its end
 
-came_to : (r : Result BoardCourse Blame) (y : BoardCourse) → result_ok r ≡ Some y → r ≡ Ok y
+pub came_to : (r : Result BoardCourse Blame) (y : BoardCourse) → result_ok r ≡ Some y → r ≡ Ok y
 came_to (Ok x) y h = let same : x ≡ y = cc in ap (λ (z : BoardCourse). Ok z) same
 came_to (Err why) y h = absurd cc
 
@@ -203,22 +203,43 @@ unfolding board_judge_from
 next_line m c l no_lapse h all none =
     some_line m c l (board_behind Any m c.board c.pending l) no_lapse refl h all none
 
-module _ (m : Monitor) (means : List WaitsFor) (log : List LogLine) (dead : IsDead m (counts_of m means log)) where
-  ends_at : (c : BoardCourse) → board_judge Any m log ≡ Some c
-      → EndsAt Allowed Any m means 0 (nothing_counted m) log c
-  ends_at c is = ends_from Allowed Any m means 0 (nothing_counted m) log c
-      (Some (board_settled (opening_board m))) refl is
+ends_at : (m : Monitor) (means : List WaitsFor) (log : List LogLine) (c : BoardCourse) → board_judge Any m log ≡ Some c
+    → EndsAt Allowed Any m means 0 (nothing_counted m) log c
+ends_at m means log c is =
+    ends_from Allowed Any m means 0 (nothing_counted m) log c (Some (board_settled (opening_board m))) refl is
 
+-- what is counted at the end of a log that is read to its end
+pub counted_at : (m : Monitor) (means : List WaitsFor) (log : List LogLine) (c : BoardCourse)
+    → board_judge Any m log ≡ Some c → ((counts_of m means log).inside ≡ entries log - leaves log)
+    × ((counts_of m means log).can_go_on ≡ can_go_on m.object c)
+counted_at m means log c is =
+    let e = ends_at m means log c is in
+    (ap (λ (k : Counts). k.inside) e.counts ∙ omega (arith, e.entered, e.left), ap (λ (k : Counts). k.can_go_on) e.counts)
+
+pub in_any : (m : Monitor) (o : Order) (all : List LogLine) → IsOpenIn o m all → IsOpenIn Any m all
+in_any m Fifo all x = record {
+  steps = x.steps;
+  run = wake_is_any m x.steps (opening_situation m) (fifo_is_wake m x.steps (opening_situation m) x.run);
+  more = x.more;
+  tells = x.tells;
+}
+in_any m Wake all x = record {
+  steps = x.steps;
+  run = wake_is_any m x.steps (opening_situation m) x.run;
+  more = x.more;
+  tells = x.tells;
+}
+in_any m Any all x = x
+
+module _ (m : Monitor) (means : List WaitsFor) (log : List LogLine) (dead : IsDead m (counts_of m means log)) where
   none_behind : (l : LogLine) → is_lapse l ≡ false → (x : Option BoardCourse) → board_judge Any m log ≡ x
       → is_some (board_judge_from Any m x (l ∷ [])) ≡ true → ⊥
   unfolding board_judge_from
   none_behind l no_lapse None is h = false≢true h
   none_behind l no_lapse (Some c) is h =
-      let e = ends_at c is in
-      let number = ap (λ (k : Counts). k.inside) (sym e.counts) ∙ dead.all_inside in
-      let none = ap (λ (k : Counts). k.can_go_on) (sym e.counts) ∙ dead.none_goes in
-      let all = all_in Any m log c (judged_steps Any m log c is) (omega (arith, number, e.entered, e.left)) in
-      next_line m c l no_lapse h all none
+      let n = counted_at m means log c is in
+      let all = all_in Any m log c (judged_steps Any m log c is) (sym n.0 ∙ dead.all_inside) in
+      next_line m c l no_lapse h all (sym n.1 ∙ dead.none_goes)
 
   follows_none : (l : LogLine) → is_lapse l ≡ false → IsOpenIn Any m (log ++ l ∷ []) → ⊥
   follows_none l no_lapse follows =
@@ -226,20 +247,5 @@ module _ (m : Monitor) (means : List WaitsFor) (log : List LogLine) (dead : IsDe
       (ap is_some (sym (judge-append Any m (Some (board_settled (opening_board m))) log (l ∷ [])))
       ∙ open_judged Any m (log ++ l ∷ []) follows)
 
-  in_any : (o : Order) (all : List LogLine) → IsOpenIn o m all → IsOpenIn Any m all
-  in_any Fifo all x = record {
-    steps = x.steps;
-    run = wake_is_any m x.steps (opening_situation m) (fifo_is_wake m x.steps (opening_situation m) x.run);
-    more = x.more;
-    tells = x.tells;
-  }
-  in_any Wake all x = record {
-    steps = x.steps;
-    run = wake_is_any m x.steps (opening_situation m) x.run;
-    more = x.more;
-    tells = x.tells;
-  }
-  in_any Any all x = x
-
   pub dead_ends : (o : Order) → MayFollow o m log → ⊥
-  dead_ends o f = follows_none f.line f.no_lapse (in_any o (log ++ f.line ∷ []) f.is_open)
+  dead_ends o f = follows_none f.line f.no_lapse (in_any m o (log ++ f.line ∷ []) f.is_open)

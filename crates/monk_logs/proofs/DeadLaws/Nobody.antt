@@ -1,5 +1,5 @@
 -- Where all seats are inside and none can go on, no line but a lapse leads on
-use Rattle.std.proofs.Common.{◌≡◌, ℕ, ◌+◌, ◌<◌, Bool, true, false, cond, ◌&&◌, ◌||◌, not, List, [], ◌∷◌, ◌++◌, Option, Some, None}
+use Rattle.std.proofs.Common.{◌≡◌, ℕ, ◌<◌, Bool, true, false, cond, ◌&&◌, ◌||◌, not, List, [], ◌∷◌, Option, Some, None}
 use Rattle.std.proofs.Common.{refl, sym, ap, subst, ◌∙◌, ⊎_elim}
 use Rattle.std.proofs.lemmas.Bool.{and_from, and_parts, cases_Bool, false≢true, or_left, true≢false}
 use Rattle.std.specs.Option.{option_map, option_map_or}
@@ -14,30 +14,29 @@ use Rattle.monk_history.specs.declared.event.Next.TheVariants as next
 use Rattle.monk_history.specs.declared.event.Turn.{Turn}
 use Rattle.monk_history.specs.declared.event.Turn.TheVariants.{Open, Due, Owned}
 use Rattle.monk_history.specs.Meaning.Choice.{must_stay}
-use Rattle.monk_history.specs.Meaning.Events.{is_stay, is_way_out, next_of, returns_at_once, seat_of, steps_back}
+use Rattle.monk_history.specs.Meaning.Events.{is_way_out, next_of, returns_at_once, seat_of, steps_back}
 use Rattle.monk_history.specs.Meaning.Monitor.{Monitor}
 use Rattle.monk_history.specs.Meaning.Reasons.{is_due, is_open, is_owned_by, may_enter}
-use Rattle.monk_history.specs.Meaning.Release.{MayCallIn, with_next}
+use Rattle.monk_history.specs.Meaning.Release.{with_next}
 use Rattle.monk_history.specs.Meaning.Signallers.{is_empty}
 use Rattle.monk_history.specs.Meaning.Turn.{is_enter_of, is_exit_of}
 use Rattle.monk_history.specs.Meaning.Untils.{ready_of}
 use Rattle.monk_history.proofs.PublicLaws.Meaning.{seat_in_range}
-use Rattle.monk_logs.specs.Board.{Board, board_after, board_chances, board_permits, board_step, items_with, sight, signallers_with}
-use Rattle.monk_logs.specs.BoardCourse.{BoardCourse, board_behind, board_course, board_half, board_hold, board_known, board_line}
-use Rattle.monk_logs.specs.BoardCourse.{board_settled, board_then, board_told, board_told_next, board_via, standing_choice}
+use Rattle.monk_logs.specs.Board.{Board, board_after, board_chances, board_step, items_with, sight, signallers_with}
+use Rattle.monk_logs.specs.BoardCourse.{BoardCourse, board_behind, board_hold, board_line}
+use Rattle.monk_logs.specs.BoardCourse.{board_settled, board_then, board_told, board_told_next, board_via}
 use Rattle.monk_logs.specs.BoardMoves.{board_served}
 use Rattle.monk_logs.specs.Chances.{Chances, may_choose_by, may_signal_by, permits_by}
 use Rattle.monk_logs.specs.Course.{due_from}
 use Rattle.monk_logs.specs.FitsIn.{is_lapse}
 use Rattle.monk_logs.specs.GoingOn.{can_go_on_behind, is_idle}
 use Rattle.monk_logs.specs.Items.{condition_of, has_service, has_service_behind, line, may_resume, services}
-use Rattle.monk_logs.specs.Order.{is_among, may_go}
+use Rattle.monk_logs.specs.Order.{is_among}
 use Rattle.monk_logs.specs.declared.board.item.Item.{Item}
 use Rattle.monk_logs.specs.declared.board.item.Item.TheVariants.{Service, Waiting}
 use Rattle.monk_logs.specs.declared.board.pending.Pending.{Pending}
 use Rattle.monk_logs.specs.declared.board.pending.Pending.TheVariants.{Settled, Half, Release}
 use Rattle.monk_logs.specs.declared.board.step.Step.TheVariants.{Did}
-use Rattle.monk_logs.specs.declared.order.Order.{Order}
 use Rattle.monk_logs.specs.declared.order.Order.TheVariants.{Any}
 use Rattle.monk_logs.specs.declared.text.line.LogLine.{LogLine}
 use Rattle.monk_logs.specs.declared.text.line.LogLine.TheVariants.{Enter, Resume, Lapse, Leave, Wait, Signal, Broadcast, Until, Act}
@@ -100,13 +99,13 @@ nobody_resumes j items h = nobody_resumes_at j items (condition_of j items) h
 -- ---- what a line tells of a release
 
 -- a release written with that choice serves the same, and must stay where it must
-record Renamed (o : Object) (b : Board) (e f : Event) (x : Next) : Type 0 where
-  serves : board_served b f ≡ board_served b e
-  stays : must_stay o (sight b) f ≡ must_stay o (sight b) e
-  chose : next_of f ≡ Some x
-  ways : (j : ℕ) → is_exit_of j f ≡ is_exit_of j e
+pub record Renamed (o : Object) (b : Board) (e f : Event) (x : Next) : Type 0 where
+  pub serves : board_served b f ≡ board_served b e
+  pub stays : must_stay o (sight b) f ≡ must_stay o (sight b) e
+  pub chose : next_of f ≡ Some x
+  pub ways : (j : ℕ) → is_exit_of j f ≡ is_exit_of j e
 
-renamed : (o : Object) (b : Board) (e : Event) (x : Next) → next_of e ≡ Some next.Stay
+pub renamed : (o : Object) (b : Board) (e : Event) (x : Next) → next_of e ≡ Some next.Stay
     → Renamed o b e (with_next x e) x
 renamed o b (event.Enter s via) x h = absurd cc
 renamed o b (event.Act s op r) x h = absurd cc

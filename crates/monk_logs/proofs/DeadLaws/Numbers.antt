@@ -1,7 +1,7 @@
 -- How many came in and left by what lines tell, and how many are inside on the board
 use Rattle.std.proofs.Common.{◌≡◌, ℕ, zero, suc, ◌+◌, ◌<◌, Bool, true, false, cond, ◌&&◌, ◌||◌, not, List, [], ◌∷◌, ◌++◌, Option, Some, None}
 use Rattle.std.proofs.Common.{refl, sym, ap, subst, ◌∙◌, arith}
-use Rattle.std.proofs.lemmas.Bool.{and_parts, eq-eqb, false≢true, ne_eqb}
+use Rattle.std.proofs.lemmas.Bool.{eq-eqb, false≢true, ne_eqb}
 use Rattle.std.specs.Prelude.{◌==◌}
 use Rattle.monk_history.specs.declared.event.Event.{Event}
 use Rattle.monk_history.specs.declared.event.Event.TheVariants as event
@@ -90,13 +90,19 @@ module _ (o : Order) (m : Monitor) (b : Board) (sound : Sound b) where
       ≡ leaves (erasure_of e) + insiders m.seats (board_after m.object b e).inside
   event_moves (event.Enter s via) p = omega (arith, goes_in s via p)
   event_moves (event.Leave s x) p =
-      omega (arith, goes_out (event.Leave s x) s
-      (seat_in_range m.seats m.conds m.object.codes m.object.predicates (event.Leave s x) p.may_call.in_range)
-      p.may_call.in_turn (λ j. refl))
+      omega (
+        arith,
+        goes_out (event.Leave s x) s
+            (seat_in_range m.seats m.conds m.object.codes m.object.predicates (event.Leave s x) p.may_call.in_range)
+            p.may_call.in_turn (λ j. refl),
+      )
   event_moves (event.SignalLeave s c x) p =
-      omega (arith, goes_out (event.SignalLeave s c x) s
-      (seat_in_range m.seats m.conds m.object.codes m.object.predicates (event.SignalLeave s c x) p.may_call.in_range)
-      p.may_call.in_turn (λ j. refl))
+      omega (
+        arith,
+        goes_out (event.SignalLeave s c x) s
+            (seat_in_range m.seats m.conds m.object.codes m.object.predicates (event.SignalLeave s c x) p.may_call.in_range)
+            p.may_call.in_turn (λ j. refl),
+      )
   event_moves (event.Act s op r) p = omega (arith, stays_in (event.Act s op r) (λ j. refl))
   event_moves (event.Wait s c x) p = omega (arith, stays_in (event.Wait s c x) (λ j. refl))
   event_moves (event.Signal s c x) p = omega (arith, stays_in (event.Signal s c x) (λ j. refl))
@@ -159,5 +165,8 @@ pub steps_inside : (o : Order) (m : Monitor) (steps : List Step) (b : Board)
     → board_steps o m (opening_board m) steps ≡ Some b
     → entries (run_lines steps) ≡ leaves (run_lines steps) + insiders m.seats b.inside
 steps_inside o m steps b h =
-    omega (arith, steps_move o m steps (Some (opening_board m)) b h (opening_board m) refl (sound_opening m),
-    nobody_in m.seats)
+    omega (
+      arith,
+      steps_move o m steps (Some (opening_board m)) b h (opening_board m) refl (sound_opening m),
+      nobody_in m.seats,
+    )
