@@ -1,4 +1,4 @@
--- Whether somebody inside is to go on, by how many were served and aren't back and who stood among the signallers before
+-- Whether somebody inside is to go on, by how many were served and aren't back, and by who signalled before
 use Rattle.std.proofs.Common.{◌≡◌, ◌∙◌, ℕ, ◌+◌, Bool, true, false, cond, List, [], ◌∷◌, ◌++◌, refl, sym, ap}
 use Rattle.std.proofs.Common.{length, arith, append-nil, ⊎_elim}
 use Rattle.std.proofs.lemmas.Bool.{cases_Bool, cases_eq, eq-eqb, ne_eqb, true≢false}

@@ -18,8 +18,8 @@ use Rattle.monk_logs.specs.declared.board.pending.Pending.TheVariants.{Settled, 
 abbrev pub is_idle : Object → Board → Bool
 is_idle o b = is_empty (services b.items) && (is_empty b.signallers && is_empty (ready_of o b.state b.untils))
 
--- by what is still to be known. A seat that has the turn goes on, and the caller of a signal that is half told. Behind a
--- release its caller goes on where it must stay, and else whoever may be chosen inside
+-- by what is still to be known. A seat that has the turn goes on, and so does the caller of a signal that is half told.
+-- Behind a release its caller goes on where it must stay, and else whoever may be chosen inside
 abbrev pub can_go_on_behind : Object → Board → Pending → Bool
 can_go_on_behind o b Settled = not (is_open b.turn)
 can_go_on_behind o b (Half s c) = true

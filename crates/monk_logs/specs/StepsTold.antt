@@ -47,5 +47,6 @@ pub record AreStepsOf (o : Order) (m : Monitor) (log : List LogLine) (steps : Li
 
 -- what is found of a log line by line: its steps, or the verdict that it misfits
 abbrev pub AreStepsBy : Order → Monitor → List LogLine → Told → Type 0
-AreStepsBy o m log (found.Steps steps left) = (board_verdict o m log ≡ Fits) × AreStepsOf o m log (steps_of steps.items) left
+AreStepsBy o m log (found.Steps steps left) =
+    (board_verdict o m log ≡ Fits) × AreStepsOf o m log (steps_of steps.items) left
 AreStepsBy o m log (found.Misfit line why) = board_verdict o m log ≡ Misfit line why

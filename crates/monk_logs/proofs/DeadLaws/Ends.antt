@@ -214,7 +214,8 @@ pub counted_at : (m : Monitor) (means : List WaitsFor) (log : List LogLine) (c :
     × ((counts_of m means log).can_go_on ≡ can_go_on m.object c)
 counted_at m means log c is =
     let e = ends_at m means log c is in
-    (ap (λ (k : Counts). k.inside) e.counts ∙ omega (arith, e.entered, e.left), ap (λ (k : Counts). k.can_go_on) e.counts)
+    let inside = ap (λ (k : Counts). k.inside) e.counts ∙ omega (arith, e.entered, e.left) in
+    (inside, ap (λ (k : Counts). k.can_go_on) e.counts)
 
 pub in_any : (m : Monitor) (o : Order) (all : List LogLine) → IsOpenIn o m all → IsOpenIn Any m all
 in_any m Fifo all x = record {

@@ -65,10 +65,10 @@ module _ (o w : Order) (m : Monitor) where
       let right : q ≡ d = cc in
       sym left ∙ same p q refl refl ∙ right
   same_both (Some p) (Some q) c d (l ∷ log) same h k =
-      let one = same p q refl refl in
+      let one = sym (same p q refl refl) in
       same_both (board_behind o m p.board p.pending l) (board_behind w m p.board p.pending l) c d log
       (same_next p l) h
-      (subst (λ (r : BoardCourse). board_judge_from w m (board_behind w m r.board r.pending l) log ≡ Some d) (sym one) k)
+      (subst (λ (r : BoardCourse). board_judge_from w m (board_behind w m r.board r.pending l) log ≡ Some d) one k)
 
   pub same_course : (log : List LogLine) (c d : BoardCourse) → board_judge o m log ≡ Some c
       → board_judge w m log ≡ Some d → c ≡ d

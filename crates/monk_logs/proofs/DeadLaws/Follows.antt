@@ -199,7 +199,12 @@ steps_follow o m steps b taken (inr few) =
 
 -- the same priorities, but that entry has one of its own
 abbrev apart_entry : Rules → Rules
-apart_entry k = record { entry = suc (k.waiter + k.signaller); waiter = k.waiter; signaller = k.signaller; mode = k.mode }
+apart_entry k = record {
+  entry = suc (k.waiter + k.signaller);
+  waiter = k.waiter;
+  signaller = k.signaller;
+  mode = k.mode;
+}
 
 abbrev apart_monitor : Monitor → Monitor
 apart_monitor m = record {
@@ -293,7 +298,8 @@ module _ (o : Order) (m : Monitor) (b : Board) (ord : Orderly m b) (e : Event) (
         let busy : (must_stay m.object (sight b) f || not (is_idle m.object (board_served b f))) ≡ true =
         ap (λ (x : Bool). x || not (is_idle m.object (board_served b f))) r.stays
         ∙ ap (λ (d : Board). must_stay m.object (sight b) e || not (is_idle m.object d)) r.serves ∙ goes_on in
-        let p = permitted_too m.kind q (seat_of f) (must_stay m.object (sight b) f) (is_some (steps_back f)) c.choice busy
+        let p =
+        permitted_too m.kind q (seat_of f) (must_stay m.object (sight b) f) (is_some (steps_back f)) c.choice busy
         (subst (λ (n : Option Next). cond (must_stay m.object (sight b) f) (is_stay n)
         (option_map_or (λ x. cond (is_some (steps_back f)) (may_signal_by (apart_entry m.kind) q (seat_of f) x)
         (may_choose_by (apart_entry m.kind) q (seat_of f) x)) n true) ≡ true) r.chose c.passes.permitted) in

@@ -90,19 +90,13 @@ module _ (o : Order) (m : Monitor) (b : Board) (sound : Sound b) where
       ≡ leaves (erasure_of e) + insiders m.seats (board_after m.object b e).inside
   event_moves (event.Enter s via) p = omega (arith, goes_in s via p)
   event_moves (event.Leave s x) p =
-      omega (
-        arith,
-        goes_out (event.Leave s x) s
-            (seat_in_range m.seats m.conds m.object.codes m.object.predicates (event.Leave s x) p.may_call.in_range)
-            p.may_call.in_turn (λ j. refl),
-      )
+      let e = event.Leave s x in
+      let l = seat_in_range m.seats m.conds m.object.codes m.object.predicates e p.may_call.in_range in
+      omega (arith, goes_out e s l p.may_call.in_turn (λ j. refl))
   event_moves (event.SignalLeave s c x) p =
-      omega (
-        arith,
-        goes_out (event.SignalLeave s c x) s
-            (seat_in_range m.seats m.conds m.object.codes m.object.predicates (event.SignalLeave s c x) p.may_call.in_range)
-            p.may_call.in_turn (λ j. refl),
-      )
+      let e = event.SignalLeave s c x in
+      let l = seat_in_range m.seats m.conds m.object.codes m.object.predicates e p.may_call.in_range in
+      omega (arith, goes_out e s l p.may_call.in_turn (λ j. refl))
   event_moves (event.Act s op r) p = omega (arith, stays_in (event.Act s op r) (λ j. refl))
   event_moves (event.Wait s c x) p = omega (arith, stays_in (event.Wait s c x) (λ j. refl))
   event_moves (event.Signal s c x) p = omega (arith, stays_in (event.Signal s c x) (λ j. refl))

@@ -9,8 +9,9 @@ use Rattle.monk_logs.proofs.counts.going_on.can_go_on.Goals as goal
 pub returns-in-Settled : goal.returns-in-Settled
 returns-in-Settled g c =
     let d = g.T.Guarded.state c.args.object.now in
+    let b = board_shown c.args.board.now d in
     ap not (c.is_open.ensures ∙ ap is_open (c.turn.ensures d))
-    ∙ ap (λ (p : Pending). can_go_on_behind g.T.Guarded.meaning (board_shown c.args.board.now d) p) (sym c.in-Settled.is)
+    ∙ ap (λ (p : Pending). can_go_on_behind g.T.Guarded.meaning b p) (sym c.in-Settled.is)
 
 pub returns-then-not-is_idle : goal.returns-then-not-is_idle
 returns-then-not-is_idle g c =
