@@ -35,8 +35,8 @@ use std::alloc::Global;
 ///
 /// # Cost
 ///
-/// That of [`judge_in`](crate::judge_in), and two passes over the steps. Memory for the steps: some
-/// hundred bytes a line.
+/// That of [`judge_in`](crate::judge_in), and two passes over the steps. Memory for a step and for a
+/// note of 16 bytes a line; the notes are given back.
 pub fn find_run(
     alloc: Global,
     header: &LogHeader,
