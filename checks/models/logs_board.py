@@ -306,6 +306,16 @@ def behind(rules, course, line):
     return blame(rules, board, event, line)
 
 
+def can_go_on(rules, course):
+    """Whether a seat inside can go on: who has the monitor, or has told half of a signal; behind a release its caller, where it
+    must stay, who was served and isn't back, who stepped back, and who waits until a predicate that holds."""
+    board, event, half = course
+    if not event:
+        return half is not None or board.active is not None
+    served, back = services(board.items + given(board, event)), board.signallers + stepped(board, event)
+    return must_stay(rules, board, event) or bool(served or back or ready(rules, board))
+
+
 def judge(rules, lines, origins=None):
     """None where a log fits, else the first line with which no run begins, and the test that it fails. Lines have the numbers
     that are given, or are counted from 1."""

@@ -15,7 +15,8 @@ import sys
 from collections import namedtuple
 
 sys.dont_write_bytecode = True
-from logs_board import ANY, ORDERS, REASONS, Header, Rules, behind, given, judge, line_of, monitor, opening, services, thing, unserved, waiting
+from logs_board import ANY, ORDERS, REASONS, Header, Rules, behind, can_go_on, given, judge, line_of, monitor, opening
+from logs_board import services, thing, unserved, waiting
 from logs_expiry import at_once, conds_under
 from logs_outside import OUTSIDE_KIND, SIGNALS, from_inside, has_outside
 
@@ -68,13 +69,19 @@ def held_behind(step, line, held):
     return None if line[0] in ("leave", "wait", "until") else held or (line[1], step)
 
 
-def ending(held, inside, woken, seats):
-    """How the log of so many seats ends."""
+def is_dead(rules, course):
+    """Whether all seats are inside, and none can go on."""
+    return len(standing(course)[1]) == rules.header.seats and not can_go_on(rules, course)
+
+
+def ending(held, rules, course):
+    """How a log ends that has come there."""
+    items, inside = standing(course)
     if held:
         return "busy {} {}".format(*held)
-    if woken or not inside:
-        return "owed" if woken else "free"
-    return "dead" if inside == seats else "open"
+    if services(items) or not inside:
+        return "owed" if services(items) else "free"
+    return "dead" if is_dead(rules, course) else "open"
 
 
 def crossing(lines, seat):
@@ -114,7 +121,7 @@ def counted_as(header, lines, kind="NPNB", means=(), origins=None):
     said = [" ".join(f"{word} {number}" for word, number in count.items())]
     said.append(f"left waiting {len(items) - 2 * services(items)} woken {services(items)} inside {len(inside)}")
     nobody = f"unheard {len(unheard)} {unheard[-1]}" if unheard else "unheard none"
-    return Counts(said, nobody, [f"missed {missed or 'none'}"] if means else [], ending(held, len(inside), services(items), header.seats))
+    return Counts(said, nobody, [f"missed {missed or 'none'}"] if means else [], ending(held, rules, course))
 
 
 def counted(header, lines, means=()):

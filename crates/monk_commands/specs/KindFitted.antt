@@ -1,6 +1,6 @@
 -- The answer to a text that is judged under one kind: one line, behind the name of the text
 use Rattle.std.specs.Prelude.{◌≡◌, ℕ, List, [], ◌∷◌, ◌++◌, ◌-◌, ◌^◌, ◌==◌, length, take, Option, Some, None, Result, Ok, Err}
-use Rattle.std.specs.Prelude.{nat_lt, Bool, true, false, ◌&&◌, if◌then◌else◌, codes}
+use Rattle.std.specs.Prelude.{nat_lt, Bool, true, false, ◌&&◌, not, if◌then◌else◌, codes}
 use Rattle.std.specs.Fmt.{decimal}
 use Rattle.std.specs.List.{flat_map}
 use Rattle.monk_kinds.specs.Names.{kind_word, rules_named}
@@ -82,25 +82,25 @@ counts_status None None = 0
 counts_status None (Some h) = 1
 counts_status (Some n) held = 1
 
--- how the log of so many seats ends where nobody has the monitor, by how many are inside and how many of them are to
--- come back: dead where all are inside and none is to come back
-abbrev pub idle_words : ℕ → ℕ → ℕ → List ℕ
-idle_words seats inside woken =
+-- how the log of so many seats ends where nobody has the monitor, by how many are inside, how many of them are to come
+-- back, and whether one of them can go on: dead where all are inside and none can
+abbrev pub idle_words : ℕ → ℕ → ℕ → Bool → List ℕ
+idle_words seats inside woken goes =
     if inside == 0 then codes "free\n" else if nat_lt 0 woken then codes "owed\n"
-    else if inside == seats then codes "dead\n" else codes "open\n"
+    else if inside == seats && not goes then codes "dead\n" else codes "open\n"
 
 -- who has the monitor, and since which line
 abbrev pub busy_words : Held → List ℕ
 busy_words h = codes "busy " ++ decimal h.seat ++ codes " " ++ decimal h.line ++ codes "\n"
 
 -- how the log of so many seats ends: by who has the monitor, if somebody has it, since which line
-abbrev pub end_words : ℕ → Option Held → ℕ → ℕ → List ℕ
-end_words seats None inside woken = idle_words seats inside woken
-end_words seats (Some h) inside woken = busy_words h
+abbrev pub end_words : ℕ → Option Held → ℕ → ℕ → Bool → List ℕ
+end_words seats None inside woken goes = idle_words seats inside woken goes
+end_words seats (Some h) inside woken goes = busy_words h
 
 -- the same, of what was counted
 abbrev pub end_line : ℕ → Counts → List ℕ
-end_line seats c = end_words seats c.held c.inside c.woken
+end_line seats c = end_words seats c.held c.inside c.woken c.can_go_on
 
 -- the status of a log: 1 where it misfits
 abbrev pub fit_status : Counts → Fit → ℕ
@@ -195,6 +195,7 @@ numbered_counts number c = record {
   waiting = c.waiting;
   woken = c.woken;
   inside = c.inside;
+  can_go_on = c.can_go_on;
   held = numbered_held number c.held;
   missed = c.missed;
   unheard = numbered_unheard number c.unheard;

@@ -168,14 +168,14 @@ fn fit_status(counts: Counts, found: Fit) -> u8
 }
 
 /// How the log of so many seats ends where nobody has the monitor.
-fn idle_words(seats: u8, inside: u64, woken: u64) -> &'static str
-    ensures { result.now ≡ idle_words seats inside woken }
+fn idle_words(seats: u8, inside: u64, woken: u64, can_go_on: bool) -> &'static str
+    ensures { result.now ≡ idle_words seats inside woken can_go_on }
 {
     if inside == 0 {
         "free\n"
     } else if woken > 0 {
         "owed\n"
-    } else if inside == u64::from(seats) {
+    } else if inside == u64::from(seats) && !can_go_on {
         "dead\n"
     } else {
         "open\n"
@@ -199,7 +199,7 @@ fn end_line(alloc: Global, seats: u8, counts: Counts) -> Result<String, StreamFa
     match counts.held {
         Some(held) => busy_words(alloc, held),
         None => {
-            let words = idle_words(seats, counts.inside, counts.woken);
+            let words = idle_words(seats, counts.inside, counts.woken, counts.can_go_on);
             Ok(String::from_str(alloc, words)?)
         }
     }

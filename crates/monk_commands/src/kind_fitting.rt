@@ -182,9 +182,9 @@ fn kind_answer(
 /// for, `; missed STEP` or `; missed none` follows. Last stands who has the monitor behind what was
 /// counted: `; busy SEAT STEP` where a seat has it, with the line since which it has it; `; free`
 /// where nobody is inside; `; owed` where a seat was served that is not back; `; dead` where each seat
-/// of the header is inside and waits unserved; and else `; open`, where each seat inside waits
-/// unserved. Of a log that fits, the status is 1 where a signal is missed or a seat has the monitor at
-/// the end, else 0. `lapses` and `means` are for logs alone.
+/// of the header is inside and none can go on; and else `; open`. Of a log that fits, the status is 1
+/// where a signal is missed or a seat has the monitor at the end, else 0. `lapses` and `means` are for
+/// logs alone.
 ///
 /// All but the crossed seats is said of the log in which each wait that a `lapse` follows ran out at
 /// once ([`expire_at_once`]): a thread whose time has run out comes back by entry, and may have left

@@ -22,4 +22,6 @@ mod CrossedLaws
 mod FitLaws
 mod NeedLaws
 mod WaiterLaws
+mod GoingLaws
+mod DeadLaws
 mod TimedLaws

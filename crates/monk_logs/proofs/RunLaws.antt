@@ -4,3 +4,4 @@ pub mod Places
 pub mod Told
 pub mod Lines
 pub mod Found
+pub mod Few

@@ -56,19 +56,19 @@ seats-given : (c : ℕ) (xs : List ℕ) → waiting_seats (map (λ s. Service c)
 seats-given c [] = refl
 seats-given c (x ∷ xs) = seats-given c xs
 
-services-append : (xs ys : List Item) → length (services (xs ++ ys)) ≡ length (services xs) + length (services ys)
+pub services-append : (xs ys : List Item) → length (services (xs ++ ys)) ≡ length (services xs) + length (services ys)
 services-append [] ys = omega arith
 services-append (Waiting s c ∷ xs) ys = services-append xs ys
 services-append (Service c ∷ xs) ys = omega (arith, services-append xs ys)
 
-seats-append : (xs ys : List Item) → waiting_seats (xs ++ ys) ≡ waiting_seats xs + waiting_seats ys
+pub seats-append : (xs ys : List Item) → waiting_seats (xs ++ ys) ≡ waiting_seats xs + waiting_seats ys
 seats-append [] ys = omega arith
 seats-append (Waiting s c ∷ xs) ys = omega (arith, seats-append xs ys)
 seats-append (Service c ∷ xs) ys = seats-append xs ys
 
 -- ---- an event
 
-seats_given : (e : Event) (items : List Item) → waiting_seats (given_by e items) ≡ zero
+pub seats_given : (e : Event) (items : List Item) → waiting_seats (given_by e items) ≡ zero
 seats_given (Enter s v) items = refl
 seats_given (Act s op r) items = refl
 seats_given (Leave s x) items = refl
@@ -80,7 +80,7 @@ seats_given (Resume s q) items = refl
 seats_given (SignalAll s c) items = seats-given c (unserved_in (line c items))
 seats_given (SignalWait s c d x) items = seats-given c (take 1 (unserved_in (line c items)))
 
-services_joined : (e : Event) → length (services (waiting_item e)) ≡ zero
+pub services_joined : (e : Event) → length (services (waiting_item e)) ≡ zero
 services_joined (Enter s v) = refl
 services_joined (Act s op r) = refl
 services_joined (Leave s x) = refl
@@ -92,7 +92,7 @@ services_joined (Resume s q) = refl
 services_joined (SignalAll s c) = refl
 services_joined (SignalWait s c d x) = refl
 
-seats_joined : (e : Event) → waiting_seats (waiting_item e) ≡ length (waiting_item e)
+pub seats_joined : (e : Event) → waiting_seats (waiting_item e) ≡ length (waiting_item e)
 seats_joined (Enter s v) = refl
 seats_joined (Act s op r) = refl
 seats_joined (Leave s x) = refl

@@ -9,6 +9,7 @@ use Rattle.monk_history.specs.Meaning.Monitor.{Monitor}
 use Rattle.monk_history.specs.Meaning.Signallers.{is_empty}
 use Rattle.monk_logs.specs.Board.{items_with, opening_board, waiting_item}
 use Rattle.monk_logs.specs.BoardCourse.{BoardCourse, board_settled}
+use Rattle.monk_logs.specs.GoingOn.{can_go_on}
 use Rattle.monk_logs.specs.Items.{line, seats_in, services, services_in}
 use Rattle.monk_logs.specs.ReadStand.{read_over}
 use Rattle.monk_logs.specs.Unheard.{finds_nobody, number_unheard, unheard_after}
@@ -224,23 +225,24 @@ count_state x k = record { course = x; tally = k }
 abbrev pub nothing_counted : Monitor → Counted
 nothing_counted m = count_state (board_settled (opening_board m)) nothing_tallied
 
--- behind so many lines, by how many seats wait unserved and how many are to come back
-abbrev pub counts_by : Tally → ℕ → ℕ → Counts
-counts_by k waiting woken = record {
+-- behind so many lines, by how many seats wait unserved, how many are to come back, and whether one inside can go on
+abbrev pub counts_by : Tally → ℕ → ℕ → Bool → Counts
+counts_by k waiting woken going = record {
   served = k.back + woken;
   passed = k.passed;
   lapsed = k.lapsed;
   waiting = waiting;
   woken = woken;
   inside = k.entered - k.left;
+  can_go_on = going;
   held = k.held;
   missed = k.missed;
   unheard = k.unheard;
 }
 
--- the counts as they are at that place of the log
-abbrev pub counts_at : Counted → Counts
-counts_at s = counts_by s.tally (waiting_now s.course) (woken_now s.course)
+-- the counts as they are at that place of the log, over that object
+abbrev pub counts_at : Object → Counted → Counts
+counts_at o s = counts_by s.tally (waiting_now s.course) (woken_now s.course) (can_go_on o s.course)
 
 -- what comes of where a line leads, or of that it leads nowhere
 abbrev pub then_or : {A X Y : Type 0} → (X → A) → A → Result X Y → A
@@ -249,10 +251,10 @@ then_or f a (Err y) = a
 
 -- of the lines to come, read in that order with lapses told or allowed, up to the first misfit, where n lines led to s
 unfoldable pub counts_from : Lapses → Order → Monitor → List WaitsFor → ℕ → Counted → List LogLine → Counts
-counts_from x o m means n s [] = counts_at s
+counts_from x o m means n s [] = counts_at m.object s
 counts_from x o m means n s (l ∷ log) =
     then_or (λ y. counts_from x o m means (n + 1)
-    (count_state y (tally_after m.object means (n + 1) s.course l y s.tally)) log) (counts_at s)
+    (count_state y (tally_after m.object means (n + 1) s.course l y s.tally)) log) (counts_at m.object s)
     (read_over x o m s.course l)
 
 -- what happens in the log, so read, counted up to its first misfit

@@ -29,7 +29,9 @@ pub mod BoardLegal
 pub mod BoardShown
 pub mod BoardMoves
 pub mod Unheard
+pub mod GoingOn
 pub mod Counts
+pub mod Dead
 pub mod Recount
 pub mod Fit
 pub mod Lapses

@@ -8,7 +8,7 @@ use Rattle.monk_logs.specs.BoardCourse.{board_told, board_via}
 use Rattle.monk_logs.specs.BoardStand.{board_verdict}
 use Rattle.monk_logs.specs.Course.{due_from}
 use Rattle.monk_logs.specs.FitsIn.{run_lines}
-use Rattle.monk_logs.specs.ServedRun.{MayStill, untold}
+use Rattle.monk_logs.specs.ServedRun.{MayStill, steps_of, untold}
 use Rattle.monk_logs.specs.declared.board.pending.Pending.{Pending}
 use Rattle.monk_logs.specs.declared.board.pending.Pending.TheVariants.{Settled, Half, Release}
 use Rattle.monk_logs.specs.declared.board.step.Step.{Step}
@@ -47,5 +47,6 @@ pub record AreStepsOf (o : Order) (m : Monitor) (log : List LogLine) (steps : Li
 
 -- what is found of a log line by line: its steps, or the verdict that it misfits
 abbrev pub AreStepsBy : Order → Monitor → List LogLine → Told → Type 0
-AreStepsBy o m log (found.Steps steps left) = (board_verdict o m log ≡ Fits) × AreStepsOf o m log steps.items left
+AreStepsBy o m log (found.Steps steps left) =
+    (board_verdict o m log ≡ Fits) × AreStepsOf o m log (steps_of steps.items) left
 AreStepsBy o m log (found.Misfit line why) = board_verdict o m log ≡ Misfit line why

@@ -1,6 +1,7 @@
 //! What happens in a log, counted.
 
 pub mod counting;
+pub mod going_on;
 pub mod held;
 pub mod so_far;
 pub mod tally;
@@ -26,6 +27,10 @@ pub struct Counts {
     pub woken: u64,
     /// How many seats are inside at the end: those that came in and didn't leave.
     pub inside: u64,
+    /// Whether a seat inside can go on at the end: one that has the monitor, one that was served and
+    /// is not back, a signaller that stepped back, or one that waits until a predicate that holds. If
+    /// none can, only an entry or a wait that runs out can come next.
+    pub can_go_on: bool,
     /// Who has the monitor at the end: the seat of the last line that takes the monitor or lets it
     /// go, if that line takes it.
     pub held: Option<Held>,

@@ -12,6 +12,8 @@ ghost use Rattle.monk_logs.specs.Board.{board_steps, opening_board};
 ghost use Rattle.monk_logs.specs.BoardCourse.{board_judge};
 ghost use Rattle.monk_logs.specs.BoardStand.{board_verdict};
 ghost use Rattle.monk_logs.specs.BoardRead.{judge_read};
+ghost use Rattle.monk_logs.specs.Counts.{counts_of};
+ghost use Rattle.monk_logs.specs.Dead.{IsDead, MayFollow};
 ghost use Rattle.monk_logs.specs.FitsIn.{IsOpenIn, has_lapse};
 ghost use Rattle.monk_logs.specs.Lapses.{IsOpenWith};
 ghost use Rattle.monk_logs.specs.Expiry.{at_once};
@@ -22,6 +24,7 @@ ghost use Rattle.monk_logs.specs.Stand.{verdict_on};
 ghost use Rattle.monk_logs.specs.Timed.{IsRunLog, IsTimedLog, IsTimedOpen, offered_conds};
 ghost use Rattle.monk_logs.specs.Whom.{run_from};
 ghost use Rattle.monk_logs.specs.VerdictIn.{FitsExactlyIn, MisfitsExactlyIn};
+ghost use Rattle.monk_logs.specs.declared.counts.waits_for.WaitsFor.{WaitsFor};
 ghost use Rattle.monk_logs.specs.declared.lapses.Lapses.{Lapses};
 ghost use Rattle.monk_logs.specs.declared.order.Order.{Order};
 ghost use Rattle.monk_logs.specs.declared.order.Order.TheVariants.{Fifo, Wake, Any};
@@ -124,4 +127,14 @@ pub fn time_limits_are_exact()
         → IsOpenIn o m (at_once (offered_conds m) log) → IsTimedOpen o m log }
     ensures keeps { (o : Order) → (m : Monitor) → (log : List LogLine)
         → IsOpenIn o m log → IsOpenIn o m (at_once (offered_conds m) log) }
+{}
+
+/// Behind a log at whose end all seats of the monitor are inside and none of them can go on, only a
+/// wait that runs out can come: no line but a `lapse` can follow it, in any order of the queues. And
+/// it is only behind those: any other log that is open in an order can go on so in that order.
+pub fn dead_logs_end()
+    ensures dead { (m : Monitor) (means : List WaitsFor) (log : List LogLine) → IsDead m (counts_of m means log)
+        → (o : Order) → MayFollow o m log → ⊥ }
+    ensures others { (o : Order) → (m : Monitor) → (means : List WaitsFor) → (log : List LogLine)
+        → (IsDead m (counts_of m means log) → ⊥) → IsOpenIn o m log → MayFollow o m log }
 {}

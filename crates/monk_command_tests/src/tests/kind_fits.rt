@@ -188,6 +188,37 @@ static LOGS: [Job<'static>; 25] = [
         status: 0,
         answer: b"a.log: NPNB fits fifo; served 0 passed 0 lapsed 0; left waiting 2 woken 0 inside 2; unheard none; crossed none; dead\n",
     },
+    // Under blocking the signaller stepped back, and goes on next.
+    Job {
+        name: "a signaller that is to go on while all are inside",
+        task: Task::FitKind(KindName::Pb, Lapses::Told, &[], "a.log"),
+        input: b"log 1 2 1 buffer 1\nenter 0\nwait 0 0\nenter 1\nsignal 1 0\nresume 0\nwait 0 0\n",
+        status: 0,
+        answer: b"a.log: PB fits fifo; served 1 passed 0 lapsed 0; left waiting 1 woken 0 inside 2; unheard none; crossed none; open\n",
+    },
+    // Seat 1 has put the item for which seat 0 waits, and waits for room.
+    Job {
+        name: "a predicate that holds while all are inside",
+        task: Task::FitKind(KindName::Pis, Lapses::Told, &[], "a.log"),
+        input: b"log 1 2 0 buffer 1\nenter 0\nuntil 0 1\nenter 1\nact 1 0 7 1\nuntil 1 0\n",
+        status: 0,
+        answer: b"a.log: PIS fits fifo; served 0 passed 0 lapsed 0; left waiting 0 woken 0 inside 2; unheard none; crossed none; open\n",
+    },
+    // The buffer has room, so the seat goes on at once.
+    Job {
+        name: "an until that stays while all are inside",
+        task: Task::FitKind(KindName::Npis, Lapses::Told, &[], "a.log"),
+        input: b"log 1 1 0 buffer 1\nenter 0\nuntil 0 0\n",
+        status: 0,
+        answer: b"a.log: NPIS fits fifo; served 0 passed 0 lapsed 0; left waiting 0 woken 0 inside 1; unheard none; crossed none; open\n",
+    },
+    Job {
+        name: "predicates that do not hold while all are inside",
+        task: Task::FitKind(KindName::Pis, Lapses::Told, &[], "a.log"),
+        input: b"log 1 2 0 buffer 1\nenter 0\nuntil 0 1\nenter 1\nuntil 1 1\n",
+        status: 0,
+        answer: b"a.log: PIS fits fifo; served 0 passed 0 lapsed 0; left waiting 0 woken 0 inside 2; unheard none; crossed none; dead\n",
+    },
     Job {
         name: "a seat that is to come back while all are inside",
         task: Task::FitKind(KindName::Npnb, Lapses::Told, &[], "a.log"),

@@ -203,7 +203,7 @@ service_last [] c = refl
 service_last (Waiting s d ∷ items) c = service_last items c
 service_last (Service d ∷ items) c = refl
 
-served_one : (items : List Item) (c : ℕ) (un : List ℕ) → is_empty un ≡ false
+pub served_one : (items : List Item) (c : ℕ) (un : List ℕ) → is_empty un ≡ false
     → is_empty (services (items ++ map (λ s. Service c) (take 1 un))) ≡ false
 served_one items c [] h = absurd (true≢false h)
 served_one items c (x ∷ un) h = service_last items c

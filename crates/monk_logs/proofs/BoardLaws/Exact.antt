@@ -40,7 +40,7 @@ open_front o m log more x = record {
 module _ (o : Order) (m : Monitor) (steps : List Step) (b : Board)
     (taken : board_steps o m (opening_board m) steps ≡ Some b)
   where
-    steps_open : IsOpenIn o m (run_lines steps)
+    pub steps_open : IsOpenIn o m (run_lines steps)
     steps_open = record {
       steps = steps;
       run = taken_run o m steps (ap is_some taken);
@@ -49,7 +49,7 @@ module _ (o : Order) (m : Monitor) (steps : List Step) (b : Board)
     }
 
     -- a release that may be called has a choice that goes on
-    release_open : (e : Event) → next_of e ≡ Some Stay → MayCallIn m (sight b) e
+    pub release_open : (e : Event) → next_of e ≡ Some Stay → MayCallIn m (sight b) e
         → IsOpenIn o m (run_lines steps ++ erasure_of e)
     release_open e stays may =
         let c = release_chosen o m b (orderly o m steps b taken) e stays may in

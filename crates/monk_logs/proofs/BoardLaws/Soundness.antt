@@ -77,7 +77,7 @@ known_tells : (o : Order) (m : Monitor) (log : List LogLine) (b : Board) (step :
     → StepsTell o m (log ++ step_lines step) x (steps ++ step ∷ [])
 known_tells o m log b step x steps h lead = step_tells o m log b step (board_step o m b step) x steps refl h lead
 
-held_called : (m : Monitor) (b : Board) (e : Event) (p : Pending) (x : BoardCourse) → board_hold m b e p ≡ Some x
+pub held_called : (m : Monitor) (b : Board) (e : Event) (p : Pending) (x : BoardCourse) → board_hold m b e p ≡ Some x
     → MayCallIn m (sight b) e × (board_course b p ≡ x)
 held_called m b e p x h =
     let q = passed (reason_before 0 m (sight b) e) (board_course b p) x h in

@@ -69,7 +69,7 @@ module _ (o w : Order) (k j : Rules) (seats conds : ℕ) (ob : Object) (d : List
     unfolding verdict_along counts_from
     counts_alike n s [] h i = refl
     counts_alike n s (l ∷ log) h i =
-        both_lead o w (under k) (under j) (n + 1) log _ _ (counts_at s)
+        both_lead o w (under k) (under j) (n + 1) log _ _ (counts_at ob s)
         (read_over Told o (under k) s.course l) (read_over Told w (under j) s.course l)
         (one_course o w k j seats conds ob d alike s.course.board s.course.pending l)
         (λ y. counts_alike (n + 1) (count_state y (tally_after ob means (n + 1) s.course l y s.tally)) log) h i
@@ -90,7 +90,7 @@ counts_told : (o : Order) (m : Monitor) (means : List WaitsFor) (n : ℕ) (s : C
 unfolding verdict_along counts_from
 counts_told o m means n s [] h = refl
 counts_told o m means n s (l ∷ log) h =
-    told_leads o m (n + 1) log _ _ (counts_at s) (read_over Told o m s.course l)
+    told_leads o m (n + 1) log _ _ (counts_at m.object s) (read_over Told o m s.course l)
     (board_behind_over o m s.course.board s.course.pending (as_lapse l))
     (λ y. counts_told o m means (n + 1) (count_state y (tally_after m.object means (n + 1) s.course l y s.tally)) log) h
 

@@ -31,20 +31,20 @@ module _ (x : Lapses) (o : Order) (m : Monitor) (means : List WaitsFor) where
   with_next n s l y = count_state y (tally_after m.object means n s.course l y s.tally)
 
   from_cons : (n : ℕ) (s : Counted) (l : LogLine) (rest : List LogLine) → counts_from x o m means n s (l ∷ rest)
-      ≡ then_or (λ y. counts_from x o m means (n + 1) (with_next (n + 1) s l y) rest) (counts_at s)
+      ≡ then_or (λ y. counts_from x o m means (n + 1) (with_next (n + 1) s l y) rest) (counts_at m.object s)
       (read_over x o m s.course l)
   unfolding counts_from
   from_cons n s l rest = refl
 
-  from_end : (n : ℕ) (s : Counted) → counts_from x o m means n s [] ≡ counts_at s
+  from_end : (n : ℕ) (s : Counted) → counts_from x o m means n s [] ≡ counts_at m.object s
   unfolding counts_from
   from_end n s = refl
 
   more : (old new : List LogLine) (n : ℕ) (l : LogLine) (s : Counted) (r : Result BoardCourse Blame) (v : Counts)
       → counts_from x o m means n s old ≡ v → old ≡ l ∷ new → r ≡ read_over x o m s.course l
-      → then_or (λ y. counts_from x o m means (n + 1) (with_next (n + 1) s l y) new) (counts_at s) r ≡ v
+      → then_or (λ y. counts_from x o m means (n + 1) (with_next (n + 1) s l y) new) (counts_at m.object s) r ≡ v
   more old new n l s r v is taken judged =
-      ap (then_or (λ y. counts_from x o m means (n + 1) (with_next (n + 1) s l y) new) (counts_at s)) judged
+      ap (then_or (λ y. counts_from x o m means (n + 1) (with_next (n + 1) s l y) new) (counts_at m.object s)) judged
       ∙ sym (from_cons n s l new) ∙ sym (ap (counts_from x o m means n s) taken) ∙ is
 
   pub count_goes_on : (old new : List LogLine) (n : ℕ) (l : LogLine) (a b : Board) (p q : Pending) (k : Tally)
@@ -62,13 +62,13 @@ module _ (x : Lapses) (o : Order) (m : Monitor) (means : List WaitsFor) where
       (left : LineVerdict)
       (why : Blame) (v : Counts) → counts_from x o m means n (count_state (board_course a p) k) old ≡ v → old ≡ l ∷ new
       → course_or b left ≡ board_read_over x o m a p l → left ≡ line.Misfits why
-      → counts_at (count_state (board_course a p) k) ≡ v
+      → counts_at m.object (count_state (board_course a p) k) ≡ v
   count_misfits old new n l a b p k left why v is taken judged fails =
       more old new n l (count_state (board_course a p) k) (Err why) v is taken (ap (course_or b) (sym fails) ∙ judged)
 
   pub count_ends : (left : List LogLine) (n : ℕ) (s : Counted) (v : Counts) → counts_from x o m means n s left ≡ v
       → left ≡ []
-      → counts_at s ≡ v
+      → counts_at m.object s ≡ v
   count_ends left n s v is none = sym (from_end n s) ∙ sym (ap (counts_from x o m means n s) none) ∙ is
 
 -- ---- what is counted of a line, by who waits before it and behind it
@@ -104,9 +104,9 @@ module _ (x : Lapses) (o : Order) (k : Rules) (seats conds : ℕ) (ob : Object) 
   unfolding counts_from
   from_same n s [] = refl
   from_same n s (l ∷ log) =
-      then_same _ _ (counts_at s) (read_over x o (monitor k seats conds ob []) s.course l)
+      then_same _ _ (counts_at ob s) (read_over x o (monitor k seats conds ob []) s.course l)
       (λ y. from_same (n + 1) (count_state y (tally_after ob means (n + 1) s.course l y s.tally)) log)
-      ∙ ap (then_or _ (counts_at s)) (read_apart x o k seats conds ob d s.course l)
+      ∙ ap (then_or _ (counts_at ob s)) (read_apart x o k seats conds ob d s.course l)
 
   pub count_opens : (b : Board) (log : List LogLine) → b ≡ opening_board (monitor k seats conds ob d)
       → counts_from x o (monitor k seats conds ob []) means 0 (count_state (board_settled b) nothing_tallied) log

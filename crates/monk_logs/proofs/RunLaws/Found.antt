@@ -9,7 +9,7 @@ use Rattle.monk_logs.specs.Board.{Board, sight}
 use Rattle.monk_logs.specs.BoardStand.{board_verdict}
 use Rattle.monk_logs.specs.FitsIn.{run_lines}
 use Rattle.monk_logs.specs.RunFound.{order_of}
-use Rattle.monk_logs.specs.ServedRun.{MayStill, RunTells, untold}
+use Rattle.monk_logs.specs.ServedRun.{MayStill, RunTells, steps_of, untold}
 use Rattle.monk_logs.specs.StepsTold.{AreStepsOf}
 use Rattle.monk_logs.specs.VerdictIn.{FitsExactlyIn, MisfitsExactlyIn}
 use Rattle.monk_logs.specs.Whom.{known_last, run_from}
@@ -51,6 +51,11 @@ run_tells o loose m log steps left run is s =
           (λ sound fit. may_there o m s.board sound (known_last s.board.items) fit left s.may) steps s.taken;
       tells = ap (λ (xs : List Step). run_lines xs ++ untold left) (steps_stay steps []) ∙ s.told;
     })
+
+pub serves_last : (steps : List Step) (run : List RunStep) → run ≡ run_from [] steps
+    → run ≡ run_from [] (steps_of run)
+serves_last steps run is =
+    is ∙ ap (run_from []) (sym (ap (λ (r : List RunStep). steps_of r) is ∙ steps_stay steps []))
 
 pub found_fits : (o : Order) (m : Monitor) (log : List LogLine) (v : LogVerdict) → board_verdict o m log ≡ v
     → FitsExactlyIn o m log v

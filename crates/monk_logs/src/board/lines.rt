@@ -47,7 +47,7 @@ pub(crate) fn via_now(replay: &Replay) -> Via
 }
 
 /// Whether nobody has the turn.
-fn is_open(turn: Turn) -> bool
+pub(crate) fn is_open(turn: Turn) -> bool
     ensures { result ≡ is_open turn }
 {
     match turn {

@@ -24,6 +24,7 @@ use crate::board::needs::Needs;
 use crate::board::pending::Pending;
 use crate::board::reading::line_read;
 use crate::counts::Counts;
+use crate::counts::going_on::can_go_on;
 use crate::counts::so_far::SoFar;
 use crate::counts::tally::lets_go;
 use crate::counts::waits_for::WaitsFor;
@@ -168,6 +169,7 @@ fn count_lines<T: Guarded, L: LineSource>(
     let mut pending = Pending::Settled;
     let mut items = Vec::new(alloc);
     let mut so_far = SoFar::NOTHING;
+    let mut going = false;
     let mut number = 0;
     while let Some(line) = lines.next() {
         number += 1;
@@ -187,14 +189,15 @@ fn count_lines<T: Guarded, L: LineSource>(
             LineVerdict::Misfits(blame) => {
                 let line = number;
                 let verdict = LogVerdict::Misfit { line, blame };
-                return Ok((Led { verdict, needs }, so_far.counts()));
+                return Ok((Led { verdict, needs }, so_far.counts(going)));
             }
         }
         let is_missed = misses_signal(line, &object, &board, pending, &mut items, means)?;
         so_far = so_far.with_line(number, line, is_missed, is_unheard, &board, pending);
+        going = can_go_on(setting, &object, &board, pending, so_far.waiters.woken);
     }
     let verdict = LogVerdict::Fits;
-    Ok((Led { verdict, needs }, so_far.counts()))
+    Ok((Led { verdict, needs }, so_far.counts(going)))
 }
 
 /// Judges the lines over that object, if it was made as the header names it, and counts them.

@@ -57,12 +57,13 @@ impl SoFar {
         SoFar { tally, waiters }
     }
 
-    /// The counts as they are there.
-    pub(crate) fn counts(self) -> Counts
+    /// The counts as they are there, by whether a seat inside can go on.
+    pub(crate) fn counts(self, can_go_on: bool) -> Counts
         requires back { self.tally.back ≤ 2 ^ 32 }
         requires woken { self.waiters.woken < 2 ^ 63 }
-        ensures { result ≡ counts_by self.tally (self.waiters.seats - self.waiters.woken) self.waiters.woken }
+        ensures { result
+            ≡ counts_by self.tally (self.waiters.seats - self.waiters.woken) self.waiters.woken can_go_on }
     {
-        self.tally.counts(self.waiters)
+        self.tally.counts(self.waiters, can_go_on)
     }
 }

@@ -110,11 +110,11 @@ impl Tally {
         }
     }
 
-    /// What was counted, where so many wait.
-    pub(crate) fn counts(self, waiters: Waiters) -> Counts
+    /// What was counted, where so many wait, by whether a seat inside can go on.
+    pub(crate) fn counts(self, waiters: Waiters, can_go_on: bool) -> Counts
         requires back { self.back ≤ 2 ^ 32 }
         requires woken { waiters.woken < 2 ^ 63 }
-        ensures { result ≡ counts_by self (waiters.seats - waiters.woken) waiters.woken }
+        ensures { result ≡ counts_by self (waiters.seats - waiters.woken) waiters.woken can_go_on }
     {
         let woken = waiters.woken as u64;
         Counts {
@@ -124,6 +124,7 @@ impl Tally {
             waiting: waiters.seats.saturating_sub(waiters.woken) as u64,
             woken,
             inside: self.entered.saturating_sub(self.left),
+            can_go_on,
             held: self.held,
             missed: self.missed,
             unheard: self.unheard,

@@ -4,7 +4,7 @@ ghost use Rattle.std.specs.Prelude.{◌≡◌, ◌≤◌, ◌<◌, IfOk, OnOk, I
 ghost use Rattle.monk_object.specs.Names.{most};
 ghost use Rattle.monk_history.specs.Limits.{most_lines};
 ghost use Rattle.monk_logs.specs.BoardStand.{board_verdict};
-ghost use Rattle.monk_logs.specs.RunFound.{IsRunOf, order_of, verdict_found};
+ghost use Rattle.monk_logs.specs.RunFound.{IsRunOf, ServesLast, order_of, verdict_found};
 ghost use Rattle.monk_logs.specs.Verdict.{log_monitor};
 ghost use Rattle.monk_logs.specs.VerdictIn.{FitsExactlyIn, MisfitsExactlyIn};
 
@@ -25,7 +25,8 @@ use std::alloc::Global;
 /// Each step says whom it serves. A log doesn't tell that, and often several runs tell the same
 /// log. In this one a signal serves, of the seats that go on later without another signal, the one
 /// that came last to its condition. A seat that was served and isn't back at the end is the one
-/// that waits longest.
+/// that waits longest. The log has at most 2^25 lines ([`MOST_LOG_LINES`](crate::MOST_LOG_LINES)), as
+/// each that was read.
 ///
 /// # Errors
 ///
@@ -34,8 +35,8 @@ use std::alloc::Global;
 ///
 /// # Cost
 ///
-/// That of [`judge_in`](crate::judge_in), and two passes over the steps. Memory for the steps: some
-/// hundred bytes a line.
+/// That of [`judge_in`](crate::judge_in), and two passes over the steps. Memory for a step and for a
+/// note of 16 bytes a line; the notes are given back.
 pub fn find_run(
     alloc: Global,
     header: &LogHeader,
@@ -46,6 +47,9 @@ pub fn find_run(
     requires { length lines.now ≤ most_lines }
     // A run that is given is one, with those whom it says that it serves, and it tells the log.
     ensures run { IfOk result (IsRunOf (order_of order) (log_monitor kind header.now) lines.now) }
+    // Of the runs with these steps it is the one that `run_from` makes: of the seats that are known by
+    // then to have been served, a signal serves the one that came last to its condition.
+    ensures whom { IfOk result ServesLast }
     // One is given exactly where some run begins with the log.
     ensures fits { IfOk result
         (λ r. FitsExactlyIn (order_of order) (log_monitor kind header.now) lines.now (verdict_found r)) }
@@ -62,7 +66,8 @@ pub fn find_run(
 {
     match follow_steps(alloc, header, lines, kind, order.order())? {
         Told::Steps { steps, left } => {
-            let steps = serve_steps(alloc, &steps)?;
+            let mut steps = steps;
+            serve_steps(alloc, &mut steps)?;
             Ok(FoundRun::Run { steps, left })
         }
         Told::Misfit { line, blame } => Ok(FoundRun::Misfit { line, blame }),

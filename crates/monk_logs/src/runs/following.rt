@@ -11,7 +11,6 @@ ghost use Rattle.monk_logs.specs.Verdict.{log_monitor};
 use crate::blame::LineVerdict;
 use crate::board::Board;
 use crate::board::pending::Pending;
-use crate::board::step::Step;
 use crate::order::Order;
 use crate::runs::telling::line_told;
 use crate::runs::told::Told;
@@ -37,7 +36,7 @@ fn follow<T: Guarded>(
 {
     let mut object = object;
     let mut board = Board::opening::<T>(alloc, setting)?;
-    let mut steps = Vec::new(alloc);
+    let mut steps = Vec::with_capacity(alloc, lines.len())?;
     let mut pending = Pending::Settled;
     for (i, line) in lines.iter().enumerate() {
         match line_told(

@@ -6,7 +6,7 @@ use crate::board::item::Item;
 #[derive(Clone, Copy, Debug, PartialEq, Eq)]
 pub(crate) struct Note {
     /// How many seats it serves.
-    pub(crate) gives: usize,
+    pub(crate) gives: u32,
     /// The seat that leaves its condition, and behind how many of those who wait it stood.
-    pub(crate) left: Option<(usize, Item)>,
+    pub(crate) left: Option<(u32, Item)>,
 }

@@ -1,6 +1,7 @@
 //! Whom each signal of a run serves, found from the end on.
 
-ghost use Rattle.std.specs.Prelude.{◌≡◌, IfOk, OnOk, []};
+ghost use Rattle.std.specs.Prelude.{◌≡◌, ◌≤◌, IfOk, OnOk, [], length};
+ghost use Rattle.monk_history.specs.Limits.{most_lines};
 ghost use Rattle.monk_history.specs.Meaning.Events.{signals_on};
 ghost use Rattle.monk_logs.specs.Items.{line, seats_in};
 ghost use Rattle.monk_logs.specs.ServedRun.{steps_of};
@@ -42,7 +43,7 @@ fn leave_out_last(known: &mut Vec<u8>, waiting: &[Item], cond: u8)
 }
 
 /// Leaves out so many of the last of them.
-fn leave_out_lasts(known: &mut Vec<u8>, waiting: &[Item], cond: u8, count: usize)
+fn leave_out_lasts(known: &mut Vec<u8>, waiting: &[Item], cond: u8, count: u32)
     ensures { known.new.items ≡ whom.but_lasts count (seats_in (line cond waiting.now)) known.old.items }
 {
     for _ in 0..count {
@@ -69,7 +70,7 @@ fn signalled(event: Event) -> Option<u8>
 }
 
 /// Whom the signal serves that serves so many. A broadcast names nobody.
-fn named(event: Event, gives: usize, waiting: &[Item], known: &[u8]) -> Option<u8>
+fn named(event: Event, gives: u32, waiting: &[Item], known: &[u8]) -> Option<u8>
     ensures { result ≡ whom.whom_by event gives waiting.now known.now }
 {
     if matches!(event, Event::SignalAll(..)) || gives == 0 {
@@ -92,7 +93,7 @@ fn recall(known: &mut Vec<u8>, event: Event) -> Result<(), AllocError>
 }
 
 /// Goes back over what an event gave: those whom it served weren't served before.
-fn forget(known: &mut Vec<u8>, event: Event, gives: usize, waiting: &[Item])
+fn forget(known: &mut Vec<u8>, event: Event, gives: u32, waiting: &[Item])
     ensures { known.new.items ≡ whom.known_by event gives waiting.now known.old.items }
 {
     if let Some(cond) = signalled(event) {
@@ -160,21 +161,14 @@ fn serve_back(
     Ok(())
 }
 
-/// The steps, each with whom it serves.
-pub(crate) fn serve_steps(alloc: Global, steps: &[Step]) -> Result<Vec<RunStep>, AllocError>
-    ensures { IfOk result (λ run. run.items ≡ whom.run_from [] steps.now) }
+/// Tells of each step whom it serves.
+pub(crate) fn serve_steps(alloc: Global, run: &mut Vec<RunStep>) -> Result<(), AllocError>
+    requires { length run.old.items ≤ most_lines }
+    ensures { OnOk result (run.new.items ≡ whom.run_from [] (steps_of run.old.items)) }
 {
     let mut items = Vec::new(alloc);
-    let notes = notes(alloc, &mut items, steps)?;
+    let notes = notes(alloc, &mut items, run)?;
     let mut known = known_last(alloc, &items)?;
     items.retain(|item| matches!(*item, Item::Waiting(..)));
-    let mut run = Vec::with_capacity(alloc, steps.len())?;
-    for step in steps {
-        run.push(RunStep {
-            step: *step,
-            served: None,
-        })?;
-    }
-    serve_back(&mut run, &notes, &mut items, &mut known)?;
-    Ok(run)
+    serve_back(run, &notes, &mut items, &mut known)
 }

@@ -1,6 +1,6 @@
 //! The steps that a line of a log tells, over a board.
 
-ghost use Rattle.std.specs.Prelude.{◌≡◌, ℕ, List, Some, ◌++◌, IfOk, OnOk};
+ghost use Rattle.std.specs.Prelude.{◌≡◌, ℕ, List, [], ◌∷◌, Some, ◌++◌, IfOk, OnOk};
 ghost use Rattle.monk_history.specs.declared.event.Next.{Next};
 ghost use Rattle.monk_history.specs.Meaning.Events.{next_of};
 ghost use Rattle.monk_history.specs.Meaning.Release.{MayCallIn};
@@ -8,6 +8,7 @@ ghost use Rattle.monk_logs.specs.Board.{sight};
 ghost use Rattle.monk_logs.specs.BoardShown.{IsBoardOf, board_shown, course_or};
 ghost use Rattle.monk_logs.specs.BoardStand as stands;
 ghost use Rattle.monk_logs.specs.BoardStand.{IsHeldOver};
+ghost use Rattle.monk_logs.specs.ServedRun.{steps_of};
 ghost use Rattle.monk_logs.specs.Stand.{monitor_in};
 ghost use Rattle.monk_logs.specs.StepsTold.{own_steps, told_steps};
 ghost use Rattle.monk_logs.specs.declared.blame.LineVerdict.{LineVerdict};
@@ -21,25 +22,38 @@ use crate::board::pending::Pending;
 use crate::board::step::Step;
 use crate::board::telling::choose_told;
 use crate::order::Order;
+use crate::runs::run_step::RunStep;
 use crate::setting::MonitorSetting;
 use crate::text::line::LogLine;
 use monk_history::Event;
 use monk_object::Guarded;
 use std::alloc::AllocError;
 
+/// Keeps a step. Whom it serves isn't known yet.
+#[inline(always)]
+fn keep(steps: &mut Vec<RunStep>, step: Step) -> Result<(), AllocError>
+    ensures { OnOk result (steps_of steps.new.items ≡ steps_of steps.old.items ++ step ∷ []) }
+{
+    steps.push(RunStep { step, served: None })?;
+    Ok(())
+}
+
 /// Keeps the step that the line tells of itself, where each step before it is known.
-fn keep_own(board: &Board, steps: &mut Vec<Step>, line: LogLine) -> Result<(), AllocError>
+fn keep_own(board: &Board, steps: &mut Vec<RunStep>, line: LogLine) -> Result<(), AllocError>
     ensures { OnOk result ((state : List ℕ)
-        → steps.new.items ≡ steps.old.items ++ own_steps (board_shown board.now state) line) }
+        → steps_of steps.new.items ≡ steps_of steps.old.items ++ own_steps (board_shown board.now state) line) }
 {
     match line {
-        LogLine::Enter(seat) => steps.push(Step::Did(Event::Enter(seat, via_now(&board.rest))))?,
+        LogLine::Enter(seat) => keep(steps, Step::Did(Event::Enter(seat, via_now(&board.rest))))?,
         LogLine::Resume(seat) => {
-            steps.push(Step::Did(Event::Resume(seat, due_from(board.rest.turn()))))?;
+            keep(
+                steps,
+                Step::Did(Event::Resume(seat, due_from(board.rest.turn()))),
+            )?;
         }
-        LogLine::Lapse(seat) => steps.push(Step::Lapsed(seat))?,
-        LogLine::Broadcast(seat, cond) => steps.push(Step::Did(Event::SignalAll(seat, cond)))?,
-        LogLine::Act(seat, op, reply) => steps.push(Step::Did(Event::Act(seat, op, reply)))?,
+        LogLine::Lapse(seat) => keep(steps, Step::Lapsed(seat))?,
+        LogLine::Broadcast(seat, cond) => keep(steps, Step::Did(Event::SignalAll(seat, cond)))?,
+        LogLine::Act(seat, op, reply) => keep(steps, Step::Did(Event::Act(seat, op, reply)))?,
         LogLine::Leave(_) | LogLine::Wait(..) | LogLine::Signal(..) | LogLine::Until(..) => {}
     }
     Ok(())
@@ -51,7 +65,7 @@ fn line_alone<T: Guarded>(
     setting: MonitorSetting,
     board: &mut Board,
     object: &mut T,
-    steps: &mut Vec<Step>,
+    steps: &mut Vec<RunStep>,
     line: LogLine,
 ) -> Result<LineVerdict, AllocError>
     requires { IsBoardOf setting.seats setting.conds T.PREDICATES board.old }
@@ -61,7 +75,7 @@ fn line_alone<T: Guarded>(
         (board_shown board.old (T.state object.old)) line) }
     ensures sound { OnOk result (IsBoardOf setting.seats setting.conds T.PREDICATES board.new) }
     ensures kept { OnOk result ((state : List ℕ)
-        → steps.new.items ≡ steps.old.items ++ own_steps (board_shown board.old state) line) }
+        → steps_of steps.new.items ≡ steps_of steps.old.items ++ own_steps (board_shown board.old state) line) }
 {
     keep_own(board, steps, line)?;
     line_settled(order, setting, board, object, line)
@@ -73,7 +87,7 @@ fn line_behind_release<T: Guarded>(
     setting: MonitorSetting,
     board: &mut Board,
     object: &mut T,
-    steps: &mut Vec<Step>,
+    steps: &mut Vec<RunStep>,
     event: Event,
     line: LogLine,
 ) -> Result<LineVerdict, AllocError>
@@ -89,13 +103,13 @@ fn line_behind_release<T: Guarded>(
         (λ v. (left : Pending) → v ≡ LineVerdict.Fits left
         → IsBoardOf setting.seats setting.conds T.PREDICATES board.new) }
     ensures kept { IfOk result
-        (λ v. (left : Pending) → v ≡ LineVerdict.Fits left → steps.new.items ≡ steps.old.items
+        (λ v. (left : Pending) → v ≡ LineVerdict.Fits left → steps_of steps.new.items ≡ steps_of steps.old.items
         ++ told_steps T.meaning (board_shown board.old (T.state object.old)) (Pending.Release event) line) }
 {
     let mut needs = Needs::none();
     match choose_told(order, setting, board, object, &mut needs, event, line)? {
         Ok(told) => {
-            steps.push(Step::Did(told))?;
+            keep(steps, Step::Did(told))?;
             line_alone(order, setting, board, object, steps, line)
         }
         Err(blame) => Ok(LineVerdict::Misfits(blame)),
@@ -108,7 +122,7 @@ pub(crate) fn line_told<T: Guarded>(
     setting: MonitorSetting,
     board: &mut Board,
     object: &mut T,
-    steps: &mut Vec<Step>,
+    steps: &mut Vec<RunStep>,
     pending: Pending,
     line: LogLine,
 ) -> Result<LineVerdict, AllocError>
@@ -122,7 +136,7 @@ pub(crate) fn line_told<T: Guarded>(
         (λ v. (left : Pending) → v ≡ LineVerdict.Fits left
         → IsBoardOf setting.seats setting.conds T.PREDICATES board.new) }
     ensures kept { IfOk result
-        (λ v. (left : Pending) → v ≡ LineVerdict.Fits left → steps.new.items ≡ steps.old.items
+        (λ v. (left : Pending) → v ≡ LineVerdict.Fits left → steps_of steps.new.items ≡ steps_of steps.old.items
         ++ told_steps T.meaning (board_shown board.old (T.state object.old)) pending line) }
 {
     match pending {

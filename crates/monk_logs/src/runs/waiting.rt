@@ -1,6 +1,8 @@
 //! Who waits on the conditions, forward over the steps of a run and back.
 
-ghost use Rattle.std.specs.Prelude.{◌≡◌, IfOk, OnOk, length};
+ghost use Rattle.std.specs.Prelude.{◌≡◌, ◌+◌, ◌<◌, ◌^◌, IfOk, OnOk, length};
+ghost use Rattle.monk_logs.specs.Counts.{waiting_seats};
+ghost use Rattle.monk_logs.specs.ServedRun.{steps_of};
 ghost use Rattle.monk_logs.specs.Walk as walk;
 ghost use Rattle.monk_logs.specs.Whom as whom;
 
@@ -9,6 +11,7 @@ use crate::board::items::unserved_at;
 use crate::board::items_moves::{is_waiting_of, join, serve, take_chosen};
 use crate::board::step::Step;
 use crate::runs::note::Note;
+use crate::runs::run_step::RunStep;
 use monk_history::{Event, Next};
 use std::alloc::{AllocError, Global};
 
@@ -57,7 +60,8 @@ fn leaver(step: Step) -> Option<u8>
 }
 
 /// The item of the seat that waits, and behind how many of those who wait it stands.
-fn placed(items: &[Item], seat: u8) -> Option<(usize, Item)>
+fn placed(items: &[Item], seat: u8) -> Option<(u32, Item)>
+    requires { waiting_seats items.now < 2 ^ 32 }
     ensures { result ≡ walk.placed seat items.now }
 {
     let mut before = 0;
@@ -72,14 +76,16 @@ fn placed(items: &[Item], seat: u8) -> Option<(usize, Item)>
 }
 
 /// How many seats the event serves.
-fn gives(items: &[Item], event: Event) -> usize
+#[tactic(auto, using(crate::proofs::WaiterLaws::few_unserved))]
+fn gives(items: &[Item], event: Event) -> u32
+    requires { waiting_seats items.now < 2 ^ 32 }
     ensures { result ≡ length (walk.given event items.now) }
 {
     match event {
         Event::Signal(_, cond, _)
         | Event::SignalLeave(_, cond, _)
-        | Event::SignalWait(_, cond, ..) => unserved_at(items, cond).min(1),
-        Event::SignalAll(_, cond) => unserved_at(items, cond),
+        | Event::SignalWait(_, cond, ..) => unserved_at(items, cond).min(1) as u32,
+        Event::SignalAll(_, cond) => unserved_at(items, cond) as u32,
         Event::Enter(..)
         | Event::Act(..)
         | Event::Leave(..)
@@ -91,6 +97,7 @@ fn gives(items: &[Item], event: Event) -> usize
 
 /// What is noted of the step.
 fn note(items: &[Item], step: Step) -> Note
+    requires { waiting_seats items.now < 2 ^ 32 }
     ensures { result ≡ walk.note_of items.now step }
 {
     let gives = match step {
@@ -108,15 +115,16 @@ fn note(items: &[Item], step: Step) -> Note
 pub(crate) fn notes(
     alloc: Global,
     items: &mut Vec<Item>,
-    steps: &[Step],
+    run: &[RunStep],
 ) -> Result<Vec<Note>, AllocError>
-    ensures notes { IfOk result (λ v. v.items ≡ walk.notes_from items.old.items steps.now) }
-    ensures items { OnOk result (items.new.items ≡ walk.items_after items.old.items steps.now) }
+    requires few { waiting_seats items.old.items + length run.now < 2 ^ 32 }
+    ensures notes { IfOk result (λ v. v.items ≡ walk.notes_from items.old.items (steps_of run.now)) }
+    ensures items { OnOk result (items.new.items ≡ walk.items_after items.old.items (steps_of run.now)) }
 {
-    let mut notes = Vec::with_capacity(alloc, steps.len())?;
-    for step in steps {
-        notes.push(note(items, *step))?;
-        follow(items, *step)?;
+    let mut notes = Vec::with_capacity(alloc, run.len())?;
+    for it in run {
+        notes.push(note(items, it.step))?;
+        follow(items, it.step)?;
     }
     Ok(notes)
 }
@@ -136,7 +144,7 @@ pub(crate) fn go_back(waiting: &mut Vec<Item>, step: Step, note: Note) -> Result
         waiting.pop();
     }
     if let Some((before, item)) = note.left {
-        let at = before.min(waiting.len());
+        let at = (before as usize).min(waiting.len());
         waiting.insert(at, item)?;
     }
     Ok(())

@@ -108,6 +108,7 @@ const COUNTED: Counts = Counts {
     waiting: 1,
     woken: 0,
     inside: 1,
+    can_go_on: false,
     held: None,
     missed: Some(2),
     unheard: None,

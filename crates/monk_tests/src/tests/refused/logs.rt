@@ -82,6 +82,7 @@ const COUNTS: Counts = Counts {
     waiting: 0,
     woken: 1,
     inside: 1,
+    can_go_on: true,
     held: None,
     missed: None,
     unheard: None,

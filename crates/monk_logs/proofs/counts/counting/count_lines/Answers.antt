@@ -1,8 +1,9 @@
-use Rattle.std.proofs.Common.{ap, subst, sym, ℕ, ◌∙◌, ◌+◌, ◌-◌, List, arith, length}
+use Rattle.std.proofs.Common.{ap, subst, sym, ℕ, ◌∙◌, ◌+◌, ◌-◌, List, arith, length, not}
+use Rattle.monk_history.specs.Meaning.Reasons.{is_open}
 use Rattle.monk_logs.specs.Board.{Board}
 use Rattle.monk_logs.specs.BoardCourse.{board_course}
 use Rattle.monk_logs.specs.BoardShown.{board_shown}
-use Rattle.monk_logs.specs.Counts.{count_state, counts_by, items_now, waiting_seats, woken_among}
+use Rattle.monk_logs.specs.Counts.{count_state, counts_by, items_now, waiting_now, waiting_seats, woken_among, woken_now}
 use Rattle.monk_logs.specs.Needs.{needs_with, told_needs}
 use Rattle.monk_logs.specs.Recount.{AreAmong}
 use Rattle.monk_logs.specs.ReadStand.{board_read_over}
@@ -31,6 +32,7 @@ loop-line-init g c =
         woken = sym (ap (λ (b : Board). woken_among b.items) (c.in_ok-board.ensures.stands d));
       };
       small = omega arith;
+      going = sym (ap (λ (b : Board). not (is_open b.turn)) (c.in_ok-board.ensures.stands d));
       few = record {
         back = omega arith;
         lapsed = omega arith;
@@ -79,12 +81,14 @@ returns-in-Misfits-clause-leads g c = λ told. record {
 pub returns-in-Misfits-clause-counted : goal.returns-in-Misfits-clause-counted
 returns-in-Misfits-clause-counted g c =
     let k = c.loop-line.so_far.tally in
+    let x = board_course (board_shown c.loop-line.board (g.T.Guarded.state c.loop-line.object)) c.loop-line.pending in
     c.counts.ensures
-    ∙ ap (λ (seats : ℕ). counts_by k (seats - c.loop-line.so_far.waiters.woken) c.loop-line.so_far.waiters.woken)
+    ∙ ap (λ (seats : ℕ). counts_by k (seats - c.loop-line.so_far.waiters.woken) c.loop-line.so_far.waiters.woken
+    c.loop-line.going)
     c.loop-line.invariant.among.seats
-    ∙ ap (λ (woken : ℕ). counts_by k (waiting_seats (items_now (board_course
-    (board_shown c.loop-line.board (g.T.Guarded.state c.loop-line.object)) c.loop-line.pending)) - woken) woken)
+    ∙ ap (λ (woken : ℕ). counts_by k (waiting_seats (items_now x) - woken) woken c.loop-line.going)
     c.loop-line.invariant.among.woken
+    ∙ ap (counts_by k (waiting_now x) (woken_now x)) c.loop-line.invariant.going
     ∙ count_misfits c.args.lapses c.args.order (monitor_in c.args.setting g.T.Guarded.meaning) c.args.means.now
     (g.L.LineSource.left c.loop-line.lines) (g.L.LineSource.left c.next.new.self) c.loop-line.number c.in-Some.line
     (board_shown c.loop-line.board (g.T.Guarded.state c.loop-line.object))
@@ -100,6 +104,13 @@ with_line-so_far-requires-clause-among g c =
     (board_shown c.line_read.new.board (g.T.Guarded.state c.line_read.new.object))
     c.loop-line.pending c.in-Fits.left c.in_ok-left.field-0 c.in_ok-left.ensures.judged c.in-Fits.is same))
     c.loop-line.invariant.among
+
+pub can_go_on-going-requires-clause-held : goal.can_go_on-going-requires-clause-held
+can_go_on-going-requires-clause-held g c = λ lifetimes outlives.
+    read_goes_held c.args.lapses c.args.order (monitor_in c.args.setting g.T.Guarded.meaning) c.in-Some.line
+    (board_shown c.loop-line.board (g.T.Guarded.state c.loop-line.object))
+    (board_shown c.line_read.new.board (g.T.Guarded.state c.line_read.new.object))
+    c.loop-line.pending c.in-Fits.left c.in_ok-left.field-0 c.in_ok-left.ensures.judged c.in-Fits.is
 
 pub loop-line-preserved : goal.loop-line-preserved
 loop-line-preserved g c =
@@ -131,6 +142,7 @@ loop-line-preserved g c =
       room = omega arith;
       among = c.with_line-so_far.ensures.among (g.T.Guarded.state c.line_read.new.object);
       small = c.with_line-so_far.ensures.small;
+      going = c.can_go_on-going.ensures;
       few = c.with_line-so_far.ensures.within c.loop-line.number c.loop-line.invariant.few;
       sound = c.in_ok-left.ensures.sound c.in-Fits.left c.in-Fits.is;
       held = read_goes_held c.args.lapses c.args.order m c.in-Some.line a b c.loop-line.pending c.in-Fits.left
@@ -172,12 +184,14 @@ returns-clause-leads g c = λ told. record {
 pub returns-clause-counted : goal.returns-clause-counted
 returns-clause-counted g c =
     let k = c.loop-line.so_far.tally in
+    let x = board_course (board_shown c.loop-line.board (g.T.Guarded.state c.loop-line.object)) c.loop-line.pending in
     c.counts-2.ensures
-    ∙ ap (λ (seats : ℕ). counts_by k (seats - c.loop-line.so_far.waiters.woken) c.loop-line.so_far.waiters.woken)
+    ∙ ap (λ (seats : ℕ). counts_by k (seats - c.loop-line.so_far.waiters.woken) c.loop-line.so_far.waiters.woken
+    c.loop-line.going)
     c.loop-line.invariant.among.seats
-    ∙ ap (λ (woken : ℕ). counts_by k (waiting_seats (items_now (board_course
-    (board_shown c.loop-line.board (g.T.Guarded.state c.loop-line.object)) c.loop-line.pending)) - woken) woken)
+    ∙ ap (λ (woken : ℕ). counts_by k (waiting_seats (items_now x) - woken) woken c.loop-line.going)
     c.loop-line.invariant.among.woken
+    ∙ ap (counts_by k (waiting_now x) (woken_now x)) c.loop-line.invariant.going
     ∙ count_ends c.args.lapses c.args.order (monitor_in c.args.setting g.T.Guarded.meaning) c.args.means.now
     (g.L.LineSource.left c.loop-line.lines)
     c.loop-line.number

@@ -7,6 +7,7 @@ use Rattle.monk_logs.specs.BoardCourse.{board_course}
 use Rattle.monk_logs.specs.BoardShown.{IsBoardOf, board_shown}
 use Rattle.monk_logs.specs.BoardStand.{IsHeldOver}
 use Rattle.monk_logs.specs.Counts.{IsWithin, count_state, counts_from, counts_in, items_now}
+use Rattle.monk_logs.specs.GoingOn.{can_go_on}
 use Rattle.monk_logs.specs.Needs.{is_fits, meets, widest}
 use Rattle.monk_logs.specs.Recount.{AreAmong}
 use Rattle.monk_logs.specs.ReadStand.{read_verdict, read_verdict_from}
@@ -33,6 +34,7 @@ invariant-loop-line g l =
       room : l.number + length (g.L.LineSource.left l.lines) ≤ most_lines;
       among : AreAmong l.so_far.waiters (items_now (board_course now l.pending));
       small : l.so_far.waiters.woken < 2 ^ 63;
+      going : l.going ≡ can_go_on o (board_course now l.pending);
       few : IsWithin l.number l.so_far.tally;
       sound : IsBoardOf l.setting.seats l.setting.conds g.T.Guarded.PREDICATES l.board;
       held : IsHeldOver m now l.pending;
