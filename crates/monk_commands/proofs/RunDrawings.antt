@@ -1,6 +1,6 @@
 -- A run is drawn of a log: how many events it has, and when the status is 0
 use Rattle.std.proofs.Common.{◌≡◌, ℕ, ◌+◌, ◌-◌, ◌≤◌, ◌^◌, inl, inr, List, [], ◌∷◌, ◌++◌, length, map, take, Option, Some, None}
-use Rattle.std.proofs.Common.{Result, Ok, Err, refl, ap, subst, sym, arith}
+use Rattle.std.proofs.Common.{Result, Ok, Err, refl, ap, subst, sym, ◌∙◌, arith}
 use Rattle.std.specs.Prelude.{IfSome, slice_get}
 use Rattle.std.proofs.Math.Nat.{min-le_left, min-le_right}
 use Rattle.std.proofs.lemmas.List.{length-append, length-map, length-take}
@@ -84,19 +84,14 @@ pub events_few : (o : RunOrder) (k : KindName) (h : LogHeading) (log : List LogL
     → length (run_events run left (wrong_line v log)) ≤ 2 ^ 25
 events_few o k h log v run left few tells =
     let steps = map (λ (r : RunStep). step_event r.step) run in
+    let untold_ones = untold_events left in
     let last = wrong_events (wrong_line v log) in
-    omega (
-      arith,
-      few,
-      told_few v log,
-      steps_few run,
-      untold_few left,
-      ap length tells.tells,
-      length-append (run_lines (steps_of run)) (untold left),
-      length-append steps (untold_events left ++ last),
-      length-append (untold_events left) last,
-      length-map run (λ (r : RunStep). step_event r.step),
-    )
+    let all : length (run_events run left (wrong_line v log)) ≡ length steps + length untold_ones + length last =
+    length-append (steps ++ untold_ones) last ∙ ap (λ (n : ℕ). n + length last) (length-append steps untold_ones) in
+    let of_steps : length steps ≡ length run = length-map run (λ (r : RunStep). step_event r.step) in
+    let lines : length (run_lines (steps_of run)) + length (untold left) ≡ length (lines_told v log) =
+    sym (length-append (run_lines (steps_of run)) (untold left)) ∙ ap length tells.tells in
+    omega (arith, few, all, of_steps, lines, told_few v log, steps_few run, untold_few left)
 
 -- ---- what is written may be said in another way
 

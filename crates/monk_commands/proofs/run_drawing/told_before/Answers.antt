@@ -1,8 +1,6 @@
 use Rattle.std.proofs.Common.{◌≡◌, ◌∙◌, sym, ap}
 use Rattle.monk_logs.specs.RunFound.{order_of, verdict_found}
 use Rattle.monk_logs.specs.Verdict.{log_monitor}
-use Rattle.monk_logs.specs.declared.runs.found.FoundRun.{FoundRun}
-use Rattle.monk_logs.specs.declared.verdict.LogVerdict.{LogVerdict}
 use Rattle.monk_logs.specs.declared.verdict.LogVerdict.TheVariants.{Fits, Misfit}
 use Rattle.monk_logs.proofs.PublicLaws.{board_fits_exactly}
 use Rattle.monk_commands.specs.RunDrawn.{lines_told}
