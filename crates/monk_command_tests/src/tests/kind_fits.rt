@@ -59,7 +59,7 @@ const FOR_AN_ITEM: &[WaitsFor] = &[WaitsFor { cond: 0, pred: 1 }];
 /// Those who wait on condition 0 wait for room in a buffer, or for an item.
 const EITHER: &[WaitsFor] = &[WaitsFor { cond: 0, pred: 0 }, WaitsFor { cond: 0, pred: 1 }];
 
-static LOGS: [Job<'static>; 25] = [
+static LOGS: [Job<'static>; 29] = [
     Job {
         name: "a lost notify",
         task: Task::FitKind(KindName::Npnb, Lapses::Told, &[], "a.log"),
