@@ -1,4 +1,4 @@
-use Rattle.std.proofs.Common.{◌≡◌, List, ℕ, Option, Some, refl, subst, sym, ap, ◌∙◌}
+use Rattle.std.proofs.Common.{List, ℕ, Option, refl, subst, sym, ap, ◌∙◌}
 use Rattle.std.specs.Prelude.{option_map}
 use Rattle.monk_logs.specs.declared.runs.run_order.RunOrder.{RunOrder}
 use Rattle.monk_logs.specs.declared.runs.run_order.RunOrder.TheVariants.{Any}
