@@ -4,7 +4,9 @@ ghost use Rattle.std.specs.Prelude.{◌≡◌, ◌≤◌, ◌^◌, ◌↔◌, fa
 ghost use Rattle.std.specs.Io.KnownBytes.{Appends};
 ghost use Rattle.monk_object.specs.Names.{most};
 ghost use Rattle.monk_history.specs.Text.Device.{inner_of, has_failed};
-ghost use Rattle.monk_logs.specs.Log.Reading.{log};
+ghost use Rattle.monk_history.specs.Limits.{most_lines};
+ghost use Rattle.monk_history.specs.Text.Lines.{Gives};
+ghost use Rattle.monk_logs.specs.Log.Reading.{log, log_at, log_view};
 ghost use Rattle.monk_logs.specs.RunFound.{order_of, verdict_found};
 ghost use Rattle.monk_logs.specs.Verdict.{log_monitor};
 ghost use Rattle.monk_logs.specs.VerdictIn.{MisfitsExactlyIn};
@@ -21,7 +23,7 @@ use crate::lines_answer::LinesAnswer;
 use crate::outside_fitting::{inside_lines, is_mesa};
 use crate::run_text::run_text;
 use monk_audit::AuditFault;
-use monk_history::Device;
+use monk_history::{Device, ReadFault};
 use monk_kinds::KindName;
 use monk_logs::{
     FoundRun, LogHeader, LogLine, RunOrder, expire_at_once, find_run, has_outside, origin, read_log,
@@ -132,18 +134,26 @@ fn answer_to_log(
     answer_with(alloc, kind, order, header, log, sent, found)
 }
 
+/// The log that the bytes are the text of. The bytes are given up: a run needs the memory.
+pub(crate) fn log_of(alloc: Global, bytes: Vec<u8>) -> Result<(LogHeader, Vec<LogLine>), ReadFault>
+    ensures few { IfOk result (λ r. length r.1.items ≤ most_lines) }
+    ensures exact { Gives log_view result (log_at most_lines bytes.items) }
+{
+    read_log(alloc, &bytes)
+}
+
 /// The answer to a text.
 fn answer_to_text(
     alloc: Global,
     kind: KindName,
     order: RunOrder,
-    bytes: &[u8],
+    bytes: Vec<u8>,
 ) -> Result<LinesAnswer, StreamFault>
     ensures answer { IfOk result
-        (λ a. IsRunAnswer kind order bytes.now a.status (λ text. a.lines.items ≡ text)) }
+        (λ a. IsRunAnswer kind order bytes.items a.status (λ text. a.lines.items ≡ text)) }
     ensures no_file { IsErrOf result StreamFault.File → ⊥ }
 {
-    match read_log(alloc, bytes) {
+    match log_of(alloc, bytes) {
         Ok((header, mut lines)) => {
             expire_at_once(alloc, conds_under(kind, &header), &mut lines)?;
             answer_to_log(alloc, kind, order, &header, &lines)
@@ -173,8 +183,8 @@ fn answer_to_text(
 ///
 /// # Cost
 ///
-/// One pass over the text, one over its lines, and three over the steps. Memory for the text, for
-/// its lines, for the steps and for what is written.
+/// One pass over the text, one over its lines, and three over the steps. Memory for the lines, for
+/// the steps and for what is written; the text is given up once it is read.
 pub fn complete_run_stream<R: Read, W: Write>(
     alloc: Global,
     kind: KindName,
@@ -198,6 +208,6 @@ pub fn complete_run_stream<R: Read, W: Write>(
     ensures outcome { IsStreamOutcome R.remaining reader.old reader.new writer.old writer.new result }
 {
     let bytes = read_all(alloc, reader)?;
-    let answer = answer_to_text(alloc, kind, order, &bytes)?;
+    let answer = answer_to_text(alloc, kind, order, bytes)?;
     answer.put(writer)
 }

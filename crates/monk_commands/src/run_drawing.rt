@@ -22,7 +22,7 @@ use crate::input::read_all;
 use crate::kind_fitting::conds_under;
 use crate::lines_answer::LinesAnswer;
 use crate::outside_fitting::{inside_lines, is_mesa};
-use crate::run_completing::found;
+use crate::run_completing::{found, log_of};
 use crate::run_events::{run_events, run_served};
 use crate::showing::behind;
 use monk_draw::{Window, draw_run, is_behind};
@@ -30,7 +30,7 @@ use monk_history::{Device, Event};
 use monk_kinds::KindName;
 use monk_logs::{
     FoundRun, LogHeader, LogLine, LogVerdict, Pending, RunOrder, RunStep, expire_at_once,
-    has_outside, origin, read_log,
+    has_outside, origin,
 };
 use std::alloc::Global;
 use std::io::{Read, Write};
@@ -270,13 +270,13 @@ fn answer_to_text(
     kind: KindName,
     order: RunOrder,
     window: Option<Window>,
-    bytes: &[u8],
+    bytes: Vec<u8>,
 ) -> Result<LinesAnswer, StreamFault>
     ensures answer { IfOk result
-        (λ a. drawn.IsDrawnAnswer kind order window bytes.now a.status (λ text. a.lines.items ≡ text)) }
+        (λ a. drawn.IsDrawnAnswer kind order window bytes.items a.status (λ text. a.lines.items ≡ text)) }
     ensures no_file { IsErrOf result StreamFault.File → ⊥ }
 {
-    match read_log(alloc, bytes) {
+    match log_of(alloc, bytes) {
         Ok((header, mut lines)) => {
             expire_at_once(alloc, conds_under(kind, &header), &mut lines)?;
             answer_to_log(alloc, kind, order, window, &header, &lines)
@@ -331,6 +331,6 @@ pub fn draw_run_stream<R: Read, W: Write>(
     ensures outcome { IsStreamOutcome R.remaining reader.old reader.new writer.old writer.new result }
 {
     let bytes = read_all(alloc, reader)?;
-    let answer = answer_to_text(alloc, kind, order, window, &bytes)?;
+    let answer = answer_to_text(alloc, kind, order, window, bytes)?;
     answer.put(writer)
 }

@@ -11,6 +11,9 @@ use monk_logs::{LogHeader, Pending, RunOrder, RunStep, Step};
 use monk_tell::SaidEvent;
 use std::alloc::Global;
 
+/// How many bytes the line of a step has mostly: so the text of a long run seldom grows.
+const USUAL: usize = 20;
+
 /// The first line.
 fn heading(
     alloc: Global,
@@ -122,6 +125,7 @@ pub(crate) fn run_text(
     ensures no_file { IsErrOf result StreamFault.File → ⊥ }
 {
     let mut page = heading(alloc, kind, order, header)?.into_bytes();
+    page.reserve(steps.len().saturating_mul(USUAL))?;
     put_steps(alloc, &mut page, steps)?;
     page.extend_from_slice(left_text(alloc, left)?.as_bytes())?;
     Ok(page)

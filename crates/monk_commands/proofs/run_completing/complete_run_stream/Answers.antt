@@ -1,5 +1,3 @@
-use Rattle.std.proofs.Common.{◌≡◌, List, ℕ, sym, subst}
-use Rattle.std.specs.Prelude.{IfSome}
 use Rattle.std.specs.Io.KnownBytes.{Appends}
 use Rattle.std.proofs.lemmas.Result.{IfOk-weaker}
 use Rattle.monk_history.specs.Text.Device.{inner_of}
@@ -13,10 +11,8 @@ returns-clause-answer g c =
     Appends (g.W.Write.contents (inner_of c.args.writer.now)) (g.W.Write.contents (inner_of c.put.new.writer)) in
     let a = c.in_ok-answer.answer in
     IfOk-weaker c.put.result _ _ (λ status put.
-    answer_known c.args.kind c.args.order known c.deref.result.now status puts
-    (subst (λ (bytes : List ℕ). IfSome known (λ input. bytes ≡ input)) (sym c.deref.ensures.value)
-    c.in_ok-bytes.ensures.bytes)
-    (answer_put c.args.kind c.args.order c.deref.result.now a.lines.items a.status status puts
+    answer_known c.args.kind c.args.order known c.in_ok-bytes.bytes.items status puts c.in_ok-bytes.ensures.bytes
+    (answer_put c.args.kind c.args.order c.in_ok-bytes.bytes.items a.lines.items a.status status puts
     c.in_ok-answer.ensures.answer put.0 put.1))
     c.put.ensures.lines
 
@@ -27,10 +23,8 @@ returns-clause-open g c =
     Appends (g.W.Write.contents (inner_of c.args.writer.now)) (g.W.Write.contents (inner_of c.put.new.writer)) in
     let a = c.in_ok-answer.answer in
     IfOk-weaker c.put.result _ _ (λ status put.
-    open_known c.args.kind c.args.order known c.deref.result.now status puts
-    (subst (λ (bytes : List ℕ). IfSome known (λ input. bytes ≡ input)) (sym c.deref.ensures.value)
-    c.in_ok-bytes.ensures.bytes)
-    (answer_put c.args.kind c.args.order c.deref.result.now a.lines.items a.status status puts
+    open_known c.args.kind c.args.order known c.in_ok-bytes.bytes.items status puts c.in_ok-bytes.ensures.bytes
+    (answer_put c.args.kind c.args.order c.in_ok-bytes.bytes.items a.lines.items a.status status puts
     c.in_ok-answer.ensures.answer put.0 put.1))
     c.put.ensures.lines
 
@@ -40,7 +34,7 @@ returns-clause-statuses g c =
     Appends (g.W.Write.contents (inner_of c.args.writer.now)) (g.W.Write.contents (inner_of c.put.new.writer)) in
     let a = c.in_ok-answer.answer in
     IfOk-weaker c.put.result _ _ (λ status put.
-    statuses c.args.kind c.args.order c.deref.result.now status puts
-    (answer_put c.args.kind c.args.order c.deref.result.now a.lines.items a.status status puts
+    statuses c.args.kind c.args.order c.in_ok-bytes.bytes.items status puts
+    (answer_put c.args.kind c.args.order c.in_ok-bytes.bytes.items a.lines.items a.status status puts
     c.in_ok-answer.ensures.answer put.0 put.1))
     c.put.ensures.lines
