@@ -77,31 +77,34 @@ fn found_as_judged(
     }
 }
 
-/// The answer with what was found.
+/// The answer with what was found. The lines are given up: the text of a run needs the memory.
 fn answer_with(
     alloc: Global,
     kind: KindName,
     order: RunOrder,
     header: &LogHeader,
-    log: &[LogLine],
+    log: Vec<LogLine>,
     sent: bool,
     found: FoundRun,
 ) -> Result<LinesAnswer, StreamFault>
-    requires sent { sent ≡ is_sent kind header.now log.now }
-    requires found { IsFoundOf kind order header.now (judged_log kind header.now log.now) found }
+    requires sent { sent ≡ is_sent kind header.now log.items }
+    requires found { IsFoundOf kind order header.now (judged_log kind header.now log.items) found }
     ensures answer { IfOk result
-        (λ a. IsRunVerdict kind order header.now log.now (verdict_found found) a.status
+        (λ a. IsRunVerdict kind order header.now log.items (verdict_found found) a.status
         (λ text. a.lines.items ≡ text)) }
     ensures no_file { IsErrOf result StreamFault.File → ⊥ }
 {
     match found {
-        FoundRun::Run { steps, left } => Ok(LinesAnswer {
-            status: 0,
-            lines: run_text(alloc, kind, order, header, &steps, left)?,
-        }),
+        FoundRun::Run { steps, left } => {
+            drop(log);
+            Ok(LinesAnswer {
+                status: 0,
+                lines: run_text(alloc, kind, order, header, &steps, left)?,
+            })
+        }
         FoundRun::Misfit { line, blame } => {
             let number = if sent {
-                origin(header.seats(), log, line)
+                origin(header.seats(), &log, line)
             } else {
                 line
             };
@@ -119,18 +122,18 @@ fn answer_to_log(
     kind: KindName,
     order: RunOrder,
     header: &LogHeader,
-    log: &[LogLine],
+    log: Vec<LogLine>,
 ) -> Result<LinesAnswer, StreamFault>
-    requires few { length log.now ≤ 2 ^ 25 }
+    requires few { length log.items ≤ 2 ^ 25 }
     ensures answer { IfOk result
-        (λ a. IsRunOnce kind order header.now log.now a.status (λ text. a.lines.items ≡ text)) }
+        (λ a. IsRunOnce kind order header.now log.items a.status (λ text. a.lines.items ≡ text)) }
     ensures no_file { IsErrOf result StreamFault.File → ⊥ }
 {
     if header.size() > header.object().greatest_size() {
         return Ok(LinesAnswer::of_line(too_big(alloc)?));
     }
-    let sent = is_mesa(kind) && has_outside(header.seats(), log);
-    let found = found_as_judged(alloc, kind, order, header, log, sent)?;
+    let sent = is_mesa(kind) && has_outside(header.seats(), &log);
+    let found = found_as_judged(alloc, kind, order, header, &log, sent)?;
     answer_with(alloc, kind, order, header, log, sent, found)
 }
 
@@ -156,7 +159,7 @@ fn answer_to_text(
     match log_of(alloc, bytes) {
         Ok((header, mut lines)) => {
             expire_at_once(alloc, conds_under(kind, &header), &mut lines)?;
-            answer_to_log(alloc, kind, order, &header, &lines)
+            answer_to_log(alloc, kind, order, &header, lines)
         }
         Err(fault) => Ok(LinesAnswer::of_line(unreadable(alloc, fault)?)),
     }
@@ -183,8 +186,8 @@ fn answer_to_text(
 ///
 /// # Cost
 ///
-/// One pass over the text, one over its lines, and three over the steps. Memory for the lines, for
-/// the steps and for what is written; the text is given up once it is read.
+/// One pass over the text, one over its lines, and three over the steps. Memory for the lines and the
+/// steps, and then for the steps and what is written.
 pub fn complete_run_stream<R: Read, W: Write>(
     alloc: Global,
     kind: KindName,

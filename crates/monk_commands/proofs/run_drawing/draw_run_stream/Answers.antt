@@ -11,7 +11,8 @@ returns-clause-answer g c =
     Appends (g.W.Write.contents (inner_of c.args.writer.now)) (g.W.Write.contents (inner_of c.put.new.writer)) in
     let a = c.in_ok-answer.answer in
     IfOk-weaker c.put.result _ _ (λ status put.
-    answer_known c.args.kind c.args.order c.args.window known c.in_ok-bytes.bytes.items status puts c.in_ok-bytes.ensures.bytes
+    answer_known c.args.kind c.args.order c.args.window known c.in_ok-bytes.bytes.items status puts
+    c.in_ok-bytes.ensures.bytes
     (answer_put c.args.kind c.args.order c.args.window c.in_ok-bytes.bytes.items a.lines.items a.status status puts
     c.in_ok-answer.ensures.answer put.0 put.1))
     c.put.ensures.lines
@@ -23,7 +24,8 @@ returns-clause-open g c =
     Appends (g.W.Write.contents (inner_of c.args.writer.now)) (g.W.Write.contents (inner_of c.put.new.writer)) in
     let a = c.in_ok-answer.answer in
     IfOk-weaker c.put.result _ _ (λ status put.
-    open_known c.args.kind c.args.order c.args.window known c.in_ok-bytes.bytes.items status puts c.in_ok-bytes.ensures.bytes
+    open_known c.args.kind c.args.order c.args.window known c.in_ok-bytes.bytes.items status puts
+    c.in_ok-bytes.ensures.bytes
     (answer_put c.args.kind c.args.order c.args.window c.in_ok-bytes.bytes.items a.lines.items a.status status puts
     c.in_ok-answer.ensures.answer put.0 put.1))
     c.put.ensures.lines
