@@ -30,7 +30,7 @@ module _ (k : KindName) (o : RunOrder) (status : ℕ) (P Q : List ℕ → Type 0
     verdict_put : (h : LogHeading) (log : List LogLine) (v : LogVerdict) → IsRunVerdict k o h log v status P
         → IsRunVerdict k o h log v status Q
     verdict_put h log Fits a =
-        (a.0, record { run = a.1.run; left = a.1.left; tells = a.1.tells; told = f _ a.1.told })
+        (a.0, record { run = a.1.run; left = a.1.left; tells = a.1.tells; last = a.1.last; told = f _ a.1.told })
     verdict_put h log (Misfit n why) a = (a.0, f _ a.1)
 
     once_put : (h : LogHeading) (log : List LogLine) → IsRunOnce k o h log status P → IsRunOnce k o h log status Q

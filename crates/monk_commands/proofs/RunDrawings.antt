@@ -109,6 +109,7 @@ module _ (k : KindName) (o : RunOrder) (w : Option Window) (status : ℕ) (P Q :
       run = a.run;
       left = a.left;
       tells = a.tells;
+      last = a.last;
       drawn = picture_put h v _ _ _ a.drawn;
     }
 

@@ -15,9 +15,10 @@ use Rattle.monk_logs.specs.FitsIn.{IsOpenIn}
 use Rattle.monk_logs.specs.Log.{LogHeading, log_words}
 use Rattle.monk_logs.specs.Log.Reading.{Log, log_at}
 use Rattle.monk_logs.specs.Outside.{origin}
-use Rattle.monk_logs.specs.RunFound.{IsRunOf, order_of, verdict_found}
-use Rattle.monk_logs.specs.ServedRun.{RunTells, untold}
+use Rattle.monk_logs.specs.RunFound.{IsRunOf, ServesLast, order_of, verdict_found}
+use Rattle.monk_logs.specs.ServedRun.{RunTells, steps_of, untold}
 use Rattle.monk_logs.specs.Verdict.{log_monitor}
+use Rattle.monk_logs.specs.Whom.{run_from}
 use Rattle.monk_logs.specs.declared.board.pending.Pending.{Pending}
 use Rattle.monk_logs.specs.declared.board.step.Step.{Step}
 use Rattle.monk_logs.specs.declared.board.step.Step.TheVariants.{Did, Lapsed}
@@ -68,10 +69,11 @@ run_text k o h run left = run_heading k o h ++ flat_map run_line run ++ left_tex
 abbrev pub number_in : KindName → LogHeading → List LogLine → ℕ → ℕ
 number_in k h log n = if is_sent k h log then origin h.seats log n else n
 
--- what is found of those lines is what a run of the monitor in that order tells, or the verdict on them
+-- what is found of those lines is what a run of the monitor in that order tells, whose signals serve
+-- those who came last, or the verdict on them
 abbrev pub IsFoundOf : KindName → RunOrder → LogHeading → List LogLine → FoundRun → Type 0
 IsFoundOf k o h judged found = IsRunOf (order_of o) (log_monitor k h) judged found
-    × (verdict_found found ≡ board_verdict (order_of o) (log_monitor k h) judged)
+    × (verdict_found found ≡ board_verdict (order_of o) (log_monitor k h) judged) × ServesLast found
 
 -- a run of the monitor in that order that tells the log as it is judged; what writing bytes means is `Puts`
 pub record IsRunWritten (k : KindName) (o : RunOrder) (h : LogHeading) (log : List LogLine) (Puts : List ℕ → Type 0)
@@ -79,6 +81,7 @@ pub record IsRunWritten (k : KindName) (o : RunOrder) (h : LogHeading) (log : Li
   pub run : List RunStep
   pub left : Pending
   pub tells : RunTells (order_of o) (log_monitor k h) (judged_log k h log) run left
+  pub last : run ≡ run_from [] (steps_of run)
   pub told : Puts (run_text k o h run left)
 
 -- the answer to a log with that verdict

@@ -16,8 +16,9 @@ use Rattle.monk_logs.specs.Expiry.{at_once}
 use Rattle.monk_logs.specs.Log.{LogHeading}
 use Rattle.monk_logs.specs.Log.Reading.{Log, log_at}
 use Rattle.monk_logs.specs.RunFound.{order_of}
-use Rattle.monk_logs.specs.ServedRun.{RunTells}
+use Rattle.monk_logs.specs.ServedRun.{RunTells, steps_of}
 use Rattle.monk_logs.specs.Verdict.{log_monitor}
+use Rattle.monk_logs.specs.Whom.{run_from}
 use Rattle.monk_logs.specs.declared.blame.Blame.{Blame}
 use Rattle.monk_logs.specs.declared.board.pending.Pending.{Pending}
 use Rattle.monk_logs.specs.declared.runs.run_order.RunOrder.{RunOrder}
@@ -86,6 +87,7 @@ pub record IsRunDrawn (k : KindName) (o : RunOrder) (w : Option Window) (h : Log
   pub run : List RunStep
   pub left : Pending
   pub tells : RunTells (order_of o) (log_monitor k h) (lines_told v (judged_log k h log)) run left
+  pub last : run ≡ run_from [] (steps_of run)
   pub drawn : IsPictureBy w k h v (run_events run left (wrong_line v (judged_log k h log))) (run_served run)
       (reason_of (numbered (number_in k h log) v)) status Puts
 

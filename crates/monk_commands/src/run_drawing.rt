@@ -1,6 +1,6 @@
 //! The stream that draws a log: the text of a log in, a picture of a run that tells it out.
 
-ghost use Rattle.std.specs.Prelude.{◌≡◌, ◌≤◌, ◌^◌, false, length, IfOk, IfSome, IsErrOf, string_bytes};
+ghost use Rattle.std.specs.Prelude.{◌≡◌, ◌≤◌, ◌^◌, [], false, length, IfOk, IfSome, IsErrOf, string_bytes};
 ghost use Rattle.std.specs.Io.KnownBytes.{Appends};
 ghost use Rattle.monk_object.specs.Names.{most};
 ghost use Rattle.monk_history.specs.Text.Device.{inner_of, has_failed};
@@ -8,8 +8,9 @@ ghost use Rattle.monk_kinds.specs.declared.name.KindName.{KindName};
 ghost use Rattle.monk_logs.specs.BoardStand.{board_verdict};
 ghost use Rattle.monk_logs.specs.FitsIn.{IsOpenIn};
 ghost use Rattle.monk_logs.specs.RunFound.{order_of};
-ghost use Rattle.monk_logs.specs.ServedRun.{RunTells};
+ghost use Rattle.monk_logs.specs.ServedRun.{RunTells, steps_of};
 ghost use Rattle.monk_logs.specs.Verdict.{log_monitor};
+ghost use Rattle.monk_logs.specs.Whom.{run_from};
 ghost use Rattle.monk_commands.specs.KindFitted.{conds_under, is_sent, judged_log};
 ghost use Rattle.monk_commands.specs.RunCompleted.{IsRunText, number_in};
 ghost use Rattle.monk_commands.specs.RunDrawn as drawn;
@@ -71,6 +72,7 @@ fn told_before(
     requires open { IsOpenIn (order_of order) (log_monitor kind header.now) (drawn.lines_told verdict judged.now) }
     ensures told { IfOk result (λ t. RunTells (order_of order) (log_monitor kind header.now)
         (drawn.lines_told verdict judged.now) t.steps.items t.left) }
+    ensures last { IfOk result (λ t. t.steps.items ≡ run_from [] (steps_of t.steps.items)) }
     ensures verdict { IfOk result (λ t. t.verdict ≡ verdict) }
     ensures no_file { IsErrOf result StreamFault.File → ⊥ }
 {
@@ -97,6 +99,7 @@ fn told_run(
     requires size { header.now.size ≤ most header.now.object }
     ensures told { IfOk result (λ t. RunTells (order_of order) (log_monitor kind header.now)
         (drawn.lines_told t.verdict judged.now) t.steps.items t.left) }
+    ensures last { IfOk result (λ t. t.steps.items ≡ run_from [] (steps_of t.steps.items)) }
     ensures verdict { IfOk result
         (λ t. t.verdict ≡ board_verdict (order_of order) (log_monitor kind header.now) judged.now) }
     ensures no_file { IsErrOf result StreamFault.File → ⊥ }
