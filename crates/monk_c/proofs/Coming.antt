@@ -9,7 +9,7 @@ use Rattle.monk_object.specs.Flags.{flags_meaning}
 use Rattle.monk_hall.specs.Calls.{HasArrived}
 use Rattle.monk_hall.specs.Tokens.{Token}
 use Rattle.monk_hall.specs.declared.record.SeatRecord.{SeatRecord}
-use Rattle.monk_c.specs.Answers.{fault_number}
+use Rattle.monk_c.specs.Answers.{refusal_number}
 use Rattle.monk_c.specs.Coming.{HasCome}
 use Rattle.monk_c.specs.Handles.{AnswersAt, IfRefusedAt, IfTakenAt, booked}
 use Rattle.monk_c.specs.Refusal.{is_spent, refusal_at, refusal_of}
@@ -18,10 +18,10 @@ use Rattle.monk_c.specs.Stands.At.{Outside, Waiting, Inside}
 use Rattle.monk_c.specs.Taken.{IsOutside, IsWaiting}
 use Rattle.monk_c.specs.declared.any_seat.AnySeat.{AnySeat}
 use Rattle.monk_c.specs.declared.call.Call.TheVariants.{Arrive, Poll}
-use Rattle.monk_c.specs.declared.fault.Fault.{Fault}
-use Rattle.monk_c.specs.declared.fault.Fault.TheVariants.{NotNow, Spent, NotOfKind, Range, Memory, Closed}
+use Rattle.monk_c.specs.declared.refusal.Refusal.{Refusal}
+use Rattle.monk_c.specs.declared.refusal.Refusal.TheVariants.{NotNow, Spent, NotOfKind, Range, Memory, Closed}
 
-unless : (b : Bool) (f : Fault) → (if b then Some f else None) ≡ None → b ≡ false
+unless : (b : Bool) (f : Refusal) → (if b then Some f else None) ≡ None → b ≡ false
 unless true f e = absurd cc
 unless false f e = refl
 
@@ -68,7 +68,7 @@ poll_tells_none None t code told has = has
 poll_tells_none (Some a) None code told has = has
 poll_tells_none (Some a) (Some b) code told has = (has.0, (has.1.0, has.1.1, (refl, has.1.2.1)))
 
-below : (f : Fault) → int_lt (fault_number f) (pos 0) ≡ true
+below : (f : Refusal) → int_lt (refusal_number f) (pos 0) ≡ true
 below NotNow = refl
 below Spent = refl
 below NotOfKind = refl
@@ -77,14 +77,14 @@ below Memory = refl
 below Closed = refl
 
 -- a call is not refused whose answer is not below 0
-not_refused : (r : Option Fault) (P : Type 0) (code : ℤ) → int_lt code (pos 0) ≡ false
-    → IfSome r (λ f. P × (code ≡ fault_number f)) → r ≡ None
+not_refused : (r : Option Refusal) (P : Type 0) (code : ℤ) → int_lt code (pos 0) ≡ false
+    → IfSome r (λ f. P × (code ≡ refusal_number f)) → r ≡ None
 not_refused None P code high e = refl
 not_refused (Some f) P code high e = absurd (clash (below f) e.1 high) where
-  clash : int_lt (fault_number f) (pos 0) ≡ true → code ≡ fault_number f → int_lt code (pos 0) ≡ false → ⊥
+  clash : int_lt (refusal_number f) (pos 0) ≡ true → code ≡ refusal_number f → int_lt code (pos 0) ≡ false → ⊥
   clash low is high = cc
 
-if_none : (r : Option Fault) (P : Fault → Type 0) → r ≡ None → IfSome r P
+if_none : (r : Option Refusal) (P : Refusal → Type 0) → r ≡ None → IfSome r P
 if_none None P e = tt
 if_none (Some f) P e = absurd cc
 
@@ -95,7 +95,7 @@ module _ (s m t : AnySeat) (answer code shown : ℤ) (high : int_lt answer (pos 
   arrives = not_refused (refusal_at (booked s) Arrive) (m ≡ s) answer high refused
 
   pub unrefused : IfRefusedAt Arrive s shown t
-  unrefused = if_none (refusal_at (booked s) Arrive) (λ f. (t ≡ s) × (shown ≡ fault_number f)) arrives
+  unrefused = if_none (refusal_at (booked s) Arrive) (λ f. (t ≡ s) × (shown ≡ refusal_number f)) arrives
 
   pub has_come : (told more : ℕ) → IfTakenAt Arrive pick.Waiter s answer told m
       → IfTakenAt Poll pick.Waiter m code more t

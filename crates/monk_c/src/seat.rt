@@ -15,7 +15,7 @@ ghost use Rattle.monk_c.specs.Taken.{Answers, IfRefused, IfTaken, IfUntold};
 ghost use Rattle.monk_c.specs.SeatQuestions.{word_of};
 
 use crate::call::Call;
-use crate::fault::Fault;
+use crate::refusal::Refusal;
 use crate::reply::Reply;
 use crate::room::Room;
 use crate::token::SeatToken;
@@ -106,20 +106,20 @@ impl<K: Kind> Seat<K> {
     }
 
     /// Why the call is refused, if it is.
-    fn refusal(&self, call: Call) -> Option<Fault>
+    fn refusal(&self, call: Call) -> Option<Refusal>
         ensures { result ≡ refusal_of K.rules.mode self.now call }
     {
         if !call.is_of(rules_of::<K>().mode) {
-            return Some(Fault::NotOfKind);
+            return Some(Refusal::NotOfKind);
         }
         if !call.is_within(self.room.conds(), self.room.flags) {
-            return Some(Fault::Range);
+            return Some(Refusal::Range);
         }
         if !self.token.is_from(call) {
-            return Some(Fault::NotNow);
+            return Some(Refusal::NotNow);
         }
         if self.token.left() < call.wants() {
-            return Some(Fault::Spent);
+            return Some(Refusal::Spent);
         }
         None
     }
@@ -175,7 +175,7 @@ impl<K: Kind> Seat<K> {
         ensures taken { IfTaken K.rules call wish self.old result.code result.granted self.new }
     {
         match self.refusal(call) {
-            Some(fault) => Reply::refused(fault),
+            Some(refusal) => Reply::refused(refusal),
             None => mem::replace_with(
                 self,
                 (call, wish),
@@ -195,7 +195,7 @@ impl<K: NonBlocking> Seat<K> {
         ensures taken { IfTaken K.rules (Call.Broadcast cond) pick.Waiter self.old result.code result.granted self.new }
     {
         match self.refusal(Call::Broadcast(cond)) {
-            Some(fault) => Reply::refused(fault),
+            Some(refusal) => Reply::refused(refusal),
             None => mem::replace_with(
                 self,
                 cond,
@@ -216,7 +216,7 @@ impl<K: ImmediateReturn> Seat<K> {
             (Call.SignalWait cond wait_cond) wish self.old result.code result.granted self.new }
     {
         match self.refusal(Call::SignalWait(cond, wait_cond)) {
-            Some(fault) => Reply::refused(fault),
+            Some(refusal) => Reply::refused(refusal),
             None => mem::replace_with(
                 self,
                 (cond, wait_cond, wish),

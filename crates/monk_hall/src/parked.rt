@@ -1,7 +1,8 @@
-ghost use Rattle.std.specs.Prelude.{◌≡◌, ◌≢◌, suc, ◌+◌, ◌≤◌, Option, Some, None, IfOk, IfErr, length};
+ghost use Rattle.std.specs.Prelude.{◌≡◌, ◌≢◌, ◌+◌, Option, Some, None, IfOk, IfErr, [], ◌∷◌, ◌++◌, length};
 ghost use Rattle.monk_world.specs.Places.{stage, due_stage};
 ghost use Rattle.monk_world.specs.declared.place.Place.TheVariants as at;
-ghost use Rattle.monk_hall.specs.Calls.{HasLooked, HasEntered, StillWaits, held_ticket};
+ghost use Rattle.monk_hall.specs.Calls.{ComesAfter, HasLooked, HasEntered, StillWaits, held_ticket};
+ghost use Rattle.monk_hall.specs.declared.deed.Deed.TheVariants as deed;
 
 use crate::active::Active;
 use crate::hall::Hall;
@@ -69,8 +70,7 @@ impl<K: Kind, T: Guarded> Parked<K, T> {
     /// Otherwise it gives itself back.
     pub fn poll(self, hall: &Hall<K, T>) -> Result<Active<K, T>, Parked<K, T>>
         requires { self.hall ≡ hall.now.id }
-        ensures active { IfOk result (λ a. HasEntered K.rules T.meaning self a × (a.me.looks ≤ self.me.looks + 1)
-            × (a.me.steps ≤ self.me.steps + 2)) }
+        ensures active { IfOk result (λ a. HasEntered K.rules T.meaning self a × ComesAfter 0 self.me a.me) }
         ensures parked { IfErr result (λ p. StillWaits K.rules T.meaning self p × (stage self.me.place ≢ due_stage)) }
     {
         let looked = self.look(hall);
@@ -143,7 +143,7 @@ impl<K: Kind, T: Guarded> Parked<K, T> {
         requires hall { self.hall ≡ hall.now.id }
         requires due { self.me.place ≡ at.Due source }
         ensures entered { HasEntered K.rules T.meaning self result }
-        ensures counts { (result.me.looks ≡ self.me.looks) × (result.me.steps ≡ suc self.me.steps) }
+        ensures did { result.me.did ≡ self.me.did ++ deed.FloorOut ∷ [] }
     {
         let Parked {
             mut seat,
