@@ -11,6 +11,7 @@ mod floor_histories;
 mod floor_steps;
 mod full_floor;
 mod halls;
+mod judgings;
 mod kinds;
 mod last_lines;
 mod log_texts;

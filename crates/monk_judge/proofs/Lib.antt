@@ -1,0 +1,12 @@
+pub mod LinesAhead
+pub mod Sound
+pub mod Complete
+pub mod Shows
+pub mod Covers
+pub mod Counting
+pub mod Least
+pub mod LeastLaw
+pub mod Sleepers
+pub mod Totals
+pub mod Taking
+pub mod Naming

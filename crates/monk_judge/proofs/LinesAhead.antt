@@ -1,0 +1,152 @@
+-- How waits end, one line earlier and one line later
+use Rattle.std.proofs.Common.{◌≡◌, ℕ, zero, suc, ◌+◌, ◌<◌, ◌≤◌, ◌⊎◌, inl, inr, true, List, [], ◌∷◌, length, get_or, set, replicate, drop, refl, sym, ap, subst, arith, ◌∙◌, if◌then◌else◌}
+use Rattle.std.proofs.lemmas.Bool.{eq-eqb, false≢true, ne_eqb}
+use Rattle.std.proofs.lemmas.List.{drop_all, get_or-set_same, get_or-set_other}
+use Rattle.monk_logs.specs.Expiry.{line_seat}
+use Rattle.monk_logs.specs.FitsIn.{is_lapse}
+use Rattle.monk_logs.specs.declared.text.line.LogLine.{LogLine}
+use Rattle.monk_logs.specs.declared.text.line.LogLine.TheVariants.{Enter}
+use Rattle.monk_judge.specs.declared.wait_end.WaitEnd.{WaitEnd}
+use Rattle.monk_judge.specs.declared.wait_end.WaitEnd.TheVariants.{Resumes, RunsOut, Never}
+use Rattle.monk_judge.specs.Ends.{IsEnd, ResumesBy, is_resume, lapses_next, resumes_within, runs_out}
+
+-- ---- past a line
+
+-- of other threads than the line's, whether they go on within one line less
+pub past_other : (l : LogLine) (rest : List LogLine) (j d : ℕ) → (j ≡ line_seat l → ⊥)
+    → resumes_within j (suc d) (l ∷ rest) ≡ resumes_within j d rest
+past_other l rest j d ne = ap (λ b. if b then is_resume l else resumes_within j d rest) (ne_eqb j (line_seat l) ne)
+
+pub past_own : (l : LogLine) (rest : List LogLine) (d : ℕ)
+    → resumes_within (line_seat l) (suc d) (l ∷ rest) ≡ is_resume l
+past_own l rest d = ap (λ b. if b then is_resume l else resumes_within (line_seat l) d rest)
+    (eq-eqb (line_seat l) (line_seat l) refl)
+
+lapse_other : (l : LogLine) (rest : List LogLine) (j : ℕ) → (j ≡ line_seat l → ⊥)
+    → lapses_next j (l ∷ rest) ≡ lapses_next j rest
+lapse_other l rest j ne = ap (λ b. if b then is_lapse l else lapses_next j rest) (ne_eqb j (line_seat l) ne)
+
+lapse_own : (l : LogLine) (rest : List LogLine) → lapses_next (line_seat l) (l ∷ rest) ≡ is_lapse l
+lapse_own l rest = ap (λ b. if b then is_lapse l else lapses_next (line_seat l) rest)
+    (eq-eqb (line_seat l) (line_seat l) refl)
+
+by_later : (e : WaitEnd) (n m : ℕ) → n ≤ m → ResumesBy e n → ResumesBy e m
+by_later (Resumes k) n m le h = omega arith
+by_later RunsOut n m le h = absurd h
+by_later Never n m le h = absurd h
+
+-- behind the last line no wait ends
+none_within : (s d : ℕ) (A : Type 0) → resumes_within s d [] ≡ true → A
+none_within s zero A h = absurd (false≢true h)
+none_within s (suc d) A h = absurd (false≢true h)
+
+pub end_never : (s past : ℕ) → IsEnd s past Never []
+end_never s past = record { lapses = refl; by = λ d h. none_within s d _ h; within = λ d h. absurd h }
+
+-- of another thread than the line's
+other_by : (j k : ℕ) (e : WaitEnd) (l : LogLine) (rest : List LogLine) → (j ≡ line_seat l → ⊥) → IsEnd j (k + 1) e rest
+    → (d : ℕ) → resumes_within j d (l ∷ rest) ≡ true → ResumesBy e (k + d)
+other_by j k e l rest ne h zero r = absurd (false≢true r)
+other_by j k e l rest ne h (suc d) r = by_later e (k + 1 + d) (k + suc d) (omega arith)
+    (h.by d (sym (past_other l rest j d ne) ∙ r))
+
+other_within : (j k : ℕ) (e : WaitEnd) (l : LogLine) (rest : List LogLine) → (j ≡ line_seat l → ⊥)
+    → IsEnd j (k + 1) e rest
+    → (d : ℕ) → ResumesBy e (k + d) → resumes_within j d (l ∷ rest) ≡ true
+other_within j k e l rest ne h zero r = absurd
+    (false≢true (h.within 0 (by_later e (k + 0) (k + 1 + 0) (omega arith) r)))
+other_within j k e l rest ne h (suc d) r = past_other l rest j d ne
+    ∙ h.within d (by_later e (k + suc d) (k + 1 + d) (omega arith) r)
+
+pub end_other : (j k : ℕ) (e : WaitEnd) (l : LogLine) (rest : List LogLine) → (j ≡ line_seat l → ⊥)
+    → IsEnd j (k + 1) e rest
+    → IsEnd j k e (l ∷ rest)
+end_other j k e l rest ne h = record {
+  lapses = h.lapses ∙ sym (lapse_other l rest j ne);
+  by = other_by j k e l rest ne h;
+  within = other_within j k e l rest ne h;
+}
+
+pub end_past : (j k : ℕ) (e : WaitEnd) (l : LogLine) (rest : List LogLine) → (j ≡ line_seat l → ⊥)
+    → IsEnd j k e (l ∷ rest)
+    → IsEnd j (k + 1) e rest
+end_past j k e l rest ne h = record {
+  lapses = h.lapses ∙ lapse_other l rest j ne;
+  by = λ d r. by_later e (k + suc d) (k + 1 + d) (omega arith) (h.by (suc d) (past_other l rest j d ne ∙ r));
+  within = λ d r. sym (past_other l rest j d ne)
+      ∙ h.within (suc d) (by_later e (k + 1 + d) (k + suc d) (omega arith) r);
+}
+
+-- what the end of a wait has to be if that is its thread's next line, with that number
+pub record IsEndBy (l : LogLine) (number : ℕ) (e : WaitEnd) : Type 0 where
+  pub lapses : runs_out e ≡ is_lapse l
+  pub by : is_resume l ≡ true → (n : ℕ) → number ≤ n → ResumesBy e n
+  pub within : (n : ℕ) → ResumesBy e n → (is_resume l ≡ true) × (number ≤ n)
+
+own_by : (k : ℕ) (e : WaitEnd) (l : LogLine) (rest : List LogLine) → IsEndBy l (k + 1) e
+    → (d : ℕ) → resumes_within (line_seat l) d (l ∷ rest) ≡ true → ResumesBy e (k + d)
+own_by k e l rest h zero r = absurd (false≢true r)
+own_by k e l rest h (suc d) r = h.by (sym (past_own l rest d) ∙ r) (k + suc d) (omega arith)
+
+own_within : (k : ℕ) (e : WaitEnd) (l : LogLine) (rest : List LogLine) → IsEndBy l (k + 1) e
+    → (d : ℕ) → ResumesBy e (k + d) → resumes_within (line_seat l) d (l ∷ rest) ≡ true
+own_within k e l rest h zero r = let got = h.within (k + 0) r in absurd (let z : k + 1 ≤ k + 0 = got.1 in omega arith)
+own_within k e l rest h (suc d) r = let got = h.within (k + suc d) r in past_own l rest d ∙ got.0
+
+end_own : (k : ℕ) (e : WaitEnd) (l : LogLine) (rest : List LogLine) → IsEndBy l (k + 1) e
+    → IsEnd (line_seat l) k e (l ∷ rest)
+end_own k e l rest h = record {
+  lapses = h.lapses ∙ sym (lapse_own l rest);
+  by = own_by k e l rest h;
+  within = own_within k e l rest h;
+}
+
+-- ---- by index
+
+pub same_or : (j s : ℕ) → (j ≡ s) ⊎ (j ≡ s → ⊥)
+same_or j s = grind arith
+
+-- the next ends, one line earlier
+pub next_kept : (next : List WaitEnd) (l : LogLine) (rest : List LogLine) (k : ℕ) (e : WaitEnd)
+    → line_seat l < length next
+    → IsEndBy l (k + 1) e → (s : ℕ) → IsEnd s (k + 1) (get_or next s (Resumes 0)) rest
+    → IsEnd s k (get_or (set next (line_seat l) e) s (Resumes 0)) (l ∷ rest)
+next_kept next l rest k e lt own s h =
+    elim (same_or s (line_seat l)) as (λ z. IsEnd s k (get_or (set next (line_seat l) e) s (Resumes 0)) (l ∷ rest)) [
+      | inl same ↦ subst (λ j. IsEnd j k (get_or (set next (line_seat l) e) j (Resumes 0)) (l ∷ rest)) (sym same)
+          (subst (λ v. IsEnd (line_seat l) k v (l ∷ rest))
+          (sym (get_or-set_same next (line_seat l) e (Resumes 0) lt)) (end_own k e l rest own))
+      | inr other ↦ subst (λ v. IsEnd s k v (l ∷ rest))
+          (sym (get_or-set_other next (line_seat l) s e (Resumes 0) other))
+          (end_other s k (get_or next s (Resumes 0)) l rest other h)
+    ]
+
+-- the end of a wait in the line with that index
+abbrev pub IsEndAt : List LogLine → ℕ → WaitEnd → Type 0
+IsEndAt lines k e = IsEnd (line_seat (get_or lines k (Enter 0))) (k + 1) e (drop (k + 1) lines)
+
+at_or_behind : (i k : ℕ) → i ≤ k → (k ≡ i) ⊎ (i + 1 ≤ k)
+at_or_behind i k h = grind arith
+
+pub each_kept : (ends : List WaitEnd) (lines : List LogLine) (i : ℕ) (e : WaitEnd) → i < length ends → IsEndAt lines i e
+    → ((k : ℕ) → i + 1 ≤ k → k < length lines → IsEndAt lines k (get_or ends k (Resumes 0)))
+    → (k : ℕ) → i ≤ k → k < length lines → IsEndAt lines k (get_or (set ends i e) k (Resumes 0))
+each_kept ends lines i e lt h old k le few =
+    elim (at_or_behind i k le) as (λ z. IsEndAt lines k (get_or (set ends i e) k (Resumes 0))) [
+      | inl same ↦ subst (λ j. IsEndAt lines j (get_or (set ends i e) j (Resumes 0))) (sym same)
+          (subst (λ v. IsEndAt lines i v) (sym (get_or-set_same ends i e (Resumes 0) lt)) h)
+      | inr more ↦ subst (λ v. IsEndAt lines k v)
+          (sym (get_or-set_other ends i k e (Resumes 0) (λ same. absurd (omega arith)))) (old k more few)
+    ]
+
+nth_never : (n s : ℕ) → s < n → get_or (replicate n Never) s (Resumes 0) ≡ Never
+nth_never zero s lt = absurd (omega arith)
+nth_never (suc n) zero lt = refl
+nth_never (suc n) (suc s) lt = nth_never n s (omega arith)
+
+pub nothing_next : (lines : List LogLine) (n s : ℕ) → s < n
+    → IsEnd s (length lines) (get_or (replicate n Never) s (Resumes 0)) (drop (length lines) lines)
+nothing_next lines n s lt =
+    subst (λ v. IsEnd s (length lines) v (drop (length lines) lines)) (sym (nth_never n s lt))
+    (subst (λ k. IsEnd s (length lines) Never k) (sym (drop_all (length lines) lines (omega arith)))
+    (end_never s (length lines)))

@@ -1,0 +1,10 @@
+use Rattle.std.proofs.Common.{◌≡◌, ◌≤◌}
+use Rattle.monk_judge.specs.Counts.{sleepers}
+use Rattle.monk_judge.specs.Shown.{state_of}
+use Rattle.monk_judge.proofs.judge.Judge.asleep.Given as goal
+
+abbrev pub invariant-loop-place : goal.invariant-loop-place
+invariant-loop-place g l = record {
+  counted : l.many ≡ sleepers l.place-index (state_of l.self);
+  few : l.many ≤ l.place-index;
+}

@@ -1,0 +1,10 @@
+use Rattle.std.proofs.Common.{◌≡◌, ◌≤◌}
+use Rattle.monk_judge.specs.Counts.{sleepers_on}
+use Rattle.monk_judge.specs.Shown.{state_of}
+use Rattle.monk_judge.proofs.judge.Judge.asleep_on.Given as goal
+
+abbrev pub invariant-loop-place : goal.invariant-loop-place
+invariant-loop-place g l = record {
+  counted : l.many ≡ sleepers_on l.cond l.place-index (state_of l.self);
+  few : l.many ≤ l.place-index;
+}

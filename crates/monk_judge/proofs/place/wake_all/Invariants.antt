@@ -1,0 +1,10 @@
+use Rattle.std.proofs.Common.{◌≡◌, ℕ, ◌<◌, ◌≤◌, get_or}
+use Rattle.monk_judge.specs.declared.place.Place.TheVariants.{Outside}
+use Rattle.monk_judge.specs.Run.{woken}
+use Rattle.monk_judge.proofs.place.wake_all.Given as goal
+
+abbrev pub invariant-loop-place : goal.invariant-loop-place
+invariant-loop-place l = record {
+  past : (k : ℕ) → k < l.place-index → get_or l.places k Outside ≡ woken l.cond (get_or l.initial.places k Outside);
+  left : (k : ℕ) → l.place-index ≤ k → get_or l.places k Outside ≡ get_or l.initial.places k Outside;
+}

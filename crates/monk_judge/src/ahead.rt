@@ -1,0 +1,35 @@
+//! How each wait ends, from the lines behind it.
+
+ghost use Rattle.std.specs.Prelude.{◌≤◌, IfOk, length};
+ghost use Rattle.monk_history.specs.Limits.{most_lines};
+ghost use Rattle.monk_judge.specs.Ends.{AreEnds};
+
+use crate::wait_end::WaitEnd;
+use monk_logs::LogLine;
+use std::alloc::{AllocError, Global};
+
+/// How many seats a line can name.
+const SEATS: usize = 256;
+
+/// For each line, how a wait of its seat there would end. One pass from the last line to the first
+/// finds this. It takes 8 bytes of memory for each line, and fails only where a request is refused.
+pub fn look_ahead(alloc: Global, lines: &[LogLine]) -> Result<Vec<WaitEnd>, AllocError>
+    requires { length lines.now ≤ most_lines }
+    ensures { IfOk result (λ v. AreEnds v.items lines.now) }
+{
+    let mut ends = Vec::new(alloc);
+    for _ in 0..lines.len() {
+        ends.push(WaitEnd::Never)?;
+    }
+    let mut next = [WaitEnd::Never; SEATS];
+    let mut index = lines.len();
+    while index > 0 {
+        let number = index as u32;
+        index -= 1;
+        let line = lines[index];
+        let seat = usize::from(line.seat());
+        ends[index] = next[seat];
+        next[seat] = WaitEnd::by(line, number);
+    }
+    Ok(ends)
+}

@@ -1,0 +1,373 @@
+//! A mutex and its condition variables, line by line.
+
+ghost use Rattle.std.specs.Prelude.{◌≡◌, ◌⊎◌, ◌<◌, ◌≤◌, ℕ, length, IfOk, MatchOption, MatchResult, Some, None, slice_index_or, slice_set};
+ghost use Rattle.monk_object.specs.Object.{Object};
+ghost use Rattle.monk_logs.specs.declared.text.line.LogLine.TheVariants as lines;
+ghost use Rattle.monk_judge.specs.Counts.{passing, sleepers, sleepers_on, woken_ones};
+ghost use Rattle.monk_judge.specs.Run.{MaySignal, moved, woken};
+ghost use Rattle.monk_judge.specs.Shown.{Does, IsEarliest, ResumesNoLater, setting_of, shown, state_of};
+ghost use Rattle.monk_judge.specs.declared.place.Place.TheVariants.{Outside, Active, Waiting};
+ghost use Rattle.monk_judge.specs.declared.wait_end.WaitEnd.{WaitEnd};
+
+use crate::blame::Blame;
+use crate::place::{Place, wake_all};
+use crate::told::Told;
+use crate::wait_end::WaitEnd;
+use monk_logs::LogLine;
+use monk_object::{Guarded, Op};
+use std::alloc::{AllocError, Global};
+use std::marker::Model;
+
+/// A mutex and its condition variables in one run that tells the lines so far: the run with the fewest wake-ups that
+/// nobody sent.
+#[derive(Drop)]
+pub struct Judge<T: Guarded> {
+    conds: u8,
+    lock: Option<u8>,
+    places: Vec<Place>,
+    /// How the wait of each seat that waits ends.
+    ends: Vec<WaitEnd>,
+    object: T,
+}
+
+impl<T: Guarded> Model for Judge<T> {
+    ghost use Rattle.std.specs.Prelude.{◌≡◌, ◌<◌, length};
+    ghost use Rattle.monk_judge.specs.Shown.{Shown, shown};
+
+    ghost Value = { Shown };
+
+    ghost view = { λ j. shown j.conds j.lock j.places.items j.ends.items (T.state j.object) };
+
+    ghost invariant = { λ j. (length j.ends.items ≡ length j.places.items) × (length j.places.items < 256) };
+}
+
+impl<T: Guarded> Judge<T> {
+    /// Nobody is inside.
+    pub fn opening(alloc: Global, seats: u8, conds: u8, object: T) -> Result<Self, AllocError>
+        ensures many { IfOk result (λ v. (length v.places ≡ seats) × (v.conds ≡ conds) × (v.lock ≡ None)
+            × (v.data_now ≡ T.state object)) }
+        ensures outside { IfOk result (λ v. (j : ℕ) → slice_index_or v.places j Outside ≡ Outside) }
+        ensures ends { IfOk result (λ v. length v.ends ≡ length v.places) }
+    {
+        let mut places = Vec::new(alloc);
+        let mut ends = Vec::new(alloc);
+        for _filled in 0..seats {
+            places.push(Place::Outside)?;
+            ends.push(WaitEnd::Never)?;
+        }
+        Ok(Judge {
+            conds,
+            lock: None,
+            places,
+            ends,
+            object,
+        })
+    }
+
+    /// Who holds the lock.
+    pub fn lock(&self) -> Option<u8>
+        ensures { result ≡ self.now.lock }
+    {
+        self.lock
+    }
+
+    /// How many threads sleep.
+    pub fn asleep(&self) -> u8
+        ensures { result ≡ sleepers (length self.now.places) (state_of self.now) }
+    {
+        let mut many = 0u8;
+        for place in &self.places {
+            if place.is_asleep() {
+                many += 1;
+            }
+        }
+        many
+    }
+
+    /// How many threads sleep on the condition.
+    fn asleep_on(&self, cond: u8) -> u8
+        ensures { result ≡ sleepers_on cond (length self.now.places) (state_of self.now) }
+    {
+        let mut many = 0u8;
+        for place in &self.places {
+            if place.waits_on(cond) {
+                many += 1;
+            }
+        }
+        many
+    }
+
+    /// How many threads were woken and are not back.
+    pub fn woken(&self) -> u8
+        ensures { result ≡ woken_ones (length self.now.places) (state_of self.now) }
+    {
+        let mut many = 0u8;
+        for place in &self.places {
+            if place.is_woken() {
+                many += 1;
+            }
+        }
+        many
+    }
+
+    /// Where a seat is.
+    fn place(&self, seat: u8) -> Result<Place, Blame>
+        ensures { MatchResult result (λ p. (seat < length self.now.places)
+            × (p ≡ slice_index_or self.now.places seat Outside))
+            (λ e. length self.now.places ≤ seat) }
+    {
+        let seat = usize::from(seat);
+        if seat < self.places.len() {
+            Ok(self.places[seat])
+        } else {
+            Err(Blame::Range)
+        }
+    }
+
+    /// Puts the seat there.
+    fn put(&mut self, seat: u8, place: Place)
+        requires { seat < length self.old.places }
+        ensures { self.new ≡ shown self.old.conds self.old.lock (slice_set self.old.places seat place) self.old.ends
+            self.old.data_now }
+    {
+        self.places[usize::from(seat)] = place;
+    }
+
+    /// Takes the next line, with the silent steps that it shows, or says why no run tells it here.
+    /// `end` is how a wait of its seat there would end ([`look_ahead`](crate::look_ahead)). Behind an
+    /// `Err` nobody has moved, but the object may have changed.
+    pub fn line(&mut self, line: LogLine, end: WaitEnd) -> Result<Told, Blame>
+        ensures { Does T.meaning self.old self.new line end result }
+    {
+        match line {
+            LogLine::Enter(seat) => self.enter(seat),
+            LogLine::Resume(seat) => self.resume(seat),
+            LogLine::Lapse(seat) => self.lapse(seat),
+            LogLine::Leave(seat) => self.leave(seat),
+            LogLine::Wait(seat, cond) => self.wait(seat, cond, end),
+            LogLine::Signal(seat, cond) => self.signal(seat, cond),
+            LogLine::Broadcast(seat, cond) => self.broadcast(seat, cond),
+            LogLine::Until(..) => Err(Blame::Call),
+            LogLine::Act(seat, op, reply) => self.act(seat, op, reply),
+        }
+    }
+
+    #[tactic(auto, using(crate::proofs::Shows::state_set, crate::proofs::Shows::setting_set))]
+    fn enter(&mut self, seat: u8) -> Result<Told, Blame>
+        ensures { (e : WaitEnd) → Does T.meaning self.old self.new (lines.Enter seat) e result }
+    {
+        let place = self.place(seat)?;
+        if self.lock.is_some() {
+            return Err(Blame::Held);
+        }
+        if place != Place::Outside {
+            return Err(Blame::Asleep);
+        }
+        let told = self.passing();
+        self.take(seat);
+        Ok(told)
+    }
+
+    /// What a line tells with which a thread takes the lock that no signal woke.
+    fn passing(&self) -> Told
+        ensures { result ≡ passing (woken_ones (length self.now.places) (state_of self.now)) }
+    {
+        if self.woken() > 0 {
+            Told::Passed
+        } else {
+            Told::Plain
+        }
+    }
+
+    /// The seat takes the lock.
+    fn take(&mut self, seat: u8)
+        requires { seat < length self.old.places }
+        ensures { self.new ≡ shown self.old.conds (Some seat) (slice_set self.old.places seat Active) self.old.ends
+            self.old.data_now }
+    {
+        self.lock = Some(seat);
+        self.put(seat, Place::Active);
+    }
+
+    #[tactic(auto, using(crate::proofs::Shows::state_set, crate::proofs::Shows::setting_set))]
+    fn resume(&mut self, seat: u8) -> Result<Told, Blame>
+        ensures { (e : WaitEnd) → Does T.meaning self.old self.new (lines.Resume seat) e result }
+    {
+        let place = self.place(seat)?;
+        if self.lock.is_some() {
+            return Err(Blame::Held);
+        }
+        let told = match place {
+            Place::Woken(_) => Told::Plain,
+            Place::Waiting(_) => Told::Spurious,
+            Place::Outside | Place::Active | Place::RanOut(_) => return Err(Blame::Awake),
+        };
+        self.take(seat);
+        Ok(told)
+    }
+
+    #[tactic(auto, using(crate::proofs::Shows::state_set, crate::proofs::Shows::setting_set))]
+    fn lapse(&mut self, seat: u8) -> Result<Told, Blame>
+        ensures { (e : WaitEnd) → Does T.meaning self.old self.new (lines.Lapse seat) e result }
+    {
+        let place = self.place(seat)?;
+        if self.lock.is_some() {
+            return Err(Blame::Held);
+        }
+        let Place::RanOut(_) = place else {
+            return Err(Blame::Awake);
+        };
+        let told = self.passing();
+        self.take(seat);
+        Ok(told)
+    }
+
+    /// Whether the seat holds the lock.
+    fn holds(&self, seat: u8) -> Result<(), Blame>
+        ensures { MatchResult result (λ _. (seat < length self.now.places) × (self.now.lock ≡ Some seat))
+            (λ e. (seat < length self.now.places) × (self.now.lock ≡ Some seat) → ⊥) }
+    {
+        let _place = self.place(seat)?;
+        if self.lock == Some(seat) {
+            Ok(())
+        } else {
+            Err(Blame::NoLock)
+        }
+    }
+
+    #[tactic(auto, using(crate::proofs::Shows::state_set, crate::proofs::Shows::setting_set))]
+    fn leave(&mut self, seat: u8) -> Result<Told, Blame>
+        ensures { (e : WaitEnd) → Does T.meaning self.old self.new (lines.Leave seat) e result }
+    {
+        self.holds(seat)?;
+        self.lock = None;
+        self.put(seat, Place::Outside);
+        Ok(Told::Plain)
+    }
+
+    #[tactic(auto, using(crate::proofs::Shows::state_set, crate::proofs::Shows::setting_set))]
+    fn wait(&mut self, seat: u8, cond: u8, end: WaitEnd) -> Result<Told, Blame>
+        ensures { Does T.meaning self.old self.new (lines.Wait seat cond) end result }
+    {
+        if cond >= self.conds {
+            return Err(Blame::Range);
+        }
+        self.holds(seat)?;
+        match end {
+            WaitEnd::RunsOut => self.sleep(seat, Place::RanOut(cond), end),
+            WaitEnd::Resumes(_) | WaitEnd::Never => self.sleep(seat, Place::Waiting(cond), end),
+        }
+        Ok(Told::Plain)
+    }
+
+    /// The seat lets the lock go and is there, until its wait ends so.
+    fn sleep(&mut self, seat: u8, place: Place, end: WaitEnd)
+        requires { seat < length self.old.places }
+        ensures { self.new ≡ shown self.old.conds None (slice_set self.old.places seat place)
+            (slice_set self.old.ends seat end) self.old.data_now }
+    {
+        self.lock = None;
+        self.places[usize::from(seat)] = place;
+        self.ends[usize::from(seat)] = end;
+    }
+
+    /// Whether the seat may signal: it holds the lock, or it is outside.
+    fn may_signal(&self, seat: u8, cond: u8) -> Result<(), Blame>
+        ensures { MatchResult result (λ _. MaySignal (setting_of self.now T.meaning) (state_of self.now) seat cond)
+            (λ e. MaySignal (setting_of self.now T.meaning) (state_of self.now) seat cond → ⊥) }
+    {
+        let place = self.place(seat)?;
+        if cond >= self.conds {
+            return Err(Blame::Range);
+        }
+        if self.lock == Some(seat) || place == Place::Outside {
+            Ok(())
+        } else {
+            Err(Blame::NoLock)
+        }
+    }
+
+    /// The one of two seats whose wait ends earlier by a `resume`.
+    fn earlier(&self, one: u8, other: u8) -> u8
+        requires { (one < length self.now.places) × (other < length self.now.places) }
+        ensures one_of_them { (result ≡ one) ⊎ (result ≡ other) }
+        ensures first { ResumesNoLater self.now result one × ResumesNoLater self.now result other }
+    {
+        if self.ends[usize::from(other)].is_before(self.ends[usize::from(one)]) {
+            other
+        } else {
+            one
+        }
+    }
+
+    /// Of those who sleep on the condition, one that comes back as early as any.
+    fn first_back(&self, cond: u8) -> Option<u8>
+        ensures sleeps { MatchOption result ((j : ℕ) → slice_index_or self.now.places j Outside ≡ Waiting cond → ⊥)
+            (λ j. (j < length self.now.places) × (slice_index_or self.now.places j Outside ≡ Waiting cond)) }
+        ensures earliest { IsEarliest self.now cond result }
+    {
+        let mut first: Option<u8> = None;
+        for (index, place) in self.places.iter().enumerate() {
+            if place.waits_on(cond) {
+                let seat = index as u8;
+                first = match first {
+                    Some(one) => Some(self.earlier(one, seat)),
+                    None => Some(seat),
+                };
+            }
+        }
+        first
+    }
+
+    #[tactic(auto, using(crate::proofs::Shows::state_set, crate::proofs::Shows::setting_set))]
+    fn signal(&mut self, seat: u8, cond: u8) -> Result<Told, Blame>
+        ensures { (e : WaitEnd) → Does T.meaning self.old self.new (lines.Signal seat cond) e result }
+    {
+        self.may_signal(seat, cond)?;
+        match self.first_back(cond) {
+            Some(first) => {
+                self.put(first, Place::Woken(cond));
+                Ok(Told::Woke(first))
+            }
+            None => Ok(Told::Unheard),
+        }
+    }
+
+    #[tactic(auto, using(crate::proofs::Shows::state_set, crate::proofs::Shows::setting_set))]
+    fn broadcast(&mut self, seat: u8, cond: u8) -> Result<Told, Blame>
+        ensures { (e : WaitEnd) → Does T.meaning self.old self.new (lines.Broadcast seat cond) e result }
+    {
+        self.may_signal(seat, cond)?;
+        let many = self.asleep_on(cond);
+        self.wake(cond);
+        if many == 0 {
+            return Ok(Told::Unheard);
+        }
+        Ok(Told::WokeAll(many))
+    }
+
+    /// Wakes all who sleep on the condition.
+    fn wake(&mut self, cond: u8)
+        ensures state { state_of self.new ≡ moved (λ j. woken cond (slice_index_or self.old.places j Outside))
+            (state_of self.old) }
+        ensures setting { (o : Object) → setting_of self.new o ≡ setting_of self.old o }
+        ensures ends { self.new.ends ≡ self.old.ends }
+    {
+        wake_all(&mut self.places, cond);
+    }
+
+    #[tactic(auto, using(crate::proofs::Shows::state_set, crate::proofs::Shows::setting_set))]
+    fn act(&mut self, seat: u8, op: Op, reply: u64) -> Result<Told, Blame>
+        ensures { (e : WaitEnd) → Does T.meaning self.old self.new (lines.Act seat op reply) e result }
+    {
+        if op.code >= T::CODES {
+            return Err(Blame::Range);
+        }
+        self.holds(seat)?;
+        let given = self.object.act(op);
+        if given != reply {
+            return Err(Blame::Reply);
+        }
+        Ok(Told::Plain)
+    }
+}
