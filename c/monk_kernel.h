@@ -37,6 +37,9 @@ int32_t monk_k_make(uint8_t kind, uint8_t conditions, uint8_t flags, uint32_t bu
 int32_t monk_k_arrive(monk_k_seat *seat);
 int32_t monk_k_poll(monk_k_seat *seat);
 
+/* As the two, one after the other. */
+int32_t monk_k_enter(monk_k_seat *seat);
+
 /* A wish is 0 for entry, 2 for a signaller, any other for a waiter. `*granted` is the word of the seat that may come in
    now (monk_k_word of its handle), or 0: the program wakes the thread that waits there. */
 int32_t monk_k_leave(monk_k_seat *seat, uint8_t wish, size_t *granted);

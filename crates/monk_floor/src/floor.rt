@@ -132,6 +132,7 @@ impl<K: Kind, T: Guarded> Floor<K, T> {
 
     /// Appends an event that is allowed. It is no act, since that changes the object. Constant time, but for an event
     /// that chose a wait-until, which costs those before it.
+    #[inline(always)]
     fn append(&mut self, event: Event)
         requires allowed { IsAllowed (monitor_of K.rules T.meaning self.old) self.old.history event }
         requires left { 0 < left_of self.old.budget self.old.history (events.seat_of event) }
@@ -144,6 +145,7 @@ impl<K: Kind, T: Guarded> Floor<K, T> {
 
     /// What a release chooses by the wish rules, over all queues as they are after its own moves. Any next may stand
     /// in the event. Costs a judgement of each wait-until up to the first that is ready.
+    #[inline(always)]
     fn next_by(&self, event: Event, entry_known: bool, pick: Pick) -> Next
         requires call { MayCallOn K.rules T.meaning self.now event }
         requires release { IsReplyless T.meaning event }
@@ -162,6 +164,7 @@ impl<K: Kind, T: Guarded> Floor<K, T> {
 
     /// A seat that is outside enters where the monitor is free: `Via::Free` past no inner queue, `Via::Handed` after
     /// somebody let it in. Constant time.
+    #[inline(always)]
     pub fn enter(&mut self, seat: u8, via: Via)
         requires call { MayCallOn K.rules T.meaning self.old (Event.Enter seat via) }
         requires left { 0 < left_of self.old.budget self.old.history seat }
@@ -171,6 +174,7 @@ impl<K: Kind, T: Guarded> Floor<K, T> {
     }
 
     /// The seat that was chosen from a queue goes on, and learns from which queue. Constant time.
+    #[inline(always)]
     pub fn resume(&mut self, seat: u8) -> From3
         requires seat { seat < self.old.seats }
         requires due { IsDueTo seat (turn self.old.history) }
@@ -194,6 +198,7 @@ impl<K: Kind, T: Guarded> Floor<K, T> {
     }
 
     /// The active seat carries an operation out on the object, and gets its reply. Costs what the object's `act` costs.
+    #[inline(always)]
     pub fn act(&mut self, seat: u8, op: Op) -> u64
         requires call { MayCallOn K.rules T.meaning self.old (Event.Act seat op 0) }
         requires left { 0 < left_of self.old.budget self.old.history seat }

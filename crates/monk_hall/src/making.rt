@@ -127,11 +127,13 @@ fn fresh_pass<K: Kind, T: Guarded>(seat: TableSeat<K, T>, number: u8, budget: u3
         seat: number,
         calls: 0,
         budget,
+        spare: 0,
+        spares: 0,
     };
     Pass {
         badge: seat.into_badge(),
         of: PhantomData,
         numbers,
-        left: budget,
+        left: budget as u64,
     }
 }

@@ -21,7 +21,7 @@ use std::marker::Model;
 pub struct Parked<K: Kind, T: Guarded> {
     pub(crate) seat: TableSeat<K, T>,
     pub(crate) numbers: SeatNumbers,
-    pub(crate) left: u32,
+    pub(crate) left: u64,
     pub(crate) place: Place,
 }
 
@@ -50,7 +50,9 @@ impl<K: Kind, T: Guarded> Parked<K, T> {
     pub fn left(&self) -> u32
         ensures { result + length self.now.me.mine ≡ self.now.me.setting.budget }
     {
-        self.left
+        // No more than this, which is a u32.
+        let _budget = self.numbers.budget;
+        self.left as u32
     }
 
     /// The number of the ticket with which it waits for entry, or with which it found the monitor free.
@@ -67,6 +69,7 @@ impl<K: Kind, T: Guarded> Parked<K, T> {
 
     /// Becomes active if the right was handed over, in at most two steps: a look where it waits, and the floor comes.
     /// Otherwise it gives itself back.
+    #[inline(always)]
     pub fn poll(self, hall: &Hall<K, T>) -> Result<Active<K, T>, Parked<K, T>>
         requires { self.hall ≡ hall.now.id }
         ensures active { IfOk result (λ a. HasEntered K.rules T.meaning self a × (a.me.looks ≤ self.me.looks + 1)
@@ -81,6 +84,7 @@ impl<K: Kind, T: Guarded> Parked<K, T> {
     }
 
     /// Looks where it waits. A seat that is due needs no look.
+    #[inline(always)]
     fn look(self, hall: &Hall<K, T>) -> Parked<K, T>
         requires { self.hall ≡ hall.now.id }
         ensures { HasLooked K.rules T.meaning self result }
@@ -93,6 +97,7 @@ impl<K: Kind, T: Guarded> Parked<K, T> {
     }
 
     /// Looks whether its ticket was granted.
+    #[inline(always)]
     fn ticket_look(self, hall: &Hall<K, T>, ticket: u32) -> Parked<K, T>
         requires hall { self.hall ≡ hall.now.id }
         requires waits { self.me.place ≡ at.Ticket ticket }
@@ -114,6 +119,7 @@ impl<K: Kind, T: Guarded> Parked<K, T> {
     }
 
     /// Looks whether it was called.
+    #[inline(always)]
     fn seat_look(self, hall: &Hall<K, T>) -> Parked<K, T>
         requires hall { self.hall ≡ hall.now.id }
         requires parked { self.me.place ≡ at.Inner }
@@ -132,6 +138,8 @@ impl<K: Kind, T: Guarded> Parked<K, T> {
                 seat: numbers.seat,
                 calls: count_after_seat_look(numbers.calls, found),
                 budget: numbers.budget,
+                spare: numbers.spare,
+                spares: numbers.spares,
             },
             left,
             place: place_after_seat_look(is_called(numbers.calls, found)),
@@ -139,6 +147,7 @@ impl<K: Kind, T: Guarded> Parked<K, T> {
     }
 
     /// The floor comes to the seat, which is due, and its enter or resume is recorded.
+    #[inline(always)]
     fn come_in(self, hall: &Hall<K, T>, source: Source) -> Active<K, T>
         requires hall { self.hall ≡ hall.now.id }
         requires due { self.me.place ≡ at.Due source }

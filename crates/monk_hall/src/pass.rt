@@ -20,7 +20,7 @@ pub struct Pass<K: Kind, T: Guarded> {
     pub(crate) badge: Badge<View>,
     pub(crate) of: PhantomData<(K, T)>,
     pub(crate) numbers: SeatNumbers,
-    pub(crate) left: u32,
+    pub(crate) left: u64,
 }
 
 impl<K: Kind, T: Guarded> Model for Pass<K, T> {
@@ -52,7 +52,9 @@ impl<K: Kind, T: Guarded> Pass<K, T> {
         ensures left { result + length self.now.me.mine ≡ self.now.me.setting.budget }
         ensures told { SeesTruly K.rules T.meaning self.now.me }
     {
-        self.left
+        // No more than this, which is a u32.
+        let _budget = self.numbers.budget;
+        self.left as u32
     }
 
     /// How many events its seat has made.
@@ -60,11 +62,12 @@ impl<K: Kind, T: Guarded> Pass<K, T> {
         ensures made { result ≡ length self.now.me.mine }
         ensures told { SeesTruly K.rules T.meaning self.now.me }
     {
-        self.numbers.budget - self.left
+        self.numbers.budget - self.left as u32
     }
 
     /// Comes to the monitor: draws a ticket, in one step. The event of the enter is recorded when the seat becomes
     /// active.
+    #[inline(always)]
     pub fn arrive(self, hall: &Hall<K, T>) -> Parked<K, T>
         requires hall { self.hall ≡ hall.now.id }
         requires left { length self.me.mine + 2 ≤ self.me.setting.budget }

@@ -31,6 +31,7 @@ pub struct Release<K: Kind, T: Guarded> {
 
 impl<K: Kind, T: Guarded> Release<K, T> {
     /// The active seat, taken apart, before its release.
+    #[inline(always)]
     pub(crate) fn of(active: Active<K, T>) -> Release<K, T>
         ensures { IsApart K.rules T.meaning active result }
     {
@@ -39,15 +40,23 @@ impl<K: Kind, T: Guarded> Release<K, T> {
             numbers,
             floor,
         } = active;
+        // The numbers go field by field, as in `Parked::seat_look`: a copy of the whole would read bytes as one that were written as two.
         Release {
             seat,
-            numbers,
+            numbers: SeatNumbers {
+                calls: numbers.calls,
+                budget: numbers.budget,
+                seat: numbers.seat,
+                spare: numbers.spare,
+                spares: numbers.spares,
+            },
             floor,
             choice: Next::Stay,
         }
     }
 
     /// The seat leaves the monitor. Gives what it granted, too.
+    #[inline(always)]
     pub(crate) fn go_outside(self, hall: &Hall<K, T>) -> (Pass<K, T>, Option<Granted<K, T>>)
         requires table { self.seat.table_id ≡ hall.now.id }
         requires recorded { IsRecorded K.rules T.meaning home.Idle self }
@@ -60,7 +69,7 @@ impl<K: Kind, T: Guarded> Release<K, T> {
             floor,
             choice,
         } = self;
-        let left = floor.left(numbers.seat);
+        let left = floor.left(numbers.seat) as u64;
         let granted = go_home(hall, &mut seat, floor, choice);
         let pass = Pass {
             badge: seat.into_badge(),
@@ -72,6 +81,7 @@ impl<K: Kind, T: Guarded> Release<K, T> {
     }
 
     /// The seat is parked inside the monitor. Gives what it granted, too.
+    #[inline(always)]
     pub(crate) fn go_inside(self, hall: &Hall<K, T>) -> (Parked<K, T>, Option<Granted<K, T>>)
         requires table { self.seat.table_id ≡ hall.now.id }
         requires recorded { IsRecorded K.rules T.meaning home.Inner self }
@@ -84,7 +94,7 @@ impl<K: Kind, T: Guarded> Release<K, T> {
             floor,
             choice,
         } = self;
-        let left = floor.left(numbers.seat);
+        let left = floor.left(numbers.seat) as u64;
         let granted = go_home(hall, &mut seat, floor, choice);
         let parked = Parked {
             seat,
