@@ -61,6 +61,7 @@ struct monk_seat {
     _Atomic int place;                  /* copies of what the token says, for any thread that asks */
     _Atomic uint32_t left;
     unsigned number;
+    int is_visitor;                     /* lent to the library itself, for a look at the history; changed as `lent` is */
     int wish;
     uint64_t dice;
 };
@@ -193,7 +194,7 @@ static int poll_once(monk_seat *s) {
     return noted(s, answer, 1);
 }
 
-/* It arrives, and comes in where it may at once: in one call, which the kernel does in half the time of two. */
+/* It arrives, and comes in if it may at once. */
 static int arrive_and_poll(monk_seat *s) {
     int answer = monk_k_enter(s->token);
     if (answer != MONK_INSIDE) return noted(s, answer, 0);
@@ -236,8 +237,8 @@ static int wait_for_flag(monk_seat *s, unsigned flag) {
     return handed_on(s, answer, word);
 }
 
-/* Waits until the seat is inside. The bell is read before the poll and the stop flag: a grant or a stop that the two missed rings
- * later, and then the thread doesn't sleep, or is woken. */
+/* Waits until the seat is inside. A stop sends it home, unless it comes for a look at the history. The bell is read before the
+ * poll and the stop flag: a grant or a stop that the two missed rings later, and then the thread doesn't sleep, or is woken. */
 static int come_in(monk_seat *s, const struct timespec *limit) {
     monk_monitor *m = s->monitor;
     int answer = poll_once(s), in_time = 1;
@@ -247,7 +248,7 @@ static int come_in(monk_seat *s, const struct timespec *limit) {
         uint32_t seen = atomic_load(&b->rings);
         answer = poll_once(s);
         if (answer != MONK_WAITING) return answer;
-        if (atomic_load(&m->stopped)) return MONK_STOPPED;
+        if (atomic_load(&m->stopped) && !s->is_visitor) return MONK_STOPPED;
         if (!in_time) return MONK_WAITING;
         if (!rings_soon(b, seen, m->seat_count)) in_time = sleep_on(b, seen, limit);
     }
@@ -419,13 +420,28 @@ static monk_seat *spare_seat(monk_monitor *m, int from_highest, int *answer) {
     return NULL;
 }
 
-static int lend(monk_monitor *m, int from_highest, monk_seat **seat) {
+/* The seat of an earlier look whose turn didn't come in time. It waits still, and can't be taken out of its queue: so the next look
+ * goes on by it, and doesn't use up another seat. Who takes it up polls for it from now on, so nobody is missed. Under the lock. */
+static monk_seat *visitor_that_waits(monk_monitor *m) {
+    for (unsigned i = 0; i < m->seat_count; i++) {
+        monk_seat *s = &m->seats[i];
+        if (!s->is_visitor || atomic_load(&s->lent) != ABANDONED) continue;
+        atomic_fetch_sub(&m->abandoned, 1);
+        return s;
+    }
+    return NULL;
+}
+
+/* To a thread the lowest seat, to a visitor the highest. */
+static int lend(monk_monitor *m, int is_visitor, monk_seat **seat) {
     int answer = MONK_CLOSED;
     pthread_mutex_lock(&m->lock);
     if (!atomic_load(&m->closed)) {
-        monk_seat *s = spare_seat(m, from_highest, &answer);
+        monk_seat *s = is_visitor ? visitor_that_waits(m) : NULL;
+        if (s) answer = MONK_OK;
+        else s = spare_seat(m, is_visitor, &answer);
         if (s) {
-            s->wish = MONK_WAITER;
+            s->wish = MONK_WAITER, s->is_visitor = is_visitor;
             atomic_store(&s->lent, TAKEN);
             *seat = s;
         }
@@ -581,7 +597,7 @@ int monk_history(monk_monitor *m, monk_seat *by, char **text, size_t *length) {
     int r = lend(m, 1, &visitor);
     if (r == MONK_CLOSED) return text_of_closed(m, text, length);
     if (r) return r;
-    monk_arrive(visitor);
+    monk_arrive(visitor);                   /* refused where it waits since an earlier look */
     r = monk_await(visitor, PATIENCE_MS) == MONK_INSIDE ? history_by(visitor, text, length) : MONK_BUSY;
     monk_abandon(visitor);
     return r;

@@ -35,9 +35,11 @@
  * know; and that your flags tell the truth.
  *
  * NOT OFFERED. No call is safe in a signal handler; a signal that arrives while a call waits doesn't end it (EINTR is not
- * answered). After fork() the child must not call the library about monitors that were made before. A monitor lives in
- * one process. No call may be made while another monitor's seat of the same thread is inside, if you want to know that you
- * won't deadlock: a wait gives up its own monitor alone.
+ * answered). Neither does pthread_cancel: a thread that is cancelled while it waits comes in when its turn comes, and ends at
+ * its next cancellation point. It may be inside then, so it wants a clean-up handler that calls monk_abandon. monk_save writes
+ * to a stream, and is such a point. After fork() the child must not call the library about monitors that were made before.
+ * A monitor lives in one process. No call may be made while another monitor's seat of the same thread is inside, if you want
+ * to know that you won't deadlock: a wait gives up its own monitor alone.
  */
 #ifndef MONK_H
 #define MONK_H
@@ -95,7 +97,7 @@ enum {
 
 const char *monk_strerror(int answer);           /* one line for each answer; never NULL */
 uint32_t monk_version(void);                     /* 0xMMmmpp */
-const char *monk_build(void);                    /* "proved, kit 13b, commit .." or "reference, not proved" */
+const char *monk_build(void);                    /* "proved, kit 13f, commit .." or "reference, not proved" */
 
 /* ---- Making and ending ------------------------------------------------------------------------------------------- */
 
@@ -214,7 +216,8 @@ int monk_enter_within(monk_seat *s, long milliseconds);
  *
  * Who reads: a seat that is inside (`by`). With `by` NULL any thread: of a closed monitor at once; else the library pays a
  * visit of its own, by a seat that nobody has (two events of it in the history), and waits for its turn for one second at
- * most: MONK_NO_SEAT, MONK_SPENT, or MONK_BUSY if its turn didn't come, since the seat that is inside doesn't leave. A run
+ * most: MONK_NO_SEAT, MONK_SPENT, or MONK_BUSY if its turn didn't come, since the seat that is inside doesn't leave. A stop
+ * doesn't end this wait. After MONK_BUSY the visit's seat waits on; the next look goes on by it, and takes no other. A run
  * that hangs with everybody waiting leaves the monitor free, so with one spare seat its history can always be read; if a
  * thread hangs inside, it alone can read it. */
 

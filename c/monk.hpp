@@ -11,7 +11,7 @@
 //     }
 //
 // Every call that monk.h refuses throws monk::error, and nothing has changed then. Nothing here can leave a seat inside: a visit that ends
-// leaves, and a seat that ends is given up wherever it stands.
+// leaves, and a seat that ends, or that another is moved to, is given up wherever it stands.
 #ifndef MONK_HPP
 #define MONK_HPP
 
@@ -29,7 +29,7 @@ namespace monk {
 class error : public std::runtime_error {
 public:
     explicit error(int answer) : std::runtime_error(monk_strerror(answer)), answer(answer) {}
-    const int answer;
+    int answer;
 };
 
 /// An answer that is none of an error; else throws it.
@@ -96,13 +96,14 @@ class seat {
 public:
     explicit seat(const monitor &of) { checked(monk_take_seat(of.get(), &at_)); }
     seat(seat &&other) noexcept : at_(std::exchange(other.at_, nullptr)) {}
+    /// The seat that it was is given up at once.
     seat &operator=(seat &&other) noexcept {
-        std::swap(at_, other.at_);
+        if (this == &other) return *this;
+        give_up();
+        at_ = std::exchange(other.at_, nullptr);
         return *this;
     }
-    ~seat() {
-        if (at_) monk_abandon(at_);
-    }
+    ~seat() { give_up(); }
 
     monk_seat *get() const { return at_; }
     unsigned number() const { return monk_seat_number(at_); }
@@ -111,6 +112,10 @@ public:
 
 private:
     monk_seat *at_ = nullptr;
+
+    void give_up() noexcept {
+        if (at_) monk_abandon(at_);
+    }
 };
 
 /// A visit: inside from its beginning to its end. A call that leads outside ends it before its scope does.

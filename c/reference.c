@@ -39,7 +39,7 @@ typedef struct { uint8_t first, count, seats[MOST_SEATS]; } queue;
 
 struct monk_seat {
     monk_monitor *monitor;
-    uint8_t number, place, due /* a way, or NOBODY */, flag /* that it waits for */, wish, taken, abandoned, calling;
+    uint8_t number, place, due /* a way, or NOBODY */, flag /* that it waits for */, wish, taken, abandoned, calling, is_visitor;
     uint32_t left;
     uint64_t dice;
     pthread_cond_t bell;
@@ -328,6 +328,19 @@ int monk_set_flags(monk_seat *s, uint32_t bits) {
 
 /* ---- Calls that wait */
 
+/* A stop sends a seat home, unless it comes for a look at the history. */
+static int is_stopped(const monk_seat *s) { return s->monitor->stopped && !s->is_visitor; }
+
+/* Sleeps until the seat is due, or the time is over. A thread that is cancelled sleeps on: it would end with the lock. */
+static void sleep_until_due(monk_seat *s, const struct timespec *limit) {
+    pthread_mutex_t *lock = &s->monitor->lock;
+    int before, late = 0;
+    pthread_setcancelstate(PTHREAD_CANCEL_DISABLE, &before);
+    while (!s->due && !is_stopped(s) && late != ETIMEDOUT)
+        late = limit ? pthread_cond_timedwait(&s->bell, lock, limit) : pthread_cond_wait(&s->bell, lock);
+    pthread_setcancelstate(before, NULL);
+}
+
 /* Sleeps until the seat is due, and lets it come in. */
 static int await(monk_seat *s, const struct timespec *limit) {
     int answer = begin(s);
@@ -336,14 +349,11 @@ static int await(monk_seat *s, const struct timespec *limit) {
     if (s->place == MONK_INSIDE) return end(s, MONK_INSIDE);
     if ((answer = refusal(s, MONK_WAITING, 0))) return end(s, answer);
     s->calling = 1;
-    while (!s->due && !m->stopped) {
-        int late = limit ? pthread_cond_timedwait(&s->bell, &m->lock, limit) : pthread_cond_wait(&s->bell, &m->lock);
-        if (late == ETIMEDOUT) break;
-    }
+    sleep_until_due(s, limit);
     s->calling = 0;
     if (s->due) come_in(m, s);
     answer = s->place;
-    if (answer == MONK_WAITING && m->stopped) answer = MONK_STOPPED;
+    if (answer == MONK_WAITING && is_stopped(s)) answer = MONK_STOPPED;
     pthread_mutex_unlock(&m->lock);
     return answer;
 }
@@ -406,7 +416,7 @@ int monk_take_seat(monk_monitor *m, monk_seat **seat) {
     pthread_mutex_lock(&m->lock);
     monk_seat *s = spare_seat(m, &answer);
     if (m->closed) answer = MONK_CLOSED;
-    else if (s) s->taken = 1, s->wish = MONK_WAITER, *seat = s;
+    else if (s) s->taken = 1, s->is_visitor = 0, s->wish = MONK_WAITER, *seat = s;
     pthread_mutex_unlock(&m->lock);
     return answer;
 }
@@ -592,15 +602,33 @@ static int text_of(const monk_monitor *m, char **text, size_t *length) {
     return MONK_OK;
 }
 
-/* A seat for a visit of the library's own. */
-static int take_last_seat(monk_monitor *m, monk_seat **seat) {
-    pthread_mutex_lock(&m->lock);
-    int answer = m->closed ? MONK_CLOSED : MONK_NO_SEAT;
-    for (unsigned i = m->closed ? 0 : m->seat_count; i-- > 0 && answer != MONK_OK;) {
+/* The seat of an earlier look that waits still, since its turn didn't come in time. */
+static monk_seat *visitor_that_waits(monk_monitor *m) {
+    for (unsigned i = 0; i < m->seat_count; i++) if (m->seats[i].is_visitor && m->seats[i].abandoned) return &m->seats[i];
+    return NULL;
+}
+
+/* The highest seat that nobody has and that can pay a visit. */
+static monk_seat *last_seat(monk_monitor *m, int *answer) {
+    *answer = MONK_NO_SEAT;
+    for (unsigned i = m->seat_count; i-- > 0;) {
         monk_seat *s = &m->seats[i];
         if (s->taken) continue;
-        answer = s->left < 2 ? MONK_SPENT : MONK_OK;
-        if (!answer) s->taken = 1, s->wish = MONK_WAITER, *seat = s;
+        if (s->left >= 2) return *answer = MONK_OK, s;
+        *answer = MONK_SPENT;
+    }
+    return NULL;
+}
+
+/* A seat for a visit of the library's own. */
+static int take_last_seat(monk_monitor *m, monk_seat **seat) {
+    int answer = MONK_CLOSED;
+    pthread_mutex_lock(&m->lock);
+    if (!m->closed) {
+        monk_seat *s = visitor_that_waits(m);
+        if (s) answer = MONK_OK;
+        else s = last_seat(m, &answer);
+        if (s) s->taken = 1, s->abandoned = 0, s->is_visitor = 1, s->wish = MONK_WAITER, *seat = s;
     }
     pthread_mutex_unlock(&m->lock);
     return answer;
@@ -615,11 +643,11 @@ int monk_history(monk_monitor *m, monk_seat *by, char **text, size_t *length) {
         if (!r) end(by, MONK_OK);
         return text_of(m, text, length);
     }
-    monk_seat *s;
+    monk_seat *s = NULL;
     int r = take_last_seat(m, &s);
     if (r == MONK_CLOSED) return text_of(m, text, length);
     if (r) return r;
-    monk_arrive(s);
+    monk_arrive(s);                         /* refused where it waits since an earlier look */
     r = monk_await(s, PATIENCE_MS);
     if (r != MONK_INSIDE) return monk_abandon(s), MONK_BUSY;
     r = text_of(m, text, length);

@@ -41,13 +41,20 @@ KINDS = ("PB", "NPB", "PNB", "NPNB", "PQB", "NPQB", "PIR", "NPIR", "PIS", "NPIS"
 MODES = ("blocking", "non-blocking", "quasi-blocking", "immediate return", "automatic")
 KINDS_OF_A_MODE = 2
 WISHES = ("entry", "waiter", "signaller", "any")
-OUTSIDE, WAITING, INSIDE, NOT_NOW, STOPPED = 1, 2, 3, -1, -9
+OUTSIDE, WAITING, INSIDE, NOT_NOW, RANGE, STOPPED = 1, 2, 3, -1, -4, -9
 PLACES = {OUTSIDE: "outside", WAITING: "waiting", INSIDE: "inside"}
 FOREVER = -1
 # The main thread waits in slices, so that it sees an interrupt.
 SLICE_MS = 100
 AT_ONCE = ctypes.c_long(0)
+# The statuses of `monk` that tell of a history: it is legal, or it isn't.
+VERDICTS = (0, 1)
 MS_A_SECOND = 1000
+# The greatest numbers that C holds: ctypes hands over what is left of a greater one, and says nothing.
+MOST_UNSIGNED, MOST_LONG = 2**32 - 1, 2 ** (8 * ctypes.sizeof(ctypes.c_long) - 1) - 1
+# What the numbers of a shape may be: the least, the most, and how that is told.
+SHAPES = {"seats": (1, 32, "1 to 32"), "conditions": (0, 8, "0 to 8"), "flags": (0, 32, "0 to 32"),
+          "budget": (2, 2**20, f"2 to {2**20}, or 0 for 65536"), "seed": (0, 2**64 - 1, f"0 to {2**64 - 1}")}
 
 T = TypeVar("T")
 
@@ -157,6 +164,18 @@ def _checked(answer: int) -> int:
     return answer
 
 
+def _has_none_such(call: str, what: str, count: int) -> OutOfRange:
+    """The error of a call with a number that the monitor doesn't have: it has so many."""
+    return OutOfRange(f"{call}: {what} are 0 to {count - 1}" if count else f"{call}: the monitor has no {what}")
+
+
+def _test_shape(**numbers: int) -> None:
+    for name, number in numbers.items():
+        least, most, told = SHAPES[name]
+        if not least <= number <= most and (name, number) != ("budget", 0):
+            raise OutOfRange(f"Monitor({name}={number}): {name} is {told}")
+
+
 def version() -> str:
     """The version of the library that is loaded."""
     number = _library.monk_version()
@@ -175,6 +194,12 @@ class _Handle:
         self.at = ctypes.c_void_p()
         _checked(_library.monk_make(ctypes.byref(self.at), ctypes.byref(shape)))
         self.kind, self.mode = KINDS[shape.kind], MODES[shape.kind // KINDS_OF_A_MODE]
+        self.conditions, self.flags = int(shape.conditions), int(shape.flags)
+        self._process = os.getpid()
+
+    def is_here(self) -> bool:
+        """Whether this process made it: in the child of a fork the library must not be called."""
+        return self._process == os.getpid()
 
     def history(self, by: Optional[ctypes.c_void_p]) -> str:
         text, length = ctypes.c_void_p(), ctypes.c_size_t()
@@ -185,7 +210,7 @@ class _Handle:
             _free(text)
 
     def __del__(self) -> None:
-        if self.at:
+        if self.at and self.is_here():
             _library.monk_free(self.at)
 
 
@@ -195,6 +220,8 @@ class Seat:
     def __init__(self, handle: _Handle, wish: str) -> None:
         at = ctypes.c_void_p()
         self._at: Optional[ctypes.c_void_p] = None
+        # A call that signals and leaves was its way out, and no release or end of a `with` has come behind it yet.
+        self._has_signalled_out = False
         _checked(_library.monk_take_seat(handle.at, ctypes.byref(at)))
         self._handle, self._at = handle, at
         if wish != "waiter":
@@ -204,6 +231,15 @@ class Seat:
         if self._at is None:
             raise NotNow("the seat was given back")
         return self._at
+
+    def _asked(self, call: str, ask: Callable[..., int], what: str, *numbers: int) -> int:
+        """The library's answer to a call about conditions or flags. It knows which there are, but C can't hold every number."""
+        at, count = self._pointer(), self._handle.conditions if what == "conditions" else self._handle.flags
+        answer = ask(at, *numbers) if all(0 <= number <= MOST_UNSIGNED for number in numbers) else RANGE
+        if answer == RANGE:
+            wrong = next((number for number in numbers if not 0 <= number < count), numbers[0])
+            raise _has_none_such(f"{call}({wrong})", what, count)
+        return _checked(answer)
 
     @property
     def number(self) -> int:
@@ -229,7 +265,10 @@ class Seat:
     def await_(self, timeout: Optional[float] = None) -> bool:
         """Waits until it is inside. False if `timeout` seconds are over: then it waits on, at its place in its queue."""
         if timeout is not None:
-            return _checked(_library.monk_await(self._pointer(), max(0, int(timeout * MS_A_SECOND)))) == INSIDE
+            milliseconds = max(0, int(timeout * MS_A_SECOND))
+            if milliseconds > MOST_LONG:
+                raise OutOfRange(f"await_({timeout}): seconds are 0 to {MOST_LONG // MS_A_SECOND}")
+            return _checked(_library.monk_await(self._pointer(), milliseconds)) == INSIDE
         slices = SLICE_MS if threading.current_thread() is threading.main_thread() else FOREVER
         while _checked(_library.monk_await(self._pointer(), slices)) != INSIDE:
             pass
@@ -267,34 +306,38 @@ class Seat:
 
     def wait(self, condition: int) -> None:
         """Waits on a condition until a signal serves it and its turn comes."""
-        self._finished(_checked(_library.monk_start_wait(self._pointer(), condition)))
+        self._finished(self._asked("wait", _library.monk_start_wait, "conditions", condition))
 
     def signal(self, condition: int) -> None:
         """Serves the first who waits there. Under a blocking kind that one goes on first."""
-        place = _start_signal(self._at, condition)
+        # A number that C can't hold goes the long way, on which it is refused.
+        place = _start_signal(self._at, condition) if 0 <= condition <= MOST_UNSIGNED else RANGE
+        if place == RANGE:
+            place = self._asked("signal", _start_signal, "conditions", condition)
         if place != INSIDE:
             self._pointer()
             self._finished(_checked(place))
 
     def broadcast(self, condition: int) -> None:
         """Serves all who wait there; non-blocking kinds."""
-        _checked(_library.monk_broadcast(self._pointer(), condition))
+        self._asked("broadcast", _library.monk_broadcast, "conditions", condition)
 
     def signal_leave(self, condition: int) -> None:
         """Signals and leaves; immediate return."""
-        _checked(_library.monk_signal_leave(self._pointer(), condition))
+        self._asked("signal_leave", _library.monk_signal_leave, "conditions", condition)
+        self._has_signalled_out = True
 
     def signal_wait(self, condition: int, wait_condition: int) -> None:
         """Signals the first and waits on the second, as one; immediate return."""
-        self._finished(_checked(_library.monk_start_signal_wait(self._pointer(), condition, wait_condition)))
+        self._finished(self._asked("signal_wait", _library.monk_start_signal_wait, "conditions", condition, wait_condition))
 
     def wait_until(self, flag: int) -> None:
         """Goes on once the flag is set; automatic kinds."""
-        self._finished(_checked(_library.monk_start_wait_until(self._pointer(), flag)))
+        self._finished(self._asked("wait_until", _library.monk_start_wait_until, "flags", flag))
 
     def waiting(self, condition: int) -> int:
         """How many wait on a condition; from inside."""
-        return _checked(_library.monk_waiting(self._pointer(), condition))
+        return self._asked("waiting", _library.monk_waiting, "conditions", condition)
 
     @property
     def flags(self) -> int:
@@ -305,7 +348,11 @@ class Seat:
 
     @flags.setter
     def flags(self, bits: int) -> None:
-        _checked(_library.monk_set_flags(self._pointer(), bits))
+        at, count = self._pointer(), self._handle.flags
+        answer = _library.monk_set_flags(at, bits) if 0 <= bits <= MOST_UNSIGNED else RANGE
+        if answer == RANGE:
+            raise OutOfRange(f"flags = {bits}: " + (f"the bits are 0 to {2**count - 1}" if count else "the monitor has no flags"))
+        _checked(answer)
 
     def pause(self, number: int) -> None:
         """`wait` on that condition, or under an automatic kind `wait_until` that flag."""
@@ -319,6 +366,7 @@ class Seat:
         if self._handle.mode != "automatic":
             self.signal(number)
         self.leave()
+        self._has_signalled_out = True
 
     def history(self) -> str:
         """The history up to now; from inside."""
@@ -332,8 +380,16 @@ class Seat:
 
     def go_out(self) -> None:
         """Leaves if it is inside. If it waits still, since its wait was stopped or interrupted, it is given up."""
-        if self._at is not None and _leave(self._at) < 0 and _library.monk_place(self._at) == WAITING:
+        if self._at is not None:
+            self._gone_out()
+
+    def _gone_out(self) -> int:
+        """As go_out. The library's answer, if there was no visit to end."""
+        answer, was_out, self._has_signalled_out = _leave(self._at), self._has_signalled_out, False
+        if answer < 0 and _library.monk_place(self._at) == WAITING:
             self.give()
+            return 0
+        return 0 if answer == NOT_NOW and was_out else int(answer)
 
     def __enter__(self) -> Seat:
         return self
@@ -342,7 +398,7 @@ class Seat:
         self.give()
 
     def __del__(self) -> None:
-        if self._at is None:
+        if self._at is None or not self._handle.is_here():
             return
         if _library.monk_place(self._at) == INSIDE:
             self._warn()
@@ -373,8 +429,7 @@ class Monitor:
             raise OutOfRange(f"no kind is {kind!r}: there are {', '.join(KINDS)}")
         if wish not in WISHES:
             raise OutOfRange(f"no wish is {wish!r}: there are {', '.join(WISHES)}")
-        if min(seats, conditions, flags, budget) < 0:
-            raise OutOfRange("seats, conditions, flags and budget are 0 or more")
+        _test_shape(seats=seats, conditions=conditions, flags=flags, budget=budget, seed=seed)
         self._handle = _Handle(_Shape(KINDS.index(kind), seats, conditions, flags, budget, seed))
         self.kind, self.mode, self.wish = kind, self._handle.mode, wish
         self.seats, self.conditions, self.flag_count = seats, conditions, flags
@@ -419,8 +474,8 @@ class Monitor:
         return True
 
     def release(self) -> None:
-        """Leaves; nothing if a signal was the way out already."""
-        self.here.go_out()
+        """Leaves; nothing if a signal was the way out already. NotNow if there is no visit to end, so a second release is refused."""
+        _checked(self.here._gone_out())
 
     def __enter__(self) -> Monitor:
         seat = self._here.seat
@@ -444,11 +499,14 @@ class Monitor:
 
     def set_flags(self, *flags: Union[int, Flag, Tuple[Union[int, Flag], bool]]) -> None:
         """Sets all flags at once: those that are given are set, and no other. Each is a flag, or a pair of one and whether it is set."""
-        bits = 0
+        bits, seat = 0, self.here
         for flag in flags:
-            number, is_set = flag if isinstance(flag, tuple) else (flag, True)
-            bits |= bool(is_set) << int(number)
-        self.here.flags = bits
+            given, is_set = flag if isinstance(flag, tuple) else (flag, True)
+            number = int(given)
+            if not 0 <= number < self.flag_count:
+                raise _has_none_such(f"set_flags({number})", "flags", self.flag_count)
+            bits |= bool(is_set) << number
+        seat.flags = bits
 
     def stop(self) -> None:
         """Ends all waiting, from any thread: whoever waits gets Stopped."""
@@ -490,8 +548,10 @@ def _asked(command: str, text: str) -> str:
     if program is None:
         raise FileNotFoundError("no program monk: MONK doesn't name it, and PATH has none. README.md says how it is built.")
     done = subprocess.run([program, command], input=text, capture_output=True, text=True)
-    if done.stderr:
-        raise MonkError(done.stderr.strip())
+    # Standard error may hold a hint, and the status alone tells of a failure.
+    if done.returncode not in VERDICTS:
+        told = done.stderr.strip() or done.stdout.strip()
+        raise MonkError(told or f"monk {command} ended with status {done.returncode}")
     return done.stdout
 
 

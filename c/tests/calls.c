@@ -203,8 +203,69 @@ static void held(void) {
     end();
 }
 
+static long milliseconds(void) {
+    struct timespec now;
+    clock_gettime(CLOCK_MONOTONIC, &now);
+    return now.tv_sec * 1000 + now.tv_nsec / 1000000;
+}
+
+static void *leaver(void *p) {
+    (void)p;
+    nanosleep(&(struct timespec){0, 100000000}, NULL);
+    IS(monk_leave(a), MONK_OK);
+    return NULL;
+}
+
+/* A stop doesn't end a look at the history, and looks in vain use one spare seat up, not one each. */
+static void looked_at(void) {
+    char *text = NULL;
+    pthread_t t;
+    begin(MONK_PNB, 2, 1, 0, 100);
+    IS(monk_give_seat(b), MONK_OK); b = NULL;
+    IS(monk_enter(a), MONK_OK); IS(monk_stop(m), MONK_OK);
+    for (int look = 0; look < 2; look++) {
+        long began = milliseconds();
+        IS(monk_history(m, NULL, &text, NULL), MONK_BUSY);
+        IS(milliseconds() - began >= 900, 1);
+    }
+    IS(monk_take_seat(m, &b), MONK_NO_SEAT);       /* it waits still, for its one visit */
+    pthread_create(&t, NULL, leaver, NULL);
+    ENDS(NULL, "monk 3 PNB 2 1 flags 1\nenter 0 free\nleave 0 entry\nenter 1 handed\n");
+    pthread_join(t, NULL);
+    IS(monk_take_seat(m, &b), MONK_OK); IS((int)monk_left(b), 98);
+    IS(monk_give_seat(b), MONK_OK); b = NULL;
+    ENDS(NULL, "leave 1 entry\nenter 1 free\n");
+    end();
+}
+
+static void *cancelled_waiter(void *p) {
+    (void)p;
+    IS(monk_enter(a), MONK_OK); IS(monk_wait(a, 0), MONK_OK); IS(monk_leave(a), MONK_OK);
+    pthread_testcancel();
+    return NULL;
+}
+
+/* A thread that is cancelled in a wait waits on, comes in at its turn, and ends behind the call. */
+static void cancelled(void) {
+    pthread_t t;
+    void *ended = NULL;
+    int waiting = 0;
+    begin(MONK_PNB, 2, 1, 0, 100000);
+    pthread_create(&t, NULL, cancelled_waiter, NULL);
+    while (!waiting) {
+        nanosleep(&(struct timespec){0, 20000000}, NULL);
+        if (monk_enter(b) == MONK_OK) waiting = monk_waiting(b, 0), monk_leave(b);
+    }
+    pthread_cancel(t);
+    nanosleep(&(struct timespec){0, 50000000}, NULL);
+    IS(monk_enter(b), MONK_OK); IS(monk_waiting(b, 0), 1); IS(monk_signal(b, 0), MONK_OK); IS(monk_leave(b), MONK_OK);
+    pthread_join(t, &ended);
+    IS(ended == PTHREAD_CANCELED, 1); IS(monk_place(a), MONK_OUTSIDE);
+    end();
+}
+
 int main(void) {
-    shapes(), misuse(), spent(), hoare(), barging(), returns(), flags(), hung(), abandoned(), held();
+    shapes(), misuse(), spent(), hoare(), barging(), returns(), flags(), hung(), abandoned(), held(), looked_at(), cancelled();
     printf("%d answers, %d wrong\n", made, failed);
     return failed != 0;
 }

@@ -77,6 +77,25 @@ void an_exception_leaves() {
     HOLDS(seat.get() == nullptr && moved.number() == 0);
 }
 
+void a_seat_that_is_assigned_to_gives_its_own_back() {
+    monk::monitor monitor(shape_of(MONK_PB, 2));
+    monk::seat first(monitor), second(monitor);
+    monk::checked(monk_enter(first.get()));
+    first = std::move(second);                  // the old seat of `first` is inside: it leaves, and may be taken again at once
+    HOLDS(second.get() == nullptr && first.number() == 1);
+    monk::seat third(monitor);
+    HOLDS(third.number() == 0 && monk_place(third.get()) == MONK_OUTSIDE);
+    monk::seat &same = first;
+    first = std::move(same);
+    HOLDS(first.get() != nullptr && first.number() == 1);
+}
+
+void an_error_can_be_assigned() {
+    monk::error last(MONK_BUSY);
+    last = monk::error(MONK_SPENT);
+    HOLDS(last.answer == MONK_SPENT && last.what() == std::string(monk_strerror(MONK_SPENT)));
+}
+
 void a_thread_that_ends_keeps_nothing() {
     monk::monitor monitor(shape_of(MONK_PB, 3));
     std::thread([&] {
@@ -142,6 +161,7 @@ void many_threads() {
 
 int main() {
     every_kind_visits(), refusals_are_thrown(), an_exception_leaves(), a_thread_that_ends_keeps_nothing();
+    a_seat_that_is_assigned_to_gives_its_own_back(), an_error_can_be_assigned();
     a_run_that_hangs_is_looked_at(), many_threads();
     std::cout << checks << " checks of monk.hpp hold\n";
 }

@@ -1,4 +1,5 @@
-"""monk.py: every kind, seats that come back, exceptions inside a visit, interrupts, a run that hangs, many threads, threads that end inside.
+"""monk.py: every kind, seats that come back, exceptions inside a visit, interrupts, a run that hangs, many threads, threads that end
+inside, numbers out of range, the child of a fork.
 
 MONK_LIBRARY names the library that is tried, and MONK the program that audits."""
 
@@ -9,9 +10,11 @@ import os
 import signal
 import subprocess
 import sys
+import tempfile
 import threading
 import time
 import unittest
+import unittest.mock
 import warnings
 
 HERE = os.path.dirname(os.path.abspath(__file__))
@@ -35,6 +38,13 @@ def run(threads: list[threading.Thread]) -> None:
     for thread in threads:
         thread.join(SECONDS)
         assert not thread.is_alive()
+
+
+class NoLibrary:
+    """Stands for the library in a process that has none: whoever asks it ends the process."""
+
+    def __getattr__(self, name: str) -> None:
+        os._exit(3)
 
 
 class EveryKind(unittest.TestCase):
@@ -120,6 +130,55 @@ class Refusals(unittest.TestCase):
                       {"kind": "PB", "seats": -1}, {"kind": "PB", "wish": "best"}):
             self.assertRaises(monk.OutOfRange, lambda words=words: monk.Monitor(**words))
 
+    def test_numbers_that_c_would_wrap(self) -> None:
+        """Each is refused with the call, the range and the value, and nothing has changed."""
+        monitor = made("PB")
+        seat, wrapped = monitor.here, 2**32
+        seat.enter()
+        seat.flags = 3
+        for call, words in (
+            (lambda: monitor.set_flags(40), "set_flags(40): flags are 0 to 1"),
+            (lambda: monitor.set_flags(-1), "set_flags(-1): flags are 0 to 1"),
+            (lambda: monitor.set_flags((40, False)), "set_flags(40): flags are 0 to 1"),
+            (lambda: setattr(seat, "flags", wrapped + 1), "flags = 4294967297: the bits are 0 to 3"),
+            (lambda: seat.waiting(wrapped), "waiting(4294967296): conditions are 0 to 1"),
+            (lambda: seat.waiting(-wrapped), "waiting(-4294967296): conditions are 0 to 1"),
+            (lambda: seat.wait(wrapped), "wait(4294967296): conditions are 0 to 1"),
+            (lambda: seat.wait(2), "wait(2): conditions are 0 to 1"),
+            (lambda: seat.signal(wrapped), "signal(4294967296): conditions are 0 to 1"),
+            (lambda: seat.signal(-1), "signal(-1): conditions are 0 to 1"),
+            (lambda: seat.pause(wrapped), "wait(4294967296): conditions are 0 to 1"),
+            (lambda: seat.await_(2.0**61), "await_(2.305843009213694e+18): seconds are 0 to 9223372036854775"),
+        ):
+            with self.subTest(words), self.assertRaises(monk.OutOfRange) as refused:
+                call()
+            self.assertEqual(str(refused.exception), words)
+            self.assertEqual((seat.place, seat.flags), ("inside", 3))
+
+    def test_numbers_of_other_kinds_that_c_would_wrap(self) -> None:
+        for kind, call, words in (
+            ("PNB", lambda seat: seat.broadcast(2**32), "broadcast(4294967296): conditions are 0 to 1"),
+            ("PIR", lambda seat: seat.signal_leave(2**32), "signal_leave(4294967296): conditions are 0 to 1"),
+            ("PIR", lambda seat: seat.signal_wait(2**32, 0), "signal_wait(4294967296): conditions are 0 to 1"),
+            ("PIR", lambda seat: seat.signal_wait(0, 2**32), "signal_wait(4294967296): conditions are 0 to 1"),
+            ("PIS", lambda seat: seat.wait_until(2**32), "wait_until(4294967296): flags are 0 to 1"),
+            ("PIS", lambda seat: seat.waiting(2**32), "waiting(4294967296): the monitor has no conditions"),
+        ):
+            seat = made(kind).here
+            seat.enter()
+            with self.subTest(words), self.assertRaises(monk.OutOfRange) as refused:
+                call(seat)
+            self.assertEqual(str(refused.exception), words)
+            self.assertEqual(seat.place, "inside")
+
+    def test_shapes_that_c_would_wrap(self) -> None:
+        for name, value, span in (("seats", 2**32 + 2, "1 to 32"), ("conditions", 2**32, "0 to 8"), ("flags", 2**32 + 1, "0 to 32"),
+                                  ("budget", 2**32 + 4, "2 to 1048576, or 0 for 65536"), ("budget", 1, "2 to 1048576, or 0 for 65536"),
+                                  ("seed", 2**64, "0 to 18446744073709551615"), ("seed", -1, "0 to 18446744073709551615")):
+            with self.subTest(name), self.assertRaises(monk.OutOfRange) as refused:
+                monk.Monitor("PB", **{name: value})
+            self.assertEqual(str(refused.exception), f"Monitor({name}={value}): {name} is {span}")
+
     def test_spent(self) -> None:
         monitor = made("PNB", seats=1, budget=4)
         with monitor:
@@ -170,6 +229,52 @@ class Endings(unittest.TestCase):
         self.assertEqual([it.category for it in told], [ResourceWarning])
         os.remove(str(told[0].message).split()[-1])
 
+    def test_the_child_of_a_fork(self) -> None:
+        """Its finalizers call nothing of the library, which isn't for it, and tell nothing."""
+        monitor = made("PB")
+        spare = monitor.seat()
+        monitor.acquire()
+        child = os.fork()
+        if child == 0:
+            setattr(monk, "_library", NoLibrary())
+            del monitor, spare
+            gc.collect()
+            os._exit(0)
+        self.assertEqual(os.waitpid(child, 0)[1], 0)
+        self.assertEqual(monitor.here.place, "inside")
+        monitor.release()
+        spare.give()
+
+    def test_a_second_release(self) -> None:
+        for kind in monk.KINDS:
+            with self.subTest(kind):
+                monitor = made(kind)
+                self.assertRaises(monk.NotNow, monitor.release)
+                monitor.acquire()
+                monitor.release()
+                self.assertRaises(monk.NotNow, monitor.release)
+
+    def test_a_release_after_the_way_out(self) -> None:
+        """A signal that leads out is a way out, and the release behind it is taken once."""
+        for kind in monk.KINDS:
+            with self.subTest(kind):
+                monitor = made(kind)
+                monitor.acquire()
+                monitor.here.finish(0)
+                monitor.release()
+                self.assertRaises(monk.NotNow, monitor.release)
+                with monitor:
+                    monitor.here.finish(0)
+                self.assertRaises(monk.NotNow, monitor.release)
+
+    def test_a_release_after_a_stop(self) -> None:
+        monitor = made("PB")
+        monitor.acquire()
+        monitor.stop()
+        self.assertRaises(monk.Stopped, monitor.condition().wait)
+        monitor.release()
+        self.assertRaises(monk.NotNow, monitor.release)
+
     def test_an_interrupt(self) -> None:
         # a process in the background may have begun with this signal ignored
         before = signal.signal(signal.SIGINT, signal.default_int_handler)
@@ -213,6 +318,30 @@ class Endings(unittest.TestCase):
         self.assertTrue(second.await_(0.01))
         self.assertEqual(second.history().splitlines()[-1], "enter 1 handed")
         second.leave()
+
+
+class Programs(unittest.TestCase):
+    """What `monk` says: its status tells whether it failed, and not what it writes to standard error."""
+
+    def asked(self, script: str) -> str:
+        with tempfile.TemporaryDirectory() as room:
+            path = os.path.join(room, "monk")
+            with open(path, "w", encoding="ascii") as file:
+                file.write("#!/bin/sh\ncat >/dev/null\n" + script)
+            os.chmod(path, 0o755)
+            with unittest.mock.patch.dict(os.environ, {"MONK": path}):
+                return made("PB").audit()
+
+    def test_a_word_on_standard_error(self) -> None:
+        self.assertEqual(self.asked("echo legal 2; echo a hint >&2\n"), "legal 2\n")
+        self.assertEqual(self.asked("echo forbidden 1 3 turn; echo a hint >&2; exit 1\n"), "forbidden 1 3 turn\n")
+
+    def test_a_failure(self) -> None:
+        for script, words in (("echo memory >&2; exit 4\n", "memory"), ("echo unreadable 1 1 header; exit 2\n", "unreadable 1 1 header"),
+                              ("exit 3\n", "monk audit ended with status 3"), ("kill -9 $$\n", "monk audit ended with status -9")):
+            with self.subTest(words), self.assertRaises(monk.MonkError) as refused:
+                self.asked(script)
+            self.assertEqual(str(refused.exception), words)
 
 
 class Many(unittest.TestCase):

@@ -20,7 +20,7 @@ REASONS = ["range", "call", "turn", "place", "reply", "choice"]
 CODES = {"buffer": 2, "book": 4, "shop": 4, "flags": 1}
 PREDICATES = {"buffer": 2, "book": 2, "shop": 3, "flags": 32}
 # The versions of a text that name the object.
-VERSIONS = {"buffer": (1, 2, 3), "book": (1, 2, 3), "shop": (1, 2, 3), "flags": (3,)}
+VERSIONS = {"buffer": (1, 2), "book": (1, 2), "shop": (1, 2), "flags": (3,)}
 NEXTS = ("stay", "entry", "waiter", "signaller", "until")
 # Where an event's next begins in its words, how many seats or conditions it names before, and the modes that have the call.
 RELEASES = {"leave": 2, "wait": 3, "signal": 3, "signal-leave": 3, "until": 3, "signal-wait": 4}

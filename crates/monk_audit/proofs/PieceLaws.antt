@@ -21,7 +21,7 @@ use Rattle.monk_history.specs.Meaning.Named.{named_monitor}
 use Rattle.monk_history.specs.Text.Faults.{end_fault, header_fault, memory}
 use Rattle.monk_history.proofs.PublicLaws.Texts.{head_missing, head_opens, head_refused, items_end, items_unfinished}
 use Rattle.monk_history.specs.Meaning.Reasons.{reason_in}
-use Rattle.monk_audit.specs.Reading.{read_through, verdict_at, verdict_of_reading, verdict_read, lines_verdict}
+use Rattle.monk_audit.specs.Reading.{read_through, verdict_at, verdict_read, lines_verdict}
 use Rattle.monk_audit.specs.Reading.{text_verdict, MakesNoObject, same}
 use Rattle.monk_kinds.specs.declared.mode.Rules.{Rules}
 use Rattle.monk_kinds.specs.Names.{rules_named}
@@ -45,7 +45,7 @@ use Rattle.monk_audit.specs.declared.verdict.Verdict.{Verdict}
 use Rattle.monk_audit.specs.declared.verdict.Verdict.TheVariants.{Forbidden, Legal}
 use Rattle.monk_audit.proofs.AuditLaws.{reason_opening}
 use Rattle.monk_audit.proofs.ReadingLaws.{forbidden_then, judged_end, judged_fault, judged_is, not_opened_text}
-use Rattle.monk_audit.proofs.ReadingLaws.{opened_text}
+use Rattle.monk_audit.proofs.ReadingLaws.{opened_text, verdict_of_reading}
 
 -- and what is left of them is behind the events that were read
 pub piece_ends : (h : Heading) (count : ℕ) (p : PieceLeft) (rest : List ℕ) → p.number ≡ count + 2

@@ -7,7 +7,7 @@ use Rattle.monk_object.specs.Object.{Object}
 use Rattle.std.specs.Prelude.{◌^◌}
 use Rattle.monk_history.specs.Text.{Heading}
 use Rattle.monk_history.specs.Text.Words.{◌>>=◌}
-use Rattle.monk_history.specs.Text.Lines.{LinesLeft, lines_of, opened_at}
+use Rattle.monk_history.specs.Text.Lines.{LinesLeft, items_left, lines_of, opened_at}
 use Rattle.monk_history.specs.Text.Reading.{header_at, event_under}
 use Rattle.monk_history.proofs.PublicLaws.Texts.{behind, lines_behind}
 use Rattle.monk_history.proofs.PublicLaws.Meaning.{legal_none, legal-push, allowed_from_reason, legal_situation-push}
@@ -20,8 +20,8 @@ use Rattle.monk_history.specs.Meaning.Step.{after, opening_situation}
 use Rattle.monk_history.specs.Meaning.Legal.{IsLegal}
 use Rattle.monk_history.specs.declared.event.Event.{Event}
 use Rattle.monk_audit.specs.Verdict.{verdict_from, verdict_of}
-use Rattle.monk_audit.specs.Reading.{verdict_at, verdict_read, verdict_of_reading, read_through, history_verdict}
-use Rattle.monk_audit.specs.Reading.{events_left, lines_verdict, text_verdict}
+use Rattle.monk_audit.specs.Reading.{verdict_at, verdict_read, read_through, history_verdict}
+use Rattle.monk_audit.specs.Reading.{lines_verdict, text_verdict}
 use Rattle.monk_audit.specs.declared.verdict.Verdict.{Verdict}
 use Rattle.monk_audit.specs.declared.verdict.Verdict.TheVariants.{Legal, Forbidden}
 use Rattle.monk_audit.proofs.AuditLaws.{reason_opening}
@@ -50,6 +50,10 @@ from_here m past (e ∷ es) l =
 -- the verdict on the whole history, found from the situation before any event
 pub verdict_at_is : (m : Monitor) (h : List Event) → verdict_of m h ≡ verdict_at m 0 (opening_situation m) h
 verdict_at_is m h = from_here m [] h (legal_none m) ∙ ap (λ t. verdict_at m 0 t h) (situation-none m)
+
+-- the verdict of a monitor on the events that are read, unless a fault is
+abbrev pub verdict_of_reading : Monitor → Result (List Event) ReadFault → Result Verdict ReadFault
+verdict_of_reading m read = read >>= λ es. Ok (verdict_of m es)
 
 pub judged_is : (m : Monitor) (read : Result (List Event) ReadFault)
     → verdict_read m 0 (opening_situation m) read ≡ verdict_of_reading m read
@@ -124,10 +128,10 @@ behind_verdict h (Err f) = refl
 
 pub opened_text : (bytes : List ℕ) (h : Heading) (left : LinesLeft)
     → Ok (h, left) ≡ opened_at header_at (2 ^ 25) (lines_of bytes)
-    → text_verdict bytes ≡ lines_verdict h (events_left h left)
+    → text_verdict bytes ≡ lines_verdict h (items_left (event_under h) left)
 opened_text bytes h left opened =
     ap (λ r. r >>= λ x. Ok (history_verdict x)) (lines_behind header_at event_under (2 ^ 25) (lines_of bytes)
-    ∙ ap (behind event_under) (sym opened)) ∙ behind_verdict h (events_left h left)
+    ∙ ap (behind event_under) (sym opened)) ∙ behind_verdict h (items_left (event_under h) left)
 
 pub not_opened_text : (bytes : List ℕ) (f : ReadFault) → Err f ≡ opened_at header_at (2 ^ 25) (lines_of bytes)
     → text_verdict bytes ≡ Err f

@@ -1,5 +1,5 @@
 -- Reasons and their numbers
-use Rattle.std.proofs.Common.{◌≡◌, ◌≢◌, ◌∙◌, ◌==◌, ℕ, Bool, true, false, not, cond, List, take, Option, Some, None, ap, sym, subst, refl, arith}
+use Rattle.std.proofs.Common.{◌≡◌, ◌≢◌, ◌∙◌, ℕ, Bool, true, false, not, cond, List, take, Option, Some, None, ap, sym, subst, refl, arith}
 use Rattle.std.specs.Option.{is_some}
 use Rattle.std.proofs.lemmas.Bool.{false≢true}
 use Rattle.monk_audit.specs.declared.reason.Reason.{Reason}
@@ -42,20 +42,6 @@ none_is_0 (Some r) z = absurd (false≢true (sym z))
 pub some_is_not_0 : (r : Option Reason) → is_some r ≡ true → number_or_0 r ≢ 0
 some_is_not_0 None z = absurd (false≢true z)
 some_is_not_0 (Some r) z = some_number r
-
-pub some_is_other : (r : Reason) → false ≡ (number_of r == 0)
-some_is_other Range = refl
-some_is_other Call = refl
-some_is_other Turn = refl
-some_is_other Place = refl
-some_is_other Reply = refl
-some_is_other Choice = refl
-
-pub is_none_said : (r : Option Reason) (b : Bool) → is_some r ≡ not b → b ≡ (number_or_0 r == 0)
-is_none_said None true z = refl
-is_none_said None false z = absurd (false≢true z)
-is_none_said (Some r) true z = absurd (false≢true (sym z))
-is_none_said (Some r) false z = some_is_other r
 
 -- the number of the first of six tests that fails, or 0
 abbrev first_failed : Bool → Bool → Bool → Bool → Bool → Bool → ℕ

@@ -3,8 +3,8 @@ use Rattle.std.specs.Prelude.{ℕ, ◌+◌, ◌<◌, ◌^◌, List, [], ◌∷�
 use Rattle.monk_object.specs.Names.{most}
 use Rattle.monk_history.specs.Text.{Heading}
 use Rattle.monk_history.specs.Text.Words.{◌>>=◌}
-use Rattle.monk_history.specs.Text.Lines.{LinesLeft, lines_of, items_left, opened_at}
-use Rattle.monk_history.specs.Text.Reading.{History, history, header_at, event_under, text_at}
+use Rattle.monk_history.specs.Text.Lines.{lines_of, opened_at}
+use Rattle.monk_history.specs.Text.Reading.{History, history, header_at, text_at}
 use Rattle.monk_history.specs.declared.text.fault.ReadFault.{ReadFault}
 use Rattle.monk_history.specs.Meaning.Monitor.{Monitor}
 use Rattle.monk_history.specs.Meaning.Situation.{Situation}
@@ -18,10 +18,6 @@ use Rattle.monk_audit.specs.declared.verdict.Verdict.TheVariants.{Legal, Forbidd
 use Rattle.monk_audit.specs.declared.text_verdict.TextVerdict.{TextVerdict}
 use Rattle.monk_audit.specs.declared.text_verdict.TextVerdict.TheVariants.{Judged, TooBig}
 
--- the events of the lines that are left behind that header
-abbrev pub events_left : Heading → LinesLeft → Result (List Event) ReadFault
-events_left h left = items_left (event_under h) left
-
 -- the verdict of the events to come, after so many that were found legal, in that situation; that it is the verdict on
 -- the whole history is the law `verdict_at_is`
 unfoldable pub verdict_at : Monitor → ℕ → Situation → List Event → Verdict
@@ -32,10 +28,6 @@ verdict_at m n t (e ∷ es) = if reason_in m t e == 0 then verdict_at m (n + 1) 
 -- the same of events that are still to be read
 abbrev pub verdict_read : Monitor → ℕ → Situation → Result (List Event) ReadFault → Result Verdict ReadFault
 verdict_read m n t read = read >>= λ es. Ok (verdict_at m n t es)
-
--- the verdict of a monitor on the events that are read, unless a fault is
-abbrev pub verdict_of_reading : Monitor → Result (List Event) ReadFault → Result Verdict ReadFault
-verdict_of_reading m read = read >>= λ es. Ok (verdict_of m es)
 
 -- of a history, for the monitor that its header names
 abbrev pub history_verdict : History → TextVerdict

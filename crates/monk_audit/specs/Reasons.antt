@@ -35,3 +35,12 @@ word_of Turn = codes "turn"
 word_of Place = codes "place"
 word_of Reply = codes "reply"
 word_of Choice = codes "choice"
+
+-- what a picture says of an event that is not allowed for that reason
+abbrev pub caption_of : Reason → List ℕ
+caption_of Range = codes "range, a number that the monitor doesn't have"
+caption_of Call = codes "call, this kind has no such call"
+caption_of Turn = codes "turn, it is not this seat's turn"
+caption_of Place = codes "place, this seat may not come in here"
+caption_of Reply = codes "reply, the object replies otherwise"
+caption_of Choice = codes "choice, this kind lets another seat go on"

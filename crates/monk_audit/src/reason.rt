@@ -1,7 +1,7 @@
 //! The reasons against an event.
 
 ghost use Rattle.std.specs.Prelude.{◌≡◌};
-ghost use Rattle.monk_audit.specs.Reasons.{number_of, numbered, word_of};
+ghost use Rattle.monk_audit.specs.Reasons.{caption_of, number_of, numbered, word_of};
 
 /// Why an event is not allowed: the first of six tests that it fails, in the order in which they are made.
 #[derive(Clone, Copy, Debug, PartialEq, Eq)]
@@ -60,6 +60,20 @@ impl Reason {
             Reason::Place => "place",
             Reason::Reply => "reply",
             Reason::Choice => "choice",
+        }
+    }
+
+    /// What a picture says of an event that is not allowed for this reason: the word, and what it means.
+    pub fn caption(self) -> &'static str
+        ensures { result.now ≡ caption_of self }
+    {
+        match self {
+            Reason::Range => "range, a number that the monitor doesn't have",
+            Reason::Call => "call, this kind has no such call",
+            Reason::Turn => "turn, it is not this seat's turn",
+            Reason::Place => "place, this seat may not come in here",
+            Reason::Reply => "reply, the object replies otherwise",
+            Reason::Choice => "choice, this kind lets another seat go on",
         }
     }
 }

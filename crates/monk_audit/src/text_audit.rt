@@ -1,6 +1,6 @@
 //! The audit of a text that comes in pieces.
 
-ghost use Rattle.std.specs.Prelude.{◌≡◌, ◌≤◌, List, ℕ, [], None, OnOk, IfSome, length};
+ghost use Rattle.std.specs.Prelude.{◌≡◌, ◌≤◌, List, ℕ, [], None, Ok, OnOk, IfSome, length};
 ghost use Rattle.monk_history.specs.Text.Lines.{Gives};
 ghost use Rattle.monk_audit.specs.Audits.{owes, IsGoingOn};
 ghost use Rattle.monk_audit.specs.Pieces.{IsCarried};
@@ -109,10 +109,13 @@ impl TextAudit {
     ///
     /// # Errors
     ///
-    /// The text's first fault, or the memory fault if a request for memory was refused.
+    /// The text's first fault, or the memory fault if a request for memory was refused; never that
+    /// one where the header's size is above the object's greatest.
     pub fn end(self, alloc: Global) -> Result<TextVerdict, ReadFault>
         requires { IsGoingOn self }
-        ensures { Gives same result (owes self []) }
+        ensures verdict { Gives same result (owes self []) }
+        // No want of memory is told where the size is above the object's greatest.
+        ensures too_big { owes self [] ≡ Ok TextVerdict.TooBig → result ≡ Ok TextVerdict.TooBig }
     {
         match self.fault {
             Some(fault) => Err(fault),

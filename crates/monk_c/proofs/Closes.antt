@@ -3,14 +3,14 @@ use Rattle.std.specs.Prelude.{◌≡◌, ◌<◌, ℕ, ℤ, List, length, slice_
 use Rattle.std.proofs.Common.{sym, ap, subst, ◌∙◌}
 use Rattle.std.proofs.lemmas.List.{set-get_or}
 use Rattle.std.proofs.lemmas.Option.{get_or_from_slice_get, slice_get-get_or}
-use Rattle.monk_c.specs.Answers.{fault_number}
+use Rattle.monk_c.specs.Answers.{refusal_number}
 use Rattle.monk_c.specs.Closing.{IfCloseRefused, IfClosed, close_refusal, refusal_of_seats, refusal_through}
 use Rattle.monk_c.specs.Coming.{HasCome}
 use Rattle.monk_c.specs.Handles.{IfRefusedAt, booked}
 use Rattle.monk_c.specs.Refusal.{refusal_at}
 use Rattle.monk_c.specs.declared.any_seat.AnySeat.{AnySeat}
 use Rattle.monk_c.specs.declared.call.Call.TheVariants.{Arrive}
-use Rattle.monk_c.specs.declared.fault.Fault.{Fault}
+use Rattle.monk_c.specs.declared.refusal.Refusal.{Refusal}
 use Rattle.monk_c.specs.declared.handle.MonkSeat.{MonkSeat}
 
 set_back : (handles : List MonkSeat) (i : ℕ) (h : MonkSeat) → slice_get handles i ≡ Some h
@@ -19,7 +19,7 @@ set_back handles i h chosen =
     ap (λ (x : MonkSeat). slice_set handles i x) (sym (get_or_from_slice_get handles i h h chosen))
     ∙ set-get_or handles i h
 
-also : (r : Option Fault) (P Q : Type 0) (R : Fault → Type 0) → (P → Q) → IfSome r (λ f. P × R f)
+also : (r : Option Refusal) (P Q : Type 0) (R : Refusal → Type 0) → (P → Q) → IfSome r (λ f. P × R f)
     → IfSome r (λ f. Q × R f)
 also None P Q R more has = tt
 also (Some f) P Q R more has = (more has.0, has.1)
@@ -40,7 +40,7 @@ module _ (old seen : List MonkSeat) (by : ℕ) (d t : MonkSeat) (code shown : �
   arrival : close_refusal old by ≡ refusal_at (booked h.has) Arrive
   arrival =
       ap (λ (x : Option MonkSeat). refusal_through x (refusal_of_seats old)) chosen
-      ∙ ap (λ (f : Option Fault). refusal_through (Some h) f) fine
+      ∙ ap (λ (f : Option Refusal). refusal_through (Some h) f) fine
 
   others : slice_set seen by t ≡ slice_set old by t
   others = ap (λ (xs : List MonkSeat). slice_set xs by t) kept
@@ -62,7 +62,8 @@ module _ (old seen : List MonkSeat) (by : ℕ) (d t : MonkSeat) (code shown : �
 
   pub is_refused : IfRefusedAt Arrive h.has code t.has → IfCloseRefused old by shown (slice_set seen by t)
   is_refused refused =
-      subst (λ (r : Option Fault). IfSome r (λ f. (slice_set seen by t ≡ old) × (shown ≡ fault_number f))) (sym arrival)
+      subst (λ (r : Option Refusal). IfSome r (λ f. (slice_set seen by t ≡ old) × (shown ≡ refusal_number f)))
+      (sym arrival)
       (also (refusal_at (booked h.has) Arrive) (t.has ≡ h.has) (slice_set seen by t ≡ old)
-      (λ f. shown ≡ fault_number f) unchanged
+      (λ f. shown ≡ refusal_number f) unchanged
       (subst (λ (z : ℤ). IfRefusedAt Arrive h.has z t.has) (sym e) refused))

@@ -2,17 +2,17 @@
 use Rattle.std.specs.Prelude.{ℤ, pos, negsuc}
 use Rattle.monk_c.specs.Stands.{At}
 use Rattle.monk_c.specs.Stands.At.{Outside, Waiting, Inside}
-use Rattle.monk_c.specs.declared.fault.Fault.{Fault}
-use Rattle.monk_c.specs.declared.fault.Fault.TheVariants.{NotNow, Spent, NotOfKind, Range, Memory, Closed}
+use Rattle.monk_c.specs.declared.refusal.Refusal.{Refusal}
+use Rattle.monk_c.specs.declared.refusal.Refusal.TheVariants.{NotNow, Spent, NotOfKind, Range, Memory, Closed}
 
 -- `negsuc n` is -(n + 1)
-abbrev pub fault_number : Fault → ℤ
-fault_number NotNow = negsuc 0
-fault_number Spent = negsuc 1
-fault_number NotOfKind = negsuc 2
-fault_number Range = negsuc 3
-fault_number Memory = negsuc 4
-fault_number Closed = negsuc 9
+abbrev pub refusal_number : Refusal → ℤ
+refusal_number NotNow = negsuc 0
+refusal_number Spent = negsuc 1
+refusal_number NotOfKind = negsuc 2
+refusal_number Range = negsuc 3
+refusal_number Memory = negsuc 4
+refusal_number Closed = negsuc 9
 
 -- the number for C of where a seat stands
 abbrev pub place_number : At → ℤ

@@ -1,15 +1,15 @@
 -- The close of a monitor through one of its handles
 use Rattle.std.specs.Prelude.{◌≡◌, ℕ, ℤ, Bool, false, not, is_some, List, slice_get, slice_set, Option, Some, None, IfSome, if◌then◌else◌}
 use Rattle.std.specs.List.{list_all}
-use Rattle.monk_c.specs.Answers.{fault_number}
+use Rattle.monk_c.specs.Answers.{refusal_number}
 use Rattle.monk_c.specs.Coming.{HasCome}
 use Rattle.monk_c.specs.Handles.{booked}
 use Rattle.monk_c.specs.Refusal.{is_outside, refusal_at}
 use Rattle.monk_c.specs.Stands.{Booked}
 use Rattle.monk_c.specs.declared.any_seat.AnySeat.{AnySeat}
 use Rattle.monk_c.specs.declared.call.Call.TheVariants.{Arrive}
-use Rattle.monk_c.specs.declared.fault.Fault.{Fault}
-use Rattle.monk_c.specs.declared.fault.Fault.TheVariants.{NotNow, Range, Closed}
+use Rattle.monk_c.specs.declared.refusal.Refusal.{Refusal}
+use Rattle.monk_c.specs.declared.refusal.Refusal.TheVariants.{NotNow, Range, Closed}
 use Rattle.monk_c.specs.declared.handle.MonkSeat.{MonkSeat}
 
 -- whether the handle has a seat that is outside
@@ -26,20 +26,20 @@ abbrev pub are_outside : List MonkSeat → Bool
 are_outside handles = list_all (λ h. has_seat_outside (booked h.has)) handles
 
 -- why the monitor can't be closed through any handle, if it can't
-abbrev pub refusal_of_seats : List MonkSeat → Option Fault
+abbrev pub refusal_of_seats : List MonkSeat → Option Refusal
 refusal_of_seats handles =
     if not (are_seated handles) then Some Closed
     else if not (are_outside handles) then Some NotNow
     else None
 
 -- the first of the refusals that apply: no handle has the number, or the seats stand so, or its own seat can't arrive
-abbrev pub refusal_through : Option MonkSeat → Option Fault → Option Fault
+abbrev pub refusal_through : Option MonkSeat → Option Refusal → Option Refusal
 refusal_through None seats = Some Range
 refusal_through (Some h) (Some f) = Some f
 refusal_through (Some h) None = refusal_at (booked h.has) Arrive
 
 -- why a close is refused, if it is
-abbrev pub close_refusal : List MonkSeat → ℕ → Option Fault
+abbrev pub close_refusal : List MonkSeat → ℕ → Option Refusal
 close_refusal handles by = refusal_through (slice_get handles by) (refusal_of_seats handles)
 
 -- the handle's seat has arrived and polled, and each other handle is as before
@@ -50,9 +50,9 @@ pub record IsClosed (old : List MonkSeat) (by : ℕ) (code : ℤ) (new : List Mo
   pub come : HasCome handle.has code last
   pub others : new ≡ slice_set old by (record handle { has = last })
 
--- a close that is refused changes nothing, and is answered by its fault
+-- a close that is refused changes nothing, and is answered by its refusal
 abbrev pub IfCloseRefused : List MonkSeat → ℕ → ℤ → List MonkSeat → Type 0
-IfCloseRefused old by code new = IfSome (close_refusal old by) (λ f. (new ≡ old) × (code ≡ fault_number f))
+IfCloseRefused old by code new = IfSome (close_refusal old by) (λ f. (new ≡ old) × (code ≡ refusal_number f))
 
 -- a close that isn't refused closes the monitor
 abbrev pub IfClosed : List MonkSeat → ℕ → ℤ → List MonkSeat → Type 0

@@ -9,8 +9,8 @@ use Rattle.monk_object.specs.declared.name.ObjectName.TheVariants.{Flags as Flag
 use Rattle.monk_c.specs.Headings.{flags_made}
 use Rattle.monk_c.specs.Stands.{RoomView, SeatView}
 use Rattle.monk_c.specs.Stands.At.{Outside}
-use Rattle.monk_c.specs.declared.fault.Fault.{Fault}
-use Rattle.monk_c.specs.declared.fault.Fault.TheVariants.{Range, Memory}
+use Rattle.monk_c.specs.declared.refusal.Refusal.{Refusal}
+use Rattle.monk_c.specs.declared.refusal.Refusal.TheVariants.{Range, Memory}
 use Rattle.monk_c.specs.declared.numbers.Numbers.{Numbers}
 
 -- a hall, and how many passes are left of its first seats
@@ -39,8 +39,8 @@ abbrev pub is_out_of_range : Numbers → Bool
 is_out_of_range n = nat_lt 32 n.flags || is_some (make_refusal n.seats n.conds n.budget)
 
 -- why no hall is made: a number out of its range, or else want of memory
-abbrev pub IsMakeFault : Numbers → Fault → Type 0
-IsMakeFault n f = f ≡ (if is_out_of_range n then Range else Memory)
+abbrev pub IsMakeRefusal : Numbers → Refusal → Type 0
+IsMakeRefusal n f = f ≡ (if is_out_of_range n then Range else Memory)
 
 -- a hall of these numbers
 pub record IsMadeOf (n : Numbers) (r : RoomView) : Type 0 where

@@ -4,7 +4,7 @@ use Rattle.monk_kinds.specs.Names.{rules_named}
 use Rattle.monk_kinds.specs.declared.mode.Pick.{Pick}
 use Rattle.monk_kinds.specs.declared.name.KindName.{KindName}
 use Rattle.monk_kinds.specs.declared.name.KindName.TheVariants as kind
-use Rattle.monk_c.specs.Answers.{fault_number}
+use Rattle.monk_c.specs.Answers.{refusal_number}
 use Rattle.monk_c.specs.Refusal.{refusal_at}
 use Rattle.monk_c.specs.Stands.{SeatView, Booked, booking}
 use Rattle.monk_c.specs.Taken.{Answers}
@@ -51,9 +51,9 @@ abbrev pub IfTakenAt : Call → Pick → AnySeat → ℤ → ℕ → AnySeat →
 IfTakenAt call wish s code told t = refusal_at (booked s) call ≡ None
     → AnswersAt call wish (booked s) code told (booked t)
 
--- a call that is refused changes nothing, and is answered by its fault
+-- a call that is refused changes nothing, and is answered by its refusal
 abbrev pub IfRefusedAt : Call → AnySeat → ℤ → AnySeat → Type 0
-IfRefusedAt call s code t = IfSome (refusal_at (booked s) call) (λ f. (t ≡ s) × (code ≡ fault_number f))
+IfRefusedAt call s code t = IfSome (refusal_at (booked s) call) (λ f. (t ≡ s) × (code ≡ refusal_number f))
 
 -- a call that is refused tells no word
 abbrev pub IfUntoldAt : Call → AnySeat → ℕ → Type 0

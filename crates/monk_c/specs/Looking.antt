@@ -4,15 +4,15 @@ use Rattle.monk_kinds.specs.Names.{rules_named}
 use Rattle.monk_kinds.specs.declared.mode.Mode.{Mode}
 use Rattle.monk_history.specs.Meaning.Conditions.{condition}
 use Rattle.monk_history.specs.Meaning.Events.{has_conditions}
-use Rattle.monk_c.specs.Answers.{fault_number}
+use Rattle.monk_c.specs.Answers.{refusal_number}
 use Rattle.monk_c.specs.Refusal.{is_inside}
 use Rattle.monk_c.specs.Stands.{At, Booked, SeatView}
 use Rattle.monk_c.specs.Stands.At.{Outside, Waiting, Inside}
-use Rattle.monk_c.specs.declared.fault.Fault.{Fault}
-use Rattle.monk_c.specs.declared.fault.Fault.TheVariants.{NotNow, NotOfKind, Range, Closed}
+use Rattle.monk_c.specs.declared.refusal.Refusal.{Refusal}
+use Rattle.monk_c.specs.declared.refusal.Refusal.TheVariants.{NotNow, NotOfKind, Range, Closed}
 
 -- why it isn't told, if it isn't
-abbrev pub look_refusal : Mode → SeatView → ℕ → Option Fault
+abbrev pub look_refusal : Mode → SeatView → ℕ → Option Refusal
 look_refusal m s c =
     if not (has_conditions m) then Some NotOfKind
     else if not (nat_lt c s.room.house.setting.conds) then Some Range
@@ -27,9 +27,9 @@ waiting_at (Inside a) c = length (condition c a.floor.history)
 
 -- that is how many seats wait on the condition, or why they can't be counted
 abbrev pub IsCount : Mode → SeatView → ℕ → ℤ → Type 0
-IsCount m s c code = MatchOption (look_refusal m s c) (code ≡ pos (waiting_at s.at c)) (λ f. code ≡ fault_number f)
+IsCount m s c code = MatchOption (look_refusal m s c) (code ≡ pos (waiting_at s.at c)) (λ f. code ≡ refusal_number f)
 
 -- the same of a handle
 abbrev pub IsCountOf : Option Booked → ℕ → ℤ → Type 0
-IsCountOf None c code = code ≡ fault_number Closed
+IsCountOf None c code = code ≡ refusal_number Closed
 IsCountOf (Some b) c code = IsCount (rules_named b.kind).mode b.seat c code

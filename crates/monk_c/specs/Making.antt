@@ -2,13 +2,13 @@
 use Rattle.std.specs.Prelude.{◌≡◌, ◌⊎◌, ℕ, ℤ, pos, ◌<◌, ◌≤◌, Option, Some, None, Result, Ok, Err, List, length, slice_get, slice_index_or}
 use Rattle.monk_kinds.specs.Names.{kinds}
 use Rattle.monk_kinds.specs.declared.name.KindName.{KindName}
-use Rattle.monk_c.specs.Answers.{fault_number}
-use Rattle.monk_c.specs.Dealing.{IsMadeOf, IsMakeFault, fresh_view}
+use Rattle.monk_c.specs.Answers.{refusal_number}
+use Rattle.monk_c.specs.Dealing.{IsMadeOf, IsMakeRefusal, fresh_view}
 use Rattle.monk_c.specs.Handles.{seat_named}
 use Rattle.monk_c.specs.Stands.{RoomView}
 use Rattle.monk_c.specs.declared.any_seat.AnySeat.{AnySeat}
-use Rattle.monk_c.specs.declared.fault.Fault.{Fault}
-use Rattle.monk_c.specs.declared.fault.Fault.TheVariants.{Range}
+use Rattle.monk_c.specs.declared.refusal.Refusal.{Refusal}
+use Rattle.monk_c.specs.declared.refusal.Refusal.TheVariants.{Range}
 use Rattle.monk_c.specs.declared.handle.MonkSeat.{MonkSeat}
 use Rattle.monk_c.specs.declared.numbers.Numbers.{Numbers}
 
@@ -33,12 +33,12 @@ pub record AreSeated (k : KindName) (n : Numbers) (old new : List MonkSeat) : Ty
   pub count : length new ≡ length old
   pub each : AreFresh k room 0 old new
 
--- what making gives: without a kind of that number, a fault
-abbrev pub MadeOf : {U : Type 0} → Option KindName → Numbers → List MonkSeat → Result U Fault → List MonkSeat → Type 0
+-- what making gives: without a kind of that number, a refusal
+abbrev pub MadeOf : {U : Type 0} → Option KindName → Numbers → List MonkSeat → Result U Refusal → List MonkSeat → Type 0
 MadeOf None n old (Ok u) new = ⊥
 MadeOf None n old (Err f) new = (f ≡ Range) × (new ≡ old)
 MadeOf (Some k) n old (Ok u) new = AreSeated k n old new
-MadeOf (Some k) n old (Err f) new = IsMakeFault n f × (new ≡ old)
+MadeOf (Some k) n old (Err f) new = IsMakeRefusal n f × (new ≡ old)
 
 -- the numbers of a hall with a seat for each of these handles
 abbrev pub numbers_for : ℕ → ℕ → ℕ → List MonkSeat → Numbers
@@ -49,7 +49,7 @@ numbers_for conds flags budget handles =
 abbrev pub Answered : Option KindName → Numbers → List MonkSeat → ℤ → List MonkSeat → Type 0
 Answered k n old code new =
     ((code ≡ pos 0) × MadeOf {U = Unit {0}} k n old (Ok tt) new)
-    ⊎ ((f : Fault) × (code ≡ fault_number f) × MadeOf {U = Unit {0}} k n old (Err f) new)
+    ⊎ ((f : Refusal) × (code ≡ refusal_number f) × MadeOf {U = Unit {0}} k n old (Err f) new)
 
 -- a monitor is made as asked, or the call is refused
 abbrev pub IsMade : ℕ → ℕ → ℕ → ℕ → List MonkSeat → ℤ → List MonkSeat → Type 0

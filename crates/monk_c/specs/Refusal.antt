@@ -9,8 +9,8 @@ use Rattle.monk_c.specs.Stands.At.{Outside, Waiting, Inside}
 use Rattle.monk_c.specs.declared.call.Call.{Call}
 use Rattle.monk_c.specs.declared.call.Call.TheVariants.{Arrive, Poll, Leave, Wait, Signal, Broadcast}
 use Rattle.monk_c.specs.declared.call.Call.TheVariants.{SignalLeave, SignalWait, SetFlags, WaitUntil}
-use Rattle.monk_c.specs.declared.fault.Fault.{Fault}
-use Rattle.monk_c.specs.declared.fault.Fault.TheVariants.{NotNow, Spent, NotOfKind, Range, Closed}
+use Rattle.monk_c.specs.declared.refusal.Refusal.{Refusal}
+use Rattle.monk_c.specs.declared.refusal.Refusal.TheVariants.{NotNow, Spent, NotOfKind, Range, Closed}
 
 -- whether kinds of this mode have the call
 abbrev pub has_call : Mode → Call → Bool
@@ -87,7 +87,7 @@ abbrev pub is_spent : SeatRecord → Call → Bool
 is_spent me call = nat_lt me.setting.budget (length me.mine + wants call)
 
 -- the first of the refusals that apply, if one does
-abbrev pub refusal_of : Mode → SeatView → Call → Option Fault
+abbrev pub refusal_of : Mode → SeatView → Call → Option Refusal
 refusal_of m s call =
     if not (has_call m call) then Some NotOfKind
     else if not (is_within s.room.house.setting.conds s.room.flags call) then Some Range
@@ -96,7 +96,7 @@ refusal_of m s call =
     else None
 
 -- of what a handle has
-abbrev pub refusal_at : Option Booked → Call → Option Fault
+abbrev pub refusal_at : Option Booked → Call → Option Refusal
 refusal_at None call = Some Closed
 refusal_at (Some b) call = refusal_of (rules_named b.kind).mode b.seat call
 

@@ -11,7 +11,7 @@ use Rattle.monk_world.specs.declared.home.Home.TheVariants as home
 use Rattle.monk_hall.specs.Calls.{HasArrived, HasEntered, StillWaits, HasStayed, HasDone, peeks_for}
 use Rattle.monk_hall.specs.Granting.{Grant, HasGranted, GrantsOut, GrantsInside}
 use Rattle.monk_hall.specs.Tokens.{House, Token, Holder}
-use Rattle.monk_c.specs.Answers.{fault_number, place_number}
+use Rattle.monk_c.specs.Answers.{refusal_number, place_number}
 use Rattle.monk_object.specs.Flags.{SET, flags_meaning}
 use Rattle.monk_c.specs.Refusal.{refusal_of}
 use Rattle.monk_c.specs.Stands.{At, SeatView}
@@ -106,9 +106,9 @@ Answers k call wish a code told b =
 abbrev pub IfTaken : Rules → Call → Pick → SeatView → ℤ → ℕ → SeatView → Type 0
 IfTaken k call wish a code told b = refusal_of k.mode a call ≡ None → Answers k call wish a code told b
 
--- a call that is refused changes nothing, and is answered by its fault
+-- a call that is refused changes nothing, and is answered by its refusal
 abbrev pub IfRefused : Rules → Call → SeatView → ℤ → SeatView → Type 0
-IfRefused k call a code b = IfSome (refusal_of k.mode a call) (λ f. (b ≡ a) × (code ≡ fault_number f))
+IfRefused k call a code b = IfSome (refusal_of k.mode a call) (λ f. (b ≡ a) × (code ≡ refusal_number f))
 
 -- no grant is told of a call that is refused
 abbrev pub IfUntold : Rules → Call → SeatView → ℕ → Type 0

@@ -5,12 +5,12 @@ use Rattle.monk_history.specs.Meaning.Legal.{IsLegal}
 use Rattle.monk_history.specs.Meaning.Named.{named_monitor}
 use Rattle.monk_history.specs.Text.{HasText, text}
 use Rattle.monk_hall.specs.Tokens.{Holder}
-use Rattle.monk_c.specs.Answers.{fault_number}
+use Rattle.monk_c.specs.Answers.{refusal_number}
 use Rattle.monk_c.specs.Headings.{heading_for}
 use Rattle.monk_c.specs.Stands.{At, Booked, RoomView}
 use Rattle.monk_c.specs.Stands.At.{Outside, Waiting, Inside}
-use Rattle.monk_c.specs.declared.fault.Fault.{Fault}
-use Rattle.monk_c.specs.declared.fault.Fault.TheVariants.{NotNow, Memory, Closed}
+use Rattle.monk_c.specs.declared.refusal.Refusal.{Refusal}
+use Rattle.monk_c.specs.declared.refusal.Refusal.TheVariants.{NotNow, Memory, Closed}
 
 -- the text of the history that the seat inside sees, under the header of its hall. The history is legal for the monitor
 -- that the header names, and the text is read as this header and these events again
@@ -26,10 +26,10 @@ HasTextAt k r (Waiting p) bytes = ⊥
 HasTextAt k r (Inside a) bytes = IsTextOf k r a bytes
 
 -- why there is none
-abbrev pub IsTextFault : At → Fault → Type 0
-IsTextFault (Outside p) f = f ≡ NotNow
-IsTextFault (Waiting p) f = f ≡ NotNow
-IsTextFault (Inside a) f = f ≡ Memory
+abbrev pub IsTextRefusal : At → Refusal → Type 0
+IsTextRefusal (Outside p) f = f ≡ NotNow
+IsTextRefusal (Waiting p) f = f ≡ NotNow
+IsTextRefusal (Inside a) f = f ≡ Memory
 
 -- the bytes are the text of the handle's history
 abbrev pub HasTextBooked : Option Booked → List ℕ → Type 0
@@ -37,9 +37,9 @@ HasTextBooked None bytes = ⊥
 HasTextBooked (Some b) bytes = HasTextAt b.kind b.seat.room b.seat.at bytes
 
 -- why a handle gives no text
-abbrev pub IsTextFaultOf : Option Booked → Fault → Type 0
-IsTextFaultOf None f = f ≡ Closed
-IsTextFaultOf (Some b) f = IsTextFault b.seat.at f
+abbrev pub IsTextRefusalOf : Option Booked → Refusal → Type 0
+IsTextRefusalOf None f = f ≡ Closed
+IsTextRefusalOf (Some b) f = IsTextRefusal b.seat.at f
 
 -- the bytes stand at the front of memory of C's where they have room, and else it is unchanged
 abbrev pub filled : List ℕ → List ℕ → List ℕ
@@ -48,10 +48,10 @@ filled bytes old = if nat_le (length bytes) (length old) then bytes ++ drop (len
 -- what C is answered of a text that is there
 abbrev pub IsPut : List ℕ → ℤ → List ℕ → List ℕ → Type 0
 IsPut bytes code old new =
-    ((code ≡ pos (length bytes)) × (new ≡ filled bytes old)) ⊎ ((code ≡ fault_number Memory) × (new ≡ old))
+    ((code ≡ pos (length bytes)) × (new ≡ filled bytes old)) ⊎ ((code ≡ refusal_number Memory) × (new ≡ old))
 
 -- what C is answered: the length of the text, or why there is none
 abbrev pub IsTold : Option Booked → ℤ → List ℕ → List ℕ → Type 0
 IsTold s code old new =
     ((bytes : List ℕ) × HasTextBooked s bytes × IsPut bytes code old new)
-    ⊎ ((f : Fault) × IsTextFaultOf s f × (code ≡ fault_number f) × (new ≡ old))
+    ⊎ ((f : Refusal) × IsTextRefusalOf s f × (code ≡ refusal_number f) × (new ≡ old))

@@ -1,13 +1,13 @@
 //! A new hall of any kind.
 ghost use Rattle.std.specs.Prelude.{◌≡◌, ◌+◌, IfOk, IfErr, MatchOption};
-ghost use Rattle.monk_c.specs.Dealing.{IsMadeOf, IsMakeFault};
+ghost use Rattle.monk_c.specs.Dealing.{IsMadeOf, IsMakeRefusal};
 ghost use Rattle.monk_c.specs.Deals.{deal_in, kind_dealt};
 ghost use Rattle.monk_c.specs.Making.{fresh_seat};
 
 use crate::any_seat::AnySeat;
 use crate::deal::Deal;
-use crate::fault::Fault;
 use crate::numbers::Numbers;
+use crate::refusal::Refusal;
 use monk_kinds::{KindName, Npb, Npir, Npis, Npnb, Npqb, Pb, Pir, Pis, Pnb, Pqb};
 use std::alloc::Global;
 
@@ -28,10 +28,10 @@ pub enum AnyDeal {
 
 impl AnyDeal {
     /// Makes a hall of that kind.
-    pub fn open(alloc: Global, kind: KindName, numbers: Numbers) -> Result<AnyDeal, Fault>
+    pub fn open(alloc: Global, kind: KindName, numbers: Numbers) -> Result<AnyDeal, Refusal>
         ensures made { IfOk result (λ d. (kind_dealt d ≡ kind) × IsMadeOf numbers (deal_in d).room
             × ((deal_in d).left ≡ numbers.seats)) }
-        ensures refused { IfErr result (λ f. IsMakeFault numbers f) }
+        ensures refused { IfErr result (λ f. IsMakeRefusal numbers f) }
     {
         match kind {
             KindName::Pb => Ok(AnyDeal::Pb(Deal::open(alloc, numbers)?)),

@@ -5,11 +5,11 @@ ghost use Rattle.monk_c.specs.Coming.{IfComesAt};
 ghost use Rattle.monk_c.specs.Handles.{IfRefusedAt, IfTakenAt, IfUntoldAt, booked};
 ghost use Rattle.monk_c.specs.Looking.{IsCountOf};
 ghost use Rattle.monk_c.specs.Refusal.{is_plain};
-ghost use Rattle.monk_c.specs.Texts.{HasTextBooked, IsTextFaultOf};
+ghost use Rattle.monk_c.specs.Texts.{HasTextBooked, IsTextRefusalOf};
 ghost use Rattle.monk_c.specs.SeatQuestions.{IsLeft, place_at, word_at};
 
 use crate::call::Call;
-use crate::fault::Fault;
+use crate::refusal::Refusal;
 use crate::reply::Reply;
 use crate::seat::Seat;
 use monk_kinds::{Npb, Npir, Npis, Npnb, Npqb, Pb, Pick, Pir, Pis, Pnb, Pqb};
@@ -58,7 +58,7 @@ impl AnySeat {
         ensures taken { IfTakenAt call wish self.old result.code result.granted self.new }
     {
         match self {
-            AnySeat::Empty => Reply::refused(Fault::Closed),
+            AnySeat::Empty => Reply::refused(Refusal::Closed),
             AnySeat::Pb(seat) => seat.ask(call, wish),
             AnySeat::Npb(seat) => seat.ask(call, wish),
             AnySeat::Pnb(seat) => seat.ask(call, wish),
@@ -79,7 +79,7 @@ impl AnySeat {
         ensures come { IfComesAt self.old result self.new }
     {
         match self {
-            AnySeat::Empty => Fault::Closed.number(),
+            AnySeat::Empty => Refusal::Closed.number(),
             AnySeat::Pb(seat) => seat.come(),
             AnySeat::Npb(seat) => seat.come(),
             AnySeat::Pnb(seat) => seat.come(),
@@ -101,7 +101,7 @@ impl AnySeat {
         ensures taken { IfTakenAt Call.Leave wish self.old result.code result.granted self.new }
     {
         match self {
-            AnySeat::Empty => Reply::refused(Fault::Closed),
+            AnySeat::Empty => Reply::refused(Refusal::Closed),
             AnySeat::Pb(seat) => seat.go(wish),
             AnySeat::Npb(seat) => seat.go(wish),
             AnySeat::Pnb(seat) => seat.go(wish),
@@ -122,7 +122,7 @@ impl AnySeat {
         ensures taken { IfTakenAt (Call.Broadcast cond) pick.Waiter self.old result.code result.granted self.new }
     {
         match self {
-            AnySeat::Empty => Reply::refused(Fault::Closed),
+            AnySeat::Empty => Reply::refused(Refusal::Closed),
             AnySeat::Pnb(seat) => seat.broadcast(cond),
             AnySeat::Npnb(seat) => seat.broadcast(cond),
             AnySeat::Pb(_)
@@ -132,7 +132,7 @@ impl AnySeat {
             | AnySeat::Pir(_)
             | AnySeat::Npir(_)
             | AnySeat::Pis(_)
-            | AnySeat::Npis(_) => Reply::refused(Fault::NotOfKind),
+            | AnySeat::Npis(_) => Reply::refused(Refusal::NotOfKind),
         }
     }
 
@@ -143,7 +143,7 @@ impl AnySeat {
         ensures taken { IfTakenAt (Call.SignalWait cond wait_cond) wish self.old result.code result.granted self.new }
     {
         match self {
-            AnySeat::Empty => Reply::refused(Fault::Closed),
+            AnySeat::Empty => Reply::refused(Refusal::Closed),
             AnySeat::Pir(seat) => seat.signal_wait(cond, wait_cond, wish),
             AnySeat::Npir(seat) => seat.signal_wait(cond, wait_cond, wish),
             AnySeat::Pb(_)
@@ -153,7 +153,7 @@ impl AnySeat {
             | AnySeat::Pqb(_)
             | AnySeat::Npqb(_)
             | AnySeat::Pis(_)
-            | AnySeat::Npis(_) => Reply::refused(Fault::NotOfKind),
+            | AnySeat::Npis(_) => Reply::refused(Refusal::NotOfKind),
         }
     }
 
@@ -219,7 +219,7 @@ impl AnySeat {
         ensures { IsCountOf (booked self.now) cond result }
     {
         match self {
-            AnySeat::Empty => i64::from(Fault::Closed.number()),
+            AnySeat::Empty => i64::from(Refusal::Closed.number()),
             AnySeat::Pb(seat) => seat.waiting(cond),
             AnySeat::Npb(seat) => seat.waiting(cond),
             AnySeat::Pnb(seat) => seat.waiting(cond),
@@ -234,12 +234,12 @@ impl AnySeat {
     }
 
     /// The text of the history up to now, or why there is none.
-    pub fn text(&self, alloc: Global) -> Result<Vec<u8>, Fault>
+    pub fn text(&self, alloc: Global) -> Result<Vec<u8>, Refusal>
         ensures text { IfOk result (λ v. HasTextBooked (booked self.now) v.items) }
-        ensures refused { IfErr result (λ f. IsTextFaultOf (booked self.now) f) }
+        ensures refused { IfErr result (λ f. IsTextRefusalOf (booked self.now) f) }
     {
         match self {
-            AnySeat::Empty => Err(Fault::Closed),
+            AnySeat::Empty => Err(Refusal::Closed),
             AnySeat::Pb(seat) => seat.text(alloc),
             AnySeat::Npb(seat) => seat.text(alloc),
             AnySeat::Pnb(seat) => seat.text(alloc),

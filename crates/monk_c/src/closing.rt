@@ -2,11 +2,11 @@
 ghost use Rattle.std.specs.Prelude.{◌≡◌};
 ghost use Rattle.monk_c.specs.Closing.{IfCloseRefused, IfClosed, refusal_of_seats};
 
-use crate::fault::Fault;
 use crate::handle::MonkSeat;
+use crate::refusal::Refusal;
 
 /// Why the monitor can't be closed through any handle, if it can't.
-fn refusal_of_seats(handles: &mut [MonkSeat]) -> Option<Fault>
+fn refusal_of_seats(handles: &mut [MonkSeat]) -> Option<Refusal>
     ensures same { handles.new ≡ handles.old }
     ensures refusal { result ≡ refusal_of_seats handles.old }
 {
@@ -14,7 +14,7 @@ fn refusal_of_seats(handles: &mut [MonkSeat]) -> Option<Fault>
     let mut at = 0;
     while at < handles.len() {
         match handles[at].place() {
-            0 => return Some(Fault::Closed),
+            0 => return Some(Refusal::Closed),
             1 => {}
             _ => are_outside = false,
         }
@@ -23,7 +23,7 @@ fn refusal_of_seats(handles: &mut [MonkSeat]) -> Option<Fault>
     if are_outside {
         None
     } else {
-        Some(Fault::NotNow)
+        Some(Refusal::NotNow)
     }
 }
 
@@ -33,10 +33,10 @@ pub fn close(handles: &mut [MonkSeat], by: usize) -> i32
     ensures closed { IfClosed handles.old by result handles.new }
 {
     if by >= handles.len() {
-        return Fault::Range.number();
+        return Refusal::Range.number();
     }
     match refusal_of_seats(handles) {
-        Some(fault) => fault.number(),
+        Some(refusal) => refusal.number(),
         None => handles[by].come(),
     }
 }

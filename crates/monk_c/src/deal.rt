@@ -2,10 +2,10 @@
 ghost use Rattle.std.specs.Prelude.{◌≡◌, ◌≤◌, ◌+◌, length, All, IfSome, IfOk, IfErr, MatchOption};
 ghost use Rattle.std.specs.Arc.{arc_value};
 ghost use Rattle.monk_hall.specs.Rule.{setting_of};
-ghost use Rattle.monk_c.specs.Dealing.{ArePasses, IsMadeOf, IsMakeFault, first_bits, fresh_view};
+ghost use Rattle.monk_c.specs.Dealing.{ArePasses, IsMadeOf, IsMakeRefusal, first_bits, fresh_view};
 
-use crate::fault::Fault;
 use crate::numbers::Numbers;
+use crate::refusal::Refusal;
 use crate::room::Room;
 use crate::seat::{Seat, Shared};
 use crate::token::SeatToken;
@@ -62,11 +62,11 @@ fn headed<K: Kind>(hall: Hall<K, Flags>, numbers: Numbers) -> Option<Room<K>>
 }
 
 /// A hall and its passes.
-fn open<K: Kind>(alloc: Global, numbers: Numbers) -> Result<(Room<K>, Vec<Pass<K, Flags>>), Fault>
+fn open<K: Kind>(alloc: Global, numbers: Numbers) -> Result<(Room<K>, Vec<Pass<K, Flags>>), Refusal>
     ensures made { IfOk result (λ r. IsMadeOf numbers r.0) }
     ensures count { IfOk result (λ r. length r.1.items ≡ numbers.seats) }
     ensures passes { IfOk result (λ r. ArePasses r.0 r.1.items) }
-    ensures refused { IfErr result (λ f. IsMakeFault numbers f) }
+    ensures refused { IfErr result (λ f. IsMakeRefusal numbers f) }
 {
     let Numbers {
         seats,
@@ -75,17 +75,17 @@ fn open<K: Kind>(alloc: Global, numbers: Numbers) -> Result<(Room<K>, Vec<Pass<K
         budget,
     } = numbers;
     let Ok(object) = Flags::make(flags.max(1)) else {
-        return Err(Fault::Range);
+        return Err(Refusal::Range);
     };
     match Hall::make(alloc, object, seats, conds, budget) {
         Ok((hall, passes)) => {
             let Some(room) = headed(hall, numbers) else {
-                return Err(Fault::Memory);
+                return Err(Refusal::Memory);
             };
             Ok((room, passes))
         }
-        Err(MakeFault::Memory) => Err(Fault::Memory),
-        Err(_) => Err(Fault::Range),
+        Err(MakeFault::Memory) => Err(Refusal::Memory),
+        Err(_) => Err(Refusal::Range),
     }
 }
 
@@ -108,13 +108,13 @@ fn shared<K: Kind>(
 
 impl<K: Kind> Deal<K> {
     /// Makes a hall.
-    pub fn open(alloc: Global, numbers: Numbers) -> Result<Deal<K>, Fault>
+    pub fn open(alloc: Global, numbers: Numbers) -> Result<Deal<K>, Refusal>
         ensures made { IfOk result (λ d. IsMadeOf numbers d.room × (d.left ≡ numbers.seats)) }
-        ensures refused { IfErr result (λ f. IsMakeFault numbers f) }
+        ensures refused { IfErr result (λ f. IsMakeRefusal numbers f) }
     {
         let (room, passes) = open::<K>(alloc, numbers)?;
         let Some((first, rooms)) = shared(alloc, room, passes.len()) else {
-            return Err(Fault::Memory);
+            return Err(Refusal::Memory);
         };
         Ok(Deal {
             first,

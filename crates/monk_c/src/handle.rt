@@ -5,13 +5,13 @@ ghost use Rattle.monk_c.specs.Coming.{IfComesAt};
 ghost use Rattle.monk_c.specs.Handles.{IfRefusedAt, IfTakenAt, IfUntoldAt, booked};
 ghost use Rattle.monk_c.specs.Looking.{IsCountOf};
 ghost use Rattle.monk_c.specs.Refusal.{is_plain};
-ghost use Rattle.monk_c.specs.Texts.{HasTextBooked, IsTextFaultOf};
+ghost use Rattle.monk_c.specs.Texts.{HasTextBooked, IsTextRefusalOf};
 ghost use Rattle.monk_c.specs.SeatQuestions.{IsLeft, place_at, word_at};
 ghost use Rattle.monk_c.specs.declared.any_seat.AnySeat.{AnySeat as Held};
 
 use crate::any_seat::AnySeat;
 use crate::call::Call;
-use crate::fault::Fault;
+use crate::refusal::Refusal;
 use crate::reply::Reply;
 use monk_kinds::Pick;
 use std::alloc::Global;
@@ -54,8 +54,10 @@ impl MonkSeat {
         self.held().ask(call, wish)
     }
 
-    /// Comes to the monitor, and in where it may. The place where it stands then, or why it can't come. Two exports call it: with one
-    /// copy of it the move of the seat has one caller, and is inlined there.
+    /// Comes to the monitor, and in where it may. The place where it stands then, or why it can't come.
+    ///
+    /// Two exports call it. It isn't inlined into them, because the move of the seat is inlined here only if it has one
+    /// caller, and otherwise an arrival takes more than twice the instructions.
     #[inline(never)]
     pub fn come(&mut self) -> i32
         ensures same { self.new ≡ record self.old { has = self.new.has } }
@@ -131,10 +133,10 @@ impl MonkSeat {
     }
 
     /// The text of the history up to now, or why there is none.
-    pub fn text(&mut self, alloc: Global) -> Result<Vec<u8>, Fault>
+    pub fn text(&mut self, alloc: Global) -> Result<Vec<u8>, Refusal>
         ensures same { self.new ≡ self.old }
         ensures text { IfOk result (λ v. HasTextBooked (booked self.old.has) v.items) }
-        ensures refused { IfErr result (λ f. IsTextFaultOf (booked self.old.has) f) }
+        ensures refused { IfErr result (λ f. IsTextRefusalOf (booked self.old.has) f) }
     {
         self.held().text(alloc)
     }

@@ -1,4 +1,7 @@
-// `held` has a file of its own: its clause names the row of `MonkSeat`, which the file that declares `MonkSeat` can't import.
+//! How a handle lends what it has.
+//!
+//! It has a file of its own, because its clause names the row of `MonkSeat`. The file that declares `MonkSeat` can't
+//! import that.
 ghost use Rattle.std.specs.Prelude.{◌≡◌};
 ghost use types.Logic.{sem};
 ghost use Rattle.monk_c.specs.Lending.{LendsHeld};

@@ -26,13 +26,13 @@ mod call;
 mod closing;
 mod crossing;
 mod deal;
-mod fault;
 mod handle;
 mod held;
 mod looking;
 mod making;
 mod modes;
 mod numbers;
+mod refusal;
 mod reply;
 mod room;
 mod seat;
@@ -43,9 +43,9 @@ mod told;
 use crate::any_seat::AnySeat;
 use crate::call::Call;
 use crate::closing::close;
-use crate::fault::Fault;
 use crate::handle::MonkSeat;
 use crate::making::make;
+use crate::refusal::Refusal;
 use monk_kinds::Pick;
 use std::alloc::Global;
 use std::mem::size_of;
@@ -86,7 +86,7 @@ pub extern "C" fn monk_k_make(
 {
     match make(alloc, kind, conds, flags, budget, seats) {
         Ok(()) => 0,
-        Err(fault) => fault.number(),
+        Err(refusal) => refusal.number(),
     }
 }
 
@@ -291,7 +291,7 @@ pub extern "C" fn monk_k_history(alloc: Global, seat: &mut MonkSeat, out: &mut [
 {
     match seat.text(alloc) {
         Ok(text) => tell(&text, out),
-        Err(fault) => i64::from(fault.number()),
+        Err(refusal) => i64::from(refusal.number()),
     }
 }
 
@@ -300,7 +300,7 @@ fn tell(text: &[u8], out: &mut [u8]) -> i64
     ensures { IsPut text.now result out.old out.new }
 {
     let Ok(length) = i64::try_from(text.len()) else {
-        return i64::from(Fault::Memory.number());
+        return i64::from(Refusal::Memory.number());
     };
     if text.len() <= out.len() {
         out[..text.len()].copy_from_slice(text);

@@ -1,10 +1,10 @@
 //! What a seat that is inside sees.
 ghost use Rattle.std.specs.Prelude.{IfOk, IfErr};
 ghost use Rattle.monk_c.specs.Looking.{IsCount};
-ghost use Rattle.monk_c.specs.Texts.{HasTextAt, IsTextFault};
+ghost use Rattle.monk_c.specs.Texts.{HasTextAt, IsTextRefusal};
 
-use crate::fault::Fault;
 use crate::modes::has_conditions;
+use crate::refusal::Refusal;
 use crate::seat::Seat;
 use crate::token::SeatToken;
 use monk_history::{Device, write};
@@ -17,24 +17,24 @@ impl<K: Kind> Seat<K> {
         ensures { IsCount K.rules.mode self.now cond result }
     {
         if !has_conditions(rules_of::<K>().mode) {
-            return i64::from(Fault::NotOfKind.number());
+            return i64::from(Refusal::NotOfKind.number());
         }
         if cond >= self.room().conds() {
-            return i64::from(Fault::Range.number());
+            return i64::from(Refusal::Range.number());
         }
         match self.token() {
             SeatToken::Inside(active) => i64::from(active.waiting(cond)),
-            _ => i64::from(Fault::NotNow.number()),
+            _ => i64::from(Refusal::NotNow.number()),
         }
     }
 
     /// The text of the history up to now.
-    pub fn text(&self, alloc: Global) -> Result<Vec<u8>, Fault>
+    pub fn text(&self, alloc: Global) -> Result<Vec<u8>, Refusal>
         ensures text { IfOk result (λ v. HasTextAt K.NAME self.now.room self.now.at v.items) }
-        ensures refused { IfErr result (λ f. IsTextFault self.now.at f) }
+        ensures refused { IfErr result (λ f. IsTextRefusal self.now.at f) }
     {
         let SeatToken::Inside(active) = self.token() else {
-            return Err(Fault::NotNow);
+            return Err(Refusal::NotNow);
         };
         // (its floor has the hall's numbers)
         let _ = active.left();
@@ -42,7 +42,7 @@ impl<K: Kind> Seat<K> {
         let mut page = Device::new(Vec::new(alloc));
         match write(&header, active.history(), &mut page) {
             Ok(()) => Ok(page.into_inner()),
-            Err(_) => Err(Fault::Memory),
+            Err(_) => Err(Refusal::Memory),
         }
     }
 }

@@ -4,9 +4,9 @@ ghost use Rattle.monk_c.specs.Deals.{deal_in, kind_dealt};
 ghost use Rattle.monk_c.specs.Making.{AreFresh, MadeOf, kind_of, numbers_for};
 
 use crate::any_deal::AnyDeal;
-use crate::fault::Fault;
 use crate::handle::MonkSeat;
 use crate::numbers::Numbers;
+use crate::refusal::Refusal;
 use monk_kinds::KindName;
 use std::alloc::Global;
 
@@ -42,14 +42,14 @@ pub fn make(
     flags: u8,
     budget: u32,
     handles: &mut [MonkSeat],
-) -> Result<(), Fault>
+) -> Result<(), Refusal>
     ensures { MadeOf (kind_of kind) (numbers_for conds flags budget handles.old) handles.old result handles.new }
 {
     let Some(name) = kind_name(kind) else {
-        return Err(Fault::Range);
+        return Err(Refusal::Range);
     };
     let Ok(seats) = u8::try_from(handles.len()) else {
-        return Err(Fault::Range);
+        return Err(Refusal::Range);
     };
     let numbers = Numbers {
         seats,

@@ -1,8 +1,8 @@
 //! What C is answered.
 ghost use Rattle.std.specs.Prelude.{◌≡◌};
-ghost use Rattle.monk_c.specs.Answers.{fault_number};
+ghost use Rattle.monk_c.specs.Answers.{refusal_number};
 
-use crate::fault::Fault;
+use crate::refusal::Refusal;
 
 /// A number for C, and the word that was granted: 0 for none.
 #[derive(Clone, Copy)]
@@ -13,11 +13,11 @@ pub struct Reply {
 
 impl Reply {
     /// That the call was refused.
-    pub fn refused(fault: Fault) -> Reply
-        ensures { (result.code ≡ fault_number fault) × (result.granted ≡ 0) }
+    pub fn refused(refusal: Refusal) -> Reply
+        ensures { (result.code ≡ refusal_number refusal) × (result.granted ≡ 0) }
     {
         Reply {
-            code: fault.number(),
+            code: refusal.number(),
             granted: 0,
         }
     }

@@ -16,7 +16,7 @@ ghost use Rattle.monk_c.specs.Taken.{Answers, IfRefused, IfTaken, IfUntold};
 ghost use Rattle.monk_c.specs.SeatQuestions.{word_of};
 
 use crate::call::Call;
-use crate::fault::Fault;
+use crate::refusal::Refusal;
 use crate::reply::Reply;
 use crate::room::Room;
 use crate::token::SeatToken;
@@ -110,20 +110,20 @@ impl<K: Kind> Seat<K> {
 
     /// Why the call is refused, if it is.
     #[inline(always)]
-    fn refusal(&self, call: Call) -> Option<Fault>
+    fn refusal(&self, call: Call) -> Option<Refusal>
         ensures { result ≡ refusal_of K.rules.mode self.now call }
     {
         if !call.is_of(rules_of::<K>().mode) {
-            return Some(Fault::NotOfKind);
+            return Some(Refusal::NotOfKind);
         }
         if !call.is_within(self.room.conds(), self.room.flags) {
-            return Some(Fault::Range);
+            return Some(Refusal::Range);
         }
         if !self.token.is_from(call) {
-            return Some(Fault::NotNow);
+            return Some(Refusal::NotNow);
         }
         if self.token.left() < call.wants() {
-            return Some(Fault::Spent);
+            return Some(Refusal::Spent);
         }
         None
     }
@@ -179,7 +179,7 @@ impl<K: Kind> Seat<K> {
         ensures taken { IfTaken K.rules call wish self.old result.code result.granted self.new }
     {
         match self.refusal(call) {
-            Some(fault) => Reply::refused(fault),
+            Some(refusal) => Reply::refused(refusal),
             None => mem::replace_with(
                 self,
                 (call, wish),
@@ -192,14 +192,15 @@ impl<K: Kind> Seat<K> {
 }
 
 impl<K: Kind> Seat<K> {
-    /// Comes to the monitor, and in where it may, or is refused. It is `ask` twice, in one move of the seat.
+    /// Comes to the monitor, and in where it may, or is refused. It does what `ask` does for an arrival and then for a
+    /// poll, and moves the seat once.
     #[inline(always)]
     pub fn come(&mut self) -> i32
         ensures refused { IfRefused K.rules Call.Arrive self.old result self.new }
         ensures come { IfComes K.rules self.old result self.new }
     {
         match self.refusal(Call::Arrive) {
-            Some(fault) => fault.number(),
+            Some(refusal) => refusal.number(),
             None => mem::replace_with(
                 self,
                 (),
@@ -210,7 +211,7 @@ impl<K: Kind> Seat<K> {
         }
     }
 
-    /// Leaves the monitor, or is refused. It is `ask` for one call, so that the call is known where it is compiled.
+    /// Leaves the monitor, or is refused. It does what `ask` does for this call, which is known where it is compiled.
     #[inline(always)]
     pub fn go(&mut self, wish: Pick) -> Reply
         ensures refused { IfRefused K.rules Call.Leave self.old result.code self.new }
@@ -218,7 +219,7 @@ impl<K: Kind> Seat<K> {
         ensures taken { IfTaken K.rules Call.Leave wish self.old result.code result.granted self.new }
     {
         match self.refusal(Call::Leave) {
-            Some(fault) => Reply::refused(fault),
+            Some(refusal) => Reply::refused(refusal),
             None => mem::replace_with(
                 self,
                 wish,
@@ -238,7 +239,7 @@ impl<K: NonBlocking> Seat<K> {
         ensures taken { IfTaken K.rules (Call.Broadcast cond) pick.Waiter self.old result.code result.granted self.new }
     {
         match self.refusal(Call::Broadcast(cond)) {
-            Some(fault) => Reply::refused(fault),
+            Some(refusal) => Reply::refused(refusal),
             None => mem::replace_with(
                 self,
                 cond,
@@ -259,7 +260,7 @@ impl<K: ImmediateReturn> Seat<K> {
             (Call.SignalWait cond wait_cond) wish self.old result.code result.granted self.new }
     {
         match self.refusal(Call::SignalWait(cond, wait_cond)) {
-            Some(fault) => Reply::refused(fault),
+            Some(refusal) => Reply::refused(refusal),
             None => mem::replace_with(
                 self,
                 (cond, wait_cond, wish),

@@ -65,9 +65,9 @@ number_tried E G bits o r name f only is none value = go (one_text f name) refl 
         record { text = t; found = sym (one_text-rows f name) ∙ e; digits = read.0.0; number = read.1 }
 
 pub monk_is_simple : (fitted explained : KindNames) (drawn completed : RunChoices) (run recorded : RunNames)
-    → is_simple (monk_app fitted explained drawn completed run recorded) ≡ true
+    (hasty : KindNames) → is_simple (monk_app fitted explained drawn completed run recorded hasty) ≡ true
 unfolding clap_on_literals
-monk_is_simple fitted explained drawn completed run recorded = refl
+monk_is_simple fitted explained drawn completed run recorded hasty = refl
 
 -- what a test that is exact says of what it has found
 pub found_exactly : (A : Type 0) (o : Option A) (F G : A → Type 0) → ((x : A) → (o ≡ Some x) ↔ F x)

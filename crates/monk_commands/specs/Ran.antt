@@ -6,12 +6,12 @@ use Rattle.monk_kinds.specs.declared.name.KindName.{KindName}
 use Rattle.monk_history.specs.Text.{Heading}
 use Rattle.monk_history.specs.declared.event.Event.{Event}
 use Rattle.monk_samples.specs.Runs.{HasLeft, IsFaultOfRun}
-use Rattle.monk_samples.specs.Samples.{IsOutcome}
-use Rattle.monk_samples.specs.Totals.{HasTotals, missed_in}
+use Rattle.monk_samples.specs.Samples.{IsOutcome, Played, patiently}
+use Rattle.monk_samples.specs.Totals.{HasTotals}
 use Rattle.monk_samples.specs.declared.run_fault.RunFault.{RunFault}
 use Rattle.monk_samples.specs.declared.run_fault.RunFault.TheVariants.{Range, Memory, Tired, Late, Busy, Thread}
 use Rattle.monk_samples.specs.declared.sample.Sample.{Sample}
-use Rattle.monk_samples.specs.declared.sample.Sample.TheVariants.{Buffer, Book, Shop, Hasty}
+use Rattle.monk_samples.specs.declared.sample.Sample.TheVariants.{Buffer, Book, Shop}
 
 -- a word and a number, or two
 abbrev pub count_line : List ℕ → ℕ → List ℕ
@@ -21,7 +21,7 @@ count_line word n = word ++ codes " " ++ decimal n ++ codes "\n"
 abbrev pub pair_line : List ℕ → ℕ → ℕ → List ℕ
 pair_line word n m = word ++ codes " " ++ decimal n ++ codes " " ++ decimal m ++ codes "\n"
 
--- the lines that tell the totals of a legal run, and of a hasty one how many acts were refused
+-- the lines that tell the totals of a legal run
 abbrev pub buffer_text : List ℕ → List ℕ
 buffer_text t = pair_line (codes "put") (slice_index t 0) (slice_index t 1)
     ++ pair_line (codes "taken") (slice_index t 2) (slice_index t 3) ++ codes "legal\n"
@@ -38,18 +38,11 @@ shop_text t =
     ++ count_line (codes "finished") (slice_index t 2) ++ count_line (codes "departed") (slice_index t 3)
     ++ codes "legal\n"
 
--- the totals of hasty threads, with the tries that missed
-abbrev pub hasty_text : List ℕ → ℕ → List ℕ
-hasty_text t missed = pair_line (codes "put") (slice_index t 0) (slice_index t 1)
-    ++ pair_line (codes "taken") (slice_index t 2) (slice_index t 3) ++ count_line (codes "missed") missed
-    ++ codes "legal\n"
-
 -- the totals of a sample
-abbrev pub totals_text : Sample → List ℕ → ℕ → List ℕ
-totals_text Buffer t missed = buffer_text t
-totals_text Book t missed = book_text t
-totals_text Shop t missed = shop_text t
-totals_text Hasty t missed = hasty_text t missed
+abbrev pub totals_text : Sample → List ℕ → List ℕ
+totals_text Buffer t = buffer_text t
+totals_text Book t = book_text t
+totals_text Shop t = shop_text t
 
 -- the gate of the program's runs has let every seat into every round
 abbrev pub lets_in : ℕ → ℕ → Bool → Type 0
@@ -60,11 +53,11 @@ lets_in seat round answer = answer ≡ true
 pub record IsTold (k : KindName) (sample : Sample) (seats rounds : ℕ) (Puts : List ℕ → Type 0) : Type 0 where
   pub heading : Heading
   pub history : List Event
-  pub served : HasLeft (rules_named k) lets_in sample seats rounds history
+  pub served : HasLeft (rules_named k) lets_in (patiently sample) seats rounds history
   pub totals : List ℕ
-  pub outcome : IsOutcome k sample seats heading history totals
+  pub outcome : IsOutcome k (patiently sample) seats heading history totals
   pub totals_are : HasTotals sample seats rounds totals
-  pub told : Puts (totals_text sample totals (missed_in history))
+  pub told : Puts (totals_text sample totals)
 
 -- the line that tells how a run has ended that left nothing; of want of memory, and of a thread that was not started,
 -- none is told, since the stream itself fails
@@ -77,14 +70,18 @@ end_word Thread = None
 end_word Range = None
 
 -- a run has ended without totals, and its end is told
-pub record IsEnd (k : KindName) (sample : Sample) (seats rounds : ℕ) (Puts : List ℕ → Type 0) : Type 0 where
+pub record IsEnd (k : KindName) (s : Played) (seats rounds : ℕ) (Puts : List ℕ → Type 0) : Type 0 where
   pub fault : RunFault
-  pub why : IsFaultOfRun (rules_named k) lets_in sample seats rounds fault
+  pub why : IsFaultOfRun (rules_named k) lets_in s seats rounds fault
   pub word : List ℕ
   pub is : end_word fault ≡ Some word
   pub told : Puts word
 
+-- a run has ended since a thread of it was not started: then the stream itself fails
+abbrev pub IsUnstarted : KindName → Played → ℕ → ℕ → Type 0
+IsUnstarted k s seats rounds = IsFaultOfRun (rules_named k) lets_in s seats rounds Thread
+
 -- the answer of a run: its totals, or how it ended without them
 abbrev pub IsRunAnswer : KindName → Sample → ℕ → ℕ → ℕ → (List ℕ → Type 0) → Type 0
 IsRunAnswer k sample seats rounds status Puts =
-    ((status ≡ 0) × IsTold k sample seats rounds Puts) ⊎ ((status ≡ 1) × IsEnd k sample seats rounds Puts)
+    ((status ≡ 0) × IsTold k sample seats rounds Puts) ⊎ ((status ≡ 1) × IsEnd k (patiently sample) seats rounds Puts)

@@ -24,11 +24,11 @@ use Rattle.monk_logs.specs.RunFound.{order_of}
 use Rattle.monk_object.specs.Names.{object_word}
 use Rattle.monk_samples.specs.Samples.{IsInRange, sample_object}
 use Rattle.monk_samples.specs.declared.sample.Sample.{Sample}
-use Rattle.monk_samples.specs.declared.sample.Sample.TheVariants.{Buffer, Book, Shop, Hasty}
+use Rattle.monk_samples.specs.declared.sample.Sample.TheVariants.{Buffer, Book, Shop}
 use Rattle.monk_commands.specs.declared.request.Line.{Line}
 use Rattle.monk_commands.specs.declared.request.Line.TheVariants.{Classify, Audit, Play, Upgrade, Fit, FitKind}
 use Rattle.monk_commands.specs.declared.request.Line.TheVariants.{Trace, Explain, ExplainKind, Draw, DrawRun, Page}
-use Rattle.monk_commands.specs.declared.request.Line.TheVariants.{Complete, CompleteRun, Run, Record}
+use Rattle.monk_commands.specs.declared.request.Line.TheVariants.{Complete, CompleteRun, Run, Record, Hasty}
 
 -- a word that must stand there, and that the parser takes
 abbrev pub required_rule : Text → ValueParser → Rule
@@ -57,16 +57,13 @@ pub record KindNames : Type 0 where
   pub kinds : NameList
   pub all_kinds : words_in kinds ≡ map kind_word monitor_kinds
 
--- a sample is called as its object is, but for the hasty one
+-- a sample is called as its object is
 abbrev pub sample_word : Sample → Text
-sample_word Buffer = object_word (sample_object Buffer)
-sample_word Book = object_word (sample_object Book)
-sample_word Shop = object_word (sample_object Shop)
-sample_word Hasty = codes "hasty"
+sample_word sample = object_word (sample_object sample)
 
 -- each sample once
 abbrev pub every_sample : List Sample
-every_sample = Buffer ∷ Book ∷ Shop ∷ Hasty ∷ []
+every_sample = Buffer ∷ Book ∷ Shop ∷ []
 
 -- lists that have exactly the names of the kinds and of the samples
 pub record RunNames : Type 0 where
@@ -82,6 +79,15 @@ run_app name n =
     (required_rule (codes "SAMPLE") (Names n.samples)))
     (required_rule (codes "SEATS") (Signed (pos 2) (pos 16))))
     (required_rule (codes "ROUNDS") (Signed (pos 1) (pos 1000)))
+
+-- the command that takes a kind, how many seats and rounds, and a file or none
+abbrev pub hasty_app : KindNames → App
+hasty_app n =
+    with_rule (with_rule (with_rule (with_rule (new_app (codes "hasty"))
+    (required_rule (codes "KIND") (Names n.kinds)))
+    (required_rule (codes "SEATS") (Signed (pos 2) (pos 16))))
+    (required_rule (codes "ROUNDS") (Signed (pos 1) (pos 1000))))
+    (new_rule (codes "FILE"))
 
 -- a command of that name that takes a file
 abbrev pub file_app : Text → App
@@ -188,11 +194,12 @@ plain_app fitted =
     (file_app (codes "trace")).top
 
 -- the program with its commands
-abbrev pub monk_app : KindNames → KindNames → RunChoices → RunChoices → RunNames → RunNames → App
-monk_app fitted explained drawn completed run recorded =
+abbrev pub monk_app : KindNames → KindNames → RunChoices → RunChoices → RunNames → RunNames → KindNames → App
+monk_app fitted explained drawn completed run recorded hasty =
     with_subcommand (with_subcommand (with_subcommand (with_subcommand (with_subcommand (with_subcommand
-    (plain_app fitted) (explain_app explained).top) (draw_app drawn).top) (window_app (codes "page")).top)
-    (complete_app completed).top) (run_app (codes "run") run).top) (run_app (codes "record") recorded).top
+    (with_subcommand (plain_app fitted) (explain_app explained).top) (draw_app drawn).top)
+    (window_app (codes "page")).top) (complete_app completed).top) (run_app (codes "run") run).top)
+    (run_app (codes "record") recorded).top) (hasty_app hasty).top
 
 -- the command line of the program
 pub record IsMonk (a : App) : Type 0 where
@@ -202,7 +209,8 @@ pub record IsMonk (a : App) : Type 0 where
   pub completed : RunChoices
   pub run : RunNames
   pub recorded : RunNames
-  pub is : a ≡ monk_app fitted explained drawn completed run recorded
+  pub hasty : KindNames
+  pub is : a ≡ monk_app fitted explained drawn completed run recorded hasty
 
 -- the command is the program with the commands that need no kind
 pub record IsPlainMonk (c : Command) : Type 0 where
@@ -237,6 +245,11 @@ pub record IsRunCommand (name : Text) (c : Command) : Type 0 where
   pub names : RunNames
   pub is : IsSubcommand c (run_app name names)
 
+-- the command is `hasty`
+pub record IsHastyCommand (c : Command) : Type 0 where
+  pub names : KindNames
+  pub is : IsSubcommand c (hasty_app names)
+
 -- the command that a line is for
 abbrev pub command_word : Line → Text
 command_word (Classify e w s) = codes "classify"
@@ -255,6 +268,7 @@ command_word (Complete kind file) = codes "complete"
 command_word (CompleteRun kind order file) = codes "complete"
 command_word (Run kind sample seats rounds) = codes "run"
 command_word (Record kind sample seats rounds) = codes "record"
+command_word (Hasty kind seats rounds file) = codes "hasty"
 
 -- a whole number in digits that clap has found for a name, in the rows of a command
 pub record HasNumber (name : Text) (n : ℕ) (rows : List Row) : Type 0 where
@@ -314,12 +328,16 @@ abbrev pub AreLogValues : Lapses → List WaitsFor → List Row → Type 0
 AreLogValues lapses means rows =
     AreLapses lapses rows × AreMeanings (words_or_none (all_of (codes "means") rows)) means
 
--- a kind, a sample, seats and rounds are those that clap has found
+-- seats and rounds are those that clap has found
+abbrev pub AreSizes : ℕ → ℕ → List Row → Type 0
+AreSizes seats rounds rows = HasNumber (codes "SEATS") seats rows × HasNumber (codes "ROUNDS") rounds rows
+
+-- a kind, a sample, seats and rounds are
 abbrev pub AreRunValues : KindName → Sample → ℕ → ℕ → List Row → Type 0
 AreRunValues kind sample seats rounds rows =
     (first_of (codes "KIND") rows ≡ Some (kind_word kind))
     × (first_of (codes "SAMPLE") rows ≡ Some (sample_word sample))
-    × HasNumber (codes "SEATS") seats rows × HasNumber (codes "ROUNDS") rounds rows
+    × AreSizes seats rounds rows
 
 -- the order of a run is the one of that word, and where no word names one the widest
 abbrev pub IsOrderOrAny : RunOrder → Option Text → Type 0
@@ -359,6 +377,8 @@ ValuesAre (CompleteRun kind order file) rows = (first_of (codes "KIND") rows ≡
     × (first_of (codes "FILE") rows ≡ option_map string_bytes file)
 ValuesAre (Run kind sample seats rounds) rows = AreRunValues kind sample seats rounds rows
 ValuesAre (Record kind sample seats rounds) rows = AreRunValues kind sample seats rounds rows
+ValuesAre (Hasty kind seats rounds file) rows = (first_of (codes "KIND") rows ≡ Some (kind_word kind))
+    × AreSizes seats rounds rows × (first_of (codes "FILE") rows ≡ option_map string_bytes file)
 
 -- a run is asked for within its ranges alone
 abbrev pub RunIsInRange : Line → Type 0
@@ -378,6 +398,7 @@ RunIsInRange (Complete kind file) = Unit {0}
 RunIsInRange (CompleteRun kind order file) = Unit {0}
 RunIsInRange (Run kind sample seats rounds) = IsInRange seats rounds
 RunIsInRange (Record kind sample seats rounds) = IsInRange seats rounds
+RunIsInRange (Hasty kind seats rounds file) = IsInRange seats rounds
 
 -- the line is what the rows of this command ask for
 pub record IsRead (word : Text) (l : Line) (rows : List Row) : Type 0 where

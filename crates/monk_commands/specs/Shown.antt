@@ -1,5 +1,5 @@
 -- The answer to a history that is shown, by a picture or by a page: with the status of its audit
-use Rattle.std.specs.Prelude.{◌≡◌, ◌≢◌, ℕ, ◌<◌, ◌≤◌, ◌^◌, ◌⊎◌, Bool, false, true, List, [], ◌++◌, length}
+use Rattle.std.specs.Prelude.{◌≡◌, ◌≢◌, ℕ, ◌<◌, ◌≤◌, ◌^◌, ◌⊎◌, Bool, false, true, List, ◌++◌, length}
 use Rattle.std.specs.Prelude.{Option, Some, None, Result, Ok, Err, codes}
 use Rattle.std.specs.Fmt.{decimal}
 use Rattle.monk_object.specs.Names.{most}
@@ -8,10 +8,8 @@ use Rattle.monk_history.specs.declared.text.fault.ReadFault.{ReadFault}
 use Rattle.monk_history.specs.Meaning.Named.{named_monitor}
 use Rattle.monk_history.specs.Text.{Heading}
 use Rattle.monk_history.specs.Text.Reading.{History, text_at}
-use Rattle.monk_audit.specs.Reasons.{numbered}
-use Rattle.monk_audit.specs.declared.reason.Reason.{Reason}
-use Rattle.monk_audit.specs.declared.reason.Reason.TheVariants.{Range, Call, Turn, Place, Reply, Choice}
 use Rattle.monk_audit.specs.Verdict.{verdict_of}
+use Rattle.monk_audit.specs.Words.{caption_by}
 use Rattle.monk_audit.specs.declared.verdict.Verdict.{Verdict}
 use Rattle.monk_audit.specs.declared.verdict.Verdict.TheVariants.{Legal, Forbidden}
 use Rattle.monk_draw.specs.Picture.{picture}
@@ -28,20 +26,6 @@ abbrev pub forbidden_step : Verdict → Option ℕ
 forbidden_step (Legal n) = None
 forbidden_step (Forbidden step reason) = Some step
 
--- why a step is forbidden, as a picture says it
-abbrev pub why : Reason → List ℕ
-why Range = codes "range, a number that the monitor doesn't have"
-why Call = codes "call, this kind has no such call"
-why Turn = codes "turn, it is not this seat's turn"
-why Place = codes "place, this seat may not come in here"
-why Reply = codes "reply, the object replies otherwise"
-why Choice = codes "choice, this kind lets another seat go on"
-
--- why a verdict forbids one
-abbrev pub why_of : Verdict → List ℕ
-why_of (Legal n) = []
-why_of (Forbidden step reason) = why (numbered reason)
-
 -- the answer where the events that are asked for are behind the last that can be shown: which one that is
 abbrev pub behind : ℕ → LineAnswer
 behind last = record { status = 2; text = codes "window " ++ (decimal last ++ codes "\n") }
@@ -52,8 +36,8 @@ asks_behind w v events = is_behind w (showable (forbidden_step v) (length events
 
 -- what shows the events that are asked for, up to the one that the verdict forbids: a picture, or a page with it
 abbrev pub shown_text : Show → Option Window → Verdict → Heading → List Event → List ℕ
-shown_text Picture w v h events = picture h events w (forbidden_step v) (why_of v)
-shown_text Page w v h events = page_text h events w (why_of v)
+shown_text Picture w v h events = picture h events w (forbidden_step v) (caption_by v)
+shown_text Page w v h events = page_text h events w
 
 -- with what writing these bytes means: that is written, with the verdict's status
 abbrev pub IsShownBy : Show → Option Window → Verdict → Heading → List Event → ℕ → (List ℕ → Type 0) → Type 0

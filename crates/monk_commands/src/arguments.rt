@@ -5,7 +5,7 @@ ghost use Rattle.clap.specs.Words.{new_rule, rule_of};
 ghost use Rattle.monk_commands.specs.Request.{chosen_rule, files_rule, flag_rule, number_rule, repeated_rule};
 ghost use Rattle.monk_commands.specs.Request.{required_rule};
 
-use crate::help::{FILE, FILES};
+use crate::help::{FILE, FILES, HISTORY};
 use clap::builder::ValueParser;
 use clap::{Arg, ArgAction, value_parser};
 use std::alloc::Global;
@@ -16,6 +16,14 @@ pub(crate) fn file<'a>(alloc: Global) -> Arg<'a>
     ensures local { result.global ≡ false }
 {
     Arg::new(alloc, "FILE").help(FILE)
+}
+
+/// The file that a command writes.
+pub(crate) fn history<'a>(alloc: Global) -> Arg<'a>
+    ensures rule { rule_of result ≡ new_rule (codes "FILE") }
+    ensures local { result.global ≡ false }
+{
+    Arg::new(alloc, "FILE").help(HISTORY)
 }
 
 /// The files that a command reads.

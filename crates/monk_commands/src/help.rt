@@ -121,6 +121,16 @@ pub(crate) static RUN: Help = Help {
         Read: docs/SAMPLES.md",
 };
 
+pub(crate) const HISTORY: &str = "Where to write the history of this very run; with none, nowhere";
+
+pub(crate) static HASTY: Help = Help {
+    about: "Runs a buffer in haste, with an `if` for a `while`, and tells what came too late",
+    example: "Example: monk hasty NPNB 4 200 hasty.history\n\
+        The history is written before anything is printed. `first` is the step of the first refused act.\n\
+        Status: 0 legal, 1 tired, late or busy; 3 wrong words, 4 a failed file or no memory\n\
+        Read: docs/SAMPLES.md",
+};
+
 pub(crate) static RECORD: Help = Help {
     about: "Runs a sample in threads, and writes its history",
     example: "Example: monk record PB shop 4 10\n\

@@ -4,34 +4,38 @@ ghost use Rattle.std.specs.Prelude.{◌≡◌, ◌⊎◌, false, true, Err, IfOk
 ghost use Rattle.std.specs.Io.KnownBytes.{Appends};
 ghost use Rattle.monk_history.specs.Text.{HasText, is_writable, text};
 ghost use Rattle.monk_history.specs.Text.Device.{inner_of, has_failed};
-ghost use Rattle.monk_samples.specs.Samples.{IsInRange};
+ghost use Rattle.monk_samples.specs.Samples.{IsInRange, patiently};
 ghost use Rattle.monk_commands.specs.Played.{IsFoundLegal};
+ghost use Rattle.monk_commands.specs.Ran.{IsUnstarted};
 ghost use Rattle.monk_commands.specs.Recorded.{IsRecordAnswer};
 
 use crate::answer::put;
 use crate::fault::StreamFault;
 use crate::running::{ended, run_named};
-use monk_history::{Device, write};
+use monk_history::{Device, Event, Header, write};
 use monk_kinds::KindName;
-use monk_samples::{Outcome, Sample};
+use monk_samples::Sample;
 use std::alloc::Global;
 use std::io::Write;
 use std::sync::Wait;
 use std::thread::Threads;
 
-/// Writes the text of the history that a run left; the result is the exit status.
-fn put_history<W: Write>(outcome: &Outcome, writer: &mut Device<W>) -> Result<u8, StreamFault>
+/// Writes the text of the history that a run left.
+pub(crate) fn put_history<W: Write>(
+    header: &Header,
+    history: &[Event],
+    writer: &mut Device<W>,
+) -> Result<(), StreamFault>
     requires works { has_failed writer.old ≡ false }
-    requires writable { IsTrue (is_writable outcome.now.header outcome.now.history.items) }
-    ensures zero { IfOk result (λ status. status ≡ 0) }
-    ensures has_text { IfOk result (λ status. HasText outcome.now.header outcome.now.history.items) }
+    requires writable { IsTrue (is_writable header.now history.now) }
+    ensures has_text { IfOk result (λ _. HasText header.now history.now) }
     ensures told { IfOk result
-        (λ status. Appends (W.contents (inner_of writer.old)) (W.contents (inner_of writer.new))
-        (text outcome.now.header outcome.now.history.items)) }
+        (λ _. Appends (W.contents (inner_of writer.old)) (W.contents (inner_of writer.new))
+        (text header.now history.now)) }
     ensures fails { OnErr result ((result ≡ Err StreamFault.File) × (has_failed writer.new ≡ true)) }
 {
-    match write(&outcome.header, &outcome.history, writer) {
-        Ok(()) => Ok(0),
+    match write(header, history, writer) {
+        Ok(()) => Ok(()),
         Err(_) => Err(StreamFault::File),
     }
 }
@@ -51,11 +55,15 @@ fn recorded<R: Threads + Wait + Sync, W: Write>(
     ensures answer { IfOk result
         (λ status. IsRecordAnswer kind sample seats rounds status
         (Appends (W.contents (inner_of writer.old)) (W.contents (inner_of writer.new)))) }
-    ensures file { IsErrOf result StreamFault.File → (has_failed writer.new ≡ true) ⊎ (writer.new ≡ writer.old) }
+    ensures file { IsErrOf result StreamFault.File → (has_failed writer.new ≡ true)
+        ⊎ ((writer.new ≡ writer.old) × IsUnstarted kind (patiently sample) seats rounds) }
     ensures memory { IsErrOf result StreamFault.Memory → writer.new ≡ writer.old }
 {
     match run_named(rt, alloc, kind, sample, seats, rounds) {
-        Ok(outcome) => put_history(&outcome, writer),
+        Ok(outcome) => match put_history(&outcome.header, &outcome.history, writer) {
+            Ok(()) => Ok(0),
+            Err(fault) => Err(fault),
+        },
         Err(fault) => put(&ended(alloc, fault)?, writer),
     }
 }
@@ -95,7 +103,9 @@ pub fn record_stream<R: Threads + Wait + Sync, W: Write>(
     ensures found_legal { IfOk result
         (λ status. status ≡ 0
         → IsFoundLegal (Appends (W.contents (inner_of writer.old)) (W.contents (inner_of writer.new)))) }
-    ensures file { IsErrOf result StreamFault.File → (has_failed writer.new ≡ true) ⊎ (writer.new ≡ writer.old) }
+    // The writer has failed; or it is as it was, and a thread was not started.
+    ensures file { IsErrOf result StreamFault.File → (has_failed writer.new ≡ true)
+        ⊎ ((writer.new ≡ writer.old) × IsUnstarted kind (patiently sample) seats rounds) }
     ensures memory { IsErrOf result StreamFault.Memory → writer.new ≡ writer.old }
 {
     recorded(rt, alloc, kind, sample, seats, rounds, writer)

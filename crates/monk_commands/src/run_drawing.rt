@@ -1,10 +1,11 @@
 //! The stream that draws a log: the text of a log in, a picture of a run that tells it out.
 
-ghost use Rattle.std.specs.Prelude.{◌≡◌, ◌≤◌, ◌^◌, [], false, length, IfOk, IfSome, IsErrOf, string_bytes};
+ghost use Rattle.std.specs.Prelude.{◌≡◌, ◌≤◌, ◌^◌, [], false, true, length, IfOk, IfSome, IsErrOf, string_bytes};
 ghost use Rattle.std.specs.Io.KnownBytes.{Appends};
 ghost use Rattle.monk_object.specs.Names.{most};
 ghost use Rattle.monk_history.specs.Text.Device.{inner_of, has_failed};
 ghost use Rattle.monk_kinds.specs.declared.name.KindName.{KindName};
+ghost use Rattle.monk_draw.specs.Frame.{is_plain_text};
 ghost use Rattle.monk_logs.specs.BoardStand.{board_verdict};
 ghost use Rattle.monk_logs.specs.FitsIn.{IsOpenIn};
 ghost use Rattle.monk_logs.specs.RunFound.{order_of};
@@ -187,6 +188,7 @@ fn picture_by(
     reason: &str,
 ) -> Result<LinesAnswer, StreamFault>
     requires few { length events.now ≤ 2 ^ 25 }
+    requires plain { is_plain_text reason.now ≡ true }
     ensures answer { IfOk result
         (λ a. drawn.IsPictureBy window kind header.now verdict events.now served.now reason.now a.status
         (λ text. a.lines.items ≡ text)) }

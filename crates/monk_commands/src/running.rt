@@ -1,19 +1,22 @@
 //! The stream of a run: a sample at work in threads, an audit of what it left, and its totals.
 
-ghost use Rattle.std.specs.Prelude.{◌≡◌, ◌≢◌, ◌⊎◌, ◌↔◌, false, true, IfErr, IfOk, IsErrOf, Some, string_bytes};
+ghost use Rattle.std.specs.Prelude.{◌≡◌, ◌≢◌, ◌≤◌, ◌^◌, ◌⊎◌, ◌↔◌, false, true, IfErr, IfOk, IsErrOf, Some, length, string_bytes};
 ghost use Rattle.std.specs.Io.KnownBytes.{Appends};
+ghost use Rattle.monk_object.specs.Names.{most};
+ghost use Rattle.monk_history.specs.Meaning.Legal.{IsLegal};
+ghost use Rattle.monk_history.specs.Meaning.Named.{named_monitor};
 ghost use Rattle.monk_history.specs.Text.Device.{inner_of, has_failed};
 ghost use Rattle.monk_kinds.specs.Names.{rules_named};
 ghost use Rattle.monk_samples.specs.Runs.{HasLeft, IsFaultOfRun};
-ghost use Rattle.monk_samples.specs.Samples.{IsInRange, IsOutcome};
-ghost use Rattle.monk_samples.specs.Totals.{HasTotals, missed_in};
-ghost use Rattle.monk_commands.specs.Ran.{IsRunAnswer, end_word, lets_in, totals_text};
-ghost use Rattle.monk_commands.specs.Ran.{book_text, buffer_text, hasty_text, shop_text};
+ghost use Rattle.monk_samples.specs.Samples.{IsInRange, IsOutcome, patiently};
+ghost use Rattle.monk_samples.specs.Totals.{HasTotals};
+ghost use Rattle.monk_commands.specs.Ran.{IsRunAnswer, IsUnstarted, end_word, lets_in, totals_text};
+ghost use Rattle.monk_commands.specs.Ran.{book_text, buffer_text, shop_text};
 
 use crate::answer::{LineAnswer, put, verdict_answer};
 use crate::fault::StreamFault;
 use monk_audit::{AuditFault, Verdict, audit};
-use monk_history::Device;
+use monk_history::{Device, Event, Header};
 use monk_kinds::{KindName, Npb, Npir, Npis, Npnb, Npqb, Pb, Pir, Pis, Pnb, Pqb};
 use monk_samples::{OpenGate, Outcome, RunFault, Sample, run};
 use std::alloc::{AllocError, Global};
@@ -31,12 +34,12 @@ pub(crate) fn run_named<R: Threads + Wait + Sync>(
     rounds: u32,
 ) -> Result<Outcome, RunFault>
     requires { IsInRange seats rounds }
-    ensures outcome { IfOk result (λ o. IsOutcome kind sample seats o.header o.history.items o.totals) }
+    ensures outcome { IfOk result (λ o. IsOutcome kind (patiently sample) seats o.header o.history.items o.totals) }
     ensures in_range { IsErrOf result RunFault.Range → ⊥ }
-    ensures served { IfOk result (λ o. HasLeft (rules_named kind) lets_in sample seats rounds o.history.items) }
+    ensures served { IfOk result (λ o. HasLeft (rules_named kind) lets_in (patiently sample) seats rounds
+        o.history.items) }
     ensures totals { IfOk result (λ o. HasTotals sample seats rounds o.totals) }
-    ensures missed { IfOk result (λ o. o.missed ≡ missed_in o.history.items) }
-    ensures fault { IfErr result (IsFaultOfRun (rules_named kind) lets_in sample seats rounds) }
+    ensures fault { IfErr result (IsFaultOfRun (rules_named kind) lets_in (patiently sample) seats rounds) }
 {
     let gate = OpenGate;
     match kind {
@@ -53,16 +56,21 @@ pub(crate) fn run_named<R: Threads + Wait + Sync>(
     }
 }
 
-/// The answer to a run that left this: its totals, once its history was found legal.
-fn audited(alloc: Global, sample: Sample, outcome: &Outcome) -> Result<LineAnswer, StreamFault>
-    requires { IsOutcome outcome.now.header.kind sample outcome.now.header.seats outcome.now.header
-        outcome.now.history.items outcome.now.totals }
-    ensures answer { IfOk result (λ a. (a.status ≡ 0)
-        × (string_bytes a.text ≡ totals_text sample outcome.now.totals outcome.now.missed)) }
+/// The answer that a run's history is legal, with this text; an audit of it says so.
+pub(crate) fn audited(
+    alloc: Global,
+    header: &Header,
+    history: &[Event],
+    text: String,
+) -> Result<LineAnswer, StreamFault>
+    requires legal { IsLegal (named_monitor header.now) history.now }
+    requires few { length history.now ≤ 2 ^ 24 }
+    requires size { header.now.size ≤ most header.now.object }
+    ensures answer { IfOk result (λ a. (a.status ≡ 0) × (string_bytes a.text ≡ string_bytes text)) }
     ensures no_file { IsErrOf result StreamFault.File → ⊥ }
 {
-    match audit(alloc, &outcome.header, &outcome.history) {
-        Ok(Verdict::Legal(_)) => told(alloc, sample, &outcome.totals, outcome.missed),
+    match audit(alloc, header, history) {
+        Ok(Verdict::Legal(_)) => Ok(LineAnswer { status: 0, text }),
         Ok(Verdict::Forbidden { step, reason }) => {
             verdict_answer(alloc, Verdict::Forbidden { step, reason })
         }
@@ -72,23 +80,26 @@ fn audited(alloc: Global, sample: Sample, outcome: &Outcome) -> Result<LineAnswe
     }
 }
 
-/// The totals of a legal run.
-fn told(
-    alloc: Global,
-    sample: Sample,
-    totals: &[u64; 4],
-    missed: u64,
-) -> Result<LineAnswer, StreamFault>
-    ensures answer { IfOk result (λ a. (a.status ≡ 0) × (string_bytes a.text ≡ totals_text sample totals.now missed)) }
+/// The answer to a run that left this: its totals, once its history was found legal.
+fn audited_run(alloc: Global, sample: Sample, outcome: &Outcome) -> Result<LineAnswer, StreamFault>
+    requires { (k : _) × IsOutcome k (patiently sample) outcome.now.header.seats outcome.now.header
+        outcome.now.history.items outcome.now.totals }
+    ensures answer { IfOk result (λ a. (a.status ≡ 0) × (string_bytes a.text ≡ totals_text sample outcome.now.totals)) }
     ensures no_file { IsErrOf result StreamFault.File → ⊥ }
 {
-    let text = match sample {
-        Sample::Buffer => of_buffer(alloc, totals)?,
-        Sample::Book => of_book(alloc, totals)?,
-        Sample::Shop => of_shop(alloc, totals)?,
-        Sample::Hasty => of_hasty(alloc, totals, missed)?,
-    };
-    Ok(LineAnswer { status: 0, text })
+    let text = told(alloc, sample, &outcome.totals)?;
+    audited(alloc, &outcome.header, &outcome.history, text)
+}
+
+/// The totals of a legal run.
+fn told(alloc: Global, sample: Sample, totals: &[u64; 4]) -> Result<String, AllocError>
+    ensures { IfOk result (λ text. string_bytes text ≡ totals_text sample totals.now) }
+{
+    match sample {
+        Sample::Buffer => of_buffer(alloc, totals),
+        Sample::Book => of_book(alloc, totals),
+        Sample::Shop => of_shop(alloc, totals),
+    }
 }
 
 fn of_buffer(alloc: Global, totals: &[u64; 4]) -> Result<String, AllocError>
@@ -114,13 +125,6 @@ fn of_shop(alloc: Global, totals: &[u64; 4]) -> Result<String, AllocError>
     )
 }
 
-fn of_hasty(alloc: Global, totals: &[u64; 4], missed: u64) -> Result<String, AllocError>
-    ensures { IfOk result (λ text. string_bytes text ≡ hasty_text totals.now missed) }
-{
-    let [puts, sum_put, takes, sum_taken] = *totals;
-    format!(in alloc; "put {puts} {sum_put}\ntaken {takes} {sum_taken}\nmissed {missed}\nlegal\n")
-}
-
 /// The answer to a run without an outcome, of which this is the end.
 pub(crate) fn ended(alloc: Global, fault: RunFault) -> Result<LineAnswer, StreamFault>
     requires { fault ≢ RunFault.Range }
@@ -143,10 +147,9 @@ pub(crate) fn ended(alloc: Global, fault: RunFault) -> Result<LineAnswer, Stream
 /// writes its totals with status 0, once its history was audited and found legal.
 ///
 /// Of a buffer the totals are the lines `put N SUM` and `taken N SUM`, of a book `reads BEGUN ENDED` and
-/// `writes BEGUN ENDED`, of a shop `sat N`, `called N`, `finished N` and `departed N`, and of a
-/// hasty buffer those of a buffer and `missed N`, how many acts were refused; the line `legal` ends
-/// them. Where [`run`] ends as `Tired`, `Late` or `Busy`, the line `tired`, `late` or `busy` is
-/// written with status 1.
+/// `writes BEGUN ENDED`, and of a shop `sat N`, `called N`, `finished N` and `departed N`; the line
+/// `legal` ends them. Where [`run`] ends as `Tired`, `Late` or `Busy`, the line `tired`, `late` or
+/// `busy` is written with status 1.
 ///
 /// # Errors
 ///
@@ -173,11 +176,13 @@ pub fn run_stream<R: Threads + Wait + Sync, W: Write>(
     ensures answer { IfOk result
         (λ status. IsRunAnswer kind sample seats rounds status
         (Appends (W.contents (inner_of writer.old)) (W.contents (inner_of writer.new)))) }
-    ensures file { IsErrOf result StreamFault.File → (has_failed writer.new ≡ true) ⊎ (writer.new ≡ writer.old) }
+    // The writer has failed; or it is as it was, and a thread was not started.
+    ensures file { IsErrOf result StreamFault.File → (has_failed writer.new ≡ true)
+        ⊎ ((writer.new ≡ writer.old) × IsUnstarted kind (patiently sample) seats rounds) }
     ensures memory { IsErrOf result StreamFault.Memory → writer.new ≡ writer.old }
 {
     let answer = match run_named(rt, alloc, kind, sample, seats, rounds) {
-        Ok(outcome) => audited(alloc, sample, &outcome)?,
+        Ok(outcome) => audited_run(alloc, sample, &outcome)?,
         Err(fault) => ended(alloc, fault)?,
     };
     put(&answer, writer)

@@ -6,14 +6,14 @@ ghost use Rattle.monk_object.specs.Names.{most};
 ghost use Rattle.monk_history.specs.Text.Device.{inner_of, has_failed};
 ghost use Rattle.monk_commands.specs.Answer.{verdict_answer};
 ghost use Rattle.monk_commands.specs.Shown.{HasAuditStatus, IsAnsweredBy, IsShowingOf, IsShown, IsShownBy, behind};
-ghost use Rattle.monk_commands.specs.Shown.{forbidden_step, shown_text, why, why_of};
+ghost use Rattle.monk_commands.specs.Shown.{forbidden_step, shown_text};
 ghost use Rattle.monk_commands.specs.Streams.{IsStreamOutcome, IsWriting};
 
 use crate::answer::{LineAnswer, put, too_big, unreadable};
 use crate::fault::StreamFault;
 use crate::input::read_all;
 use crate::show::Show;
-use monk_audit::{AuditFault, Reason, Verdict, audit};
+use monk_audit::{AuditFault, Verdict, audit};
 use monk_draw::{Window, draw, is_behind, showable};
 use monk_history::{Device, Event, Header, read};
 use monk_page::page;
@@ -27,30 +27,6 @@ fn forbidden_step(verdict: Verdict) -> Option<u32>
     match verdict {
         Verdict::Legal(_) => None,
         Verdict::Forbidden { step, .. } => Some(step),
-    }
-}
-
-/// Why a step is forbidden, as a picture says it.
-fn why(reason: Reason) -> &'static str
-    ensures { result.now ≡ why reason }
-{
-    match reason {
-        Reason::Range => "range, a number that the monitor doesn't have",
-        Reason::Call => "call, this kind has no such call",
-        Reason::Turn => "turn, it is not this seat's turn",
-        Reason::Place => "place, this seat may not come in here",
-        Reason::Reply => "reply, the object replies otherwise",
-        Reason::Choice => "choice, this kind lets another seat go on",
-    }
-}
-
-/// Why the verdict forbids one.
-fn why_of(verdict: Verdict) -> &'static str
-    ensures { result.now ≡ why_of verdict }
-{
-    match verdict {
-        Verdict::Legal(_) => "",
-        Verdict::Forbidden { reason, .. } => why(Reason::numbered(reason)),
     }
 }
 
@@ -86,13 +62,12 @@ fn shown_text(
     ensures text { IfOk result (λ text. string_bytes text ≡ shown_text show window verdict header.now events.now) }
     ensures no_file { IsErrOf result StreamFault.File → ⊥ }
 {
-    let reason = why_of(verdict);
     match show {
         Show::Picture => {
             let step = forbidden_step(verdict);
-            Ok(draw(alloc, header, events, window, step, reason)?)
+            Ok(draw(alloc, header, events, window, step, verdict.caption())?)
         }
-        Show::Page => match page(alloc, header, events, window, reason) {
+        Show::Page => match page(alloc, header, events, window) {
             Ok(page) => Ok(page),
             Err(AuditFault::Memory) => Err(StreamFault::Memory),
             Err(AuditFault::Object) => unreachable!(),

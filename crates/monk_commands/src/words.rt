@@ -1,35 +1,31 @@
 //! The program's words, read with `clap`.
 
 ghost use Rattle.std.specs.Prelude.{◌≡◌, false, IfOk, IfSome, IsOkAnd, Some, codes, map, pos};
-ghost use Rattle.monk_kinds.specs.Names.{kind_word};
-ghost use Rattle.clap.specs.Words.{AddsArg, AddsSubcommand, App, app_of, first_of, found_of, new_app, rows_of, rule_of, subcommand_of};
+ghost use Rattle.clap.specs.Words.{AddsArg, AddsSubcommand, App, app_of, found_of, new_app, rows_of, rule_of, subcommand_of};
 ghost use Rattle.clap.specs.Words.{subcommand_rows_of};
 ghost use Rattle.clap.specs.declared.builder.value_parser.ValueParser.TheVariants.{Signed};
-ghost use Rattle.monk_samples.specs.Samples.{IsInRange};
-ghost use Rattle.monk_commands.specs.Request.{AreRunValues, IsAsked, IsCompleteCommand, IsDrawCommand};
+ghost use Rattle.monk_commands.specs.Request.{IsAsked, IsCompleteCommand, IsDrawCommand, IsHastyCommand};
 ghost use Rattle.monk_commands.specs.Request.{IsExplainCommand};
 ghost use Rattle.monk_commands.specs.Request.{IsFitCommand, IsJudgingCommand};
 ghost use Rattle.monk_commands.specs.Request.{IsMonk, IsOwnApp, IsPlainMonk, IsRead, IsRunCommand, IsSubcommand};
-ghost use Rattle.monk_commands.specs.Request.{bare_app, classify_app, file_app, priority, required_rule, sample_word};
+ghost use Rattle.monk_commands.specs.Request.{bare_app, classify_app, file_app, priority, required_rule};
 ghost use Rattle.monk_commands.specs.Request.{window_app};
 
-use crate::arguments::{chosen, file, files, flag, number, repeated, required};
+use crate::arguments::{chosen, file, files, flag, history, number, repeated, required};
 use crate::draw_words::line_to_draw;
 use crate::file_words::file_of;
 use crate::fit_words::{line_to_explain, line_to_fit};
 use crate::help::{
-    AUDIT, CLASSIFY, COMPLETE, DRAW, DRAWN_KIND, DRAWN_ORDER, EXPLAIN, FIT, FROM, Help, LAPSES,
-    MEANS, ONE_KIND, ORDER, PAGE, PLAY, PRIORITY, RECORD, RUN, TO, TRACE, UPGRADE,
+    AUDIT, CLASSIFY, COMPLETE, DRAW, DRAWN_KIND, DRAWN_ORDER, EXPLAIN, FIT, FROM, HASTY, Help,
+    LAPSES, MEANS, ONE_KIND, ORDER, PAGE, PLAY, PRIORITY, RECORD, RUN, TO, TRACE, UPGRADE,
 };
 use crate::order_words::order_of;
 use crate::request::{Line, LineFault};
+use crate::run_words::{kind_of, line_to_hasty, line_to_record, line_to_run};
 use crate::window_words::window_of;
 use clap::builder::ValueParser;
 use clap::error::ErrorKind;
 use clap::{Arg, ArgMatches, Command, value_parser};
-use monk_kinds::KindName;
-use monk_object::ObjectName;
-use monk_samples::Sample;
 use std::alloc::{AllocError, Global};
 
 static KINDS: [&str; 10] = [
@@ -38,7 +34,7 @@ static KINDS: [&str; 10] = [
 
 static ORDERS: [&str; 2] = ["wake", "any"];
 
-static SAMPLES: [&str; 4] = ["buffer", "book", "shop", "hasty"];
+static SAMPLES: [&str; 3] = ["buffer", "book", "shop"];
 
 const VERSION: &str = "1.0.0";
 
@@ -50,7 +46,8 @@ fn command<'a>(alloc: Global) -> Result<Command<'a>, AllocError>
     let program = adding(program, with_window(alloc, "page", &PAGE));
     let program = adding(program, completing(alloc));
     let program = adding(program, running(alloc, "run", &RUN));
-    adding(program, running(alloc, "record", &RECORD))
+    let program = adding(program, running(alloc, "record", &RECORD));
+    adding(program, hurrying(alloc))
 }
 
 /// The program with the commands that need no kind.
@@ -219,6 +216,18 @@ fn running<'a>(alloc: Global, name: &'a str, help: &Help) -> Result<Command<'a>,
     taking(command, rounds(alloc))
 }
 
+/// The command that takes a kind, how many seats and rounds, and a file or none.
+fn hurrying<'a>(alloc: Global) -> Result<Command<'a>, AllocError>
+    ensures { IfOk result IsHastyCommand }
+{
+    let kinds = ValueParser::Names(KINDS.as_slice());
+    let kind = required(alloc, "KIND", "The kind of monitor", kinds);
+    let command = described(alloc, "hasty", &HASTY).arg(kind);
+    let command = taking(command, seats(alloc));
+    let command = taking(command, rounds(alloc));
+    taking(command, history(alloc))
+}
+
 /// A command that takes a file, or standard input where none is named.
 fn with_file<'a>(alloc: Global, name: &'a str, help: &Help) -> Result<Command<'a>, AllocError>
     ensures { IfOk result (λ c. IsSubcommand c (file_app name.entry.now)) }
@@ -246,42 +255,6 @@ fn priorities_of(matches: &ArgMatches<'_>) -> Option<Line>
     ))
 }
 
-fn kind_of(matches: &ArgMatches<'_>) -> Option<KindName>
-    ensures { IfSome result (λ kind. first_of (codes "KIND") (rows_of (found_of matches.now)) ≡ Some (kind_word kind)) }
-{
-    KindName::of_text(matches.get_str("KIND")?.as_bytes())
-}
-
-fn sample_of(name: &str) -> Option<Sample>
-    ensures { IfSome result (λ sample. name.now ≡ sample_word sample) }
-{
-    if name == "hasty" {
-        return Some(Sample::Hasty);
-    }
-    match ObjectName::of_text(name.as_bytes())? {
-        ObjectName::Buffer => Some(Sample::Buffer),
-        ObjectName::Book => Some(Sample::Book),
-        ObjectName::Shop => Some(Sample::Shop),
-        ObjectName::Flags => None,
-    }
-}
-
-/// The kind, the sample, the seats and the rounds that are asked for. clap has tested the ranges,
-/// and has no contract that says so of a subcommand's numbers, so they are tested once more.
-fn run_of(matches: &ArgMatches<'_>) -> Option<(KindName, Sample, u8, u32)>
-    ensures values { IfSome result (λ r. AreRunValues r.0 r.1 r.2 r.3 (rows_of (found_of matches.now))) }
-    ensures in_range { IfSome result (λ r. IsInRange r.2 r.3) }
-{
-    let kind = kind_of(matches)?;
-    let sample = sample_of(matches.get_str("SAMPLE")?)?;
-    let seats = matches.get_one::<u8>("SEATS")?;
-    let rounds = matches.get_one::<u32>("ROUNDS")?;
-    if !(2..=16).contains(&seats) || !(1..=1000).contains(&rounds) {
-        return None;
-    }
-    Some((kind, sample, seats, rounds))
-}
-
 fn line_to_page(alloc: Global, matches: &ArgMatches<'_>) -> Result<Line, LineFault>
     ensures { IfOk result (λ l. IsRead (codes "page") l (rows_of (found_of matches.now))) }
 {
@@ -302,20 +275,6 @@ fn line_to_complete(alloc: Global, matches: &ArgMatches<'_>) -> Result<Option<Li
         Some(order) => Ok(Some(Line::CompleteRun(kind, order, file))),
         None => Ok(Some(Line::Complete(kind, file))),
     }
-}
-
-fn line_to_run(matches: &ArgMatches<'_>) -> Option<Line>
-    ensures { IfSome result (λ l. IsRead (codes "run") l (rows_of (found_of matches.now))) }
-{
-    let (kind, sample, seats, rounds) = run_of(matches)?;
-    Some(Line::Run(kind, sample, seats, rounds))
-}
-
-fn line_to_record(matches: &ArgMatches<'_>) -> Option<Line>
-    ensures { IfSome result (λ l. IsRead (codes "record") l (rows_of (found_of matches.now))) }
-{
-    let (kind, sample, seats, rounds) = run_of(matches)?;
-    Some(Line::Record(kind, sample, seats, rounds))
 }
 
 /// What a command of that name asks for that takes a file alone, if there is one.
@@ -362,6 +321,7 @@ fn line_of(alloc: Global, name: &str, matches: &ArgMatches<'_>) -> Result<Option
         "complete" => line_to_complete(alloc, matches),
         "run" => Ok(line_to_run(matches)),
         "record" => Ok(line_to_record(matches)),
+        "hasty" => line_to_hasty(alloc, matches),
         _ => line_of_text(alloc, name, matches),
     }
 }
@@ -379,8 +339,8 @@ fn asked(alloc: Global, matches: &ArgMatches<'_>) -> Result<Option<Line>, LineFa
 /// Reads the words, the program's own name first.
 ///
 /// The line is for the command that clap finds in the words, with the values that clap finds there:
-/// a file, a kind, or a kind and a sample, and whole numbers: of `classify` from 0 to 255, of `run`
-/// and `record` from 2 to 16 and from 1 to 1000.
+/// a file, a kind, or a kind and a sample, and whole numbers: of `classify` from 0 to 255, of `run`,
+/// `record` and `hasty` from 2 to 16 and from 1 to 1000.
 ///
 /// # Errors
 ///

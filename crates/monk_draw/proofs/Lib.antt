@@ -11,3 +11,5 @@ mod PictureLaws
 mod RunLaws
 mod FrontLaws
 mod RunPictureLaws
+mod PlainTexts
+pub mod PublicLaws

@@ -1,7 +1,8 @@
 -- What marks the event that is forbidden: a frame, and a caption with its step and why
-use Rattle.std.specs.Prelude.{ℕ, ◌-◌, ◌==◌, Bool, false, Option, Some, None, List, [], ◌++◌, length, nat_lt}
+use Rattle.std.specs.Prelude.{ℕ, ◌-◌, ◌==◌, Bool, false, not, ◌&&◌, Option, Some, None, List, [], ◌++◌, length, nat_le, nat_lt}
 use Rattle.std.specs.Prelude.{if◌then◌else◌, slice_get, codes}
 use Rattle.std.specs.Fmt.{decimal}
+use Rattle.std.specs.List.{list_all}
 use Rattle.monk_history.specs.Meaning.Events.{seat_of}
 use Rattle.monk_history.specs.declared.event.Event.{Event}
 use Rattle.monk_draw.specs.Layout.{column_at, lane_at, lane_of}
@@ -15,6 +16,14 @@ frame_at x y =
 -- round the event in this column, in its seat's lane
 abbrev pub frame : ℕ → ℕ → Event → List ℕ
 frame seats column e = frame_at (column_at column - 33) (lane_at (lane_of seats (seat_of e)) - 31)
+
+-- a byte that markup shows as it stands: no control character, and none of & < >
+abbrev pub is_plain_byte : ℕ → Bool
+is_plain_byte b = nat_le 32 b && not (b == 38) && not (b == 60) && not (b == 62)
+
+-- a text of such bytes
+abbrev pub is_plain_text : List ℕ → Bool
+is_plain_text bytes = list_all is_plain_byte bytes
 
 -- what is forbidden, in the head of a narrow picture
 unfoldable pub near_caption : ℕ → List ℕ → List ℕ

@@ -1,9 +1,10 @@
 //! The picture of a history, and that of a run.
 
-ghost use Rattle.std.specs.Prelude.{◌≡◌, ◌≤◌, ◌++◌, [], IfOk, OnOk, length, slice_range, string_bytes, take};
+ghost use Rattle.std.specs.Prelude.{◌≡◌, ◌≤◌, ◌++◌, [], true, IfOk, OnOk, length, slice_range, string_bytes, take};
 ghost use Rattle.std.specs.List.{list_any};
 ghost use Rattle.monk_history.specs.Limits.{most_lines};
 ghost use Rattle.monk_history.specs.Meaning.Acts.{is_refused_act};
+ghost use Rattle.monk_draw.specs.Frame.{is_plain_text};
 ghost use Rattle.monk_draw.specs.Picture.{HasMarks, IsPicture, above, allowed_with, front, ground, lanes_for, picture_by};
 ghost use Rattle.monk_draw.specs.RunPicture.{IsRunPicture};
 
@@ -205,8 +206,8 @@ fn draw_by<S: Standing>(
 
 /// The picture of a history as an SVG text: a lane for each seat, a column for each event, to the right.
 ///
-/// `forbidden` is the step, counted from 1, of the first event that is not allowed, and `reason` a
-/// word for why; what comes behind it is not shown. Of the events up to that one, or up to the end,
+/// `forbidden` is the step, counted from 1, of the first event that is not allowed, and `reason` says
+/// why; what comes behind it is not shown. Of the events up to that one, or up to the end,
 /// those of the window are shown; without a window the last [`MOST_SHOWN`](crate::MOST_SHOWN).
 /// Where the window begins behind them ([`is_behind`](crate::is_behind)), none is.
 ///
@@ -229,6 +230,8 @@ pub fn draw(
     reason: &str,
 ) -> Result<String, AllocError>
     requires few { length events.now ≤ most_lines }
+    // The reason stands in the picture as it is.
+    requires plain { is_plain_text reason.now ≡ true }
     // Behind everything else stand the marks of the events that are shown, in order, and the end.
     ensures marks { IfOk result (λ page. HasMarks header.now events.now window forbidden (string_bytes page)) }
     // Byte for byte the picture is its definition.
@@ -275,6 +278,8 @@ pub fn draw_run(
     reason: &str,
 ) -> Result<String, AllocError>
     requires few { length events.now ≤ most_lines }
+    // The reason stands in the picture as it is.
+    requires plain { is_plain_text reason.now ≡ true }
     // Behind everything else stand the marks of the events that are shown, in order, and the end.
     ensures marks { IfOk result (λ page. HasMarks header.now events.now window forbidden (string_bytes page)) }
     // Byte for byte the picture is its definition.

@@ -1,7 +1,8 @@
 use std::fmt;
+use thiserror::Error;
 
 /// Why numbers ask for no events.
-#[derive(Clone, Copy, Debug, PartialEq, Eq)]
+#[derive(Clone, Copy, Debug, PartialEq, Eq, Error)]
 pub enum WindowFault {
     /// A number is 0.
     Zero,

@@ -26,6 +26,7 @@ use Rattle.monk_history.specs.declared.event.Next.TheVariants as next
 use Rattle.monk_history.proofs.PublicLaws.Meaning.{legal_seated, IsSeated, times_le_conditions, legal_placed}
 use Rattle.monk_floor.specs.View.{FloorView, monitor_of, stands_of}
 use Rattle.monk_hall.proofs.Private.{own_event}
+use Rattle.monk_hall.proofs.ReleaseLaws.{peeked_none}
 use Rattle.monk_hall.specs.Closing.{HasNobody, HasSomebody, IsUnqueued, IsEnded, IsBusy}
 use Rattle.monk_hall.specs.Tokens.{Holder}
 
@@ -169,9 +170,7 @@ pub busy_unlooked : (k : Rules) (o : Object) (a : Holder) → HasSomebody k o a.
 busy_unlooked k o a x =
     record {
       some = inl x;
-      is = refl;
-      looks = omega arith;
-      steps = omega arith;
-      remembers =
-          record { knew = λ knew. knew; unlooked = λ _. refl };
+      peeks = 0;
+      few = omega arith;
+      peeked = peeked_none 0 a refl;
     }

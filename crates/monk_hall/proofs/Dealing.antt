@@ -2,7 +2,7 @@
 use Rattle.std.proofs.Common.{◌≡◌, ◌≢◌, ℕ, zero, suc, ◌+◌, ◌-◌, ◌<◌, ◌≤◌, ◌⊎◌, cond, Bool, true, false, ◌||◌, nat_lt}
 use Rattle.std.proofs.Common.{List, [], ◌∷◌, ◌++◌, length, set, replicate, sym, refl, ap, ◌∙◌, subst, inl, inr, ⊎_elim}
 use Rattle.std.proofs.Common.{arith}
-use Rattle.std.specs.Prelude.{Option, Some, None, slice_index}
+use Rattle.std.specs.Prelude.{Some, None, slice_index}
 use Rattle.std.proofs.Math.Option.{some-injective}
 use Rattle.std.proofs.lemmas.Bool.Decides.{eqb_tells}
 use mathlib.Core.Option as maybe
@@ -10,7 +10,7 @@ use mathlib.Core.Path.{Path}
 use lib.ListN.{get_elem?}
 use Rattle.atomic_table.proofs.Lists.{at_set, set_here, set_else, at_longer, at_last}
 use Rattle.atomic_table.specs.Seated.{TableId}
-use Rattle.atomic_table.specs.Table.{opening, Splits}
+use Rattle.atomic_table.specs.Table.{opening}
 use Rattle.monk_kinds.specs.declared.mode.Rules.{Rules}
 use Rattle.monk_object.specs.Object.{Object}
 use Rattle.monk_history.specs.Limits.{most_seats, most_conds, least_budget, most_budget}
@@ -19,13 +19,14 @@ use Rattle.monk_history.proofs.PublicLaws.Meaning.{granted_none, legal_none}
 use Rattle.monk_world.proofs.PublicLaws.{update_here, update_else, opening_kept}
 use Rattle.monk_floor.specs.Making.{make_refusal}
 use Rattle.monk_floor.specs.declared.fault.MakeFault.TheVariants as fault
-use Rattle.monk_floor.specs.View.{FloorView, monitor_of}
+use Rattle.monk_floor.specs.View.{monitor_of}
 use Rattle.monk_world.specs.Kept.{IsKept}
 use Rattle.monk_world.specs.Update.{update}
 use Rattle.monk_world.specs.Runs.{opening_state}
 use Rattle.monk_world.specs.State.{State}
+use Rattle.monk_hall.specs.Laws.{HallState}
 use Rattle.monk_hall.specs.Layout.{tickets, unpassed, word_count, place_word, seat_word, floor_of, shown_state}
-use Rattle.monk_hall.specs.Records.{View, In, Distinct, opening_record, opening_records, first_view, head, tail}
+use Rattle.monk_hall.specs.Records.{View, In, Distinct, opening_record, opening_records, first_view}
 use Rattle.monk_hall.specs.Rule.{AreShown, IsHall}
 use Rattle.monk_hall.specs.Tokens.{Token, IsResting, tokens}
 use Rattle.monk_hall.specs.declared.record.SeatRecord.{SeatRecord}
@@ -119,6 +120,13 @@ opens k o c words made some wide zeros = (
       known = λ j. (opening_record c j).known;
       floor = floor_of c [];
     }
+
+pub opens_empty : (k : Rules) (o : Object) (c : Setting) (words : List ℕ)
+    (made : make_refusal c.seats c.conds c.budget ≡ None) (some : 0 < c.seats)
+    (wide : length words ≡ word_count c.seats) (zeros : (i : ℕ) → slice_index words i ≡ 0)
+    → (opens k o c words made some wide zeros).2.past ≡ []
+unfolding opens
+opens_empty k o c words made some wide zeros = refl
 
 pub at_end : (l : List View) (a b : View) (j : ℕ) → get_elem? (l ++ a ∷ []) j ≡ maybe.some b
     → (get_elem? l j ≡ maybe.some b) ⊎ ((a ≡ b) × (j ≡ length l))
@@ -214,21 +222,26 @@ module _ (c : Setting) (views : List View) (at : ℕ → SeatRecord) (sh : AreSh
     seats = sh.seats;
   }
 
--- the first record of a view goes to a seat of its own
-deals : (k : Rules) (o : Object) (c : Setting) (id : ℕ) (r : SeatRecord) (rs : View)
-    → Splits {S = Option FloorView} (IsHall k o c) id (r ∷ rs) (tail (r ∷ rs)) (head (r ∷ rs))
-deals k o c id r rs s h view =
-    let distinct = h.1.apart id (r ∷ rs) view in (
-      h.0,
-      shown_moved c s.views h.0 h.1 id (r ∷ rs) rs r view (inl refl) (λ z i. inr i)
-          (λ z i. i) distinct.0 distinct.1,
-      h.2,
-    )
+-- the rule holds of the table t as of s, with the same history at home
+pub record IsStill (k : Rules) (o : Object) (c : Setting) (s : HallState) (h : IsHall k o c s) (t : HallState)
+    : Type 0 where
+  pub hall : IsHall k o c t
+  pub past : hall.2.past ≡ h.2.past
 
-pub deals_next : (k : Rules) (o : Object) (c : Setting) (id : ℕ) (v : View) (r : SeatRecord) (rs : View) → v ≡ r ∷ rs
-    → Splits {S = Option FloorView} (IsHall k o c) id v (tail v) (head v)
-deals_next k o c id v r rs e = subst (λ (x : View). Splits {S = Option FloorView} (IsHall k o c) id x (tail x) (head x))
-    (sym e) (deals k o c id r rs)
+-- the first record of a view goes to a seat of its own
+pub deals_at : (k : Rules) (o : Object) (c : Setting) (id : ℕ) (r : SeatRecord) (rs : View) (s : HallState)
+    (h : IsHall k o c s) → get_elem? s.views id ≡ maybe.some (r ∷ rs)
+    → IsStill k o c s h (record s { views = set s.views id rs ++ (r ∷ []) ∷ [] })
+deals_at k o c id r rs s h view =
+    let distinct = h.1.apart id (r ∷ rs) view in record {
+      hall = (
+        h.0,
+        shown_moved c s.views h.0 h.1 id (r ∷ rs) rs r view (inl refl) (λ z i. inr i)
+            (λ z i. i) distinct.0 distinct.1,
+        h.2,
+      );
+      past = refl;
+    }
 
 fresh_step : (c : Setting) (n d : ℕ) → 0 < n
     → opening_records c n d ≡ opening_record c d ∷ opening_records c (n - 1) (suc d)
@@ -272,7 +285,8 @@ zero_words (suc n) (suc i) = zero_words n i
 -- a seat that has its record rests
 pub fresh_rests : (k : Rules) (o : Object) (z : TableId) (c : Setting) (number budget : ℕ) → number < c.seats
     → z.words ≡ word_count c.seats → budget ≡ c.budget
-    → IsResting k o z (opening_record c number ∷ [], []) (record { seat = number; calls = 0; budget = budget; spare = 0; spares = 0 }) budget
+    → IsResting k o z (opening_record c number ∷ [], [])
+    (record { seat = number; calls = 0; budget = budget; gap_byte = 0; gap_pair = 0 }) budget
 fresh_rests k o z c number budget near sized enough = record {
   one = refl;
   free = refl;

@@ -5,12 +5,10 @@ use Rattle.std.proofs.Common.{length-set}
 use Rattle.std.specs.List.{last_or}
 use Rattle.std.specs.Prelude.{Option, Some, None}
 use Rattle.std.proofs.lemmas.Bool.Decides.{eqb_tells}
-use Rattle.std.proofs.lemmas.List.{set-get_or}
 use mathlib.Core.Option as maybe
 use mathlib.Core.Path.{Path}
 use lib.ListN.{get_elem?}
 use Rattle.atomic_table.proofs.Lists.{set_here}
-use Rattle.atomic_table.specs.Table.{gives, Allows}
 use Rattle.atomic_table.specs.Table as table
 use Rattle.monk_kinds.specs.Kind.{IsKind}
 use Rattle.monk_kinds.specs.declared.mode.Rules.{Rules}
@@ -44,9 +42,9 @@ use Rattle.monk_hall.specs.Changes.{record_after_floor_in, source_from, back_aft
 use Rattle.monk_hall.specs.Floors.{StartsWith, ArePrivate}
 use Rattle.monk_hall.specs.Laws.{BringsHome}
 use Rattle.monk_hall.specs.Layout.{floor_of, shown_state, shown_world}
-use Rattle.monk_hall.specs.Records.{View, IsOne, the}
+use Rattle.monk_hall.specs.Records.{View}
 use Rattle.monk_hall.specs.Rule.{IsHall, AreTold, CountsCalls}
-use Rattle.monk_hall.specs.Tells.{Me, TellsFloorIn, Returns, held_history}
+use Rattle.monk_hall.specs.Tells.{Returns}
 use Rattle.monk_hall.specs.declared.record.SeatRecord.{SeatRecord}
 use Rattle.monk_hall.specs.declared.setting.Setting.{Setting}
 use Rattle.monk_hall.proofs.Frame as frame
@@ -145,7 +143,7 @@ module _ (k : Rules) (o : Object) (c : Setting) (kind : IsKind k) (s : table.Sta
   at_active : (h.0 r.seat).place ≡ Active q
   at_active = stepping.stands_at k o c kind s h id r here (Active q) (standing.active_at r.place active)
 
-  seen_past : r.seen ≡ past
+  pub seen_past : r.seen ≡ past
   seen_past = sym (ap (λ (y : SeatRecord). y.seen) (stepping.is k o c kind s h id r here))
       ∙ (h.2.told.lent r.seat q at_active).0
 
@@ -208,7 +206,7 @@ module _ (k : Rules) (o : Object) (c : Setting) (kind : IsKind k) (s : table.Sta
   kept_after = taken.is_kept
 
   -- where the seat stands now
-  back_is : w.place ≡ Back ret.choice ret.to
+  pub back_is : w.place ≡ Back ret.choice ret.to
   back_is = ap (λ (g : List Event). back_after (last_or None g)) f_history ∙ ap back_after (last_more None before last)
       ∙ releasing.back_is r.seat ret.to ret.call ret.choice ret.release
 
@@ -339,6 +337,7 @@ module _ (k : Rules) (o : Object) (c : Setting) (kind : IsKind k) (s : table.Sta
         told = told_after;
       },
     );
+    home = refl;
     since = ret.goes_on.since;
     own = ret.goes_on.own;
     legal = subst (λ (g : List Event). IsLegal (monitor_of k o (floor_of c g)) g) goes_is legal_before;
@@ -353,25 +352,3 @@ module _ (k : Rules) (o : Object) (c : Setting) (kind : IsKind k) (s : table.Sta
     wish = taken.is_wish;
     chosen = refl;
   }
-
-pub gives_floor : (k : Rules) (o : Object) (c : Setting) → IsKind k → (slots id : ℕ) (me : Me) (f : FloorView)
-    → IsOne me.0 → me.1 ≡ (0, Some f) ∷ [] → stage (the me.0).place ≡ active_stage → Returns k o (the me.0) f
-    → Allows (IsHall k o c) slots id me 0 (λ n. n) (TellsFloorIn (held_history me.1) me)
-gives_floor k o c kind slots id me f one holds active ret =
-    subst (λ (g : List (ℕ × Option FloorView)). Allows (IsHall k o c) slots id (me.0, g) 0 (λ n. n)
-    (TellsFloorIn (held_history g) (me.0, g))) (sym holds) (λ s h wide view small.
-    let here : get_elem? s.views id ≡ maybe.some (the me.0 ∷ []) = view ∙ ap maybe.some one in
-    let r : SeatRecord = the me.0 in (
-      record_after_floor_in r f.history ∷ [],
-      gives,
-      tt,
-      subst (λ (ws : List ℕ). IsHall k o c
-          (record {
-            words = ws;
-            homes = set s.homes 0 (maybe.some (Some f));
-            views =
-                set s.views id (record_after_floor_in r f.history ∷ []);
-          })) (sym (set-get_or s.words 0 0))
-          (gives_at k o c kind s h id r here active f ret).hall,
-      refl,
-    ))

@@ -2,12 +2,10 @@
 use Rattle.std.proofs.Common.{◌≡◌, ◌≢◌, ℕ, ◌≤◌, false, List, [], ◌∷◌, ◌++◌, length, set, sym, refl, ap, ◌∙◌}
 use Rattle.std.proofs.Common.{subst, arith, length-set}
 use Rattle.std.specs.Prelude.{Option, Some}
-use Rattle.std.proofs.lemmas.List.{set-get_or}
 use mathlib.Core.Option as maybe
 use mathlib.Core.Path.{Path}
 use lib.ListN.{get_elem?}
 use Rattle.atomic_table.proofs.Lists.{set_here}
-use Rattle.atomic_table.specs.Table.{takes, Allows}
 use Rattle.atomic_table.specs.Table as table
 use Rattle.monk_kinds.specs.Kind.{IsKind}
 use Rattle.monk_kinds.specs.declared.mode.Rules.{Rules}
@@ -37,9 +35,8 @@ use Rattle.monk_hall.specs.Changes.{record_after_floor_out, source_from}
 use Rattle.monk_hall.specs.Floors.{StartsWith, Finds}
 use Rattle.monk_hall.specs.Laws.{Takes}
 use Rattle.monk_hall.specs.Layout.{floor_of, shown_state, shown_world}
-use Rattle.monk_hall.specs.Records.{View, IsOne, the}
+use Rattle.monk_hall.specs.Records.{View}
 use Rattle.monk_hall.specs.Rule.{IsHall, AreTold}
-use Rattle.monk_hall.specs.Tells.{Me, TellsFloorOut}
 use Rattle.monk_hall.specs.declared.record.SeatRecord.{SeatRecord}
 use Rattle.monk_hall.specs.declared.setting.Setting.{Setting}
 use Rattle.monk_hall.proofs.Frame as frame
@@ -175,6 +172,7 @@ module _ (k : Rules) (o : Object) (c : Setting) (kind : IsKind k) (s : table.Sta
         told = told_after;
       },
     );
+    home = refl;
     step = subst (λ (g : List Event). IsStep k o (shown_state c s.words h.0 g) r.seat command.Out answer.Now
         (shown_state c s.words (update h.0 r.seat w) (past ++ came ∷ []))) (sym (h.2.told.home nobody).0)
         (subst (λ (t : State). IsStep k o old r.seat command.Out answer.Now t) same step_after);
@@ -215,22 +213,3 @@ module _ (k : Rules) (o : Object) (c : Setting) (kind : IsKind k) (s : table.Sta
         first = λ t e. entered_is t (Free t) e refl refl (omega arith);
         next = λ t e. entered_is t (Granted t) e refl refl (omega arith);
       }
-
-pub takes_floor : (k : Rules) (o : Object) (c : Setting) → IsKind k → (id : ℕ) (me : Me) → IsOne me.0 → me.1 ≡ []
-    → stage (the me.0).place ≡ due_stage → Allows (IsHall k o c) 1 id me 0 (λ n. n) (TellsFloorOut k o me)
-takes_floor k o c kind id me one none due s h wide view small =
-    let here : get_elem? s.views id ≡ maybe.some (the me.0 ∷ []) = view ∙ ap maybe.some one in
-    let r : SeatRecord = the me.0 in (
-      record_after_floor_out r h.2.past ∷ [],
-      takes 0 (Some (floor_of c h.2.past)),
-      at_home k o c kind s h id r here due,
-      subst (λ (ws : List ℕ). IsHall k o c
-          (record {
-            words = ws;
-            homes = set s.homes 0 maybe.none;
-            views =
-                set s.views id (record_after_floor_out r h.2.past ∷ []);
-          })) (sym (set-get_or s.words 0 0))
-          (takes_at k o c kind s h id r here due).hall,
-      (floor_of c h.2.past, refl, finds k o c kind s h id r here due),
-    )

@@ -6,7 +6,6 @@ use Rattle.std.proofs.lemmas.Bool.Decides.{eqb_tells}
 use mathlib.Core.Option as maybe
 use mathlib.Core.Path.{Path}
 use lib.ListN.{get_elem?}
-use Rattle.atomic_table.specs.Table.{keeps, Allows}
 use Rattle.atomic_table.specs.Table as table
 use Rattle.monk_kinds.specs.Kind.{IsKind}
 use Rattle.monk_kinds.specs.declared.mode.Rules.{Rules}
@@ -32,9 +31,9 @@ use Rattle.monk_world.proofs.PublicLaws.{IsReady, held, at_update}
 use Rattle.monk_hall.specs.Changes.{record_after_grant, home_at}
 use Rattle.monk_hall.specs.Laws.{Takes}
 use Rattle.monk_hall.specs.Layout.{tickets, unpassed, shown_state, shown_world, place_word, seat_word}
-use Rattle.monk_hall.specs.Records.{View, IsOne, the}
+use Rattle.monk_hall.specs.Records.{View}
 use Rattle.monk_hall.specs.Rule.{IsHall, CountsCalls}
-use Rattle.monk_hall.specs.Tells.{Me, TellsGrant}
+use Rattle.monk_hall.specs.declared.deed.Deed.TheVariants.{GrantTicket, CallSeat}
 use Rattle.monk_hall.specs.declared.record.SeatRecord.{SeatRecord}
 use Rattle.monk_hall.specs.declared.setting.Setting.{Setting}
 use Rattle.monk_hall.proofs.Knows.{calls_stay}
@@ -43,13 +42,13 @@ use Rattle.monk_hall.proofs.Stepping as stepping
 use Rattle.monk_hall.proofs.Stored as stored
 
 -- a place where a seat is chosen
-record IsChoosing (p : Place) (m : ℕ) : Type 0 where
-  choice : Next
-  to : Home
-  is : p ≡ Back choice to
-  names : turn_of_next choice ≡ due_to m
+pub record IsChoosing (p : Place) (m : ℕ) : Type 0 where
+  pub choice : Next
+  pub to : Home
+  pub is : p ≡ Back choice to
+  pub names : turn_of_next choice ≡ due_to m
 
-choosing_at : (p : Place) (m : ℕ) → back_turn p ≡ due_to m → IsChoosing p m
+pub choosing_at : (p : Place) (m : ℕ) → back_turn p ≡ due_to m → IsChoosing p m
 choosing_at Idle m e = absurd (omega arith)
 choosing_at (Ticket t) m e = absurd (omega arith)
 choosing_at (Due q) m e = absurd (omega arith)
@@ -95,7 +94,7 @@ module _ (k : Rules) (o : Object) (c : Setting) (kind : IsKind k) (s : table.Sta
         words = set s.words (place_word (ticket r.place % c.seats)) (ticket r.place + 1);
         homes =
             s.homes;
-        views = set s.views id (record_after_grant r ∷ []);
+        views = set s.views id (record_after_grant r (GrantTicket (ticket r.place)) ∷ []);
       })
   grants_ticket_at passing =
       let at = h.0 in
@@ -103,7 +102,7 @@ module _ (k : Rules) (o : Object) (c : Setting) (kind : IsKind k) (s : table.Sta
       let n : ℕ = ticket r.place in
       let q : ℕ = n % c.seats in
       let to : Home = home_at r.place in
-      let w = record_after_grant r in
+      let w = record_after_grant r (GrantTicket n) in
       let ws : List ℕ = set s.words (place_word q) (n + 1) in
       let world : World = shown_world s.words at in
       let old : State = shown_state c s.words at kh.history in
@@ -149,7 +148,7 @@ module _ (k : Rules) (o : Object) (c : Setting) (kind : IsKind k) (s : table.Sta
       (stepping.knows_after k o c kind s h id r here w ws moved calls (λ e. absurd (omega arith)) apart)
 
   -- the seat that is called stands inside
-  called_near : (m : ℕ) → back_turn r.place ≡ due_to m → m < c.seats
+  pub called_near : (m : ℕ) → back_turn r.place ≡ due_to m → m < c.seats
   called_near m names =
       let x = choosing_at r.place m names in
       let sound = stepping.sound k o c kind s h id r here in
@@ -171,13 +170,13 @@ module _ (k : Rules) (o : Object) (c : Setting) (kind : IsKind k) (s : table.Sta
   -- the calls are counted once the seat is called
   calls_counted : (m : ℕ) (ws : List ℕ) → back_turn r.place ≡ due_to m
       → Path (ℕ → ℕ) (update (shown_world s.words h.0).seat_place m ((shown_world s.words h.0).seat_place m + 1))
-      (shown_world ws (update h.0 r.seat (record_after_grant r))).seat_place
-      → CountsCalls (shown_world ws (update h.0 r.seat (record_after_grant r))) h.2.past
+      (shown_world ws (update h.0 r.seat (record_after_grant r (CallSeat m)))).seat_place
+      → CountsCalls (shown_world ws (update h.0 r.seat (record_after_grant r (CallSeat m)))) h.2.past
   calls_counted m ws names places =
       let at = h.0 in
       let kh = h.2 in
       let world : World = shown_world s.words at in
-      let w = record_after_grant r in
+      let w = record_after_grant r (CallSeat m) in
       let x = choosing_at r.place m names in
       let sound = stepping.sound k o c kind s h id r here in
       let stands = stepping.stands_at k o c kind s h id r here (Back x.choice x.to) x.is in
@@ -211,12 +210,12 @@ module _ (k : Rules) (o : Object) (c : Setting) (kind : IsKind k) (s : table.Sta
         words = set s.words (seat_word m) calls;
         homes = s.homes;
         views =
-            set s.views id (record_after_grant r ∷ []);
+            set s.views id (record_after_grant r (CallSeat m) ∷ []);
       })
   calls_seat_at m names calls calls_are =
       let at = h.0 in
       let kh = h.2 in
-      let w = record_after_grant r in
+      let w = record_after_grant r (CallSeat m) in
       let ws : List ℕ = set s.words (seat_word m) calls in
       let world : World = shown_world s.words at in
       let old : State = shown_state c s.words at kh.history in
@@ -265,27 +264,3 @@ module _ (k : Rules) (o : Object) (c : Setting) (kind : IsKind k) (s : table.Sta
       stepping.holds_after k o c kind s h id r here w ws moved (length-set s.words (seat_word m) calls) kept same
       (stepping.knows_after k o c kind s h id r here w ws moved (calls_counted m ws names seat_places)
       (λ e. let z = ap stage x.is in absurd (omega arith)) (standing.apart_home (home_at r.place)))
-
-module _ (k : Rules) (o : Object) (c : Setting) (kind : IsKind k) (slots id : ℕ) (me : Me) (one : IsOne me.0) where
-  pub grants_ticket : stage (the me.0).place ≡ passing_stage
-      → Allows (IsHall k o c) slots id me (place_word (ticket (the me.0).place % c.seats))
-      (λ _. ticket (the me.0).place + 1) (λ _. TellsGrant me (ticket (the me.0).place + 1))
-  grants_ticket passing s h wide view small =
-      let here : get_elem? s.views id ≡ maybe.some (the me.0 ∷ []) = view ∙ ap maybe.some one in (
-        record_after_grant (the me.0) ∷ [],
-        keeps,
-        tt,
-        (grants_ticket_at k o c kind s h id (the me.0) here passing).hall,
-        refl,
-      )
-
-  pub calls_seat : (m calls : ℕ) → back_turn (the me.0).place ≡ due_to m → calls ≡ granted_of (the me.0).seen m
-      → Allows (IsHall k o c) slots id me (seat_word m) (λ _. calls) (λ _. TellsGrant me calls)
-  calls_seat m calls names calls_are s h wide view small =
-      let here : get_elem? s.views id ≡ maybe.some (the me.0 ∷ []) = view ∙ ap maybe.some one in (
-        record_after_grant (the me.0) ∷ [],
-        keeps,
-        tt,
-        (calls_seat_at k o c kind s h id (the me.0) here m names calls calls_are).hall,
-        refl,
-      )

@@ -1,6 +1,7 @@
 -- A release goes home with the floor, and the right is handed on
-use Rattle.std.proofs.Common.{◌≡◌, ℕ, ◌-◌, ◌≤◌, false, true≢false, List, [], ◌∷◌, ◌++◌, length, Option}
-use Rattle.std.proofs.Common.{Some, None, refl, sym, ap, subst, ◌∙◌, arith}
+use Rattle.std.proofs.Common.{◌≡◌, ◌≢◌, ℕ, ◌+◌, ◌-◌, ◌≤◌, false, true≢false}
+use Rattle.std.proofs.Common.{List, [], ◌∷◌, ◌++◌, length, Option, Some, None, refl, sym, ap, subst, ◌∙◌}
+use Rattle.std.proofs.Common.{arith}
 use Rattle.std.specs.List.{last_or}
 use Rattle.atomic_table.specs.Seated.{TableId}
 use Rattle.monk_kinds.specs.declared.mode.Rules.{Rules}
@@ -9,7 +10,6 @@ use Rattle.monk_history.specs.Meaning.Counts.{events_of, left_of}
 use Rattle.monk_history.specs.Meaning.Events.{is_stay}
 use Rattle.monk_history.specs.Meaning.Legal.{IsLegal}
 use Rattle.monk_history.specs.Meaning.Release.{with_next}
-use Rattle.monk_history.specs.declared.event.Event.{Event}
 use Rattle.monk_history.specs.declared.event.Next.{Next}
 use Rattle.monk_history.specs.declared.event.Next.TheVariants as next
 use Rattle.monk_history.proofs.PublicLaws.Meaning.{legal-push}
@@ -20,16 +20,18 @@ use Rattle.monk_world.specs.State.{with_event}
 use Rattle.monk_world.specs.declared.home.Home.{Home}
 use Rattle.monk_world.specs.declared.place.Place.TheVariants.{Back}
 use Rattle.monk_hall.specs.Changes.{record_after_floor_in, back_after, home_at}
+use Rattle.monk_hall.specs.Granting.{grant_of, granted_last}
 use Rattle.monk_hall.specs.Handing.{seat_called_by, HasRecordedRelease, HasGone}
 use Rattle.monk_hall.specs.Layout.{floor_of}
 use Rattle.monk_hall.specs.Records.{the}
 use Rattle.monk_hall.specs.Tells.{Me}
 use Rattle.monk_hall.specs.Tokens.{IsSeated, IsResting}
+use Rattle.monk_hall.specs.declared.deed.Deed.{Deed}
 use Rattle.monk_hall.specs.declared.seat_numbers.SeatNumbers.{SeatNumbers}
 use Rattle.monk_hall.proofs.Releasing.{back_is, said}
 use Rattle.monk_hall.proofs.TokenLaws.{own_longer}
 
-last_is : (o : Option Event) (h : List Event) (e : Event) → last_or o (h ++ e ∷ []) ≡ Some e
+last_is : {A : Type 0} (o : Option A) (h : List A) (e : A) → last_or o (h ++ e ∷ []) ≡ Some e
 last_is o [] e = refl
 last_is o (d ∷ ds) e = last_is (Some d) ds e
 
@@ -83,11 +85,15 @@ module _ {k : Rules} {o : Object} {z : TableId} {me : Me} {choice : Next} {to : 
   -- what the seat knows then
   pub gone_rests : (x : HasRecordedRelease k o z me choice to f) → {numbers : SeatNumbers} {left : ℕ}
       → IsSeated z (the me.0) numbers → left ≡ left_of f.budget f.history numbers.seat
-      → (y : TableId) (new : Me) → y ≡ z → HasGone (the me.0) f.history to (the new.0) → new ≡ (the new.0 ∷ [], [])
+      → (y : TableId) (new : Me) → y ≡ z → HasGone (the me.0) f.history choice to (the new.0)
+      → new ≡ (the new.0 ∷ [], [])
       → IsResting k o y new numbers left × ((the new.0).place ≡ place_of to) × (left_within to ≤ left)
   gone_rests x {numbers} {left} s rest y new same gone is =
       let r = the me.0 in let ret = x.returns in let e = with_next ret.choice ret.call in let w =
-      record (record_after_floor_in r f.history) { place = place_of to; steps = gone.steps } in
+      record (record_after_floor_in r f.history) {
+        place = place_of to;
+        did = (record_after_floor_in r f.history).did ++ gone.handed;
+      } in
       let seat = (said r.seat ret.to ret.call ret.choice ret.release).seat in
       let history = ap (λ (g : FloorView). g.history) ret.grows in
       let is_floor = ret.grows ∙ ap (λ g. with_event g e) ret.goes_on.is_floor in
@@ -117,3 +123,8 @@ module _ {k : Rules} {o : Object} {z : TableId} {me : Me} {choice : Next} {to : 
         ap (λ v. v.place) gone.is,
         omega arith,
       )
+
+-- what the last deed stored
+pub grants_by : (z : TableId) (seats : ℕ) (ds : List Deed) (d : Deed) → granted_last z seats (ds ++ d ∷ [])
+    ≡ grant_of z seats (Some d)
+grants_by z seats ds d = ap (grant_of z seats) (last_is None ds d)

@@ -27,7 +27,7 @@ module _ (k : Rules) (o : Object) (c : Setting) (s : HallState) (h : IsHall k o 
       → stage (h.0 j).place ≢ active_stage
   nobody none j active = none (h.0 j) (recorded k o c s h j (λ e. absurd (omega arith))) active
 
-  home_history : IsHomeHistory k o c s h.2.past
+  pub home_history : IsHomeHistory k o c s h.2.past
   home_history = let told = h.2.told in record {
     legal = told.legal;
     lent = λ r x active.

@@ -25,5 +25,14 @@ mod Crossing
 mod RuleLaws
 mod HomeLaws
 mod NextTicketLaws
+mod FewStepsLaws
+mod WordWaits
+mod ScheduleLists
+mod ScheduleReturns
+mod ScheduleLaws
+mod ScheduleSteps
+mod ScheduleMoves
+mod Reached
+mod GrantsTaken
 mod CompleteLaws
 pub mod PublicLaws

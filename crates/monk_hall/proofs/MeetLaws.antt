@@ -1,17 +1,15 @@
 -- Two idle seats' views are put together, and both records learn the longer history
-use Rattle.std.proofs.Common.{◌≡◌, ◌≢◌, ℕ, suc, ◌+◌, ◌<◌, ◌≤◌, ◌⊎◌, ◌==◌, Bool, true, false, cond, nat_le, List}
+use Rattle.std.proofs.Common.{◌≡◌, ◌≢◌, ℕ, ◌+◌, ◌<◌, ◌≤◌, ◌⊎◌, ◌==◌, Bool, true, false, cond, nat_le, List}
 use Rattle.std.proofs.Common.{[], ◌∷◌, ◌++◌, length, set, sym, refl, ap, ◌∙◌, subst, inl, inr, ⊎_elim, arith}
 use Rattle.std.proofs.Common.{append-nil, length-append}
-use Rattle.std.specs.Prelude.{Option}
 use Rattle.std.proofs.Math.Option.{some-injective}
 use Rattle.std.proofs.lemmas.Bool.Decides.{eqb_tells}
-use Rattle.std.proofs.lemmas.List.{set-get_or, nil_from_length}
+use Rattle.std.proofs.lemmas.List.{nil_from_length}
 use Rattle.std.proofs.lemmas.List.Elements.{filter-append}
 use mathlib.Core.Option as maybe
 use mathlib.Core.Path.{Path}
 use lib.ListN.{get_elem?}
 use Rattle.atomic_table.proofs.Lists.{at_set, set_here, set_else}
-use Rattle.atomic_table.specs.Table.{keeps, Allows, Joins, Splits}
 use Rattle.monk_kinds.specs.declared.mode.Rules.{Rules}
 use Rattle.monk_object.specs.Object.{Object}
 use Rattle.monk_history.specs.Meaning.Counts.{events_of}
@@ -21,7 +19,7 @@ use Rattle.monk_history.specs.declared.event.Event.{Event}
 use Rattle.monk_history.specs.Meaning.Legal.{IsLegal}
 use Rattle.monk_history.proofs.PublicLaws.Meaning.{legal_front}
 use Rattle.monk_world.proofs.PublicLaws.{at_update, update_here, update_else, all_back}
-use Rattle.monk_floor.specs.View.{FloorView, monitor_of}
+use Rattle.monk_floor.specs.View.{monitor_of}
 use Rattle.monk_world.specs.Kept.{IsKept}
 use Rattle.monk_world.specs.Places.{stage, outside_stage, active_stage, back_stage}
 use Rattle.monk_world.specs.Update.{update}
@@ -30,18 +28,20 @@ use Rattle.monk_world.specs.StepTable.{out_event}
 use Rattle.monk_world.specs.declared.place.Place.{Place}
 use Rattle.monk_world.specs.declared.place.Place.TheVariants.{Idle, Active}
 use Rattle.monk_world.specs.declared.source.Source.{Source}
-use Rattle.monk_hall.specs.Changes.{longer, view_after_join, view_after_compare}
+use Rattle.monk_hall.specs.Changes.{longer, view_after_join}
 use Rattle.monk_hall.specs.Floors.{StartsWith}
+use Rattle.monk_hall.specs.Laws.{HallState}
 use Rattle.monk_hall.specs.Layout.{floor_of, shown_state, shown_world, word_count}
-use Rattle.monk_hall.specs.Records.{View, In, Distinct, IsOne, IsTwo, the, head, tail}
+use Rattle.monk_hall.specs.Records.{View, In, Distinct, IsOne, the}
 use Rattle.monk_hall.specs.Rule.{AreShown, CountsCalls, Homes, IsHall, IsKeptHall}
 use Rattle.atomic_table.specs.Seated.{TableId}
-use Rattle.monk_hall.specs.Tells.{Me, AreOne, TellsCompare, SeesTruly}
+use Rattle.monk_hall.specs.Tells.{AreOne, SeesTruly}
 use Rattle.monk_hall.specs.Tokens.{IsResting, top}
+use Rattle.monk_hall.specs.declared.deed.Deed.TheVariants.{Meet}
 use Rattle.monk_hall.specs.declared.record.SeatRecord.{SeatRecord}
 use Rattle.monk_hall.specs.declared.setting.Setting.{Setting}
 use Rattle.monk_hall.specs.declared.seat_numbers.SeatNumbers.{SeatNumbers}
-use Rattle.monk_hall.proofs.Dealing.{shown_moved}
+use Rattle.monk_hall.proofs.Dealing.{shown_moved, IsStill}
 use Rattle.monk_hall.proofs.Seats.{is_at, is_desk, is_near, is_setting, long, only}
 use Rattle.monk_hall.proofs.Stored.{field_stays}
 
@@ -279,94 +279,103 @@ module _ (c : Setting) (views : List View) (at : ℕ → SeatRecord) (sh : AreSh
           (λ q. na (sym (sh.seats j) ∙ ap (λ (x : SeatRecord). x.seat) (sym q)))
           (λ q. nb (sym (sh.seats j) ∙ ap (λ (x : SeatRecord). x.seat) (sym q))) refl
 
--- the telling load
-pub compares : (k : Rules) (o : Object) (c : Setting) (slots id : ℕ) (me : Me) → IsTwo me.0 → (the me.0).place ≡ Idle
-    → (the (tail me.0)).place ≡ Idle → Allows (IsHall k o c) slots id me 0 (λ n. n) (TellsCompare k o me)
-unfolding learns
-compares k o c slots id me two idle_a idle_b s h wide view small =
-    let a : SeatRecord = the me.0 in
-    let b : SeatRecord = the (tail me.0) in
-    let at = h.0 in
-    let kh = h.2 in
-    let here : get_elem? s.views id ≡ maybe.some (a ∷ b ∷ []) = view ∙ ap maybe.some two in
-    let both : List Event = longer a.seen b.seen in
-    let a2 : SeatRecord = record a { seen = both } in
-    let b2 : SeatRecord = record b { seen = both; steps = suc b.steps } in
-    let ia = in_a c s.views at h.1 id a b a2 b2 here refl refl refl refl in
-    let ib = in_b c s.views at h.1 id a b a2 b2 here refl refl refl refl in
-    let still = still_b c s.views at h.1 id a b a2 b2 here refl refl refl refl in
-    let begins_a : StartsWith kh.past a.seen =
-    subst (λ (x : SeatRecord). StartsWith kh.past x.seen) ia.0 (kh.told.starts a.seat) in
-    let begins_b : StartsWith kh.past b.seen =
-    subst (λ (x : SeatRecord). StartsWith kh.past x.seen) ib.0 (kh.told.starts b.seat) in
-    let one : AreOne a.seen b.seen = parts kh.past a.seen b.seen begins_a.0 begins_b.0 begins_a.1 begins_b.1 in
-    let long_both = longer_both a.seen b.seen one in
-    let part : StartsWith kh.past both = longer_part kh.past a.seen b.seen begins_a begins_b in
-    let mine_a : events_of kh.past a.seat ≡ a.mine = kh.told.mine a.seat ∙ ap (λ (x : SeatRecord). x.mine) ia.0 in
-    let mine_b : events_of kh.past b.seat ≡ b.mine = kh.told.mine b.seat ∙ ap (λ (x : SeatRecord). x.mine) ib.0 in
-    let own_a : events_of a.seen a.seat ≡ a.mine = ap (λ (x : SeatRecord). events_of x.seen a.seat) (sym ia.0)
-    ∙ kh.told.own a.seat ∙ ap (λ (x : SeatRecord). x.mine) ia.0 in
-    let own_b : events_of b.seen b.seat ≡ b.mine = ap (λ (x : SeatRecord). events_of x.seen b.seat) (sym ib.0)
-    ∙ kh.told.own b.seat ∙ ap (λ (x : SeatRecord). x.mine) ib.0 in
-    let all_a : events_of both a.seat ≡ a.mine =
-    events_between kh.past both a.seen a.seat part long_both.first (mine_a ∙ sym own_a) ∙ own_a in
-    let all_b : events_of both b.seat ≡ b.mine =
-    events_between kh.past both b.seen b.seat part long_both.second (mine_b ∙ sym own_b) ∙ own_b in
-    let first = learns k o c s.words s.homes at kh a.seat a2 (ap (λ (x : SeatRecord). x.place) (sym ia.0))
-    (ap (λ (x : SeatRecord). x.count) (sym ia.0)) (ap (λ (x : SeatRecord). x.known) (sym ia.0))
-    (ap (λ (x : SeatRecord). x.mine) (sym ia.0))
-    (ap (λ (x : SeatRecord). stage x.place) ia.0 ∙ ap stage idle_a) part all_a in
-    let both_kept = learns k o c s.words s.homes (update at a.seat a2) first b.seat b2
-    (ap (λ (x : SeatRecord). x.place) (sym still)) (ap (λ (x : SeatRecord). x.count) (sym still))
-    (ap (λ (x : SeatRecord). x.known) (sym still)) (ap (λ (x : SeatRecord). x.mine) (sym still))
-    (ap (λ (x : SeatRecord). stage x.place) still ∙ ap stage idle_b) part all_b in (
-      a2 ∷ b2 ∷ [],
-      keeps,
-      tt,
-      subst (λ (ws : List ℕ). IsHall k o c
-          record { words = ws; homes = s.homes; views = set s.views id (a2 ∷ b2 ∷ []) })
-          (sym (set-get_or s.words 0 0)) (
-            update (update at a.seat a2) b.seat b2,
-            shown_two c s.views at h.1 id a b a2 b2 here refl refl refl
-                refl,
-            both_kept,
-          ),
-      (
-        refl,
-        one,
-        (let t = truly both part a (ap (λ (x : SeatRecord). x.setting) (sym ia.0) ∙ h.1.settings a.seat) all_a in
-            record { legal = t.0; own = t.1 }),
-        (let t = truly both part b (ap (λ (x : SeatRecord). x.setting) (sym ib.0) ∙ h.1.settings b.seat) all_b in
-            record { legal = t.0; own = t.1 }),
-      ),
-    )
-  where
-    truly : (g : List Event) → StartsWith h.2.past g → (r : SeatRecord) → r.setting ≡ c → events_of g r.seat ≡ r.mine
-        → IsLegal (monitor_of k o (floor_of r.setting g)) g × (events_of g r.seat ≡ r.mine)
-    truly g part r is own = (
-      subst (λ (y : Setting). IsLegal (monitor_of k o (floor_of y g)) g) (sym is)
-          (legal_front (monitor_of k o (floor_of c g)) g part.0
-          (subst (IsLegal (monitor_of k o (floor_of c h.2.past))) part.1 h.2.told.legal)),
-      own,
-    )
+-- two idle records lie in one view
+module _ (k : Rules) (o : Object) (c : Setting) (s : HallState) (h : IsHall k o c s) (id : ℕ) (a b : SeatRecord)
+    (here : get_elem? s.views id ≡ maybe.some (a ∷ b ∷ [])) where
+  abbrev past : List Event
+  past = h.2.past
 
-    longer_part : (past a b : List Event) → StartsWith past a → StartsWith past b → StartsWith past (longer a b)
-    longer_part past a b p q = go (nat_le (length a) (length b))
-      where
-        go : (x : Bool) → StartsWith past (cond x b a)
-        go true = q
-        go false = p
+  abbrev both : List Event
+  both = longer a.seen b.seen
+
+  abbrev a2 : SeatRecord
+  a2 = record a { seen = both }
+
+  abbrev b2 : SeatRecord
+  b2 = record b { seen = both; did = b.did ++ Meet ∷ [] }
+
+  pub is_first : h.0 a.seat ≡ a
+  is_first = (in_a c s.views h.0 h.1 id a b a2 b2 here refl refl refl refl).0
+
+  pub is_second : h.0 b.seat ≡ b
+  is_second = (in_b c s.views h.0 h.1 id a b a2 b2 here refl refl refl refl).0
+
+  still_second : update h.0 a.seat a2 b.seat ≡ b
+  still_second = still_b c s.views h.0 h.1 id a b a2 b2 here refl refl refl refl
+
+  begins_a : StartsWith past a.seen
+  begins_a = subst (λ (x : SeatRecord). StartsWith past x.seen) is_first (h.2.told.starts a.seat)
+
+  begins_b : StartsWith past b.seen
+  begins_b = subst (λ (x : SeatRecord). StartsWith past x.seen) is_second (h.2.told.starts b.seat)
+
+  pub one_past : AreOne a.seen b.seen
+  one_past = parts past a.seen b.seen begins_a.0 begins_b.0 begins_a.1 begins_b.1
+
+  part : StartsWith past both
+  part = longer_part (nat_le (length a.seen) (length b.seen))
+    where
+      longer_part : (x : Bool) → StartsWith past (cond x b.seen a.seen)
+      longer_part true = begins_b
+      longer_part false = begins_a
+
+  pub all_a : events_of both a.seat ≡ a.mine
+  all_a =
+      let mine : events_of past a.seat ≡ a.mine = h.2.told.mine a.seat ∙ ap (λ (x : SeatRecord). x.mine) is_first in
+      let own : events_of a.seen a.seat ≡ a.mine = ap (λ (x : SeatRecord). events_of x.seen a.seat) (sym is_first)
+      ∙ h.2.told.own a.seat ∙ ap (λ (x : SeatRecord). x.mine) is_first in
+      events_between past both a.seen a.seat part (longer_both a.seen b.seen one_past).first (mine ∙ sym own) ∙ own
+
+  pub all_b : events_of both b.seat ≡ b.mine
+  all_b =
+      let mine : events_of past b.seat ≡ b.mine = h.2.told.mine b.seat ∙ ap (λ (x : SeatRecord). x.mine) is_second in
+      let own : events_of b.seen b.seat ≡ b.mine = ap (λ (x : SeatRecord). events_of x.seen b.seat) (sym is_second)
+      ∙ h.2.told.own b.seat ∙ ap (λ (x : SeatRecord). x.mine) is_second in
+      events_between past both b.seen b.seat part (longer_both a.seen b.seen one_past).second (mine ∙ sym own) ∙ own
+
+  pub sees : (r : SeatRecord) → r.setting ≡ c → events_of both r.seat ≡ r.mine
+      → SeesTruly k o (record r { seen = both })
+  sees r is own = record {
+    legal = subst (λ (y : Setting). IsLegal (monitor_of k o (floor_of y both)) both) (sym is)
+        (legal_front (monitor_of k o (floor_of c both)) both part.0
+        (subst (IsLegal (monitor_of k o (floor_of c past))) part.1 h.2.told.legal));
+    own = own;
+  }
+
+  pub compares_at : a.place ≡ Idle → b.place ≡ Idle
+      → IsStill k o c s h (record s { views = set s.views id (a2 ∷ b2 ∷ []) })
+  unfolding learns
+  compares_at idle_a idle_b =
+      let first = learns k o c s.words s.homes h.0 h.2 a.seat a2 (ap (λ (x : SeatRecord). x.place) (sym is_first))
+      (ap (λ (x : SeatRecord). x.count) (sym is_first)) (ap (λ (x : SeatRecord). x.known) (sym is_first))
+      (ap (λ (x : SeatRecord). x.mine) (sym is_first))
+      (ap (λ (x : SeatRecord). stage x.place) is_first ∙ ap stage idle_a) part all_a in
+      let both_kept = learns k o c s.words s.homes (update h.0 a.seat a2) first b.seat b2
+      (ap (λ (x : SeatRecord). x.place) (sym still_second)) (ap (λ (x : SeatRecord). x.count) (sym still_second))
+      (ap (λ (x : SeatRecord). x.known) (sym still_second)) (ap (λ (x : SeatRecord). x.mine) (sym still_second))
+      (ap (λ (x : SeatRecord). stage x.place) still_second ∙ ap stage idle_b) part all_b in record {
+        hall = (
+          update (update h.0 a.seat a2) b.seat b2,
+          shown_two c s.views h.0 h.1 id a b a2 b2 here refl refl refl
+              refl,
+          both_kept,
+        );
+        past = refl;
+      }
 
 -- two views become one
-pub meets : (k : Rules) (o : Object) (c : Setting) (id : ℕ) (v : View) (other : ℕ) (w : View) → IsOne v → IsOne w
-    → (the v).place ≡ Idle → Joins {S = Option FloorView} (IsHall k o c) id v other w (view_after_join v w) []
-meets k o c id v other w one_v one_w idle s h view ne_id view_w =
+pub meets_at : (k : Rules) (o : Object) (c : Setting) (id : ℕ) (v : View) (other : ℕ) (w : View) → IsOne v → IsOne w
+    → (the v).place ≡ Idle → (s : HallState) (h : IsHall k o c s) → get_elem? s.views id ≡ maybe.some v
+    → other ≢ id → get_elem? (set s.views id (view_after_join v w)) other ≡ maybe.some w
+    → IsStill k o c s h (record s { views = set (set s.views id (view_after_join v w)) other [] })
+unfolding learns
+meets_at k o c id v other w one_v one_w idle s h view ne_id view_w =
     let at = h.0 in
     let sh = h.1 in
     let kh = h.2 in
     let a : SeatRecord = the v in
     let b : SeatRecord = the w in
-    let a2 : SeatRecord = record a { steps = suc a.steps } in
+    let a2 : SeatRecord = record a { did = a.did ++ Meet ∷ [] } in
     let here : get_elem? s.views id ≡ maybe.some (a ∷ []) = view ∙ ap maybe.some one_v in
     let there : get_elem? s.views other ≡ maybe.some (b ∷ []) =
     sym (set_else s.views id other (view_after_join v w) ne_id) ∙ view_w ∙ ap maybe.some one_w in
@@ -391,63 +400,67 @@ meets k o c id v other w one_v one_w idle s h view ne_id view_w =
     (ap (λ (x : SeatRecord). stage x.place) is_a ∙ ap stage idle)
     (subst (λ (x : SeatRecord). StartsWith kh.past x.seen) is_a (kh.told.starts a.seat))
     (ap (λ (x : SeatRecord). events_of x.seen a.seat) (sym is_a) ∙ kh.told.own a.seat
-    ∙ ap (λ (x : SeatRecord). x.mine) is_a) in (
-      at_one,
-      record {
-        desk = desk_two;
-        each = λ j u e x in_u. ⊎_elim
-            (λ t. absurd (subst (In x) (sym t.1) in_u))
-            (λ t. ⊎_elim
-            (λ z. two_of a2 b x (subst (In x) (sym z.1) in_u)
-            (λ r. (at_one r.seat ≡ r) × (desk_two r.seat ≡ j) × (r.seat < c.seats))
-            (update_here at a.seat a2, desk_first ∙ sym z.0, near_a)
-            (still, update_here sh.desk b.seat id ∙ sym z.0, near_b))
-            (λ z.
-            let old = sh.each j u z.1 x in_u in
-            let na : x.seat ≢ a.seat = λ q. z.0 (sym old.1 ∙ ap sh.desk q ∙ desk_a) in
-            let nb : x.seat ≢ b.seat = λ q. t.0 (sym old.1 ∙ ap sh.desk q ∙ desk_b) in
-            (update_else at a.seat a2 x.seat na ∙ old.0, update_else sh.desk b.seat id x.seat nb ∙ old.1, old.2))
-            (at_set s.views id j (view_after_join v w) u t.1))
-            (at_set (set s.views id (view_after_join v w)) other j [] u e);
-        apart = λ j u e. ⊎_elim (λ t. subst Distinct t.1 tt)
-            (λ t. ⊎_elim (λ z. subst Distinct z.1
-            ((λ y in_y q. ne (sym (same_seat b y in_y) ∙ q)), ((λ y none. absurd none), tt)))
-            (λ z. sh.apart j u z.1) (at_set s.views id j (view_after_join v w) u t.1))
-            (at_set (set s.views id (view_after_join v w)) other j [] u e);
-        there = λ j near. elim (eqb_tells j a.seat) [
-          | inl h ↦ (
-            view_after_join v w,
-            ap (λ (n : ℕ). get_elem? views_two n) (ap desk_two h.1 ∙ desk_first)
-                ∙ at_id,
-            inl (ap at_one h.1 ∙ update_here at a.seat a2),
-          )
-          | inr na ↦ elim (eqb_tells j b.seat) [
+    ∙ ap (λ (x : SeatRecord). x.mine) is_a) in record {
+      hall = (
+        at_one,
+        record {
+          desk = desk_two;
+          each = λ j u e x in_u. ⊎_elim
+              (λ t. absurd (subst (In x) (sym t.1) in_u))
+              (λ t. ⊎_elim
+              (λ z. two_of a2 b x (subst (In x) (sym z.1) in_u)
+              (λ r. (at_one r.seat ≡ r) × (desk_two r.seat ≡ j) × (r.seat < c.seats))
+              (update_here at a.seat a2, desk_first ∙ sym z.0, near_a)
+              (still, update_here sh.desk b.seat id ∙ sym z.0, near_b))
+              (λ z.
+              let old = sh.each j u z.1 x in_u in
+              let na : x.seat ≢ a.seat = λ q. z.0 (sym old.1 ∙ ap sh.desk q ∙ desk_a) in
+              let nb : x.seat ≢ b.seat = λ q. t.0 (sym old.1 ∙ ap sh.desk q ∙ desk_b) in
+              (update_else at a.seat a2 x.seat na ∙ old.0, update_else sh.desk b.seat id x.seat nb ∙ old.1, old.2))
+              (at_set s.views id j (view_after_join v w) u t.1))
+              (at_set (set s.views id (view_after_join v w)) other j [] u e);
+          apart = λ j u e. ⊎_elim (λ t. subst Distinct t.1 tt)
+              (λ t. ⊎_elim (λ z. subst Distinct z.1
+              ((λ y in_y q. ne (sym (same_seat b y in_y) ∙ q)), ((λ y none. absurd none), tt)))
+              (λ z. sh.apart j u z.1) (at_set s.views id j (view_after_join v w) u t.1))
+              (at_set (set s.views id (view_after_join v w)) other j [] u e);
+          there = λ j near. elim (eqb_tells j a.seat) [
             | inl h ↦ (
               view_after_join v w,
-              ap (λ (n : ℕ). get_elem? views_two n) (ap desk_two h.1 ∙ update_here sh.desk b.seat id)
+              ap (λ (n : ℕ). get_elem? views_two n) (ap desk_two h.1 ∙ desk_first)
                   ∙ at_id,
-              inr (inl (ap at_one h.1 ∙ still)),
+              inl (ap at_one h.1 ∙ update_here at a.seat a2),
             )
-            | inr nb ↦
-                let old = sh.there j near in
-                let desk_is : desk_two j ≡ sh.desk j = update_else sh.desk b.seat id j nb.1 in
-                let off_id : sh.desk j ≢ id = λ d. na.1 (alone s.views at sh j old.0 id a old.1 d here old.2) in
-                let off_other : sh.desk j ≢ other =
-                λ d. nb.1 (alone s.views at sh j old.0 other b old.1 d there old.2) in (
-                  old.0,
-                  ap (λ (n : ℕ). get_elem? views_two n) desk_is
-                      ∙ set_else (set s.views id (view_after_join v w)) other (sh.desk j) [] off_other
-                      ∙ set_else s.views id (sh.desk j) (view_after_join v w) off_id ∙ old.1,
-                  subst (λ (x : SeatRecord). In x old.0) (sym (update_else at a.seat a2 j na.1)) old.2,
-                )
-          ]
-        ];
-        settings =
-            at_update at a.seat a2 (λ j x. x.setting ≡ c) (is_setting c s.views at sh id a here) (λ j _. sh.settings j);
-        seats = at_update at a.seat a2 (λ j x. x.seat ≡ j) refl (λ j _. sh.seats j);
-      },
-      kept,
-    )
+            | inr na ↦ elim (eqb_tells j b.seat) [
+              | inl h ↦ (
+                view_after_join v w,
+                ap (λ (n : ℕ). get_elem? views_two n) (ap desk_two h.1 ∙ update_here sh.desk b.seat id)
+                    ∙ at_id,
+                inr (inl (ap at_one h.1 ∙ still)),
+              )
+              | inr nb ↦
+                  let old = sh.there j near in
+                  let desk_is : desk_two j ≡ sh.desk j = update_else sh.desk b.seat id j nb.1 in
+                  let off_id : sh.desk j ≢ id = λ d. na.1 (alone s.views at sh j old.0 id a old.1 d here old.2) in
+                  let off_other : sh.desk j ≢ other =
+                  λ d. nb.1 (alone s.views at sh j old.0 other b old.1 d there old.2) in (
+                    old.0,
+                    ap (λ (n : ℕ). get_elem? views_two n) desk_is
+                        ∙ set_else (set s.views id (view_after_join v w)) other (sh.desk j) [] off_other
+                        ∙ set_else s.views id (sh.desk j) (view_after_join v w) off_id ∙ old.1,
+                    subst (λ (x : SeatRecord). In x old.0) (sym (update_else at a.seat a2 j na.1)) old.2,
+                  )
+            ]
+          ];
+          settings =
+              at_update at a.seat a2 (λ j x. x.setting ≡ c) (is_setting c s.views at sh id a here)
+              (λ j _. sh.settings j);
+          seats = at_update at a.seat a2 (λ j x. x.seat ≡ j) refl (λ j _. sh.seats j);
+        },
+        kept,
+      );
+      past = refl;
+    }
   where
     alone : (views : List View) (at : ℕ → SeatRecord) (sh : AreShown c views at) (j : ℕ) (u : View) (d : ℕ)
         (x : SeatRecord) → get_elem? views (sh.desk j) ≡ maybe.some u → sh.desk j ≡ d
@@ -457,15 +470,19 @@ meets k o c id v other w one_v one_w idle s h view ne_id view_w =
         sym (sh.seats j) ∙ ap (λ (y : SeatRecord). y.seat) (only (at j) x (subst (λ (z : View). In (at j) z) is_u i))
 
 -- the second of two records goes to a seat of its own
-parted : (k : Rules) (o : Object) (c : Setting) (id : ℕ) (a b : SeatRecord)
-    → Splits {S = Option FloorView} (IsHall k o c) id (a ∷ b ∷ []) (a ∷ []) (b ∷ [])
-parted k o c id a b s h view =
-    let distinct = h.1.apart id (a ∷ b ∷ []) view in (
-      h.0,
-      shown_moved c s.views h.0 h.1 id (a ∷ b ∷ []) (a ∷ []) b view (inr (inl refl)) first_stays either
-          (λ z i e. distinct.0 b (inl refl) (sym e ∙ same_seat a z i)) ((λ y none. absurd none), tt),
-      h.2,
-    )
+pub parts_at : (k : Rules) (o : Object) (c : Setting) (id : ℕ) (a b : SeatRecord) (s : HallState) (h : IsHall k o c s)
+    → get_elem? s.views id ≡ maybe.some (a ∷ b ∷ [])
+    → IsStill k o c s h (record s { views = set s.views id (a ∷ []) ++ (b ∷ []) ∷ [] })
+parts_at k o c id a b s h view =
+    let distinct = h.1.apart id (a ∷ b ∷ []) view in record {
+      hall = (
+        h.0,
+        shown_moved c s.views h.0 h.1 id (a ∷ b ∷ []) (a ∷ []) b view (inr (inl refl)) first_stays either
+            (λ z i e. distinct.0 b (inl refl) (sym e ∙ same_seat a z i)) ((λ y none. absurd none), tt),
+        h.2,
+      );
+      past = refl;
+    }
   where
     first_stays : (z : SeatRecord) → In z (a ∷ []) → In z (a ∷ b ∷ [])
     first_stays z (inl e) = inl e
@@ -475,12 +492,6 @@ parted k o c id a b s h view =
     either z (inl e) = inr (inl e)
     either z (inr (inl e)) = inl e
     either z (inr (inr none)) = absurd none
-
-pub parts_again : (k : Rules) (o : Object) (c : Setting) (id : ℕ) (v m : View) → v ≡ view_after_compare m
-    → Splits {S = Option FloorView} (IsHall k o c) id v (head v) (tail v)
-parts_again k o c id v m e =
-    subst (λ (x : View). Splits {S = Option FloorView} (IsHall k o c) id x (head x) (tail x)) (sym e)
-    (parted k o c id (the (view_after_compare m)) (the (tail (view_after_compare m))))
 
 -- whoever has seen the longer of two has seen what begins with both
 pub has_learned : (a b x y g : List Event) → AreOne a b → a ≡ x → b ≡ y → g ≡ longer a b

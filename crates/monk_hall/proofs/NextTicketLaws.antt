@@ -1,15 +1,26 @@
 -- Who enters next after a release that chose entry
-use Rattle.std.proofs.Common.{◌≡◌, ℕ, sym, ap, ◌∙◌, arith}
+use Rattle.std.proofs.Common.{◌≡◌, ◌≢◌, ℕ, List, [], ◌∷◌, ◌++◌, append_assoc, Option, Some, None, inl, inr, sym, ap, subst}
+use Rattle.std.proofs.Common.{◌∙◌, arith}
+use Rattle.std.proofs.lemmas.Option.{none-some, same_Some}
+use Rattle.atomic_table.specs.Seated.{TableId}
 use Rattle.monk_history.specs.Meaning.Counts.{enters_of}
-use Rattle.monk_world.specs.Places.{stage, ticket}
+use Rattle.monk_history.specs.declared.event.Event.{Event}
+use Rattle.monk_world.specs.Places.{stage, ticket, passing_stage}
+use Rattle.monk_world.proofs.PublicLaws.{held}
 use Rattle.monk_world.specs.declared.place.Place.{Place}
 use Rattle.monk_world.specs.declared.place.Place.TheVariants.{Ticket}
-use Rattle.monk_hall.specs.Changes.{source_from}
+use Rattle.monk_hall.specs.Calls.{peeks_at}
+use Rattle.monk_hall.specs.Changes.{source_from, since}
+use Rattle.monk_hall.specs.Granting.{Grant, granted_last}
+use Rattle.monk_hall.specs.Handing.{HandsOn}
 use Rattle.monk_hall.specs.Layout.{ticket_word, waiting_word_at}
-use Rattle.monk_hall.specs.NextTicket.{NextTicketWaits, GrantedEntersNext}
+use Rattle.monk_hall.specs.NextTicket.{NextTicketWaits, NoTicketWaits, GrantedEntersNext}
+use Rattle.monk_hall.specs.declared.deed.Deed.{Deed}
+use Rattle.monk_hall.specs.declared.deed.Deed.TheVariants.{FloorIn, Drop, GrantTicket}
 use Rattle.monk_hall.specs.declared.record.SeatRecord.{SeatRecord}
 use Rattle.monk_hall.specs.declared.setting.Setting.{Setting}
-use Rattle.monk_hall.proofs.RecordLaws.{is, place, next_ticket, recorded}
+use Rattle.monk_hall.proofs.HandingLaws.{grants_by}
+use Rattle.monk_hall.proofs.RecordLaws.{is, place, with, next_ticket, recorded}
 use Rattle.monk_hall.proofs.Standing.{ticket_at}
 
 -- where a seat of this setting finds its grant that waits with this ticket
@@ -38,8 +49,49 @@ next_ticket_waits k o c s h r to x back_at two =
           sym (is k o c s h q y) ∙ ap h.0 (sym owns ∙ ap (λ (p : Place). h.2.kept.sound.owner (ticket p)) stands);
     }
 
+pub no_ticket_waits : NoTicketWaits
+no_ticket_waits k o c s h r to x back_at last q t y at =
+    let sound = h.2.kept.sound.is_sound in
+    let keeps = sound.stands.keeps in
+    let four = ap stage back_at in
+    let mine = with k o c s h r x (omega arith) (omega arith) in
+    let stands = place k o c s h q y ∙ at in
+    let waits = keeps.tickets.waits q.seat (ap stage stands) in
+    let a = waits.0 in
+    let b = waits.1 in
+    let nobody : (j : ℕ) → stage (h.0 j).place ≢ passing_stage = λ j five.
+    let theirs = held keeps j (omega arith) (omega arith) in
+    let same : j ≡ r.seat = cc in
+    let e = ap (λ (n : ℕ). stage (h.0 n).place) same in
+    let p = ap stage (place k o c s h r x) in
+    absurd (omega arith) in
+    let given = keeps.tickets.granted q.seat (ap stage stands) (omega arith) nobody in
+    absurd cc
+
+-- a release by entry that granted something granted the next ticket
+granted_word : (z : TableId) (seats : ℕ) (seen : List Event) (front handed : List Deed) (x : Grant)
+    → HandsOn None seen handed → Some x ≡ granted_last z seats (front ++ handed)
+    → x.word ≡ ticket_word seats (enters_of seen)
+granted_word z seats seen front handed x (inl none) e =
+    absurd (none-some x (sym (grants_by z seats front (Drop 1))
+    ∙ ap (λ (ds : List Deed). granted_last z seats (front ++ ds)) (sym none) ∙ sym e))
+granted_word z seats seen front handed x (inr (n, two, one)) e =
+    ap (λ (g : Grant). g.word) (same_Some x _ (e
+    ∙ ap (λ (ds : List Deed). granted_last z seats (front ++ ds)) one
+    ∙ ap (granted_last z seats) (sym (append_assoc front (Drop n ∷ []) (GrantTicket (enters_of seen) ∷ [])))
+    ∙ grants_by z seats (front ++ Drop n ∷ []) (GrantTicket (enters_of seen))))
+
 pub granted_enters_next : GrantedEntersNext
 granted_enters_next k o a call wish to peeks p h x granted entry q b t entered same at enters =
-    let word = (granted.granted.ticket entry).1 in
+    let it = granted.released in
+    let front : List Deed = a.me.did ++ (peeks_at peeks it.found ++ FloorIn (since a.me.seen p.me.seen) ∷ []) in
+    let all : p.me.did ≡ front ++ it.handed = it.did
+    ∙ ap (λ (ds : List Deed). a.me.did ++ ds)
+    (sym (append_assoc (peeks_at peeks it.found) (FloorIn (since a.me.seen p.me.seen) ∷ []) it.handed))
+    ∙ sym (append_assoc a.me.did (peeks_at peeks it.found ++ FloorIn (since a.me.seen p.me.seen) ∷ []) it.handed) in
+    let word : x.word ≡ ticket_word h.setting.seats (enters_of p.me.seen) =
+    granted_word h.id h.setting.seats p.me.seen front it.handed x
+    (subst (λ (c : Option ℕ). HandsOn c p.me.seen it.handed) entry it.hands_on)
+    (granted.granted ∙ ap (granted_last h.id h.setting.seats) all) in
     let next = entered.next t (ap source_from at) in
     word_is h.setting q.me t same at ∙ ap (λ (n : ℕ). ticket_word h.setting.seats n) (sym next ∙ enters) ∙ sym word

@@ -17,7 +17,7 @@ use Rattle.monk_hall.specs.Rule.{IsHall}
 use Rattle.monk_hall.specs.declared.record.SeatRecord.{SeatRecord}
 use Rattle.monk_hall.specs.declared.setting.Setting.{Setting}
 
-cases_le : (a b : ℕ) → (a ≤ b) ⊎ (b < a)
+pub cases_le : (a b : ℕ) → (a ≤ b) ⊎ (b < a)
 cases_le zero b = inl (omega arith)
 cases_le (suc a) zero = inr (omega arith)
 cases_le (suc a) (suc b) = elim (cases_le a b) [ inl l ↦ inl (omega arith) | inr l ↦ inr (omega arith) ]

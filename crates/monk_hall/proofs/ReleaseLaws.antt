@@ -1,6 +1,6 @@
 -- What a release makes of an active seat
-use Rattle.std.proofs.Common.{◌≡◌, ℕ, suc, ◌+◌, ◌<◌, ◌≤◌, Bool, true, false, true≢false, not, cond, List, []}
-use Rattle.std.proofs.Common.{◌∷◌, ◌++◌, length, Option, Some, refl, sym, ap, subst, ◌∙◌, arith}
+use Rattle.std.proofs.Common.{◌≡◌, ℕ, ◌+◌, ◌<◌, ◌≤◌, Bool, true, false, true≢false, not, cond, List, [], ◌∷◌, ◌++◌}
+use Rattle.std.proofs.Common.{length, append-nil, append_assoc, Option, Some, refl, sym, ap, subst, ◌∙◌, arith}
 use Rattle.atomic_table.specs.Seated.{TableId}
 use Rattle.monk_kinds.specs.declared.mode.Rules.{Rules}
 use Rattle.monk_kinds.specs.declared.mode.Pick.{Pick}
@@ -28,18 +28,20 @@ use Rattle.monk_floor.specs.View.{FloorView, monitor_of, stands_of}
 use Rattle.monk_world.specs.State.{with_event}
 use Rattle.monk_world.specs.declared.home.Home.{Home}
 use Rattle.monk_world.specs.declared.home.Home.TheVariants as home
-use Rattle.monk_hall.specs.Calls.{HasReleased, HasStayed, HasPeeked, Remembers, is_entry_known}
+use Rattle.monk_hall.specs.Calls.{HasReleased, HasStayed, HasPeeked, Remembers, is_entry_known, peeks_at}
 use Rattle.monk_hall.specs.AfterCalls.{MatchAfter}
 use Rattle.monk_hall.specs.declared.after.After.{After}
 use Rattle.monk_hall.specs.declared.after.After.TheVariants.{Active, Parked}
-use Rattle.monk_hall.specs.Changes.{record_after_peek}
-use Rattle.monk_hall.specs.Granting.{Grant, IsGrantFor, HasGranted, HasStayedAlone}
-use Rattle.monk_hall.specs.Handing.{HasRecordedRelease, HasGone}
-use Rattle.monk_hall.specs.Layout.{floor_of}
+use Rattle.monk_hall.specs.Changes.{record_after_peek, since}
+use Rattle.monk_hall.specs.Granting.{Grant, granted_last, HasGranted, HasStayedAlone}
+use Rattle.monk_hall.specs.Handing.{HasRecordedRelease, HandsOn, HasGone, seat_called_by}
+use Rattle.monk_hall.specs.Layout.{floor_of, unpassed}
 use Rattle.monk_hall.specs.Recorded.{IsRelease}
 use Rattle.monk_hall.specs.Records.{the}
 use Rattle.monk_hall.specs.Tells.{Me, TellsPeek, IsReleaseTo, SeesTruly}
 use Rattle.monk_hall.specs.Tokens.{Token, Holder, House, IsHolding, with_own, holder}
+use Rattle.monk_hall.specs.declared.deed.Deed.{Deed}
+use Rattle.monk_hall.specs.declared.deed.Deed.TheVariants.{FloorIn}
 use Rattle.monk_hall.specs.declared.record.SeatRecord.{SeatRecord}
 use Rattle.monk_hall.specs.declared.seat_numbers.SeatNumbers.{SeatNumbers}
 use Rattle.monk_hall.proofs.Private.{own_event}
@@ -91,9 +93,6 @@ signal_wait_goes m h s c d next.Entry a = refl
 signal_wait_goes m h s c d (next.Waiter j) a = refl
 signal_wait_goes m h s c d (next.Signaller j) a = refl
 signal_wait_goes m h s c d (next.Until j) a = refl
-
-plus_none : (n : ℕ) → n ≡ n + 0
-plus_none n = omega arith
 
 stay_is : (x : Next) → is_stay (Some x) ≡ true → x ≡ next.Stay
 stay_is next.Stay e = refl
@@ -159,11 +158,11 @@ module _ {k : Rules} {o : Object} {z : TableId} {me : Me} {numbers : SeatNumbers
 
   pub released : IsHolding k o z me numbers f → IsRelease k o (the me.0) f call wish known choice to g
       → is_stay (Some choice) ≡ false
-      → (p : Token) → p.hall ≡ z → HasGone (the me.0) g.history to p.me → SeesTruly k o p.me
+      → (p : Token) → p.hall ≡ z → HasGone (the me.0) g.history choice to p.me → SeesTruly k o p.me
       → HasReleased k o (holder z (the me.0) f) call wish to 0 p
   released h x away p hall gone told =
       let r = the me.0 in let history = ap (λ (y : FloorView). y.history) x.is_grown.grown in let is_known =
-      ap (λ w. w.known) gone.is in let few = gone.few in let steps = ap (λ w. w.steps) gone.is in record {
+      ap (λ w. w.known) gone.is in let seen = ap (λ w. w.seen) gone.is in record {
         choice = choice;
         chosen = chosen_as_known x
             ∙ ap (λ b. choice_of k o (stands_of k o f) call (is_entry_known wish b) wish) (sym is_known);
@@ -175,24 +174,25 @@ module _ {k : Rules} {o : Object} {z : TableId} {me : Me} {numbers : SeatNumbers
         seen = ap (λ w. w.seen) gone.is ∙ history;
         mine = ap (λ w. w.mine) gone.is ∙ ap (λ h. events_of h r.seat) history
             ∙ own_event f.history (with_next choice call) r.seat (said r.seat to call choice x.release).seat;
-        looks = ap (λ w. w.looks) gone.is ∙ omega arith;
-        steps = omega arith;
-        remembers = record { knew = λ knew. is_known ∙ knew; unlooked = λ _. is_known };
+        found = 0;
+        handed = gone.handed;
+        did = ap (λ w. w.did) gone.is
+            ∙ append_assoc r.did (FloorIn (since r.seen g.history) ∷ []) gone.handed
+            ∙ ap (λ (h : List Event). r.did ++ FloorIn (since r.seen h) ∷ gone.handed) (sym seen);
+        hands_on = subst (λ (h : List Event). HandsOn (seat_called_by choice) h gone.handed) (sym seen) gone.hands_on;
+        remembers = record { knew = λ knew. is_known ∙ knew; learns = is_known };
         told = told;
         floor = h.goes.is_floor;
       }
 
-remembers_twice : (peeks : ℕ) (a b : Holder) → HasPeeked peeks a b → (w : SeatRecord) → Remembers b.me w
-    → b.me.looks ≤ w.looks → Remembers a.me w
-remembers_twice peeks a b x w y more = record {
-  knew = λ knew. y.knew (x.remembers.knew knew);
-  unlooked = λ same. let n = ap (λ (h : Holder). h.me.looks) x.is in
-      y.unlooked (omega arith) ∙ x.remembers.unlooked (omega arith);
-}
+remembers_twice : (peeks : ℕ) (a b : Holder) → (x : HasPeeked peeks a b) → (w : SeatRecord) → Remembers b.me [] w
+    → Remembers a.me (peeks_at peeks x.found) w
+remembers_twice peeks a b x w y =
+    record { knew = λ knew. y.knew (x.remembers.knew knew); learns = y.learns ∙ x.remembers.learns }
 
 -- a look changes neither the floor nor the setting
-of_setting : (a b : Holder) {known : Bool} {looks steps : ℕ}
-    → b ≡ record a { me = record a.me { known = known; looks = looks; steps = steps } }
+of_setting : (a b : Holder) {known : Bool} {did : List Deed}
+    → b ≡ record a { me = record a.me { known = known; did = did } }
     → b.floor ≡ floor_of b.me.setting b.floor.history → a.floor ≡ floor_of a.me.setting a.floor.history
 of_setting a b is floor = sym (ap (λ (h : Holder). h.floor) is) ∙ floor
     ∙ ap (λ (h : Holder). floor_of h.me.setting h.floor.history) is
@@ -202,24 +202,26 @@ module _ {k : Rules} {o : Object} where
   pub released_peeked : (peeks : ℕ) (a b : Holder) → HasPeeked peeks a b
       → (call : Event) (wish : Pick) (to : Home) (p : Token) → HasReleased k o b call wish to 0 p
       → HasReleased k o a call wish to peeks p
-  released_peeked peeks a b x call wish to p y = let is = x.is in let few = y.steps in let steps =
-      ap (λ (h : Holder). h.me.steps) is in record {
-        choice = y.choice;
-        chosen = y.chosen
-            ∙ ap (λ (h : Holder). choice_of k o (stands_of k o h.floor) call (is_entry_known wish p.me.known) wish) is;
-        away = y.away;
-        hall = y.hall ∙ ap (λ (h : Holder). h.hall) is;
-        seat = y.seat ∙ ap (λ (h : Holder). h.me.seat) is;
-        setting = y.setting ∙ ap (λ (h : Holder). h.me.setting) is;
-        place = y.place;
-        seen = y.seen ∙ ap (λ (h : Holder). h.floor.history ++ with_next y.choice call ∷ []) is;
-        mine = y.mine ∙ ap (λ (h : Holder). h.me.mine ++ with_next y.choice call ∷ []) is;
-        looks = y.looks ∙ ap (λ (h : Holder). h.me.looks + 0) is ∙ omega arith;
-        steps = omega arith;
-        remembers = remembers_twice peeks a b x p.me y.remembers (let n = y.looks in omega arith);
-        told = y.told;
-        floor = of_setting a b is y.floor;
-      }
+  released_peeked peeks a b x call wish to p y = let is = x.is in record {
+    choice = y.choice;
+    chosen = y.chosen
+        ∙ ap (λ (h : Holder). choice_of k o (stands_of k o h.floor) call (is_entry_known wish p.me.known) wish) is;
+    away = y.away;
+    hall = y.hall ∙ ap (λ (h : Holder). h.hall) is;
+    seat = y.seat ∙ ap (λ (h : Holder). h.me.seat) is;
+    setting = y.setting ∙ ap (λ (h : Holder). h.me.setting) is;
+    place = y.place;
+    seen = y.seen ∙ ap (λ (h : Holder). h.floor.history ++ with_next y.choice call ∷ []) is;
+    mine = y.mine ∙ ap (λ (h : Holder). h.me.mine ++ with_next y.choice call ∷ []) is;
+    found = x.found;
+    handed = y.handed;
+    did = y.did ∙ ap (λ (h : Holder). h.me.did ++ FloorIn (since h.me.seen p.me.seen) ∷ y.handed) is
+        ∙ append_assoc a.me.did (peeks_at peeks x.found) (FloorIn (since a.me.seen p.me.seen) ∷ y.handed);
+    hands_on = y.hands_on;
+    remembers = remembers_twice peeks a b x p.me y.remembers;
+    told = y.told;
+    floor = of_setting a b is y.floor;
+  }
 
 -- what the active seat may do
 module _ {k : Rules} {o : Object} {z : TableId} {me : Me} {numbers : SeatNumbers} {f : FloorView} where
@@ -238,9 +240,9 @@ module _ {k : Rules} {o : Object} {z : TableId} {me : Me} {numbers : SeatNumbers
   pub released_of : {wish : Pick} {known : Bool} {choice : Next} {to : Home} {g : FloorView} → (call : ℕ → Event)
       → IsHolding k o z me numbers f → IsRelease k o (the me.0) f (call numbers.seat) wish known choice to g
       → is_stay (Some choice) ≡ false
-      → (p : Token) → p.hall ≡ z → HasGone (the me.0) g.history to p.me → SeesTruly k o p.me
+      → (p : Token) → p.hall ≡ z → HasGone (the me.0) g.history choice to p.me → SeesTruly k o p.me
       → (y : House) (granted : Option Grant)
-      → IsGrantFor y choice p.me.seen (the me.0).steps p.me.steps granted → (a : Holder)
+      → granted ≡ granted_last y.id y.setting.seats p.me.did → (a : Holder)
       → holder z (the me.0) f ≡ a → HasGranted k o a (call a.me.seat) wish to 0 p y granted
   unfolding released
   released_of {wish} {known} {choice} {to} {g} call h x away p hall gone told y granted for a is =
@@ -248,7 +250,7 @@ module _ {k : Rules} {o : Object} {z : TableId} {me : Me} {numbers : SeatNumbers
       (subst (λ n. HasGranted k o (holder z (the me.0) f) (call n) wish to 0 p y granted) (sym h.seated.is_seat)
       (record {
         released = released h x away p hall gone told;
-        granted = subst (λ n. IsGrantFor y choice p.me.seen n p.me.steps granted) (plus_none (the me.0).steps) for;
+        granted = for;
       }))
 
   pub leaves : IsHolding k o z me numbers f → (wish : Pick) (known : Bool) (choice : Next) (g : FloorView)
@@ -380,19 +382,18 @@ module _ {k : Rules} {o : Object} {z : TableId} {me : Me} {numbers : SeatNumbers
       subst (λ (b : Holder). HasStayed k o b (call b.me.seat) wish 0 (holder z r g)) is
       (subst (λ n. HasStayed k o (holder z r f) (call n) wish 0 (holder z r g)) (sym h.seated.is_seat) record {
         chosen = sym same ∙ chosen_as_known x;
+        found = 0;
         is = ap (holder z r) grows
             ∙ (λ i. record {
               hall = z;
               me =
                   record r {
                     mine = own_event f.history e r.seat seat i;
-                    looks = plus_none r.looks i;
-                    steps =
-                        plus_none r.steps i;
+                    did = sym (append-nil r.did) i;
                   };
               floor = with_event f e;
             });
-        remembers = record { knew = λ knew. knew; unlooked = λ _. refl };
+        remembers = record { knew = λ knew. knew; learns = refl };
         legal = subst (λ (y : FloorView). IsLegal (monitor_of k o y) y.history) (sym x.is_grown.grown)
             (legal-push (monitor_of k o f) f.history (with_next choice (call numbers.seat)) h.goes.legal
             x.is_grown.allowed);
@@ -406,15 +407,14 @@ module _ {k : Rules} {o : Object} where
   stayed_peeked peeks a b x call wish c y = let is = x.is in record {
     chosen = y.chosen
         ∙ ap (λ (h : Holder). choice_of k o (stands_of k o h.floor) call (is_entry_known wish c.me.known) wish) is;
+    found = x.found;
     is = y.is
         ∙ ap (λ (h : Holder). let z : Holder =
         record h {
           me = record h.me {
             known = c.me.known;
             mine = h.me.mine ++ with_next next.Stay call ∷ [];
-            looks =
-                h.me.looks + 0;
-            steps = h.me.steps + 0;
+            did = h.me.did ++ [];
           };
           floor = with_event h.floor (with_next next.Stay call);
         } in z) is
@@ -423,15 +423,12 @@ module _ {k : Rules} {o : Object} where
               record a.me {
                 known = c.me.known;
                 mine = a.me.mine ++ with_next next.Stay call ∷ [];
-                looks =
-                    sym (plus_none (a.me.looks + peeks)) i;
-                steps = sym (plus_none (a.me.steps + peeks)) i;
+                did = append-nil (a.me.did ++ peeks_at peeks x.found) i;
               };
           floor =
               with_event a.floor (with_next next.Stay call);
         });
-    remembers =
-        remembers_twice peeks a b x c.me y.remembers (let n = ap (λ (h : Holder). h.me.looks) y.is in omega arith);
+    remembers = remembers_twice peeks a b x c.me y.remembers;
     legal = y.legal;
     own = y.own;
     floor = of_setting a b is y.floor;
@@ -441,20 +438,14 @@ module _ {k : Rules} {o : Object} where
 pub peeked_once : (z y : TableId) (me new : Me) (f : FloorView) (found : ℕ) → y ≡ z → TellsPeek me found new
     → (a : Holder) → holder z (the me.0) f ≡ a → HasPeeked 1 a (holder y (the new.0) f)
 peeked_once z y me new f found same step a is =
-    let r = the me.0 in let w = record_after_peek r found in let one : (n : ℕ) → suc n ≡ n + 1 = λ n. omega arith in
+    let r = the me.0 in let w = record_after_peek r found in
     subst (λ (b : Holder). HasPeeked 1 b (holder y (the new.0) f)) is record {
-      remembers =
-          record {
-            knew = step.1;
-            unlooked = λ e. let more = ap (λ (m : Me). (the m.0).looks) step.0 in
-                absurd (omega arith);
-          };
-      known = w.known;
+      found = unpassed found;
+      remembers = record { knew = step.1; learns = ap (λ (m : Me). (the m.0).known) step.0 };
       is = (λ i. holder (same i) (the (step.0 i).0) f)
           ∙ (λ i. record {
             hall = z;
-            me =
-                record (with_own r f) { known = w.known; looks = one r.looks i; steps = one r.steps i };
+            me = record (with_own r f) { known = ap (λ (m : Me). (the m.0).known) (sym step.0) i; did = w.did };
             floor = f;
           });
     }
@@ -462,10 +453,9 @@ peeked_once z y me new f found same step a is =
 pub peeked_none : (n : ℕ) (a : Holder) → n ≡ 0 → HasPeeked n a a
 peeked_none n a e = subst (λ m. HasPeeked m a a) (sym e)
     record {
-      remembers = record { knew = λ knew. knew; unlooked = λ _. refl };
-      known = a.me.known;
-      is =
-          λ i. record a { me = record a.me { looks = plus_none a.me.looks i; steps = plus_none a.me.steps i } };
+      found = 0;
+      remembers = record { knew = λ knew. knew; learns = refl };
+      is = λ i. record a { me = record a.me { did = sym (append-nil a.me.did) i } };
     }
 
 module _ {k : Rules} {o : Object} {z : TableId} {me : Me} {numbers : SeatNumbers} {f : FloorView} where
@@ -491,8 +481,7 @@ granted_peeked : {k : Rules} {o : Object} (peeks : ℕ) (a b : Holder) → HasPe
 unfolding released_peeked
 granted_peeked peeks a b x call wish to p h g m = record {
   released = released_peeked peeks a b x call wish to p m.released;
-  granted = subst (λ n. IsGrantFor h m.released.choice p.me.seen n p.me.steps g)
-      (let steps = ap (λ (y : Holder). y.me.steps) x.is in omega arith) m.granted;
+  granted = m.granted;
 }
 
 -- a call after a look at the ticket word: one that gives the floor back, and one that may stay

@@ -1,5 +1,5 @@
 -- A table that meets the rule, as a seat finds it that has its view alone
-use Rattle.std.proofs.Common.{◌≡◌, ◌≢◌, ℕ, ◌-◌, ◌<◌, ◌≤◌, Bool, List, [], ◌∷◌, length, set, sym, ap, ◌∙◌, subst, arith}
+use Rattle.std.proofs.Common.{◌≡◌, ◌≢◌, ℕ, ◌-◌, ◌<◌, ◌≤◌, Bool, List, [], ◌∷◌, length, set, refl, sym, ap, ◌∙◌, subst, arith}
 use Rattle.std.specs.Prelude.{Option}
 use mathlib.Core.Option as maybe
 use mathlib.Core.Path.{Path}
@@ -149,6 +149,7 @@ module _ (k : Rules) (o : Object) (c : Setting) (kind : IsKind k) (s : table.Sta
         told = told;
       },
     );
+    home = refl;
     step = subst (λ (z : State). IsStep k o state r.seat m a z) same taken.step;
   }
 

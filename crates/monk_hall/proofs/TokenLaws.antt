@@ -1,5 +1,5 @@
 -- What tokens keep from step to step
-use Rattle.std.proofs.Common.{◌≡◌, ℕ, suc, ◌+◌, ◌<◌, ◌≤◌, ◌==◌, Bool, true, false, cond, List, [], ◌∷◌, ◌++◌}
+use Rattle.std.proofs.Common.{◌≡◌, ℕ, ◌+◌, ◌<◌, ◌≤◌, ◌==◌, Bool, true, false, cond, List, [], ◌∷◌, ◌++◌}
 use Rattle.std.proofs.Common.{length, length-append, append-nil, append_assoc, None, refl, sym, ap, subst, ◌∙◌, arith}
 use Rattle.atomic_table.specs.Seated.{TableId}
 use Rattle.monk_kinds.specs.declared.mode.Rules.{Rules}
@@ -14,6 +14,7 @@ use Rattle.monk_history.specs.declared.event.Turn.{Turn}
 use Rattle.monk_history.specs.declared.event.Turn.TheVariants.{Owned}
 use Rattle.monk_history.proofs.PublicLaws.Meaning.{legal-push, turn-push}
 use Rattle.monk_floor.specs.View.{FloorView, monitor_of}
+use Rattle.monk_world.specs.Places.{stage, due_stage}
 use Rattle.monk_world.specs.State.{with_event}
 use Rattle.monk_world.specs.StepTable.{out_event}
 use Rattle.monk_world.specs.Steps.{place_after_arrive, place_after_ticket_look, place_after_seat_look, count_after_seat_look}
@@ -22,14 +23,17 @@ use Rattle.monk_world.specs.declared.place.Place.TheVariants.{Idle, Ticket, Due,
 use Rattle.monk_world.specs.declared.source.Source.{Source}
 use Rattle.monk_world.specs.declared.source.Source.TheVariants.{Free, Granted, Called}
 use Rattle.monk_hall.proofs.Private.{own_event}
-use Rattle.monk_hall.specs.Calls.{HasArrived, HasEntered, HasDone, HasLooked, record_after_look}
+use Rattle.monk_hall.specs.Calls.{ComesAfter, HasArrived, HasEntered, HasDone, HasLooked, record_after_look}
 use Rattle.monk_hall.specs.Changes.{record_after_arrive, record_after_ticket_look, record_after_seat_look, source_from}
 use Rattle.monk_hall.specs.Changes.{record_after_floor_out}
+use Rattle.monk_hall.specs.Deeds.{look_at}
 use Rattle.monk_hall.specs.Floors.{Finds, GoesOn, IsPrivate, ArePrivate}
 use Rattle.monk_hall.specs.Layout.{floor_of, tickets, unpassed}
 use Rattle.monk_hall.specs.Records.{View, the}
 use Rattle.monk_hall.specs.Tells.{Me, TellsArrive, SeesTruly}
 use Rattle.monk_hall.specs.Tokens.{Token, Holder, IsResting, IsHolding, IsWaiting, with_own, holder}
+use Rattle.monk_hall.specs.declared.deed.Deed.{Deed}
+use Rattle.monk_hall.specs.declared.deed.Deed.TheVariants.{Arrive, LookForTicket, LookForCall, FloorOut}
 use Rattle.monk_hall.specs.declared.record.SeatRecord.{SeatRecord}
 use Rattle.monk_hall.specs.declared.seat_numbers.SeatNumbers.{SeatNumbers}
 
@@ -82,19 +86,10 @@ module _ {k : Rules} {o : Object} where
   }
 
   pub rests_moved : {z : TableId} {me : Me} {numbers : SeatNumbers} {left : ℕ} → IsResting k o z me numbers left
-      → (p : Place) (known : Bool) (count looks steps now : ℕ) → now ≡ count
-      → IsResting k o z (
-        record (the me.0) {
-          place = p;
-          known = known;
-          count = count;
-          looks = looks;
-          steps =
-              steps;
-        } ∷ [],
-        me.1,
-      ) (record numbers { calls = now }) left
-  rests_moved {z} {me} x p known count looks steps now counts = record {
+      → (p : Place) (known : Bool) (count : ℕ) (did : List Deed) (now : ℕ) → now ≡ count
+      → IsResting k o z (record (the me.0) { place = p; known = known; count = count; did = did } ∷ [], me.1)
+      (record numbers { calls = now }) left
+  rests_moved {z} {me} x p known count did now counts = record {
     one = refl;
     free = x.free;
     seated = record {
@@ -106,8 +101,7 @@ module _ {k : Rules} {o : Object} where
     };
     spent = x.spent;
     told = told_moved (the me.0)
-        (record (the me.0) { place = p; known = known; count = count; looks = looks; steps = steps }) x.told refl refl
-        refl refl;
+        (record (the me.0) { place = p; known = known; count = count; did = did }) x.told refl refl refl refl;
   }
 
   -- the floor has come out to a seat that was due, with the event that it records
@@ -198,8 +192,8 @@ module _ {k : Rules} {o : Object} where
       let r = the v in let spent = x.spent in
       let drawn : new ≡ (record_after_arrive r found ∷ [], []) = is
       ∙ (λ i. (record_after_arrive (the (view i)) found ∷ [], free i)) in (
-        rests_at (rests_moved x (place_after_arrive (tickets found) (unpassed found)) r.known r.count r.looks
-            (suc r.steps) numbers.calls x.seated.counted) y new same drawn,
+        rests_at (rests_moved x (place_after_arrive (tickets found) (unpassed found)) r.known r.count
+            (r.did ++ Arrive (tickets found) (unpassed found) ∷ []) numbers.calls x.seated.counted) y new same drawn,
         omega arith,
         at ∙ sym (ap (λ m. (the m.0).place) drawn),
         subst IsWaiting (sym at) (arrived_waits (tickets found) (unpassed found)),
@@ -230,8 +224,8 @@ module _ {k : Rules} {o : Object} where
       → IsResting k o y new numbers left × (p ≡ (the new.0).place) × IsWaiting p
   ticket_look_rests {z} {me} {numbers} {left} x t found at y new p same is looks =
       let r = the me.0 in let n = Rattle.monk_world.specs.Places.ticket r.place in (
-        rests_at (rests_moved x (place_after_ticket_look n (found == n + 1)) r.known r.count (suc r.looks) (suc r.steps)
-            numbers.calls x.seated.counted) y new same is,
+        rests_at (rests_moved x (place_after_ticket_look n (found == n + 1)) r.known r.count
+            (r.did ++ LookForTicket (found == n + 1) ∷ []) numbers.calls x.seated.counted) y new same is,
         looks ∙ sym (ap (λ q. place_after_ticket_look (Rattle.monk_world.specs.Places.ticket q)
             (found == Rattle.monk_world.specs.Places.ticket q + 1)) at) ∙ sym (ap (λ m. (the m.0).place) is),
         subst IsWaiting (sym looks) (looked_waits t (found == t + 1)),
@@ -247,7 +241,8 @@ module _ {k : Rules} {o : Object} where
   call_look_rests {z} {me} {numbers} {left} x found y new p b now same is says looks counts =
       let r = the me.0 in let e = x.seated.counted in (
         rests_at (rests_moved x (place_after_seat_look (found == r.count + 1)) r.known
-            (count_after_seat_look r.count (found == r.count + 1)) (suc r.looks) (suc r.steps) now
+            (count_after_seat_look r.count (found == r.count + 1))
+            (r.did ++ LookForCall (found == r.count + 1) ∷ []) now
             (counts ∙ ap (λ n. count_after_seat_look n (found == n + 1)) e)) y new same is,
         looks ∙ ap place_after_seat_look (says ∙ ap (λ n. found == n + 1) e) ∙ sym (ap (λ m. (the m.0).place) is),
         subst IsWaiting (sym looks) (answered_waits b),
@@ -286,24 +281,43 @@ pub record IsAsBefore (r w : SeatRecord) : Type 0 where
   pub setting : w.setting ≡ r.setting
   pub seen : w.seen ≡ r.seen
   pub mine : w.mine ≡ r.mine
-  pub looks : w.looks ≤ r.looks + 1
-  pub steps : w.steps ≤ r.steps + 1
 
 look_leaves : (p : Place) (r : SeatRecord) (found : ℕ) → IsAsBefore r (record_after_look p r found)
 look_leaves Idle r found =
-    record { seat = refl; setting = refl; seen = refl; mine = refl; looks = omega arith; steps = omega arith }
+    record { seat = refl; setting = refl; seen = refl; mine = refl }
 look_leaves (Ticket t) r found =
-    record { seat = refl; setting = refl; seen = refl; mine = refl; looks = omega arith; steps = omega arith }
+    record { seat = refl; setting = refl; seen = refl; mine = refl }
 look_leaves (Due q) r found =
-    record { seat = refl; setting = refl; seen = refl; mine = refl; looks = omega arith; steps = omega arith }
+    record { seat = refl; setting = refl; seen = refl; mine = refl }
 look_leaves (Active q) r found =
-    record { seat = refl; setting = refl; seen = refl; mine = refl; looks = omega arith; steps = omega arith }
+    record { seat = refl; setting = refl; seen = refl; mine = refl }
 look_leaves (Back x to) r found =
-    record { seat = refl; setting = refl; seen = refl; mine = refl; looks = omega arith; steps = omega arith }
+    record { seat = refl; setting = refl; seen = refl; mine = refl }
 look_leaves (Passing t to) r found =
-    record { seat = refl; setting = refl; seen = refl; mine = refl; looks = omega arith; steps = omega arith }
+    record { seat = refl; setting = refl; seen = refl; mine = refl }
 look_leaves Inner r found =
-    record { seat = refl; setting = refl; seen = refl; mine = refl; looks = omega arith; steps = omega arith }
+    record { seat = refl; setting = refl; seen = refl; mine = refl }
+
+-- a seat that is due after its look has found its grant, if it had to look
+looked_due : (p : Place) (r : SeatRecord) (found : ℕ) → stage (record_after_look p r found).place ≡ due_stage
+    → (record_after_look p r found).did ≡ r.did ++ look_at p true
+looked_due Idle r found e = sym (append-nil r.did)
+looked_due (Ticket t) r found e = by_found (found == t + 1) e
+  where
+    by_found : (b : Bool) → stage (place_after_ticket_look t b) ≡ due_stage
+        → r.did ++ LookForTicket b ∷ [] ≡ r.did ++ LookForTicket true ∷ []
+    by_found true e = refl
+    by_found false e = absurd (omega arith)
+looked_due (Due q) r found e = sym (append-nil r.did)
+looked_due (Active q) r found e = sym (append-nil r.did)
+looked_due (Back x to) r found e = sym (append-nil r.did)
+looked_due (Passing t to) r found e = sym (append-nil r.did)
+looked_due Inner r found e = by_found (found == r.count + 1) e
+  where
+    by_found : (b : Bool) → stage (place_after_seat_look b) ≡ due_stage
+        → r.did ++ LookForCall b ∷ [] ≡ r.did ++ LookForCall true ∷ []
+    by_found true e = refl
+    by_found false e = absurd (omega arith)
 
 came_looked : (t : ℕ) (b : Bool) → source_from (place_after_ticket_look t b) ≡ Granted t
 came_looked t true = refl
@@ -345,11 +359,15 @@ module _ {k : Rules} {o : Object} where
         own = x.own;
       }
 
-  pub few_looked : (p q : Token) → HasLooked k o p q → (q.me.looks ≤ p.me.looks + 1) × (q.me.steps ≤ p.me.steps + 1)
-  few_looked p q l =
-      let s = look_leaves p.me.place p.me l.found in let looks = s.looks in let steps = s.steps in let same_looks =
-      ap (λ w. w.looks) l.me in let same_steps = ap (λ w. w.steps) l.me in
-      (omega arith, omega arith)
+  -- and by which steps
+  pub comes_by_look : (p q : Token) (a : Holder) (y : Source) → HasLooked k o p q → q.me.place ≡ Due y
+      → a.me.did ≡ q.me.did ++ FloorOut ∷ [] → ComesAfter 0 p.me a.me
+  comes_by_look p q a y l due out = out
+      ∙ ap (λ (ds : List Deed). ds ++ FloorOut ∷ [])
+      (ap (λ (w : SeatRecord). w.did) l.me
+      ∙ looked_due p.me.place p.me l.found
+      (ap (λ (w : SeatRecord). stage w.place) (sym l.me) ∙ ap stage due))
+      ∙ append_assoc p.me.did (look_at p.me.place true) (FloorOut ∷ [])
 
   -- an event of the active seat that keeps the turn with it
   pub grown_goes : (r : SeatRecord) (f : FloorView) (e : Event) → GoesOn k o r f → seat_of e ≡ r.seat

@@ -1,12 +1,10 @@
 -- Each step that changes or looks at a word keeps the rule
 use Rattle.std.proofs.Common.{◌≡◌, ◌≢◌, ℕ, ◌+◌, ◌-◌, ◌%◌, ◌==◌, ◌<◌, ◌≤◌, Bool, true, false, nat_le, List, [], ◌∷◌}
-use Rattle.std.proofs.Common.{length, set, sym, refl, ap, ◌∙◌, subst, inl, arith, length-set, get_or-set_same}
+use Rattle.std.proofs.Common.{length, set, sym, refl, ap, ◌∙◌, subst, arith, length-set, get_or-set_same}
 use Rattle.std.specs.Prelude.{Option, slice_index, ◌||◌}
-use Rattle.std.proofs.lemmas.List.{set-get_or}
 use mathlib.Core.Option as maybe
 use mathlib.Core.Path.{Path}
 use lib.ListN.{get_elem?}
-use Rattle.atomic_table.specs.Table.{keeps, Allows}
 use Rattle.atomic_table.specs.Table as table
 use Rattle.monk_floor.specs.View.{FloorView}
 use Rattle.monk_kinds.specs.Kind.{IsKind}
@@ -31,14 +29,12 @@ use Rattle.monk_hall.specs.Changes.{record_after_arrive, record_after_ticket_loo
 use Rattle.monk_hall.specs.Changes.{record_after_peek, record_after_drop, home_at, source_from}
 use Rattle.monk_hall.specs.Laws.{Takes}
 use Rattle.monk_hall.specs.Layout.{tickets, unpassed, shown_state, shown_world, place_word, seat_word}
-use Rattle.monk_hall.specs.Records.{View, IsOne, the}
+use Rattle.monk_hall.specs.Records.{View}
 use Rattle.monk_hall.specs.Rule.{IsHall}
-use Rattle.monk_hall.specs.Tells.{Me, TellsArrive, TellsTicketLook, TellsSeatLook, TellsPeek, TellsDrop}
 use Rattle.monk_hall.specs.declared.record.SeatRecord.{SeatRecord}
 use Rattle.monk_hall.specs.declared.setting.Setting.{Setting}
 use Rattle.monk_hall.proofs.Knows.{calls_stay, told_stays}
 use Rattle.monk_hall.proofs.Packed.{after_draw, after_take_off}
-use Rattle.monk_hall.proofs.RecordLaws.{next_ticket}
 use Rattle.monk_hall.proofs.Standing as standing
 use Rattle.monk_hall.proofs.Stepping as stepping
 use Rattle.monk_hall.proofs.Stored as stored
@@ -264,7 +260,7 @@ module _ (k : Rules) (o : Object) (c : Setting) (kind : IsKind k) (s : table.Sta
       recount x = record { choosing = x.choosing; settled = x.settled }
 
   -- what it knew it finds again
-  knew_still : stage r.place ≡ active_stage → r.known ≡ true → nat_le 2 (unpassed (slice_index s.words 0)) ≡ true
+  pub knew_still : stage r.place ≡ active_stage → r.known ≡ true → nat_le 2 (unpassed (slice_index s.words 0)) ≡ true
   knew_still active known =
       let is = stepping.is k o c kind s h id r here in
       two_or_more (unpassed (slice_index s.words 0))
@@ -275,7 +271,7 @@ module _ (k : Rules) (o : Object) (c : Setting) (kind : IsKind k) (s : table.Sta
       two_or_more m l = grind (arith, l)
 
   -- while a seat has the floor back, not all tickets are passed on
-  some_unpassed : stage r.place ≡ back_stage → 0 < unpassed (slice_index s.words 0)
+  pub some_unpassed : stage r.place ≡ back_stage → 0 < unpassed (slice_index s.words 0)
   some_unpassed back =
       let sound = stepping.sound k o c kind s h id r here in
       let at_back = ap (λ (y : SeatRecord). stage y.place) (stepping.is k o c kind s h id r here) ∙ back in
@@ -349,83 +345,3 @@ module _ (k : Rules) (o : Object) (c : Setting) (kind : IsKind k) (s : table.Sta
       stepping.holds_after k o c kind s h id r here w ws moved (length-set s.words 0 x) kept same
       (stepping.knows_after k o c kind s h id r here w ws moved calls
       (λ e. let z = ap stage back in absurd (omega arith)) apart)
-
-module _ (k : Rules) (o : Object) (c : Setting) (kind : IsKind k) (slots id : ℕ) (me : Me) (one : IsOne me.0) where
-  -- a load leaves the words
-  loaded : (s : table.State (Option FloorView) View) (p : ℕ) (v : View)
-      → IsHall k o c (record s { views = set s.views id v })
-      → IsHall k o c (record {
-        words = set s.words p (slice_index s.words p);
-        homes = s.homes;
-        views =
-            set s.views id v;
-      })
-  loaded s p v h = subst
-      (λ (ws : List ℕ). IsHall k o c (record { words = ws; homes = s.homes; views = set s.views id v }))
-      (sym (set-get_or s.words p 0)) h
-
-  pub arrives : (the me.0).place ≡ Idle → length (the me.0).mine + 2 ≤ (the me.0).setting.budget
-      → Allows (IsHall k o c) slots id me 0 (λ n. (n + 4294967297) % 18446744073709551616) (TellsArrive me)
-  arrives idle room s h wide view small =
-      let here : get_elem? s.views id ≡ maybe.some (the me.0 ∷ []) = view ∙ ap maybe.some one in (
-        record_after_arrive (the me.0) (slice_index s.words 0) ∷ [],
-        keeps,
-        tt,
-        (arrives_at k o c kind s h id (the me.0) here idle room _ refl).hall,
-        (refl, stepping.seen_few k o c kind s h id (the me.0) here),
-      )
-
-  pub looks_for_ticket : stage (the me.0).place ≡ ticketed_stage
-      → Allows (IsHall k o c) slots id me (place_word (ticket (the me.0).place % c.seats)) (λ n. n) (TellsTicketLook me)
-  looks_for_ticket waits s h wide view small =
-      let here : get_elem? s.views id ≡ maybe.some (the me.0 ∷ []) = view ∙ ap maybe.some one in
-      let w = record_after_ticket_look (the me.0)
-      (slice_index s.words (place_word (ticket (the me.0).place % c.seats))) in (
-        w ∷ [],
-        keeps,
-        tt,
-        loaded s (place_word (ticket (the me.0).place % c.seats)) (w ∷ [])
-            (looks_for_ticket_at k o c kind s h id (the me.0) here waits).hall,
-        refl,
-      )
-
-  pub looks_for_call : stage (the me.0).place ≡ inside_stage
-      → Allows (IsHall k o c) slots id me (seat_word (the me.0).seat) (λ n. n) (TellsSeatLook me)
-  looks_for_call parked s h wide view small =
-      let here : get_elem? s.views id ≡ maybe.some (the me.0 ∷ []) = view ∙ ap maybe.some one in
-      let w = record_after_seat_look (the me.0) (slice_index s.words (seat_word (the me.0).seat)) in (
-        w ∷ [],
-        keeps,
-        tt,
-        loaded s (seat_word (the me.0).seat) (w ∷ [])
-            (looks_for_call_at k o c kind s h id (the me.0) here parked).hall,
-        refl,
-      )
-
-  pub peeks : stage (the me.0).place ≡ active_stage → Allows (IsHall k o c) slots id me 0 (λ n. n) (TellsPeek me)
-  peeks active s h wide view small =
-      let here : get_elem? s.views id ≡ maybe.some (the me.0 ∷ []) = view ∙ ap maybe.some one in
-      let w = record_after_peek (the me.0) (slice_index s.words 0) in (
-        w ∷ [],
-        keeps,
-        tt,
-        loaded s 0 (w ∷ []) (peeks_at k o c kind s h id (the me.0) here active).hall,
-        (refl, knew_still k o c kind s h id (the me.0) here active),
-      )
-
-  pub takes_off : (to : Home) → (the me.0).place ≡ Back next.Entry to
-      → Allows (IsHall k o c) slots id me 0 (λ n. (n + 18446744073709551615) % 18446744073709551616) (TellsDrop me)
-  takes_off to back s h wide view small =
-      let here : get_elem? s.views id ≡ maybe.some (the me.0 ∷ []) = view ∙ ap maybe.some one in (
-        record_after_drop (the me.0) (slice_index s.words 0) ∷ [],
-        keeps,
-        tt,
-        (takes_off_at k o c kind s h id (the me.0) here to back _ refl).hall,
-        (
-          refl,
-          some_unpassed k o c kind s h id (the me.0) here (ap stage back),
-          (stepping.sound k o c kind s h id (the me.0) here).stands.keeps.tickets.behind,
-          next_ticket k o c s h (the me.0)
-              (record { id = id; view = the me.0 ∷ []; at = here; there = inl refl }) next.Entry to back,
-        ),
-      )

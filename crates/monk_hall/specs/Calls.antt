@@ -1,5 +1,6 @@
 -- What each call tells, of the token that was handed in and the one that is given back
-use Rattle.std.specs.Prelude.{◌≡◌, ℕ, suc, ◌+◌, ◌==◌, ◌≤◌, ◌&&◌, not, Bool, true, false, if◌then◌else◌, [], ◌∷◌, ◌++◌, Option, Some, None}
+use Rattle.std.specs.Prelude.{◌≡◌, ℕ, ◌+◌, ◌==◌, ◌≤◌, ◌&&◌, not, Bool, true, false, if◌then◌else◌, List, [], ◌∷◌, ◌++◌, replicate}
+use Rattle.std.specs.Prelude.{Option, Some, None}
 use Rattle.monk_kinds.specs.declared.mode.Rules.{Rules}
 use Rattle.monk_kinds.specs.declared.mode.Pick.{Pick}
 use Rattle.monk_kinds.specs.declared.mode.Pick.TheVariants.{Entry as WishEntry, Waiter as WishWaiter, Signaller as WishSignaller}
@@ -23,11 +24,15 @@ use Rattle.monk_world.specs.declared.home.Home.TheVariants as home
 use Rattle.monk_world.specs.declared.place.Place.{Place}
 use Rattle.monk_world.specs.declared.place.Place.TheVariants.{Idle, Ticket, Due, Active, Back, Passing, Inner}
 use Rattle.monk_world.specs.declared.source.Source.TheVariants.{Free, Granted, Called}
-use Rattle.monk_hall.specs.Changes.{record_after_arrive, source_from}
+use Rattle.monk_hall.specs.Changes.{record_after_arrive, source_from, since}
+use Rattle.monk_hall.specs.Deeds.{knows_from, look_at, looks_in_vain}
 use Rattle.monk_hall.specs.Floors.{StartsWith}
+use Rattle.monk_hall.specs.Handing.{HandsOn, seat_called_by}
 use Rattle.monk_hall.specs.Layout.{tickets, floor_of}
 use Rattle.monk_hall.specs.Tells.{SeesTruly}
 use Rattle.monk_hall.specs.Tokens.{Token, Holder}
+use Rattle.monk_hall.specs.declared.deed.Deed.{Deed}
+use Rattle.monk_hall.specs.declared.deed.Deed.TheVariants.{LookForTicket, LookForCall, Peek, FloorOut, FloorIn}
 use Rattle.monk_hall.specs.declared.record.SeatRecord.{SeatRecord}
 
 -- it draws a ticket, with a number not below the enters that it has seen
@@ -54,7 +59,7 @@ held_ticket Inner = None
 abbrev pub record_after_look : Place → SeatRecord → ℕ → SeatRecord
 record_after_look Idle r found = r
 record_after_look (Ticket t) r found =
-    record r { place = place_after_ticket_look t (found == t + 1); looks = suc r.looks; steps = suc r.steps }
+    record r { place = place_after_ticket_look t (found == t + 1); did = r.did ++ LookForTicket (found == t + 1) ∷ [] }
 record_after_look (Due q) r found = r
 record_after_look (Active q) r found = r
 record_after_look (Back x to) r found = r
@@ -62,10 +67,8 @@ record_after_look (Passing t to) r found = r
 record_after_look Inner r found =
     record r {
       place = place_after_seat_look (found == r.count + 1);
-      count =
-          count_after_seat_look r.count (found == r.count + 1);
-      looks = suc r.looks;
-      steps = suc r.steps;
+      count = count_after_seat_look r.count (found == r.count + 1);
+      did = r.did ++ LookForCall (found == r.count + 1) ∷ [];
     }
 
 -- the seat has looked whether it may come in
@@ -92,10 +95,15 @@ pub record HasEntered (k : Rules) (o : Object) (p : Token) (a : Holder) : Type 0
   pub legal : IsLegal (monitor_of k o a.floor) a.floor.history
   pub own : events_of a.floor.history a.me.seat ≡ a.me.mine
 
+-- it came by a look where it waited, if it had to look, after so many looks that found nothing; and then the floor came
+-- to it
+abbrev pub ComesAfter : ℕ → SeatRecord → SeatRecord → Type 0
+ComesAfter n r w = w.did ≡ r.did ++ (looks_in_vain n r.place ++ (look_at r.place true ++ FloorOut ∷ []))
+
 -- the right was not there; the seat has looked once more
 pub record StillWaits (k : Rules) (o : Object) (p q : Token) : Type 0 where
   pub hall : q.hall ≡ p.hall
-  pub me : q.me ≡ record p.me { looks = suc p.me.looks; steps = suc p.me.steps }
+  pub me : q.me ≡ record p.me { did = p.me.did ++ look_at p.me.place false }
   pub told : SeesTruly k o q.me
 
 -- a wish for entry wants to know whether somebody waits for it
@@ -118,16 +126,20 @@ peeks_of chooses wish = if chooses && wants_entry wish then 1 else 0
 abbrev pub peeks_for : Rules → Object → FloorView → Event → Pick → ℕ
 peeks_for k o f call wish = peeks_of (not (must_stay o (stands_of k o f) call)) wish
 
--- what a seat knew of the entry it still knows, and with no look it learns nothing
-pub record Remembers (r w : SeatRecord) : Type 0 where
+-- what a seat knew of the entry it still knows, and it knows what these looks found
+pub record Remembers (r : SeatRecord) (looked : List Deed) (w : SeatRecord) : Type 0 where
   pub knew : r.known ≡ true → w.known ≡ true
-  pub unlooked : w.looks ≡ r.looks → w.known ≡ r.known
+  pub learns : w.known ≡ knows_from r.known looked
+
+-- so many looks at the ticket word, each of which found so many tickets that are not passed on
+abbrev pub peeks_at : ℕ → ℕ → List Deed
+peeks_at peeks found = replicate peeks (Peek found)
 
 -- the active seat has looked at the ticket word so often
 pub record HasPeeked (peeks : ℕ) (a b : Holder) : Type 0 where
-  pub remembers : Remembers a.me b.me
-  pub known : Bool
-  pub is : b ≡ record a { me = record a.me { known = known; looks = a.me.looks + peeks; steps = a.me.steps + peeks } }
+  pub found : ℕ
+  pub remembers : Remembers a.me (peeks_at peeks found) b.me
+  pub is : b ≡ record a { me = record a.me { known = b.me.known; did = a.me.did ++ peeks_at peeks found } }
 
 -- the seat has given the floor back with this release, whose next is that of the wish rules; it stands outside or is
 -- parked inside. `known` of the token given back tells whether its look found somebody at the entry
@@ -142,9 +154,13 @@ pub record HasReleased (k : Rules) (o : Object) (a : Holder) (call : Event) (wis
   pub place : p.me.place ≡ place_of to
   pub seen : p.me.seen ≡ a.floor.history ++ with_next choice call ∷ []
   pub mine : p.me.mine ≡ a.me.mine ++ with_next choice call ∷ []
-  pub looks : p.me.looks ≡ a.me.looks + peeks
-  pub steps : p.me.steps ≤ a.me.steps + peeks + 3
-  pub remembers : Remembers a.me p.me
+  -- its steps: the look, if it takes one; the floor goes home with all that the seat has recorded since it
+  -- came; and the right is handed on
+  pub found : ℕ
+  pub handed : List Deed
+  pub did : p.me.did ≡ a.me.did ++ (peeks_at peeks found ++ FloorIn (since a.me.seen p.me.seen) ∷ handed)
+  pub hands_on : HandsOn (seat_called_by choice) p.me.seen handed
+  pub remembers : Remembers a.me (peeks_at peeks found) p.me
   pub told : SeesTruly k o p.me
   pub floor : a.floor ≡ floor_of a.me.setting a.floor.history
 
@@ -152,17 +168,16 @@ pub record HasReleased (k : Rules) (o : Object) (a : Holder) (call : Event) (wis
 pub record HasStayed (k : Rules) (o : Object) (a : Holder) (call : Event) (wish : Pick) (peeks : ℕ)
     (b : Holder) : Type 0 where
   pub chosen : next.Stay ≡ choice_of k o (stands_of k o a.floor) call (is_entry_known wish b.me.known) wish
+  pub found : ℕ
   pub is : b ≡ record a {
     me = record a.me {
       known = b.me.known;
       mine = a.me.mine ++ with_next next.Stay call ∷ [];
-      looks =
-          a.me.looks + peeks;
-      steps = a.me.steps + peeks;
+      did = a.me.did ++ peeks_at peeks found;
     };
     floor = with_event a.floor (with_next next.Stay call);
   }
-  pub remembers : Remembers a.me b.me
+  pub remembers : Remembers a.me (peeks_at peeks found) b.me
   pub legal : IsLegal (monitor_of k o b.floor) b.floor.history
   pub own : events_of b.floor.history b.me.seat ≡ b.me.mine
   pub floor : a.floor ≡ floor_of a.me.setting a.floor.history

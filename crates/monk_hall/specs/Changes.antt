@@ -1,5 +1,5 @@
 -- What each step makes of the record of the seat that takes it, by what it found
-use Rattle.std.specs.Prelude.{ℕ, suc, ◌+◌, ◌==◌, nat_le, if◌then◌else◌, false, List, [], ◌∷◌, length, Option, Some, None}
+use Rattle.std.specs.Prelude.{ℕ, ◌+◌, ◌==◌, nat_le, if◌then◌else◌, false, List, [], ◌∷◌, ◌++◌, drop, length, Option, Some, None}
 use Rattle.std.specs.List.{last_or}
 use Rattle.monk_history.specs.Meaning.Counts.{events_of}
 use Rattle.monk_history.specs.Meaning.Events.{next_of, is_way_out}
@@ -17,6 +17,8 @@ use Rattle.monk_world.specs.declared.source.Source.{Source}
 use Rattle.monk_world.specs.declared.source.Source.TheVariants.{Granted, Called}
 use Rattle.monk_hall.specs.Layout.{tickets, unpassed}
 use Rattle.monk_hall.specs.Records.{View, the, tail}
+use Rattle.monk_hall.specs.declared.deed.Deed.{Deed}
+use Rattle.monk_hall.specs.declared.deed.Deed.TheVariants as deed
 use Rattle.monk_hall.specs.declared.record.SeatRecord.{SeatRecord}
 
 -- how a seat comes to the right that waits there, or has come to it that is due or active
@@ -29,7 +31,7 @@ source_from (Back x to) = Called
 source_from (Passing t to) = Called
 source_from Inner = Called
 
--- where a seat goes that has the floor back
+-- where a seat goes once it has handed the right on
 abbrev pub home_at : Place → Home
 home_at Idle = home.Idle
 home_at (Ticket t) = home.Idle
@@ -52,15 +54,17 @@ back_after (Some e) = Back (choice_in (next_of e)) (if is_way_out e then home.Id
 -- it drew a ticket
 abbrev pub record_after_arrive : SeatRecord → ℕ → SeatRecord
 record_after_arrive r found =
-    record r { place = place_after_arrive (tickets found) (unpassed found); steps = suc r.steps }
+    record r {
+      place = place_after_arrive (tickets found) (unpassed found);
+      did = r.did ++ deed.Arrive (tickets found) (unpassed found) ∷ [];
+    }
 
 -- it looked at the place of its ticket
 abbrev pub record_after_ticket_look : SeatRecord → ℕ → SeatRecord
 record_after_ticket_look r found =
     record r {
       place = place_after_ticket_look (ticket r.place) (found == ticket r.place + 1);
-      looks = suc r.looks;
-      steps = suc r.steps;
+      did = r.did ++ deed.LookForTicket (found == ticket r.place + 1) ∷ [];
     }
 
 -- it looked at its own place
@@ -68,20 +72,28 @@ abbrev pub record_after_seat_look : SeatRecord → ℕ → SeatRecord
 record_after_seat_look r found =
     record r {
       place = place_after_seat_look (found == r.count + 1);
-      count =
-          count_after_seat_look r.count (found == r.count + 1);
-      looks = suc r.looks;
-      steps = suc r.steps;
+      count = count_after_seat_look r.count (found == r.count + 1);
+      did = r.did ++ deed.LookForCall (found == r.count + 1) ∷ [];
     }
 
 -- active, it looked whether somebody waits for entry
 abbrev pub record_after_peek : SeatRecord → ℕ → SeatRecord
-record_after_peek r found = record r { known = nat_le 2 (unpassed found); looks = suc r.looks; steps = suc r.steps }
+record_after_peek r found =
+    record r { known = nat_le 2 (unpassed found); did = r.did ++ deed.Peek (unpassed found) ∷ [] }
 
 -- the floor came out to it, with this history
 abbrev pub record_after_floor_out : SeatRecord → List Event → SeatRecord
 record_after_floor_out r history =
-    record r { place = Active (source_from r.place); known = false; seen = history; steps = suc r.steps }
+    record r {
+      place = Active (source_from r.place);
+      known = false;
+      seen = history;
+      did = r.did ++ deed.FloorOut ∷ [];
+    }
+
+-- what a history has behind one with which it begins
+abbrev pub since : List Event → List Event → List Event
+since before history = drop (length before) history
 
 -- it brought the floor back, with this history
 abbrev pub record_after_floor_in : SeatRecord → List Event → SeatRecord
@@ -90,18 +102,20 @@ record_after_floor_in r history =
       place = back_after (last_or None history);
       seen = history;
       mine = events_of history r.seat;
-      steps =
-          suc r.steps;
+      did = r.did ++ deed.FloorIn (since r.seen history) ∷ [];
     }
 
 -- it took itself off the ticket word
 abbrev pub record_after_drop : SeatRecord → ℕ → SeatRecord
 record_after_drop r found =
-    record r { place = place_after_drop (tickets found) (unpassed found) (home_at r.place); steps = suc r.steps }
+    record r {
+      place = place_after_drop (tickets found) (unpassed found) (home_at r.place);
+      did = r.did ++ deed.Drop (unpassed found) ∷ [];
+    }
 
--- it handed the right on
-abbrev pub record_after_grant : SeatRecord → SeatRecord
-record_after_grant r = record r { place = place_of (home_at r.place); steps = suc r.steps }
+-- it handed the right on, by this grant
+abbrev pub record_after_grant : SeatRecord → Deed → SeatRecord
+record_after_grant r grant = record r { place = place_of (home_at r.place); did = r.did ++ grant ∷ [] }
 
 -- of two histories the longer
 abbrev pub longer : List Event → List Event → List Event
@@ -109,10 +123,13 @@ longer a b = if nat_le (length a) (length b) then b else a
 
 -- two views in one, which costs the first a step
 abbrev pub view_after_join : View → View → View
-view_after_join v w = record (the v) { steps = suc (the v).steps } ∷ the w ∷ []
+view_after_join v w = record (the v) { did = (the v).did ++ deed.Meet ∷ [] } ∷ the w ∷ []
 
 -- both have seen as much, which costs the second a step
 abbrev pub view_after_compare : View → View
 view_after_compare v =
     record (the v) { seen = longer (the v).seen (the (tail v)).seen }
-    ∷ record (the (tail v)) { seen = longer (the v).seen (the (tail v)).seen; steps = suc (the (tail v)).steps } ∷ []
+    ∷ record (the (tail v)) {
+      seen = longer (the v).seen (the (tail v)).seen;
+      did = (the (tail v)).did ++ deed.Meet ∷ [];
+    } ∷ []

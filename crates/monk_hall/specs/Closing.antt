@@ -14,7 +14,7 @@ use Rattle.monk_history.specs.declared.event.Event.{Event}
 use Rattle.monk_history.specs.declared.event.Event.TheVariants.{Leave}
 use Rattle.monk_history.specs.declared.event.Next.TheVariants.{Entry}
 use Rattle.monk_floor.specs.View.{FloorView, monitor_of, stands_of}
-use Rattle.monk_hall.specs.Calls.{Remembers}
+use Rattle.monk_hall.specs.Calls.{HasPeeked}
 use Rattle.monk_hall.specs.Tokens.{Holder}
 
 -- every queue is empty
@@ -47,7 +47,6 @@ pub record IsEnded (k : Rules) (o : Object) (a : Holder) (history : List Event) 
 -- changed
 pub record IsBusy (k : Rules) (o : Object) (a b : Holder) : Type 0 where
   pub some : HasSomebody k o a.floor ⊎ (b.me.known ≡ true)
-  pub is : b ≡ record a { me = record a.me { known = b.me.known; looks = b.me.looks; steps = b.me.steps } }
-  pub looks : b.me.looks ≤ a.me.looks + 1
-  pub steps : b.me.steps ≤ a.me.steps + 1
-  pub remembers : Remembers a.me b.me
+  pub peeks : ℕ
+  pub few : peeks ≤ 1
+  pub peeked : HasPeeked peeks a b

@@ -41,7 +41,7 @@ pub record IsPrivate (i : ℕ) (e : Event) : Type 0 where
   pub keeps : turn_by (seat_of e) (next_of e) ≡ Owned i
   pub enters : is_enter e ≡ false
 
--- each of those events is the seat's own, and nobody else's turn
+-- each of these events is the seat's own, and keeps the turn with it
 abbrev pub ArePrivate : ℕ → List Event → Type 0
 ArePrivate i [] = Unit {0}
 ArePrivate i (e ∷ es) = IsPrivate i e × ArePrivate i es

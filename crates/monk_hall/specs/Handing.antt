@@ -1,8 +1,9 @@
 -- How the right is handed on
-use Rattle.std.specs.Prelude.{◌≡◌, ℕ, ◌+◌, ◌≤◌, List, [], ◌∷◌, Option, Some, None}
+use Rattle.std.specs.Prelude.{◌≡◌, ℕ, ◌≤◌, ◌⊎◌, List, [], ◌∷◌, ◌++◌, Option, Some, None}
 use Rattle.atomic_table.specs.Seated.{TableId}
 use Rattle.monk_kinds.specs.declared.mode.Rules.{Rules}
 use Rattle.monk_object.specs.Object.{Object}
+use Rattle.monk_history.specs.Meaning.Counts.{enters_of}
 use Rattle.monk_history.specs.Meaning.Reasons.{IsAllowed}
 use Rattle.monk_history.specs.Meaning.Release.{with_next}
 use Rattle.monk_history.specs.declared.event.Event.{Event}
@@ -15,6 +16,8 @@ use Rattle.monk_hall.specs.Changes.{record_after_floor_in, home_at}
 use Rattle.monk_hall.specs.Layout.{word_count}
 use Rattle.monk_hall.specs.Records.{IsOne, the}
 use Rattle.monk_hall.specs.Tells.{Me, Returns}
+use Rattle.monk_hall.specs.declared.deed.Deed.{Deed}
+use Rattle.monk_hall.specs.declared.deed.Deed.TheVariants.{Drop, GrantTicket, CallSeat}
 use Rattle.monk_hall.specs.declared.record.SeatRecord.{SeatRecord}
 
 -- the seat that a choice names
@@ -24,6 +27,14 @@ seat_called_by Entry = None
 seat_called_by (Waiter j) = Some j
 seat_called_by (Signaller j) = Some j
 seat_called_by (Until j) = Some j
+
+-- how the right is handed on to this seat, where the history that came home is `seen`. By entry a choice names nobody:
+-- the seat passes on the ticket in use, and grants the next ticket unless that was the last. The number of the next
+-- ticket is that of the enters so far
+abbrev pub HandsOn : Option ℕ → List Event → List Deed → Type 0
+HandsOn (Some j) seen ds = ds ≡ CallSeat j ∷ []
+HandsOn None seen ds = (ds ≡ Drop 1 ∷ [])
+    ⊎ ((n : ℕ) × (2 ≤ n) × (ds ≡ Drop n ∷ GrantTicket (enters_of seen) ∷ []))
 
 -- the active seat has recorded a release in its floor, which chose `choice` and leads to `to`
 pub record HasRecordedRelease (k : Rules) (o : Object) (z : TableId) (me : Me) (choice : Next) (to : Home)
@@ -36,14 +47,18 @@ pub record HasRecordedRelease (k : Rules) (o : Object) (z : TableId) (me : Me) (
   pub is_to : returns.to ≡ to
   pub allowed : IsAllowed (monitor_of k o returns.before) returns.before.history (with_next returns.choice returns.call)
 
--- a seat that has the floor back hands the right on in so many steps, and goes where it was going
-pub record HandsOnWithin (most : ℕ) (me new : Me) : Type 0 where
-  pub steps : ℕ
-  pub few : steps ≤ (the me.0).steps + most
-  pub is : new ≡ (record (the me.0) { place = place_of (home_at (the me.0).place); steps = steps } ∷ [], me.1)
+-- a seat that has the floor back has handed the right on, and went where it was going
+pub record HasHandedOn (called : Option ℕ) (r w : SeatRecord) : Type 0 where
+  pub handed : List Deed
+  pub hands_on : HandsOn called r.seen handed
+  pub is : w ≡ record r { place = place_of (home_at r.place); did = r.did ++ handed }
 
--- the floor is home with this history, the right is handed on, and the seat stands there
-pub record HasGone (r : SeatRecord) (h : List Event) (to : Home) (w : SeatRecord) : Type 0 where
-  pub steps : ℕ
-  pub few : steps ≤ r.steps + 3
-  pub is : w ≡ record (record_after_floor_in r h) { place = place_of to; steps = steps }
+-- the floor is home with this history, which ends with a release by this choice; the right is handed on, and the seat
+-- stands there
+pub record HasGone (r : SeatRecord) (h : List Event) (choice : Next) (to : Home) (w : SeatRecord) : Type 0 where
+  pub handed : List Deed
+  pub hands_on : HandsOn (seat_called_by choice) h handed
+  pub is : w ≡ record (record_after_floor_in r h) {
+    place = place_of to;
+    did = (record_after_floor_in r h).did ++ handed;
+  }

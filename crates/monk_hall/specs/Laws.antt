@@ -1,5 +1,5 @@
 -- What holds of a hall's table whenever its rule does, and so before and after every step
-use Rattle.std.specs.Prelude.{◌≡◌, ◌≢◌, ℕ, ◌+◌, ◌%◌, ◌==◌, ◌≤◌, true, false, List, [], ◌∷◌, ◌++◌, length, set, slice_index}
+use Rattle.std.specs.Prelude.{◌≡◌, ◌≢◌, ℕ, ◌+◌, ◌==◌, ◌≤◌, true, false, List, [], ◌∷◌, ◌++◌, length, set, slice_index}
 use Rattle.std.specs.Prelude.{Option, Some, None}
 use mathlib.Core.Option.{none, some}
 use lib.ListN.{get_elem?}
@@ -31,10 +31,11 @@ use Rattle.monk_hall.specs.Changes.{record_after_arrive, record_after_ticket_loo
 use Rattle.monk_hall.specs.Changes.{record_after_peek, record_after_floor_out, record_after_floor_in, record_after_drop}
 use Rattle.monk_hall.specs.Changes.{record_after_grant}
 use Rattle.monk_hall.specs.Floors.{ArePrivate, StartsWith}
-use Rattle.monk_hall.specs.Layout.{tickets, unpassed, ticket_word, seat_word, floor_of, shown_state, shown_world}
+use Rattle.monk_hall.specs.Layout.{tickets, unpassed, one_drawn, one_passed, ticket_word, seat_word, floor_of, shown_state, shown_world}
 use Rattle.monk_hall.specs.Records.{View, In}
 use Rattle.monk_hall.specs.Rule.{IsHall}
 use Rattle.monk_hall.specs.Tells.{Returns}
+use Rattle.monk_hall.specs.declared.deed.Deed.TheVariants.{GrantTicket, CallSeat}
 use Rattle.monk_hall.specs.declared.record.SeatRecord.{SeatRecord}
 use Rattle.monk_hall.specs.declared.setting.Setting.{Setting}
 
@@ -49,11 +50,12 @@ pub record IsRecord (s : HallState) (r : SeatRecord) : Type 0 where
   pub at : get_elem? s.views id ≡ some view
   pub there : In r view
 
--- a step of seat i leads from a table under the rule to another, and what they show is a step of the world, by this
--- command and with this answer
+-- a step of seat i leads from a table under the rule to another with the same history at home, and what they show is a
+-- step of the world, by this command and with this answer
 pub record Takes (k : Rules) (o : Object) (c : Setting) (s : HallState) (h : IsHall k o c s) (i : ℕ) (m : Command)
     (a : Answer) (t : HallState) : Type 0 where
   pub hall : IsHall k o c t
+  pub home : hall.2.past ≡ h.2.past
   pub step : IsStep k o (shown_state c s.words h.0 h.2.history) i m a (shown_state c t.words hall.0 hall.2.history)
 
 -- a seat whose view has it alone
@@ -73,7 +75,7 @@ ArriveSteps = OfASeat (λ k o c s h id r.
     r.place ≡ Idle → length r.mine + 2 ≤ r.setting.budget
     → Takes k o c s h r.seat command.Arrive (answer.Arrived (tickets (first_word s)) (unpassed (first_word s)))
     (record {
-      words = set s.words 0 ((first_word s + 4294967297) % 18446744073709551616);
+      words = set s.words 0 (one_drawn (first_word s));
       homes = s.homes;
       views =
           set s.views id (record_after_arrive r (first_word s) ∷ []);
@@ -141,6 +143,7 @@ pub record BringsHome (k : Rules) (o : Object) (c : Setting) (s : HallState) (h 
     (r : SeatRecord) (f : FloorView)
     (ret : Returns k o r f) (t : HallState) : Type 0 where
   pub hall : IsHall k o c t
+  pub home : hall.2.past ≡ f.history
   pub since : List Event
   pub own : ArePrivate r.seat since
   pub legal : IsLegal (monitor_of k o (floor_of c (h.2.history ++ since))) (h.2.history ++ since)
@@ -172,7 +175,7 @@ DropSteps = OfASeat (λ k o c s h id r.
     (to : Home) → r.place ≡ Back Entry to
     → Takes k o c s h r.seat command.Drop (answer.Found (unpassed (first_word s)))
     (record {
-      words = set s.words 0 ((first_word s + 18446744073709551615) % 18446744073709551616);
+      words = set s.words 0 (one_passed (first_word s));
       homes =
           s.homes;
       views = set s.views id (record_after_drop r (first_word s) ∷ []);
@@ -187,7 +190,7 @@ TicketGrantSteps = OfASeat (λ k o c s h id r.
       words = set s.words (ticket_word c.seats (ticket r.place)) (ticket r.place + 1);
       homes = s.homes;
       views =
-          set s.views id (record_after_grant r ∷ []);
+          set s.views id (record_after_grant r (GrantTicket (ticket r.place)) ∷ []);
     }))
 
 -- step 8
@@ -199,7 +202,7 @@ SeatGrantSteps = OfASeat (λ k o c s h id r.
       words = set s.words (seat_word m) (granted_of r.seen m);
       homes = s.homes;
       views =
-          set s.views id (record_after_grant r ∷ []);
+          set s.views id (record_after_grant r (CallSeat m) ∷ []);
     }))
 
 -- the right to be active is in exactly one place
@@ -226,7 +229,8 @@ OneIsActive =
     → (r q : SeatRecord) → (x : IsRecord s r) → (y : IsRecord s q) → stage r.place ≡ active_stage
     → stage q.place ≡ active_stage → (r ≡ q) × (x.id ≡ y.id)
 
--- an active seat knows of somebody at the entry only while two tickets are not passed on: its own, and one that waits
+-- an active seat knows of somebody at the entry only while at least two tickets are not passed on: the one in use, and
+-- one that waits
 abbrev pub KnownWaits : Type 0
 KnownWaits =
     (k : Rules) (o : Object) (c : Setting) (s : HallState) → IsHall k o c s

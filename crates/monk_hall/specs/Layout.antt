@@ -1,5 +1,5 @@
 -- How the table's words and the seats' records show a world
-use Rattle.std.specs.Prelude.{ℕ, ◌+◌, ◌*◌, ◌/◌, ◌%◌, List, slice_index}
+use Rattle.std.specs.Prelude.{ℕ, ◌+◌, ◌-◌, ◌*◌, ◌/◌, ◌%◌, ◌^◌, List, slice_index}
 use Rattle.monk_history.specs.declared.event.Event.{Event}
 use Rattle.monk_floor.specs.View.{FloorView}
 use Rattle.monk_world.specs.State.{State}
@@ -17,7 +17,15 @@ tickets word = word / 4294967296
 abbrev pub unpassed : ℕ → ℕ
 unpassed word = word % 4294967296
 
--- where the place of ticket t is, among so many seats; and where that of seat j
+-- the ticket word once one ticket more is drawn, and not passed on
+abbrev pub one_drawn : ℕ → ℕ
+one_drawn word = (word + (2 ^ 32 + 1)) % 2 ^ 64
+
+-- and once one is passed on
+abbrev pub one_passed : ℕ → ℕ
+one_passed word = (word + (2 ^ 64 - 1)) % 2 ^ 64
+
+-- the word of the ticket place with this number
 abbrev pub place_word : ℕ → ℕ
 place_word i = 2 * i + 1
 

@@ -2,11 +2,12 @@ pub mod Records
 pub mod Layout
 pub mod Rule
 pub mod Changes
+pub mod Deeds
 pub mod Floors
 pub mod Tells
 pub mod Tokens
-pub mod Calls
 pub mod Handing
+pub mod Calls
 pub mod AfterCalls
 pub mod Granting
 pub mod Recorded
@@ -14,3 +15,6 @@ pub mod Closing
 pub mod Complete
 pub mod Laws
 pub mod NextTicket
+pub mod FewSteps
+pub mod Schedules
+pub mod GrantsInTurn

@@ -1,12 +1,14 @@
 -- Who enters next after a release that chose entry
-use Rattle.std.specs.Prelude.{◌≡◌, ℕ, ◌≤◌, Some, None}
+use Rattle.std.specs.Prelude.{◌≡◌, ℕ, ◌≤◌, ◌⊎◌, Some, None}
 use Rattle.monk_kinds.specs.declared.mode.Rules.{Rules}
 use Rattle.monk_kinds.specs.declared.mode.Pick.{Pick}
 use Rattle.monk_object.specs.Object.{Object}
 use Rattle.monk_history.specs.Meaning.Counts.{enters_of}
 use Rattle.monk_history.specs.declared.event.Event.{Event}
 use Rattle.monk_history.specs.declared.event.Next.TheVariants.{Entry}
+use Rattle.monk_world.specs.Places.{stage, ticketed_stage, inside_stage}
 use Rattle.monk_world.specs.declared.home.Home.{Home}
+use Rattle.monk_world.specs.declared.place.Place.{Place}
 use Rattle.monk_world.specs.declared.place.Place.TheVariants.{Ticket, Back}
 use Rattle.monk_hall.specs.Calls.{HasEntered}
 use Rattle.monk_hall.specs.Granting.{Grant, HasGranted}
@@ -26,13 +28,21 @@ pub record OneWaits (c : Setting) (s : HallState) (t : ℕ) : Type 0 where
   pub word : waiting_word seat ≡ ticket_word c.seats t
   pub alone : (q : SeatRecord) → IsRecord s q → q.place ≡ Ticket t → q ≡ seat
 
--- a release by entry has brought the floor home, and two tickets are not passed on: its own, and another. Then one seat
--- waits with the ticket whose number is that of the enters so far
+-- a release by entry has brought the floor home, and two tickets are not passed on: the one in use, and another. Then
+-- one seat waits with the ticket whose number is that of the enters so far
 abbrev pub NextTicketWaits : Type 0
 NextTicketWaits =
     (k : Rules) (o : Object) (c : Setting) (s : HallState) → IsHall k o c s
     → (r : SeatRecord) (to : Home) → IsRecord s r → r.place ≡ Back Entry to → 2 ≤ unpassed (first_word s)
     → OneWaits c s (enters_of r.seen)
+
+-- a release by entry has brought the floor home, and only the ticket in use is not passed on: then no seat waits with a
+-- ticket
+abbrev pub NoTicketWaits : Type 0
+NoTicketWaits =
+    (k : Rules) (o : Object) (c : Setting) (s : HallState) → IsHall k o c s
+    → (r : SeatRecord) (to : Home) → IsRecord s r → r.place ≡ Back Entry to → unpassed (first_word s) ≡ 1
+    → (q : SeatRecord) (t : ℕ) → IsRecord s q → q.place ≡ Ticket t → ⊥
 
 -- a release chose entry and granted a word. If the next seat that enters waited with a ticket, it waited at that word
 abbrev pub GrantedEntersNext : Type 0
@@ -42,3 +52,14 @@ GrantedEntersNext =
     → (granted : HasGranted k o a call wish to peeks p h (Some x)) → seat_called_by granted.released.choice ≡ None
     → (q : Token) (b : Holder) (t : ℕ) → HasEntered k o q b → q.me.setting ≡ h.setting → q.me.place ≡ Ticket t
     → enters_of b.me.seen ≡ enters_of p.me.seen → waiting_word q.me ≡ x.word
+
+-- the seat waits with a ticket, or inside: it looks at its word until its grant is there
+abbrev pub IsLooking : Place → Type 0
+IsLooking p = (stage p ≡ ticketed_stage) ⊎ (stage p ≡ inside_stage)
+
+-- two seats that look at one word are one seat
+abbrev pub OneWaitsAtAWord : Type 0
+OneWaitsAtAWord =
+    (k : Rules) (o : Object) (c : Setting) (s : HallState) → IsHall k o c s
+    → (r q : SeatRecord) → IsRecord s r → IsRecord s q → IsLooking r.place → IsLooking q.place
+    → waiting_word r ≡ waiting_word q → r ≡ q

@@ -21,7 +21,7 @@ Distinct (x ∷ xs) = ((y : SeatRecord) → In y xs → y.seat ≢ x.seat) × Di
 -- a seat before any step
 abbrev pub opening_record : Setting → ℕ → SeatRecord
 opening_record c j =
-    record { seat = j; setting = c; place = Idle; count = 0; known = false; seen = []; mine = []; looks = 0; steps = 0 }
+    record { seat = j; setting = c; place = Idle; count = 0; known = false; seen = []; mine = []; did = [] }
 
 -- the records of n seats from i on
 abbrev pub opening_records : Setting → ℕ → ℕ → View
@@ -54,7 +54,3 @@ head (r ∷ rs) = r ∷ []
 abbrev pub tail : View → View
 tail [] = []
 tail (r ∷ rs) = rs
-
--- the view has two records
-abbrev pub IsTwo : View → Type 0
-IsTwo v = v ≡ the v ∷ the (tail v) ∷ []

@@ -16,6 +16,7 @@ use Rattle.monk_history.specs.declared.event.Event.TheVariants.{SignalAll, Signa
 use Rattle.monk_history.specs.declared.event.Next.{Next}
 use Rattle.monk_history.specs.declared.event.Next.TheVariants as next
 use Rattle.monk_floor.specs.View.{FloorView, monitor_of, stands_of}
+use Rattle.monk_world.specs.Places.{ticket, back_turn, due_to}
 use Rattle.monk_world.specs.Sound.{left_within}
 use Rattle.monk_world.specs.State.{with_event}
 use Rattle.monk_world.specs.declared.home.Home.{Home}
@@ -26,6 +27,7 @@ use Rattle.monk_hall.specs.Changes.{record_after_grant, view_after_compare}
 use Rattle.monk_hall.specs.Floors.{StartsWith, Finds, GoesOn}
 use Rattle.monk_hall.specs.Layout.{tickets, unpassed, word_count, floor_of}
 use Rattle.monk_hall.specs.Records.{View, the, tail}
+use Rattle.monk_hall.specs.declared.deed.Deed.TheVariants.{GrantTicket, CallSeat}
 use Rattle.monk_hall.specs.declared.record.SeatRecord.{SeatRecord}
 
 -- a seat's view, and the slots that it has in its hands
@@ -66,16 +68,22 @@ held_history [] = []
 held_history ((k, None) ∷ xs) = []
 held_history ((k, Some f) ∷ xs) = f.history
 
--- its own ticket is the first that isn't passed on, and the last that entered; so the number of the
--- next ticket is that of the enters in the history that it brought home
+-- the ticket in use is the first that isn't passed on, and that of the last enter. So the number of the next ticket is
+-- that of the enters in the history that the seat brought home
 abbrev pub TellsDrop : Me → ℕ → Me → Type 0
 TellsDrop me found new =
     (new ≡ (record_after_drop (the me.0) found ∷ [], me.1)) × (0 < unpassed found) × (unpassed found ≤ tickets found)
     × (tickets found + 1 ≡ unpassed found + enters_of (the me.0).seen)
 
--- what a grant tells
-abbrev pub TellsGrant : Me → ℕ → Me → Type 0
-TellsGrant me found new = new ≡ (record_after_grant (the me.0) ∷ [], me.1)
+-- what the grant of a ticket tells
+abbrev pub TellsTicketGrant : Me → ℕ → Me → Type 0
+TellsTicketGrant me found new =
+    new ≡ (record_after_grant (the me.0) (GrantTicket (ticket (the me.0).place)) ∷ [], me.1)
+
+-- and what the call of a seat tells
+abbrev pub TellsCall : Me → ℕ → Me → Type 0
+TellsCall me found new = (m : ℕ) × (back_turn (the me.0).place ≡ due_to m)
+    × (new ≡ (record_after_grant (the me.0) (CallSeat m) ∷ [], me.1))
 
 -- of two histories one begins the other
 abbrev pub AreOne : List Event → List Event → Type 0

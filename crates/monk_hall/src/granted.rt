@@ -3,9 +3,10 @@ ghost use Rattle.std.specs.Prelude.{◌≡◌, ◌<◌, [], ◌∷◌, IfSome};
 ghost use Rattle.monk_history.specs.Meaning.Counts.{granted_of};
 ghost use Rattle.monk_world.specs.Places.{stage, ticket, back_turn, due_to, passing_stage};
 ghost use Rattle.monk_hall.specs.Changes.{record_after_grant};
+ghost use Rattle.monk_hall.specs.declared.deed.Deed.TheVariants as deed;
 ghost use Rattle.monk_hall.specs.Layout.{ticket_word, seat_word};
 ghost use Rattle.monk_hall.specs.Records.{IsOne, the};
-ghost use Rattle.monk_hall.specs.Tells.{IsOfTable, IsSameSeat, TellsGrant};
+ghost use Rattle.monk_hall.specs.Tells.{IsOfTable, IsSameSeat, TellsTicketGrant, TellsCall};
 
 use crate::boxed_floor::BoxedFloor;
 use crate::hall::Hall;
@@ -18,11 +19,18 @@ use monk_object::Guarded;
 use std::marker::Model;
 use std::snapshot::Snapshot;
 
-/// Steps 7 and 8: a seat grants the next ticket, or calls the seat that it chose. No other module can name it.
-struct GrantStep;
+/// Step 7: a seat grants the next ticket. No other module can name it.
+struct TicketGrantStep;
 
-impl<K: Kind, T: Guarded> Play<Option<BoxedFloor<K, T>>, View> for GrantStep {
-    ghost then = { λ step me found new. TellsGrant me found new };
+impl<K: Kind, T: Guarded> Play<Option<BoxedFloor<K, T>>, View> for TicketGrantStep {
+    ghost then = { λ step me found new. TellsTicketGrant me found new };
+}
+
+/// Step 8: a seat calls the seat that it chose. No other module can name it.
+struct CallStep;
+
+impl<K: Kind, T: Guarded> Play<Option<BoxedFloor<K, T>>, View> for CallStep {
+    ghost then = { λ step me found new. TellsCall me found new };
 }
 
 /// A grant that was stored in a word of a hall's table, and whose sleeper is yet to be woken. It
@@ -78,11 +86,12 @@ pub(crate) fn ticket_grant<K: Kind, T: Guarded>(
     requires passing { IsOne seat.old.me.0 × (stage (the seat.old.me.0).place ≡ passing_stage)
         × (number ≡ ticket (the seat.old.me.0).place) }
     ensures table { IsSameSeat seat.old seat.new }
-    ensures step { seat.new.me ≡ (record_after_grant (the seat.old.me.0) ∷ [], seat.old.me.1) }
+    ensures step { seat.new.me ≡
+        (record_after_grant (the seat.old.me.0) (deed.GrantTicket number) ∷ [], seat.old.me.1) }
     ensures granted { (result.table ≡ words.now.table_id) × (result.word ≡ ticket_word seats number) }
 {
     let place = ticket_word(seats, number);
-    words.store::<GrantStep>(seat, place, number as u64 + 1);
+    words.store::<TicketGrantStep>(seat, place, number as u64 + 1);
     Granted {
         word: place,
         of: Snapshot::of(words),
@@ -102,11 +111,12 @@ pub(crate) fn seat_grant<K: Kind, T: Guarded>(
     requires back { IsOne seat.old.me.0 × (back_turn (the seat.old.me.0).place ≡ due_to called)
         × (calls ≡ granted_of (the seat.old.me.0).seen called) }
     ensures table { IsSameSeat seat.old seat.new }
-    ensures step { seat.new.me ≡ (record_after_grant (the seat.old.me.0) ∷ [], seat.old.me.1) }
+    ensures step { seat.new.me ≡
+        (record_after_grant (the seat.old.me.0) (deed.CallSeat called) ∷ [], seat.old.me.1) }
     ensures granted { (result.table ≡ words.now.table_id) × (result.word ≡ seat_word called) }
 {
     let place = seat_word(called);
-    words.store::<GrantStep>(seat, place, calls as u64);
+    words.store::<CallStep>(seat, place, calls as u64);
     Granted {
         word: place,
         of: Snapshot::of(words),

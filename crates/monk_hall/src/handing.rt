@@ -1,14 +1,12 @@
 //! How a seat brings the floor home and hands the right on.
-ghost use Rattle.std.specs.Prelude.{◌≡◌, ◌+◌, ◌<◌, Option, Some, None, IfSome, MatchOption, [], ◌∷◌};
-ghost use Rattle.monk_history.specs.Meaning.Counts.{enters_of};
+ghost use Rattle.std.specs.Prelude.{◌≡◌, ◌<◌, Option, Some, None, [], ◌∷◌};
 ghost use Rattle.monk_history.specs.Meaning.Events.{is_stay};
 ghost use Rattle.monk_history.specs.declared.event.Next.{Next};
 ghost use Rattle.monk_world.specs.declared.home.Home.{Home};
 ghost use Rattle.monk_world.specs.declared.place.Place.TheVariants as at;
 ghost use Rattle.monk_hall.specs.Changes.{record_after_floor_in, home_at};
-ghost use Rattle.monk_hall.specs.Granting.{IsGrantFor};
-ghost use Rattle.monk_hall.specs.Handing.{seat_called_by, HasRecordedRelease, HandsOnWithin, HasGone};
-ghost use Rattle.monk_hall.specs.Layout.{ticket_word};
+ghost use Rattle.monk_hall.specs.Granting.{granted_last};
+ghost use Rattle.monk_hall.specs.Handing.{seat_called_by, HasRecordedRelease, HasHandedOn, HasGone};
 ghost use Rattle.monk_hall.specs.Records.{IsOne, the};
 ghost use Rattle.monk_hall.specs.Tells.{IsOfTable, IsSameSeat};
 
@@ -61,11 +59,9 @@ fn let_in<K: Kind, T: Guarded>(
     requires back { IsOne seat.old.me.0
         × ((the seat.old.me.0).place ≡ at.Back Next.Entry (home_at (the seat.old.me.0).place)) }
     ensures table { IsSameSeat seat.old seat.new }
-    ensures step { HandsOnWithin 2 seat.old.me seat.new.me }
-    ensures here { IfSome result (λ g. g.table ≡ words.now.table_id) }
-    ensures ticket { MatchOption result ((the seat.new.me.0).steps ≡ (the seat.old.me.0).steps + 1)
-        (λ g. ((the seat.new.me.0).steps ≡ (the seat.old.me.0).steps + 2)
-        × (g.word ≡ ticket_word seats (enters_of (the seat.old.me.0).seen))) }
+    ensures step { HasHandedOn None (the seat.old.me.0) (the seat.new.me.0) }
+    ensures view { seat.new.me ≡ (the seat.new.me.0 ∷ [], seat.old.me.1) }
+    ensures granted { result ≡ granted_last words.now.table_id seats (the seat.new.me.0).did }
 {
     let found = steps::drop_ticket(words, seat);
     let waiting = unpassed(found);
@@ -89,11 +85,10 @@ pub(crate) fn go_home<K: Kind, T: Guarded>(
     requires released { (to : Home)
         × HasRecordedRelease K.rules T.meaning seat.old.table_id seat.old.me choice to floor }
     ensures table { seat.new.table_id ≡ seat.old.table_id }
-    ensures gone { HasGone (the seat.old.me.0) floor.history
+    ensures gone { HasGone (the seat.old.me.0) floor.history choice
         (home_at (record_after_floor_in (the seat.old.me.0) floor.history).place) (the seat.new.me.0) }
     ensures view { seat.new.me ≡ (the seat.new.me.0 ∷ [], []) }
-    ensures granted { IsGrantFor hall.now choice (the seat.new.me.0).seen (the seat.old.me.0).steps
-        (the seat.new.me.0).steps result }
+    ensures granted { result ≡ granted_last hall.now.id hall.now.setting.seats (the seat.new.me.0).did }
 {
     let words = &hall.table.shared;
     match seat_called_by(choice) {

@@ -1,9 +1,10 @@
 //! How two seats tell each other what they have seen.
-ghost use Rattle.std.specs.Prelude.{◌≡◌, suc, [], ◌∷◌};
+ghost use Rattle.std.specs.Prelude.{◌≡◌, [], ◌∷◌, ◌++◌};
 ghost use Rattle.monk_hall.specs.Changes.{longer};
 ghost use Rattle.monk_hall.specs.Floors.{StartsWith};
 ghost use Rattle.monk_hall.specs.Tells.{AreOne, SeesTruly};
 ghost use Rattle.monk_hall.specs.Tokens.{top};
+ghost use Rattle.monk_hall.specs.declared.deed.Deed.TheVariants as deed;
 
 use crate::hall::Hall;
 use crate::pass::Pass;
@@ -30,9 +31,9 @@ pub fn meet<K: Kind, T: Guarded>(hall: &Hall<K, T>, a: &mut Pass<K, T>, b: &mut 
     requires { (a.old.hall ≡ hall.now.id) × (b.old.hall ≡ hall.now.id) }
     ensures one { AreOne a.old.me.seen b.old.me.seen }
     ensures first { a.new ≡ record a.old
-        { me = record a.old.me { seen = longer a.old.me.seen b.old.me.seen; steps = suc a.old.me.steps } } }
+        { me = record a.old.me { seen = longer a.old.me.seen b.old.me.seen; did = a.old.me.did ++ deed.Meet ∷ [] } } }
     ensures second { b.new ≡ record b.old
-        { me = record b.old.me { seen = longer a.old.me.seen b.old.me.seen; steps = suc b.old.me.steps } } }
+        { me = record b.old.me { seen = longer a.old.me.seen b.old.me.seen; did = b.old.me.did ++ deed.Meet ∷ [] } } }
     ensures first_learns { StartsWith a.new.me.seen a.old.me.seen × StartsWith a.new.me.seen b.old.me.seen }
     ensures second_learns { StartsWith b.new.me.seen a.old.me.seen × StartsWith b.new.me.seen b.old.me.seen }
     ensures told { SeesTruly K.rules T.meaning a.new.me × SeesTruly K.rules T.meaning b.new.me }

@@ -1,7 +1,8 @@
-ghost use Rattle.std.specs.Prelude.{◌≡◌, ◌≢◌, suc, ◌+◌, ◌≤◌, Option, Some, None, IfOk, IfErr, length};
+ghost use Rattle.std.specs.Prelude.{◌≡◌, ◌≢◌, ◌+◌, Option, Some, None, IfOk, IfErr, [], ◌∷◌, ◌++◌, length};
 ghost use Rattle.monk_world.specs.Places.{stage, due_stage};
 ghost use Rattle.monk_world.specs.declared.place.Place.TheVariants as at;
-ghost use Rattle.monk_hall.specs.Calls.{HasLooked, HasEntered, StillWaits, held_ticket};
+ghost use Rattle.monk_hall.specs.Calls.{ComesAfter, HasLooked, HasEntered, StillWaits, held_ticket};
+ghost use Rattle.monk_hall.specs.declared.deed.Deed.TheVariants as deed;
 
 use crate::active::Active;
 use crate::hall::Hall;
@@ -21,7 +22,7 @@ use std::marker::Model;
 pub struct Parked<K: Kind, T: Guarded> {
     pub(crate) seat: TableSeat<K, T>,
     pub(crate) numbers: SeatNumbers,
-    pub(crate) left: u64,
+    pub(crate) left: u32,
     pub(crate) place: Place,
 }
 
@@ -50,9 +51,7 @@ impl<K: Kind, T: Guarded> Parked<K, T> {
     pub fn left(&self) -> u32
         ensures { result + length self.now.me.mine ≡ self.now.me.setting.budget }
     {
-        // No more than this, which is a u32.
-        let _budget = self.numbers.budget;
-        self.left as u32
+        self.left
     }
 
     /// The number of the ticket with which it waits for entry, or with which it found the monitor free.
@@ -72,8 +71,7 @@ impl<K: Kind, T: Guarded> Parked<K, T> {
     #[inline(always)]
     pub fn poll(self, hall: &Hall<K, T>) -> Result<Active<K, T>, Parked<K, T>>
         requires { self.hall ≡ hall.now.id }
-        ensures active { IfOk result (λ a. HasEntered K.rules T.meaning self a × (a.me.looks ≤ self.me.looks + 1)
-            × (a.me.steps ≤ self.me.steps + 2)) }
+        ensures active { IfOk result (λ a. HasEntered K.rules T.meaning self a × ComesAfter 0 self.me a.me) }
         ensures parked { IfErr result (λ p. StillWaits K.rules T.meaning self p × (stage self.me.place ≢ due_stage)) }
     {
         let looked = self.look(hall);
@@ -138,8 +136,8 @@ impl<K: Kind, T: Guarded> Parked<K, T> {
                 seat: numbers.seat,
                 calls: count_after_seat_look(numbers.calls, found),
                 budget: numbers.budget,
-                spare: numbers.spare,
-                spares: numbers.spares,
+                gap_byte: numbers.gap_byte,
+                gap_pair: numbers.gap_pair,
             },
             left,
             place: place_after_seat_look(is_called(numbers.calls, found)),
@@ -152,7 +150,7 @@ impl<K: Kind, T: Guarded> Parked<K, T> {
         requires hall { self.hall ≡ hall.now.id }
         requires due { self.me.place ≡ at.Due source }
         ensures entered { HasEntered K.rules T.meaning self result }
-        ensures counts { (result.me.looks ≡ self.me.looks) × (result.me.steps ≡ suc self.me.steps) }
+        ensures did { result.me.did ≡ self.me.did ++ deed.FloorOut ∷ [] }
     {
         let Parked {
             mut seat,

@@ -14,13 +14,14 @@ use monk_kinds::Kind;
 use monk_object::Guarded;
 use std::marker::{Model, PhantomData};
 
-/// The token of a seat that is outside the monitor.
+/// The token of a seat that is outside the monitor. `gap` is 0, and only fills a gap (`SeatNumbers`).
 #[derive(Drop)]
 pub struct Pass<K: Kind, T: Guarded> {
     pub(crate) badge: Badge<View>,
     pub(crate) of: PhantomData<(K, T)>,
     pub(crate) numbers: SeatNumbers,
-    pub(crate) left: u64,
+    pub(crate) left: u32,
+    pub(crate) gap: u32,
 }
 
 impl<K: Kind, T: Guarded> Model for Pass<K, T> {
@@ -52,9 +53,7 @@ impl<K: Kind, T: Guarded> Pass<K, T> {
         ensures left { result + length self.now.me.mine ≡ self.now.me.setting.budget }
         ensures told { SeesTruly K.rules T.meaning self.now.me }
     {
-        // No more than this, which is a u32.
-        let _budget = self.numbers.budget;
-        self.left as u32
+        self.left
     }
 
     /// How many events its seat has made.
@@ -62,7 +61,7 @@ impl<K: Kind, T: Guarded> Pass<K, T> {
         ensures made { result ≡ length self.now.me.mine }
         ensures told { SeesTruly K.rules T.meaning self.now.me }
     {
-        self.numbers.budget - self.left as u32
+        self.numbers.budget - self.left
     }
 
     /// Comes to the monitor: draws a ticket, in one step. The event of the enter is recorded when the seat becomes
@@ -78,6 +77,7 @@ impl<K: Kind, T: Guarded> Pass<K, T> {
             of: _,
             numbers,
             left,
+            gap: _,
         } = self;
         let mut seat: TableSeat<K, T> = badge.into_seat();
         let found = steps::arrive(&hall.table.shared, &mut seat);

@@ -93,3 +93,10 @@ impl Split<View> for Part {
 
     ghost right = { tail };
 }
+
+/// A look that tells what can't be, by a seat that would have two active records.
+pub(crate) struct NeverStep;
+
+impl<K: Kind, T: Guarded> Play<Option<BoxedFloor<K, T>>, View> for NeverStep {
+    ghost then = { λ step me found new. ⊥ };
+}

@@ -1,11 +1,12 @@
 //! What a seat of the table knows.
+use crate::deed::Deed;
 use crate::setting::Setting;
 use monk_history::Event;
 use monk_world::Place;
 use std::collections::LinkedList;
 
 /// One seat: its number, the hall's setting, where it stands, how often it was called, whether it knows of somebody at
-/// the entry, the longest history it has seen, its own events, and how many looks and steps it has taken. For
+/// the entry, the longest history it has seen, its own events, and what it has done at the table, in order. For
 /// contracts: no value of it is made.
 pub struct SeatRecord {
     pub seat: u8,
@@ -15,8 +16,7 @@ pub struct SeatRecord {
     pub known: bool,
     pub seen: LinkedList<Event>,
     pub mine: LinkedList<Event>,
-    pub looks: u64,
-    pub steps: u64,
+    pub did: LinkedList<Deed>,
 }
 
 /// What a view of the table holds: the record of one seat, of all seats before the passes are

@@ -40,15 +40,16 @@ impl<K: Kind, T: Guarded> Release<K, T> {
             numbers,
             floor,
         } = active;
-        // The numbers go field by field, as in `Parked::seat_look`: a copy of the whole would read bytes as one that were written as two.
+        // The numbers go field by field, as in `Parked::seat_look`. A copy of the whole would read as one word what was
+        // written as several, and wait for that.
         Release {
             seat,
             numbers: SeatNumbers {
                 calls: numbers.calls,
                 budget: numbers.budget,
                 seat: numbers.seat,
-                spare: numbers.spare,
-                spares: numbers.spares,
+                gap_byte: numbers.gap_byte,
+                gap_pair: numbers.gap_pair,
             },
             floor,
             choice: Next::Stay,
@@ -69,13 +70,14 @@ impl<K: Kind, T: Guarded> Release<K, T> {
             floor,
             choice,
         } = self;
-        let left = floor.left(numbers.seat) as u64;
+        let left = floor.left(numbers.seat);
         let granted = go_home(hall, &mut seat, floor, choice);
         let pass = Pass {
             badge: seat.into_badge(),
             of: PhantomData,
             numbers,
             left,
+            gap: 0,
         };
         (pass, granted)
     }
@@ -94,7 +96,7 @@ impl<K: Kind, T: Guarded> Release<K, T> {
             floor,
             choice,
         } = self;
-        let left = floor.left(numbers.seat) as u64;
+        let left = floor.left(numbers.seat);
         let granted = go_home(hall, &mut seat, floor, choice);
         let parked = Parked {
             seat,

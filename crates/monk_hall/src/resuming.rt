@@ -1,6 +1,6 @@
 //! How a thread waits until its seat is active.
-ghost use Rattle.std.specs.Prelude.{◌≡◌};
-ghost use Rattle.monk_hall.specs.Calls.{HasEntered};
+ghost use Rattle.std.specs.Prelude.{◌≡◌, ℕ};
+ghost use Rattle.monk_hall.specs.Calls.{ComesAfter, HasEntered};
 
 use crate::active::Active;
 use crate::hall::Hall;
@@ -17,7 +17,8 @@ impl<K: Kind, T: Guarded> Parked<K, T> {
     /// Nothing says that a grant ever comes.
     pub fn resume<R: Wait>(self, rt: &R, hall: &Hall<K, T>) -> Active<K, T>
         requires { self.hall ≡ hall.now.id }
-        ensures { HasEntered K.rules T.meaning self result }
+        ensures entered { HasEntered K.rules T.meaning self result }
+        ensures did { (n : ℕ) × ComesAfter n self.me result.me }
     {
         let mut parked = self;
         for _ in rt.forever() {

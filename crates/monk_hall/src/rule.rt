@@ -1,6 +1,7 @@
 //! The rule that every step of the table keeps.
 ghost use Rattle.monk_hall.specs.Records.{first_view};
-ghost use Rattle.monk_hall.specs.Rule.{IsHall, setting_of};
+ghost use Rattle.monk_hall.specs.Rule.{setting_of};
+ghost use Rattle.monk_hall.specs.Schedules.{IsReached};
 
 use crate::boxed_floor::BoxedFloor;
 use crate::record::View;
@@ -11,13 +12,14 @@ use monk_object::Guarded;
 use std::alloc::Global;
 use std::marker::PhantomData;
 
-/// The rule of a hall's table: its words, places and floor show a world whose every state is sound.
+/// The rule of a hall's table: some schedule of the table's steps leads to it from the table with which the hall was
+/// made. What that means is `laws::every_schedule_is_one_history`.
 pub struct HallRule<K, T> {
     marker: PhantomData<(K, T)>,
 }
 
 impl<K: Kind, T: Guarded> TableRule<Option<BoxedFloor<K, T>>, View, Setup<T>> for HallRule<K, T> {
-    ghost holds = { λ setup s. IsHall K.rules T.meaning
+    ghost holds = { λ setup s. IsReached K.rules T.meaning
         (setting_of (T.state setup.opening.value) setup.seats setup.conds setup.budget) s };
 
     ghost first = { λ setup. first_view

@@ -1,7 +1,7 @@
 //! What a thread does while it waits, in the one order that misses no wake: it looks at the word where its grant will
 //! come, polls, and then sleeps on what it saw. Each is a type of its own, which only the one before it makes.
 ghost use Rattle.std.specs.Prelude.{◌≡◌, ◌<◌, IfOk, IfErr};
-ghost use Rattle.monk_hall.specs.Calls.{HasEntered, StillWaits};
+ghost use Rattle.monk_hall.specs.Calls.{ComesAfter, HasEntered, StillWaits};
 ghost use Rattle.monk_hall.specs.Layout.{waiting_word};
 
 use crate::active::Active;
@@ -67,7 +67,8 @@ impl<K: Kind, T: Guarded> Watched<K, T> {
     /// Then it polls.
     pub(crate) fn poll(self, hall: &Hall<K, T>) -> Result<Active<K, T>, Polled<K, T>>
         requires { self.parked.hall ≡ hall.now.id }
-        ensures active { IfOk result (HasEntered K.rules T.meaning self.parked) }
+        ensures active { IfOk result (λ a. HasEntered K.rules T.meaning self.parked a
+            × ComesAfter 0 self.parked.me a.me) }
         ensures parked { IfErr result (λ p. StillWaits K.rules T.meaning self.parked p.parked) }
         ensures same { IfErr result (λ p. (p.word ≡ self.word) × (p.seen ≡ self.seen)) }
     {

@@ -10,8 +10,8 @@ ghost use Rattle.monk_history.specs.declared.event.Event.TheVariants.{Enter, Res
 ghost use Rattle.monk_history.specs.declared.event.Via.TheVariants.{Free, Handed};
 ghost use Rattle.monk_kinds.specs.declared.mode.Rules.{Rules};
 ghost use Rattle.monk_object.specs.Names.{meaning_named, opening_named};
-ghost use Rattle.monk_object.specs.declared.name.ObjectName.TheVariants.{Buffer, Book, Shop};
-ghost use Rattle.monk_history.specs.Meaning.Acts.{IsRunOf, IsInOrder, ExcludesEachOther, ServesEachOne, acts_in};
+ghost use Rattle.monk_object.specs.declared.name.ObjectName.TheVariants.{Buffer, Book, Shop, Flags};
+ghost use Rattle.monk_history.specs.Meaning.Acts.{IsRunOf, IsInOrder, ExcludesEachOther, ServesEachOne, HoldsLastSet, acts_in};
 ghost use Rattle.monk_history.specs.Meaning.Counts.{events_of};
 ghost use Rattle.monk_history.specs.Meaning.Entry.{AdmitsUnknown, IsAtDoor, IsDueFrom, IsQuiet};
 ghost use Rattle.monk_history.specs.Meaning.Legal.{IsLegal};
@@ -139,4 +139,11 @@ pub fn legal_shop_loses_nobody()
     ensures { (rules : Rules) (seats conds size : ℕ) (h : List Event) → let m =
         monitor rules seats conds (meaning_named Shop) (opening_named Shop size) in IsLegal m h
         → ServesEachOne size (data_of m h) (acts_in h) }
+{}
+
+/// In a legal history over flags the bits are those of the last set that was done, and none before the first.
+pub fn legal_flags_hold_the_last_set()
+    ensures { (rules : Rules) (seats conds size : ℕ) (h : List Event) → let m =
+        monitor rules seats conds (meaning_named Flags) (opening_named Flags size) in IsLegal m h
+        → HoldsLastSet size (data_of m h) (acts_in h) }
 {}

@@ -13,9 +13,10 @@ use crate::{
     Pnb, Pqb, QuasiBlocking,
 };
 
-/// Every kind stands in `KindName::ALL` exactly once.
+/// Every kind stands in `KindName::ALL` exactly once, in the order in which a number names it.
 pub fn every_kind_is_listed()
-    ensures { (k : KindName) → StandsOnce kind_word KindName.ALL k }
+    ensures once { (k : KindName) → StandsOnce kind_word KindName.ALL k }
+    ensures order { KindName.ALL ≡ kinds }
 {}
 
 /// Every ordering stands in `Ordering13::ALL` exactly once.

@@ -69,7 +69,3 @@ pub record HoldsTheLastSet (size : ℕ) (ops : List Op) : Type 0 where
   pub state : state_of Flags size ops ≡ size ∷ bits ∷ []
   pub in_order : 0 ∷ bits_set (acts_of Flags size ops) ≡ earlier ++ bits ∷ []
   pub within : bits < 2 ^ size
-
--- an operation that is answered 0 changes nothing
-abbrev pub IsUnchangedByRefusal : ObjectName → List ℕ → Op → Type 0
-IsUnchangedByRefusal o state op = (meaning_named o).reply state op ≡ 0 → (meaning_named o).after state op ≡ state

@@ -50,6 +50,7 @@ impl Flags {
 
 impl Guarded for Flags {
     ghost use Rattle.std.proofs.Common.{arith, refl};
+    ghost use Rattle.monk_object.specs.Refused.{refused as refused_by};
     ghost use Rattle.monk_object.specs.Flags.{flags_meaning};
 
     const CODES: u8 = 1;
@@ -83,6 +84,8 @@ impl Guarded for Flags {
     fn holds(&self, pred: u8) -> bool {
         (self.bits >> pred) & 1 == 1
     }
+
+    ghost refused = { refused_by FlagsName };
 }
 
 impl Listed for Flags {

@@ -1,2 +1,7 @@
+mod PlainWords
+mod PlainWhy
+mod PlainData
 mod PlainLaws
 mod PageLaws
+mod CaptionLaws
+pub mod PublicLaws

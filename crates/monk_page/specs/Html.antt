@@ -1,5 +1,6 @@
 -- The text of a page: one HTML file, with a picture and its data
 use Rattle.std.specs.Prelude.{ℕ, List, ◌++◌, Option, option_map}
+use Rattle.monk_audit.specs.Words.{caption_by}
 use Rattle.monk_draw.specs.Picture.{picture}
 use Rattle.monk_draw.specs.Window.{last_of, not_shown}
 use Rattle.monk_draw.specs.declared.window.Window.{Window}
@@ -39,7 +40,8 @@ window_json h es w =
 abbrev pub page_around : List ℕ → List ℕ → List ℕ
 page_around drawn data_text = front ++ (drawn ++ (middle ++ (data_text ++ finish)))
 
--- the page of those events; the picture says that reason
-abbrev pub page_text : Heading → List Event → Option Window → List ℕ → List ℕ
-page_text h es w reason =
-    page_around (picture h es w (forbidden_step h es) reason) (compact_text (window_json h es w))
+-- the page of those events; the picture says why one is forbidden, by the verdict on them
+abbrev pub page_text : Heading → List Event → Option Window → List ℕ
+page_text h es w =
+    page_around (picture h es w (forbidden_step h es) (caption_by (account h es).verdict))
+    (compact_text (window_json h es w))

@@ -68,11 +68,10 @@ fn page_told(
     events: &[Event],
     telling: &Telling,
     window: Option<Window>,
-    reason: &str,
 ) -> Result<String, AuditFault>
     requires few { length events.now ≤ 2 ^ 25 }
     requires told { telling_of telling.now ≡ account header.now events.now }
-    ensures text { IfOk result (λ page. string_bytes page ≡ page_text header.now events.now window reason.now) }
+    ensures text { IfOk result (λ page. string_bytes page ≡ page_text header.now events.now window) }
     ensures reads_back { OnOk result
         (read (compact_text (window_json header.now events.now window))
         ≡ Some (window_json header.now events.now window)) }
@@ -81,13 +80,15 @@ fn page_told(
     let forbidden = forbidden_step(telling);
     let span = Span::of(window, showable(forbidden, events.len()));
     let data = data_text(alloc, header, events, telling, span)?;
+    let reason = telling.verdict.caption();
     let picture = draw(alloc, header, events, window, forbidden, reason)?;
     Ok(page_around(alloc, picture.as_str(), data.as_str())?)
 }
 
 /// The page of a history, as one HTML text: a picture, and the data of each step that is shown, which its script reads.
+/// The data stand there unbroken ([`data_are_unbroken`](crate::laws::data_are_unbroken)).
 ///
-/// `window` says which events are shown, and `reason` why an event is forbidden, as [`draw`] does.
+/// `window` says which events are shown, as [`draw`] does.
 ///
 /// # Errors
 ///
@@ -104,11 +105,10 @@ pub fn page(
     header: &Header,
     events: &[Event],
     window: Option<Window>,
-    reason: &str,
 ) -> Result<String, AuditFault>
     requires { length events.now ≤ 2 ^ 25 }
     // Byte for byte the page is its definition.
-    ensures text { IfOk result (λ page. string_bytes page ≡ page_text header.now events.now window reason.now) }
+    ensures text { IfOk result (λ page. string_bytes page ≡ page_text header.now events.now window) }
     // Whoever reads the data of that text finds the value of which it is made.
     ensures reads_back { OnOk result
         (read (compact_text (window_json header.now events.now window))
@@ -118,5 +118,5 @@ pub fn page(
     ensures too_big { most header.now.object < header.now.size → IsErrOf result AuditFault.Object }
 {
     let telling = tell(alloc, header, events)?;
-    page_told(alloc, header, events, &telling, window, reason)
+    page_told(alloc, header, events, &telling, window)
 }

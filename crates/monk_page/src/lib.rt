@@ -7,6 +7,7 @@ mod event;
 mod html;
 mod in_json;
 mod kinds;
+pub mod laws;
 mod lists;
 mod page_data;
 mod queues;

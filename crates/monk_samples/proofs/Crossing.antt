@@ -12,11 +12,7 @@ use Rattle.monk_object.specs.contracts.shop.Shop as Shop
 use Rattle.monk_object.specs.declared.guarded.Guarded as Guarded
 use Rattle.monk_hall.proofs.PublicLaws.{hall_sync, pass_send}
 use Rattle.monk_hall.specs.contracts.hall.Hall as Hall
-use Rattle.monk_samples.specs.contracts.line.StartingLine as StartingLine
 use Rattle.monk_samples.specs.contracts.worker.Worker as Worker
-
-line_sync : IsSync StartingLine.the_row
-line_sync = search (sendable, crosses) depth 20
 
 pub worker_send : (ℓ : NamedLft) (K T R G : RattleType) (k : Kind.Ghosts K.Denot) (t : Guarded.Ghosts T.Denot)
     → IsSend K → IsSend T → IsSync R → IsSync G → IsSend (Worker.the_row ℓ K T R G k t)
@@ -28,7 +24,7 @@ worker_send ℓ K T R G k t sk st yr yg =
         search sendable,
         (
           search (sendable, hall) depth 20,
-          (search sendable, (search sendable depth 20, (search (sendable, line_sync) depth 20, tt))),
+          (search sendable, (search sendable depth 20, (search (sendable, crosses) depth 20, tt))),
         ),
       ),
     ) in

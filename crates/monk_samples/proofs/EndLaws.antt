@@ -15,18 +15,18 @@ use Rattle.monk_samples.specs.declared.crew_fault.CrewFault.{CrewFault}
 use Rattle.monk_samples.specs.declared.crew_fault.CrewFault.TheVariants as crew
 use Rattle.monk_samples.specs.declared.end.End.{End}
 use Rattle.monk_samples.specs.declared.end.End.TheVariants.{Done, Tired, Late}
-use Rattle.monk_samples.specs.declared.sample.Sample.{Sample}
+use Rattle.monk_samples.specs.declared.scenario.Scenario.{Scenario}
 use Rattle.monk_samples.proofs.RoundLaws.{no_round}
 
-module _ (k : Rules) (o : Object) (answers : ℕ → ℕ → Bool → Type 0) (sample : Sample) (seats rounds : ℕ) where
+module _ (k : Rules) (o : Object) (answers : ℕ → ℕ → Bool → Type 0) (scenario : Scenario) (seats rounds : ℕ) where
   abbrev Served : House → List Token → List Token → Type 0
-  Served = HaveServed k o answers sample seats rounds
+  Served = HaveServed k o answers scenario seats rounds
 
   abbrev EndedFirst : List Token → End → Type 0
-  EndedFirst = HasEndedFirst k o answers sample seats rounds
+  EndedFirst = HasEndedFirst k o answers scenario seats rounds
 
   abbrev Faulted : List Token → CrewFault → Type 0
-  Faulted = IsFaultOfCrew k o answers sample seats rounds
+  Faulted = IsFaultOfCrew k o answers scenario seats rounds
 
   -- some, and then others
   pub served_then : (h : House) (ps qs more back : List Token) → Served h ps qs → Served h more back
@@ -38,11 +38,11 @@ module _ (k : Rules) (o : Object) (answers : ℕ → ℕ → Bool → Type 0) (s
 
   -- each to its end
   pub to_end : (h : House) (ps qs : List Token) → Served h ps qs
-      → All (HasServedToEnd k o answers sample seats rounds) ps
-  to_end h [] qs s = All-nil (HasServedToEnd k o answers sample seats rounds)
+      → All (HasServedToEnd k o answers scenario seats rounds) ps
+  to_end h [] qs s = All-nil (HasServedToEnd k o answers scenario seats rounds)
   to_end h (p ∷ ps) [] s = absurd s
   to_end h (p ∷ ps) (q ∷ qs) s =
-      All-cons (HasServedToEnd k o answers sample seats rounds) p ps (q, s.0.1) (to_end h ps qs s.1)
+      All-cons (HasServedToEnd k o answers scenario seats rounds) p ps (q, s.0.1) (to_end h ps qs s.1)
 
   ended_then : (ps more : List Token) (end : End) → EndedFirst ps end → EndedFirst (ps ++ more) end
   ended_then ps more end s = record {
@@ -72,7 +72,7 @@ module _ (k : Rules) (o : Object) (answers : ℕ → ℕ → Bool → Type 0) (s
   HaveJoined h ps qs (Some fault) = Faulted ps fault
 
   last_of : (h : House) (ps qs : List Token) (p q : Token) (end : End) → Served h ps qs
-      → HasServed k o answers sample seats rounds p q end
+      → HasServed k o answers scenario seats rounds p q end
       → EndedFirst (ps ++ p ∷ []) end
   last_of h ps qs p q end s t = record {
     before = ps;
@@ -87,7 +87,7 @@ module _ (k : Rules) (o : Object) (answers : ℕ → ℕ → Bool → Type 0) (s
   -- and one more
   pub joined_then : (h : House) (ps qs : List Token) (p q : Token) (end : End) (fault : Option CrewFault)
       → HaveJoined h ps qs fault
-      → IsOf h q → HasServed k o answers sample seats rounds p q end
+      → IsOf h q → HasServed k o answers scenario seats rounds p q end
       → HaveJoined h (ps ++ p ∷ []) (qs ++ q ∷ []) (fault_after fault end)
   joined_then h ps qs p q Done None s of t = served_then h ps qs (p ∷ []) (q ∷ []) s ((of, t), tt)
   joined_then h ps qs p q Tired None s of t = last_of h ps qs p q Tired s t
@@ -95,17 +95,17 @@ module _ (k : Rules) (o : Object) (answers : ℕ → ℕ → Bool → Type 0) (s
   joined_then h ps qs p q end (Some fault) s of t = fault_then ps (p ∷ []) fault s
 
   -- a seat without rounds has served
-  idle_served : (p : Token) → rounds_of sample seats rounds p.me.seat ≡ 0
-      → HasServed k o answers sample seats rounds p p Done
+  idle_served : (p : Token) → rounds_of scenario.sample seats rounds p.me.seat ≡ 0
+      → HasServed k o answers scenario seats rounds p p Done
   idle_served p none =
-      subst (λ n. HasDoneRounds k o (answers p.me.seat) (round_of sample k p.me.setting seats p.me.seat) n p p)
-      (sym none) (no_round k o answers (λ (c : Setting) (s r : ℕ). round_of sample k c seats s r) p)
+      subst (λ n. HasDoneRounds k o (answers p.me.seat) (round_of scenario k p.me.setting seats p.me.seat) n p p)
+      (sym none) (no_round k o answers (λ (c : Setting) (s r : ℕ). round_of scenario k c seats s r) p)
 
   -- those who worked, and behind them one who may have been idle
   pub all_served : (h : House) (ps working back all : List Token) (idle : Option Token)
       → ps ≡ working ++ option_to_list idle
       → all ≡ back ++ option_to_list idle → Served h working back → IfSome idle (IsReady k h)
-      → IfSome idle (λ p. rounds_of sample seats rounds p.me.seat ≡ 0) → Served h ps all
+      → IfSome idle (λ p. rounds_of scenario.sample seats rounds p.me.seat ≡ 0) → Served h ps all
   all_served h ps working back all None are gives s of none =
       subst (λ xs. Served h xs all) (sym (are ∙ append-nil working))
       (subst (Served h working) (sym (gives ∙ append-nil back)) s)

@@ -1,6 +1,6 @@
 -- What a hasty visit comes to, try by try
 use Rattle.std.specs.Prelude.{IfOk, MatchResult}
-use Rattle.std.proofs.Common.{◌≡◌, ◌<◌, ℕ, suc, Bool, true, false, Result, Ok, Err, arith, Option, [], ◌∷◌, ◌++◌, append_assoc}
+use Rattle.std.proofs.Common.{◌≡◌, ◌<◌, ℕ, suc, Bool, true, false, Result, Ok, Err, arith, Option, Some, [], ◌∷◌, ◌++◌, append_assoc}
 use Rattle.std.proofs.Common.{refl, sym, ap, subst, ◌∙◌}
 use Rattle.monk_kinds.specs.declared.mode.Rules.{Rules}
 use Rattle.monk_object.specs.Object.{Object}
@@ -10,7 +10,8 @@ use Rattle.monk_history.specs.declared.event.Next.TheVariants.{Stay}
 use Rattle.monk_hall.specs.Tokens.{Token, Holder}
 use Rattle.monk_samples.specs.Asked.{IsCall}
 use Rattle.monk_samples.specs.Trails.{Addition, Trail, HasCalled, inside, outside}
-use Rattle.monk_samples.specs.Visits.{Guard, Plan, HasActed, HasMissed, HasPausedUntil, HasTired, IsLeftWaiting, IsMiss, wish_in}
+use Rattle.monk_samples.specs.Visits.{Guard, Plan, HasActed, HasLooked, HasMissed, HasPausedUntil, HasTired, IsLeftWaiting, IsMiss}
+use Rattle.monk_samples.specs.Visits.{hasty_guard, wish_in}
 use Rattle.monk_samples.proofs.TrailLaws.{called_then}
 
 -- what an operation tells where the seat acted
@@ -39,6 +40,12 @@ module _ (k : Rules) (o : Object) where
     paused = rw (seat, setting) at t.paused;
   }
 
+  pub looked_since : (x : Trail) (cond pred : ℕ) (a b : Holder) → HasCalled x (inside a) []
+      → HasLooked k o (inside a) cond pred b → HasLooked k o x cond pred b
+  unfolding paused_since
+  looked_since x cond pred a b came t =
+      record { paused = paused_since x (Some (hasty_guard cond pred)) a b came t.paused; found = t.found }
+
   pub tired_since : (x : Trail) (w : Option Guard) (a : Holder) (q : Token) → HasCalled x (inside a) []
       → HasTired k o (inside a) (IsLeftWaiting k o a.me.setting a.me.seat w) q
       → HasTired k o x (IsLeftWaiting k o x.setting x.seat w) q
@@ -51,31 +58,34 @@ module _ (k : Rules) (o : Object) where
   }
 
   -- a try whose operation was refused, and then a leave
-  pub missed_once : (p : Token) (v : Plan) (a : Holder) (q : Token) → HasActed k o (outside p) v.guard v.op 0 a
+  pub missed_once : (p : Token) (v : Plan) (a : Holder) (q : Token) (s : HasActed k o (outside p) v.guard v.op 0 a)
+      → (s.pauses ≡ [] → ⊥)
       → ((d : Addition) × HasCalled (inside a) (outside q) (d ∷ [])
       × IsCall k o (wish_in v.guard) a.me.setting (Leave a.me.seat Stay) d
       × (d.before ≡ a.floor.history)) → has_conditions k.mode ≡ true
       → HasMissed k o p v 1 q
-  missed_once p v a q s one signalled = let seat = s.called.went.seat in let setting = s.called.went.setting in record {
-    calls = (s.pauses ++ s.act ∷ []) ++ one.0 ∷ [];
-    called = called_then (outside p) (inside a) (outside q) (s.pauses ++ s.act ∷ []) (one.0 ∷ []) s.called one.1;
-    are = record {
-      first = [];
-      rest = (s.pauses ++ s.act ∷ []) ++ one.0 ∷ [];
-      are = refl;
-      is_first = refl;
-      is_rest = record {
-        pauses = s.pauses;
-        act = s.act;
-        leave = one.0;
-        are = append_assoc s.pauses (s.act ∷ []) (one.0 ∷ []);
-        paused = s.paused;
-        acts = s.acts;
-        leaves = rw (seat, setting) at one.2;
-        signalled = signalled;
-      };
-    };
-  }
+  missed_once p v a q s woken one signalled =
+      let seat = s.called.went.seat in let setting = s.called.went.setting in record {
+        calls = (s.pauses ++ s.act ∷ []) ++ one.0 ∷ [];
+        called = called_then (outside p) (inside a) (outside q) (s.pauses ++ s.act ∷ []) (one.0 ∷ []) s.called one.1;
+        are = record {
+          first = [];
+          rest = (s.pauses ++ s.act ∷ []) ++ one.0 ∷ [];
+          are = refl;
+          is_first = refl;
+          is_rest = record {
+            pauses = s.pauses;
+            act = s.act;
+            leave = one.0;
+            are = append_assoc s.pauses (s.act ∷ []) (one.0 ∷ []);
+            paused = s.paused;
+            acts = s.acts;
+            leaves = rw (seat, setting) at one.2;
+            woken = woken;
+            signalled = signalled;
+          };
+        };
+      }
 
   -- and once more
   pub missed_then : (p m q : Token) (v : Plan) (n : ℕ) → HasMissed k o p v n m → HasMissed k o m v 1 q

@@ -12,10 +12,12 @@ mod ShareLaws
 mod SeatSums
 mod WholeLaws
 mod MeetLaws
+mod UnclosedLaws
 mod MissLaws
 mod ProductLaws
 mod Crossing
 mod RunLaws
 mod RunEndLaws
+mod HistoryLaws
 mod TotalLaws
 pub mod PublicLaws

@@ -21,16 +21,16 @@ use Rattle.monk_world.specs.declared.source.Source.TheVariants.{Free, Granted, C
 use Rattle.monk_hall.specs.Complete.{AreApart, HoldsOnly}
 use Rattle.monk_hall.specs.Floors.{StartsWith}
 use Rattle.monk_hall.specs.Records.{opening_records}
+use Rattle.monk_hall.specs.declared.deed.Deed.{Deed}
 use Rattle.monk_hall.specs.Tokens.{House, Token, tokens}
 use Rattle.monk_hall.specs.declared.setting.Setting.{Setting}
 use Rattle.monk_hall.proofs.PublicLaws.{holds_sum}
 use Rattle.monk_samples.specs.Crews.{IsOf}
 use Rattle.monk_samples.specs.Ends.{HaveServed}
-use Rattle.monk_samples.specs.Runs.{IsFirstSpent}
 use Rattle.monk_samples.specs.Styles.{IsSpent}
 use Rattle.monk_samples.specs.Trails.{is_coming}
-use Rattle.monk_samples.specs.Wholes.{IsSame, AreSame, HoldsOperationsOf, IsLeftBy}
-use Rattle.monk_samples.specs.declared.sample.Sample.{Sample}
+use Rattle.monk_samples.specs.Wholes.{IsSame, AreSame, HoldsOperationsOf, IsClosedBy, IsFirstSpent, IsLeftBy}
+use Rattle.monk_samples.specs.declared.scenario.Scenario.{Scenario}
 use Rattle.monk_samples.proofs.TrailLaws.{starts_here, starts_then}
 use Rattle.monk_samples.proofs.WholeLaws.{of_event, acts_worth}
 
@@ -123,43 +123,43 @@ holds_operations h ps q qs extra same apart own none only weight =
 
 -- the seats of a run differ from each other
 from_on : (k : Rules) (o : Object) (answers : ℕ → ℕ → Bool
-    → Type 0) (sample : Sample) (seats rounds : ℕ) (h : House) (z : TableId) (c : Setting)
-    → (n i : ℕ) (qs : List Token) → HaveServed k o answers sample seats rounds h (tokens z (opening_records c n i)) qs
+    → Type 0) (scenario : Scenario) (seats rounds : ℕ) (h : House) (z : TableId) (c : Setting)
+    → (n i : ℕ) (qs : List Token) → HaveServed k o answers scenario seats rounds h (tokens z (opening_records c n i)) qs
     → All (λ q. i ≤ q.me.seat) qs
-from_on k o answers sample seats rounds h z c zero i [] s = All-nil (λ q. i ≤ q.me.seat)
-from_on k o answers sample seats rounds h z c zero i (q ∷ qs) s = absurd s
-from_on k o answers sample seats rounds h z c (suc n) i [] s = absurd s
-from_on k o answers sample seats rounds h z c (suc n) i (q ∷ qs) s =
+from_on k o answers scenario seats rounds h z c zero i [] s = All-nil (λ q. i ≤ q.me.seat)
+from_on k o answers scenario seats rounds h z c zero i (q ∷ qs) s = absurd s
+from_on k o answers scenario seats rounds h z c (suc n) i [] s = absurd s
+from_on k o answers scenario seats rounds h z c (suc n) i (q ∷ qs) s =
     All-cons (λ q. i ≤ q.me.seat) q qs (subst (λ x. i ≤ x) (sym s.0.1.called.went.seat) (omega arith))
-    (λ k d near. omega (arith, from_on _ o answers sample seats rounds h z c n (suc i) qs s.1 k d near))
+    (λ k d near. omega (arith, from_on _ o answers scenario seats rounds h z c n (suc i) qs s.1 k d near))
 
-pub seats_differ : (k : Rules) (o : Object) (answers : ℕ → ℕ → Bool → Type 0) (sample : Sample)
+pub seats_differ : (k : Rules) (o : Object) (answers : ℕ → ℕ → Bool → Type 0) (scenario : Scenario)
     (seats rounds : ℕ) (h : House) (z : TableId)
     (c : Setting) → (n i : ℕ) (qs : List Token)
-    → HaveServed k o answers sample seats rounds h (tokens z (opening_records c n i)) qs
+    → HaveServed k o answers scenario seats rounds h (tokens z (opening_records c n i)) qs
     → AllDiffer qs
-seats_differ k o answers sample seats rounds h z c zero i [] s = λ i j d lt within. absurd (omega (arith, within))
-seats_differ k o answers sample seats rounds h z c zero i (q ∷ qs) s = absurd s
-seats_differ k o answers sample seats rounds h z c (suc n) i [] s = absurd s
-seats_differ k o answers sample seats rounds h z c (suc n) i (q ∷ qs) s =
+seats_differ k o answers scenario seats rounds h z c zero i [] s = λ i j d lt within. absurd (omega (arith, within))
+seats_differ k o answers scenario seats rounds h z c zero i (q ∷ qs) s = absurd s
+seats_differ k o answers scenario seats rounds h z c (suc n) i [] s = absurd s
+seats_differ k o answers scenario seats rounds h z c (suc n) i (q ∷ qs) s =
     AllPairs-cons (λ p q. p.me.seat ≢ q.me.seat) q qs
-    (λ j d near e. let later = from_on k o answers sample seats rounds h z c n (suc i) qs s.1 j d near in
+    (λ j d near e. let later = from_on k o answers scenario seats rounds h z c n (suc i) qs s.1 j d near in
     absurd (omega (arith, later, e, s.0.1.called.went.seat)))
-    (seats_differ k o answers sample seats rounds h z c n (suc i) qs s.1)
+    (seats_differ k o answers scenario seats rounds h z c n (suc i) qs s.1)
 
 -- of two passes that have met
-met_as : (p : Token) (seen : List Event) (steps : ℕ)
-    → IsSame p (record p { me = record p.me { seen = seen; steps = steps } })
-met_as p seen steps = record { hall = refl; seat = refl; setting = refl; mine = refl }
+met_as : (p : Token) (seen : List Event) (did : List Deed)
+    → IsSame p (record p { me = record p.me { seen = seen; did = did } })
+met_as p seen did = record { hall = refl; seat = refl; setting = refl; mine = refl }
 
-pub met_same : (p q : Token) (seen : List Event) (steps : ℕ)
-    → q ≡ record p { me = record p.me { seen = seen; steps = steps } } → IsSame p q
-met_same p q seen steps e = subst (IsSame p) (sym e) (met_as p seen steps)
+pub met_same : (p q : Token) (seen : List Event) (did : List Deed)
+    → q ≡ record p { me = record p.me { seen = seen; did = did } } → IsSame p q
+met_same p q seen did e = subst (IsSame p) (sym e) (met_as p seen did)
 
-pub met_begins : (p q r s : Token) (seen : List Event) (m n : ℕ)
-    → q ≡ record p { me = record p.me { seen = seen; steps = m } }
-    → s ≡ record r { me = record r.me { seen = seen; steps = n } } → StartsWith q.me.seen s.me.seen
-met_begins p q r s seen m n e f =
+pub met_begins : (p q r s : Token) (seen : List Event) (xs ys : List Deed)
+    → q ≡ record p { me = record p.me { seen = seen; did = xs } }
+    → s ≡ record r { me = record r.me { seen = seen; did = ys } } → StartsWith q.me.seen s.me.seen
+met_begins p q r s seen xs ys e f =
     let same : q.me.seen ≡ s.me.seen = ap (λ (t : Token). t.me.seen) e ∙ sym (ap (λ (t : Token). t.me.seen) f) in
     subst (λ h. StartsWith q.me.seen h) same (starts_here q.me.seen)
 
@@ -175,7 +175,7 @@ same_spent p q s spent =
     subst (λ (c : Setting). c.budget ≤ length p.me.mine + 1) s.setting
     (subst (λ (h : List Event). q.me.setting.budget ≤ length h + 1) s.mine spent)
 
-same_back : (p q : Token) → IsSame p q → IsSame q p
+pub same_back : (p q : Token) → IsSame p q → IsSame q p
 same_back p q s = record { hall = sym s.hall; seat = sym s.seat; setting = sym s.setting; mine = sym s.mine }
 
 pub first_able : (ps : List Token) (q : Token) (qs : List Token) (left : ℕ) → AreSame ps (q ∷ qs)
@@ -233,7 +233,7 @@ closed_ends h at seen e s u closed came same =
     closed ∙ ap (λ xs. xs ++ Leave s Entry ∷ []) came ∙ append_assoc seen (e ∷ []) (Leave s Entry ∷ [])
     ∙ ap (λ n. seen ++ e ∷ Leave n Entry ∷ []) same
 
-own_back : (h : List Event) (ps qs : List Token) → AreSame ps qs → All (λ q. events_of h q.me.seat ≡ q.me.mine) qs
+pub own_back : (h : List Event) (ps qs : List Token) → AreSame ps qs → All (λ q. events_of h q.me.seat ≡ q.me.mine) qs
     → All (λ p. events_of h p.me.seat ≡ p.me.mine) ps
 own_back h [] [] s own = All-nil (λ p. events_of h p.me.seat ≡ p.me.mine)
 own_back h [] (q ∷ qs) s own = absurd s
@@ -243,6 +243,19 @@ own_back h (p ∷ ps) (q ∷ qs) s own =
     (ap (events_of h) (sym s.0.seat) ∙ All-head (λ r. events_of h r.me.seat ≡ r.me.mine) q qs own ∙ s.0.mine)
     (own_back h ps qs s.1 (All-tail (λ r. events_of h r.me.seat ≡ r.me.mine) q qs own))
 
+-- how the first of them has closed
+pub by_first : (h before : List Event) (e : Event) (p q : Token) → IsSame p q → is_coming e ≡ true
+    → h ≡ before ++ e ∷ Leave q.me.seat Entry ∷ []
+    → events_of h q.me.seat ≡ q.me.mine ++ e ∷ Leave q.me.seat Entry ∷ [] → IsClosedBy h p
+by_first h before e p q same comes ends own = record {
+  before = before;
+  came = e;
+  comes = comes;
+  ends = subst (λ n. h ≡ before ++ e ∷ Leave n Entry ∷ []) same.seat ends;
+  own = ap (events_of h) (sym same.seat) ∙ own
+      ∙ (λ i. same.mine i ++ e ∷ Leave (same.seat i) Entry ∷ []);
+}
+
 -- what these passes left, whose seats have met
 pub left_by : (h before : List Event) (e : Event) (ps : List Token) (q : Token) (qs : List Token) → AreSame ps (q ∷ qs)
     → is_coming e ≡ true → h ≡ before ++ e ∷ Leave q.me.seat Entry ∷ []
@@ -250,14 +263,7 @@ pub left_by : (h before : List Event) (e : Event) (ps : List Token) (q : Token) 
     → All (λ p. StartsWith h p.me.seen) ps → IsLeftBy h ps
 left_by h before e [] q qs same comes ends own only seen = absurd same
 left_by h before e (p ∷ ps) q qs same comes ends own only seen = (
-  record {
-    before = before;
-    came = e;
-    comes = comes;
-    ends = subst (λ n. h ≡ before ++ e ∷ Leave n Entry ∷ []) same.0.seat ends;
-    own = ap (events_of h) (sym same.0.seat) ∙ own
-        ∙ (λ i. same.0.mine i ++ e ∷ Leave (same.0.seat i) Entry ∷ []);
-  },
+  by_first h before e p q same.0 comes ends own,
   own_back h ps qs same.1 only.own,
   seen,
 )

@@ -1,6 +1,6 @@
 -- Where no try misses, no act of a buffer is refused
 use Rattle.std.proofs.Common.{◌≡◌, ℕ, zero, suc, ◌+◌, ◌<◌, ◌/◌, ◌==◌, Bool, true, false, cond, nat_lt, Option, Some, None, List, [], ◌∷◌, ◌++◌}
-use Rattle.std.proofs.Common.{refl, sym, ap, subst, ◌∙◌, arith}
+use Rattle.std.proofs.Common.{refl, sym, ap, ◌∙◌, arith}
 use Rattle.std.specs.List.{sum_by}
 use Rattle.std.proofs.lemmas.Bool.{false≢true, eqb-true}
 use Rattle.std.proofs.lemmas.List.Sums.{sum_by-append}
@@ -18,14 +18,17 @@ use Rattle.monk_hall.specs.Tokens.{House, Token, tokens}
 use Rattle.monk_hall.specs.declared.setting.Setting.{Setting}
 use Rattle.monk_samples.specs.Ends.{HaveServed}
 use Rattle.monk_samples.specs.Rounds.{round_of, rounds_of, rounds_to}
-use Rattle.monk_samples.specs.Totals.{missed_in}
+use Rattle.monk_samples.specs.Totals.{MissesNothing, missed_in}
 use Rattle.monk_samples.specs.Trails.{Addition, HasCalled, events_in, outside}
-use Rattle.monk_samples.specs.Visits.{AreMisses, AreVisits, Guard, Hasty, IsCertain, IsVisit, Manner, Misses, MissesIn, Patient, Plan}
+use Rattle.monk_samples.specs.Visits.{AreMisses, AreVisits, Guard, IsCertain, IsVisit, Misses, MissesIn, Plan}
 use Rattle.monk_samples.specs.declared.end.End.TheVariants.{Done}
-use Rattle.monk_samples.specs.declared.sample.Sample.{Sample}
+use Rattle.monk_samples.specs.declared.manner.Manner.{Manner}
+use Rattle.monk_samples.specs.declared.manner.Manner.TheVariants.{Hasty, Patient}
+use Rattle.monk_samples.specs.declared.sample.Sample.TheVariants.{Buffer}
 use Rattle.monk_samples.proofs.DoneLaws.{own_acts, try_acts}
 use Rattle.monk_samples.proofs.SeatSums.{over}
-use Rattle.monk_samples.proofs.ShareLaws.{put_by, rounds_by, take_by}
+use Rattle.monk_samples.specs.Members.{puts_by, takes_by}
+use Rattle.monk_samples.specs.Samples.{scenario_of}
 use Rattle.monk_samples.specs.Wholes.{HoldsOperationsOf}
 use Rattle.monk_samples.proofs.VisitLaws.{acts_append}
 use Rattle.monk_samples.proofs.WholeLaws.{shares}
@@ -72,7 +75,7 @@ module _ (k : Rules) (o : Object) where
       careful_then (rounds_to round n) (round (suc n)) (careful_rounds round n all) (all (suc n))
 
   careful_either : (b : Bool) (m : Manner) (round : ℕ) → NeverMisses m
-      → AreCareful (cond b (put_by m round ∷ []) (take_by m ∷ []))
+      → AreCareful (cond b (puts_by m round ∷ []) (takes_by m ∷ []))
   careful_either true m round never = (never, tt)
   careful_either false m round never = (never, tt)
 
@@ -127,18 +130,24 @@ module _ (k : Rules) (o : Object) where
 
 -- a run over a buffer misses nothing, where its visits don't
 pub buffer_misses : (k : Rules) (answers : ℕ → ℕ → Bool → Type 0) (seats rounds : ℕ) (z : TableId) (c : Setting)
-    (house : House) (h : List Event) (qs : List Token) → HoldsOperationsOf h qs → (sample : Sample) (m : Manner)
-    → ((d : Setting) (seat round : ℕ) → round_of sample k d seats seat round ≡ rounds_by m seats seat round)
-    → HaveServed k buffer_meaning answers sample seats rounds house (tokens z (opening_records c seats 0)) qs
+    (house : House) (h : List Event) (qs : List Token) → HoldsOperationsOf h qs → (m : Manner)
+    → HaveServed k buffer_meaning answers (scenario_of Buffer m) seats rounds house
+    (tokens z (opening_records c seats 0)) qs
     → NeverMisses k buffer_meaning m → missed_in h ≡ 0
-buffer_misses k answers seats rounds z c house h qs holds sample m plans served never =
+buffer_misses k answers seats rounds z c house h qs holds m served never =
     holds refused
-    ∙ shares k buffer_meaning answers sample seats rounds house c z refused (λ s. 0)
+    ∙ shares k buffer_meaning answers (scenario_of Buffer m) seats rounds house c z refused (λ s. 0)
     (λ p q s none. calls_refused k buffer_meaning p q
-    (rounds_to (round_of sample k p.me.setting seats p.me.seat) (rounds_of sample seats rounds p.me.seat))
+    (rounds_to (round_of (scenario_of Buffer m) k p.me.setting seats p.me.seat)
+    (rounds_of Buffer seats rounds p.me.seat))
     s.calls s.called s.are
-    (careful_rounds k buffer_meaning (round_of sample k p.me.setting seats p.me.seat)
-    (rounds_of sample seats rounds p.me.seat)
-    (λ r. subst (AreCareful k buffer_meaning) (sym (plans p.me.setting p.me.seat r))
-    (careful_either k buffer_meaning (nat_lt p.me.seat (seats / 2)) m r never))) none) seats 0 qs served
+    (careful_rounds k buffer_meaning (round_of (scenario_of Buffer m) k p.me.setting seats p.me.seat)
+    (rounds_of Buffer seats rounds p.me.seat)
+    (λ r. careful_either k buffer_meaning (nat_lt p.me.seat (seats / 2)) m r never)) none) seats 0 qs served
     ∙ over_none seats 0
+
+-- whatever the manner
+pub misses_by : (k : Rules) (m : Manner) (missed : ℕ) → (NeverMisses k buffer_meaning m → missed ≡ 0)
+    → MissesNothing k m missed
+misses_by k Patient missed none = none tt
+misses_by k Hasty missed none = none

@@ -18,16 +18,17 @@ use Rattle.monk_hall.specs.Records.{opening_records}
 use Rattle.monk_hall.specs.Tokens.{House, Token, tokens}
 use Rattle.monk_hall.specs.declared.setting.Setting.{Setting}
 use Rattle.monk_samples.specs.Ends.{HaveServed}
-use Rattle.monk_samples.specs.Rounds.{HasServed, round_of, rounds_of}
-use Rattle.monk_samples.specs.Totals.{HasEnded, HasPutAndTaken, HasTotals, totals_of, totals_of_buffer}
-use Rattle.monk_samples.specs.Visits.{Manner}
+use Rattle.monk_samples.specs.Rounds.{HasServed}
+use Rattle.monk_samples.specs.Totals.{HasEnded, HasTotals, totals_of}
+use Rattle.monk_samples.specs.Samples.{scenario_of}
 use Rattle.monk_samples.specs.Wholes.{HoldsOperationsOf}
 use Rattle.monk_samples.specs.declared.end.End.TheVariants.{Done}
-use Rattle.monk_samples.specs.declared.sample.Sample.{Sample}
+use Rattle.monk_samples.specs.declared.manner.Manner.{Manner}
+use Rattle.monk_samples.specs.declared.scenario.Scenario.{Scenario}
 use Rattle.monk_samples.specs.declared.sample.Sample.TheVariants.{Buffer, Book, Shop}
 use Rattle.monk_samples.proofs.DoneLaws.{worth, sum_to}
 use Rattle.monk_samples.proofs.SeatSums.{over, first_half, second_half, first_items, calls_all, visits_all, sum_is}
-use Rattle.monk_samples.proofs.ShareLaws.{once, item, rounds_by, puts_of, takes_of, items_of, reads_of, writes_of}
+use Rattle.monk_samples.proofs.ShareLaws.{once, item, puts_of, takes_of, items_of, reads_of, writes_of}
 use Rattle.monk_samples.proofs.ShareLaws.{calls_of, sits_of, departs_of}
 use Rattle.monk_samples.proofs.WholeLaws.{shares}
 
@@ -69,89 +70,85 @@ taken_all size state acts law same =
 
 module _ (k : Rules) (answers : ℕ → ℕ → Bool → Type 0) (seats rounds : ℕ) (z : TableId) (c : Setting) (house : House)
     (h : List Event) (qs : List Token) (holds : HoldsOperationsOf h qs) where
-  total_is : (o : Object) (sample : Sample) (weight : Answered → ℕ) (share : ℕ → ℕ)
-      → HaveServed k o answers sample seats rounds house (tokens z (opening_records c seats 0)) qs
-      → ((p q : Token) → HasServed k o answers sample seats rounds p q Done → p.me.mine ≡ []
+  total_is : (o : Object) (scenario : Scenario) (weight : Answered → ℕ) (share : ℕ → ℕ)
+      → HaveServed k o answers scenario seats rounds house (tokens z (opening_records c seats 0)) qs
+      → ((p q : Token) → HasServed k o answers scenario seats rounds p q Done → p.me.mine ≡ []
       → sum_by weight (acts_in q.me.mine) ≡ share p.me.seat)
       → sum_by weight (acts_in h) ≡ over share seats 0
-  total_is o sample weight share served each =
-      holds weight ∙ shares k o answers sample seats rounds house c z weight share each seats 0 qs served
+  total_is o scenario weight share served each =
+      holds weight ∙ shares k o answers scenario seats rounds house c z weight share each seats 0 qs served
 
-  module _ (sample : Sample) (m : Manner)
-      (plans : (d : Setting) (seat round : ℕ) → round_of sample k d seats seat round ≡ rounds_by m seats seat round)
-      (works : (seat : ℕ) → rounds_of sample seats rounds seat ≡ rounds_of Buffer seats rounds seat)
-      (served : HaveServed k buffer_meaning answers sample seats rounds house
+  module _ (m : Manner) (served : HaveServed k buffer_meaning answers (scenario_of Buffer m) seats rounds house
       (tokens z (opening_records c seats 0)) qs) where
     pub puts_are : times_done PUT (acts_in h) ≡ seats / 2 * rounds
-    puts_are = total_is buffer_meaning sample (worth PUT once) _ served
-        (puts_of k buffer_meaning answers sample m seats rounds plans works)
-        ∙ first_half seats rounds
+    puts_are = total_is buffer_meaning (scenario_of Buffer m) (worth PUT once) _ served
+        (puts_of k buffer_meaning answers m seats rounds) ∙ first_half seats rounds
 
     pub takes_are : times_done TAKE (acts_in h) ≡ seats / 2 * rounds
-    takes_are = total_is buffer_meaning sample (worth TAKE once) _ served
-        (takes_of k buffer_meaning answers sample m seats rounds plans works)
-        ∙ second_half seats rounds
+    takes_are = total_is buffer_meaning (scenario_of Buffer m) (worth TAKE once) _ served
+        (takes_of k buffer_meaning answers m seats rounds) ∙ second_half seats rounds
 
     pub items_are : sum (items_put (acts_in h)) ≡ seats / 2 * sum_to rounds
     items_are = put_sum (acts_in h)
-        ∙ total_is buffer_meaning sample (worth PUT item) _ served
-        (items_of k buffer_meaning answers sample m seats rounds plans works)
-        ∙ first_items seats rounds
+        ∙ total_is buffer_meaning (scenario_of Buffer m) (worth PUT item) _ served
+        (items_of k buffer_meaning answers m seats rounds) ∙ first_items seats rounds
 
-  module _ (served : HaveServed k book_meaning answers Book seats rounds house
+  module _ (m : Manner) (served : HaveServed k book_meaning answers (scenario_of Book m) seats rounds house
       (tokens z (opening_records c seats 0)) qs) where
     pub reads_are : times_done START_READ (acts_in h) ≡ seats / 2 * rounds
     reads_are =
-        total_is book_meaning Book (worth START_READ once) _ served (reads_of k book_meaning answers seats rounds)
-        ∙ first_half seats rounds
+        total_is book_meaning (scenario_of Book m) (worth START_READ once) _ served
+        (reads_of k book_meaning answers m seats rounds) ∙ first_half seats rounds
 
     pub writes_are : times_done START_WRITE (acts_in h) ≡ seats / 2 * rounds
     writes_are =
-        total_is book_meaning Book (worth START_WRITE once) _ served (writes_of k book_meaning answers seats rounds)
-        ∙ second_half seats rounds
+        total_is book_meaning (scenario_of Book m) (worth START_WRITE once) _ served
+        (writes_of k book_meaning answers m seats rounds) ∙ second_half seats rounds
 
-  module _ (some : 1 ≤ seats)
-      (served : HaveServed k shop_meaning answers Shop seats rounds house
+  module _ (some : 1 ≤ seats) (m : Manner)
+      (served : HaveServed k shop_meaning answers (scenario_of Shop m) seats rounds house
       (tokens z (opening_records c seats 0)) qs) where
     pub calls_are : times_done CALL (acts_in h) ≡ (seats - 1) * rounds
-    calls_are = total_is shop_meaning Shop (worth CALL once) _ served (calls_of k shop_meaning answers seats rounds)
-        ∙ calls_all seats rounds some
+    calls_are = total_is shop_meaning (scenario_of Shop m) (worth CALL once) _ served
+        (calls_of k shop_meaning answers m seats rounds) ∙ calls_all seats rounds some
 
     pub sits_are : times_done SIT (acts_in h) ≡ (seats - 1) * rounds
-    sits_are = total_is shop_meaning Shop (worth SIT once) _ served (sits_of k shop_meaning answers seats rounds)
-        ∙ visits_all seats rounds some
+    sits_are = total_is shop_meaning (scenario_of Shop m) (worth SIT once) _ served
+        (sits_of k shop_meaning answers m seats rounds) ∙ visits_all seats rounds some
 
     pub departs_are : times_done DEPART (acts_in h) ≡ (seats - 1) * rounds
-    departs_are =
-        total_is shop_meaning Shop (worth DEPART once) _ served (departs_of k shop_meaning answers seats rounds)
-        ∙ visits_all seats rounds some
+    departs_are = total_is shop_meaning (scenario_of Shop m) (worth DEPART once) _ served
+        (departs_of k shop_meaning answers m seats rounds) ∙ visits_all seats rounds some
 
   -- all totals of each sample
-  pub buffer_totals : (sample : Sample) (m : Manner)
-      → ((d : Setting) (seat round : ℕ) → round_of sample k d seats seat round ≡ rounds_by m seats seat round)
-      → ((seat : ℕ) → rounds_of sample seats rounds seat ≡ rounds_of Buffer seats rounds seat)
-      → HaveServed k buffer_meaning answers sample seats rounds house (tokens z (opening_records c seats 0)) qs
+  pub buffer_totals : (m : Manner)
+      → HaveServed k buffer_meaning answers (scenario_of Buffer m) seats rounds house
+      (tokens z (opening_records c seats 0)) qs
       → (size : ℕ) (state : List ℕ) → IsInOrder size state (acts_in h)
-      → HasPutAndTaken seats rounds (totals_of_buffer h)
-  buffer_totals sample m plans works served size state law =
-      let puts = puts_are sample m plans works served in let takes = takes_are sample m plans works served in
-      let items = items_are sample m plans works served ∙ ap (λ n. seats / 2 * n) (sum_is rounds) in
+      → HasTotals Buffer seats rounds (totals_of Buffer h)
+  buffer_totals m served size state law =
+      let puts = puts_are m served in let takes = takes_are m served in
+      let items = items_are m served ∙ ap (λ n. seats / 2 * n) (sum_is rounds) in
       let taken = taken_all size state (acts_in h) law (puts ∙ sym takes) ∙ items in
       λ i. puts i ∷ items i ∷ takes i ∷ taken i ∷ []
 
-  pub book_totals : HaveServed k book_meaning answers Book seats rounds house (tokens z (opening_records c seats 0)) qs
+  pub book_totals : (m : Manner)
+      → HaveServed k book_meaning answers (scenario_of Book m) seats rounds house
+      (tokens z (opening_records c seats 0)) qs
       → HasEnded Book h → HasTotals Book seats rounds (totals_of Book h)
-  book_totals served ended =
-      let reads = reads_are served in let writes = writes_are served in
+  book_totals m served ended =
+      let reads = reads_are m served in let writes = writes_are m served in
       let read = ended.0 ∙ reads in let written = ended.1 ∙ writes in
       λ i. reads i ∷ read i ∷ writes i ∷ written i ∷ []
 
-  pub shop_totals : 1 ≤ seats
-      → HaveServed k shop_meaning answers Shop seats rounds house (tokens z (opening_records c seats 0)) qs
+  pub shop_totals : 1 ≤ seats → (m : Manner)
+      → HaveServed k shop_meaning answers (scenario_of Shop m) seats rounds house
+      (tokens z (opening_records c seats 0)) qs
       → (size : ℕ) (state : List ℕ) → ServesEachOne size state (acts_in h)
       → HasTotals Shop seats rounds (totals_of Shop h)
-  shop_totals some served size state law =
-      let sits = sits_are some served in let calls = calls_are some served in let departs = departs_are some served in
+  shop_totals some m served size state law =
+      let sits = sits_are some m served in let calls = calls_are some m served in
+      let departs = departs_are some m served in
       let finishes : times_done FINISH (acts_in h) ≡ (seats - 1) * rounds =
       omega (arith, calls, departs, law.called, law.finished) in
       λ i. sits i ∷ calls i ∷ finishes i ∷ departs i ∷ []

@@ -1,5 +1,5 @@
 -- How a run ends, by the ends of its workers
-use Rattle.std.proofs.Common.{◌≡◌, ℕ, zero, suc, ◌<◌, ◌≤◌, ◌⊎◌, inl, inr, Bool, All, List, [], ◌∷◌, length, sym, ap, subst, ◌∙◌, arith}
+use Rattle.std.proofs.Common.{◌≡◌, ℕ, zero, suc, ◌<◌, ◌≤◌, inl, inr, Bool, All, List, [], ◌∷◌, length, sym, ap, subst, ◌∙◌, arith}
 use Rattle.std.proofs.lemmas.List.Elements.{All-cons, All-nil}
 use Rattle.atomic_table.specs.Seated.{TableId}
 use Rattle.monk_kinds.specs.declared.mode.Rules.{Rules}
@@ -11,14 +11,14 @@ use Rattle.monk_hall.specs.declared.setting.Setting.{Setting}
 use Rattle.monk_samples.specs.Crews.{IsClosed, IsOf}
 use Rattle.monk_samples.specs.Ends.{HaveServed, HasEndedFirst, IsFaultOfCrew}
 use Rattle.monk_samples.specs.Faults.{run_fault_of}
-use Rattle.monk_samples.specs.Runs.{HasClosed, HasLeft, HasRun, HasStopped, IsFaultOfRun, IsFirstSpent, run_setting}
+use Rattle.monk_samples.specs.Runs.{HasClosed, HasLeft, HasRun, HasStopped, IsFaultOfRun, run_setting}
 use Rattle.monk_samples.specs.Samples.{sample_object}
-use Rattle.monk_samples.specs.Wholes.{HoldsOperationsOf, IsLeftBy}
+use Rattle.monk_samples.specs.Wholes.{HoldsOperationsOf, IsFaultOfClosing, IsLeftBy}
 use Rattle.monk_samples.specs.declared.crew_fault.CrewFault.{CrewFault}
 use Rattle.monk_samples.specs.declared.crew_fault.CrewFault.TheVariants as crew
 use Rattle.monk_samples.specs.declared.end.End.{End}
 use Rattle.monk_samples.specs.declared.end.End.TheVariants.{Tired, Late}
-use Rattle.monk_samples.specs.declared.sample.Sample.{Sample}
+use Rattle.monk_samples.specs.declared.scenario.Scenario.{Scenario}
 
 -- there is a pass
 pub some_pass : (z : TableId) (c : Setting) → 2 ≤ c.seats → 0 < length (tokens z (first_view c))
@@ -29,13 +29,14 @@ some_pass z c many = by c.seats many
     by (suc n) h = omega arith
 
 -- a history with which the hall was closed is what its seats have left
-pub has_left : (k : Rules) (answers : ℕ → ℕ → Bool → Type 0) (sample : Sample) (seats rounds : ℕ) (history : List Event)
-    → HasClosed k answers sample seats rounds history → HasLeft k answers sample seats rounds history
-has_left k answers sample seats rounds history s = record { run = s.run; left = s.left }
+pub has_left : (k : Rules) (answers : ℕ → ℕ → Bool → Type 0) (scenario : Scenario) (seats rounds : ℕ)
+    (history : List Event) → HasClosed k answers scenario seats rounds history
+    → HasLeft k answers scenario seats rounds history
+has_left k answers scenario seats rounds history s = record { run = s.run; left = s.left }
 
-module _ (k : Rules) (answers : ℕ → ℕ → Bool → Type 0) (sample : Sample) (seats rounds : ℕ) where
+module _ (k : Rules) (answers : ℕ → ℕ → Bool → Type 0) (scenario : Scenario) (seats rounds : ℕ) where
   abbrev Served : House → List Token → List Token → Type 0
-  Served = HaveServed k (meaning_named (sample_object sample)) answers sample seats rounds
+  Served = HaveServed k (meaning_named (sample_object scenario.sample)) answers scenario seats rounds
 
   -- each pass that came back is of the hall, and there is one
   pub back_of : (h : House) (ps qs : List Token) → Served h ps qs → All (IsOf h) qs
@@ -51,49 +52,50 @@ module _ (k : Rules) (answers : ℕ → ℕ → Bool → Type 0) (sample : Sampl
 
   -- there was no memory
   pub no_memory : (fault : CrewFault) → fault ≡ crew.Memory
-      → IsFaultOfRun k answers sample seats rounds (run_fault_of fault)
-  no_memory fault e = subst (λ f. IsFaultOfRun k answers sample seats rounds (run_fault_of f)) (sym e) tt
+      → IsFaultOfRun k answers scenario seats rounds (run_fault_of fault)
+  no_memory fault e = subst (λ f. IsFaultOfRun k answers scenario seats rounds (run_fault_of f)) (sym e) tt
 
   module _ (h : House) (made : List Token) (e : made ≡ tokens h.id (first_view h.setting))
-      (c : h.setting ≡ run_setting k sample seats rounds) where
-    passes_are : made ≡ tokens h.id (first_view (run_setting k sample seats rounds))
+      (c : h.setting ≡ run_setting k scenario seats rounds) where
+    passes_are : made ≡ tokens h.id (first_view (run_setting k scenario seats rounds))
     passes_are = e ∙ ap (λ (x : Setting). tokens h.id (first_view x)) c
 
     -- all have served
-    pub has_run : (qs : List Token) → Served h made qs → HasRun k answers sample seats rounds
+    pub has_run : (qs : List Token) → Served h made qs → HasRun k answers scenario seats rounds
     has_run qs s = record {
       hall = h.id;
       passes = qs;
       served = subst (λ (x : Setting). Served (record { id = h.id; setting = x })
-          (tokens h.id (first_view (run_setting k sample seats rounds))) qs)
+          (tokens h.id (first_view (run_setting k scenario seats rounds))) qs)
           c (subst (λ (ps : List Token). Served h ps qs) passes_are s);
     }
 
     pub has_closed : (qs : List Token) (history : List Event) → Served h made qs
-        → IsClosed k (meaning_named (sample_object sample)) h.setting history → HoldsOperationsOf history qs
+        → IsClosed k (meaning_named (sample_object scenario.sample)) h.setting history → HoldsOperationsOf history qs
         → IsLeftBy history qs
-        → HasClosed k answers sample seats rounds history
+        → HasClosed k answers scenario seats rounds history
     unfolding has_run
     has_closed qs history s closed whole left = record {
       run = has_run qs s;
       left = left;
-      closed = subst (λ (x : Setting). IsClosed k (meaning_named (sample_object sample)) x history) c closed;
+      closed = subst (λ (x : Setting). IsClosed k (meaning_named (sample_object scenario.sample)) x history) c closed;
       whole = whole;
     }
 
-    stopped : (end : End) → HasEndedFirst k (meaning_named (sample_object sample)) answers sample seats rounds made end
-        → HasStopped k answers sample seats rounds end
+    stopped : (end : End)
+        → HasEndedFirst k (meaning_named (sample_object scenario.sample)) answers scenario seats rounds made end
+        → HasStopped k answers scenario seats rounds end
     stopped end s = record {
       hall = h.id;
       first = subst (λ (ps : List Token). HasEndedFirst k
-          (meaning_named (sample_object sample)) answers sample seats rounds ps end)
+          (meaning_named (sample_object scenario.sample)) answers scenario seats rounds ps end)
           passes_are s;
     }
 
     -- or the crew has no passes
     pub crew_fault : (fault : CrewFault)
-        → IsFaultOfCrew k (meaning_named (sample_object sample)) answers sample seats rounds made fault
-        → IsFaultOfRun k answers sample seats rounds (run_fault_of fault)
+        → IsFaultOfCrew k (meaning_named (sample_object scenario.sample)) answers scenario seats rounds made fault
+        → IsFaultOfRun k answers scenario seats rounds (run_fault_of fault)
     crew_fault crew.Memory s = tt
     crew_fault crew.Thread s = tt
     crew_fault crew.Tired s = inl (stopped Tired s)
@@ -102,14 +104,13 @@ module _ (k : Rules) (answers : ℕ → ℕ → Bool → Type 0) (sample : Sampl
 
     -- or it can't be closed
     pub close_fault : (qs : List Token) (fault : CrewFault) → Served h made qs
-        → (fault ≡ crew.Memory) ⊎ ((fault ≡ crew.Busy) × (IsFirstSpent qs → ⊥))
-        ⊎ ((fault ≡ crew.Tired) × IsFirstSpent qs)
-        → IsFaultOfRun k answers sample seats rounds (run_fault_of fault)
+        → IsFaultOfClosing k (meaning_named (sample_object scenario.sample)) scenario.sample qs fault
+        → IsFaultOfRun k answers scenario seats rounds (run_fault_of fault)
     unfolding has_run
     close_fault qs fault s (inl is) = no_memory fault is
     close_fault qs fault s (inr (inl is)) =
-        subst (λ f. IsFaultOfRun k answers sample seats rounds (run_fault_of f)) (sym is.0)
-        (record { run = has_run qs s; able = is.1 })
+        subst (λ f. IsFaultOfRun k answers scenario seats rounds (run_fault_of f)) (sym is.0)
+        (record { run = has_run qs s; able = is.1; why = is.2 })
     close_fault qs fault s (inr (inr is)) =
-        subst (λ f. IsFaultOfRun k answers sample seats rounds (run_fault_of f)) (sym is.0)
+        subst (λ f. IsFaultOfRun k answers scenario seats rounds (run_fault_of f)) (sym is.0)
         (inr (record { run = has_run qs s; spent = is.1 }))

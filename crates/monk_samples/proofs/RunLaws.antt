@@ -1,6 +1,6 @@
 -- What a run rests on: lists of workers and threads, a hall's passes, and the header of a closed hall
 use Rattle.std.proofs.Common.{◌≡◌, ℕ, zero, suc, ◌+◌, ◌*◌, ◌^◌, ◌≤◌, true, cond, All, Result, Ok, Err}
-use Rattle.std.specs.Prelude.{IsErrAnd, IsOkAnd, IsTrue}
+use Rattle.std.specs.Prelude.{IsTrue}
 use Rattle.std.proofs.Common.{IfErr, IfOk, List, [], ◌∷◌, ◌++◌, map, length, refl, sym, ap, subst}
 use Rattle.std.proofs.Common.{◌∙◌, arith}
 use Rattle.std.proofs.lemmas.Bool.{false≢true}
@@ -20,21 +20,20 @@ use Rattle.monk_object.specs.Names.{meaning_named, opening_named}
 use Rattle.monk_object.specs.Object.{Object}
 use Rattle.monk_history.proofs.PublicLaws.Meaning.{in_order, excludes, serves_each}
 use Rattle.monk_history.specs.Meaning.Legal.{IsLegal}
-use Rattle.monk_history.specs.Meaning.Monitor.{Monitor, monitor, data_of}
+use Rattle.monk_history.specs.Meaning.Monitor.{monitor, data_of}
 use Rattle.monk_history.specs.Meaning.Named.{named_monitor}
 use Rattle.monk_history.specs.Text.{Heading, is_writable}
 use Rattle.monk_history.specs.declared.event.Event.{Event}
 use Rattle.monk_floor.specs.View.{FloorView, monitor_of}
 use Rattle.monk_hall.specs.Closing.{IsEnded}
 use Rattle.monk_hall.specs.Layout.{floor_of}
-use Rattle.monk_hall.specs.Rule.{setting_of}
 use Rattle.monk_samples.specs.Crews.{IsReady, AreReady, IsClosed}
-use Rattle.monk_samples.specs.Samples.{sample_object, size, hasty_size, size_of, conds_of, budget_of, run_heading}
-use Rattle.monk_samples.specs.Samples.{KeepsLaw, IsHistoryOf, IsOfFirstVersion}
-use Rattle.monk_samples.specs.Samples.{IsOutcome}
-use Rattle.monk_samples.specs.Totals.{HasTotals, totals_of}
+use Rattle.monk_samples.specs.Samples.{sample_object, size_in, conds_of, budget_of, run_heading, run_monitor}
+use Rattle.monk_samples.specs.Samples.{KeepsLaw, IsHistoryOf, IsOfFirstVersion, IsOutcome}
+use Rattle.monk_samples.specs.Totals.{totals_of}
 use Rattle.monk_samples.specs.declared.sample.Sample.{Sample}
-use Rattle.monk_samples.specs.declared.sample.Sample.TheVariants.{Buffer, Book, Shop, Hasty}
+use Rattle.monk_samples.specs.declared.sample.Sample.TheVariants.{Buffer, Book, Shop}
+use Rattle.monk_samples.specs.declared.scenario.Scenario.{Scenario}
 use Rattle.monk_samples.specs.Styles.{Offers}
 
 pub one_more : {X : Type 0} (xs ys : List X) (x : X) (P : X → Type 0) → ys ≡ xs ++ x ∷ [] → All P xs → P x → All P ys
@@ -104,51 +103,44 @@ closed_by k o b c a before h state s f e early =
       early = early;
     }
 
-pub law_of : (k : Rules) (sample : Sample) (seats : ℕ) (h : List Event) → let m =
-    monitor k seats (conds_of k) (meaning_named (sample_object sample))
-    (opening_named (sample_object sample) (size_of sample)) in
-    IsLegal m h → KeepsLaw sample (data_of m h) h
-law_of k Buffer seats h legal = in_order k seats (conds_of k) size h legal
-law_of k Book seats h legal = excludes k seats (conds_of k) size h legal
-law_of k Shop seats h legal = serves_each k seats (conds_of k) size h legal
-law_of k Hasty seats h legal = in_order k seats (conds_of k) hasty_size h legal
+law_by : (k : Rules) (seats : ℕ) (h : List Event) (sample : Sample) (size : ℕ) → let m =
+    monitor k seats (conds_of k) (meaning_named (sample_object sample)) (opening_named (sample_object sample) size) in
+    IsLegal m h → KeepsLaw sample size (data_of m h) h
+law_by k seats h Buffer size legal = in_order k seats (conds_of k) size h legal
+law_by k seats h Book size legal = excludes k seats (conds_of k) size h legal
+law_by k seats h Shop size legal = serves_each k seats (conds_of k) size h legal
 
-pub history_of : (k : Rules) (sample : Sample) (seats rounds : ℕ) (c : Setting) (h : List Event)
-    → c ≡ setting_of (opening_named (sample_object sample) (size_of sample)) seats (conds_of k) (budget_of seats rounds)
-    → IsClosed k (meaning_named (sample_object sample)) c h
-    → ((state : List ℕ) → KeepsLaw sample state h → HasTotals sample seats rounds (totals_of sample h))
-    → IsHistoryOf k sample seats rounds h
-history_of k sample seats rounds c h e closed totals =
-    let z = subst (λ (x : Setting). IsClosed k (meaning_named (sample_object sample)) x h) e closed in
-    record { legal = z.legal; few = z.few; early = z.early; totals = totals _ (law_of k sample seats h z.legal) }
+-- the law of the sample's object holds of a legal history
+pub law_of : (k : Rules) (scenario : Scenario) (seats : ℕ) (h : List Event) → IsLegal (run_monitor k scenario seats) h
+    → KeepsLaw scenario.sample (size_in scenario.manner) (data_of (run_monitor k scenario seats) h) h
+law_of k scenario seats h legal = law_by k seats h scenario.sample (size_in scenario.manner) legal
 
-pub outcome_of : (k : Rules) (name : KindName) (sample : Sample) (seats rounds : ℕ) (h : Heading) (history : List Event)
-    (totals : List ℕ) → seats ≤ 16 → rounds ≤ 1000 → k ≡ rules_named name → IsHistoryOf k sample seats rounds history
-    → h ≡ run_heading name sample seats → totals ≡ totals_of sample history
-    → IsOutcome name sample seats h history totals
-outcome_of k name sample seats rounds h history totals near short named of header same =
-    let m : Rules → Monitor = λ r. monitor r seats (conds_of r) (meaning_named (sample_object sample))
-    (opening_named (sample_object sample) (size_of sample)) in
-    let legal = subst (λ (r : Rules). IsLegal (m r) history) named of.legal in
+pub outcome_of : (k : Rules) (name : KindName) (scenario : Scenario) (seats rounds : ℕ) (h : Heading)
+    (history : List Event) (totals : List ℕ) → seats ≤ 16 → rounds ≤ 1000 → k ≡ rules_named name
+    → IsHistoryOf k scenario seats rounds history → h ≡ run_heading name scenario seats
+    → totals ≡ totals_of scenario.sample history → IsOutcome name scenario seats h history totals
+outcome_of k name scenario seats rounds h history totals near short named of header same =
+    let legal = subst (λ (r : Rules). IsLegal (run_monitor r scenario seats) history) named of.legal in
     record {
       header = header;
       legal = subst (λ (x : Heading). IsLegal (named_monitor x) history) (sym header) legal;
       few = few_events seats rounds (length history) near short of.few;
       writable = subst (λ (x : Heading). IsTrue (is_writable x history)) (sym header) of.early;
-      law = subst (λ (x : Heading). KeepsLaw sample (data_of (named_monitor x) history) history) (sym header)
-          (law_of (rules_named name) sample seats history legal);
+      law = subst (λ (x : Heading). KeepsLaw scenario.sample (size_in scenario.manner)
+          (data_of (named_monitor x) history) history) (sym header)
+          (law_of (rules_named name) scenario seats history legal);
       totals_are = same;
     }
 
 -- the law of a run's history, where it is lent
-pub law_here : (k : Rules) (sample : Sample) (seats rounds : ℕ) (h lent : List Event) → lent ≡ h
-    → IsHistoryOf k sample seats rounds h → (state : List ℕ) × KeepsLaw sample state lent
-law_here k sample seats rounds h lent e of =
-    let m = monitor k seats (conds_of k) (meaning_named (sample_object sample))
-    (opening_named (sample_object sample) (size_of sample)) in (
-      data_of m h,
-      subst (λ (x : List Event). KeepsLaw sample (data_of m h) x) (sym e)
-          (law_of k sample seats h of.legal),
+pub law_here : (k : Rules) (scenario : Scenario) (seats rounds : ℕ) (h lent : List Event) → lent ≡ h
+    → IsHistoryOf k scenario seats rounds h
+    → (size : ℕ) × (state : List ℕ) × KeepsLaw scenario.sample size state lent
+law_here k scenario seats rounds h lent e of =
+    let state = data_of (run_monitor k scenario seats) h in let size = size_in scenario.manner in (
+      size,
+      state,
+      subst (λ (x : List Event). KeepsLaw scenario.sample size state x) (sym e) (law_of k scenario seats h of.legal),
     )
 
 pub if_ok : {A E : Type 0} (r : Result A E) (P Q : A → Type 0) → ((a : A) → P a → Q a) → IfOk r P → IfOk r Q
@@ -159,38 +151,7 @@ pub if_fault : {A E : Type 0} (r : Result A E) (P Q : E → Type 0) → ((e : E)
 if_fault (Ok a) P Q f h = h
 if_fault (Err e) P Q f h = f e h
 
--- what is so of the history is so of the outcome that has it
-pub left_told : {A B E F X : Type 0} (r : Result A E) (s : Result B F) (f : A → X) (g : B → X) (P : X → Type 0)
-    → IfOk r (λ a. IsOkAnd s (λ b. g b ≡ f a)) → IfOk s (λ b. P (g b)) → IfOk r (λ a. P (f a))
-left_told (Ok a) (Ok b) f g P same left = subst P same left
-left_told (Ok a) (Err e) f g P same left = absurd same
-left_told (Err e) s f g P same left = tt
-
--- a run that misses as many as its history has refused acts
-pub none_told : {A B E F X : Type 0} (r : Result A E) (s : Result B F) (n : A → ℕ) (f : A → X) (g : B → X)
-    (count : X → ℕ) (P : ℕ → Type 0) → IfOk r (λ a. n a ≡ count (f a)) → IfOk r (λ a. IsOkAnd s (λ b. g b ≡ f a))
-    → IfOk s (λ b. P (count (g b))) → IfOk r (λ a. P (n a))
-none_told (Ok a) (Ok b) n f g count P told same none = subst P (ap count same ∙ sym told) none
-none_told (Ok a) (Err e) n f g count P told same none = absurd same
-none_told (Err e) s n f g count P told same none = tt
-
-pub nothing_told : {A E : Type 0} (r : Result A E) → IfOk r (λ a. Unit {0})
-nothing_told (Ok a) = tt
-nothing_told (Err e) = tt
-
--- the fault that a run tells is its crew's
-pub crew_told : {A B E F : Type 0} (r : Result A E) (s : Result B F) (of : F → E) (P : E → Type 0)
-    → IfErr r (λ e. IsErrAnd s (λ f. e ≡ of f)) → IfErr s (λ f. P (of f)) → IfErr r P
-crew_told (Ok a) s of P told why = tt
-crew_told (Err e) (Ok b) of P told why = absurd told
-crew_told (Err e) (Err f) of P told why = subst P (sym told) why
-
-pub if_both : {A E : Type 0} (r : Result A E) (P Q R : A → Type 0) → ((a : A) → P a → Q a → R a) → IfOk r P
-    → IfOk r Q → IfOk r R
-if_both (Ok a) P Q R f p q = f a p q
-if_both (Err e) P Q R f p q = tt
-
-pub if_three : {A E : Type 0} (r : Result A E) (P Q R S : A → Type 0) → ((a : A) → P a → Q a → R a → S a)
-    → IfOk r P → IfOk r Q → IfOk r R → IfOk r S
-if_three (Ok a) P Q R S f p q r = f a p q r
-if_three (Err e) P Q R S f p q r = tt
+pub if_four : {A E : Type 0} (r : Result A E) (P Q R S T : A → Type 0)
+    → ((a : A) → P a → Q a → R a → S a → T a) → IfOk r P → IfOk r Q → IfOk r R → IfOk r S → IfOk r T
+if_four (Ok a) P Q R S T f p q r s = f a p q r s
+if_four (Err e) P Q R S T f p q r s = tt

@@ -1,11 +1,11 @@
 -- What a visit of a member comes to
 use Rattle.std.proofs.Common.{◌≡◌, ℕ, Bool, true, false, cond, Option, Some, None, List, [], ◌∷◌, ◌++◌}
 use Rattle.std.proofs.Common.{append-nil, append_assoc}
-use Rattle.std.proofs.Common.{◌≤◌, refl, sym, ap, subst, ◌∙◌, inl, inr, arith}
+use Rattle.std.proofs.Common.{◌<◌, ◌≤◌, refl, sym, ap, subst, ◌∙◌, inl, inr, arith}
 use Rattle.std.proofs.lemmas.Grind.{flat_map-append}
 use Rattle.std.proofs.lemmas.List.{map-append}
 use Rattle.monk_kinds.specs.declared.mode.Pick.{Pick}
-use Rattle.monk_kinds.specs.declared.mode.Pick.TheVariants.{Waiter}
+use Rattle.monk_kinds.specs.declared.mode.Pick.TheVariants.{Entry, Waiter}
 use Rattle.monk_kinds.specs.declared.mode.Rules.{Rules}
 use Rattle.monk_object.specs.Object.{Object}
 use Rattle.monk_object.specs.declared.op.Op.{Op}
@@ -24,12 +24,15 @@ use Rattle.monk_hall.specs.Layout.{floor_of}
 use Rattle.monk_hall.specs.Tokens.{Token, Holder}
 use Rattle.monk_hall.specs.declared.setting.Setting.{Setting}
 use Rattle.monk_samples.specs.Asked.{AreCalls, IsCall}
-use Rattle.monk_samples.specs.Styles.{HasFinished, HasGivenUp, HasGoneOut, HasPaused, pause_call, way_out}
+use Rattle.monk_samples.specs.Styles.{HasFinished, HasGivenUp, HasGoneOut, HasPaused, Holds, pause_call, way_out}
 use Rattle.monk_samples.specs.Trails.{Addition, Trail, HasCalled, after, events_in, inside, outside}
-use Rattle.monk_samples.specs.Visits.{Guard, Manner, Patient, Hasty, Plan, AreFew, ArePauses, HasPausedFor, IsCertain, IsLeftWaiting}
+use Rattle.monk_samples.specs.Visits.{Guard, Plan, AreFew, ArePauses, HasPausedFor, IsCertain, IsLeftWaiting}
 use Rattle.monk_samples.specs.Visits.{AreMisses, HasMissed, HasTried, IsTried, IsVisitTo, Misses, MissesIn, wish_in, wish_of}
 use Rattle.monk_samples.specs.Visits.{IsUnready, AreVisits, HasVisited, HasTired, HasStayedOut, HasPausedUntil, HasActed}
+use Rattle.monk_samples.specs.Visits.{HasActedInHaste, HasLooked, Promises, hasty_guard}
 use Rattle.monk_samples.specs.Visits.{WayOut, Unsignalled, Signals, SignalsAll, SignalsAndWaits, calls_out, data_after, needed_yet}
+use Rattle.monk_samples.specs.declared.manner.Manner.{Manner}
+use Rattle.monk_samples.specs.declared.manner.Manner.TheVariants.{Patient, Hasty}
 use Rattle.monk_samples.specs.declared.end.End.{End}
 use Rattle.monk_samples.specs.declared.end.End.TheVariants.{Done, Tired, Late}
 use Rattle.monk_samples.proofs.ShortLaws.{less_than, needs_two, short_out, short_yet}
@@ -99,6 +102,25 @@ module _ (k : Rules) (o : Object) where
       ),
       few_one w.manner t.pause,
     );
+  }
+
+  -- a hasty seat has looked: the predicate held, or it has paused
+  pub looked_none : (x : Trail) (cond pred : ℕ) (a : Holder) → HasCalled x (inside a) [] → Holds k o pred a
+      → HasLooked k o x cond pred a
+  unfolding paused_none
+  looked_none x cond pred a called held = record {
+    paused = paused_none x (Some (hasty_guard cond pred)) a called;
+    found = λ none. held;
+  }
+
+  pub looked_first : (cond pred : ℕ) (a b : Holder)
+      → HasPaused k o Entry a (pause_call k a.me.seat cond pred) b
+      → o.holds (data_of (monitor_of k o a.floor) a.floor.history) pred ≡ false
+      → HasLooked k o (inside a) cond pred b
+  unfolding paused_first
+  looked_first cond pred a b t not_yet = record {
+    paused = paused_first (hasty_guard cond pred) a b t not_yet;
+    found = λ none. absurd (let e : t.pause ∷ [] ≡ [] = none in cc);
   }
 
   -- one pause more, while the predicate was false
@@ -217,6 +239,18 @@ module _ (k : Rules) (o : Object) where
     acts = rw (seat, setting) at t.acts;
     last = t.last;
     floor = rw setting at t.floor;
+  }
+
+  -- a hasty seat that looked, and acted
+  pub acted_looked : (x : Trail) (cond pred : ℕ) (op : Op) (reply : ℕ) (a b : Holder) → Promises o pred op
+      → HasLooked k o x cond pred a → HasActed k o (inside a) None op reply b
+      → reply ≡ o.reply (data_of (monitor_of k o a.floor) a.floor.history) op
+      → HasActedInHaste k o x cond pred op reply b
+  unfolding acted_after
+  acted_looked x cond pred op reply a b promise s t replied = record {
+    acted = acted_after x (Some (hasty_guard cond pred)) op reply a b s.paused t;
+    done = λ none. subst (λ (n : ℕ). 0 < n) (sym replied)
+        (promise (data_of (monitor_of k o a.floor) a.floor.history) (s.found none));
   }
 
   -- a call that does no operation leaves none

@@ -14,7 +14,7 @@ use Rattle.monk_hall.specs.declared.setting.Setting.{Setting}
 use Rattle.monk_samples.specs.Ends.{HaveServed}
 use Rattle.monk_samples.specs.Rounds.{HasServed}
 use Rattle.monk_samples.specs.declared.end.End.TheVariants.{Done}
-use Rattle.monk_samples.specs.declared.sample.Sample.{Sample}
+use Rattle.monk_samples.specs.declared.scenario.Scenario.{Scenario}
 use Rattle.monk_samples.proofs.SeatSums.{over}
 
 -- what an event is worth by the operation in it
@@ -29,13 +29,13 @@ module _ (worth : Answered → ℕ) where
       ∙ sym (sum_by-cons of_event e h)
 
 -- over the passes that came back, what each seat's own events are worth
-module _ (k : Rules) (o : Object) (answers : ℕ → ℕ → Bool → Type 0) (sample : Sample) (seats rounds : ℕ)
+module _ (k : Rules) (o : Object) (answers : ℕ → ℕ → Bool → Type 0) (scenario : Scenario) (seats rounds : ℕ)
     (h : House) (c : Setting)
     (z : TableId) (worth : Answered → ℕ) (share : ℕ → ℕ)
-    (each : (p q : Token) → HasServed k o answers sample seats rounds p q Done → p.me.mine ≡ []
+    (each : (p q : Token) → HasServed k o answers scenario seats rounds p q Done → p.me.mine ≡ []
     → sum_by worth (acts_in q.me.mine) ≡ share p.me.seat) where
   pub shares : (n i : ℕ) (qs : List Token)
-      → HaveServed k o answers sample seats rounds h (tokens z (opening_records c n i)) qs
+      → HaveServed k o answers scenario seats rounds h (tokens z (opening_records c n i)) qs
       → sum_by (λ q. sum_by worth (acts_in q.me.mine)) qs ≡ over share n i
   shares zero i [] s = refl
   shares zero i (q ∷ qs) s = absurd s

@@ -18,7 +18,8 @@ use Rattle.monk_samples.specs.Trails.{Addition}
 abbrev pub asked_call : Addition → Event
 asked_call d = with_next Stay d.event
 
--- where it released, it chose by this wish. `known` is what it knew of the entry, which a wish for entry alone asks
+-- where it released, it chose by this wish. `known` is what it knew of the entry, which a wish for entry alone asks.
+-- What a look found is not kept: a wish for entry that found nobody there chooses as a wish for a waiter
 abbrev pub WishesFor : Rules → Object → Pick → Setting → Addition → Type 0
 WishesFor k o wish c d = (x : Next) → next_of d.event ≡ Some x
     → (known : Bool)

@@ -9,15 +9,15 @@ use Rattle.monk_samples.specs.declared.crew_fault.CrewFault.{CrewFault}
 use Rattle.monk_samples.specs.declared.crew_fault.CrewFault.TheVariants as crew
 use Rattle.monk_samples.specs.declared.end.End.{End}
 use Rattle.monk_samples.specs.declared.end.End.TheVariants.{Done, Tired, Late}
-use Rattle.monk_samples.specs.declared.sample.Sample.{Sample}
+use Rattle.monk_samples.specs.declared.scenario.Scenario.{Scenario}
 
-module _ (k : Rules) (o : Object) (answers : ℕ → ℕ → Bool → Type 0) (sample : Sample) (seats rounds : ℕ) where
+module _ (k : Rules) (o : Object) (answers : ℕ → ℕ → Bool → Type 0) (s : Scenario) (seats rounds : ℕ) where
   -- each of these seats has served to its end, and has given back the pass beside it
   abbrev pub HaveServed : House → List Token → List Token → Type 0
   HaveServed h [] [] = Unit {0}
   HaveServed h [] (q ∷ qs) = ⊥
   HaveServed h (p ∷ ps) [] = ⊥
-  HaveServed h (p ∷ ps) (q ∷ qs) = (IsOf h q × HasServed k o answers sample seats rounds p q Done) × HaveServed h ps qs
+  HaveServed h (p ∷ ps) (q ∷ qs) = (IsOf h q × HasServed k o answers s seats rounds p q Done) × HaveServed h ps qs
 
   -- the first of these seats that did not serve to its end has ended so
   pub record HasEndedFirst (ps : List Token) (end : End) : Type 0 where
@@ -25,9 +25,9 @@ module _ (k : Rules) (o : Object) (answers : ℕ → ℕ → Bool → Type 0) (s
     pub seat : Token
     pub rest : List Token
     pub are : ps ≡ before ++ seat ∷ rest
-    pub served : All (HasServedToEnd k o answers sample seats rounds) before
+    pub served : All (HasServedToEnd k o answers s seats rounds) before
     pub last : Token
-    pub ended : HasServed k o answers sample seats rounds seat last end
+    pub ended : HasServed k o answers s seats rounds seat last end
 
   -- why the crew has not given its passes back
   abbrev pub IsFaultOfCrew : List Token → CrewFault → Type 0

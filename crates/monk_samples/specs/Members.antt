@@ -7,7 +7,9 @@ use Rattle.monk_object.specs.Buffer.{PUT, TAKE, HAS_ROOM, HAS_ITEM}
 use Rattle.monk_object.specs.Shop.{SIT, CALL, FINISH, DEPART, HAS_SEAT, CAN_CALL, IS_DONE}
 use Rattle.monk_hall.specs.declared.setting.Setting.{Setting}
 use Rattle.monk_samples.specs.Styles.{has_waiting}
-use Rattle.monk_samples.specs.Visits.{Plan, Signals, SignalsAll, SignalsAndWaits, when, at_once, hastily, always, nobody, op_of, data_after}
+use Rattle.monk_samples.specs.Visits.{Plan, Signals, SignalsAll, SignalsAndWaits, when, at_once, in_manner, always, nobody, op_of, data_after}
+use Rattle.monk_samples.specs.declared.manner.Manner.{Manner}
+use Rattle.monk_samples.specs.declared.manner.Manner.TheVariants.{Patient}
 
 -- the conditions of a buffer: there is room; an item is there
 abbrev pub NOT_FULL : ℕ
@@ -37,25 +39,25 @@ CUSTOMER_SITS = 1
 abbrev pub CUT_DONE : ℕ
 CUT_DONE = 2
 
+-- the visit that puts an item, in a manner
+abbrev pub puts_by : Manner → ℕ → Plan
+puts_by m item = in_manner m NOT_FULL HAS_ROOM (op_of PUT item) (always NOT_EMPTY)
+
 -- the visit that puts an item
 abbrev pub puts : ℕ → Plan
-puts item = when NOT_FULL HAS_ROOM (op_of PUT item) (always NOT_EMPTY)
+puts item = puts_by Patient item
 
 -- it lets a taker go on, and waits until there is room again
 abbrev pub puts_and_waits : ℕ → Plan
 puts_and_waits item = when NOT_FULL HAS_ROOM (op_of PUT item) (λ h. SignalsAndWaits NOT_EMPTY NOT_FULL)
 
+-- the visit that takes an item, in a manner
+abbrev pub takes_by : Manner → Plan
+takes_by m = in_manner m NOT_EMPTY HAS_ITEM (op_of TAKE 0) (always NOT_FULL)
+
 -- the visit that takes an item
 abbrev pub takes : Plan
-takes = when NOT_EMPTY HAS_ITEM (op_of TAKE 0) (always NOT_FULL)
-
--- the same in haste
-abbrev pub puts_hastily : ℕ → Plan
-puts_hastily item = hastily NOT_FULL HAS_ROOM (op_of PUT item) (always NOT_EMPTY)
-
--- the visit that takes an item, with an `if` in place of a `while`
-abbrev pub takes_hastily : Plan
-takes_hastily = hastily NOT_EMPTY HAS_ITEM (op_of TAKE 0) (always NOT_FULL)
+takes = takes_by Patient
 
 -- the visit that begins a read
 abbrev pub begins_to_read : Plan

@@ -5,7 +5,7 @@ use Rattle.monk_kinds.specs.declared.mode.Rules.{Rules}
 use Rattle.monk_object.specs.Object.{Object}
 use Rattle.monk_hall.specs.Tokens.{Token}
 use Rattle.monk_hall.specs.declared.setting.Setting.{Setting}
-use Rattle.monk_samples.specs.Members.{puts, takes, puts_hastily, takes_hastily}
+use Rattle.monk_samples.specs.Members.{puts_by, takes_by}
 use Rattle.monk_samples.specs.Members.{begins_to_read, ends_to_read, begins_to_write, ends_to_write}
 use Rattle.monk_samples.specs.Members.{sits, departs, calls, finishes}
 use Rattle.monk_samples.specs.Trails.{Addition, HasCalled, outside}
@@ -13,24 +13,28 @@ use Rattle.monk_samples.specs.Visits.{Plan, AreVisits, HasVisited}
 use Rattle.monk_samples.specs.declared.end.End.{End}
 use Rattle.monk_samples.specs.declared.end.End.TheVariants.{Done, Tired, Late}
 use Rattle.monk_samples.specs.declared.sample.Sample.{Sample}
-use Rattle.monk_samples.specs.declared.sample.Sample.TheVariants.{Buffer, Book, Shop, Hasty}
+use Rattle.monk_samples.specs.declared.sample.Sample.TheVariants.{Buffer, Book, Shop}
+use Rattle.monk_samples.specs.declared.manner.Manner.{Manner}
+use Rattle.monk_samples.specs.declared.scenario.Scenario.{Scenario}
 
 -- how many rounds a seat has: of a buffer and a book two halves work, and in a shop the first seat
 -- is the barber, who has one for each of every other's
 abbrev pub rounds_of : Sample → ℕ → ℕ → ℕ → ℕ
 rounds_of Buffer seats rounds seat = if nat_lt seat (seats / 2 * 2) then rounds else 0
 rounds_of Book seats rounds seat = if nat_lt seat (seats / 2 * 2) then rounds else 0
-rounds_of Hasty seats rounds seat = if nat_lt seat (seats / 2 * 2) then rounds else 0
 rounds_of Shop seats rounds seat = if nat_eq seat 0 then (seats - 1) * rounds else rounds
 
--- the visits of a seat in a round, counted from 1
-abbrev pub round_of : Sample → Rules → Setting → ℕ → ℕ → ℕ → List Plan
-round_of Buffer k c seats seat round = if nat_lt seat (seats / 2) then puts round ∷ [] else takes ∷ []
-round_of Hasty k c seats seat round = if nat_lt seat (seats / 2) then puts_hastily round ∷ [] else takes_hastily ∷ []
-round_of Book k c seats seat round =
+-- the visits of a seat in a round, counted from 1: over a buffer in that manner
+abbrev pub visits_of : Sample → Manner → Rules → Setting → ℕ → ℕ → ℕ → List Plan
+visits_of Buffer m k c seats seat round = if nat_lt seat (seats / 2) then puts_by m round ∷ [] else takes_by m ∷ []
+visits_of Book m k c seats seat round =
     if nat_lt seat (seats / 2) then begins_to_read ∷ ends_to_read k c ∷ []
     else begins_to_write ∷ ends_to_write k ∷ []
-round_of Shop k c seats seat round = if nat_eq seat 0 then calls ∷ finishes ∷ [] else sits ∷ departs ∷ []
+visits_of Shop m k c seats seat round = if nat_eq seat 0 then calls ∷ finishes ∷ [] else sits ∷ departs ∷ []
+
+-- those of a scenario
+abbrev pub round_of : Scenario → Rules → Setting → ℕ → ℕ → ℕ → List Plan
+round_of s k c seats seat round = visits_of s.sample s.manner k c seats seat round
 
 -- those of rounds 1 to n
 abbrev pub rounds_to : (ℕ → List Plan) → ℕ → List Plan
@@ -69,12 +73,12 @@ HasWorked k o answers round rounds p q Done = HasDoneRounds k o answers round ro
 HasWorked k o answers round rounds p q Tired = WasCutShort k o answers round rounds p q
 HasWorked k o answers round rounds p q Late = WasSentAway k o answers round rounds p q
 
--- the seat of p has worked in a run of the sample, by these answers of the gate
-abbrev pub HasServed : Rules → Object → (ℕ → ℕ → Bool → Type 0) → Sample → ℕ → ℕ → Token → Token → End → Type 0
-HasServed k o answers sample seats rounds p q end =
-    HasWorked k o (answers p.me.seat) (round_of sample k p.me.setting seats p.me.seat)
-    (rounds_of sample seats rounds p.me.seat) p q end
+-- the seat of p has worked in a run of the scenario, by these answers of the gate
+abbrev pub HasServed : Rules → Object → (ℕ → ℕ → Bool → Type 0) → Scenario → ℕ → ℕ → Token → Token → End → Type 0
+HasServed k o answers s seats rounds p q end =
+    HasWorked k o (answers p.me.seat) (round_of s k p.me.setting seats p.me.seat)
+    (rounds_of s.sample seats rounds p.me.seat) p q end
 
 -- it has worked all of them
-abbrev pub HasServedToEnd : Rules → Object → (ℕ → ℕ → Bool → Type 0) → Sample → ℕ → ℕ → Token → Type 0
-HasServedToEnd k o answers sample seats rounds p = (q : Token) × HasServed k o answers sample seats rounds p q Done
+abbrev pub HasServedToEnd : Rules → Object → (ℕ → ℕ → Bool → Type 0) → Scenario → ℕ → ℕ → Token → Type 0
+HasServedToEnd k o answers s seats rounds p = (q : Token) × HasServed k o answers s seats rounds p q Done

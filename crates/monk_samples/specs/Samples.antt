@@ -16,29 +16,37 @@ use Rattle.monk_history.specs.Text.{Heading, first_version, heading, is_writable
 use Rattle.monk_history.specs.declared.event.Event.{Event}
 use Rattle.monk_samples.specs.Totals.{HasTotals, totals_of}
 use Rattle.monk_samples.specs.declared.sample.Sample.{Sample}
-use Rattle.monk_samples.specs.declared.sample.Sample.TheVariants.{Buffer, Book, Shop, Hasty}
+use Rattle.monk_samples.specs.declared.sample.Sample.TheVariants.{Buffer, Book, Shop}
+use Rattle.monk_samples.specs.declared.manner.Manner.{Manner}
+use Rattle.monk_samples.specs.declared.manner.Manner.TheVariants.{Patient, Hasty}
+use Rattle.monk_samples.specs.declared.scenario.Scenario.{Scenario}
 
 -- the object of a sample
 abbrev pub sample_object : Sample → ObjectName
 sample_object Buffer = object.Buffer
 sample_object Book = object.Book
 sample_object Shop = object.Shop
-sample_object Hasty = object.Buffer
 
--- the size of a sample's object, and of the hasty one's: with one place its seats wait for each other most often
-abbrev pub size : ℕ
-size = 4
+-- what the seats of a run do, as other crates name it
+abbrev pub Played : Type 0
+Played = Scenario
 
--- the size of the hasty sample's buffer
-abbrev pub hasty_size : ℕ
-hasty_size = 1
+-- that, by its parts
+abbrev pub scenario_of : Sample → Manner → Scenario
+scenario_of sample m = record { sample = sample; manner = m }
 
--- the size of a sample's object
-abbrev pub size_of : Sample → ℕ
-size_of Buffer = size
-size_of Book = size
-size_of Shop = size
-size_of Hasty = hasty_size
+-- in a run of a sample each looks again
+abbrev pub patiently : Sample → Scenario
+patiently sample = scenario_of sample Patient
+
+-- in a hasty run, which is over a buffer, they don't
+abbrev pub in_haste : Scenario
+in_haste = scenario_of Buffer Hasty
+
+-- the size of a sample's object, and of a hasty one's: with one place its seats wait for each other most often
+abbrev pub size_in : Manner → ℕ
+size_in Patient = 4
+size_in Hasty = 1
 
 -- how many conditions a run has
 abbrev pub conds_of : Rules → ℕ
@@ -53,40 +61,39 @@ abbrev pub IsInRange : ℕ → ℕ → Type 0
 IsInRange seats rounds = (2 ≤ seats) × (seats ≤ 16) × (1 ≤ rounds) × (rounds ≤ 1000)
 
 -- the heading of a run's history
-abbrev pub run_heading : KindName → Sample → ℕ → Heading
-run_heading k sample seats = heading 1 k seats (conds_of (rules_named k)) (sample_object sample) (size_of sample)
+abbrev pub run_heading : KindName → Scenario → ℕ → Heading
+run_heading k s seats = heading 1 k seats (conds_of (rules_named k)) (sample_object s.sample) (size_in s.manner)
 
 -- each event has a line in the first version of a text
 abbrev pub IsOfFirstVersion : List Event → Type 0
 IsOfFirstVersion h = IsTrue (list_all (λ e. nat_le (first_version e) 1) h)
 
--- the law of the sample's object holds of the acts of the history
-abbrev pub KeepsLaw : Sample → List ℕ → List Event → Type 0
-KeepsLaw Buffer state h = IsInOrder size state (acts_in h)
-KeepsLaw Book state h = ExcludesEachOther size state (acts_in h)
-KeepsLaw Shop state h = ServesEachOne size state (acts_in h)
-KeepsLaw Hasty state h = IsInOrder hasty_size state (acts_in h)
+-- the law of the sample's object, of that size, holds of the acts of the history
+abbrev pub KeepsLaw : Sample → ℕ → List ℕ → List Event → Type 0
+KeepsLaw Buffer size state h = IsInOrder size state (acts_in h)
+KeepsLaw Book size state h = ExcludesEachOther size state (acts_in h)
+KeepsLaw Shop size state h = ServesEachOne size state (acts_in h)
 
 -- the monitor of a run
-abbrev pub run_monitor : Rules → Sample → ℕ → Monitor
-run_monitor k sample seats = monitor k seats (conds_of k) (meaning_named (sample_object sample))
-    (opening_named (sample_object sample) (size_of sample))
+abbrev pub run_monitor : Rules → Scenario → ℕ → Monitor
+run_monitor k s seats = monitor k seats (conds_of k) (meaning_named (sample_object s.sample))
+    (opening_named (sample_object s.sample) (size_in s.manner))
 
 -- the history of a run: legal, within the budgets of all seats, with events of the first version alone, and with the
 -- totals of its seats and rounds
-pub record IsHistoryOf (k : Rules) (sample : Sample) (seats rounds : ℕ) (h : List Event) : Type 0 where
-  pub legal : IsLegal (run_monitor k sample seats) h
+pub record IsHistoryOf (k : Rules) (s : Scenario) (seats rounds : ℕ) (h : List Event) : Type 0 where
+  pub legal : IsLegal (run_monitor k s seats) h
   pub few : length h ≤ seats * budget_of seats rounds
   pub early : IsOfFirstVersion h
-  pub totals : HasTotals sample seats rounds (totals_of sample h)
+  pub totals : HasTotals s.sample seats rounds (totals_of s.sample h)
 
 -- a run has left this history, which is legal for the monitor that its header names, and not too long for an audit. It
 -- has a text under that header. The sample's law holds of it, and the totals are its own
-pub record IsOutcome (k : KindName) (sample : Sample) (seats : ℕ) (h : Heading) (history : List Event)
+pub record IsOutcome (k : KindName) (s : Scenario) (seats : ℕ) (h : Heading) (history : List Event)
     (totals : List ℕ) : Type 0 where
-  pub header : h ≡ run_heading k sample seats
+  pub header : h ≡ run_heading k s seats
   pub legal : IsLegal (named_monitor h) history
   pub few : length history ≤ 2 ^ 24
   pub writable : IsTrue (is_writable h history)
-  pub law : KeepsLaw sample (data_of (named_monitor h) history) history
-  pub totals_are : totals ≡ totals_of sample history
+  pub law : KeepsLaw s.sample (size_in s.manner) (data_of (named_monitor h) history) history
+  pub totals_are : totals ≡ totals_of s.sample history

@@ -1,5 +1,5 @@
 -- The totals of a run, as its history has them
-use Rattle.std.specs.Prelude.{◌≡◌, false, ℕ, ◌+◌, ◌-◌, ◌*◌, ◌/◌, ◌==◌, List, [], ◌∷◌, sum, if◌then◌else◌}
+use Rattle.std.specs.Prelude.{◌≡◌, false, ℕ, ◌+◌, ◌-◌, ◌*◌, ◌/◌, ◌==◌, Option, List, [], ◌∷◌, option_map, position, sum, if◌then◌else◌}
 use Rattle.std.specs.List.{sum_by}
 use Rattle.monk_kinds.specs.declared.mode.Rules.{Rules}
 use Rattle.monk_object.specs.Book.{START_READ, END_READ, START_WRITE, END_WRITE}
@@ -7,11 +7,14 @@ use Rattle.monk_object.specs.Buffer.{PUT, TAKE}
 use Rattle.monk_object.specs.Laws.{items_put, items_taken}
 use Rattle.monk_object.specs.Runs.{Answered, times_done}
 use Rattle.monk_object.specs.Shop.{SIT, CALL, FINISH, DEPART}
-use Rattle.monk_history.specs.Meaning.Acts.{acts_in}
+use Rattle.monk_history.specs.Meaning.Acts.{acts_in, is_refused_act}
 use Rattle.monk_history.specs.Meaning.Events.{has_conditions}
 use Rattle.monk_history.specs.declared.event.Event.{Event}
 use Rattle.monk_samples.specs.declared.sample.Sample.{Sample}
-use Rattle.monk_samples.specs.declared.sample.Sample.TheVariants.{Buffer, Book, Shop, Hasty}
+use Rattle.monk_samples.specs.declared.sample.Sample.TheVariants.{Buffer, Book, Shop}
+use Rattle.monk_samples.specs.declared.manner.Manner.{Manner}
+use Rattle.monk_samples.specs.declared.manner.Manner.TheVariants.{Patient, Hasty}
+use Rattle.monk_samples.specs.declared.scenario.Scenario.{Scenario}
 
 -- how often that operation was done
 abbrev pub count_done : ℕ → List Event → ℕ
@@ -33,13 +36,19 @@ refusals_in acts = sum_by (λ a. if a.reply == 0 then 1 else 0) acts
 abbrev pub missed_in : List Event → ℕ
 missed_in h = refusals_in (acts_in h)
 
--- a run misses nothing over a buffer, whose seats look again; nor in haste under an automatic kind (PIS and NPIS),
+-- the step of the first of them, counted from 1
+abbrev pub first_missed : List Event → Option ℕ
+first_missed h = option_map (λ n. n + 1) (position is_refused_act h)
+
+-- a run over a buffer misses nothing, whose seats look again; nor in haste under an automatic kind (PIS and NPIS),
 -- where whoever goes on finds its predicate true, and nobody acts before it does
-abbrev pub MissesNothing : Rules → Sample → ℕ → Type 0
-MissesNothing k Buffer missed = missed ≡ 0
-MissesNothing k Book missed = Unit {0}
-MissesNothing k Shop missed = Unit {0}
+abbrev pub MissesNothing : Rules → Manner → ℕ → Type 0
+MissesNothing k Patient missed = missed ≡ 0
 MissesNothing k Hasty missed = has_conditions k.mode ≡ false → missed ≡ 0
+
+-- the same of the history of a run, if it is over a buffer
+abbrev pub RefusesNothing : Rules → Scenario → List Event → Type 0
+RefusesNothing k s h = s.sample ≡ Buffer → MissesNothing k s.manner (missed_in h)
 
 -- the totals of a buffer
 abbrev pub totals_of_buffer : List Event → List ℕ
@@ -48,7 +57,6 @@ totals_of_buffer h = count_done PUT h ∷ sum_put h ∷ count_done TAKE h ∷ su
 -- the totals of a sample
 abbrev pub totals_of : Sample → List Event → List ℕ
 totals_of Buffer h = totals_of_buffer h
-totals_of Hasty h = totals_of_buffer h
 totals_of Book h =
     count_done START_READ h ∷ count_done END_READ h ∷ count_done START_WRITE h ∷ count_done END_WRITE h ∷ []
 totals_of Shop h = count_done SIT h ∷ count_done CALL h ∷ count_done FINISH h ∷ count_done DEPART h ∷ []
@@ -59,7 +67,6 @@ HasEnded Buffer h = Unit {0}
 HasEnded Book h = (count_done END_READ h ≡ count_done START_READ h)
     × (count_done END_WRITE h ≡ count_done START_WRITE h)
 HasEnded Shop h = Unit {0}
-HasEnded Hasty h = Unit {0}
 
 -- half of the seats put the numbers of their rounds, and as many take as often
 abbrev pub HasPutAndTaken : ℕ → ℕ → List ℕ → Type 0
@@ -70,7 +77,6 @@ HasPutAndTaken seats rounds t =
 -- what the totals of a run have to be, by its seats and rounds
 abbrev pub HasTotals : Sample → ℕ → ℕ → List ℕ → Type 0
 HasTotals Buffer seats rounds t = HasPutAndTaken seats rounds t
-HasTotals Hasty seats rounds t = HasPutAndTaken seats rounds t
 HasTotals Book seats rounds t =
     t ≡ seats / 2 * rounds ∷ seats / 2 * rounds ∷ seats / 2 * rounds ∷ seats / 2 * rounds ∷ []
 HasTotals Shop seats rounds t =

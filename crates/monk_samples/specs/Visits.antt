@@ -16,16 +16,12 @@ use Rattle.monk_hall.specs.Tells.{SeesTruly}
 use Rattle.monk_hall.specs.Tokens.{Token, Holder}
 use Rattle.monk_hall.specs.declared.setting.Setting.{Setting}
 use Rattle.monk_samples.specs.Asked.{IsCall, AreCalls}
-use Rattle.monk_samples.specs.Styles.{IsShort, IsSpent, for_handing_over, for_staying, needed_first, pause_call, way_out}
+use Rattle.monk_samples.specs.Styles.{Holds, IsShort, IsSpent, for_handing_over, for_staying, needed_first, pause_call, way_out}
 use Rattle.monk_samples.specs.Trails.{Addition, Trail, HasCalled, after, inside, outside}
 use Rattle.monk_samples.specs.declared.end.End.{End}
 use Rattle.monk_samples.specs.declared.end.End.TheVariants.{Done, Tired, Late}
-
--- how a visit looks at its predicate: a patient one pauses while it is false (`while`), and wishes for a waiter in each
--- release; a hasty one pauses at most once where it is false (`if`), acts then whatever holds, and wishes for entry
-pub data Manner : Type 0 where
-  Patient : Manner
-  Hasty : Manner
+use Rattle.monk_samples.specs.declared.manner.Manner.{Manner}
+use Rattle.monk_samples.specs.declared.manner.Manner.TheVariants.{Patient, Hasty}
 
 -- for what a visit pauses: the condition on which it waits where the predicate is false
 pub record Guard : Type 0 where
@@ -70,13 +66,18 @@ pub record Plan : Type 0 where
 abbrev pub op_of : ℕ → ℕ → Op
 op_of code arg = record { code = code; arg = arg }
 
--- a visit that pauses until a predicate holds, and one that acts at once
+-- a visit that pauses for a predicate, in a manner
+abbrev pub in_manner : Manner → ℕ → ℕ → Op → (List Event → WayOut) → Plan
+in_manner m cond pred op goes_out =
+    record { guard = Some (record { cond = cond; pred = pred; manner = m }); op = op; goes_out = goes_out }
+
+-- a visit that pauses until a predicate holds
 abbrev pub when : ℕ → ℕ → Op → (List Event → WayOut) → Plan
-when cond pred op goes_out = record { guard = Some (guard cond pred); op = op; goes_out = goes_out }
+when cond pred op goes_out = in_manner Patient cond pred op goes_out
 
 -- a hasty visit
 abbrev pub hastily : ℕ → ℕ → Op → (List Event → WayOut) → Plan
-hastily cond pred op goes_out = record { guard = Some (hasty_guard cond pred); op = op; goes_out = goes_out }
+hastily cond pred op goes_out = in_manner Hasty cond pred op goes_out
 
 -- the plan of a visit that waits for nothing
 abbrev pub at_once : Op → (List Event → WayOut) → Plan
@@ -192,8 +193,9 @@ pub record Then (First Rest : List Addition → Type 0) (calls : List Addition) 
   pub is_first : First first
   pub is_rest : Rest rest
 
--- a try whose operation was refused, after which the seat left without a signal. Under an automatic
--- kind there is none: whoever goes on there finds its predicate true
+-- a try whose operation was refused, after which the seat left without a signal. It had paused, and so was woken: where
+-- the predicate holds at once, the operation gets done. Under an automatic kind there is none: whoever goes on there
+-- finds its predicate true
 pub record IsMiss (k : Rules) (o : Object) (c : Setting) (s : ℕ) (v : Plan) (calls : List Addition) : Type 0 where
   pub pauses : List Addition
   pub act : Addition
@@ -202,6 +204,7 @@ pub record IsMiss (k : Rules) (o : Object) (c : Setting) (s : ℕ) (v : Plan) (c
   pub paused : HasPausedFor k o c s v.guard pauses
   pub acts : IsAct k o c s v.op 0 act
   pub leaves : IsCall k o (wish_in v.guard) c (Leave s Stay) leave
+  pub woken : pauses ≡ [] → ⊥
   pub signalled : has_conditions k.mode ≡ true
 
 -- those are that many tries that missed
@@ -295,6 +298,11 @@ pub record HasPausedUntil (k : Rules) (o : Object) (x : Trail) (guard : Option G
   pub called : HasCalled x (inside b) pauses
   pub paused : HasPausedFor k o x.setting x.seat guard pauses
 
+-- from x on the seat has looked once, in haste, and is active: where it has not paused, the predicate holds
+pub record HasLooked (k : Rules) (o : Object) (x : Trail) (cond pred : ℕ) (b : Holder) : Type 0 where
+  pub paused : HasPausedUntil k o x (Some (hasty_guard cond pred)) b
+  pub found : paused.pauses ≡ [] → Holds k o pred b
+
 -- from x on the seat has paused for this and done the operation, with this reply, and is active: that was its last call
 pub record HasActed (k : Rules) (o : Object) (x : Trail) (guard : Option Guard) (op : Op) (reply : ℕ)
     (b : Holder) : Type 0 where
@@ -305,6 +313,12 @@ pub record HasActed (k : Rules) (o : Object) (x : Trail) (guard : Option Guard) 
   pub acts : IsAct k o x.setting x.seat op reply act
   pub last : b.floor.history ≡ after act
   pub floor : b.floor ≡ floor_of x.setting b.floor.history
+
+-- from x on the seat has looked once and asked for the operation: where it has not paused, it got done
+pub record HasActedInHaste (k : Rules) (o : Object) (x : Trail) (cond pred : ℕ) (op : Op) (reply : ℕ)
+    (b : Holder) : Type 0 where
+  pub acted : HasActed k o x (Some (hasty_guard cond pred)) op reply b
+  pub done : acted.pauses ≡ [] → 0 < reply
 
 -- what a predicate says of an operation: where it holds, the operation gets done
 abbrev pub Promises : Object → ℕ → Op → Type 0

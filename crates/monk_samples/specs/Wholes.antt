@@ -1,14 +1,24 @@
 -- A closed history that holds what some seats did, and nothing else
-use Rattle.std.specs.Prelude.{◌≡◌, ℕ, true, All, List, [], ◌∷◌, ◌++◌, sum_by}
+use Rattle.std.specs.Prelude.{◌≡◌, ℕ, ◌⊎◌, true, All, List, [], ◌∷◌, ◌++◌, sum_by}
+use Rattle.monk_kinds.specs.declared.mode.Rules.{Rules}
+use Rattle.monk_object.specs.Object.{Object}
 use Rattle.monk_object.specs.Runs.{Answered}
 use Rattle.monk_history.specs.Meaning.Acts.{acts_in}
 use Rattle.monk_history.specs.Meaning.Counts.{events_of}
 use Rattle.monk_history.specs.declared.event.Event.{Event}
 use Rattle.monk_history.specs.declared.event.Event.TheVariants.{Leave}
 use Rattle.monk_history.specs.declared.event.Next.TheVariants.{Entry}
+use Rattle.monk_hall.specs.Closing.{IsBusy}
+use Rattle.monk_hall.specs.Complete.{HoldsOnly}
 use Rattle.monk_hall.specs.Floors.{StartsWith}
-use Rattle.monk_hall.specs.Tokens.{Token}
+use Rattle.monk_hall.specs.Tokens.{Holder, Token}
+use Rattle.monk_samples.specs.Samples.{IsOfFirstVersion}
+use Rattle.monk_samples.specs.Styles.{IsSpent}
+use Rattle.monk_samples.specs.Totals.{HasEnded}
 use Rattle.monk_samples.specs.Trails.{is_coming}
+use Rattle.monk_samples.specs.declared.crew_fault.CrewFault.{CrewFault}
+use Rattle.monk_samples.specs.declared.crew_fault.CrewFault.TheVariants as crew
+use Rattle.monk_samples.specs.declared.sample.Sample.{Sample}
 
 -- a pass of the same seat, with the same events
 pub record IsSame (p q : Token) : Type 0 where
@@ -37,9 +47,55 @@ pub record IsClosedBy (h : List Event) (p : Token) : Type 0 where
   pub ends : h ≡ before ++ came ∷ Leave p.me.seat Entry ∷ []
   pub own : events_of h p.me.seat ≡ p.me.mine ++ came ∷ Leave p.me.seat Entry ∷ []
 
+-- the history holds what this seat and these others did and nothing else, each event of it is of the first version, and
+-- of a book each read and write was ended
+pub record IsWhole (sample : Sample) (h : List Event) (seat : ℕ) (others : List Token) : Type 0 where
+  pub only : HoldsOnly h seat others
+  pub early : IsOfFirstVersion h
+  pub ended : HasEnded sample h
+
 -- the history of these passes, closed by the seat of the first: it begins with what each seat has seen, and each other
 -- seat has made in it exactly what its pass knows
 abbrev pub IsLeftBy : List Event → List Token → Type 0
 IsLeftBy h [] = ⊥
 IsLeftBy h (p ∷ ps) = IsClosedBy h p × All (λ q. events_of h q.me.seat ≡ q.me.mine) ps
     × All (λ q. StartsWith h q.me.seen) (p ∷ ps)
+
+-- the seat of this pass has come in once more, to a history that begins with what it and these others have seen
+pub record HasComeBack (p : Token) (ps : List Token) (a : Holder) : Type 0 where
+  pub came : Event
+  pub comes : is_coming came ≡ true
+  pub seat : a.me.seat ≡ p.me.seat
+  pub mine : a.me.mine ≡ p.me.mine ++ came ∷ []
+  pub seen : All (λ q. StartsWith a.floor.history q.me.seen) (p ∷ ps)
+
+-- the first of these passes can't come in and go out once more
+abbrev pub IsFirstSpent : List Token → Type 0
+IsFirstSpent [] = ⊥
+IsFirstSpent (q ∷ qs) = IsSpent q
+
+module _ (k : Rules) (o : Object) (sample : Sample) where
+  -- the seat of this pass has come in once more, and could not close the hall: somebody was in a queue, or a look found
+  -- somebody at the entry
+  pub record IsCrowded (p : Token) (ps : List Token) : Type 0 where
+    pub active : Holder
+    pub back : HasComeBack p ps active
+    pub left : Holder
+    pub busy : IsBusy k o active left
+
+  -- it has closed the hall, and the history is not whole
+  pub record IsTorn (p : Token) (ps : List Token) : Type 0 where
+    pub history : List Event
+    pub closed : IsClosedBy history p
+    pub seen : All (λ q. StartsWith history q.me.seen) (p ∷ ps)
+    pub torn : IsWhole sample history p.me.seat ps → ⊥
+
+  -- why these seats, each of which has served to its end, have left no history
+  abbrev pub IsUnclosable : List Token → Type 0
+  IsUnclosable [] = ⊥
+  IsUnclosable (p ∷ ps) = IsCrowded p ps ⊎ IsTorn p ps
+
+  -- why the hall was not closed: there was no memory; or the first could come in, in vain; or it could not
+  abbrev pub IsFaultOfClosing : List Token → CrewFault → Type 0
+  IsFaultOfClosing ps e = (e ≡ crew.Memory) ⊎ ((e ≡ crew.Busy) × (IsFirstSpent ps → ⊥) × IsUnclosable ps)
+      ⊎ ((e ≡ crew.Tired) × IsFirstSpent ps)

@@ -4,13 +4,14 @@ ghost use Rattle.std.specs.Option.{option_to_list};
 ghost use Rattle.monk_object.specs.Buffer.{buffer_meaning};
 ghost use Rattle.monk_object.specs.Laws.{items_taken};
 ghost use Rattle.monk_history.specs.Meaning.Acts.{acts_in};
-ghost use Rattle.monk_samples.specs.Members.{puts, puts_and_waits, puts_hastily, takes, takes_hastily};
+ghost use Rattle.monk_samples.specs.Members.{puts, puts_and_waits, puts_by, takes, takes_by};
 ghost use Rattle.monk_samples.specs.Styles.{Offers};
 ghost use Rattle.monk_samples.specs.Trails.{events_in};
 ghost use Rattle.monk_samples.specs.Visits.{HasVisited};
 
 use crate::end::End;
 use crate::haste::act_and_finish_in_haste;
+use crate::manner::Manner;
 use crate::style::Style;
 use crate::styles::passing::signal_wait_and_leave;
 use crate::visit::{act_and_finish, act_when};
@@ -137,7 +138,7 @@ pub(crate) fn put_hastily<K: Style, T: Guarded, R: Wait>(
     requires buffer { T.meaning ≡ buffer_meaning }
     requires hall { pass.hall ≡ hall.now.id }
     requires conds { Offers K.rules pass.me.setting.conds 2 }
-    ensures { HasVisited K.rules T.meaning pass (puts_hastily item ∷ []) result.0 result.1 }
+    ensures { HasVisited K.rules T.meaning pass (puts_by Manner.Hasty item ∷ []) result.0 result.1 }
 {
     let put = Op {
         code: Buffer::PUT,
@@ -156,7 +157,7 @@ pub(crate) fn take_hastily<K: Style, T: Guarded, R: Wait>(
     requires buffer { T.meaning ≡ buffer_meaning }
     requires hall { pass.hall ≡ hall.now.id }
     requires conds { Offers K.rules pass.me.setting.conds 2 }
-    ensures { HasVisited K.rules T.meaning pass (takes_hastily ∷ []) result.0 result.1 }
+    ensures { HasVisited K.rules T.meaning pass (takes_by Manner.Hasty ∷ []) result.0 result.1 }
 {
     let take = Op {
         code: Buffer::TAKE,

@@ -10,13 +10,13 @@ use crate::crew_fault::CrewFault;
 use crate::duty::Shift;
 use crate::end::End;
 use crate::gate::Gate;
-use crate::line::StartingLine;
 use crate::rota::Rota;
 use crate::worker::Worker;
 use monk_hall::{Hall, Pass};
 use monk_kinds::Kind;
 use monk_object::Guarded;
 use std::alloc::Global;
+use std::sync::atomic::AtomicU8;
 use std::thread::Threads;
 
 mod round;
@@ -30,7 +30,7 @@ pub(crate) fn part_idle<K: Kind, T: Guarded>(
     rota: Rota,
 ) -> (Vec<Pass<K, T>>, Option<Pass<K, T>>)
     ensures all { passes.items ≡ result.0.items ++ option_to_list result.1 }
-    ensures idle { IfSome result.1 (λ p. rounds_of rota.sample rota.seats rota.rounds p.me.seat ≡ 0) }
+    ensures idle { IfSome result.1 (λ p. rounds_of rota.scenario.sample rota.seats rota.rounds p.me.seat ≡ 0) }
 {
     let mut working = passes;
     let idle = match working.last() {
@@ -61,7 +61,7 @@ pub(crate) fn workers<'a, K: Kind, T: Guarded, R, G>(
     rt: &'a R,
     hall: &'a Hall<K, T>,
     gate: &'a G,
-    line: &'a StartingLine,
+    start: &'a AtomicU8,
     passes: Vec<Pass<K, T>>,
     rota: Rota,
 ) -> Result<Vec<Worker<'a, K, T, R, G>>, CrewFault>
@@ -79,7 +79,7 @@ pub(crate) fn workers<'a, K: Kind, T: Guarded, R, G>(
             hall,
             gate,
             rota,
-            line,
+            start,
         })?;
     }
     Ok(workers)
@@ -98,16 +98,16 @@ pub(crate) fn join_all<K: Kind, T: Guarded, R: Threads, G: Gate>(
         × (s.promise.rota.value ≡ rota))
         crew.items }
     ensures served { IfOk result (λ v. HaveServed K.rules T.meaning
-        (G.answers gate.now) rota.sample rota.seats rota.rounds
+        (G.answers gate.now) rota.scenario rota.seats rota.rounds
         hall.now (map (λ s. s.promise.pass.value) crew.items) v.items) }
     ensures fault { IfErr result (IsFaultOfCrew K.rules T.meaning
-        (G.answers gate.now) rota.sample rota.seats rota.rounds
+        (G.answers gate.now) rota.scenario rota.seats rota.rounds
         (map (λ s. s.promise.pass.value) crew.items)) }
 {
     let mut passes = Vec::with_capacity(alloc, crew.len() + 1)?;
     let mut fault = None;
     for shift in crew {
-        // A worker goes home from the line only where not all could be started.
+        // A worker goes home only where not all could be started.
         let Some((pass, end)) = shift.join(rt) else {
             return Err(CrewFault::Thread);
         };

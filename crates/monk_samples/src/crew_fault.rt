@@ -4,14 +4,20 @@ ghost use Rattle.monk_samples.specs.Faults.{run_fault_of};
 
 use crate::run_fault::RunFault;
 use std::alloc::{AllocError, AllocFailed};
+use thiserror::Error;
 
 /// Why the crew of a run has left no history. What was asked for was in range.
-#[derive(Drop)]
+#[derive(Debug, Drop, Error)]
 pub(crate) enum CrewFault {
+    #[error("memory")]
     Memory,
+    #[error("tired")]
     Tired,
+    #[error("late")]
     Late,
+    #[error("busy")]
     Busy,
+    #[error("thread")]
     Thread,
 }
 

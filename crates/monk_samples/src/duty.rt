@@ -41,7 +41,7 @@ impl<K: Kind, T: Guarded, G: Gate> Duty<K, T, G> {
 
 impl<K: Kind, T: Guarded, G: Gate> Promise<Option<(Pass<K, T>, End)>> for Duty<K, T, G> {
     ghost kept_by = { λ p back. IfSome back (λ r. IsOf p.hall.value r.0
-        × HasServed K.rules T.meaning (G.answers p.gate.value) p.rota.value.sample p.rota.value.seats
+        × HasServed K.rules T.meaning (G.answers p.gate.value) p.rota.value.scenario p.rota.value.seats
         p.rota.value.rounds
         p.pass.value r.0 r.1) };
 }

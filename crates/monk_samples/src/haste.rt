@@ -4,7 +4,7 @@ ghost use Rattle.std.specs.Prelude.{◌≡◌, ◌+◌, ◌<◌, ◌≤◌, fals
 ghost use Rattle.monk_history.specs.Meaning.Events.{has_conditions};
 ghost use Rattle.monk_samples.specs.Styles.{HoldsByKind, Offers};
 ghost use Rattle.monk_samples.specs.Trails.{inside, outside};
-ghost use Rattle.monk_samples.specs.Visits.{HasActed, HasMissed, HasPausedUntil, HasTried, HasVisited, IsTiredFor};
+ghost use Rattle.monk_samples.specs.Visits.{HasActedInHaste, HasLooked, HasMissed, HasTried, HasVisited, IsTiredFor};
 ghost use Rattle.monk_samples.specs.Visits.{IsTiredWithin, Promises, always, hastily, hasty_guard};
 
 use crate::end::End;
@@ -31,7 +31,7 @@ fn pause_once<K: Style, T: Guarded, R: Wait>(
     requires cond { Offers K.rules active.me.setting.conds (cond + 1) }
     requires pred { pred < T.PREDICATES }
     ensures paused { MatchResult result
-        (λ a. HasPausedUntil K.rules T.meaning (inside active) (Some (hasty_guard cond pred)) a)
+        (λ a. HasLooked K.rules T.meaning (inside active) cond pred a)
         (λ q. IsTiredWithin K.rules T.meaning active (Some (hasty_guard cond pred)) q) }
     ensures holds { IfOk result (λ a. HoldsByKind K.rules T.meaning pred a) }
 {
@@ -56,7 +56,7 @@ fn act_in_haste<K: Style, T: Guarded, R: Wait>(
     requires code { op.code < T.CODES }
     requires promise { Promises T.meaning pred op }
     ensures acted { MatchResult result
-        (λ r. HasActed K.rules T.meaning (outside pass) (Some (hasty_guard cond pred)) op r.1 r.0)
+        (λ r. HasActedInHaste K.rules T.meaning (outside pass) cond pred op r.1 r.0)
         (λ q. IsTiredFor K.rules T.meaning pass (Some (hasty_guard cond pred)) q) }
     ensures done { IfOk result (λ r. has_conditions K.rules.mode ≡ false → 0 < r.1) }
     ensures room { IfOk result (λ _. length pass.me.mine + 2 ≤ pass.me.setting.budget) }

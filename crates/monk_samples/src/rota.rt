@@ -2,11 +2,12 @@ ghost use Rattle.std.specs.Prelude.{◌≡◌, ◌≤◌, ◌*◌, ◌/◌};
 ghost use Rattle.monk_samples.specs.Rounds.{rounds_of};
 
 use crate::sample::Sample;
+use crate::scenario::Scenario;
 
 /// Which seats of a run work, and how long.
 #[derive(Clone, Copy)]
 pub(crate) struct Rota {
-    pub(crate) sample: Sample,
+    pub(crate) scenario: Scenario,
     /// How many seats there are, 2 to 16.
     pub(crate) seats: u8,
     /// How many rounds each has, 1 to 1000.
@@ -19,9 +20,9 @@ impl Rota {
     /// How many rounds a seat has: in a shop the first seat is the barber, who has one for each of every other's, and
     /// else an odd last seat stays idle.
     pub(crate) fn rounds_of(&self, seat: u8) -> u32
-        ensures { result ≡ rounds_of self.now.sample self.now.seats self.now.rounds seat }
+        ensures { result ≡ rounds_of self.now.scenario.sample self.now.seats self.now.rounds seat }
     {
-        match self.sample {
+        match self.scenario.sample {
             Sample::Shop if seat == 0 => u32::from(self.seats - 1) * self.rounds,
             Sample::Shop => self.rounds,
             _ if seat < self.working_seats() => self.rounds,

@@ -13,10 +13,6 @@ pub enum Sample {
     Book,
     /// The first seat is the barber of a shop, and every other a customer.
     Shop,
-    /// As of a buffer, in haste: a seat looks at its predicate once (`if`, where `while` belongs),
-    /// acts then whatever holds, and comes again where its act was refused. Its releases wish for
-    /// entry. So under some kinds an item is gone when the seat that was signalled goes on.
-    Hasty,
 }
 
 impl Sample {
@@ -26,7 +22,7 @@ impl Sample {
         ensures early { object_version result ≡ 1 }
     {
         match self {
-            Sample::Buffer | Sample::Hasty => ObjectName::Buffer,
+            Sample::Buffer => ObjectName::Buffer,
             Sample::Book => ObjectName::Book,
             Sample::Shop => ObjectName::Shop,
         }

@@ -1,10 +1,10 @@
 //! The totals of a run, read from its history.
-ghost use Rattle.std.specs.Prelude.{◌≡◌, ◌≤◌, ◌<◌, ◌^◌, true, length, sum, if◌then◌else◌};
+ghost use Rattle.std.specs.Prelude.{◌≡◌, ◌≤◌, ◌<◌, ◌^◌, ◌↔◌, true, IfSome, length, position, sum, if◌then◌else◌};
 ghost use Rattle.monk_object.specs.Laws.{items_put, items_taken};
 ghost use Rattle.monk_object.specs.Runs.{times_done};
-ghost use Rattle.monk_history.specs.Meaning.Acts.{act_of};
+ghost use Rattle.monk_history.specs.Meaning.Acts.{act_of, is_refused_act};
 ghost use Rattle.monk_samples.specs.Samples.{KeepsLaw};
-ghost use Rattle.monk_samples.specs.Totals.{HasEnded, count_done, missed_in, refusals_in, sum_put, sum_taken, totals_of};
+ghost use Rattle.monk_samples.specs.Totals.{HasEnded, count_done, first_missed, missed_in, refusals_in, sum_put, sum_taken, totals_of};
 
 use crate::sample::Sample;
 use monk_history::Event;
@@ -13,11 +13,11 @@ use monk_object::{Book, Buffer, Shop};
 /// The totals of a run of that sample, in one pass over the history for each.
 pub(crate) fn totals_of(sample: Sample, history: &[Event]) -> [u64; 4]
     requires few { length history.now ≤ 2 ^ 26 }
-    requires law { (state : _) × KeepsLaw sample state history.now }
+    requires law { (size : _) × (state : _) × KeepsLaw sample size state history.now }
     ensures { result ≡ totals_of sample history.now }
 {
     match sample {
-        Sample::Buffer | Sample::Hasty => [
+        Sample::Buffer => [
             times(history, Buffer::PUT),
             items_put(history),
             times(history, Buffer::TAKE),
@@ -40,7 +40,7 @@ pub(crate) fn totals_of(sample: Sample, history: &[Event]) -> [u64; 4]
 
 /// Whether what a run has to end was ended: of a book each read and each write that was begun.
 pub(crate) fn has_ended(sample: Sample, history: &[Event]) -> bool
-    ensures { result ≡ true → HasEnded sample history.now }
+    ensures { (result ≡ true) ↔ HasEnded sample history.now }
 {
     match sample {
         Sample::Book => {
@@ -75,6 +75,25 @@ pub(crate) fn missed_in(history: &[Event]) -> u64
         }
     }
     count
+}
+
+/// The step of the first act that was refused, counted from 1.
+pub(crate) fn first_missed(history: &[Event]) -> Option<u32>
+    requires few { length history.now ≤ 2 ^ 26 }
+    ensures { result ≡ first_missed history.now }
+{
+    match first_refused(history) {
+        Some(place) => Some(place as u32 + 1),
+        None => None,
+    }
+}
+
+/// Where the first act stands that was refused.
+fn first_refused(history: &[Event]) -> Option<usize>
+    ensures is { result ≡ position is_refused_act history.now }
+    ensures within { IfSome result (λ place. place < length history.now) }
+{
+    history.iter().position(|event| is_refused(event))
 }
 
 /// The items put, added up.
@@ -113,7 +132,8 @@ fn is_done(event: &Event, code: u8) -> bool
 
 /// Whether it is an act that was refused.
 fn is_refused(event: &Event) -> bool
-    ensures { refusals_in (act_of event.now) ≡ (if result then 1 else 0) }
+    ensures counts { refusals_in (act_of event.now) ≡ (if result then 1 else 0) }
+    ensures is { result ≡ is_refused_act event.now }
 {
     match *event {
         Event::Act(_, _, reply) => reply == 0,

@@ -1,8 +1,8 @@
-use crate::line::StartingLine;
 use crate::rota::Rota;
 use monk_hall::{Hall, Pass};
 use monk_kinds::Kind;
 use monk_object::Guarded;
+use std::sync::atomic::AtomicU8;
 
 /// A seat of a run, and what its thread needs to work.
 #[derive(Drop)]
@@ -12,5 +12,6 @@ pub(crate) struct Worker<'a, K: Kind, T: Guarded, R, G> {
     pub(crate) hall: &'a Hall<K, T>,
     pub(crate) gate: &'a G,
     pub(crate) rota: Rota,
-    pub(crate) line: &'a StartingLine,
+    /// What tells it when to begin.
+    pub(crate) start: &'a AtomicU8,
 }

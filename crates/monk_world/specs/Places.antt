@@ -25,7 +25,7 @@ due_stage = 2
 abbrev pub active_stage : ℕ
 active_stage = 3
 
--- it has called what may hand the monitor on
+-- it has brought the floor home, and must still hand the right on
 abbrev pub back_stage : ℕ
 back_stage = 4
 

@@ -50,7 +50,7 @@ pub record IsWellLed (k : Rules) (o : Object) (s : State) : Type 0 where
   -- the enter with t enters before it is that of ticket t
   pub enters_first : (j t : ℕ) → s.world.place j ≡ Due (Free t) → enters_of s.floor.history ≡ t
   pub enters_next : (j t : ℕ) → s.world.place j ≡ Due (Granted t) → enters_of s.floor.history ≡ t
-  -- whoever is due or parked can still come to the floor and leave
+  -- whoever is parked inside can still be called back to the floor and leave
   pub left : (j : ℕ) → stage (s.world.place j) ≡ inside_stage → 2 ≤ left_of s.floor.budget s.floor.history j
 
 -- each run from the opening state leads to a sound state

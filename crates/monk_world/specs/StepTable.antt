@@ -71,7 +71,7 @@ abbrev pub is_call_offered : Rules → Option Event → Bool
 is_call_offered k None = true
 is_call_offered k (Some e) = is_offered k e
 
--- a seat that has the floor back with the choice of entry; with the choice of a seat
+-- whether a choice is entry
 abbrev pub names_entry : Next → Bool
 names_entry next.Stay = false
 names_entry next.Entry = true
@@ -140,7 +140,7 @@ refusal k o s i c =
     else if nat_lt (left_of s.floor.budget s.floor.history i) (left_for c) then Some answer.Tired
     else None
 
--- the event with which the floor comes out
+-- the queue from which the turn is due
 abbrev pub queue_due : Turn → From3
 queue_due turn.Open = FromWaiter
 queue_due (turn.Due j q) = q
@@ -166,7 +166,7 @@ IsReleased k o s i e pick home a t =
       floor = with_event s.floor (with_next (release_next k o s i e pick) e);
     })
 
--- whom a choice names
+-- the chosen seat is called
 abbrev pub IsGranted : State → ℕ → Next → Home → Answer → State → Type 0
 IsGranted s i next.Stay home a t = ⊥
 IsGranted s i next.Entry home a t = ⊥
@@ -177,7 +177,7 @@ IsGranted s i (next.Signaller j) home a t = (a ≡ answer.GrantedSeat j)
 IsGranted s i (next.Until j) home a t = (a ≡ answer.GrantedSeat j)
     × (t ≡ record s { world = after_seat_grant s.world i j home })
 
--- the monitor is handed on as it was chosen
+-- the ticket in use is passed on, if entry was chosen
 abbrev pub IsDropped : State → ℕ → Next → Home → Answer → State → Type 0
 IsDropped s i next.Stay home a t = ⊥
 IsDropped s i next.Entry home a t = (a ≡ answer.Found s.world.unpassed)

@@ -10,7 +10,7 @@ use std::test::Fail;
 const SET_FOR_A_WAITER: &[u8] =
     b"monk 3 PIS 2 0 flags 2\nenter 0 free\nact 0 0 1 1\nuntil 0 1 entry\nenter 1 free\nact 1 0 2 1\nleave 1 until 0\nresume 0 until\nact 0 0 1 1\nleave 0 entry\n";
 
-static HISTORIES: [Job<'static>; 11] = [
+static HISTORIES: [Job<'static>; 12] = [
     Job {
         name: "a flag that is waited for",
         task: Task::Audit,
@@ -82,11 +82,18 @@ static HISTORIES: [Job<'static>; 11] = [
         answer: b"unreadable 1 1 header\n",
     },
     Job {
-        name: "a broadcast and a buffer in a text of version 3",
+        name: "a broadcast in a text of version 3",
         task: Task::Audit,
-        input: b"monk 3 PNB 1 1 buffer 1\nenter 0 free\nsignal-all 0 0\n",
+        input: b"monk 3 PNB 1 1 flags 1\nenter 0 free\nsignal-all 0 0\n",
         status: 0,
         answer: b"legal 2\n",
+    },
+    Job {
+        name: "a buffer in a text of version 3",
+        task: Task::Audit,
+        input: b"monk 3 PNB 1 1 buffer 1\nenter 0 free\n",
+        status: 2,
+        answer: b"unreadable 1 1 header\n",
     },
 ];
 
@@ -131,7 +138,7 @@ fn histories_over_flags_are_told_of(rt: HostRuntime) -> Result<(), Fail> {
     are_answered(&rt, &TOLD)
 }
 
-static PLAYS: [Job<'static>; 4] = [
+static PLAYS: [Job<'static>; 5] = [
     Job {
         name: "a play of flags",
         task: Task::Play,
@@ -150,6 +157,13 @@ static PLAYS: [Job<'static>; 4] = [
         name: "flags in a play of version 2",
         task: Task::Play,
         input: b"play 2 PIS 2 0 flags 2 8\n0 arrive\n",
+        status: 2,
+        answer: b"unreadable 1 1 header\n",
+    },
+    Job {
+        name: "a buffer in a play of version 3",
+        task: Task::Play,
+        input: b"play 3 PIS 2 0 buffer 2 8\n0 arrive\n",
         status: 2,
         answer: b"unreadable 1 1 header\n",
     },
@@ -179,8 +193,8 @@ static UPGRADES: [Job<'static>; 3] = [
         name: "a buffer in a text of version 3",
         task: Task::Upgrade,
         input: b"monk 3 PB 2 2 buffer 1\nenter 0 free\n",
-        status: 0,
-        answer: b"monk 3 PB 2 2 buffer 1\nenter 0 free\n",
+        status: 2,
+        answer: b"unreadable 1 1 header\n",
     },
     Job {
         name: "flags in a text of version 2",

@@ -87,7 +87,6 @@ fn page_of(
     alloc: Global,
     text: &[u8],
     window: Option<Window>,
-    reason: &str,
 ) -> Option<Result<String, AuditFault>> {
     let Ok((header, events)) = read(alloc, text) else {
         return None;
@@ -95,7 +94,7 @@ fn page_of(
     if events.len() > 1 << 25 {
         return None;
     }
-    Some(page(alloc, &header, &events, window, reason))
+    Some(page(alloc, &header, &events, window))
 }
 
 /// Whether the page says so, and is one.
@@ -111,7 +110,7 @@ fn is_paged(alloc: Global, asked: &Page<'_>) -> bool {
     let Ok(window) = Window::asked(asked.from, asked.to) else {
         return false;
     };
-    let paged = page_of(alloc, asked.input, window, "choice");
+    let paged = page_of(alloc, asked.input, window);
     matches!(&paged, Some(Ok(page)) if says(page.as_str(), asked.says))
 }
 
@@ -127,7 +126,7 @@ fn pages_have_their_data(rt: HostRuntime) -> Result<(), Fail> {
 
 #[test]
 fn size_is_too_big_for_a_page(rt: HostRuntime) {
-    let paged = page_of(rt.alloc(), b"monk 1 PB 1 0 buffer 65\n", None, "");
+    let paged = page_of(rt.alloc(), b"monk 1 PB 1 0 buffer 65\n", None);
     assert!(rt; matches!(&paged, Some(Err(AuditFault::Object))));
 }
 
@@ -145,7 +144,7 @@ fn pieces_of_widest(alloc: Global, text: &str) -> usize {
     let Ok(window) = Window::asked(Some(1), Some(2000)) else {
         return 0;
     };
-    match &page_of(alloc, text.as_bytes(), window, "") {
+    match &page_of(alloc, text.as_bytes(), window) {
         Some(Ok(page)) => page.as_str().split("\"turn\":").count(),
         _ => 0,
     }

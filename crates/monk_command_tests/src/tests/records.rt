@@ -11,7 +11,7 @@ use std::sync::Wait;
 use std::thread::Threads;
 
 /// Whether an audit finds the text legal.
-fn is_legal(alloc: Global, text: &[u8]) -> bool {
+pub(super) fn is_legal(alloc: Global, text: &[u8]) -> bool {
     let mut line = Expected::new(b"legal ");
     let told = audit_stream(alloc, &mut Device::new(text), &mut Device::new(&mut line));
     matches!(told, Ok(0)) && line.agrees() && line.taken > 6

@@ -104,7 +104,7 @@ static ASKING: [Asking; 30] = [
 ];
 
 /// The same of logs that are completed, and of runs.
-static ASKING_FOR_MORE: [Asking; 29] = [
+static ASKING_FOR_MORE: [Asking; 30] = [
     (&["monk", "complete", "PB"], "Complete(Pb, None)"),
     (&["monk", "complete", "NPB"], "Complete(Npb, None)"),
     (&["monk", "complete", "PNB"], "Complete(Pnb, None)"),
@@ -191,8 +191,12 @@ static ASKING_FOR_MORE: [Asking; 29] = [
         "Run(Pir, Shop, 16, 1000)",
     ),
     (
-        &["monk", "run", "NPNB", "hasty", "4", "200"],
-        "Run(Npnb, Hasty, 4, 200)",
+        &["monk", "hasty", "NPNB", "4", "200"],
+        "Hasty(Npnb, 4, 200, None)",
+    ),
+    (
+        &["monk", "hasty", "PIS", "16", "1000", "run.history"],
+        "Hasty(Pis, 16, 1000, Some(\"run.history\"))",
     ),
     (
         &["monk", "run", "NPQB", "buffer", "8", "100"],
@@ -240,7 +244,7 @@ fn is_refused(alloc: Global, words: &[&str]) -> bool {
 
 /// Words that ask for nothing; of a picture also numbers of no events, of a run a number out of
 /// range, and another kind or sample.
-static NOTHING: [&[&str]; 59] = [
+static NOTHING: [&[&str]; 65] = [
     &["monk", "adit"],
     &["monk", "help"],
     &["monk", "--help"],
@@ -302,6 +306,12 @@ static NOTHING: [&[&str]; 59] = [
     &["monk", "run", "PB", "buffer", "8", "100", "1"],
     &["monk", "record", "PB", "buffer", "17", "100"],
     &["monk", "record", "PB", "buffer", "8", "1001"],
+    &["monk", "run", "NPNB", "hasty", "4", "200"],
+    &["monk", "hasty", "ABC", "4", "200"],
+    &["monk", "hasty", "NPNB", "4"],
+    &["monk", "hasty", "NPNB", "17", "200"],
+    &["monk", "hasty", "NPNB", "4", "1001"],
+    &["monk", "hasty", "NPNB", "4", "200", "a", "b"],
 ];
 
 #[test]

@@ -114,23 +114,6 @@ fn books_tell_who_read_and_wrote(rt: HostRuntime) -> Result<(), Fail> {
     all_tell(&rt, &KindName::ALL, Sample::Book, 4, 10, text)
 }
 
-/// The kinds in which no caller comes between a signal and the seat that it serves, or a wait goes
-/// on where its predicate holds.
-#[test]
-fn hasty_buffers_tell_what_was_missed(rt: HostRuntime) -> Result<(), Fail> {
-    let kinds = [
-        KindName::Pb,
-        KindName::Npb,
-        KindName::Pnb,
-        KindName::Pqb,
-        KindName::Pir,
-        KindName::Pis,
-        KindName::Npis,
-    ];
-    let text = "put 20 110\ntaken 20 110\nmissed 0\nlegal\n";
-    all_tell(&rt, &kinds, Sample::Hasty, 4, 10, text)
-}
-
 #[test]
 fn shops_tell_who_came_and_went(rt: HostRuntime) -> Result<(), Fail> {
     let text = "sat 30\ncalled 30\nfinished 30\ndeparted 30\nlegal\n";

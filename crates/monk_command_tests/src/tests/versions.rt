@@ -1,4 +1,4 @@
-//! Texts of versions 2 and 3, and what they are upgraded to.
+//! Texts of version 2, and what they are upgraded to.
 
 use super::jobs::{Job, are_answered};
 use monk_commands::Task;
@@ -173,7 +173,7 @@ static MORE_TEXTS: [Job<'static>; 20] = [
     Job {
         name: "a version to come",
         task: Task::Audit,
-        input: b"monk 4 PB 2 2 buffer 1\n",
+        input: b"monk 3 PB 2 2 buffer 1\n",
         status: 2,
         answer: b"unreadable 1 1 header\n",
     },
@@ -213,9 +213,9 @@ static MORE_TEXTS: [Job<'static>; 20] = [
         answer: b"unreadable 4 2 word\n",
     },
     Job {
-        name: "play of version 4",
+        name: "play of version 3",
         task: Task::Play,
-        input: b"play 4 PNB 2 1 buffer 1 8\n",
+        input: b"play 3 PNB 2 1 buffer 1 8\n",
         status: 2,
         answer: b"unreadable 1 1 header\n",
     },
@@ -257,7 +257,7 @@ static UPGRADES: [Job<'static>; 6] = [
     Job {
         name: "no version yet",
         task: Task::Upgrade,
-        input: b"monk 4 PB 2 2 buffer 1\n",
+        input: b"monk 3 PB 2 2 buffer 1\n",
         status: 2,
         answer: b"unreadable 1 1 header\n",
     },

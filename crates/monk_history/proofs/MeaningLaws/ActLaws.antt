@@ -10,11 +10,12 @@ use Rattle.monk_object.specs.Object.{Object}
 use Rattle.monk_object.specs.Names.{meaning_named, opening_named}
 use Rattle.monk_object.specs.Runs.{Answered, answers_of, state_after}
 use Rattle.monk_object.specs.declared.name.ObjectName.{ObjectName}
-use Rattle.monk_object.specs.declared.name.ObjectName.TheVariants.{Buffer, Book, Shop}
+use Rattle.monk_object.specs.declared.name.ObjectName.TheVariants.{Buffer, Book, Shop, Flags}
 use Rattle.monk_object.specs.declared.op.Op.{Op}
-use Rattle.monk_object.proofs.PublicLaws.{first_in_first_out, exclusive, customers}
+use Rattle.monk_object.proofs.PublicLaws.{first_in_first_out, exclusive, customers, last_set}
 use Rattle.monk_history.specs.Meaning.Events.{answered_act}
-use Rattle.monk_history.specs.Meaning.Acts.{act_of, acts_in, ops_in, IsRunOf, IsInOrder, ExcludesEachOther, ServesEachOne}
+use Rattle.monk_history.specs.Meaning.Acts.{act_of, acts_in, ops_in, IsRunOf}
+use Rattle.monk_history.specs.Meaning.Acts.{IsInOrder, ExcludesEachOther, ServesEachOne, HoldsLastSet}
 use Rattle.monk_history.specs.Meaning.Legal.{IsLegal}
 use Rattle.monk_history.specs.Meaning.Monitor.{Monitor, monitor, data_after, data_of}
 use Rattle.monk_history.specs.Meaning.Reasons.{is_right_reply}
@@ -142,4 +143,21 @@ serves_each rules seats conds size h l =
       sat = law.sat;
       called = law.called;
       finished = law.finished;
+    })
+
+pub holds_last : (rules : Rules) (seats conds size : ℕ) (h : List Event)
+    → IsLegal (monitor rules seats conds (meaning_named Flags) (opening_named Flags size)) h
+    → HoldsLastSet size (data_of (monitor rules seats conds (meaning_named Flags) (opening_named Flags size)) h)
+    (acts_in h)
+holds_last rules seats conds size h l =
+    let run = acts_are_run (over rules seats conds Flags size) h l in
+    let law = last_set size (ops_in h) in
+    subst (λ (acts : List Answered). HoldsLastSet size (data_of (over rules seats conds Flags size) h) acts) run.replies
+    (record {
+      bits = law.bits;
+      earlier = law.earlier;
+      state_is = sym run.leads_to ∙ law.state;
+      in_order = law.in_order;
+      within =
+          law.within;
     })

@@ -10,6 +10,8 @@ pub use Rattle.monk_history.proofs.TextLaws.HistoryText.{text_again, text_read}
 pub use Rattle.monk_history.proofs.TextLaws.LineCuts.{AreWords, IsWord, IsWord-decimal}
 -- Reading a text line after line, as a loop does, whatever its lines hold.
 pub use Rattle.monk_history.proofs.TextLaws.LineSteps.{behind, lines_behind}
+-- The last version that names an object is a version that there is.
+pub use Rattle.monk_history.proofs.TextLaws.ObjectVersions.{none_newer}
 -- An upgraded header has a line of each event.
 pub use Rattle.monk_history.proofs.TextLaws.Upgrading.{upgraded_text}
 -- A text that comes in pieces: its header, and its end.

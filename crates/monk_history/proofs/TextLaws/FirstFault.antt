@@ -318,9 +318,8 @@ any_text limit =
       text h [],
       record {
         header_fits = record {
-          some_version = omega arith;
-          version = omega arith;
           named = omega arith;
+          still_named = omega arith;
           some_seat = omega arith;
           seats = omega arith;
           conds = omega arith;

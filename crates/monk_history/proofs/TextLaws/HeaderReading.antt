@@ -9,11 +9,12 @@ use Rattle.monk_object.specs.declared.name.ObjectName.{ObjectName}
 use Rattle.monk_object.specs.declared.name.ObjectName.TheVariants.{Buffer, Book, Shop, Flags}
 use Rattle.monk_kinds.specs.Names.{kind_word, with_text, kinds}
 use Rattle.monk_object.specs.Names.{object_word, objects}
-use Rattle.monk_history.specs.Limits.{newest_version, most_seats, most_conds}
-use Rattle.monk_history.specs.Text.{Heading, heading, object_version, part_words, header_words, IsHeading}
+use Rattle.monk_history.specs.Limits.{most_seats, most_conds}
+use Rattle.monk_history.specs.Text.{Heading, heading, object_version, last_version, part_words, header_words, IsHeading}
 use Rattle.monk_history.specs.Text.Words.{◌>>=◌, Word, Taken, number_at, with_rest, one_of, literal_at, end_at}
 use Rattle.monk_history.specs.Text.Reading.{first_heading_of, heading_of, parts_at, header_at}
 use Rattle.monk_history.proofs.TextLaws.LineCuts.{both}
+use Rattle.monk_history.proofs.TextLaws.ObjectVersions.{none_newer}
 use Rattle.monk_history.proofs.TextLaws.WordReaders.{bind_ok, ok_is, number_takes, number_again, one_of_takes}
 use Rattle.monk_history.proofs.TextLaws.WordReaders.{one_of_again, made_takes, literal_takes, end_takes}
 
@@ -39,20 +40,18 @@ heading_fits : (v : ℕ) (k : KindName) (s c : ℕ) (o : ObjectName) (z : ℕ) (
     (x : Heading × List Word) → z ≤ 255
     → with_rest ws (heading_of v k s c o z) ≡ Ok x → (x ≡ (heading v k s c o z, ws)) × IsHeading (heading v k s c o z)
 heading_fits v k s c o z ws x le e =
-    let versioned = nat_le 1 v && nat_le v newest_version && nat_le (object_version o) v in
+    let versioned = nat_le (object_version o) v && nat_le v (last_version o) in
     let h = made_takes (versioned && nat_le 1 s && nat_le s most_seats && nat_le c most_conds && nat_le 1 z)
     (heading v k s c o z) ws x e in
     let p = both (versioned && nat_le 1 s && nat_le s most_seats && nat_le c most_conds) (nat_le 1 z) h.0 in
     let q = both (versioned && nat_le 1 s && nat_le s most_seats) (nat_le c most_conds) p.0 in
     let r = both (versioned && nat_le 1 s) (nat_le s most_seats) q.0 in
     let t = both versioned (nat_le 1 s) r.0 in
-    let n = both (nat_le 1 v && nat_le v newest_version) (nat_le (object_version o) v) t.0 in
-    let u = both (nat_le 1 v) (nat_le v newest_version) n.0 in (
+    let n = both (nat_le (object_version o) v) (nat_le v (last_version o)) t.0 in (
       h.1,
       record {
-        some_version = leb-true _ _ u.0;
-        version = leb-true _ _ u.1;
-        named = leb-true _ _ n.1;
+        named = leb-true _ _ n.0;
+        still_named = leb-true _ _ n.1;
         some_seat = leb-true _ _ t.1;
         seats = leb-true _ _ r.1;
         conds = leb-true _ _ q.1;
@@ -120,9 +119,8 @@ parts_take v ws x e =
 heading_again : (h : Heading) → IsHeading h → heading_of h.version h.kind h.seats h.conds h.object h.size ≡ Some h
 heading_again h fits =
     rw (
-      le-leb 1 h.version fits.some_version,
-      le-leb h.version newest_version fits.version,
       le-leb (object_version h.object) h.version fits.named,
+      le-leb h.version (last_version h.object) fits.still_named,
       le-leb 1 h.seats fits.some_seat,
       le-leb h.seats most_seats fits.seats,
       le-leb h.conds most_conds fits.conds,
@@ -182,6 +180,6 @@ pub header_again : (h : Heading) → IsHeading h → header_at (header_words h) 
 unfolding header_at
 header_again h fits =
     rw (
-      number_again 255 h.version (part_words h) (lit< tt) (omega (arith, fits.version)),
+      number_again 255 h.version (part_words h) (lit< tt) (omega (arith, fits.still_named, none_newer h.object)),
       parts_again h.version h [] refl fits,
     ) refl

@@ -17,6 +17,7 @@ use Rattle.monk_kinds.specs.Names.{kind_word}
 use Rattle.monk_object.specs.Names.{object_word}
 use Rattle.monk_history.specs.Text.{Heading, next_words, event_words, header_words, IsHeading, NextFits, EventFits}
 use Rattle.monk_history.proofs.TextLaws.LineCuts.{AreWords, IsWord, IsWord-decimal}
+use Rattle.monk_history.proofs.TextLaws.ObjectVersions.{none_newer}
 
 pub decimal_word : (n : ℕ) → n ≤ 255 → IsWord (decimal n)
 decimal_word n le = IsWord-decimal n (omega arith)
@@ -72,7 +73,7 @@ object_is_word Flags = refl
 pub header_are_words : (h : Heading) → IsHeading h → AreWords (header_words h)
 header_are_words h fits =
     rw (
-      decimal_word h.version (omega (arith, fits.version)),
+      decimal_word h.version (omega (arith, fits.still_named, none_newer h.object)),
       kind_is_word h.kind,
       decimal_word h.seats (omega (arith, fits.seats)),
       decimal_word h.conds (omega (arith, fits.conds)),

@@ -5,8 +5,9 @@ use Rattle.std.proofs.lemmas.Bool.{leb-true, leb-false, le-leb}
 use Rattle.monk_history.specs.declared.event.Event.{Event}
 use Rattle.monk_history.specs.declared.event.Event.TheVariants.{Enter, Act, Leave, Wait, Signal, SignalLeave, Until, Resume}
 use Rattle.monk_history.specs.declared.event.Event.TheVariants.{SignalAll, SignalWait}
-use Rattle.monk_history.specs.Limits.{newest_version, all_events_version}
-use Rattle.monk_history.specs.Text.{Heading, upgraded_heading, first_version, is_writable, HasText}
+use Rattle.monk_history.specs.Limits.{all_events_version}
+use Rattle.monk_history.specs.Text.{Heading, upgraded_heading, last_version, first_version, is_writable, HasText}
+use Rattle.monk_history.proofs.TextLaws.ObjectVersions.{every_event_named}
 
 has_line : (e : Event) → first_version e ≤ all_events_version
 has_line (Enter s via) = omega arith
@@ -23,14 +24,14 @@ has_line (SignalWait s c d n) = omega arith
 record Upgrades (v u : ℕ) : Type 0 where
   from : v ≤ u
   all_events : all_events_version ≤ u
-  newest : v ≤ newest_version → u ≤ newest_version
+  no_further : (n : ℕ) → all_events_version ≤ n → v ≤ n → u ≤ n
 
 upgrades_by : (v : ℕ) (b : Bool) → nat_le all_events_version v ≡ b → Upgrades v (cond b v all_events_version)
 upgrades_by v true e =
-    record { from = omega arith; all_events = leb-true all_events_version v e; newest = λ m. m }
+    record { from = omega arith; all_events = leb-true all_events_version v e; no_further = λ _ _ m. m }
 upgrades_by v false e =
     let less : v < all_events_version = leb-false all_events_version v e in
-    record { from = omega (arith, less); all_events = omega arith; newest = λ m. omega arith }
+    record { from = omega (arith, less); all_events = omega arith; no_further = λ _ all _. all }
 
 upgrades : (h : Heading) → Upgrades h.version (upgraded_heading h).version
 upgrades h = upgrades_by h.version (nat_le all_events_version h.version) refl
@@ -49,9 +50,8 @@ upgraded_text h es has =
     let all = u.all_events in
     record {
       header_fits = record {
-        some_version = omega (arith, all);
-        version = u.newest fits.version;
         named = omega (arith, from, fits.named);
+        still_named = u.no_further (last_version h.object) (every_event_named h.object) fits.still_named;
         some_seat = fits.some_seat;
         seats = fits.seats;
         conds = fits.conds;

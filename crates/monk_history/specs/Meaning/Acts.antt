@@ -1,11 +1,11 @@
--- The acts of a history, and what they mean where the monitor guards a buffer, a book or a shop:
--- what a reader of the history sees of the object, in the words of `monk_object`
-use Rattle.std.specs.Prelude.{◌≡◌, ℕ, ◌+◌, ◌≤◌, ◌==◌, ◌⊎◌, Bool, false, List, [], ◌∷◌, ◌++◌, length, map, if◌then◌else◌, option_to_list}
+-- The acts of a history, and what they mean where the monitor guards a buffer, a book, a shop or
+-- flags: what a reader of the history sees of the object, in the words of `monk_object`
+use Rattle.std.specs.Prelude.{◌≡◌, ℕ, ◌+◌, ◌^◌, ◌<◌, ◌≤◌, ◌==◌, ◌⊎◌, Bool, false, List, [], ◌∷◌, ◌++◌, length, map, if◌then◌else◌, option_to_list}
 use Rattle.std.specs.List.{flat_map}
 use Rattle.std.specs.Option.{option_map_or}
 use Rattle.monk_object.specs.Book.{START_READ, END_READ, START_WRITE, END_WRITE}
 use Rattle.monk_object.specs.Shop.{SIT, CALL, FINISH, DEPART}
-use Rattle.monk_object.specs.Laws.{items_put, items_taken}
+use Rattle.monk_object.specs.Laws.{bits_set, items_put, items_taken}
 use Rattle.monk_object.specs.Runs.{Answered, answers_of, is_refused, state_after, times_done}
 use Rattle.monk_object.specs.declared.op.Op.{Op}
 use Rattle.monk_history.specs.declared.event.Event.{Event}
@@ -71,3 +71,11 @@ pub record ServesEachOne (size : ℕ) (state : List ℕ) (acts : List Answered) 
   pub sat : times_done SIT acts ≡ times_done CALL acts + sitting
   pub called : times_done CALL acts ≡ times_done FINISH acts + (if chair == 1 then 1 else 0)
   pub finished : times_done FINISH acts ≡ times_done DEPART acts + (if chair == 2 then 1 else 0)
+
+-- flags: the bits are those of the last set that was done, and none before the first; there is a flag for each
+pub record HoldsLastSet (size : ℕ) (state : List ℕ) (acts : List Answered) : Type 0 where
+  pub bits : ℕ
+  pub earlier : List ℕ
+  pub state_is : state ≡ size ∷ bits ∷ []
+  pub in_order : 0 ∷ bits_set acts ≡ earlier ++ bits ∷ []
+  pub within : bits < 2 ^ size

@@ -7,7 +7,7 @@ ghost use Rattle.monk_object.specs.Names.{meaning_named};
 ghost use Rattle.monk_object.specs.Shop.{shop_meaning};
 ghost use Rattle.monk_samples.specs.Crews.{IsOf, IsReady};
 ghost use Rattle.monk_samples.specs.Members.{begins_to_read, begins_to_write, ends_to_read, ends_to_write};
-ghost use Rattle.monk_samples.specs.Rounds.{round_of};
+ghost use Rattle.monk_samples.specs.Rounds.{round_of, visits_of};
 ghost use Rattle.monk_samples.specs.Samples.{sample_object};
 ghost use Rattle.monk_samples.specs.Visits.{HasVisited};
 ghost use Rattle.monk_samples.specs.declared.sample.Sample.TheVariants as sample;
@@ -15,6 +15,7 @@ ghost use Rattle.monk_samples.specs.declared.sample.Sample.TheVariants as sample
 use crate::book::{begin_read, begin_write, end_read, end_write};
 use crate::buffer::{put_hastily, put_into, take_from, take_hastily};
 use crate::end::End;
+use crate::manner::Manner;
 use crate::rota::Rota;
 use crate::sample::Sample;
 use crate::shop::{have_cut, take_turn};
@@ -39,16 +40,15 @@ pub(crate) fn do_round<K: Style, T: Guarded, R: Wait>(
     round: u32,
 ) -> (Pass<K, T>, End)
     requires ready { IsReady K.rules hall.now pass }
-    requires object { T.meaning ≡ meaning_named (sample_object rota.sample) }
+    requires object { T.meaning ≡ meaning_named (sample_object rota.scenario.sample) }
     ensures back { IsOf hall.now result.0 }
     ensures visited { HasVisited K.rules T.meaning pass
-        (round_of rota.sample K.rules pass.me.setting rota.seats pass.me.seat round) result.0 result.1 }
+        (round_of rota.scenario K.rules pass.me.setting rota.seats pass.me.seat round) result.0 result.1 }
 {
-    match rota.sample {
+    match rota.scenario.sample {
         Sample::Buffer => trade(pass, rt, hall, rota, round),
         Sample::Book => use_book(pass, rt, hall, rota),
-        Sample::Shop => visit_shop(pass, rt, hall),
-        Sample::Hasty => trade_hastily(pass, rt, hall, rota, round),
+        Sample::Shop => visit_shop(pass, rt, hall, rota),
     }
 }
 
@@ -64,7 +64,29 @@ fn trade<K: Style, T: Guarded, R: Wait>(
     requires object { T.meaning ≡ buffer_meaning }
     ensures back { IsOf hall.now result.0 }
     ensures visited { HasVisited K.rules T.meaning pass
-        (round_of sample.Buffer K.rules pass.me.setting rota.seats pass.me.seat round) result.0 result.1 }
+        (visits_of sample.Buffer rota.scenario.manner K.rules pass.me.setting rota.seats pass.me.seat round)
+        result.0 result.1 }
+{
+    match rota.scenario.manner {
+        Manner::Patient => trade_patiently(pass, rt, hall, rota, round),
+        Manner::Hasty => trade_hastily(pass, rt, hall, rota, round),
+    }
+}
+
+/// The same, each visit as long as its predicate is false.
+fn trade_patiently<K: Style, T: Guarded, R: Wait>(
+    pass: Pass<K, T>,
+    rt: &R,
+    hall: &Hall<K, T>,
+    rota: Rota,
+    round: u32,
+) -> (Pass<K, T>, End)
+    requires ready { IsReady K.rules hall.now pass }
+    requires object { T.meaning ≡ buffer_meaning }
+    ensures back { IsOf hall.now result.0 }
+    ensures visited { HasVisited K.rules T.meaning pass
+        (visits_of sample.Buffer Manner.Patient K.rules pass.me.setting rota.seats pass.me.seat round)
+        result.0 result.1 }
 {
     let seat = pass.seat();
     if seat < rota.seats / 2 {
@@ -86,7 +108,8 @@ fn trade_hastily<K: Style, T: Guarded, R: Wait>(
     requires object { T.meaning ≡ buffer_meaning }
     ensures back { IsOf hall.now result.0 }
     ensures visited { HasVisited K.rules T.meaning pass
-        (round_of sample.Hasty K.rules pass.me.setting rota.seats pass.me.seat round) result.0 result.1 }
+        (visits_of sample.Buffer Manner.Hasty K.rules pass.me.setting rota.seats pass.me.seat round)
+        result.0 result.1 }
 {
     let seat = pass.seat();
     let_others_run(seat, round);
@@ -108,7 +131,8 @@ fn use_book<K: Style, T: Guarded, R: Wait>(
     requires object { T.meaning ≡ book_meaning }
     ensures back { IsOf hall.now result.0 }
     ensures visited { (round : ℕ) → HasVisited K.rules T.meaning pass
-        (round_of sample.Book K.rules pass.me.setting rota.seats pass.me.seat round) result.0 result.1 }
+        (visits_of sample.Book rota.scenario.manner K.rules pass.me.setting rota.seats pass.me.seat round)
+        result.0 result.1 }
 {
     let seat = pass.seat();
     if seat < rota.seats / 2 {
@@ -123,12 +147,14 @@ fn visit_shop<K: Style, T: Guarded, R: Wait>(
     pass: Pass<K, T>,
     rt: &R,
     hall: &Hall<K, T>,
+    rota: Rota,
 ) -> (Pass<K, T>, End)
     requires ready { IsReady K.rules hall.now pass }
     requires object { T.meaning ≡ shop_meaning }
     ensures back { IsOf hall.now result.0 }
-    ensures visited { (seats round : ℕ) → HasVisited K.rules T.meaning pass
-        (round_of sample.Shop K.rules pass.me.setting seats pass.me.seat round) result.0 result.1 }
+    ensures visited { (round : ℕ) → HasVisited K.rules T.meaning pass
+        (visits_of sample.Shop rota.scenario.manner K.rules pass.me.setting rota.seats pass.me.seat round)
+        result.0 result.1 }
 {
     let seat = pass.seat();
     if seat == 0 {

@@ -13,7 +13,6 @@ use crate::crew_fault::CrewFault;
 use crate::duty::{Duty, Shift};
 use crate::end::End;
 use crate::gate::Gate;
-use crate::line::StartingLine;
 use crate::rota::Rota;
 use crate::style::Style;
 use crate::worker::Worker;
@@ -21,8 +20,18 @@ use monk_hall::{Hall, Pass};
 use monk_object::Guarded;
 use std::alloc::Global;
 use std::sync::Wait;
+use std::sync::atomic::{AtomicU8, Ordering};
 use std::thread;
 use std::thread::{Scope, Threads};
+
+/// What the workers of a run read until all of them are there.
+const HOLD: u8 = 0;
+
+/// They begin.
+const BEGIN: u8 = 1;
+
+/// They go home, since not all could be started.
+const GO_HOME: u8 = 2;
 
 /// Every seat works its rounds, each in a thread of its own. Gives their passes back, in order.
 pub(crate) fn work_all<K: Style, T: Guarded, R: Threads + Wait + Sync, G: Gate>(
@@ -34,39 +43,39 @@ pub(crate) fn work_all<K: Style, T: Guarded, R: Threads + Wait + Sync, G: Gate>(
     rota: Rota,
 ) -> Result<Vec<Pass<K, T>>, CrewFault>
     requires ready { AreReady K.rules hall.now passes.items }
-    requires object { T.meaning ≡ meaning_named (sample_object rota.sample) }
+    requires object { T.meaning ≡ meaning_named (sample_object rota.scenario.sample) }
     ensures served { IfOk result (λ v. HaveServed K.rules T.meaning
-        (G.answers gate.now) rota.sample rota.seats rota.rounds
+        (G.answers gate.now) rota.scenario rota.seats rota.rounds
         hall.now passes.items v.items) }
     ensures fault { IfErr result (IsFaultOfCrew K.rules T.meaning
-        (G.answers gate.now) rota.sample rota.seats rota.rounds
+        (G.answers gate.now) rota.scenario rota.seats rota.rounds
         passes.items) }
 {
     let (working, idle) = part_idle(passes, rota);
-    let line = StartingLine::new();
-    let workers = workers(alloc, rt, hall, gate, &line, working, rota)?;
+    let start = AtomicU8::new(HOLD);
+    let workers = workers(alloc, rt, hall, gate, &start, working, rota)?;
     let back = thread::scope(
         thread::scope_env(),
         rt,
         |scope| -> Result<Vec<Pass<K, T>>, CrewFault>
             requires each { All (λ w. ((w.hall.now ≡ hall.now) × IsReady K.rules hall.now w.pass)
                 × (w.gate.now ≡ gate.now) × (w.rota ≡ rota)) workers.items }
-            requires object { T.meaning ≡ meaning_named (sample_object rota.sample) }
-            ensures served { IfOk result (λ v. HaveServed K.rules T.meaning (G.answers gate.entry.now) rota.sample
+            requires object { T.meaning ≡ meaning_named (sample_object rota.scenario.sample) }
+            ensures served { IfOk result (λ v. HaveServed K.rules T.meaning (G.answers gate.entry.now) rota.scenario
                 rota.seats rota.rounds hall.entry.now (map (λ w. w.pass) workers.entry.items) v.items) }
-            ensures fault { IfErr result (IsFaultOfCrew K.rules T.meaning (G.answers gate.entry.now) rota.sample
+            ensures fault { IfErr result (IsFaultOfCrew K.rules T.meaning (G.answers gate.entry.now) rota.scenario
                 rota.seats rota.rounds (map (λ w. w.pass) workers.entry.items)) }
         {
-            let held = line.hold(rt);
-            let crew = start_all(scope, alloc, hall, gate, rota, workers)?;
-            StartingLine::open(held);
-            join_all(alloc, rt, hall, gate, rota, crew)
+            let crew = start_all(scope, alloc, hall, gate, rota, workers);
+            let word = if crew.is_ok() { BEGIN } else { GO_HOME };
+            start.store(word, Ordering::SeqCst);
+            join_all(alloc, rt, hall, gate, rota, crew?)
         },
     )?;
     with_idle(back, idle)
 }
 
-/// Starts a thread for each worker. None goes past the line while it is held.
+/// Starts a thread for each worker. None begins before it is told so.
 fn start_all<'s, E, K: Style, T: Guarded, R: Wait + Sync, G: Gate>(
     scope: &Scope<'s, E>,
     alloc: Global,
@@ -77,7 +86,7 @@ fn start_all<'s, E, K: Style, T: Guarded, R: Wait + Sync, G: Gate>(
 ) -> Result<Vec<Shift<K, T, G>>, CrewFault>
     requires each { All (λ w. ((w.hall.now ≡ hall.now) × IsReady K.rules hall.now w.pass)
         × (w.gate.now ≡ gate.now) × (w.rota ≡ rota)) workers.items }
-    requires object { T.meaning ≡ meaning_named (sample_object rota.sample) }
+    requires object { T.meaning ≡ meaning_named (sample_object rota.scenario.sample) }
     ensures each { IfOk result (λ v. All (λ s. (s.promise.hall.value ≡ hall.now) × (s.promise.gate.value ≡ gate.now)
         × (s.promise.rota.value ≡ rota)) v.items) }
     ensures passes { IfOk result (λ v. map (λ s. s.promise.pass.value) v.items
@@ -97,7 +106,7 @@ fn start<'s, E, K: Style, T: Guarded, R: Wait + Sync, G: Gate>(
     worker: Worker<'s, K, T, R, G>,
 ) -> Result<Shift<K, T, G>, CrewFault>
     requires ready { IsReady K.rules worker.hall.now worker.pass }
-    requires object { T.meaning ≡ meaning_named (sample_object worker.rota.sample) }
+    requires object { T.meaning ≡ meaning_named (sample_object worker.rota.scenario.sample) }
     ensures hall { IfOk result (λ s. s.promise.hall.value ≡ worker.entry.hall.now) }
     ensures gate { IfOk result (λ s. s.promise.gate.value ≡ worker.entry.gate.now) }
     ensures pass { IfOk result (λ s. s.promise.pass.value ≡ worker.entry.pass) }
@@ -109,12 +118,12 @@ fn start<'s, E, K: Style, T: Guarded, R: Wait + Sync, G: Gate>(
         promise,
         move || -> Option<(Pass<K, T>, End)>
             requires ready { IsReady K.rules worker.hall.now worker.pass }
-            requires object { T.meaning ≡ meaning_named (sample_object worker.rota.sample) }
+            requires object { T.meaning ≡ meaning_named (sample_object worker.rota.scenario.sample) }
             ensures { IfSome result (λ r. IsOf worker.entry.hall.now r.0
-                × HasServed K.rules T.meaning (G.answers worker.entry.gate.now) worker.entry.rota.sample
+                × HasServed K.rules T.meaning (G.answers worker.entry.gate.now) worker.entry.rota.scenario
                 worker.entry.rota.seats worker.entry.rota.rounds worker.entry.pass r.0 r.1) }
         {
-            if !worker.line.wait(worker.rt) {
+            if !may_begin(worker.rt, worker.start) {
                 return None;
             }
             Some(work(worker))
@@ -126,12 +135,23 @@ fn start<'s, E, K: Style, T: Guarded, R: Wait + Sync, G: Gate>(
     }
 }
 
+/// Waits until a worker is told whether to begin.
+fn may_begin<R: Wait>(rt: &R, start: &AtomicU8) -> bool {
+    for _ in rt.forever() {
+        match start.load(Ordering::SeqCst) {
+            HOLD => thread::yield_now(),
+            word => return word == BEGIN,
+        }
+    }
+    unreachable!()
+}
+
 /// Works all rounds of a seat, and asks the gate before each.
 fn work<K: Style, T: Guarded, R: Wait, G: Gate>(worker: Worker<'_, K, T, R, G>) -> (Pass<K, T>, End)
     requires ready { IsReady K.rules worker.hall.now worker.pass }
-    requires object { T.meaning ≡ meaning_named (sample_object worker.rota.sample) }
+    requires object { T.meaning ≡ meaning_named (sample_object worker.rota.scenario.sample) }
     ensures back { IsOf worker.entry.hall.now result.0 }
-    ensures served { HasServed K.rules T.meaning (G.answers worker.entry.gate.now) worker.entry.rota.sample
+    ensures served { HasServed K.rules T.meaning (G.answers worker.entry.gate.now) worker.entry.rota.scenario
         worker.entry.rota.seats worker.entry.rota.rounds worker.entry.pass result.0 result.1 }
 {
     let Worker {
@@ -140,7 +160,7 @@ fn work<K: Style, T: Guarded, R: Wait, G: Gate>(worker: Worker<'_, K, T, R, G>) 
         hall,
         gate,
         rota,
-        line: _,
+        start: _,
     } = worker;
     let seat = pass.seat();
     for done in 0..rota.rounds_of(seat) {

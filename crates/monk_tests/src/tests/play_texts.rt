@@ -12,7 +12,7 @@ const LOST_TICKET: &[u8] =
 const EACH: &[u8] =
     b"play 1 NPIS 32 8 shop 255 1048576\n255 arrive\n0 look\n1 out\n2 peek\n3 drop\n4 grant\n5 act 255 4294967295\n6 act 0 0\n7 leave entry\n8 wait 255 waiter\n9 signal 0 signaller\n10 signal-leave 255 entry\n11 until 3 waiter\n";
 
-/// The object that version 3 names besides, and actions of each version.
+/// The object that version 3 names, and actions of each version.
 const EACH_OF_VERSION_THREE: &[u8] =
     b"play 3 PIS 2 0 flags 32 8\n0 act 0 4294967295\n0 until 31 entry\n0 signal-all 0\n";
 
@@ -184,7 +184,7 @@ static FIRST_LINES: [(&[u8], u8, u32); 16] = [
     (b"play 1 PB 1 0 buffer 1 1", 4, 1),
     (b"play 2 PB 1 0 buffer 1 2\n", 0, 0),
     (b"play 0 PB 1 0 buffer 1 2\n", 1, 1),
-    (b"play 3 PB 1 0 buffer 1 2\n", 0, 0),
+    (b"play 3 PB 1 0 buffer 1 2\n", 1, 1),
     (b"play 3 PIS 1 0 flags 1 2\n", 0, 0),
     (b"play 2 PIS 1 0 flags 1 2\n", 1, 1),
     (b"play 1 PIS 1 0 flags 1 2\n", 1, 1),

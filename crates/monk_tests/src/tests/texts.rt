@@ -19,7 +19,7 @@ const EACH: &[u8] =
 const EACH_OF_VERSION_TWO: &[u8] =
     b"monk 2 NPIR 32 8 shop 255\nenter 255 free\nsignal-all 255 255\nsignal-all 0 10\nsignal-wait 255 255 255 signaller 255\nsignal-wait 0 10 9 stay\nleave 0 entry\n";
 
-/// The object that version 3 names besides, and words of each version.
+/// The object that version 3 names, and words of each version.
 const EACH_OF_VERSION_THREE: &[u8] =
     b"monk 3 PIS 32 8 flags 32\nenter 0 free\nact 0 0 4294967295 1\nsignal-all 255 255\nsignal-wait 255 255 255 stay\nuntil 0 31 stay\nleave 0 entry\n";
 
@@ -197,8 +197,10 @@ fn first_versions(rt: HostRuntime) {
 static FIRST_WORDS: [&[u8]; 3] = [b"monk 1", b"monk 2", b"monk 3"];
 
 /// Headers of each object, and what is told of each in the three versions.
-static OBJECTS_OF_VERSIONS: [(&[u8], [(u8, u32); 3]); 4] = [
-    (b" PIS 2 0 buffer 1\n", [(0, 0), (0, 0), (0, 0)]),
+static OBJECTS_OF_VERSIONS: [(&[u8], [(u8, u32); 3]); 6] = [
+    (b" PIS 2 0 buffer 1\n", [(0, 0), (0, 0), (1, 1)]),
+    (b" PIS 2 0 book 1\n", [(0, 0), (0, 0), (1, 1)]),
+    (b" PIS 2 0 shop 1\n", [(0, 0), (0, 0), (1, 1)]),
     (b" PIS 2 0 flags 1\n", [(1, 1), (1, 1), (0, 0)]),
     (b" PIS 2 0 flags 0\n", [(1, 1), (1, 1), (1, 1)]),
     (b" PIS 2 0 flag 1\n", [(1, 1), (1, 1), (1, 1)]),
@@ -231,14 +233,21 @@ fn words_of_version_two(rt: HostRuntime) -> Result<(), Fail> {
     for (line, old, new) in WORDS_OF_VERSION_TWO.iter() {
         let first = outcome_of_both(&rt, b"monk 1 PIR 2 2 buffer 1\n", line)?;
         let second = outcome_of_both(&rt, b"monk 2 PIR 2 2 buffer 1\n", line)?;
-        let third = outcome_of_both(&rt, b"monk 3 PIR 2 2 buffer 1\n", line)?;
+        let third = outcome_of_both(&rt, b"monk 3 PIR 2 2 flags 1\n", line)?;
         assert!(rt; first == *old && second == *new && third == *new);
     }
     Ok(())
 }
 
-/// The first words of texts of no version.
-static OTHER_VERSIONS: [&[u8]; 5] = [b"monk 0", b"monk 4", b"monk 02", b"monk 256", b"monk x"];
+/// The first words of texts that are of no version over a buffer.
+static OTHER_VERSIONS: [&[u8]; 6] = [
+    b"monk 0",
+    b"monk 3",
+    b"monk 4",
+    b"monk 02",
+    b"monk 256",
+    b"monk x",
+];
 
 #[test]
 fn other_versions(rt: HostRuntime) -> Result<(), Fail> {

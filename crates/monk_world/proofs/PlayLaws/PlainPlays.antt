@@ -3,7 +3,7 @@ use Rattle.std.proofs.Common.{ℕ, refl, arith}
 use Rattle.monk_kinds.specs.declared.mode.Pick.{Pick}
 use Rattle.monk_kinds.specs.declared.mode.Pick.TheVariants as pick
 use Rattle.monk_history.proofs.PublicLaws.Texts.{AreWords, IsWord, IsWord-decimal, decimal_word, kind_is_word}
-use Rattle.monk_history.proofs.PublicLaws.Texts.{object_is_word}
+use Rattle.monk_history.proofs.PublicLaws.Texts.{none_newer, object_is_word}
 use Rattle.monk_world.specs.declared.command.Command.{Command}
 use Rattle.monk_world.specs.declared.command.Command.TheVariants.{Arrive, Look, Out, Peek, Drop, Grant, Act, Leave}
 use Rattle.monk_world.specs.declared.command.Command.TheVariants.{Wait, Signal, SignalLeave, Until, SignalAll, SignalWait}
@@ -39,7 +39,7 @@ pub head_are_words : (h : PlayHead) → HeadFits h → AreWords (head_words h)
 head_are_words h fits =
     let parts = fits.header_fits in
     rw (
-      decimal_word h.header.version (omega (arith, parts.version)),
+      decimal_word h.header.version (omega (arith, parts.still_named, none_newer h.header.object)),
       kind_is_word h.header.kind,
       decimal_word h.header.seats (omega (arith, parts.seats)),
       decimal_word h.header.conds (omega (arith, parts.conds)),

@@ -8,7 +8,7 @@ use Rattle.monk_history.specs.Text.{Heading, IsHeading, part_words}
 use Rattle.monk_history.specs.Text.Reading.{parts_at}
 use Rattle.monk_history.specs.Text.Words.{◌>>=◌, Word, Taken, number_at, with_rest, literal_at, end_at}
 use Rattle.monk_history.proofs.PublicLaws.Texts.{parts_take, parts_again, bind_ok, ok_is}
-use Rattle.monk_history.proofs.PublicLaws.Texts.{number_takes, number_again, literal_takes, end_takes}
+use Rattle.monk_history.proofs.PublicLaws.Texts.{none_newer, number_takes, number_again, literal_takes, end_takes}
 use Rattle.monk_world.specs.declared.play.head.PlayHead.{PlayHead}
 use Rattle.monk_history.specs.Limits.{least_budget, most_budget}
 use Rattle.monk_world.specs.Play.{play_words}
@@ -75,7 +75,7 @@ unfolding play_head_at
 head_again h fits =
     rw (
       number_again 255 h.header.version (part_words h.header ++ decimal h.budget ∷ []) (lit< tt)
-          (omega (arith, fits.header_fits.version)),
+          (omega (arith, fits.header_fits.still_named, none_newer h.header.object)),
       parts_again h.header.version h.header (decimal h.budget ∷ []) refl fits.header_fits,
       number_again most_budget h.budget [] (lit< tt) fits.budget_fits,
       head_whole h fits.some_budget,

@@ -22,7 +22,7 @@ pub const MOST_COMMANDS: u32 = MOST_LINES;
 ///
 /// Each line ends by one byte 10, and exactly one byte 32 separates the words of a line. The first line is
 /// `play VERSION KIND SEATS CONDS OBJECT SIZE BUDGET`: what stands in the header of a history of
-/// that version, 1 to 3, and a budget from [`monk_history::LEAST_BUDGET`] to
+/// that version, and a budget from [`monk_history::LEAST_BUDGET`] to
 /// [`monk_history::MOST_BUDGET`]. Each further line is a seat and an action, which is one of
 ///
 /// - `arrive`, `look`, `out`, `peek`, `drop`, `grant`;

@@ -18,6 +18,6 @@ pub(super) fn page_of_four(rt: &HostRuntime) -> Result<bool, Fail> {
     let Some(header) = Header::new(KindName::Pb, 2, 1, ObjectName::Buffer, 1) else {
         return Err(Fail::new("no header"));
     };
-    let page = page(rt.alloc(), &header, &WRONG_CHOICE, None, "choice")?;
+    let page = page(rt.alloc(), &header, &WRONG_CHOICE, None)?;
     Ok(page.as_str().ends_with("</html>\n"))
 }

@@ -4,6 +4,7 @@ use Rattle.monk_logs.specs.declared.runs.run_step.RunStep.{RunStep}
 use Rattle.monk_logs.specs.declared.text.line.LogLine.{LogLine}
 use Rattle.monk_commands.specs.RunDrawn.{wrong_line}
 use Rattle.monk_commands.specs.RunEvents.{run_events}
+use Rattle.monk_commands.proofs.MisfitReasons.{misfit_plain}
 use Rattle.monk_commands.proofs.RunDrawings.{events_few}
 use Rattle.monk_commands.proofs.run_drawing.answer_with.Goals as goal
 
@@ -17,4 +18,7 @@ picture_by-requires c =
     c.deref-3.ensures.value ∙ (c.in_ok-events.ensures
     ∙ ap₂ (λ (steps : List RunStep) (wrong : Option LogLine). run_events steps told.left wrong)
     c.deref.ensures.value c.wrong_line-wrong.ensures) in
-    record { few = subst (λ (es : List Event). length es ≤ 2 ^ 25) (sym same) few }
+    record {
+      few = subst (λ (es : List Event). length es ≤ 2 ^ 25) (sym same) few;
+      plain = rw (c.deref-5.ensures ∙ c.in_ok-reason.ensures.reason) (misfit_plain c.numbered.result);
+    }

@@ -3,5 +3,5 @@ use Rattle.monk_commands.proofs.running.audited.Goals as goal
 
 pub returns-in-Ok-Forbidden-clause-answer : goal.returns-in-Ok-Forbidden-clause-answer
 returns-in-Ok-Forbidden-clause-answer c =
-    absurd (never_forbidden _ _ _ _ ((rw c.deref.ensures.value at c.in-Ok-Forbidden.ensures.legal).1 c.requires.legal)
+    absurd (never_forbidden _ _ _ _ (c.in-Ok-Forbidden.ensures.legal.1 c.requires.legal)
     c.in-Ok-Forbidden.field-0-is)

@@ -1,14 +1,16 @@
 use Rattle.std.proofs.Common.{◌∙◌, ap, codes}
 use Rattle.std.proofs.lemmas.Result.{IfOk-weaker}
 use Rattle.clap.specs.Words.{App, with_subcommand}
-use Rattle.monk_commands.specs.Request.{complete_app, draw_app, explain_app, run_app, window_app}
+use Rattle.monk_commands.specs.Request.{complete_app, draw_app, explain_app, hasty_app, run_app, window_app}
 use Rattle.monk_commands.proofs.Programs.{made_and}
 use Rattle.monk_commands.proofs.words.command.Goals as goal
 
 pub returns : goal.returns
 returns c =
     IfOk-weaker c.adding.result _ _ (λ r h. (
-    let sixth = made_and c.adding-program-5.result _ _ c.adding-program-5.ensures h in
+    let seventh = made_and c.adding-program-6.result _ _ c.adding-program-6.ensures h in
+    let hasty = made_and c.hurrying.result _ _ c.hurrying.ensures seventh.then in
+    let sixth = made_and c.adding-program-5.result _ _ c.adding-program-5.ensures seventh.is in
     let recorded = made_and c.running-2.result _ _ c.running-2.ensures sixth.then in
     let fifth = made_and c.adding-program-4.result _ _ c.adding-program-4.ensures sixth.is in
     let run = made_and c.running.result _ _ c.running.ensures fifth.then in
@@ -30,6 +32,8 @@ returns c =
     ∙ ap (λ (a : App). with_subcommand a (complete_app complete.is.names).top) page_is in
     let run_is = run.is.is _ _ run.then
     ∙ ap (λ (a : App). with_subcommand a (run_app (codes "run") run.is.names).top) complete_is in
+    let recorded_is = recorded.is.is _ _ recorded.then
+    ∙ ap (λ (a : App). with_subcommand a (run_app (codes "record") recorded.is.names).top) run_is in
     record {
       fitted = plain.is.fitted;
       explained = explain.is.names;
@@ -37,6 +41,7 @@ returns c =
       completed = complete.is.names;
       run = run.is.names;
       recorded = recorded.is.names;
-      is = recorded.is.is _ _ recorded.then
-          ∙ ap (λ (a : App). with_subcommand a (run_app (codes "record") recorded.is.names).top) run_is;
+      hasty = hasty.is.names;
+      is = hasty.is.is _ _ hasty.then
+          ∙ ap (λ (a : App). with_subcommand a (hasty_app hasty.is.names).top) recorded_is;
     })) c.adding.ensures

@@ -1,8 +1,12 @@
-use Rattle.std.proofs.Common.{arith, ℕ, sym, subst}
+use Rattle.std.proofs.Common.{arith, ◌≡◌, ℕ, [], ◌∷◌, sym, ap, subst, ◌∙◌}
 use Rattle.atomic_table.specs.Table.{Allows}
-use Rattle.monk_hall.specs.Rule.{IsHall, setting_of}
-use Rattle.monk_hall.specs.Tells.{TellsGrant}
-use Rattle.monk_hall.proofs.GrantSteps.{calls_seat}
+use Rattle.monk_hall.specs.Changes.{record_after_grant}
+use Rattle.monk_hall.specs.Records.{the}
+use Rattle.monk_hall.specs.Rule.{setting_of}
+use Rattle.monk_hall.specs.Schedules.{IsReached}
+use Rattle.monk_hall.specs.Tells.{TellsCall}
+use Rattle.monk_hall.specs.declared.deed.Deed.TheVariants.{CallSeat}
+use Rattle.monk_hall.proofs.Reached.{calls_seat}
 use Rattle.monk_hall.proofs.granted.seat_grant.Goals as goal
 
 pub store-requires : goal.store-requires
@@ -14,11 +18,19 @@ store-requires g c =
       c.requires.table.0,
       (let e = c.seat_word-place.ensures in omega arith),
       subst (λ (p : ℕ). Allows
-          (IsHall g.K.Kind.rules g.T.Guarded.meaning
+          (IsReached g.K.Kind.rules g.T.Guarded.meaning
           (setting_of (g.T.Guarded.state key.opening.value) key.seats key.conds key.budget))
           c.args.words.now.table_id.slots c.args.seat.now.id c.args.seat.now.me p (λ _. c.args.calls)
-          (λ _. TellsGrant c.args.seat.now.me c.args.calls)) (sym c.seat_word-place.ensures)
+          (λ _. TellsCall c.args.seat.now.me c.args.calls)) (sym c.seat_word-place.ensures)
           (calls_seat g.K.Kind.rules g.T.Guarded.meaning
           (setting_of (g.T.Guarded.state key.opening.value) key.seats key.conds key.budget) g.K.Kind.is_kind _ _
           c.args.seat.now.me back.0 c.args.called c.args.calls back.1 back.2),
     )
+
+pub returns-clause-step : goal.returns-clause-step
+returns-clause-step g c =
+    let told = c.store.ensures.2 in
+    let due = c.requires.back.1 in
+    let same : told.0 ≡ c.args.called = omega arith in
+    told.2
+    ∙ ap (λ (n : ℕ). (record_after_grant (the c.args.seat.now.me.0) (CallSeat n) ∷ [], c.args.seat.now.me.1)) same

@@ -1,11 +1,14 @@
-use Rattle.std.proofs.Common.{arith, ℕ, ◌+◌, ◌%◌, ◌<◌, ◌≡◌, sym, ap, subst, ◌∙◌, mod-lt}
+use Rattle.std.proofs.Common.{arith, ℕ, ◌+◌, ◌%◌, ◌<◌, ◌≡◌, [], ◌∷◌, sym, ap, subst, ◌∙◌, mod-lt}
 use Rattle.atomic_table.specs.Table.{Allows}
 use Rattle.monk_world.specs.Places.{ticket}
+use Rattle.monk_hall.specs.Changes.{record_after_grant}
 use Rattle.monk_hall.specs.Layout.{place_word}
 use Rattle.monk_hall.specs.Records.{the}
-use Rattle.monk_hall.specs.Rule.{IsHall, setting_of}
-use Rattle.monk_hall.specs.Tells.{TellsGrant}
-use Rattle.monk_hall.proofs.GrantSteps.{grants_ticket}
+use Rattle.monk_hall.specs.Rule.{setting_of}
+use Rattle.monk_hall.specs.Schedules.{IsReached}
+use Rattle.monk_hall.specs.Tells.{TellsTicketGrant}
+use Rattle.monk_hall.specs.declared.deed.Deed.TheVariants.{GrantTicket}
+use Rattle.monk_hall.proofs.Reached.{grants_ticket}
 use Rattle.monk_hall.proofs.granted.ticket_grant.Goals as goal
 
 pub store-requires : goal.store-requires
@@ -23,17 +26,23 @@ store-requires g c =
       c.requires.table.0,
       (let e = c.ticket_word-place.ensures in omega arith),
       subst (λ (n : ℕ). Allows
-          (IsHall g.K.Kind.rules g.T.Guarded.meaning
+          (IsReached g.K.Kind.rules g.T.Guarded.meaning
           (setting_of (g.T.Guarded.state key.opening.value) key.seats key.conds key.budget))
           c.args.words.now.table_id.slots c.args.seat.now.id c.args.seat.now.me c.ticket_word-place.result (λ _. n)
-          (λ _. TellsGrant c.args.seat.now.me n)) next
+          (λ _. TellsTicketGrant c.args.seat.now.me n)) next
           (subst (λ (p : ℕ). Allows
-          (IsHall g.K.Kind.rules g.T.Guarded.meaning
+          (IsReached g.K.Kind.rules g.T.Guarded.meaning
           (setting_of (g.T.Guarded.state key.opening.value) key.seats key.conds key.budget))
           c.args.words.now.table_id.slots c.args.seat.now.id c.args.seat.now.me p
           (λ _. ticket (the c.args.seat.now.me.0).place + 1)
-          (λ _. TellsGrant c.args.seat.now.me (ticket (the c.args.seat.now.me.0).place + 1))) word
+          (λ _. TellsTicketGrant c.args.seat.now.me (ticket (the c.args.seat.now.me.0).place + 1))) word
           (grants_ticket g.K.Kind.rules g.T.Guarded.meaning
           (setting_of (g.T.Guarded.state key.opening.value) key.seats key.conds key.budget) g.K.Kind.is_kind _ _
           c.args.seat.now.me passing.0 passing.1)),
     )
+
+pub returns-clause-step : goal.returns-clause-step
+returns-clause-step g c =
+    c.store.ensures.2
+    ∙ ap (λ (n : ℕ). (record_after_grant (the c.args.seat.now.me.0) (GrantTicket n) ∷ [], c.args.seat.now.me.1))
+    (sym c.requires.passing.2)

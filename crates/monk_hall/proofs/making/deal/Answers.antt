@@ -1,8 +1,10 @@
-use Rattle.std.proofs.Common.{arith, ◌≡◌, ℕ, ◌+◌, ◌++◌, ◌∷◌, [], sym, ap, ◌∙◌}
+use Rattle.std.proofs.Common.{arith, ◌≡◌, ◌<◌, ℕ, ◌+◌, ◌++◌, ◌∷◌, [], refl, sym, ap, subst, ◌∙◌}
 use Rattle.monk_hall.specs.Records.{View, opening_record, opening_records, the, head, tail}
 use Rattle.monk_hall.specs.Rule.{setting_of}
 use Rattle.monk_hall.specs.Tokens.{tokens}
-use Rattle.monk_hall.proofs.Dealing.{fresh_next, deals_next, tokens_more}
+use Rattle.monk_hall.specs.declared.setting.Setting.{Setting}
+use Rattle.monk_hall.proofs.Dealing.{fresh_next, tokens_more}
+use Rattle.monk_hall.proofs.Reached.{deals_next}
 use Rattle.monk_hall.proofs.making.deal.Goals as goal
 
 pub split_seat-seat-requires : goal.split_seat-seat-requires
@@ -18,6 +20,16 @@ split_seat-seat-requires g c =
           (setting_of (g.T.Guarded.state c.args.words.now.key.opening.value) c.args.words.now.key.seats
           c.args.words.now.key.conds c.args.words.now.key.budget) _ c.loop-dealt.first.me.0 _ _ next,
     )
+
+pub fresh_pass-requires-clause-numbers : goal.fresh_pass-requires-clause-numbers
+fresh_pass-requires-clause-numbers g c κs within =
+    let setting : Setting = setting_of (g.T.Guarded.state c.args.words.now.key.opening.value) c.args.seats
+    c.args.words.now.key.conds c.args.budget in
+    let next = fresh_next setting c.loop-dealt.first.me.0 c.args.seats c.loop-dealt.dealt c.loop-dealt-test.true
+    c.loop-dealt.invariant.2 in
+    let mine = ap (λ m. m.0) c.split_seat-seat.ensures.4 ∙ ap head next in
+    subst (λ (y : Setting). (c.loop-dealt.dealt < y.seats) × (c.args.budget ≡ y.budget))
+    (sym (ap (λ (v : View). (the v).setting) mine)) (c.loop-dealt-test.true, refl)
 
 pub loop-dealt-preserved : goal.loop-dealt-preserved
 loop-dealt-preserved g c =

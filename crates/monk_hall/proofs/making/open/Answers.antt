@@ -1,13 +1,13 @@
-use Rattle.std.proofs.Common.{◌≡◌, ℕ, ◌+◌, ◌*◌, ◌++◌, ◌∷◌, [], List, Some, length, replicate, sym, ap, subst, ◌∙◌}
-use Rattle.std.proofs.lemmas.List.{length-replicate}
-use Rattle.std.specs.Prelude.{Option, slice_index}
+use Rattle.std.proofs.Common.{◌≡◌, ℕ, ◌+◌, ◌*◌, ◌++◌, ◌∷◌, [], List, Some, replicate, sym, ap, subst, ◌∙◌}
+use Rattle.std.specs.Prelude.{Option}
 use Rattle.atomic_table.specs.Table.{opening}
 use Rattle.monk_floor.specs.View.{FloorView}
 use Rattle.monk_hall.specs.Layout.{floor_of}
 use Rattle.monk_hall.specs.Records.{first_view}
-use Rattle.monk_hall.specs.Rule.{IsHall, setting_of}
+use Rattle.monk_hall.specs.Rule.{setting_of}
+use Rattle.monk_hall.specs.Schedules.{IsReached}
 use Rattle.monk_hall.specs.declared.setting.Setting.{Setting}
-use Rattle.monk_hall.proofs.Dealing.{opens, zero_words, some_seat}
+use Rattle.monk_hall.proofs.Reached.{opens}
 use Rattle.monk_hall.proofs.making.open.Goals as goal
 
 pub new-requires : goal.new-requires
@@ -20,9 +20,6 @@ new-requires g c =
     ∙ ap (λ (l : List (Option FloorView)). l ++ Some c.in_ok-make.field-0 ∷ []) c.new-slots.ensures.items in
     let home : c.push.new.self.items ≡ Some (floor_of setting []) ∷ [] = slots ∙ ap (λ (f : FloorView). Some f ∷ [])
     (c.in_ok-make.ensures ∙ c.requires.floor) in
-    subst (λ (l : List (Option FloorView)). IsHall g.K.Kind.rules g.T.Guarded.meaning setting
+    subst (λ (l : List (Option FloorView)). IsReached g.K.Kind.rules g.T.Guarded.meaning setting
     (opening words l (first_view setting))) (sym home)
-    (opens g.K.Kind.rules g.T.Guarded.meaning setting words c.requires.made
-    (some_seat c.args.setup.seats c.args.setup.conds c.args.setup.budget c.requires.made)
-    (ap length is ∙ length-replicate (2 * c.args.setup.seats + 1) 0)
-    (λ i. ap (λ (l : List ℕ). slice_index l i) is ∙ zero_words (2 * c.args.setup.seats + 1) i))
+    (opens g.K.Kind.rules g.T.Guarded.meaning setting words c.requires.made is)

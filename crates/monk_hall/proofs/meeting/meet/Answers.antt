@@ -1,11 +1,13 @@
-use Rattle.std.proofs.Common.{arith, ◌≡◌, suc, List, ◌∷◌, [], refl, sym, ap, subst, ◌∙◌}
+use Rattle.std.proofs.Common.{arith, ◌≡◌, List, ◌∷◌, ◌++◌, [], refl, sym, ap, subst, ◌∙◌}
 use Rattle.monk_hall.specs.Changes.{view_after_join, view_after_compare}
-use Rattle.monk_hall.specs.Records.{View, IsOne, IsTwo, the, head, tail}
+use Rattle.monk_hall.specs.Records.{View, IsOne, the, head, tail}
 use Rattle.monk_hall.specs.Rule.{setting_of}
 use Rattle.monk_hall.specs.Tells.{SeesTruly}
 use Rattle.monk_hall.specs.Tokens.{top}
+use Rattle.monk_hall.specs.declared.deed.Deed.TheVariants.{Meet}
 use Rattle.monk_hall.specs.declared.record.SeatRecord.{SeatRecord}
-use Rattle.monk_hall.proofs.MeetLaws.{meets, compares, parts_again, has_learned, met_rests}
+use Rattle.monk_hall.proofs.MeetLaws.{has_learned, met_rests}
+use Rattle.monk_hall.proofs.Reached.{IsTwo, meets, compares, parts_again}
 use Rattle.monk_hall.proofs.meeting.meet.Goals as goal
 
 pub join_seat-requires : goal.join_seat-requires
@@ -40,7 +42,8 @@ load-requires g c =
       c.join_seat.ensures.0 ∙ c.lift-first.ensures.0 ∙ ap (λ t. t.hall) c.a.view_is ∙ c.requires.0 ∙ at_hall,
       omega arith,
       compares g.K.Kind.rules g.T.Guarded.meaning
-          (setting_of (g.T.Guarded.state key.opening.value) key.seats key.conds key.budget) _ _ c.join_seat.new.seat.me
+          (setting_of (g.T.Guarded.state key.opening.value) key.seats key.conds key.budget) g.K.Kind.is_kind _ _
+          c.join_seat.new.seat.me
           (subst IsTwo (sym both) refl)
           (ap (λ (v : View). (the v).place) both ∙ ap (λ (v : View). (the v).place) va ∙ ia.2)
           (ap (λ (v : View). (the (tail v)).place) both ∙ ap (λ (v : View). (the v).place) vb ∙ ib.2),
@@ -68,8 +71,8 @@ invariant_of-a g c =
     let va = ap (λ m. m.0) c.lift-first.ensures.1 in
     let loaded : c.load.new.seat.me.0 ≡ view_after_compare m = ap (λ m. m.0) c.load.ensures.2.0 in
     let from_a : the m ≡ record (the (top c.a.inside.badge.views))
-    { steps = suc (the (top c.a.inside.badge.views)).steps } = ap the both
-    ∙ ap (λ (v : View). record (the v) { steps = suc (the v).steps }) va in
+    { did = (the (top c.a.inside.badge.views)).did ++ Meet ∷ [] } = ap the both
+    ∙ ap (λ (v : View). record (the v) { did = (the v).did ++ Meet ∷ [] }) va in
     met_rests g.K.Kind.rules g.T.Guarded.meaning c.into_badge.result.table_id c.a.inside.badge.table_id
     (top c.a.inside.badge.views) c.a.inside.numbers c.a.inside.left
     (the (view_after_compare m))

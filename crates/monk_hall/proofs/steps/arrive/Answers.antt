@@ -1,6 +1,6 @@
 use Rattle.std.proofs.Common.{arith}
 use Rattle.monk_hall.specs.Rule.{setting_of}
-use Rattle.monk_hall.proofs.WordSteps.{arrives}
+use Rattle.monk_hall.proofs.Reached.{arrives}
 use Rattle.monk_hall.proofs.steps.arrive.Goals as goal
 
 pub fetch_add-requires : goal.fetch_add-requires

@@ -4,7 +4,7 @@ use Rattle.monk_world.specs.Places.{stage}
 use Rattle.monk_hall.specs.Records.{IsOne, the}
 use Rattle.monk_hall.specs.Rule.{setting_of}
 use Rattle.monk_hall.specs.Tells.{Returns}
-use Rattle.monk_hall.proofs.FloorIn.{gives_floor}
+use Rattle.monk_hall.proofs.Reached.{gives_floor}
 use Rattle.monk_hall.proofs.steps.floor_in.Goals as goal
 
 pub load-requires : goal.load-requires

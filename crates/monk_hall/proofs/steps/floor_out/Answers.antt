@@ -1,8 +1,9 @@
 use Rattle.std.proofs.Common.{arith, ℕ, sym, subst, ap, ◌∙◌, Some, ◌∷◌}
 use Rattle.atomic_table.specs.Table.{rest, Allows}
-use Rattle.monk_hall.specs.Rule.{IsHall, setting_of}
+use Rattle.monk_hall.specs.Rule.{setting_of}
+use Rattle.monk_hall.specs.Schedules.{IsReached}
 use Rattle.monk_hall.specs.Tells.{TellsFloorOut}
-use Rattle.monk_hall.proofs.FloorOut.{takes_floor}
+use Rattle.monk_hall.proofs.Reached.{takes_floor}
 use Rattle.monk_hall.proofs.steps.floor_out.Goals as goal
 
 pub load-requires : goal.load-requires
@@ -13,7 +14,7 @@ load-requires g c =
       c.requires.table.0,
       omega arith,
       subst (λ (z : ℕ). Allows
-          (IsHall g.K.Kind.rules g.T.Guarded.meaning
+          (IsReached g.K.Kind.rules g.T.Guarded.meaning
           (setting_of (g.T.Guarded.state key.opening.value) key.seats key.conds key.budget)) z c.args.seat.now.id
           c.args.seat.now.me 0 (λ n. n) (TellsFloorOut g.K.Kind.rules g.T.Guarded.meaning c.args.seat.now.me))
           (sym c.requires.table.1.1)

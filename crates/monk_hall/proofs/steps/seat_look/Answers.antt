@@ -2,9 +2,10 @@ use Rattle.std.proofs.Common.{arith, ℕ, ◌≡◌, sym, ap, subst, ◌∙◌}
 use Rattle.atomic_table.specs.Table.{Allows}
 use Rattle.monk_hall.specs.Layout.{seat_word}
 use Rattle.monk_hall.specs.Records.{the}
-use Rattle.monk_hall.specs.Rule.{IsHall, setting_of}
+use Rattle.monk_hall.specs.Rule.{setting_of}
+use Rattle.monk_hall.specs.Schedules.{IsReached}
 use Rattle.monk_hall.specs.Tells.{TellsSeatLook}
-use Rattle.monk_hall.proofs.WordSteps.{looks_for_call}
+use Rattle.monk_hall.proofs.Reached.{looks_for_call}
 use Rattle.monk_hall.proofs.steps.seat_look.Goals as goal
 
 pub load-requires : goal.load-requires
@@ -18,7 +19,7 @@ load-requires g c =
       c.requires.table.0,
       (let e = c.seat_word-place.ensures in omega arith),
       subst (λ (p : ℕ). Allows
-          (IsHall g.K.Kind.rules g.T.Guarded.meaning
+          (IsReached g.K.Kind.rules g.T.Guarded.meaning
           (setting_of (g.T.Guarded.state key.opening.value) key.seats key.conds key.budget))
           c.args.words.now.table_id.slots c.args.seat.now.id c.args.seat.now.me p (λ n. n)
           (TellsSeatLook c.args.seat.now.me)) word

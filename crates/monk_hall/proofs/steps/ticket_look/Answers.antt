@@ -3,9 +3,10 @@ use Rattle.atomic_table.specs.Table.{Allows}
 use Rattle.monk_world.specs.Places.{ticket}
 use Rattle.monk_hall.specs.Layout.{place_word}
 use Rattle.monk_hall.specs.Records.{the}
-use Rattle.monk_hall.specs.Rule.{IsHall, setting_of}
+use Rattle.monk_hall.specs.Rule.{setting_of}
+use Rattle.monk_hall.specs.Schedules.{IsReached}
 use Rattle.monk_hall.specs.Tells.{TellsTicketLook}
-use Rattle.monk_hall.proofs.WordSteps.{looks_for_ticket}
+use Rattle.monk_hall.proofs.Reached.{looks_for_ticket}
 use Rattle.monk_hall.proofs.steps.ticket_look.Goals as goal
 
 pub load-requires : goal.load-requires
@@ -21,7 +22,7 @@ load-requires g c =
       c.requires.table.0,
       (let e = c.ticket_word-place.ensures in omega arith),
       subst (λ (p : ℕ). Allows
-          (IsHall g.K.Kind.rules g.T.Guarded.meaning
+          (IsReached g.K.Kind.rules g.T.Guarded.meaning
           (setting_of (g.T.Guarded.state key.opening.value) key.seats key.conds key.budget))
           c.args.words.now.table_id.slots c.args.seat.now.id c.args.seat.now.me p (λ n. n)
           (TellsTicketLook c.args.seat.now.me)) word

@@ -4,7 +4,8 @@ use Rattle.monk_draw.specs.Window.{last_of, not_shown, shown_last}
 use Rattle.monk_draw.specs.declared.window.Window.{Window}
 use Rattle.monk_history.specs.Text.{Heading}
 use Rattle.monk_history.specs.declared.event.Event.{Event}
-use Rattle.monk_tell.specs.Told.{Account}
+use Rattle.monk_audit.specs.Words.{caption_by}
+use Rattle.monk_tell.specs.Told.{Account, account}
 use Rattle.serde_json.specs.Data.{Data}
 use Rattle.serde_json.specs.Read.{read}
 use Rattle.serde_json.specs.Written.{compact_text}
@@ -23,10 +24,11 @@ span_data h es w fault before last known shown hidden =
 
 page_is_text : (h : Heading) (es : List Event) (w : Option Window) (reason : List ℕ) (fault : Option ℕ)
     (json : Data) (drawn written bytes : List ℕ)
-    → fault ≡ forbidden_step h es → json ≡ window_json h es w → drawn ≡ picture h es w fault reason
-    → written ≡ compact_text json → bytes ≡ page_around drawn written → bytes ≡ page_text h es w reason
-page_is_text h es w reason fault json drawn written bytes known is draws says joins =
-    joins ∙ ap₂ page_around (draws ∙ ap (λ (f : Option ℕ). picture h es w f reason) known) (says ∙ ap compact_text is)
+    → fault ≡ forbidden_step h es → reason ≡ caption_by (account h es).verdict → json ≡ window_json h es w
+    → drawn ≡ picture h es w fault reason
+    → written ≡ compact_text json → bytes ≡ page_around drawn written → bytes ≡ page_text h es w
+page_is_text h es w reason fault json drawn written bytes known why is draws says joins =
+    joins ∙ ap₂ page_around (draws ∙ ap₂ (picture h es w) known why) (says ∙ ap compact_text is)
 
 read_as : (d e : Data) → d ≡ e → read (compact_text d) ≡ Some d → read (compact_text e) ≡ Some e
 read_as d e is reads = ap (λ (x : Data). read (compact_text x)) (sym is) ∙ (reads ∙ ap Some is)
@@ -38,8 +40,9 @@ returns-clause-text c =
     let span = c.of-span.result in
     let known = c.forbidden_step-forbidden.ensures
     ∙ ap (λ (a : Account). option_map (λ b. b.step) a.blame) c.requires.told in
-    page_is_text h es c.args.window c.args.reason.now c.forbidden_step-forbidden.result
-    (page_json h es span.before span.last) c.as_str.result.now c.as_str-2.result.now _ known
+    let why = c.caption-reason.ensures ∙ ap (λ (a : Account). caption_by a.verdict) c.requires.told in
+    page_is_text h es c.args.window c.caption-reason.result.now c.forbidden_step-forbidden.result
+    (page_json h es span.before span.last) c.as_str.result.now c.as_str-2.result.now _ known why
     (span_data h es c.args.window c.forbidden_step-forbidden.result span.before span.last known
     (c.of-span.ensures.last ∙ ap (shown_last c.args.window) c.showable.ensures.value) c.of-span.ensures.before)
     (c.as_str.ensures.value ∙ c.in_ok-picture.ensures.picture)

@@ -20,7 +20,7 @@ loop-shift-init g c =
       [],
       ap (λ xs. map (λ s. s.promise.pass.value) xs) (sym e),
       subst (λ (qs : List Token). HaveJoined g.K.Kind.rules g.T.Guarded.meaning
-          (g.G.Gate.answers c.args.gate.now) c.args.rota.sample
+          (g.G.Gate.answers c.args.gate.now) c.args.rota.scenario
           c.args.rota.seats c.args.rota.rounds c.args.hall.now [] qs None) (sym c.in_ok-passes.ensures.items) tt,
       same_all (into_iter_items c.into_iter-shift-iterator.result) (vec_items c.args.crew)
           (λ s. (s.promise.hall.value ≡ c.args.hall.now) × (s.promise.gate.value ≡ c.args.gate.now)
@@ -40,27 +40,27 @@ loop-shift-preserved g c =
     let kept = c.in-Some-join.ensures in
     let of : IsOf c.args.hall.now c.in-Some-join.pass =
     subst (λ (h : House). IsOf h c.in-Some-join.pass) from.0 kept.0 in
-    let here = subst (λ gate. HasServed g.K.Kind.rules g.T.Guarded.meaning (g.G.Gate.answers gate) p.rota.value.sample
+    let here = subst (λ gate. HasServed g.K.Kind.rules g.T.Guarded.meaning (g.G.Gate.answers gate) p.rota.value.scenario
     p.rota.value.seats p.rota.value.rounds p.pass.value c.in-Some-join.pass c.in-Some-join.end) from.1 kept.1 in
     let served =
-    subst (λ (r : Rota). HasServed g.K.Kind.rules g.T.Guarded.meaning (g.G.Gate.answers c.args.gate.now) r.sample
+    subst (λ (r : Rota). HasServed g.K.Kind.rules g.T.Guarded.meaning (g.G.Gate.answers c.args.gate.now) r.scenario
     r.seats r.rounds p.pass.value c.in-Some-join.pass c.in-Some-join.end) from.2 here in
     let joined =
     joined_then g.K.Kind.rules g.T.Guarded.meaning
-    (g.G.Gate.answers c.args.gate.now) c.args.rota.sample c.args.rota.seats
+    (g.G.Gate.answers c.args.gate.now) c.args.rota.scenario c.args.rota.seats
     c.args.rota.rounds c.args.hall.now inv.0
     (vec_items c.loop-shift.passes) p.pass.value c.in-Some-join.pass c.in-Some-join.end
     c.loop-shift.fault inv.2 of served in
     let told =
     subst (λ (qs : List Token). HaveJoined g.K.Kind.rules g.T.Guarded.meaning (g.G.Gate.answers c.args.gate.now)
-    c.args.rota.sample c.args.rota.seats c.args.rota.rounds c.args.hall.now (inv.0 ++ p.pass.value ∷ []) qs
+    c.args.rota.scenario c.args.rota.seats c.args.rota.rounds c.args.hall.now (inv.0 ++ p.pass.value ∷ []) qs
     (fault_after c.loop-shift.fault c.in-Some-join.end)) (sym c.in_ok-push.ensures.items) joined in (
       inv.0 ++ p.pass.value ∷ [],
       inv.1 ∙ ap (λ xs. inv.0 ++ map (λ s. s.promise.pass.value) xs) steps
           ∙ sym (append_assoc inv.0 (p.pass.value ∷ []) _),
       subst (λ (fault : Option CrewFault). HaveJoined g.K.Kind.rules g.T.Guarded.meaning
           (g.G.Gate.answers c.args.gate.now)
-          c.args.rota.sample c.args.rota.seats c.args.rota.rounds c.args.hall.now (inv.0 ++ p.pass.value ∷ [])
+          c.args.rota.scenario c.args.rota.seats c.args.rota.rounds c.args.hall.now (inv.0 ++ p.pass.value ∷ [])
           (vec_items c.push.new.self) fault)
           (sym c.fault_after-fault.ensures) told,
       rest_of (into_iter_items c.next.new.self) (into_iter_items c.loop-shift.shift-iterator) c.in-Some.shift
@@ -76,11 +76,11 @@ returns-in-None-fault-clause-served g c =
     (sym c.loop-shift.shift-iterator.rest.ok.0 ∙ c.in-None.ensures.steps.0) in
     let done = inv.1 ∙ ap (λ xs. inv.0 ++ map (λ s. s.promise.pass.value) xs) rest ∙ append-nil inv.0 in
     subst (λ (ps : List Token). HaveServed g.K.Kind.rules g.T.Guarded.meaning
-    (g.G.Gate.answers c.args.gate.now) c.args.rota.sample
+    (g.G.Gate.answers c.args.gate.now) c.args.rota.scenario
     c.args.rota.seats c.args.rota.rounds c.args.hall.now ps (vec_items c.loop-shift.passes)) (sym done)
     (subst (λ (fault : Option CrewFault). HaveJoined g.K.Kind.rules g.T.Guarded.meaning
-    (g.G.Gate.answers c.args.gate.now)
-    c.args.rota.sample c.args.rota.seats c.args.rota.rounds c.args.hall.now inv.0 (vec_items c.loop-shift.passes) fault)
+    (g.G.Gate.answers c.args.gate.now) c.args.rota.scenario c.args.rota.seats c.args.rota.rounds c.args.hall.now inv.0
+    (vec_items c.loop-shift.passes) fault)
     c.in-None-fault.is inv.2)
 
 pub returns-in-None-fault-clause-fault : goal.returns-in-None-fault-clause-fault
@@ -93,22 +93,22 @@ returns-in-Some-fault-clause-fault g c =
     (sym c.loop-shift.shift-iterator.rest.ok.0 ∙ c.in-None.ensures.steps.0) in
     let done = inv.1 ∙ ap (λ xs. inv.0 ++ map (λ s. s.promise.pass.value) xs) rest ∙ append-nil inv.0 in
     subst (λ (ps : List Token). IsFaultOfCrew g.K.Kind.rules g.T.Guarded.meaning
-    (g.G.Gate.answers c.args.gate.now) c.args.rota.sample
+    (g.G.Gate.answers c.args.gate.now) c.args.rota.scenario
     c.args.rota.seats c.args.rota.rounds ps c.in-Some-fault.fault) (sym done)
     (subst (λ (fault : Option CrewFault). HaveJoined g.K.Kind.rules g.T.Guarded.meaning
-    (g.G.Gate.answers c.args.gate.now)
-    c.args.rota.sample c.args.rota.seats c.args.rota.rounds c.args.hall.now inv.0 (vec_items c.loop-shift.passes) fault)
+    (g.G.Gate.answers c.args.gate.now) c.args.rota.scenario c.args.rota.seats c.args.rota.rounds c.args.hall.now inv.0
+    (vec_items c.loop-shift.passes) fault)
     c.in-Some-fault.is inv.2)
 
 pub returns-in_err-push-clause-fault : goal.returns-in_err-push-clause-fault
 returns-in_err-push-clause-fault g c =
     if_err c.from_residual-in_err-push.result _ _ c.from_residual-in_err-push.ensures
     (wants_memory g.K.Kind.rules g.T.Guarded.meaning
-    (g.G.Gate.answers c.args.gate.now) c.args.rota.sample c.args.rota.seats c.args.rota.rounds
+    (g.G.Gate.answers c.args.gate.now) c.args.rota.scenario c.args.rota.seats c.args.rota.rounds
     (map (λ s. s.promise.pass.value) c.args.crew.items))
 
 pub returns-in_err-passes-clause-fault : goal.returns-in_err-passes-clause-fault
 returns-in_err-passes-clause-fault g c =
     if_err c.from_residual.result _ _ c.from_residual.ensures (wants_memory g.K.Kind.rules g.T.Guarded.meaning
-    (g.G.Gate.answers c.args.gate.now) c.args.rota.sample c.args.rota.seats c.args.rota.rounds
+    (g.G.Gate.answers c.args.gate.now) c.args.rota.scenario c.args.rota.seats c.args.rota.rounds
     (map (λ s. s.promise.pass.value) c.args.crew.items))

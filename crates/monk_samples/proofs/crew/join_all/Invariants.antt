@@ -10,7 +10,7 @@ invariant-loop-shift g l = (done : List Token)
     × (map (λ s. s.promise.pass.value) (vec_items l.fn.crew) ≡ done
     ++ map (λ s. s.promise.pass.value) (into_iter_items l.shift-iterator))
     × HaveJoined g.K.Kind.rules g.T.Guarded.meaning
-    (g.G.Gate.answers l.gate) l.fn.rota.sample l.fn.rota.seats l.fn.rota.rounds l.hall
+    (g.G.Gate.answers l.gate) l.fn.rota.scenario l.fn.rota.seats l.fn.rota.rounds l.hall
     done (vec_items l.passes) l.fault
     × All (λ s. (s.promise.hall.value ≡ l.hall) × (s.promise.gate.value ≡ l.gate) × (s.promise.rota.value ≡ l.fn.rota))
     (into_iter_items l.shift-iterator)

@@ -4,8 +4,8 @@ use Rattle.monk_history.specs.Meaning.Monitor.{data_of}
 use Rattle.monk_floor.specs.View.{monitor_of}
 use Rattle.monk_samples.specs.Trails.{outside}
 use Rattle.monk_samples.specs.Visits.{hasty_guard}
-use Rattle.monk_samples.proofs.HasteLaws.{acted_ok, paused_since, tired_since}
-use Rattle.monk_samples.proofs.VisitLaws.{acted_after, stayed_out, tired_inside, unready}
+use Rattle.monk_samples.proofs.HasteLaws.{acted_ok, looked_since, tired_since}
+use Rattle.monk_samples.proofs.VisitLaws.{acted_looked, stayed_out, tired_inside, unready}
 use Rattle.monk_samples.proofs.haste.act_in_haste.Goals as goal
 
 pub returns-in-Err-clause-acted : goal.returns-in-Err-clause-acted
@@ -18,10 +18,11 @@ returns-in-Ok-pause_once-clause-acted g c =
     let k = g.K.Kind.rules in let o = g.T.Guarded.meaning in let p = c.args.pass in
     let w = Some (hasty_guard c.args.cond c.args.pred) in
     let b = c.in-Ok-pause_once.active in
-    let s = paused_since k o (outside p) w c.in-Ok.active b c.in-Ok.ensures.came c.in-Ok-pause_once.ensures.paused in
+    let s = looked_since k o (outside p) c.args.cond c.args.pred c.in-Ok.active b c.in-Ok.ensures.came
+    c.in-Ok-pause_once.ensures.paused in
     MatchResult-weaker c.act.result c.act.ensures.acted
-    (λ r h. acted_after k o (outside p) w c.args.op r.1 b r.0 s h.0)
-    (λ q t. unready k o (outside p) w q (tired_inside k o (outside p) w b q s t))
+    (λ r h. acted_looked k o (outside p) c.args.cond c.args.pred c.args.op r.1 b r.0 c.requires.promise s h.0 h.1)
+    (λ q t. unready k o (outside p) w q (tired_inside k o (outside p) w b q s.paused t))
 
 pub returns-in-Err-pause_once-clause-acted : goal.returns-in-Err-pause_once-clause-acted
 returns-in-Err-pause_once-clause-acted g c =

@@ -2,17 +2,18 @@ use Rattle.std.proofs.Common.{◌≡◌, false, Some}
 use Rattle.std.proofs.lemmas.Result.{MatchResult-weaker}
 use Rattle.monk_history.specs.Meaning.Monitor.{data_of}
 use Rattle.monk_floor.specs.View.{monitor_of}
+use Rattle.monk_samples.specs.Styles.{Holds}
 use Rattle.monk_samples.specs.Trails.{inside}
 use Rattle.monk_samples.specs.Visits.{hasty_guard}
 use Rattle.monk_samples.proofs.ShortLaws.{still_pauses}
 use Rattle.monk_samples.proofs.TrailLaws.{called_none}
-use Rattle.monk_samples.proofs.VisitLaws.{left_after, paused_first, paused_none}
+use Rattle.monk_samples.proofs.VisitLaws.{left_after, looked_first, looked_none, paused_none}
 use Rattle.monk_samples.proofs.haste.pause_once.Goals as goal
 
 pub returns-then-holds-clause-paused : goal.returns-then-holds-clause-paused
 returns-then-holds-clause-paused g c = let a = c.args.active in
-    paused_none g.K.Kind.rules g.T.Guarded.meaning (inside a) (Some (hasty_guard c.args.cond c.args.pred)) a
-    (called_none (inside a))
+    let held : Holds g.K.Kind.rules g.T.Guarded.meaning c.args.pred a = cc in
+    looked_none g.K.Kind.rules g.T.Guarded.meaning (inside a) c.args.cond c.args.pred a (called_none (inside a)) held
 
 pub returns-clause-paused : goal.returns-clause-paused
 returns-clause-paused g c =
@@ -20,6 +21,6 @@ returns-clause-paused g c =
     let w = hasty_guard c.args.cond c.args.pred in
     let not_yet : o.holds (data_of (monitor_of k o a.floor) a.floor.history) c.args.pred ≡ false = cc in
     MatchResult-weaker c.pause_by.result c.pause_by.ensures.paused
-    (λ b h. paused_first k o w a b h not_yet)
+    (λ b h. looked_first k o c.args.cond c.args.pred a b h not_yet)
     (λ q t. left_after k o (inside a) (Some w) a q (paused_none k o (inside a) (Some w) a (called_none (inside a))) 3 t
     (still_pauses k o a w t.floor not_yet))

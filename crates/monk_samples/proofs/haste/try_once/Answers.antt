@@ -3,7 +3,7 @@ use Rattle.monk_kinds.specs.declared.mode.Pick.TheVariants.{Entry}
 use Rattle.monk_history.specs.declared.event.Event.TheVariants.{Leave}
 use Rattle.monk_history.specs.declared.event.Next.TheVariants.{Stay}
 use Rattle.monk_samples.specs.Trails.{outside}
-use Rattle.monk_samples.specs.Visits.{HasActed, always, hastily}
+use Rattle.monk_samples.specs.Visits.{HasActedInHaste, always, hastily}
 use Rattle.monk_samples.proofs.HasteLaws.{missed_once, signalled}
 use Rattle.monk_samples.proofs.TrailLaws.{released}
 use Rattle.monk_samples.proofs.VisitLaws.{tried_in}
@@ -16,13 +16,14 @@ pub returns-then-reply-eq0-clause-tried : goal.returns-then-reply-eq0-clause-tri
 returns-then-reply-eq0-clause-tried g c =
     let k = g.K.Kind.rules in let o = g.T.Guarded.meaning in let p = c.args.pass in let a = c.in-Ok.acted.0 in
     let v = hastily c.args.cond c.args.pred c.args.op (always c.args.next) in
-    missed_once k o p v a c.leave.result
-    (subst (λ (n : ℕ). HasActed k o (outside p) v.guard v.op n a) c.if-reply-eq0.true c.in-Ok.ensures.acted)
+    let s = subst (λ (n : ℕ). HasActedInHaste k o (outside p) c.args.cond c.args.pred c.args.op n a)
+    c.if-reply-eq0.true c.in-Ok.ensures.acted in
+    missed_once k o p v a c.leave.result s.acted (λ none. (let some = s.done none in absurd (omega arith)))
     (released k o Entry a (Leave a.me.seat Stay) _ _ c.leave.result (λ x. (refl, refl, refl)) c.leave.ensures)
     (signalled k c.in-Ok.acted.1 c.if-reply-eq0.true c.in-Ok.ensures.done)
 
 pub returns-clause-tried : goal.returns-clause-tried
 returns-clause-tried g c = tried_in g.K.Kind.rules g.T.Guarded.meaning c.args.pass
     (hastily c.args.cond c.args.pred c.args.op (always c.args.next)) c.in-Ok.acted.1 c.in-Ok.acted.0
-    c.finish_by.result.0 c.finish_by.result.1 c.in-Ok.ensures.acted
+    c.finish_by.result.0 c.finish_by.result.1 c.in-Ok.ensures.acted.acted
     (some c.in-Ok.acted.1 c.if-reply-eq0.false) c.finish_by.ensures

@@ -5,18 +5,19 @@ use Rattle.monk_samples.proofs.running.outcome.Goals as goal
 
 pub totals_of-totals-requires-clause-law : goal.totals_of-totals-requires-clause-law
 totals_of-totals-requires-clause-law g c =
-    law_here g.K.Kind.rules c.args.rota.sample c.args.rota.seats c.args.rota.rounds c.args.history.items
+    law_here g.K.Kind.rules c.args.rota.scenario c.args.rota.seats c.args.rota.rounds c.args.history.items
     c.deref.result.now c.deref.ensures.value c.requires
 
 pub returns-clause-totals : goal.returns-clause-totals
 returns-clause-totals g c =
-    subst (HasTotals c.args.rota.sample c.args.rota.seats c.args.rota.rounds)
-    (sym (c.totals_of-totals.ensures ∙ ap (totals_of c.args.rota.sample) c.deref.ensures.value)) c.requires.totals
+    subst (HasTotals c.args.rota.scenario.sample c.args.rota.seats c.args.rota.rounds)
+    (sym (c.totals_of-totals.ensures ∙ ap (totals_of c.args.rota.scenario.sample) c.deref.ensures.value))
+    c.requires.totals
 
 pub returns-clause-outcome : goal.returns-clause-outcome
 returns-clause-outcome g c =
-    outcome_of g.K.Kind.rules g.K.Kind.NAME c.args.rota.sample c.args.rota.seats c.args.rota.rounds c.header_of.result
+    outcome_of g.K.Kind.rules g.K.Kind.NAME c.args.rota.scenario c.args.rota.seats c.args.rota.rounds c.header_of.result
     c.args.history.items c.totals_of-totals.result c.args.rota.seats_in_range.1 c.args.rota.rounds_in_range.1
     g.K.Kind.are_named
     c.requires c.header_of.ensures
-    (c.totals_of-totals.ensures ∙ ap (totals_of c.args.rota.sample) c.deref.ensures.value)
+    (c.totals_of-totals.ensures ∙ ap (totals_of c.args.rota.scenario.sample) c.deref.ensures.value)

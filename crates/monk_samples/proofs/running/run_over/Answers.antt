@@ -1,4 +1,4 @@
-use Rattle.std.proofs.Common.{ap, sym, subst, ◌∙◌, ◌<◌, ◌≤◌, List, ℕ, length}
+use Rattle.std.proofs.Common.{ap, sym, subst, ◌∙◌, ◌<◌, ◌≤◌, List, ℕ, length, arith}
 use Rattle.monk_object.specs.Object.{Object}
 use Rattle.monk_hall.specs.Rule.{setting_of}
 use Rattle.monk_hall.specs.Tokens.{Token}
@@ -8,17 +8,19 @@ use Rattle.monk_samples.specs.Ends.{HaveServed}
 use Rattle.monk_samples.specs.Samples.{conds_of, budget_of}
 use Rattle.monk_samples.proofs.MeetLaws.{seats_differ}
 use Rattle.monk_samples.proofs.RunEndLaws.{some_pass, back_of, some_back, has_closed, close_fault}
-use Rattle.monk_samples.proofs.RunLaws.{if_fault, if_three}
+use Rattle.monk_samples.specs.Wholes.{IsFaultOfClosing}
+use Rattle.monk_samples.proofs.HistoryLaws.{left_history}
+use Rattle.monk_samples.proofs.RunLaws.{if_fault, if_four}
 use Rattle.monk_samples.proofs.running.run_over.Goals as goal
 
 pub close_by-requires-clause-of : goal.close_by-requires-clause-of
 close_by-requires-clause-of g c κs within =
     let served =
     subst (λ (o : Object). HaveServed g.K.Kind.rules o
-    (g.G.Gate.answers c.args.gate.now) c.args.rota.sample c.args.rota.seats
+    (g.G.Gate.answers c.args.gate.now) c.args.rota.scenario c.args.rota.seats
     c.args.rota.rounds c.in_ok-hall.hall c.in_ok-hall.passes.items c.in_ok-passes.passes.items) c.requires.object
     c.in_ok-passes.ensures.served in
-    back_of g.K.Kind.rules (g.G.Gate.answers c.args.gate.now) c.args.rota.sample c.args.rota.seats
+    back_of g.K.Kind.rules (g.G.Gate.answers c.args.gate.now) c.args.rota.scenario c.args.rota.seats
     c.args.rota.rounds
     c.in_ok-hall.hall c.in_ok-hall.passes.items c.in_ok-passes.passes.items served
 
@@ -26,7 +28,7 @@ pub close_by-requires-clause-some : goal.close_by-requires-clause-some
 close_by-requires-clause-some g c κs within =
     let served =
     subst (λ (o : Object). HaveServed g.K.Kind.rules o
-    (g.G.Gate.answers c.args.gate.now) c.args.rota.sample c.args.rota.seats
+    (g.G.Gate.answers c.args.gate.now) c.args.rota.scenario c.args.rota.seats
     c.args.rota.rounds c.in_ok-hall.hall c.in_ok-hall.passes.items c.in_ok-passes.passes.items) c.requires.object
     c.in_ok-passes.ensures.served in
     let seats : 2 ≤ c.in_ok-hall.hall.setting.seats =
@@ -35,53 +37,56 @@ close_by-requires-clause-some g c κs within =
     let some : 0 < length c.in_ok-hall.passes.items =
     subst (λ (ps : List Token). 0 < length ps) (sym c.in_ok-hall.ensures.passes)
     (some_pass c.in_ok-hall.hall.id c.in_ok-hall.hall.setting seats) in
-    some_back g.K.Kind.rules (g.G.Gate.answers c.args.gate.now) c.args.rota.sample c.args.rota.seats
+    some_back g.K.Kind.rules (g.G.Gate.answers c.args.gate.now) c.args.rota.scenario c.args.rota.seats
     c.args.rota.rounds
     c.in_ok-hall.hall c.in_ok-hall.passes.items c.in_ok-passes.passes.items served some
 
 pub close_by-requires-clause-apart : goal.close_by-requires-clause-apart
 close_by-requires-clause-apart g c κs within =
-    seats_differ g.K.Kind.rules g.T.Guarded.meaning (g.G.Gate.answers c.args.gate.now) c.args.rota.sample
+    seats_differ g.K.Kind.rules g.T.Guarded.meaning (g.G.Gate.answers c.args.gate.now) c.args.rota.scenario
     c.args.rota.seats c.args.rota.rounds
     c.in_ok-hall.hall c.in_ok-hall.hall.id c.in_ok-hall.hall.setting c.in_ok-hall.hall.setting.seats 0
     c.in_ok-passes.passes.items
     (subst (λ (ps : List Token). HaveServed g.K.Kind.rules g.T.Guarded.meaning
-    (g.G.Gate.answers c.args.gate.now) c.args.rota.sample c.args.rota.seats
+    (g.G.Gate.answers c.args.gate.now) c.args.rota.scenario c.args.rota.seats
     c.args.rota.rounds c.in_ok-hall.hall ps c.in_ok-passes.passes.items) c.in_ok-hall.ensures.passes
     c.in_ok-passes.ensures.served)
 
-pub returns-clause-closed : goal.returns-clause-closed
-returns-clause-closed g c =
+pub returns-clause-left : goal.returns-clause-left
+returns-clause-left g c =
     let served =
     subst (λ (o : Object). HaveServed g.K.Kind.rules o
-    (g.G.Gate.answers c.args.gate.now) c.args.rota.sample c.args.rota.seats
+    (g.G.Gate.answers c.args.gate.now) c.args.rota.scenario c.args.rota.seats
     c.args.rota.rounds c.in_ok-hall.hall c.in_ok-hall.passes.items c.in_ok-passes.passes.items) c.requires.object
     c.in_ok-passes.ensures.served in
     let setting = c.in_ok-hall.ensures.setting
     ∙ ap (λ (state : List ℕ). setting_of state c.args.rota.seats (conds_of g.K.Kind.rules)
     (budget_of c.args.rota.seats c.args.rota.rounds)) c.requires.opening in
-    if_three c.close_by.result _ _ _ _
-    (λ v closed whole left. has_closed g.K.Kind.rules (g.G.Gate.answers c.args.gate.now) c.args.rota.sample
-    c.args.rota.seats
-    c.args.rota.rounds
+    let some : 1 ≤ c.args.rota.seats = omega (arith, c.args.rota.seats_in_range.0) in
+    if_four c.close_by.result _ _ _ _ _
+    (λ v closed whole left ended. left_history g.K.Kind.rules (g.G.Gate.answers c.args.gate.now) c.args.rota.seats
+    c.args.rota.rounds some v.items c.args.rota.scenario
+    (has_closed g.K.Kind.rules (g.G.Gate.answers c.args.gate.now) c.args.rota.scenario
+    c.args.rota.seats c.args.rota.rounds
     c.in_ok-hall.hall c.in_ok-hall.passes.items c.in_ok-hall.ensures.passes setting c.in_ok-passes.passes.items
     v.items served
     (subst (λ (o : Object). IsClosed g.K.Kind.rules o c.in_ok-hall.hall.setting v.items) c.requires.object closed)
-    whole left)
-    c.close_by.ensures.closed c.close_by.ensures.whole c.close_by.ensures.left
+    whole left) ended)
+    c.close_by.ensures.closed c.close_by.ensures.whole c.close_by.ensures.left c.close_by.ensures.ended
 
 pub returns-clause-fault : goal.returns-clause-fault
 returns-clause-fault g c =
     let served =
     subst (λ (o : Object). HaveServed g.K.Kind.rules o
-    (g.G.Gate.answers c.args.gate.now) c.args.rota.sample c.args.rota.seats
+    (g.G.Gate.answers c.args.gate.now) c.args.rota.scenario c.args.rota.seats
     c.args.rota.rounds c.in_ok-hall.hall c.in_ok-hall.passes.items c.in_ok-passes.passes.items) c.requires.object
     c.in_ok-passes.ensures.served in
     let setting = c.in_ok-hall.ensures.setting
     ∙ ap (λ (state : List ℕ). setting_of state c.args.rota.seats (conds_of g.K.Kind.rules)
     (budget_of c.args.rota.seats c.args.rota.rounds)) c.requires.opening in
     if_fault c.close_by.result _ _
-    (λ e. close_fault g.K.Kind.rules (g.G.Gate.answers c.args.gate.now) c.args.rota.sample c.args.rota.seats
+    (λ e is. close_fault g.K.Kind.rules (g.G.Gate.answers c.args.gate.now) c.args.rota.scenario c.args.rota.seats
     c.args.rota.rounds
     c.in_ok-hall.hall c.in_ok-hall.passes.items c.in_ok-hall.ensures.passes setting c.in_ok-passes.passes.items e
-    served) c.close_by.ensures.fault
+    served (subst (λ (o : Object). IsFaultOfClosing g.K.Kind.rules o c.args.rota.scenario.sample
+    c.in_ok-passes.passes.items e) c.requires.object is)) c.close_by.ensures.fault

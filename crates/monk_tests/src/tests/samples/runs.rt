@@ -1,6 +1,6 @@
 //! Runs in threads, of which known totals come out.
-use monk_kinds::Pb;
-use monk_samples::{Gate, OpenGate, RunFault, Sample, Style, run};
+use monk_kinds::{Npnb, Pb};
+use monk_samples::{Gate, OpenGate, RunFault, Sample, Style, run, run_hasty};
 use std::sync::Wait;
 use std::test::Fail;
 use std::thread::Threads;
@@ -20,11 +20,10 @@ fn has_totals<K: Style, R: Threads + Wait + Sync + AllocGlobal>(
 }
 
 /// A sample with seats and rounds, and the totals of its run.
-static TOTALS: [(&str, Sample, u8, u32, [u64; 4]); 5] = [
+static TOTALS: [(&str, Sample, u8, u32, [u64; 4]); 4] = [
     ("buffer", Sample::Buffer, 4, 100, [200, 10100, 200, 10100]),
     ("book", Sample::Book, 4, 10, [20, 20, 20, 20]),
     ("shop", Sample::Shop, 4, 10, [30, 30, 30, 30]),
-    ("hasty", Sample::Hasty, 4, 100, [200, 10100, 200, 10100]),
     // Where a reader or a writer signalled the wrong condition, or a waiter were lost, so many rounds would not end.
     (
         "many_read_and_write",
@@ -46,11 +45,21 @@ fn known_totals(rt: HostRuntime) -> Result<(), Fail> {
     Ok(())
 }
 
+/// A first act that was refused is told exactly where some are counted.
+#[test]
+fn known_totals_in_haste(rt: HostRuntime) {
+    let outcome = run_hasty::<Npnb, _, OpenGate>(&rt, rt.alloc(), 4, 100, &OpenGate);
+    assert!(rt;
+        matches!(&outcome, Ok(outcome) if outcome.totals == [200, 10100, 200, 10100]
+        && outcome.first.is_some() == (outcome.missed > 0))
+    );
+}
+
 /// Under Hoare's kind an `if` suffices: a hasty seat finds what it waited for.
 #[test]
 fn no_hasty_seat_misses_under_hoares_kind(rt: HostRuntime) {
-    let outcome = run::<Pb, _, OpenGate>(&rt, rt.alloc(), Sample::Hasty, 4, 50, &OpenGate);
-    assert!(rt; matches!(&outcome, Ok(outcome) if outcome.missed == 0));
+    let outcome = run_hasty::<Pb, _, OpenGate>(&rt, rt.alloc(), 4, 50, &OpenGate);
+    assert!(rt; matches!(&outcome, Ok(outcome) if outcome.missed == 0 && outcome.first.is_none()));
 }
 
 /// Seats and rounds of which there is no run.
@@ -68,6 +77,8 @@ fn out_of_range_is_refused(rt: HostRuntime) {
             &OpenGate,
         );
         assert!(rt; matches!(outcome, Err(RunFault::Range)));
+        let outcome = run_hasty::<Pb, _, OpenGate>(&rt, rt.alloc(), *seats, *rounds, &OpenGate);
+        assert!(rt; matches!(outcome, Err(RunFault::Range)));
     }
 }
 
@@ -81,7 +92,7 @@ impl Gate for FirstRound {
     }
 }
 
-static SAMPLES: [Sample; 4] = [Sample::Buffer, Sample::Book, Sample::Shop, Sample::Hasty];
+static SAMPLES: [Sample; 3] = [Sample::Buffer, Sample::Book, Sample::Shop];
 
 #[test]
 fn second_round_is_late(rt: HostRuntime) {
@@ -89,4 +100,6 @@ fn second_round_is_late(rt: HostRuntime) {
         let outcome = run::<Pb, _, FirstRound>(&rt, rt.alloc(), *sample, 2, 2, &FirstRound);
         assert!(rt; matches!(outcome, Err(RunFault::Late)));
     }
+    let outcome = run_hasty::<Pb, _, FirstRound>(&rt, rt.alloc(), 2, 2, &FirstRound);
+    assert!(rt; matches!(outcome, Err(RunFault::Late)));
 }

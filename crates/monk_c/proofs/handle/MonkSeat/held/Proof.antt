@@ -65,16 +65,24 @@ held_spec 𝓤 𝓛 𝓜 𝓡 wired =
     let Cell = λ (ws : List Val). ‵ (cell_at full_share S.mir ws b o) in
     rewrite ! 2 Cell word refl $ rewrite ! 1 Had word refl $
     let Rest : Fml = fsep ((Struct (shape the_type)).own_val (to the_type h) vs) (cell_at full_share S.mir vs b o) in
-    let back : (w : R.Denot) → ent 𝓤 (sep 𝓤 (sem 𝓛 ((mem R).own_at w b' o')) (sem 𝓛 Rest)) (sem 𝓛 ((mem S).own_at (new w) b o)) = λ w.
+    let back : (w : R.Denot)
+    → ent 𝓤 (sep 𝓤 (sem 𝓛 ((mem R).own_at w b' o')) (sem 𝓛 Rest)) (sem 𝓛 ((mem S).own_at (new w) b o)) = λ w.
     qed 𝓛 (‵ (part_at R full_share w b' o') ∷ ‵ Rest ∷ []) ∵ move ! (1 ∷ []) $ fsplit ! $ move ! (2 ∷ []) $
-    rewrite ! 0 (λ (p : Ptr). ‵ (lies_at R full_share p w)) (sym e) refl $ move ! (1 ∷ 0 ∷ []) $ fjoin ! $ move ! (1 ∷ 0 ∷ []) $ fjoin ! $
-    fpack ! (List Val) (λ (xs : List Val). fsep (cell_at full_share S.mir xs b o) (S.own_val (new w) xs)) vs $ done ! in
+    rewrite ! 0 (λ (p : Ptr). ‵ (lies_at R full_share p w)) (sym e) refl $
+    move ! (1 ∷ 0 ∷ []) $ fjoin ! $ move ! (1 ∷ 0 ∷ []) $ fjoin ! $
+    fpack ! (List Val) (λ (xs : List Val). fsep (cell_at full_share S.mir xs b o) (S.own_val (new w) xs)) vs $
+    done ! in
     let lent : GName → MutBor R.Denot = λ δ. record { ref_ptr = (b', o'); ghost_name = δ; now = h.has } in
-    let exits : (δ : GName) → ent 𝓤 (Part 𝓛 S R new (named 0) κs.0 qs.0 b o b' o' γ (sem 𝓛 Rest) back h.has δ) (W.post y (vptr b' o')) = λ δ.
-    qed 𝓛 (‵ ((MutRef (named 0) κs.0 R).own_val (lent δ) (vptr b' o' ∷ [])) ∷ ‵ (flft κs.0 qs.0) ∷ ‵ (follows S R γ δ new) ∷ []) ∵
+    let exits : (δ : GName)
+    → ent 𝓤 (Part 𝓛 S R new (named 0) κs.0 qs.0 b o b' o' γ (sem 𝓛 Rest) back h.has δ) (W.post y (vptr b' o'))
+    = λ δ.
+    qed 𝓛 (‵ ((MutRef (named 0) κs.0 R).own_val (lent δ) (vptr b' o' ∷ [])) ∷ ‵ (flft κs.0 qs.0)
+    ∷ ‵ (follows S R γ δ new) ∷ []) ∵
     suffices ! _ (ends_at 𝓛 f.ended stayed c y (vptr b' o') (lent δ) (tt, tt) (tt, tt)) $
-    nothing ! $ nothing ! $ fjoin ! $ join ! $ nothing ! $ move ! (2 ∷ 0 ∷ []) $ join ! $ join ! $ frame ! $ says ! refl $ done ! in
-    -- [what stands in the place; what the fields own; the handle's cell; the open borrow, in three entries; the reference's word]
+    nothing ! $ nothing ! $ fjoin ! $ join ! $ nothing ! $ move ! (2 ∷ 0 ∷ []) $ join ! $ join ! $
+    frame ! $ says ! refl $ done ! in
+    -- [what stands in the place; what the fields own; the handle's cell; the open borrow, in three entries;
+    -- the reference's word]
     first ! $ blocks ! $
     sets ! (of_opd ! (load ! (through ! refl (fld ! refl (stop !))) (look_in ! 2 (sub ! 0 refl (whole !)))))
     refl (tt, tt) $
@@ -83,6 +91,8 @@ held_spec 𝓤 𝓛 𝓜 𝓡 wired =
     exec ! 𝓣.C 𝓣.Λ (env code.Mir.locals l) (after 1 (code.function).body) (at_ret _ (W.post y)) $
     sets ! (of_opd ! (get ! refl)) refl (tt, tt) $
     move ! (1 ∷ 2 ∷ []) $ fjoin ! $ move ! (2 ∷ 3 ∷ 4 ∷ 1 ∷ 0 ∷ []) $ group ! 5 $
-    use1 𝓛 (later (some (λ (δ : GName). raw (Part 𝓛 S R new (named 0) κs.0 qs.0 b o b' o' γ (sem 𝓛 Rest) back h.has δ))))
-    (lends_Part 𝓛 S R new (named 0) κs.0 qs.0 b o b' o' γ (sem 𝓛 Rest) back (S.coded.code h) (S.coded.code h) h.has) $ await ! tt $ pick ! (λ δ.
+    use1 𝓛
+    (later (some (λ (δ : GName). raw (Part 𝓛 S R new (named 0) κs.0 qs.0 b o b' o' γ (sem 𝓛 Rest) back h.has δ))))
+    (lends_Part 𝓛 S R new (named 0) κs.0 qs.0 b o b' o' γ (sem 𝓛 Rest) back (S.coded.code h) (S.coded.code h) h.has) $
+    await ! tt $ pick ! (λ δ.
     returns ! (look_at ! 0 refl) $ free_all ! refl $ keep ! (0 ∷ []) $ by ! (exits δ))))))))

@@ -21,7 +21,8 @@ invariant_of-parked g c =
     let rec = c.requires.recorded.recorded in
     let x = has_released rec.holds rec.release c.requires.away in
     let now = c.go_home-granted.new.seat in
-    let gone = subst (λ (to : Home). HasGone (the c.args.self.seat.me.0) c.args.self.floor.history to (the now.me.0))
+    let gone = subst (λ (to : Home). HasGone (the c.args.self.seat.me.0) c.args.self.floor.history c.args.self.choice to
+    (the now.me.0))
     (home_is x) c.go_home-granted.ensures.gone in
     let left = c.left-left.ensures
     ∙ ap (λ (f : FloorView). left_of f.budget f.history c.args.self.numbers.seat) c.deref.ensures in
@@ -33,7 +34,8 @@ pub returns : goal.returns
 returns g c a call wish known rec =
     let x = has_released rec.holds rec.release c.requires.away in
     let now = c.go_home-granted.new.seat in
-    let gone = subst (λ (to : Home). HasGone (the c.args.self.seat.me.0) c.args.self.floor.history to (the now.me.0))
+    let gone = subst (λ (to : Home). HasGone (the c.args.self.seat.me.0) c.args.self.floor.history c.args.self.choice to
+    (the now.me.0))
     (home_is x) c.go_home-granted.ensures.gone in
     let left = c.left-left.ensures
     ∙ ap (λ (f : FloorView). left_of f.budget f.history c.args.self.numbers.seat) c.deref.ensures in

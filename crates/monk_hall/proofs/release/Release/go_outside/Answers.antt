@@ -4,7 +4,7 @@ use Rattle.monk_floor.specs.View.{FloorView}
 use Rattle.monk_world.specs.declared.home.Home.{Home}
 use Rattle.monk_world.specs.declared.home.Home.TheVariants as home
 use Rattle.monk_world.specs.declared.place.Place.TheVariants.{Idle}
-use Rattle.monk_hall.specs.Granting.{IsGrantFor}
+use Rattle.monk_hall.specs.Granting.{granted_last}
 use Rattle.monk_hall.specs.Handing.{HasGone}
 use Rattle.monk_hall.specs.Records.{View, the}
 use Rattle.monk_hall.specs.Tells.{SeesTruly}
@@ -25,7 +25,8 @@ invariant_of-pass g c =
     let rec = c.requires.recorded.recorded in
     let x = has_released rec.holds rec.release c.requires.away in
     let now = c.go_home-granted.new.seat in let view = c.into_badge.ensures in
-    let gone = subst (λ (to : Home). HasGone (the c.args.self.seat.me.0) c.args.self.floor.history to (the now.me.0))
+    let gone = subst (λ (to : Home). HasGone (the c.args.self.seat.me.0) c.args.self.floor.history c.args.self.choice to
+    (the now.me.0))
     (home_is x) c.go_home-granted.ensures.gone in
     let left = c.left-left.ensures
     ∙ ap (λ (f : FloorView). left_of f.budget f.history c.args.self.numbers.seat) c.deref.ensures in
@@ -46,7 +47,7 @@ returns g c a call wish known rec =
     let r = the c.args.self.seat.me.0 in
     let now = c.go_home-granted.new.seat in let view = c.into_badge.ensures in
     let gone =
-    subst (λ (to : Home). HasGone r c.args.self.floor.history to (the now.me.0))
+    subst (λ (to : Home). HasGone r c.args.self.floor.history c.args.self.choice to (the now.me.0))
     (home_is x) c.go_home-granted.ensures.gone in
     let left = c.left-left.ensures
     ∙ ap (λ (f : FloorView). left_of f.budget f.history c.args.self.numbers.seat) c.deref.ensures in
@@ -56,10 +57,11 @@ returns g c a call wish known rec =
     subst (λ (vs : List View). SeesTruly g.K.Kind.rules g.T.Guarded.meaning (the (top vs)))
     (sym view.2) rests.0.told in
     let at_home =
-    subst (λ (vs : List View). HasGone r c.args.self.floor.history home.Idle (the (top vs))) (sym view.2) gone in
+    subst (λ (vs : List View). HasGone r c.args.self.floor.history c.args.self.choice home.Idle (the (top vs)))
+    (sym view.2) gone in
     let granted = subst
-    (λ (vs : List View). IsGrantFor c.args.hall.now c.args.self.choice (the (top vs)).seen r.steps (the (top vs)).steps
-    c.go_home-granted.result)
+    (λ (vs : List View). c.go_home-granted.result
+    ≡ granted_last c.args.hall.now.id c.args.hall.now.setting.seats (the (top vs)).did)
     (sym view.2) c.go_home-granted.ensures.granted in
     released_of call rec.holds rec.release c.requires.away _
     (view.0 ∙ c.go_home-granted.ensures.table) at_home told _ _ granted a rec.was

@@ -1,6 +1,6 @@
 use Rattle.std.proofs.Common.{sym, ap, subst, ◌∙◌}
 use Rattle.monk_object.specs.Names.{meaning_named}
-use Rattle.monk_samples.specs.Rounds.{round_of}
+use Rattle.monk_samples.specs.Rounds.{visits_of}
 use Rattle.monk_samples.specs.Samples.{sample_object}
 use Rattle.monk_samples.specs.Visits.{HasVisited}
 use Rattle.monk_samples.specs.declared.sample.Sample.{Sample}
@@ -13,7 +13,8 @@ trade-requires-clause-object g c κs within =
 pub returns-in-Buffer-clause-visited : goal.returns-in-Buffer-clause-visited
 returns-in-Buffer-clause-visited g c =
     subst (λ (s : Sample). HasVisited g.K.Kind.rules g.T.Guarded.meaning c.args.pass
-    (round_of s g.K.Kind.rules c.args.pass.me.setting c.args.rota.seats c.args.pass.me.seat c.args.round)
+    (visits_of s c.args.rota.scenario.manner g.K.Kind.rules c.args.pass.me.setting c.args.rota.seats
+    c.args.pass.me.seat c.args.round)
     c.trade.result.0 c.trade.result.1) (sym c.in-Buffer.is) c.trade.ensures.visited
 
 pub use_book-requires-clause-object : goal.use_book-requires-clause-object
@@ -23,7 +24,8 @@ use_book-requires-clause-object g c κs within =
 pub returns-in-Book-clause-visited : goal.returns-in-Book-clause-visited
 returns-in-Book-clause-visited g c =
     subst (λ (s : Sample). HasVisited g.K.Kind.rules g.T.Guarded.meaning c.args.pass
-    (round_of s g.K.Kind.rules c.args.pass.me.setting c.args.rota.seats c.args.pass.me.seat c.args.round)
+    (visits_of s c.args.rota.scenario.manner g.K.Kind.rules c.args.pass.me.setting c.args.rota.seats
+    c.args.pass.me.seat c.args.round)
     c.use_book.result.0 c.use_book.result.1) (sym c.in-Book.is) (c.use_book.ensures.visited c.args.round)
 
 pub visit_shop-requires-clause-object : goal.visit_shop-requires-clause-object
@@ -33,16 +35,6 @@ visit_shop-requires-clause-object g c κs within =
 pub returns-in-Shop-clause-visited : goal.returns-in-Shop-clause-visited
 returns-in-Shop-clause-visited g c =
     subst (λ (s : Sample). HasVisited g.K.Kind.rules g.T.Guarded.meaning c.args.pass
-    (round_of s g.K.Kind.rules c.args.pass.me.setting c.args.rota.seats c.args.pass.me.seat c.args.round)
-    c.visit_shop.result.0 c.visit_shop.result.1) (sym c.in-Shop.is) (c.visit_shop.ensures.visited c.args.rota.seats
-    c.args.round)
-
-pub trade_hastily-requires-clause-object : goal.trade_hastily-requires-clause-object
-trade_hastily-requires-clause-object g c κs within =
-    c.requires.object ∙ ap (λ (s : Sample). meaning_named (sample_object s)) c.in-Hasty.is
-
-pub returns-in-Hasty-clause-visited : goal.returns-in-Hasty-clause-visited
-returns-in-Hasty-clause-visited g c =
-    subst (λ (s : Sample). HasVisited g.K.Kind.rules g.T.Guarded.meaning c.args.pass
-    (round_of s g.K.Kind.rules c.args.pass.me.setting c.args.rota.seats c.args.pass.me.seat c.args.round)
-    c.trade_hastily.result.0 c.trade_hastily.result.1) (sym c.in-Hasty.is) c.trade_hastily.ensures.visited
+    (visits_of s c.args.rota.scenario.manner g.K.Kind.rules c.args.pass.me.setting c.args.rota.seats
+    c.args.pass.me.seat c.args.round)
+    c.visit_shop.result.0 c.visit_shop.result.1) (sym c.in-Shop.is) (c.visit_shop.ensures.visited c.args.round)

@@ -1,19 +1,18 @@
-use Rattle.std.proofs.Common.{◌/◌, List, [], ◌∷◌, subst}
-use Rattle.monk_samples.specs.Members.{puts, takes}
-use Rattle.monk_samples.specs.Visits.{Plan, HasVisited}
-use Rattle.monk_samples.proofs.RoundLaws.{in_first_half, in_other_half}
+use Rattle.std.proofs.Common.{sym, subst}
+use Rattle.monk_samples.specs.Rounds.{visits_of}
+use Rattle.monk_samples.specs.Visits.{HasVisited}
+use Rattle.monk_samples.specs.declared.manner.Manner.{Manner}
+use Rattle.monk_samples.specs.declared.sample.Sample.TheVariants.{Buffer}
 use Rattle.monk_samples.proofs.crew.round.trade.Goals as goal
 
-pub returns-then-seat-rota-clause-visited : goal.returns-then-seat-rota-clause-visited
-returns-then-seat-rota-clause-visited g c =
-    subst (λ (plans : List Plan). HasVisited g.K.Kind.rules g.T.Guarded.meaning c.args.pass plans
-    c.put_into.result.0 c.put_into.result.1)
-    (in_first_half c.seat-seat.result c.args.pass.me.seat (c.args.rota.seats / 2) c.seat-seat.ensures
-    (puts c.args.round ∷ []) (takes ∷ []) c.if-seat-rota.true) c.put_into.ensures
+pub returns-in-Patient-clause-visited : goal.returns-in-Patient-clause-visited
+returns-in-Patient-clause-visited g c =
+    subst (λ (m : Manner). HasVisited g.K.Kind.rules g.T.Guarded.meaning c.args.pass
+    (visits_of Buffer m g.K.Kind.rules c.args.pass.me.setting c.args.rota.seats c.args.pass.me.seat c.args.round)
+    c.trade_patiently.result.0 c.trade_patiently.result.1) (sym c.in-Patient.is) c.trade_patiently.ensures.visited
 
-pub returns-else-seat-rota-clause-visited : goal.returns-else-seat-rota-clause-visited
-returns-else-seat-rota-clause-visited g c =
-    subst (λ (plans : List Plan). HasVisited g.K.Kind.rules g.T.Guarded.meaning c.args.pass plans
-    c.take_from.result.0 c.take_from.result.1)
-    (in_other_half c.seat-seat.result c.args.pass.me.seat (c.args.rota.seats / 2) c.seat-seat.ensures
-    (puts c.args.round ∷ []) (takes ∷ []) c.if-seat-rota.false) c.take_from.ensures
+pub returns-in-Hasty-clause-visited : goal.returns-in-Hasty-clause-visited
+returns-in-Hasty-clause-visited g c =
+    subst (λ (m : Manner). HasVisited g.K.Kind.rules g.T.Guarded.meaning c.args.pass
+    (visits_of Buffer m g.K.Kind.rules c.args.pass.me.setting c.args.rota.seats c.args.pass.me.seat c.args.round)
+    c.trade_hastily.result.0 c.trade_hastily.result.1) (sym c.in-Hasty.is) c.trade_hastily.ensures.visited

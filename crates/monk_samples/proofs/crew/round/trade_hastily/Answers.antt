@@ -1,5 +1,6 @@
 use Rattle.std.proofs.Common.{◌/◌, List, [], ◌∷◌, subst}
-use Rattle.monk_samples.specs.Members.{puts_hastily, takes_hastily}
+use Rattle.monk_samples.specs.Members.{puts_by, takes_by}
+use Rattle.monk_samples.specs.declared.manner.Manner.TheVariants.{Hasty}
 use Rattle.monk_samples.specs.Visits.{Plan, HasVisited}
 use Rattle.monk_samples.proofs.RoundLaws.{in_first_half, in_other_half}
 use Rattle.monk_samples.proofs.crew.round.trade_hastily.Goals as goal
@@ -9,11 +10,11 @@ returns-then-seat-rota-clause-visited g c =
     subst (λ (plans : List Plan). HasVisited g.K.Kind.rules g.T.Guarded.meaning c.args.pass plans
     c.put_hastily.result.0 c.put_hastily.result.1)
     (in_first_half c.seat-seat.result c.args.pass.me.seat (c.args.rota.seats / 2) c.seat-seat.ensures
-    (puts_hastily c.args.round ∷ []) (takes_hastily ∷ []) c.if-seat-rota.true) c.put_hastily.ensures
+    (puts_by Hasty c.args.round ∷ []) (takes_by Hasty ∷ []) c.if-seat-rota.true) c.put_hastily.ensures
 
 pub returns-else-seat-rota-clause-visited : goal.returns-else-seat-rota-clause-visited
 returns-else-seat-rota-clause-visited g c =
     subst (λ (plans : List Plan). HasVisited g.K.Kind.rules g.T.Guarded.meaning c.args.pass plans
     c.take_hastily.result.0 c.take_hastily.result.1)
     (in_other_half c.seat-seat.result c.args.pass.me.seat (c.args.rota.seats / 2) c.seat-seat.ensures
-    (puts_hastily c.args.round ∷ []) (takes_hastily ∷ []) c.if-seat-rota.false) c.take_hastily.ensures
+    (puts_by Hasty c.args.round ∷ []) (takes_by Hasty ∷ []) c.if-seat-rota.false) c.take_hastily.ensures

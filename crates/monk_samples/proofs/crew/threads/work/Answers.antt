@@ -8,7 +8,7 @@ pub loop-done-init : goal.loop-done-init
 loop-done-init g c = let k = g.K.Kind.rules in let w = c.args.worker in (
   c.requires.ready.0,
   no_round k g.T.Guarded.meaning (g.G.Gate.answers w.gate.now)
-      (λ (z : Setting) (s r : ℕ). round_of w.rota.sample k z w.rota.seats s r) w.pass,
+      (λ (z : Setting) (s r : ℕ). round_of w.rota.scenario k z w.rota.seats s r) w.pass,
 )
 
 pub loop-done-preserved : goal.loop-done-preserved
@@ -16,7 +16,7 @@ loop-done-preserved g c =
     let k = g.K.Kind.rules in let w = c.args.worker in let let_in : c.pass.result ≡ true = search rules in (
       c.do_round-back.ensures.back,
       round_done k g.T.Guarded.meaning (g.G.Gate.answers w.gate.now)
-          (λ (z : Setting) (s r : ℕ). round_of w.rota.sample k z w.rota.seats s r)
+          (λ (z : Setting) (s r : ℕ). round_of w.rota.scenario k z w.rota.seats s r)
           c.loop-done.done c.seat-seat.result c.pass.result w.pass c.loop-done.pass c.do_round-back.result.0
           c.do_round-back.result.1
           c.seat-seat.ensures c.loop-done.invariant.1 c.pass.ensures let_in
@@ -27,9 +27,9 @@ pub returns-in_default-clause-served : goal.returns-in_default-clause-served
 returns-in_default-clause-served g c =
     let k = g.K.Kind.rules in let w = c.args.worker in let let_in : c.pass.result ≡ true = search rules in
     let all = c.rounds_of-done-end.ensures
-    ∙ (λ i. rounds_of w.rota.sample w.rota.seats w.rota.rounds (c.seat-seat.ensures i)) in
+    ∙ (λ i. rounds_of w.rota.scenario.sample w.rota.seats w.rota.rounds (c.seat-seat.ensures i)) in
     round_short k g.T.Guarded.meaning (g.G.Gate.answers w.gate.now)
-    (λ (z : Setting) (s r : ℕ). round_of w.rota.sample k z w.rota.seats s r)
+    (λ (z : Setting) (s r : ℕ). round_of w.rota.scenario k z w.rota.seats s r)
     c.loop-done.done c.seat-seat.result c.rounds_of-done-end.result _ c.pass.result w.pass c.loop-done.pass
     c.do_round-back.result.0 c.do_round-back.result.1 c.seat-seat.ensures all c.loop-done-test.true
     c.loop-done.invariant.1
@@ -39,9 +39,9 @@ pub returns-then-not-pass-clause-served : goal.returns-then-not-pass-clause-serv
 returns-then-not-pass-clause-served g c =
     let k = g.K.Kind.rules in let w = c.args.worker in let away : c.pass.result ≡ false = search rules in
     let all = c.rounds_of-done-end.ensures
-    ∙ (λ i. rounds_of w.rota.sample w.rota.seats w.rota.rounds (c.seat-seat.ensures i)) in
+    ∙ (λ i. rounds_of w.rota.scenario.sample w.rota.seats w.rota.rounds (c.seat-seat.ensures i)) in
     sent_away k g.T.Guarded.meaning (g.G.Gate.answers w.gate.now)
-    (λ (z : Setting) (s r : ℕ). round_of w.rota.sample k z w.rota.seats s r)
+    (λ (z : Setting) (s r : ℕ). round_of w.rota.scenario k z w.rota.seats s r)
     c.loop-done.done c.seat-seat.result c.rounds_of-done-end.result _ c.pass.result w.pass c.loop-done.pass
     c.seat-seat.ensures
     all c.loop-done-test.true c.loop-done.invariant.1 c.pass.ensures away
@@ -50,9 +50,9 @@ pub returns-clause-served : goal.returns-clause-served
 returns-clause-served g c =
     let k = g.K.Kind.rules in let w = c.args.worker in
     let all = c.rounds_of-done-end.ensures
-    ∙ (λ i. rounds_of w.rota.sample w.rota.seats w.rota.rounds (c.seat-seat.ensures i)) in
+    ∙ (λ i. rounds_of w.rota.scenario.sample w.rota.seats w.rota.rounds (c.seat-seat.ensures i)) in
     all_done k g.T.Guarded.meaning (g.G.Gate.answers w.gate.now)
-    (λ (z : Setting) (s r : ℕ). round_of w.rota.sample k z w.rota.seats s r)
+    (λ (z : Setting) (s r : ℕ). round_of w.rota.scenario k z w.rota.seats s r)
     c.loop-done.done c.rounds_of-done-end.result _ w.pass c.loop-done.pass all c.loop-done.auto.done-end
     c.loop-done-test.false
     c.loop-done.invariant.1

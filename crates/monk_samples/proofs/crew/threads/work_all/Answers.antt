@@ -16,21 +16,21 @@ workers-requires-after_bounds g c κs within =
 pub returns-in_err-back-clause-fault : goal.returns-in_err-back-clause-fault
 returns-in_err-back-clause-fault g c =
     let fault =
-    fault_then g.K.Kind.rules g.T.Guarded.meaning (g.G.Gate.answers c.args.gate.now) c.args.rota.sample
+    fault_then g.K.Kind.rules g.T.Guarded.meaning (g.G.Gate.answers c.args.gate.now) c.args.rota.scenario
     c.args.rota.seats
     c.args.rota.rounds c.part_idle-working.result.0.items
     (option_to_list c.part_idle-working.result.1) c.in_err-back.field-0.0
     (subst (λ (ps : List Token). IsFaultOfCrew g.K.Kind.rules g.T.Guarded.meaning
-    (g.G.Gate.answers c.args.gate.now) c.args.rota.sample
+    (g.G.Gate.answers c.args.gate.now) c.args.rota.scenario
     c.args.rota.seats c.args.rota.rounds ps c.in_err-back.field-0.0) c.in_ok-workers.ensures.passes
     c.in_err-back.ensures.1.1) in
     let all = subst (λ (ps : List Token). IsFaultOfCrew g.K.Kind.rules g.T.Guarded.meaning
     (g.G.Gate.answers c.args.gate.now)
-    c.args.rota.sample c.args.rota.seats c.args.rota.rounds ps c.in_err-back.field-0.0)
+    c.args.rota.scenario c.args.rota.seats c.args.rota.rounds ps c.in_err-back.field-0.0)
     (sym c.part_idle-working.ensures.all) fault in
     if_err c.from_residual-in_err-back.result _ _ c.from_residual-in_err-back.ensures
     (λ e h. subst (IsFaultOfCrew g.K.Kind.rules g.T.Guarded.meaning
-    (g.G.Gate.answers c.args.gate.now) c.args.rota.sample c.args.rota.seats
+    (g.G.Gate.answers c.args.gate.now) c.args.rota.scenario c.args.rota.seats
     c.args.rota.rounds c.args.passes.items) (sym h) all)
 
 pub returns-clause-served : goal.returns-clause-served
@@ -39,11 +39,11 @@ returns-clause-served g c =
     c.part_idle-working.result.1 c.part_idle-working.ensures.all c.requires.ready).1 in
     let served = subst (λ (ps : List Token). HaveServed g.K.Kind.rules g.T.Guarded.meaning
     (g.G.Gate.answers c.args.gate.now)
-    c.args.rota.sample c.args.rota.seats c.args.rota.rounds c.args.hall.now ps c.in_ok-back.back.items)
+    c.args.rota.scenario c.args.rota.seats c.args.rota.rounds c.args.hall.now ps c.in_ok-back.back.items)
     c.in_ok-workers.ensures.passes c.in_ok-back.ensures.1.0 in
     if_ok c.with_idle.result _ _
     (λ v e. all_served g.K.Kind.rules g.T.Guarded.meaning
-    (g.G.Gate.answers c.args.gate.now) c.args.rota.sample c.args.rota.seats
+    (g.G.Gate.answers c.args.gate.now) c.args.rota.scenario c.args.rota.seats
     c.args.rota.rounds c.args.hall.now c.args.passes.items c.part_idle-working.result.0.items c.in_ok-back.back.items
     v.items c.part_idle-working.result.1 c.part_idle-working.ensures.all e served idle c.part_idle-working.ensures.idle)
     c.with_idle.ensures.all

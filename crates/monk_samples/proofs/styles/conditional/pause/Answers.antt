@@ -19,4 +19,4 @@ returns g c =
     paused k o c.args.wish a (Wait a.me.seat c.args.cond Stay) c.resume.result room c.left.ensures.floor
     (came_back k o c.args.wish a (Wait a.me.seat c.args.cond Stay) _ _ c.plain_wait.result c.resume.result
     (λ x. (refl, refl, refl))
-    c.plain_wait.ensures c.resume.ensures)
+    c.plain_wait.ensures c.resume.ensures.entered)

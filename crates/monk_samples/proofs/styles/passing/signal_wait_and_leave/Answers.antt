@@ -19,5 +19,5 @@ returns g c =
     c.leave-2.result
     (came_back k o Waiter a (SignalWait a.me.seat c.args.cond c.args.wait_cond Stay) _ _ c.signal_wait.result
     c.resume-active.result
-    (λ x. (refl, refl, refl)) c.signal_wait.ensures c.resume-active.ensures)
+    (λ x. (refl, refl, refl)) c.signal_wait.ensures c.resume-active.ensures.entered)
     c.leave-2.ensures

@@ -28,9 +28,9 @@ pub loop-at-preserved : goal.loop-at-preserved
 loop-at-preserved g c =
     let from = c.loop-at.at in
     let room = length c.loop-at.buf - from in
-    let taken = c.in_ok-taken.taken in
+    let taken = c.in-Ok.taken in
     let within = c.loop-at.invariant.within in
-    let part = middle_of_put from room taken c.loop-at.buf c.read.new.buf within c.in_ok-taken.ensures.bound.0 in
+    let part = middle_of_put from room taken c.loop-at.buf c.read.new.buf within c.in-Ok.ensures.bound.0 in
     let below = take-put_mid_below _ _ _ _ _ (le_refl _) within in
     let joined =
     take_split from (from + taken) c.loop-at.buf (put_mid from room c.loop-at.buf c.read.new.buf)
@@ -40,5 +40,5 @@ loop-at-preserved g c =
       within = search rules;
       unchanged = search rules;
       filled = subst (Consumes _ _) (ap (λ l. take from c.loop-at.buf ++ l) (sym part) ∙ joined)
-          (Consumes-trans _ _ _ _ _ c.loop-at.invariant.filled c.in_ok-taken.ensures.bytes.0);
+          (Consumes-trans _ _ _ _ _ c.loop-at.invariant.filled c.in-Ok.ensures.bytes.0);
     }

@@ -1,0 +1,62 @@
+//! Runs in haste: what they tell, and the history that goes into the file.
+
+use super::jobs::Expected;
+use super::records::is_legal;
+use monk_commands::{StreamFault, hasty_stream};
+use monk_history::Device;
+use monk_kinds::KindName;
+use std::sync::Wait;
+use std::test::Fail;
+use std::thread::Threads;
+
+/// Whether a run of four seats and ten rounds tells exactly this text, and its history is legal and has a first line
+/// that ends so.
+fn tells<R: Threads + Wait + Sync + AllocGlobal>(rt: &R, kind: KindName, text: &str) -> bool {
+    let alloc = rt.alloc();
+    let mut history = Vec::new(alloc);
+    let mut page = Expected::new(text.as_bytes());
+    let mut file = Device::new(&mut history);
+    let mut writer = Device::new(&mut page);
+    let told = hasty_stream(rt, alloc, kind, 4, 10, &mut file, &mut writer);
+    matches!(told, Ok(0))
+        && page.agrees()
+        && page.taken == text.len()
+        && is_legal(alloc, history.as_slice())
+}
+
+/// The kinds in which no caller comes between a signal and the seat that it serves, or a wait goes
+/// on where its predicate holds.
+static SURE: [KindName; 7] = [
+    KindName::Pb,
+    KindName::Npb,
+    KindName::Pnb,
+    KindName::Pqb,
+    KindName::Pir,
+    KindName::Pis,
+    KindName::Npis,
+];
+
+#[test]
+fn hasty_runs_tell_what_they_missed(rt: HostRuntime) -> Result<(), Fail> {
+    let text = "put 20 110\ntaken 20 110\nmissed 0\nfirst none\nlegal\n";
+    for kind in SURE.iter() {
+        if !tells(&rt, *kind, text) {
+            return Err(kind.as_str())?;
+        }
+    }
+    Ok(())
+}
+
+/// Whether nothing is told where the file fails at its first write, or takes nothing there.
+fn tells_nothing<R: Threads + Wait + Sync + AllocGlobal>(rt: &R, refuses: bool) -> bool {
+    let mut page = Vec::new(rt.alloc());
+    let mut file = Device::new(Expected::failing(b"", 1, 1, refuses));
+    let mut writer = Device::new(&mut page);
+    let told = hasty_stream(rt, rt.alloc(), KindName::Pb, 2, 1, &mut file, &mut writer);
+    matches!(told, Err(StreamFault::File)) && page.is_empty()
+}
+
+#[test]
+fn nothing_is_told_without_the_file(rt: HostRuntime) {
+    assert!(rt; tells_nothing(&rt, false) && tells_nothing(&rt, true));
+}

@@ -1,0 +1,439 @@
+-- A grant stands in its word until the seat for which it is finds it there
+use Rattle.std.proofs.Common.{◌≡◌, ◌≢◌, ℕ, ◌+◌, ◌%◌, ◌<◌, ◌⊎◌, Bool, true, List, [], ◌∷◌, ◌++◌, set, sym, refl}
+use Rattle.std.proofs.Common.{ap, subst, ◌∙◌, inl, inr, ⊎_elim, arith, eq-eqb, get_or-set_same, get_or-set_other, mod-lt}
+use Rattle.std.specs.Prelude.{Some, slice_index}
+use Rattle.std.proofs.lemmas.Bool.Decides.{eqb_tells}
+use Rattle.std.proofs.lemmas.Option.{none-some, same_Some}
+use mathlib.Core.Option.{some}
+use lib.ListN.{get_elem?}
+use Rattle.monk_kinds.specs.Kind.{IsKind}
+use Rattle.monk_kinds.specs.declared.mode.Rules.{Rules}
+use Rattle.monk_object.specs.Object.{Object}
+use Rattle.monk_history.specs.Meaning.Counts.{granted_of}
+use Rattle.monk_history.specs.declared.event.Event.{Event}
+use Rattle.monk_world.specs.OnePlace.{IsInOnePlace}
+use Rattle.monk_world.specs.Places.{HoldsRight, stage, ticket, back_turn, due_to, ticketed_stage, due_stage}
+use Rattle.monk_world.specs.Places.{outside_stage, active_stage, back_stage, passing_stage, inside_stage}
+use Rattle.monk_world.proofs.PublicLaws.{held}
+use Rattle.monk_world.specs.Right.{With}
+use Rattle.monk_world.specs.declared.place.Place.{Place}
+use Rattle.monk_world.specs.declared.place.Place.TheVariants.{Idle, Ticket, Due, Active, Back, Passing, Inner}
+use Rattle.monk_hall.specs.Changes.{record_after_arrive, record_after_ticket_look, record_after_seat_look}
+use Rattle.monk_hall.specs.Changes.{record_after_grant}
+use Rattle.monk_hall.specs.Deeds.{look_at}
+use Rattle.monk_hall.specs.GrantsInTurn.{granted_word, IsTaken, IsTakenBetween, GrantsComeInTurn}
+use Rattle.monk_hall.specs.Laws.{HallState, IsRecord}
+use Rattle.monk_hall.specs.Layout.{ticket_word, seat_word, waiting_word_at, shown_world}
+use Rattle.monk_hall.specs.NextTicket.{IsLooking}
+use Rattle.monk_hall.specs.Rule.{IsHall, Homes}
+use Rattle.monk_hall.specs.Schedules.{Step, By, Deal, Part, Join, Compare, IsDone, IsStep, IsSchedule, after_step, opening_table}
+use Rattle.monk_hall.specs.declared.deed.Deed.{Deed}
+use Rattle.monk_hall.specs.declared.deed.Deed.TheVariants.{Arrive, LookForTicket, LookForCall, Peek, FloorOut, FloorIn}
+use Rattle.monk_hall.specs.declared.deed.Deed.TheVariants.{Drop, GrantTicket, CallSeat, Meet}
+use Rattle.monk_hall.specs.declared.record.SeatRecord.{SeatRecord}
+use Rattle.monk_hall.specs.declared.setting.Setting.{Setting}
+use Rattle.monk_hall.proofs.GrantSteps.{choosing_at, called_near}
+use Rattle.monk_hall.proofs.RecordLaws.{is, cases_le}
+use Rattle.monk_hall.proofs.RuleLaws.{right_in_one_place}
+use Rattle.monk_hall.proofs.ScheduleLaws.{IsLed, records_after}
+use Rattle.monk_hall.proofs.ScheduleMoves.{IsMoveOf, each_as, step_led, led_by, led_opening}
+use Rattle.monk_hall.proofs.Standing as standing
+
+-- the grant of seat j stands in the word w, where it waits
+pub record Stands (c : Setting) (words : List ℕ) (at : ℕ → SeatRecord) (j w : ℕ) : Type 0 where
+  pub near : j < c.seats
+  pub waits : waiting_word_at c.seats j (at j).place ≡ w
+  pub granted : ((stage (at j).place ≡ ticketed_stage) × (slice_index words w ≡ ticket (at j).place + 1))
+      ⊎ ((stage (at j).place ≡ inside_stage) × (slice_index words w ≡ (at j).count + 1))
+
+-- as long as neither the seat nor its word changes
+stands_still : (c : Setting) (words ws : List ℕ) (at bt : ℕ → SeatRecord) (j w : ℕ) → Stands c words at j w
+    → (bt j).place ≡ (at j).place → (bt j).count ≡ (at j).count → slice_index ws w ≡ slice_index words w
+    → Stands c ws bt j w
+stands_still c words ws at bt j w x place count word = record {
+  near = x.near;
+  waits = ap (waiting_word_at c.seats j) place ∙ x.waits;
+  granted = ⊎_elim (λ y. inl (ap stage place ∙ y.0, word ∙ y.1 ∙ ap (λ (p : Place). ticket p + 1) (sym place)))
+      (λ y. inr (ap stage place ∙ y.0, word ∙ y.1 ∙ ap (λ (n : ℕ). n + 1) (sym count))) x.granted;
+}
+
+-- no word of a seat is the ticket word
+not_first : (seats j w : ℕ) (p : Place) → waiting_word_at seats j p ≡ w → 0 ≢ w
+not_first seats j w Idle e z = omega arith
+not_first seats j w (Ticket t) e z = omega arith
+not_first seats j w (Due q) e z = omega arith
+not_first seats j w (Active q) e z = omega arith
+not_first seats j w (Back x to) e z = omega arith
+not_first seats j w (Passing t to) e z = omega arith
+not_first seats j w Inner e z = omega arith
+
+holds_active : (p : Place) → stage p ≡ active_stage → HoldsRight p
+holds_active p e = subst HoldsRight (sym (standing.active_at p e)) tt
+
+holds_due : (p : Place) → stage p ≡ due_stage → HoldsRight p
+holds_due p e = subst HoldsRight (sym (standing.due_at p e)) tt
+
+holds_passing : (p : Place) → stage p ≡ passing_stage → HoldsRight p
+holds_passing p e = subst HoldsRight (sym (standing.passing_at p e)) tt
+
+holds_chosen : (p : Place) (m : ℕ) → back_turn p ≡ due_to m → HoldsRight p
+holds_chosen Idle m e = absurd (omega arith)
+holds_chosen (Ticket t) m e = absurd (omega arith)
+holds_chosen (Due q) m e = tt
+holds_chosen (Active q) m e = tt
+holds_chosen (Back x to) m e = tt
+holds_chosen (Passing t to) m e = tt
+holds_chosen Inner m e = absurd (omega arith)
+
+module _ (k : Rules) (o : Object) (c : Setting) (s : HallState) (h : IsHall k o c s) where
+  one : IsInOnePlace c.seats (shown_world s.words h.0)
+  one = right_in_one_place k o c s h
+
+  -- while a grant stands, nobody has the right
+  nobody_holds : (j w : ℕ) → Stands c s.words h.0 j w → (i : ℕ) → HoldsRight (h.0 i).place → ⊥
+  nobody_holds j w x i holds = let with_i = (one.with_seat i).0 holds in ⊎_elim
+      (λ y. let at = standing.ticket_at (h.0 j).place y.0 in
+      let t : ℕ = ticket (h.0 j).place in
+      let word : slice_index s.words (ticket_word c.seats t) ≡ t + 1 =
+      ap (slice_index s.words) (sym (ap (waiting_word_at c.seats j) at) ∙ x.waits) ∙ y.1 in
+      let there = (one.at_ticket j t at).0 word in absurd cc)
+      (λ y. let at = standing.inner_at (h.0 j).place y.0 in
+      let word : slice_index s.words (seat_word j) ≡ (h.0 j).count + 1 =
+      ap (slice_index s.words) (sym (ap (waiting_word_at c.seats j) at) ∙ x.waits) ∙ y.1 in
+      let there = (one.at_seat j).0 (at, word) in absurd cc)
+      x.granted
+
+-- one step more
+module _ (k : Rules) (o : Object) (c : Setting) (kind : IsKind k) (steps : List Step) (s : HallState)
+    (led : IsLed k o c steps s) where
+  abbrev h : IsHall k o c s
+  h = led.hall
+
+  -- the record of a seat in a table
+  at_next : (more : List Step) (t : HallState) (next : IsLed k o c more t) (j : ℕ) → j < c.seats
+      → IsRecord t (next.hall.0 j)
+  at_next more t next j near = let there = next.hall.1.there j near in
+      record { id = next.hall.1.desk j; view = there.0; at = there.1; there = there.2 }
+
+  -- a step of one seat leaves the records of the others
+  others_stay : (id : ℕ) (r w : SeatRecord) (here : get_elem? s.views id ≡ some (r ∷ [])) (d : Deed) (ws : List ℕ)
+      (hs : Homes) (t : HallState) → t ≡ after_step s id ws hs w → w.seat ≡ r.seat
+      → (more : List Step) (next : IsLed k o c more t) (j : ℕ) → j < c.seats → r.seat ≢ j
+      → next.hall.0 j ≡ h.0 j
+  others_stay id r w here d ws hs t is_t seat more next j near apart =
+      let q : SeatRecord = next.hall.0 j in
+      let y = at_next more t next j near in
+      ⊎_elim (λ e. absurd (apart (sym seat ∙ ap (λ (z : SeatRecord). z.seat) (sym e) ∙ next.hall.1.seats j)))
+      (λ old. sym (is k o c s h q old.0) ∙ ap h.0 (next.hall.1.seats j))
+      (records_after k o c steps s led id r here d w q ws hs (subst (λ (u : HallState). IsRecord u q) is_t y))
+
+  -- a move leaves where each seat stands
+  moved_stays : (x : Step) (t : HallState) → IsStep k o c s x t → IsMoveOf x
+      → (more : List Step) (next : IsLed k o c more t) (j : ℕ) → j < c.seats
+      → ((next.hall.0 j).place ≡ (h.0 j).place) × ((next.hall.0 j).count ≡ (h.0 j).count)
+  moved_stays x t step move more next j near =
+      let q : SeatRecord = next.hall.0 j in
+      let was = each_as k o c steps s led x t step move q (at_next more t next j near) in
+      let old : h.0 j ≡ was.old = ap h.0 (sym (sym was.seat ∙ next.hall.1.seats j))
+      ∙ is k o c s h was.old was.there in (
+        was.place ∙ ap (λ (z : SeatRecord). z.place) (sym old),
+        was.count ∙ ap (λ (z : SeatRecord). z.count) (sym old),
+      )
+
+  -- a grant that stands is taken by the step, or stands after it
+  module _ (j w : ℕ) (x : Stands c s.words h.0 j w) where
+    kept : (id : ℕ) (r v : SeatRecord) (here : get_elem? s.views id ≡ some (r ∷ [])) (d : Deed) (ws : List ℕ)
+        (hs : Homes) (t : HallState) → t ≡ after_step s id ws hs v → v.seat ≡ r.seat
+        → slice_index ws w ≡ slice_index s.words w
+        → (more : List Step) (next : IsLed k o c more t) → r.seat ≢ j → Stands c t.words next.hall.0 j w
+    kept id r v here d ws hs t is_t seat word more next apart =
+        let same = others_stay id r v here d ws hs t is_t seat more next j x.near apart in
+        stands_still c s.words t.words h.0 next.hall.0 j w x (ap (λ (z : SeatRecord). z.place) same)
+        (ap (λ (z : SeatRecord). z.count) same) (ap (λ (u : HallState). slice_index u.words w) is_t ∙ word)
+
+    module _ (id : ℕ) (r : SeatRecord) (here : get_elem? s.views id ≡ some (r ∷ [])) (t : HallState) where
+      its : IsRecord s r
+      its = record { id = id; view = r ∷ []; at = here; there = inl refl }
+
+      mine : h.0 r.seat ≡ r
+      mine = is k o c s h r its
+
+      no_right : HoldsRight r.place → ⊥
+      no_right holds = nobody_holds k o c s h j w x r.seat
+          (subst (λ (z : SeatRecord). HoldsRight z.place) (sym mine) holds)
+
+      -- by a step of another seat
+      by_another : r.seat ≢ j → (d : Deed) → IsDone k o c s id r d t → (more : List Step) (next : IsLed k o c more t)
+          → Stands c t.words next.hall.0 j w
+      by_another apart (Arrive n m) (idle, room, number, last, is_t) more next =
+          kept id r (record_after_arrive r (slice_index s.words 0)) here (Arrive n m) _ s.homes t is_t refl
+          (get_or-set_other s.words 0 w _ 0 (λ e. not_first c.seats j w (h.0 j).place x.waits (sym e))) more next apart
+      by_another apart (LookForTicket b) (found, waits, there, says, is_t) more next = kept id r
+          (record_after_ticket_look r found) here (LookForTicket b) s.words s.homes t is_t refl refl more next apart
+      by_another apart (LookForCall b) (found, parked, there, says, is_t) more next = kept id r
+          (record_after_seat_look r found) here (LookForCall b) s.words s.homes t is_t refl refl more next apart
+      by_another apart (Peek n) (active, number, is_t) more next = absurd (no_right (holds_active r.place active))
+      by_another apart FloorOut (f, due, got, is_t) more next = absurd (no_right (holds_due r.place due))
+      by_another apart (FloorIn es) (since, e, active, played, rel, es_is, is_t) more next =
+          absurd (no_right (holds_active r.place active))
+      by_another apart (Drop n) (to, back, number, is_t) more next = absurd (no_right (subst HoldsRight (sym back) tt))
+      by_another apart (GrantTicket n) (passing, number, is_t) more next =
+          absurd (no_right (holds_passing r.place passing))
+      by_another apart (CallSeat m) (names, is_t) more next = absurd (no_right (holds_chosen r.place m names))
+      by_another apart Meet never more next = absurd never
+
+      -- by a step of its own: it looks, and finds it
+      module _ (same : r.seat ≡ j) where
+        at_j : h.0 j ≡ r
+        at_j = ap h.0 (sym same) ∙ mine
+
+        stage_j : stage (h.0 j).place ≡ stage r.place
+        stage_j = ap (λ (z : SeatRecord). stage z.place) at_j
+
+        waits_at : waiting_word_at c.seats j r.place ≡ w
+        waits_at = ap (λ (z : SeatRecord). waiting_word_at c.seats j z.place) (sym at_j) ∙ x.waits
+
+        taken : (d : Deed) → IsLooking r.place → look_at r.place true ≡ d ∷ [] → IsTaken s w (By r.seat id d)
+        taken d looking finds = record {
+          seat = r;
+          recorded = its;
+          looking = looking;
+          waits = (λ i. waiting_word_at ((ap (λ (z : SeatRecord). z.setting) (sym mine) ∙ h.1.settings r.seat) i).seats
+              (same i) r.place) ∙ waits_at;
+          id = id;
+          deed = d;
+          finds = finds;
+          is = refl;
+        }
+
+        by_own : (d : Deed) → IsDone k o c s id r d t → IsTaken s w (By r.seat id d)
+        by_own (Arrive n m) (idle, room, number, last, is_t) =
+            let out = ap stage idle in
+            let z = stage_j in
+            ⊎_elim (λ y. let a = y.0 in absurd (omega arith)) (λ y. let a = y.0 in absurd (omega arith)) x.granted
+        by_own (LookForTicket b) (found, waits, there, says, is_t) = ⊎_elim
+            (λ y.
+            let n : ℕ = ticket r.place in
+            let at = standing.ticket_at r.place waits in
+            let word : found ≡ n + 1 = there
+            ∙ ap (slice_index s.words) (sym (ap (waiting_word_at c.seats j) at) ∙ waits_at)
+            ∙ y.1 ∙ ap (λ (z : SeatRecord). ticket z.place + 1) at_j in
+            subst (λ (a : Bool). IsTaken s w (By r.seat id (LookForTicket a)))
+            (sym (says ∙ eq-eqb found (n + 1) word))
+            (taken (LookForTicket true) (inl waits) (ap (λ (p : Place). look_at p true) at)))
+            (λ y. let a = y.0 in let z = stage_j in absurd (omega arith)) x.granted
+        by_own (LookForCall b) (found, parked, there, says, is_t) = ⊎_elim
+            (λ y. let a = y.0 in let z = stage_j in absurd (omega arith))
+            (λ y.
+            let at = standing.inner_at r.place parked in
+            let word : found ≡ r.count + 1 = there
+            ∙ ap (slice_index s.words) (ap seat_word same ∙ sym (ap (waiting_word_at c.seats j) at) ∙ waits_at)
+            ∙ y.1 ∙ ap (λ (z : SeatRecord). z.count + 1) at_j in
+            subst (λ (a : Bool). IsTaken s w (By r.seat id (LookForCall a)))
+            (sym (says ∙ eq-eqb found (r.count + 1) word))
+            (taken (LookForCall true) (inr parked) (ap (λ (p : Place). look_at p true) at)))
+            x.granted
+        by_own (Peek n) (active, number, is_t) = absurd (no_right (holds_active r.place active))
+        by_own FloorOut (f, due, got, is_t) = absurd (no_right (holds_due r.place due))
+        by_own (FloorIn es) (since, e, active, played, rel, es_is, is_t) =
+            absurd (no_right (holds_active r.place active))
+        by_own (Drop n) (to, back, number, is_t) = absurd (no_right (subst HoldsRight (sym back) tt))
+        by_own (GrantTicket n) (passing, number, is_t) = absurd (no_right (holds_passing r.place passing))
+        by_own (CallSeat m) (names, is_t) = absurd (no_right (holds_chosen r.place m names))
+        by_own Meet never = absurd never
+
+    moved : (y : Step) (t : HallState) → IsStep k o c s y t → IsMoveOf y → t.words ≡ s.words
+        → (more : List Step) (next : IsLed k o c more t) → Stands c t.words next.hall.0 j w
+    moved y t step move words more next =
+        let same = moved_stays y t step move more next j x.near in
+        stands_still c s.words t.words h.0 next.hall.0 j w x same.0 same.1
+        (ap (λ (ws : List ℕ). slice_index ws w) words)
+
+    pub taken_or_stands : (y : Step) (t : HallState) → IsStep k o c s y t → (more : List Step)
+        → (next : IsLed k o c more t) → IsTaken s w y ⊎ Stands c t.words next.hall.0 j w
+    taken_or_stands (By i id d) t (r, here, seat, done) more next = elim (eqb_tells r.seat j) [
+      | inl e ↦ inl (subst (λ (n : ℕ). IsTaken s w (By n id d)) seat (by_own id r here t e.1 d done))
+      | inr ne ↦ inr (by_another id r here t ne.1 d done more next)
+    ]
+    taken_or_stands (Deal id) t (r, rs, view, is_t) more next = inr (moved (Deal id) t (r, rs, view, is_t) tt
+        (ap (λ (u : HallState). u.words) is_t) more next)
+    taken_or_stands (Part id) t (a, b, view, is_t) more next = inr (moved (Part id) t (a, b, view, is_t) tt
+        (ap (λ (u : HallState). u.words) is_t) more next)
+    taken_or_stands (Join i id other) t (a, b, view, view_b, apart, idle, first, is_t) more next =
+        inr (moved (Join i id other) t (a, b, view, view_b, apart, idle, first, is_t) tt
+        (ap (λ (u : HallState). u.words) is_t) more next)
+    taken_or_stands (Compare i id) t (a, b, view, idle_a, idle_b, second, is_t) more next =
+        inr (moved (Compare i id) t (a, b, view, idle_a, idle_b, second, is_t) tt
+        (ap (λ (u : HallState). u.words) is_t) more next)
+
+    -- while it stands no step grants the word
+    pub no_second : (y : Step) (t : HallState) → IsStep k o c s y t → (g : ℕ) → granted_word c.seats y ≡ Some g → ⊥
+    no_second (By i id (Arrive n m)) t step g e = none-some g e
+    no_second (By i id (LookForTicket b)) t step g e = none-some g e
+    no_second (By i id (LookForCall b)) t step g e = none-some g e
+    no_second (By i id (Peek n)) t step g e = none-some g e
+    no_second (By i id FloorOut) t step g e = none-some g e
+    no_second (By i id (FloorIn es)) t step g e = none-some g e
+    no_second (By i id (Drop n)) t step g e = none-some g e
+    no_second (By i id (GrantTicket n)) t (r, here, seat, done) g e =
+        no_right id r here t (holds_passing r.place done.0)
+    no_second (By i id (CallSeat m)) t (r, here, seat, done) g e =
+        no_right id r here t (holds_chosen r.place m done.0)
+    no_second (By i id Meet) t step g e = none-some g e
+    no_second (Deal id) t step g e = none-some g e
+    no_second (Part id) t step g e = none-some g e
+    no_second (Join i id other) t step g e = none-some g e
+    no_second (Compare i id) t step g e = none-some g e
+
+  -- a step that grants a word lets a grant stand there
+  module _ (id : ℕ) (r : SeatRecord) (here : get_elem? s.views id ≡ some (r ∷ [])) (t : HallState) (more : List Step)
+      (next : IsLed k o c more t) where
+    granter : h.0 r.seat ≡ r
+    granter = is k o c s h r (record { id = id; view = r ∷ []; at = here; there = inl refl })
+
+    near_of : (j : ℕ) → stage (h.0 j).place ≢ outside_stage → j < c.seats
+    near_of j inside = ⊎_elim (λ far. absurd (inside (h.2.kept.sound.is_sound.outside j far))) (λ low. low)
+        (cases_le c.seats j)
+
+    ticket_stands : (n : ℕ) → stage r.place ≡ passing_stage → n ≡ ticket r.place
+        → t ≡ after_step s id (set s.words (ticket_word c.seats n) (n + 1)) s.homes
+        (record_after_grant r (GrantTicket n))
+        → (j : ℕ) × Stands c t.words next.hall.0 j (ticket_word c.seats n)
+    ticket_stands n passing number is_t =
+        let keeps = h.2.kept.sound.is_sound.stands.keeps in
+        let at_r = ap (λ (z : SeatRecord). stage z.place) granter ∙ passing in
+        let ticket_r = ap (λ (z : SeatRecord). ticket z.place) granter in
+        let waits = (keeps.tickets.passing r.seat at_r).1 in
+        let j : ℕ = h.2.kept.sound.owner (ticket (h.0 r.seat).place) in
+        let ticketed : stage (h.0 j).place ≡ ticketed_stage = waits.0 in
+        let its_ticket : ticket (h.0 j).place ≡ n = waits.1 ∙ ticket_r ∙ sym number in
+        let near = near_of j (λ e. absurd (omega arith)) in
+        let apart : r.seat ≢ j = λ e. let z = ap (λ (i : ℕ). stage (h.0 i).place) e in absurd (omega arith) in
+        let same = others_stay id r (record_after_grant r (GrantTicket n)) here (GrantTicket n) _ s.homes t is_t refl
+        more next j near apart in
+        let place = ap (λ (z : SeatRecord). z.place) same in
+        let at = standing.ticket_at (h.0 j).place ticketed in
+        let low : n % c.seats < c.seats = mod-lt n h.2.some_seat in
+        let wide = h.2.wide in (
+          j,
+          record {
+            near = near;
+            waits = ap (waiting_word_at c.seats j) (place ∙ at) ∙ ap (ticket_word c.seats) its_ticket;
+            granted = inl (
+              ap stage place ∙ ticketed,
+              ap (λ (u : HallState). slice_index u.words (ticket_word c.seats n)) is_t
+                  ∙ get_or-set_same s.words (ticket_word c.seats n) (n + 1) 0 (omega arith)
+                  ∙ ap (λ (m : ℕ). m + 1) (sym its_ticket) ∙ ap (λ (p : Place). ticket p + 1) (sym place),
+            );
+          },
+        )
+
+    call_stands : (m : ℕ) → back_turn r.place ≡ due_to m
+        → t ≡ after_step s id (set s.words (seat_word m) (granted_of r.seen m)) s.homes
+        (record_after_grant r (CallSeat m))
+        → (j : ℕ) × Stands c t.words next.hall.0 j (seat_word m)
+    call_stands m names is_t =
+        let keeps = h.2.kept.sound.is_sound.stands.keeps in
+        let choosing = choosing_at r.place m names in
+        let back_r : stage (h.0 r.seat).place ≡ back_stage = ap (λ (z : SeatRecord). stage z.place) granter
+        ∙ ap stage choosing.is in
+        let turn_r = ap (λ (z : SeatRecord). back_turn z.place) granter ∙ names in
+        let inside : stage (h.0 m).place ≡ inside_stage = keeps.calls.chose r.seat back_r m turn_r in
+        let near = called_near k o c kind s h id r here m names in
+        let apart : r.seat ≢ m = λ e. let z = ap (λ (i : ℕ). stage (h.0 i).place) e in absurd (omega arith) in
+        let same = others_stay id r (record_after_grant r (CallSeat m)) here (CallSeat m) _ s.homes t is_t refl
+        more next m near apart in
+        let place = ap (λ (z : SeatRecord). z.place) same in
+        let at = standing.inner_at (h.0 m).place inside in
+        let with_r : h.2.kept.sound.right ≡ With r.seat =
+        held keeps r.seat (omega arith) (omega arith) in
+        let counted = keeps.calls.not_called m (λ e. absurd cc) in
+        let seen : r.seen ≡ h.2.past = sym (ap (λ (z : SeatRecord). z.seen) granter) ∙ h.2.told.back r.seat back_r in
+        let calls : granted_of r.seen m ≡ (h.0 m).count + 1 = ap (λ (g : List Event). granted_of g m) seen
+        ∙ h.2.told.calls.choosing r.seat m turn_r ∙ ap (λ (n : ℕ). n + 1) counted in
+        let wide = h.2.wide in (
+          m,
+          record {
+            near = near;
+            waits = ap (waiting_word_at c.seats m) (place ∙ at);
+            granted = inr (
+              ap stage place ∙ inside,
+              ap (λ (u : HallState). slice_index u.words (seat_word m)) is_t
+                  ∙ get_or-set_same s.words (seat_word m) (granted_of r.seen m) 0 (omega arith)
+                  ∙ calls ∙ ap (λ (z : SeatRecord). z.count + 1) (sym same),
+            );
+          },
+        )
+
+  pub grant_stands : (x : Step) (t : HallState) → IsStep k o c s x t → (w : ℕ) → granted_word c.seats x ≡ Some w
+      → (more : List Step) (next : IsLed k o c more t) → (j : ℕ) × Stands c t.words next.hall.0 j w
+  grant_stands (By i id (Arrive n m)) t step w e more next = absurd (none-some w e)
+  grant_stands (By i id (LookForTicket b)) t step w e more next = absurd (none-some w e)
+  grant_stands (By i id (LookForCall b)) t step w e more next = absurd (none-some w e)
+  grant_stands (By i id (Peek n)) t step w e more next = absurd (none-some w e)
+  grant_stands (By i id FloorOut) t step w e more next = absurd (none-some w e)
+  grant_stands (By i id (FloorIn es)) t step w e more next = absurd (none-some w e)
+  grant_stands (By i id (Drop n)) t step w e more next = absurd (none-some w e)
+  grant_stands (By i id (GrantTicket n)) t (r, here, seat, done) w e more next =
+      subst (λ (v : ℕ). (j : ℕ) × Stands c t.words next.hall.0 j v) (same_Some (ticket_word c.seats n) w e)
+      (ticket_stands id r here t more next n done.0 done.1 done.2)
+  grant_stands (By i id (CallSeat m)) t (r, here, seat, done) w e more next =
+      subst (λ (v : ℕ). (j : ℕ) × Stands c t.words next.hall.0 j v) (same_Some (seat_word m) w e)
+      (call_stands id r here t more next m done.0 done.1)
+  grant_stands (By i id Meet) t step w e more next = absurd (none-some w e)
+  grant_stands (Deal id) t step w e more next = absurd (none-some w e)
+  grant_stands (Part id) t step w e more next = absurd (none-some w e)
+  grant_stands (Join i id other) t step w e more next = absurd (none-some w e)
+  grant_stands (Compare i id) t step w e more next = absurd (none-some w e)
+
+-- over many steps
+taken_or_still : (k : Rules) (o : Object) (c : Setting) → IsKind k → (steps : List Step) (s : HallState)
+    → (led : IsLed k o c steps s) (j w : ℕ) → Stands c s.words led.hall.0 j w → (xs : List Step) (u : HallState)
+    → IsSchedule k o c s xs u
+    → IsTakenBetween k o c w s xs u
+    ⊎ ((more : List Step) × (last : IsLed k o c more u) × Stands c u.words last.hall.0 j w)
+taken_or_still k o c kind steps s led j w x [] u run = inr (subst
+    (λ (z : HallState). (more : List Step) × (last : IsLed k o c more z) × Stands c z.words last.hall.0 j w) (sym run)
+    (steps, led, x))
+taken_or_still k o c kind steps s led j w x (y ∷ ys) u (v, step, run) =
+    let more = steps ++ y ∷ [] in
+    let next = step_led k o c steps s led kind y v step in
+    ⊎_elim
+    (λ taken. inl (record {
+      before = [];
+      look = y;
+      after = ys;
+      are = refl;
+      at = s;
+      next = v;
+      leads = refl;
+      step = step;
+      goes_on = run;
+      taken = taken;
+    }))
+    (λ still. ⊎_elim
+    (λ later. inl (record {
+      before = y ∷ later.before;
+      look = later.look;
+      after = later.after;
+      are = ap (λ (l : List Step). y ∷ l) later.are;
+      at = later.at;
+      next = later.next;
+      leads = (v, step, later.leads);
+      step = later.step;
+      goes_on = later.goes_on;
+      taken = later.taken;
+    }))
+    (λ end. inr end)
+    (taken_or_still k o c kind more v next j w still ys u run))
+    (taken_or_stands k o c kind steps s led j w x y v step more next)
+
+pub grants_come_in_turn : GrantsComeInTurn
+grants_come_in_turn k o c kind made first s reached w x t step grants xs u run y v again second =
+    let led = led_by k o c kind [] (opening_table c) (led_opening k o c made) first s reached in
+    let more = first ++ x ∷ [] in
+    let next = step_led k o c first s led kind x t step in
+    let stands = grant_stands k o c kind first s led x t step w grants more next in
+    ⊎_elim (λ taken. taken)
+    (λ still. absurd (no_second k o c kind still.0 u still.1 stands.0 w still.2 y v again w second))
+    (taken_or_still k o c kind more t next stands.0 w stands.1 xs u run)
