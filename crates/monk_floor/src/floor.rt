@@ -1,5 +1,6 @@
 ghost use Rattle.std.specs.Prelude.{◌≡◌, ℕ, ◌*◌, ◌<◌, ◌≤◌, None, false, not, ◌&&◌, IfOk, IfErr, nat_lt, slice_index_or};
 ghost use Rattle.std.specs.Prelude.{List, [], ◌∷◌, ◌++◌, length};
+ghost use Rattle.monk_history.specs.Limits.{most_lines};
 ghost use Rattle.monk_history.specs.Meaning.Conditions.{condition};
 ghost use Rattle.monk_history.specs.Meaning.Counts.{left_of, granted_of, enters_of};
 ghost use Rattle.monk_history.specs.Meaning.Events as events;
@@ -219,10 +220,11 @@ impl<K: Kind, T: Guarded> Floor<K, T> {
         self.object.holds(pred)
     }
 
-    /// The history, which is always legal. Constant time.
+    /// The history, which is always legal, and short enough for a text. Constant time.
     pub fn history(&self) -> &[Event]
         ensures history { result.now ≡ self.now.history }
         ensures legal { IsLegal (monitor_of K.rules T.meaning self.now) self.now.history }
+        ensures few { length self.now.history ≤ most_lines }
     {
         self.history.as_slice()
     }
