@@ -31,6 +31,7 @@ mod held;
 mod looking;
 mod making;
 mod modes;
+mod no_gaps;
 mod numbers;
 mod refusal;
 mod reply;
@@ -61,9 +62,14 @@ fn wished(wish: u8) -> Pick
     }
 }
 
+/// How many bytes a seat or none takes.
+const SEAT_BYTES: usize = size_of::<AnySeat>();
+
 /// How many bytes the memory behind a handle has. All of them 0 are no seat.
 #[unsafe(no_mangle)]
-pub extern "C" fn monk_k_seat_size() -> usize {
+pub extern "C" fn monk_k_seat_size() -> usize
+    ensures { result ≡ SEAT_BYTES }
+{
     size_of::<AnySeat>()
 }
 
