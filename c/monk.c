@@ -194,6 +194,14 @@ static int poll_once(monk_seat *s) {
     return noted(s, answer, 1);
 }
 
+/* It arrives, and comes in if it may at once. */
+static int arrive_and_poll(monk_seat *s) {
+    int answer = monk_k_enter(s->token);
+    if (answer != MONK_INSIDE) return noted(s, answer, 0);
+    __tsan_acquire(s->monitor);
+    return noted(s, answer, 1);
+}
+
 static int go_out(monk_seat *s) {
     size_t word = NOBODY;
     __tsan_release(s->monitor);
@@ -356,13 +364,13 @@ int monk_await(monk_seat *s, long milliseconds) {
 int monk_enter_within(monk_seat *s, long milliseconds) {
     int r = begin(s);
     if (r) return r;
-    r = noted(s, monk_k_arrive(s->token), 0);
+    r = arrive_and_poll(s);
     return end(s, r == MONK_WAITING ? come_in_within(s, milliseconds) : r);
 }
 
 int monk_enter(monk_seat *s) {
     int r = begin(s);
-    return r ? r : finished(s, noted(s, monk_k_arrive(s->token), 0));
+    return r ? r : finished(s, arrive_and_poll(s));
 }
 
 int monk_wait(monk_seat *s, unsigned condition) {
@@ -450,8 +458,8 @@ int monk_give_seat(monk_seat *s) {
     monk_monitor *m = s->monitor;
     if (place_of(s) != MONK_OUTSIDE) return end(s, MONK_NOT_NOW);
     pthread_mutex_lock(&m->lock);
-    atomic_store(&s->calling, 0);
-    atomic_store(&s->lent, FREE);
+    atomic_store(&s->lent, FREE);           /* before the call ends: another thread's call finds one of the two */
+    end(s, MONK_OK);
     pthread_mutex_unlock(&m->lock);         /* behind this the monitor may be freed */
     return MONK_OK;
 }

@@ -37,6 +37,9 @@ int32_t monk_k_make(uint8_t kind, uint8_t conditions, uint8_t flags, uint32_t bu
 int32_t monk_k_arrive(monk_k_seat *seat);
 int32_t monk_k_poll(monk_k_seat *seat);
 
+/* An arrival, and then a poll. */
+int32_t monk_k_enter(monk_k_seat *seat);
+
 /* A wish is 0 for entry, 2 for a signaller, any other for a waiter. `*granted` is the word of the seat that may come in
    now (monk_k_word of its handle), or 0: the program wakes the thread that waits there. */
 int32_t monk_k_leave(monk_k_seat *seat, uint8_t wish, size_t *granted);
@@ -48,15 +51,16 @@ int32_t monk_k_start_signal_wait(monk_k_seat *seat, uint8_t condition, uint8_t w
 int32_t monk_k_set_flags(monk_k_seat *seat, uint32_t bits);
 int32_t monk_k_start_wait_until(monk_k_seat *seat, uint8_t flag, uint8_t wish, size_t *granted);
 
-/* At any time: the place (0: no seat), the events left, and of a waiting seat its word, else 0. */
-int32_t monk_k_place(monk_k_seat *seat);
-uint32_t monk_k_left(monk_k_seat *seat);
-size_t monk_k_word(monk_k_seat *seat);
+/* At any time: the place (0: no seat), the events left, and of a waiting seat its word, else 0. These and the next two change
+   nothing of the seat. */
+int32_t monk_k_place(const monk_k_seat *seat);
+uint32_t monk_k_left(const monk_k_seat *seat);
+size_t monk_k_word(const monk_k_seat *seat);
 
 /* From inside: how many wait on a condition; and the text of the history up to now, of which the length is answered. It
    stands in `out` where that has room for it. Below 0: why not. */
-int64_t monk_k_waiting(monk_k_seat *seat, uint8_t condition);
-int64_t monk_k_history(monk_k_seat *seat, uint8_t *out, size_t room);
+int64_t monk_k_waiting(const monk_k_seat *seat, uint8_t condition);
+int64_t monk_k_history(const monk_k_seat *seat, uint8_t *out, size_t room);
 
 /* Closes the monitor whose handles these all are, through handle `by`: that seat comes to the monitor and in, and stays. Its place is
    answered. MONK_K_RANGE where there is no handle `by`, MONK_K_CLOSED where a handle has no seat, MONK_K_NOT_NOW where a seat isn't

@@ -1,11 +1,12 @@
 -- The text that C gets is one of a legal history
-use Rattle.std.proofs.Common.{◌≡◌, ℕ, List, ap, subst, ◌∙◌}
+use Rattle.std.proofs.Common.{◌≡◌, ◌≤◌, ℕ, List, length, ap, subst, ◌∙◌}
 use Rattle.monk_kinds.specs.Names.{rules_named}
 use Rattle.monk_kinds.specs.declared.mode.Rules.{Rules}
 use Rattle.monk_kinds.specs.declared.name.KindName.{KindName}
 use Rattle.monk_object.specs.Flags.{flags_meaning}
 use Rattle.monk_object.specs.Names.{opening_named}
 use Rattle.monk_object.specs.declared.name.ObjectName.TheVariants.{Flags}
+use Rattle.monk_history.specs.Limits.{most_lines}
 use Rattle.monk_history.specs.Meaning.Legal.{IsLegal}
 use Rattle.monk_history.specs.Text.{Heading, HasText, text}
 use Rattle.monk_history.specs.declared.event.Event.{Event}
@@ -34,14 +35,16 @@ module _ (k : KindName) (r : RoomView) (a : Holder)
   }
 
   pub is_text : (rules : Rules) (h : Heading) (events : List Event) (bytes : List ℕ) → rules ≡ rules_named k
-      → IsLegal (monitor_of rules flags_meaning a.floor) a.floor.history → h ≡ heading_for k r
+      → IsLegal (monitor_of rules flags_meaning a.floor) a.floor.history → length a.floor.history ≤ most_lines
+      → h ≡ heading_for k r
       → events ≡ a.floor.history
       → HasText h events → bytes ≡ text h events → IsTextOf k r a bytes
-  is_text rules h events bytes named legal is same has written = record {
+  is_text rules h events bytes named legal few is same has written = record {
     is = written ∙ ap (λ (x : Heading). text x events) is ∙ ap (λ (es : List Event). text (heading_for k r) es) same;
     has_text =
         subst (λ (es : List Event). HasText (heading_for k r) es) same
         (subst (λ (x : Heading). HasText x events) is has);
     legal = legal_as_headed (heading_for k r) a.floor a.floor.history headed
         (subst (λ (x : Rules). IsLegal (monitor_of x flags_meaning a.floor) a.floor.history) named legal);
+    few = few;
   }

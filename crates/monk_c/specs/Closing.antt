@@ -1,11 +1,14 @@
 -- The close of a monitor through one of its handles
-use Rattle.std.specs.Prelude.{◌≡◌, ℕ, ℤ, Bool, false, not, is_some, List, slice_get, slice_set, Option, Some, None, IfSome, if◌then◌else◌}
+use Rattle.std.specs.Prelude.{◌≡◌, ◌⊎◌, ◌<◌, ℕ, ℤ, pos, Bool, false, not, is_some, List, slice_get, slice_set, Option, Some, None, IfSome, if◌then◌else◌}
 use Rattle.std.specs.List.{list_all}
+use Rattle.monk_hall.specs.Changes.{record_after_arrive}
+use Rattle.monk_hall.specs.Layout.{unpassed}
 use Rattle.monk_c.specs.Answers.{refusal_number}
 use Rattle.monk_c.specs.Coming.{HasCome}
 use Rattle.monk_c.specs.Handles.{booked}
 use Rattle.monk_c.specs.Refusal.{is_outside, refusal_at}
-use Rattle.monk_c.specs.Stands.{Booked}
+use Rattle.monk_c.specs.Stands.{At, Booked}
+use Rattle.monk_c.specs.Taken.{IsOutside, IsWaiting}
 use Rattle.monk_c.specs.declared.any_seat.AnySeat.{AnySeat}
 use Rattle.monk_c.specs.declared.call.Call.TheVariants.{Arrive}
 use Rattle.monk_c.specs.declared.refusal.Refusal.{Refusal}
@@ -42,12 +45,25 @@ refusal_through (Some h) None = refusal_at (booked h.has) Arrive
 abbrev pub close_refusal : List MonkSeat → ℕ → Option Refusal
 close_refusal handles by = refusal_through (slice_get handles by) (refusal_of_seats handles)
 
+-- the arrival found a ticket that isn't passed on
+abbrev pub FoundTaken : At → At → Type 0
+FoundTaken s t = IsOutside s (λ p. IsWaiting t (λ q.
+    (found : ℕ) × (q.me ≡ record_after_arrive p.me found) × (0 < unpassed found)))
+
+-- the seat is inside; or it waits, since the one that arrived found the monitor taken. While each seat of the hall is
+-- outside no ticket is left, which is a law of the hall (`idle_hall_is_free`)
+abbrev pub IsInOrTaken : Option Booked → Option Booked → ℤ → Type 0
+IsInOrTaken None arrived code = ⊥
+IsInOrTaken (Some a) None code = ⊥
+IsInOrTaken (Some a) (Some b) code = (code ≡ pos 3) ⊎ ((code ≡ pos 2) × FoundTaken a.seat.at b.seat.at)
+
 -- the handle's seat has arrived and polled, and each other handle is as before
 pub record IsClosed (old : List MonkSeat) (by : ℕ) (code : ℤ) (new : List MonkSeat) : Type 0 where
   pub handle : MonkSeat
   pub last : AnySeat
   pub chosen : slice_get old by ≡ Some handle
   pub come : HasCome handle.has code last
+  pub inside : IsInOrTaken (booked handle.has) (booked come.between) code
   pub others : new ≡ slice_set old by (record handle { has = last })
 
 -- a close that is refused changes nothing, and is answered by its refusal

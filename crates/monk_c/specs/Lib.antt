@@ -4,6 +4,7 @@ pub mod Coming
 pub mod Dealing
 pub mod Deals
 pub mod Handles
+pub mod Lending
 pub mod Headings
 pub mod Looking
 pub mod Making

@@ -1,6 +1,7 @@
 -- The text of a history, as C gets it
-use Rattle.std.specs.Prelude.{◌≡◌, ◌⊎◌, ◌++◌, ℕ, ℤ, pos, List, length, drop, nat_le, Option, Some, None, if◌then◌else◌}
+use Rattle.std.specs.Prelude.{◌≡◌, ◌⊎◌, ◌++◌, ◌≤◌, ℕ, ℤ, pos, List, length, drop, nat_le, Option, Some, None, if◌then◌else◌}
 use Rattle.monk_kinds.specs.declared.name.KindName.{KindName}
+use Rattle.monk_history.specs.Limits.{most_lines}
 use Rattle.monk_history.specs.Meaning.Legal.{IsLegal}
 use Rattle.monk_history.specs.Meaning.Named.{named_monitor}
 use Rattle.monk_history.specs.Text.{HasText, text}
@@ -13,11 +14,12 @@ use Rattle.monk_c.specs.declared.refusal.Refusal.{Refusal}
 use Rattle.monk_c.specs.declared.refusal.Refusal.TheVariants.{NotNow, Memory, Closed}
 
 -- the text of the history that the seat inside sees, under the header of its hall. The history is legal for the monitor
--- that the header names, and the text is read as this header and these events again
+-- that the header names, and no longer than a text may be. So the text is read as this header and these events again
 pub record IsTextOf (k : KindName) (r : RoomView) (a : Holder) (bytes : List ℕ) : Type 0 where
   pub is : bytes ≡ text (heading_for k r) a.floor.history
   pub has_text : HasText (heading_for k r) a.floor.history
   pub legal : IsLegal (named_monitor (heading_for k r)) a.floor.history
+  pub few : length a.floor.history ≤ most_lines
 
 -- only a seat that is inside has the text
 abbrev pub HasTextAt : KindName → RoomView → At → List ℕ → Type 0

@@ -1,6 +1,7 @@
 //! A seat of a monitor of any kind.
 ghost use Rattle.std.specs.Prelude.{◌≡◌, true, IfOk, IfErr};
 ghost use Rattle.monk_kinds.specs.declared.mode.Pick.TheVariants as pick;
+ghost use Rattle.monk_c.specs.Coming.{IfComesAt};
 ghost use Rattle.monk_c.specs.Handles.{IfRefusedAt, IfTakenAt, IfUntoldAt, booked};
 ghost use Rattle.monk_c.specs.Looking.{IsCountOf};
 ghost use Rattle.monk_c.specs.Refusal.{is_plain};
@@ -68,6 +69,49 @@ impl AnySeat {
             AnySeat::Npir(seat) => seat.ask(call, wish),
             AnySeat::Pis(seat) => seat.ask(call, wish),
             AnySeat::Npis(seat) => seat.ask(call, wish),
+        }
+    }
+
+    /// Comes to the monitor, and in where it may, or is refused.
+    #[inline(always)]
+    pub fn come(&mut self) -> i32
+        ensures refused { IfRefusedAt Call.Arrive self.old result self.new }
+        ensures come { IfComesAt self.old result self.new }
+    {
+        match self {
+            AnySeat::Empty => Refusal::Closed.number(),
+            AnySeat::Pb(seat) => seat.come(),
+            AnySeat::Npb(seat) => seat.come(),
+            AnySeat::Pnb(seat) => seat.come(),
+            AnySeat::Npnb(seat) => seat.come(),
+            AnySeat::Pqb(seat) => seat.come(),
+            AnySeat::Npqb(seat) => seat.come(),
+            AnySeat::Pir(seat) => seat.come(),
+            AnySeat::Npir(seat) => seat.come(),
+            AnySeat::Pis(seat) => seat.come(),
+            AnySeat::Npis(seat) => seat.come(),
+        }
+    }
+
+    /// Leaves the monitor, or is refused.
+    #[inline(always)]
+    pub fn go(&mut self, wish: Pick) -> Reply
+        ensures refused { IfRefusedAt Call.Leave self.old result.code self.new }
+        ensures untold { IfUntoldAt Call.Leave self.old result.granted }
+        ensures taken { IfTakenAt Call.Leave wish self.old result.code result.granted self.new }
+    {
+        match self {
+            AnySeat::Empty => Reply::refused(Refusal::Closed),
+            AnySeat::Pb(seat) => seat.go(wish),
+            AnySeat::Npb(seat) => seat.go(wish),
+            AnySeat::Pnb(seat) => seat.go(wish),
+            AnySeat::Npnb(seat) => seat.go(wish),
+            AnySeat::Pqb(seat) => seat.go(wish),
+            AnySeat::Npqb(seat) => seat.go(wish),
+            AnySeat::Pir(seat) => seat.go(wish),
+            AnySeat::Npir(seat) => seat.go(wish),
+            AnySeat::Pis(seat) => seat.go(wish),
+            AnySeat::Npis(seat) => seat.go(wish),
         }
     }
 

@@ -32,6 +32,7 @@ pub enum Call {
 
 impl Call {
     /// Whether kinds of this mode have the call.
+    #[inline(always)]
     pub fn is_of(self, mode: Mode) -> bool
         ensures { result ≡ has_call mode self }
     {
@@ -46,6 +47,7 @@ impl Call {
     }
 
     /// Whether its numbers are in range, where there are so many conditions and flags.
+    #[inline(always)]
     pub fn is_within(self, conds: u8, flags: u8) -> bool
         requires { flags ≤ 32 }
         ensures { result ≡ is_within conds flags self }
@@ -61,6 +63,7 @@ impl Call {
     }
 
     /// How many events it wants to be left of the seat's budget.
+    #[inline(always)]
     pub fn wants(self) -> u32
         ensures { result ≡ wants self }
     {

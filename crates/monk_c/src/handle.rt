@@ -1,10 +1,10 @@
 //! What a C program has of a seat.
-ghost use Rattle.std.specs.Prelude.{◌≡◌, true, None, IfOk, IfErr};
+ghost use Rattle.std.specs.Prelude.{◌≡◌, true, IfOk, IfErr};
 ghost use Rattle.monk_kinds.specs.declared.mode.Pick.TheVariants as pick;
-ghost use Rattle.monk_c.specs.Coming.{HasCome};
+ghost use Rattle.monk_c.specs.Coming.{IfComesAt};
 ghost use Rattle.monk_c.specs.Handles.{IfRefusedAt, IfTakenAt, IfUntoldAt, booked};
 ghost use Rattle.monk_c.specs.Looking.{IsCountOf};
-ghost use Rattle.monk_c.specs.Refusal.{is_plain, refusal_at};
+ghost use Rattle.monk_c.specs.Refusal.{is_plain};
 ghost use Rattle.monk_c.specs.Texts.{HasTextBooked, IsTextRefusalOf};
 ghost use Rattle.monk_c.specs.SeatQuestions.{IsLeft, place_at, word_at};
 ghost use Rattle.monk_c.specs.declared.any_seat.AnySeat.{AnySeat as Held};
@@ -36,23 +36,11 @@ impl Model for MonkSeat {
 unsafe impl Send for MonkSeat {}
 
 impl MonkSeat {
-    /// Puts another in its place, and gives what was there.
-    fn swap(&mut self, next: AnySeat) -> AnySeat
-        ensures { (result ≡ self.old.has) × (self.new ≡ record self.old { has = next }) }
-    {
-        unsafe {
-            let at = self.at as *mut AnySeat;
-            let old = at.read();
-            at.write(next);
-            old
-        }
-    }
-
     /// Puts another in its place, and gives up what was there.
     pub fn put(&mut self, next: AnySeat)
         ensures { self.new ≡ record self.old { has = next } }
     {
-        self.swap(next);
+        *self.held() = next;
     }
 
     /// Does what is asked, or refuses it.
@@ -63,23 +51,31 @@ impl MonkSeat {
         ensures untold { IfUntoldAt call self.old.has result.granted }
         ensures taken { IfTakenAt call wish self.old.has result.code result.granted self.new.has }
     {
-        let mut seat = self.swap(AnySeat::Empty);
-        let reply = seat.ask(call, wish);
-        self.swap(seat);
-        reply
+        self.held().ask(call, wish)
     }
 
-    /// Comes to the monitor and looks whether it may come in. The place where it stands then, or why it can't come.
+    /// Comes to the monitor, and in where it may. The place where it stands then, or why it can't come.
+    ///
+    /// Two exports call it. It isn't inlined into them, because the move of the seat is inlined here only if it has one
+    /// caller, and otherwise an arrival takes more than twice the instructions.
+    #[inline(never)]
     pub fn come(&mut self) -> i32
         ensures same { self.new ≡ record self.old { has = self.new.has } }
         ensures refused { IfRefusedAt Call.Arrive self.old.has result self.new.has }
-        ensures come { refusal_at (booked self.old.has) Call.Arrive ≡ None → HasCome self.old.has result self.new.has }
+        ensures come { IfComesAt self.old.has result self.new.has }
     {
-        let arrived = self.ask(Call::Arrive, Pick::Waiter).code;
-        if arrived < 0 {
-            return arrived;
-        }
-        self.ask(Call::Poll, Pick::Waiter).code
+        self.held().come()
+    }
+
+    /// Leaves the monitor, or is refused.
+    #[inline(always)]
+    pub fn go(&mut self, wish: Pick) -> Reply
+        ensures same { self.new ≡ record self.old { has = self.new.has } }
+        ensures refused { IfRefusedAt Call.Leave self.old.has result.code self.new.has }
+        ensures untold { IfUntoldAt Call.Leave self.old.has result.granted }
+        ensures taken { IfTakenAt Call.Leave wish self.old.has result.code result.granted self.new.has }
+    {
+        self.held().go(wish)
     }
 
     /// Signals a condition to all who wait there, or refuses it.
@@ -90,10 +86,7 @@ impl MonkSeat {
         ensures taken { IfTakenAt (Call.Broadcast cond) pick.Waiter self.old.has result.code result.granted
             self.new.has }
     {
-        let mut seat = self.swap(AnySeat::Empty);
-        let reply = seat.broadcast(cond);
-        self.swap(seat);
-        reply
+        self.held().broadcast(cond)
     }
 
     /// Signals the first condition and waits on the second, or refuses it.
@@ -104,10 +97,7 @@ impl MonkSeat {
         ensures taken { IfTakenAt (Call.SignalWait cond wait_cond) wish self.old.has result.code result.granted
             self.new.has }
     {
-        let mut seat = self.swap(AnySeat::Empty);
-        let reply = seat.signal_wait(cond, wait_cond, wish);
-        self.swap(seat);
-        reply
+        self.held().signal_wait(cond, wait_cond, wish)
     }
 
     /// The number for C of where it stands.
@@ -115,10 +105,7 @@ impl MonkSeat {
         ensures same { self.new ≡ self.old }
         ensures place { result ≡ place_at (booked self.old.has) }
     {
-        let seat = self.swap(AnySeat::Empty);
-        let place = seat.place();
-        self.swap(seat);
-        place
+        self.held().place()
     }
 
     /// How many events it has left.
@@ -126,10 +113,7 @@ impl MonkSeat {
         ensures same { self.new ≡ self.old }
         ensures left { IsLeft (booked self.old.has) result }
     {
-        let seat = self.swap(AnySeat::Empty);
-        let left = seat.left();
-        self.swap(seat);
-        left
+        self.held().left()
     }
 
     /// The word where its grant will come, if it waits.
@@ -137,10 +121,7 @@ impl MonkSeat {
         ensures same { self.new ≡ self.old }
         ensures word { result ≡ word_at (booked self.old.has) }
     {
-        let seat = self.swap(AnySeat::Empty);
-        let word = seat.word();
-        self.swap(seat);
-        word
+        self.held().word()
     }
 
     /// How many wait on a condition, or why that isn't told: its number is below 0.
@@ -148,10 +129,7 @@ impl MonkSeat {
         ensures same { self.new ≡ self.old }
         ensures count { IsCountOf (booked self.old.has) cond result }
     {
-        let seat = self.swap(AnySeat::Empty);
-        let count = seat.waiting(cond);
-        self.swap(seat);
-        count
+        self.held().waiting(cond)
     }
 
     /// The text of the history up to now, or why there is none.
@@ -160,9 +138,6 @@ impl MonkSeat {
         ensures text { IfOk result (λ v. HasTextBooked (booked self.old.has) v.items) }
         ensures refused { IfErr result (λ f. IsTextRefusalOf (booked self.old.has) f) }
     {
-        let seat = self.swap(AnySeat::Empty);
-        let text = seat.text(alloc);
-        self.swap(seat);
-        text
+        self.held().text(alloc)
     }
 }

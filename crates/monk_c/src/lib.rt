@@ -10,6 +10,7 @@
 
 ghost use Rattle.std.specs.Prelude.{◌≡◌};
 ghost use Rattle.monk_c.specs.Closing.{IfCloseRefused, IfClosed};
+ghost use Rattle.monk_c.specs.Coming.{IfComesAt};
 ghost use Rattle.monk_c.specs.Handles.{IfRefusedAt, IfTakenAt, IfUntoldAt, booked};
 ghost use Rattle.monk_c.specs.Looking.{IsCountOf};
 ghost use Rattle.monk_c.specs.Making.{IsMade};
@@ -26,9 +27,11 @@ mod closing;
 mod crossing;
 mod deal;
 mod handle;
+mod held;
 mod looking;
 mod making;
 mod modes;
+mod no_gaps;
 mod numbers;
 mod refusal;
 mod reply;
@@ -59,9 +62,14 @@ fn wished(wish: u8) -> Pick
     }
 }
 
+/// How many bytes a seat or none takes.
+const SEAT_BYTES: usize = size_of::<AnySeat>();
+
 /// How many bytes the memory behind a handle has. All of them 0 are no seat.
 #[unsafe(no_mangle)]
-pub extern "C" fn monk_k_seat_size() -> usize {
+pub extern "C" fn monk_k_seat_size() -> usize
+    ensures { result ≡ SEAT_BYTES }
+{
     size_of::<AnySeat>()
 }
 
@@ -108,6 +116,16 @@ pub extern "C" fn monk_k_poll(seat: &mut MonkSeat) -> i32
     seat.ask(Call::Poll, Pick::Waiter).code
 }
 
+/// The seat comes to the monitor, and in where it may.
+#[unsafe(no_mangle)]
+pub extern "C" fn monk_k_enter(seat: &mut MonkSeat) -> i32
+    ensures same { seat.new ≡ record seat.old { has = seat.new.has } }
+    ensures refused { IfRefusedAt Call.Arrive seat.old.has result seat.new.has }
+    ensures come { IfComesAt seat.old.has result seat.new.has }
+{
+    seat.come()
+}
+
 /// The seat leaves the monitor.
 #[unsafe(no_mangle)]
 pub extern "C" fn monk_k_leave(seat: &mut MonkSeat, wish: u8, granted: &mut usize) -> i32
@@ -116,7 +134,7 @@ pub extern "C" fn monk_k_leave(seat: &mut MonkSeat, wish: u8, granted: &mut usiz
     ensures untold { IfUntoldAt Call.Leave seat.old.has granted.new }
     ensures taken { IfTakenAt Call.Leave (wish_of wish) seat.old.has result granted.new seat.new.has }
 {
-    let reply = seat.ask(Call::Leave, wished(wish));
+    let reply = seat.go(wished(wish));
     *granted = reply.granted;
     reply.code
 }

@@ -7,6 +7,7 @@ ghost use Rattle.monk_object.specs.declared.name.ObjectName.TheVariants as objec
 ghost use Rattle.monk_history.specs.Text.{is_writable};
 ghost use Rattle.monk_history.specs.declared.event.Event.{Event};
 ghost use Rattle.monk_c.specs.Answers.{place_number};
+ghost use Rattle.monk_c.specs.Coming.{IfComes};
 ghost use Rattle.monk_c.specs.Headings.{flags_made, heading_for};
 ghost use Rattle.monk_c.specs.Refusal.{IsReady, is_plain, refusal_of};
 ghost use Rattle.monk_c.specs.Stands.{IsAtHome, me_of};
@@ -50,6 +51,7 @@ impl<K: Kind> Model for Seat<K> {
 
 impl<K: Kind> Seat<K> {
     /// The seat of this hall that has the token.
+    #[inline(always)]
     pub fn new(room: Shared<K>, token: SeatToken<K>) -> Seat<K>
         requires { IsAtHome (arc_value room) (at_of token) }
         ensures { result ≡ record { room = arc_value room; at = at_of token } }
@@ -58,6 +60,7 @@ impl<K: Kind> Seat<K> {
     }
 
     /// Its hall and its token.
+    #[inline(always)]
     pub fn into_parts(self) -> (Shared<K>, SeatToken<K>)
         ensures home { IsAtHome (arc_value result.0) (at_of result.1) }
         ensures parts { self ≡ record { room = arc_value result.0; at = at_of result.1 } }
@@ -106,6 +109,7 @@ impl<K: Kind> Seat<K> {
     }
 
     /// Why the call is refused, if it is.
+    #[inline(always)]
     fn refusal(&self, call: Call) -> Option<Refusal>
         ensures { result ≡ refusal_of K.rules.mode self.now call }
     {
@@ -182,6 +186,46 @@ impl<K: Kind> Seat<K> {
                 |seat: Seat<K>, asked: (Call, Pick)|
                     requires { IsReady K.rules.mode seat asked.0 × (is_plain asked.0 ≡ true) }
                 { seat.take(asked.0, asked.1) },
+            ),
+        }
+    }
+}
+
+impl<K: Kind> Seat<K> {
+    /// Comes to the monitor, and in where it may, or is refused. It does what `ask` does for an arrival and then for a
+    /// poll, and moves the seat once.
+    #[inline(always)]
+    pub fn come(&mut self) -> i32
+        ensures refused { IfRefused K.rules Call.Arrive self.old result self.new }
+        ensures come { IfComes K.rules self.old result self.new }
+    {
+        match self.refusal(Call::Arrive) {
+            Some(refusal) => refusal.number(),
+            None => mem::replace_with(
+                self,
+                (),
+                |seat: Seat<K>, _nothing: ()|
+                    requires { IsReady K.rules.mode seat Call.Arrive }
+                { seat.arrive_and_poll() },
+            ),
+        }
+    }
+
+    /// Leaves the monitor, or is refused. It does what `ask` does for this call, which is known where it is compiled.
+    #[inline(always)]
+    pub fn go(&mut self, wish: Pick) -> Reply
+        ensures refused { IfRefused K.rules Call.Leave self.old result.code self.new }
+        ensures untold { IfUntold K.rules Call.Leave self.old result.granted }
+        ensures taken { IfTaken K.rules Call.Leave wish self.old result.code result.granted self.new }
+    {
+        match self.refusal(Call::Leave) {
+            Some(refusal) => Reply::refused(refusal),
+            None => mem::replace_with(
+                self,
+                wish,
+                |seat: Seat<K>, wish: Pick|
+                    requires { IsReady K.rules.mode seat Call.Leave }
+                { seat.leave(wish) },
             ),
         }
     }

@@ -3,6 +3,7 @@ ghost use Rattle.std.specs.Prelude.{◌≡◌};
 ghost use Rattle.std.specs.Arc.{arc_value};
 ghost use Rattle.monk_kinds.specs.declared.mode.Pick.TheVariants as pick;
 ghost use Rattle.monk_c.specs.Answers.{place_number};
+ghost use Rattle.monk_c.specs.Coming.{Comes};
 ghost use Rattle.monk_c.specs.Refusal.{IsReady};
 ghost use Rattle.monk_c.specs.Stands.{IsAtHome};
 ghost use Rattle.monk_c.specs.Tokens.{at_after, at_of};
@@ -18,6 +19,7 @@ use monk_kinds::{ImmediateReturn, Kind, NonBlocking, Pick};
 use monk_object::{Flags, Op};
 
 /// A seat that stands there now, and what C is told of it.
+#[inline(always)]
 fn stands<K: Kind>(room: Shared<K>, token: SeatToken<K>, granted: usize) -> (Seat<K>, Reply)
     requires { IsAtHome (arc_value room) (at_of token) }
     ensures seat { result.0 ≡ record { room = arc_value room; at = at_of token } }
@@ -40,6 +42,7 @@ fn token_after<K: Kind>(after: After<K, Flags>) -> SeatToken<K>
 
 impl<K: Kind> Seat<K> {
     /// Comes to the monitor.
+    #[inline(always)]
     pub(crate) fn arrive(self) -> (Seat<K>, Reply)
         requires { IsReady K.rules.mode self Call.Arrive }
         ensures { Answers K.rules Call.Arrive pick.Waiter self result.1.code result.1.granted result.0 }
@@ -55,6 +58,7 @@ impl<K: Kind> Seat<K> {
     }
 
     /// Looks whether it may come in.
+    #[inline(always)]
     pub(crate) fn poll(self) -> (Seat<K>, Reply)
         requires { IsReady K.rules.mode self Call.Poll }
         ensures { Answers K.rules Call.Poll pick.Waiter self result.1.code result.1.granted result.0 }
@@ -69,7 +73,19 @@ impl<K: Kind> Seat<K> {
         }
     }
 
+    /// Comes to the monitor, and in where it may. The number for C of where it stands then.
+    #[inline(always)]
+    pub(crate) fn arrive_and_poll(self) -> (Seat<K>, i32)
+        requires { IsReady K.rules.mode self Call.Arrive }
+        ensures { Comes K.rules self result.1 result.0 }
+    {
+        let (seat, _) = self.arrive();
+        let (seat, polled) = seat.poll();
+        (seat, polled.code)
+    }
+
     /// Leaves the monitor.
+    #[inline(always)]
     pub(crate) fn leave(self, wish: Pick) -> (Seat<K>, Reply)
         requires { IsReady K.rules.mode self Call.Leave }
         ensures { Answers K.rules Call.Leave wish self result.1.code result.1.granted result.0 }

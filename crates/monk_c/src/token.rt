@@ -22,6 +22,7 @@ pub enum SeatToken<K: Kind> {
 
 impl<K: Kind> SeatToken<K> {
     /// Whether a seat that stands there has the call.
+    #[inline(always)]
     pub fn is_from(&self, call: Call) -> bool
         ensures { result ≡ is_from (at_of self.now) call }
     {
@@ -33,6 +34,7 @@ impl<K: Kind> SeatToken<K> {
     }
 
     /// How many events its seat has left.
+    #[inline(always)]
     pub fn left(&self) -> u32
         ensures { result + length (me_of (at_of self.now)).mine ≡ (me_of (at_of self.now)).setting.budget }
     {
@@ -44,6 +46,7 @@ impl<K: Kind> SeatToken<K> {
     }
 
     /// The number for C of where the seat stands.
+    #[inline(always)]
     pub fn place(&self) -> i32
         ensures { result ≡ place_number (at_of self.now) }
     {

@@ -2,13 +2,14 @@
 use Rattle.std.proofs.Common.{◌≡◌, ℕ, ◌+◌, ◌-◌, ◌*◌, ◌<◌, ◌≤◌, zero, suc, Bool, true, false, cond, ◌&&◌, ◌||◌, not}
 use Rattle.std.proofs.Common.{◌==◌, All, List, [], ◌∷◌, ◌++◌, length, refl, sym, ap, subst, ◌∙◌, arith, Option, Some, None, drop, ⊎_elim}
 use Rattle.std.specs.Prelude.{nat_lt, slice_index_or}
+use Rattle.std.proofs.Math.Nat.{mul-le-mul_right}
 use Rattle.std.specs.List.{list_all}
 use Rattle.std.proofs.lemmas.Bool.{eqb-true, cases_lt}
 use Rattle.std.proofs.lemmas.List.Elements.{All-nil}
 use Rattle.monk_kinds.specs.declared.mode.Rules.{Rules}
 use Rattle.monk_kinds.specs.Kind.{IsKind}
 use Rattle.monk_object.specs.Object.{Object}
-use Rattle.monk_history.specs.Limits.{most_seats, most_conds, most_budget}
+use Rattle.monk_history.specs.Limits.{most_seats, most_conds, most_budget, most_lines}
 use Rattle.monk_history.specs.Meaning.Events.{seat_of, next_of, named_seat, waits_on, signals_on}
 use Rattle.monk_history.specs.Meaning.Monitor.{Monitor, data_after}
 use Rattle.monk_history.specs.Meaning.Situation.{situation}
@@ -149,6 +150,15 @@ module _ {m : Monitor} {budget : ℕ} {h : List Event} {capacity : ℕ} {q : Que
   within_budgets kept =
       history_few m.seats budget h (λ j n. sym (kept.counts j) ∙ past_none spent j (omega (arith, n, kept.spent_seats)))
       kept.within
+
+  -- so a text has lines for all of it
+  pub within_lines : KeepsHistory m budget h capacity q state turn inside spent granted entered
+      → length h ≤ most_lines
+  within_lines kept =
+      let n = within_budgets kept in
+      let low = kept.low in
+      let c = mul-le-mul_right budget kept.few in
+      omega (arith, n, low, c)
 
   -- and there is room in the history
   pub has_room : KeepsHistory m budget h capacity q state turn inside spent granted entered → (e : Event)

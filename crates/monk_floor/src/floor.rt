@@ -1,5 +1,6 @@
 ghost use Rattle.std.specs.Prelude.{◌≡◌, ℕ, ◌*◌, ◌<◌, ◌≤◌, None, false, not, ◌&&◌, IfOk, IfErr, nat_lt, slice_index_or};
 ghost use Rattle.std.specs.Prelude.{List, [], ◌∷◌, ◌++◌, length};
+ghost use Rattle.monk_history.specs.Limits.{most_lines};
 ghost use Rattle.monk_history.specs.Meaning.Conditions.{condition};
 ghost use Rattle.monk_history.specs.Meaning.Counts.{left_of, granted_of, enters_of};
 ghost use Rattle.monk_history.specs.Meaning.Events as events;
@@ -132,6 +133,7 @@ impl<K: Kind, T: Guarded> Floor<K, T> {
 
     /// Appends an event that is allowed. It is no act, since that changes the object. Constant time, but for an event
     /// that chose a wait-until, which costs those before it.
+    #[inline(always)]
     fn append(&mut self, event: Event)
         requires allowed { IsAllowed (monitor_of K.rules T.meaning self.old) self.old.history event }
         requires left { 0 < left_of self.old.budget self.old.history (events.seat_of event) }
@@ -144,6 +146,7 @@ impl<K: Kind, T: Guarded> Floor<K, T> {
 
     /// What a release chooses by the wish rules, over all queues as they are after its own moves. Any next may stand
     /// in the event. Costs a judgement of each wait-until up to the first that is ready.
+    #[inline(always)]
     fn next_by(&self, event: Event, entry_known: bool, pick: Pick) -> Next
         requires call { MayCallOn K.rules T.meaning self.now event }
         requires release { IsReplyless T.meaning event }
@@ -162,6 +165,7 @@ impl<K: Kind, T: Guarded> Floor<K, T> {
 
     /// A seat that is outside enters where the monitor is free: `Via::Free` past no inner queue, `Via::Handed` after
     /// somebody let it in. Constant time.
+    #[inline(always)]
     pub fn enter(&mut self, seat: u8, via: Via)
         requires call { MayCallOn K.rules T.meaning self.old (Event.Enter seat via) }
         requires left { 0 < left_of self.old.budget self.old.history seat }
@@ -171,6 +175,7 @@ impl<K: Kind, T: Guarded> Floor<K, T> {
     }
 
     /// The seat that was chosen from a queue goes on, and learns from which queue. Constant time.
+    #[inline(always)]
     pub fn resume(&mut self, seat: u8) -> From3
         requires seat { seat < self.old.seats }
         requires due { IsDueTo seat (turn self.old.history) }
@@ -194,6 +199,7 @@ impl<K: Kind, T: Guarded> Floor<K, T> {
     }
 
     /// The active seat carries an operation out on the object, and gets its reply. Costs what the object's `act` costs.
+    #[inline(always)]
     pub fn act(&mut self, seat: u8, op: Op) -> u64
         requires call { MayCallOn K.rules T.meaning self.old (Event.Act seat op 0) }
         requires left { 0 < left_of self.old.budget self.old.history seat }
@@ -214,10 +220,11 @@ impl<K: Kind, T: Guarded> Floor<K, T> {
         self.object.holds(pred)
     }
 
-    /// The history, which is always legal. Constant time.
+    /// The history, which is always legal, and short enough for a text. Constant time.
     pub fn history(&self) -> &[Event]
         ensures history { result.now ≡ self.now.history }
         ensures legal { IsLegal (monitor_of K.rules T.meaning self.now) self.now.history }
+        ensures few { length self.now.history ≤ most_lines }
     {
         self.history.as_slice()
     }

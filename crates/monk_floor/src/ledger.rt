@@ -12,6 +12,7 @@ use monk_history::{Event, From3, Next, Turn};
 use std::alloc::{AllocError, Global};
 
 /// Notes who is inside after an event.
+#[inline(always)]
 pub fn mark_inside(inside: &mut [bool], event: Event)
     requires { events.seat_of event < length inside.old }
     ensures marked { (j : ℕ)
@@ -33,6 +34,7 @@ pub fn mark_inside(inside: &mut [bool], event: Event)
 }
 
 /// Adds one to the count of a seat.
+#[inline(always)]
 pub fn count_one(counts: &mut [u32], seat: u8)
     requires within { seat < length counts.old }
     requires low { slice_index_or counts.old seat 0 < 2 ^ 25 }
@@ -44,6 +46,7 @@ pub fn count_one(counts: &mut [u32], seat: u8)
 }
 
 /// Counts the seat that an event chose from a queue.
+#[inline(always)]
 fn grant(granted: &mut [u32], event: Event)
     requires named { list_all (λ j. nat_lt j (length granted.old)) (events.named_seat (events.next_of event)) ≡ true }
     requires low { (j : ℕ) → slice_index_or granted.old j 0 < 2 ^ 25 }
@@ -60,6 +63,7 @@ fn grant(granted: &mut [u32], event: Event)
 }
 
 /// Counts an enter.
+#[inline(always)]
 fn entered_after(entered: u32, event: Event) -> u32
     requires { entered < 2 ^ 25 }
     ensures { result ≡ entered + (if counts.is_enter event then 1 else 0) }
@@ -111,6 +115,7 @@ impl Ledger {
     }
 
     /// Notes one event more.
+    #[inline(always)]
     pub fn note(&mut self, event: Event)
         requires { HasRoomFor self.old.queues self.old.inside.items self.old.spent.items self.old.granted.items
             self.old.entered event }

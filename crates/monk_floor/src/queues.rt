@@ -109,6 +109,7 @@ impl Queues {
     }
 
     /// Whether an event signals a condition on which nobody waits. Constant time.
+    #[inline(always)]
     pub fn finds_none(&self, event: Event) -> bool
         requires { is_condition most_conds (events.signals_on event) ≡ true }
         ensures { result ≡ lists.finds_none (lists.queue_at self.now.conditions) event }
@@ -120,6 +121,7 @@ impl Queues {
     }
 
     /// The front of the waiter queue, with those that an event serves in it. Constant time.
+    #[inline(always)]
     pub fn front_waiter(&self, event: Event) -> Option<u8>
         requires { is_condition most_conds (events.signals_on event) ≡ true }
         ensures { result ≡ slice_get (self.now.waiters ++ serves (lists.queue_at self.now.conditions) event) 0 }
@@ -137,6 +139,7 @@ impl Queues {
     }
 
     /// The front of the signaller queue, with the caller of a served signal in it. Constant time.
+    #[inline(always)]
     pub fn front_signaller(&self, event: Event) -> Option<u8>
         requires { is_condition most_conds (events.signals_on event) ≡ true }
         ensures { result ≡ slice_get (self.now.signallers ++ signals (lists.queue_at self.now.conditions) event) 0 }
@@ -158,6 +161,7 @@ impl Queues {
 
     /// Carries out an event. Constant time, but for an event that chose a seat of the waits-until, which costs those
     /// before it.
+    #[inline(always)]
     pub fn carry_out(&mut self, event: Event)
         requires seat { events.seat_of event < MOST_SEATS }
         requires waits_in_range { is_condition most_conds (events.waits_on event) ≡ true }
@@ -172,6 +176,7 @@ impl Queues {
     }
 
     /// Takes out the wait-until of the seat that an event chose.
+    #[inline(always)]
     fn drop_chosen(&mut self, event: Event)
         ensures conditions { (c : ℕ) → lists.queue_at self.new.conditions c ≡ lists.queue_at self.old.conditions c }
         ensures waiters { self.new.waiters ≡ self.old.waiters }
@@ -184,6 +189,7 @@ impl Queues {
     }
 
     /// Carries out what an event joins and serves.
+    #[inline(always)]
     fn join(&mut self, event: Event)
         requires seat { events.seat_of event < MOST_SEATS }
         requires waits_in_range { is_condition most_conds (events.waits_on event) ≡ true }
@@ -216,6 +222,7 @@ impl Queues {
     }
 
     /// Takes the fronts that an event chose, once it has served.
+    #[inline(always)]
     fn settle(&mut self, event: Event, none: bool)
         ensures conditions { (c : ℕ) → lists.queue_at self.new.conditions c ≡ lists.queue_at self.old.conditions c }
         ensures waiters { self.new.waiters

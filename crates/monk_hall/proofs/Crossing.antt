@@ -111,7 +111,7 @@ pass_inside : (K T : RattleType) (k : Kind.Ghosts K.Denot) (t : Guarded.Ghosts T
     → IsSend (PassInside.the_row K T k t)
 pass_inside K T k t sk st =
     let all : AllSend (shape (PassInside.the_type K T k t)).fields =
-    (badge_send _, (search sendable, (numbers_send, (search sendable, tt)))) in
+    (badge_send _, (search sendable, (numbers_send, (search sendable, (search sendable, tt))))) in
     recorded_send _ _ _ ((PassInside.the_type K T k t).to_one) (struct_send (shape (PassInside.the_type K T k t)) all)
 
 pub pass_send : (K T : RattleType) (k : Kind.Ghosts K.Denot) (t : Guarded.Ghosts T.Denot) → IsSend K → IsSend T

@@ -285,7 +285,8 @@ zero_words (suc n) (suc i) = zero_words n i
 -- a seat that has its record rests
 pub fresh_rests : (k : Rules) (o : Object) (z : TableId) (c : Setting) (number budget : ℕ) → number < c.seats
     → z.words ≡ word_count c.seats → budget ≡ c.budget
-    → IsResting k o z (opening_record c number ∷ [], []) (record { seat = number; calls = 0; budget = budget }) budget
+    → IsResting k o z (opening_record c number ∷ [], [])
+    (record { seat = number; calls = 0; budget = budget; gap_byte = 0; gap_pair = 0 }) budget
 fresh_rests k o z c number budget near sized enough = record {
   one = refl;
   free = refl;

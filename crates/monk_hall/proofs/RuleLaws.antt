@@ -1,21 +1,26 @@
 -- What holds of a hall's table whenever its rule does
-use Rattle.std.proofs.Common.{◌≡◌, ◌≤◌, false, true≢false, refl, sym, ap, ◌∙◌, inl, inr, arith}
+use Rattle.std.proofs.Common.{◌≡◌, ◌≢◌, ◌≤◌, ℕ, false, true≢false, refl, sym, ap, subst, ◌∙◌, inl, inr, arith}
 use Rattle.monk_kinds.specs.declared.mode.Rules.{Rules}
 use Rattle.monk_object.specs.Object.{Object}
 use Rattle.monk_history.specs.declared.event.Event.{Event}
 use Rattle.std.specs.Prelude.{List}
-use Rattle.monk_world.specs.Places.{stage, back_turn, due_stage, passing_stage}
+use Rattle.monk_world.specs.OnePlace.{IsInOnePlace}
+use Rattle.monk_world.specs.Places.{HoldsRight, stage, back_turn, outside_stage, due_stage, passing_stage}
+use Rattle.monk_world.specs.Right.{Whereabouts, Nowhere, AtTicket, With, AtSeat}
 use Rattle.monk_world.specs.State.{is_quiet}
+use Rattle.monk_world.specs.declared.place.Place.{Place}
+use Rattle.monk_world.specs.declared.place.Place.TheVariants.{Idle, Ticket, Due, Active, Back, Passing, Inner}
 use Rattle.monk_world.proofs.PublicLaws.{has_right, in_one_place, well_led}
 use Rattle.monk_hall.proofs.FloorIn.{gives_at}
 use Rattle.monk_hall.proofs.FloorOut.{takes_at}
 use Rattle.monk_hall.proofs.GrantSteps.{grants_ticket_at, calls_seat_at}
-use Rattle.monk_hall.proofs.RecordLaws.{is, desk, place, with, back}
+use Rattle.monk_hall.proofs.RecordLaws.{recorded, is, desk, place, with, back}
 use Rattle.monk_hall.proofs.WordSteps.{arrives_at, looks_for_ticket_at, looks_for_call_at, peeks_at, takes_off_at}
-use Rattle.monk_hall.specs.Laws.{HallState, IsRecord, RightInOnePlace, ShowsWellLed, OneHasTheRight, OneIsActive}
+use Rattle.monk_hall.specs.Laws.{HallState, IsRecord, first_word, RightInOnePlace, IdleIsFree, ShowsWellLed}
+use Rattle.monk_hall.specs.Laws.{OneHasTheRight, OneIsActive}
 use Rattle.monk_hall.specs.Laws.{KnownWaits, EntryWaits, ArriveSteps, TicketLookSteps, SeatLookSteps, PeekSteps}
 use Rattle.monk_hall.specs.Laws.{FloorOutSteps, FloorInSteps, DropSteps, TicketGrantSteps, SeatGrantSteps}
-use Rattle.monk_hall.specs.Layout.{floor_of, shown_state, shown_world}
+use Rattle.monk_hall.specs.Layout.{unpassed, floor_of, shown_state, shown_world}
 use Rattle.monk_hall.specs.Rule.{IsHall}
 use Rattle.monk_hall.specs.declared.record.SeatRecord.{SeatRecord}
 use Rattle.monk_hall.specs.declared.setting.Setting.{Setting}
@@ -27,6 +32,36 @@ shows_well_led k o c s h = let kept = h.2.kept in
 pub right_in_one_place : RightInOnePlace
 right_in_one_place k o c s h = in_one_place c.seats (shown_world s.words h.0) h.2.kept.sound.right h.2.kept.sound.owner
     h.2.kept.sound.is_sound.stands.keeps h.2.some_seat
+
+only_idle : (p : Place) → (stage p ≢ outside_stage → p ≡ Idle) → p ≡ Idle
+only_idle Idle f = refl
+only_idle (Ticket t) f = f (λ e. absurd (omega arith))
+only_idle (Due q) f = f (λ e. absurd (omega arith))
+only_idle (Active q) f = f (λ e. absurd (omega arith))
+only_idle (Back x to) f = f (λ e. absurd (omega arith))
+only_idle (Passing t to) f = f (λ e. absurd (omega arith))
+only_idle Inner f = f (λ e. absurd (omega arith))
+
+pub idle_is_free : IdleIsFree
+idle_is_free k o c s h idle = free one.right refl
+  where
+    one : IsInOnePlace c.seats (shown_world s.words h.0)
+    one = right_in_one_place k o c s h
+
+    is_idle : (j : ℕ) → (h.0 j).place ≡ Idle
+    is_idle j = only_idle (h.0 j).place (λ inside. idle (h.0 j) (recorded k o c s h j inside))
+
+    free : (r : Whereabouts) → one.right ≡ r → unpassed (first_word s) ≡ 0
+    free Nowhere e = one.free.1 e
+    free (AtTicket t) e =
+        let taker = one.has_taker t e in
+        let at = ap stage (sym taker.1 ∙ is_idle taker.0) in
+        absurd (omega arith)
+    free (With j) e = absurd (subst HoldsRight (is_idle j) ((one.with_seat j).1 e))
+    free (AtSeat j) e =
+        let called = (one.at_seat j).1 e in
+        let at = ap stage (sym called.0 ∙ is_idle j) in
+        absurd (omega arith)
 
 -- two with the right are one
 one : (k : Rules) (o : Object) (c : Setting) (s : HallState) → IsHall k o c s → (r q : SeatRecord)

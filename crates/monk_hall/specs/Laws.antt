@@ -210,6 +210,12 @@ abbrev pub RightInOnePlace : Type 0
 RightInOnePlace = (k : Rules) (o : Object) (c : Setting) (s : HallState) → (h : IsHall k o c s)
     → IsInOnePlace c.seats (shown_world s.words h.0)
 
+-- where each seat is outside and has drawn no ticket, the monitor is free: whoever arrives next comes in
+abbrev pub IdleIsFree : Type 0
+IdleIsFree =
+    (k : Rules) (o : Object) (c : Setting) (s : HallState) → IsHall k o c s
+    → ((r : SeatRecord) → IsRecord s r → r.place ≡ Idle) → unpassed (first_word s) ≡ 0
+
 -- the state that words and records show is well led: its history legal, turn and queues as the seats stand
 abbrev pub ShowsWellLed : Type 0
 ShowsWellLed = (k : Rules) (o : Object) (c : Setting) (s : HallState) → (h : IsHall k o c s)

@@ -1,4 +1,5 @@
 ghost use Rattle.std.specs.Prelude.{◌≡◌, ◌+◌, ◌<◌, ◌≤◌, length};
+ghost use Rattle.monk_history.specs.Limits.{most_lines};
 ghost use Rattle.monk_history.specs.Meaning.Conditions.{condition};
 ghost use Rattle.monk_history.specs.Meaning.Counts.{events_of};
 ghost use Rattle.monk_history.specs.Meaning.Legal.{IsLegal};
@@ -51,11 +52,12 @@ impl<K: Kind, T: Guarded> Active<K, T> {
         self.floor.left(self.numbers.seat)
     }
 
-    /// The history up to now, which is legal. The seat's events in it are its own.
+    /// The history up to now, which is legal, and short enough for a text. The seat's events in it are its own.
     pub fn history(&self) -> &[Event]
         ensures history { result.now ≡ self.now.floor.history }
         ensures legal { IsLegal (monitor_of K.rules T.meaning self.now.floor) self.now.floor.history }
         ensures own { events_of self.now.floor.history self.now.me.seat ≡ self.now.me.mine }
+        ensures few { length self.now.floor.history ≤ most_lines }
     {
         self.floor.history()
     }

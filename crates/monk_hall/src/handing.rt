@@ -21,6 +21,7 @@ use monk_kinds::Kind;
 use monk_object::Guarded;
 
 /// The seat that a choice names.
+#[inline(always)]
 fn seat_called_by(choice: Next) -> Option<u8>
     ensures { result ≡ seat_called_by choice }
 {
@@ -47,6 +48,7 @@ pub(crate) fn is_stay(choice: Next) -> bool
 }
 
 /// After the choice of entry: takes the seat off the ticket word, and grants the next ticket if there is one.
+#[inline(always)]
 fn let_in<K: Kind, T: Guarded>(
     words: &SharedTable<K, T>,
     seat: &mut TableSeat<K, T>,
@@ -71,6 +73,7 @@ fn let_in<K: Kind, T: Guarded>(
 
 /// Brings the floor home with the release that it has recorded, and hands the right on to whom the release chose: gives
 /// what it granted, unless nobody waits.
+#[inline(always)]
 pub(crate) fn go_home<K: Kind, T: Guarded>(
     hall: &Hall<K, T>,
     seat: &mut TableSeat<K, T>,

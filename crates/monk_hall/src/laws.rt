@@ -1,6 +1,6 @@
 //! What holds of a hall's table whenever its rule holds. Every step preserves the rule, so this is
 //! at every moment. Each function does nothing: its contract is the law.
-ghost use Rattle.monk_hall.specs.Laws.{RightInOnePlace, ShowsWellLed, OneHasTheRight, OneIsActive, KnownWaits};
+ghost use Rattle.monk_hall.specs.Laws.{RightInOnePlace, IdleIsFree, ShowsWellLed, OneHasTheRight, OneIsActive, KnownWaits};
 ghost use Rattle.monk_hall.specs.Laws.{EntryWaits, ArriveSteps, TicketLookSteps, SeatLookSteps, PeekSteps};
 ghost use Rattle.monk_hall.specs.Laws.{FloorOutSteps, FloorInSteps, DropSteps, TicketGrantSteps, SeatGrantSteps};
 ghost use Rattle.monk_hall.specs.Laws.{HasHomeHistory};
@@ -26,6 +26,11 @@ pub fn every_schedule_is_one_history()
 pub fn hall_is_well_led()
     ensures right { RightInOnePlace }
     ensures led { ShowsWellLed }
+{}
+
+/// If each seat of the hall is outside and has drawn no ticket, the monitor is free, so whoever arrives next comes in.
+pub fn idle_hall_is_free()
+    ensures { IdleIsFree }
 {}
 
 /// At most one seat is active, and at most one has the right: if two records say so, they are the

@@ -21,6 +21,7 @@ mod handing;
 pub mod laws;
 mod making;
 mod meeting;
+mod no_gaps;
 mod parked;
 mod pass;
 mod places;

@@ -127,11 +127,14 @@ fn fresh_pass<K: Kind, T: Guarded>(seat: TableSeat<K, T>, number: u8, budget: u3
         seat: number,
         calls: 0,
         budget,
+        gap_byte: 0,
+        gap_pair: 0,
     };
     Pass {
         badge: seat.into_badge(),
         of: PhantomData,
         numbers,
         left: budget,
+        gap: 0,
     }
 }

@@ -68,6 +68,7 @@ impl<K: Kind, T: Guarded> Parked<K, T> {
 
     /// Becomes active if the right was handed over, in at most two steps: a look where it waits, and the floor comes.
     /// Otherwise it gives itself back.
+    #[inline(always)]
     pub fn poll(self, hall: &Hall<K, T>) -> Result<Active<K, T>, Parked<K, T>>
         requires { self.hall ≡ hall.now.id }
         ensures active { IfOk result (λ a. HasEntered K.rules T.meaning self a × ComesAfter 0 self.me a.me) }
@@ -81,6 +82,7 @@ impl<K: Kind, T: Guarded> Parked<K, T> {
     }
 
     /// Looks where it waits. A seat that is due needs no look.
+    #[inline(always)]
     fn look(self, hall: &Hall<K, T>) -> Parked<K, T>
         requires { self.hall ≡ hall.now.id }
         ensures { HasLooked K.rules T.meaning self result }
@@ -93,6 +95,7 @@ impl<K: Kind, T: Guarded> Parked<K, T> {
     }
 
     /// Looks whether its ticket was granted.
+    #[inline(always)]
     fn ticket_look(self, hall: &Hall<K, T>, ticket: u32) -> Parked<K, T>
         requires hall { self.hall ≡ hall.now.id }
         requires waits { self.me.place ≡ at.Ticket ticket }
@@ -114,6 +117,7 @@ impl<K: Kind, T: Guarded> Parked<K, T> {
     }
 
     /// Looks whether it was called.
+    #[inline(always)]
     fn seat_look(self, hall: &Hall<K, T>) -> Parked<K, T>
         requires hall { self.hall ≡ hall.now.id }
         requires parked { self.me.place ≡ at.Inner }
@@ -132,6 +136,8 @@ impl<K: Kind, T: Guarded> Parked<K, T> {
                 seat: numbers.seat,
                 calls: count_after_seat_look(numbers.calls, found),
                 budget: numbers.budget,
+                gap_byte: numbers.gap_byte,
+                gap_pair: numbers.gap_pair,
             },
             left,
             place: place_after_seat_look(is_called(numbers.calls, found)),
@@ -139,6 +145,7 @@ impl<K: Kind, T: Guarded> Parked<K, T> {
     }
 
     /// The floor comes to the seat, which is due, and its enter or resume is recorded.
+    #[inline(always)]
     fn come_in(self, hall: &Hall<K, T>, source: Source) -> Active<K, T>
         requires hall { self.hall ≡ hall.now.id }
         requires due { self.me.place ≡ at.Due source }

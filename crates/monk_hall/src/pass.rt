@@ -14,13 +14,14 @@ use monk_kinds::Kind;
 use monk_object::Guarded;
 use std::marker::{Model, PhantomData};
 
-/// The token of a seat that is outside the monitor.
+/// The token of a seat that is outside the monitor. `gap` is 0, and only fills a gap (`SeatNumbers`).
 #[derive(Drop)]
 pub struct Pass<K: Kind, T: Guarded> {
     pub(crate) badge: Badge<View>,
     pub(crate) of: PhantomData<(K, T)>,
     pub(crate) numbers: SeatNumbers,
     pub(crate) left: u32,
+    pub(crate) gap: u32,
 }
 
 impl<K: Kind, T: Guarded> Model for Pass<K, T> {
@@ -65,6 +66,7 @@ impl<K: Kind, T: Guarded> Pass<K, T> {
 
     /// Comes to the monitor: draws a ticket, in one step. The event of the enter is recorded when the seat becomes
     /// active.
+    #[inline(always)]
     pub fn arrive(self, hall: &Hall<K, T>) -> Parked<K, T>
         requires hall { self.hall ≡ hall.now.id }
         requires left { length self.me.mine + 2 ≤ self.me.setting.budget }
@@ -75,6 +77,7 @@ impl<K: Kind, T: Guarded> Pass<K, T> {
             of: _,
             numbers,
             left,
+            gap: _,
         } = self;
         let mut seat: TableSeat<K, T> = badge.into_seat();
         let found = steps::arrive(&hall.table.shared, &mut seat);

@@ -31,6 +31,7 @@ pub struct Release<K: Kind, T: Guarded> {
 
 impl<K: Kind, T: Guarded> Release<K, T> {
     /// The active seat, taken apart, before its release.
+    #[inline(always)]
     pub(crate) fn of(active: Active<K, T>) -> Release<K, T>
         ensures { IsApart K.rules T.meaning active result }
     {
@@ -39,15 +40,24 @@ impl<K: Kind, T: Guarded> Release<K, T> {
             numbers,
             floor,
         } = active;
+        // The numbers go field by field, as in `Parked::seat_look`. A copy of the whole would read as one word what was
+        // written as several, and wait for that.
         Release {
             seat,
-            numbers,
+            numbers: SeatNumbers {
+                calls: numbers.calls,
+                budget: numbers.budget,
+                seat: numbers.seat,
+                gap_byte: numbers.gap_byte,
+                gap_pair: numbers.gap_pair,
+            },
             floor,
             choice: Next::Stay,
         }
     }
 
     /// The seat leaves the monitor. Gives what it granted, too.
+    #[inline(always)]
     pub(crate) fn go_outside(self, hall: &Hall<K, T>) -> (Pass<K, T>, Option<Granted<K, T>>)
         requires table { self.seat.table_id ≡ hall.now.id }
         requires recorded { IsRecorded K.rules T.meaning home.Idle self }
@@ -67,11 +77,13 @@ impl<K: Kind, T: Guarded> Release<K, T> {
             of: PhantomData,
             numbers,
             left,
+            gap: 0,
         };
         (pass, granted)
     }
 
     /// The seat is parked inside the monitor. Gives what it granted, too.
+    #[inline(always)]
     pub(crate) fn go_inside(self, hall: &Hall<K, T>) -> (Parked<K, T>, Option<Granted<K, T>>)
         requires table { self.seat.table_id ≡ hall.now.id }
         requires recorded { IsRecorded K.rules T.meaning home.Inner self }

@@ -44,6 +44,7 @@ impl<K: Kind, T: Guarded> Active<K, T> {
 
     /// Looks at the ticket word where the wish is for entry and there is something to choose. Tells whether somebody is
     /// known to wait for entry.
+    #[inline(always)]
     pub(crate) fn look_for_entry(&mut self, hall: &Hall<K, T>, chooses: bool, pick: Pick) -> bool
         requires { self.old.hall ≡ hall.now.id }
         ensures peeked { HasPeeked (peeks_of chooses pick) self.old self.new }
@@ -67,6 +68,7 @@ impl<K: Kind, T: Guarded> Active<K, T> {
     }
 
     /// As `leave`, but wakes nobody: it gives out what it granted, which only a wake spends (`Granted`).
+    #[inline(always)]
     pub fn leave_quietly(self, hall: &Hall<K, T>, pick: Pick) -> (Pass<K, T>, Option<Granted<K, T>>)
         requires { self.hall ≡ hall.now.id }
         ensures { GrantsOut K.rules T.meaning self
@@ -77,6 +79,7 @@ impl<K: Kind, T: Guarded> Active<K, T> {
         active.record_leave(pick, known).go_outside(hall)
     }
 
+    #[inline(always)]
     fn record_leave(self, pick: Pick, known: bool) -> Release<K, T>
         requires known { known ≡ is_entry_known pick self.me.known }
         ensures table { result.seat.table_id ≡ self.hall }

@@ -38,6 +38,7 @@ pub(crate) fn seat_word(seat: u8) -> usize
 }
 
 /// Step 1: draws a ticket. Gives the ticket word as it was.
+#[inline(always)]
 pub(crate) fn arrive<K: Kind, T: Guarded>(
     words: &SharedTable<K, T>,
     seat: &mut TableSeat<K, T>,
@@ -52,6 +53,7 @@ pub(crate) fn arrive<K: Kind, T: Guarded>(
 }
 
 /// Step 2: looks at the place of its ticket. Gives what it found there.
+#[inline(always)]
 pub(crate) fn ticket_look<K: Kind, T: Guarded>(
     words: &SharedTable<K, T>,
     seat: &mut TableSeat<K, T>,
@@ -70,6 +72,7 @@ pub(crate) fn ticket_look<K: Kind, T: Guarded>(
 }
 
 /// Step 3: looks at its own place. Gives what it found there.
+#[inline(always)]
 pub(crate) fn seat_look<K: Kind, T: Guarded>(
     words: &SharedTable<K, T>,
     seat: &mut TableSeat<K, T>,
@@ -87,6 +90,7 @@ pub(crate) fn seat_look<K: Kind, T: Guarded>(
 }
 
 /// Step 4: looks at the ticket word while active. Gives what it found there.
+#[inline(always)]
 pub(crate) fn peek<K: Kind, T: Guarded>(
     words: &SharedTable<K, T>,
     seat: &mut TableSeat<K, T>,
@@ -100,6 +104,7 @@ pub(crate) fn peek<K: Kind, T: Guarded>(
 }
 
 /// Step 5, out: the floor comes to the seat that is due.
+#[inline(always)]
 pub(crate) fn floor_out<K: Kind, T: Guarded>(
     words: &SharedTable<K, T>,
     seat: &mut TableSeat<K, T>,
@@ -115,6 +120,7 @@ pub(crate) fn floor_out<K: Kind, T: Guarded>(
 }
 
 /// Step 5, in: the active seat brings the floor home, with the release that it has recorded.
+#[inline(always)]
 pub(crate) fn floor_in<K: Kind, T: Guarded>(
     words: &SharedTable<K, T>,
     seat: &mut TableSeat<K, T>,
@@ -136,6 +142,7 @@ pub(crate) fn floor_in<K: Kind, T: Guarded>(
 }
 
 /// Step 6: takes itself off the ticket word. Gives the word as it was.
+#[inline(always)]
 pub(crate) fn drop_ticket<K: Kind, T: Guarded>(
     words: &SharedTable<K, T>,
     seat: &mut TableSeat<K, T>,

@@ -403,6 +403,7 @@ impl<K: Kind, T: Guarded> World<K, T> {
 }
 
 /// Records the event with which the floor comes out to a seat: its enter, or its resume.
+#[inline(always)]
 pub fn record_entry<K: Kind, T: Guarded>(floor: &mut Floor<K, T>, seat: u8, source: Source)
     requires allowed { IsAllowed (monitor_of K.rules T.meaning floor.old) floor.old.history
         (out_event seat source (turn floor.old.history)) }

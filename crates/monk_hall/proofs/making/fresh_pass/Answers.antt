@@ -10,7 +10,8 @@ use Rattle.monk_hall.proofs.making.fresh_pass.Goals as goal
 pub invariant_of-result : goal.invariant_of-result
 invariant_of-result g c =
     let setting = (the c.args.seat.me.0).setting in
-    let numbers : SeatNumbers = record { seat = c.args.number; calls = 0; budget = c.args.budget } in
+    let numbers : SeatNumbers =
+    record { seat = c.args.number; calls = 0; budget = c.args.budget; gap_byte = 0; gap_pair = 0 } in
     let views = c.into_badge.ensures.2 ∙ ap (λ m. m.0 ∷ []) c.requires.fresh in
     subst (λ (z : TableId). (c.into_badge.result.views ≡ top c.into_badge.result.views ∷ [])
     × IsResting g.K.Kind.rules g.T.Guarded.meaning z (top c.into_badge.result.views, []) numbers c.args.budget

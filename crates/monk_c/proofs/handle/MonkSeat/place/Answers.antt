@@ -1,5 +1,6 @@
-use Rattle.monk_c.proofs.Handling.{put_back}
+use Rattle.std.proofs.Common.{ap}
+use Rattle.monk_c.specs.Lending.{with_has}
 use Rattle.monk_c.proofs.handle.MonkSeat.place.Goals as goal
 
 pub returns-clause-same : goal.returns-clause-same
-returns-clause-same c = put_back _ _ _ _ c.swap-seat.ensures.1 c.swap.ensures.1 c.swap-seat.ensures.0
+returns-clause-same c = ap (with_has c.args.self.now) c.held.ensures.value

@@ -12,6 +12,6 @@ returns-in-Ok-clause-text g c =
     (is_text g.K.Kind.NAME c.args.self.now.room c.in-Inside.active c.header-header.ensures.opening
     (subst (λ (x : At). IsAtHome c.args.self.now.room x) here c.token.ensures.home) c.left.ensures.floor
     g.K.Kind.rules c.header-header.result c.history.result.now c.into_inner.result.items g.K.Kind.are_named
-    c.history.ensures.legal
+    c.history.ensures.legal c.history.ensures.few
     c.header-header.ensures.header c.history.ensures.history c.in-Ok.ensures.has_text
     (search rules))

@@ -1,0 +1,54 @@
+/* One thread gives a seat back while another calls by it: what was given back no call gets.
+ *
+ *     giving ROUNDS
+ *
+ * In each round the seat is lent, and the two call at once. Where `monk_give_seat` is done, the other's `monk_arrive` has to be refused. */
+#include "common.h"
+#include <pthread.h>
+#include <stdatomic.h>
+
+enum { BUDGET = 1 << 20, MOST_DELAY = 200 };
+
+static monk_monitor *monitor;
+static monk_seat *seat;
+static long rounds;
+static atomic_long begun, answered;
+static int arrived;
+
+static void delay(uint64_t *dice) {
+    for (volatile unsigned i = thrown(dice, MOST_DELAY); i > 0; i--) {}
+}
+
+static void *call(void *unused) {
+    (void)unused;
+    uint64_t dice = 7;
+    for (long i = 1; i <= rounds; i++) {
+        while (begun < i) {}
+        delay(&dice);
+        arrived = monk_arrive(seat);
+        answered = i;
+    }
+    return NULL;
+}
+
+int main(int count, char **words) {
+    uint64_t dice = 3;
+    pthread_t other;
+    HOLDS(count == 2);
+    rounds = strtol(words[1], NULL, 10);
+    monk_shape shape = {.kind = MONK_PB, .seats = 1, .conditions = 1, .budget = BUDGET};
+    MUST(monk_make(&monitor, &shape));
+    HOLDS(pthread_create(&other, NULL, call, NULL) == 0);
+    for (long i = 1; i <= rounds; i++) {
+        MUST(monk_take_seat(monitor, &seat));
+        begun = i;
+        delay(&dice);
+        int given = monk_give_seat(seat);
+        while (answered < i) {}
+        HOLDS(given != MONK_OK || arrived == MONK_IN_USE || arrived == MONK_NOT_NOW);
+        if (given != MONK_OK) MUST(monk_abandon(seat));
+    }
+    HOLDS(pthread_join(other, NULL) == 0);
+    MUST(monk_free(monitor));
+    return 0;
+}
