@@ -67,17 +67,29 @@ split (Tells k v ∷ steps) (b ∷ before) l e =
       more = s.more;
       is = ap (λ j. Tells k v ∷ j) s.is;
       told = ap (λ j. j ∷ lines_of s.first) (head_same k b (lines_of steps) (before ++ l ∷ []) e)
-      ∙ ap (λ j. b ∷ j) s.told;
+          ∙ ap (λ j. b ∷ j) s.told;
       none = s.none;
     }
 split (RunsOut j ∷ steps) before l e =
     let s = split steps before l e in
-    record { first = RunsOut j ∷ s.first; whom = s.whom; more = s.more; is = ap (λ k. RunsOut j ∷ k) s.is;
-    told = s.told; none = s.none }
+    record {
+      first = RunsOut j ∷ s.first;
+      whom = s.whom;
+      more = s.more;
+      is = ap (λ k. RunsOut j ∷ k) s.is;
+      told = s.told;
+      none = s.none;
+    }
 split (WakesUnasked j ∷ steps) before l e =
     let s = split steps before l e in
-    record { first = WakesUnasked j ∷ s.first; whom = s.whom; more = s.more; is = ap (λ k. WakesUnasked j ∷ k) s.is;
-    told = s.told; none = s.none }
+    record {
+      first = WakesUnasked j ∷ s.first;
+      whom = s.whom;
+      more = s.more;
+      is = ap (λ k. WakesUnasked j ∷ k) s.is;
+      told = s.told;
+      none = s.none;
+    }
 
 run_parts : (m : Setting) (x : State) (a b : List Step) → IsRun m x (a ++ b) → IsRun m x a × IsRun m (after_all m x a) b
 run_parts m x [] b h = (tt, h)
@@ -180,7 +192,7 @@ covers_line m d before l rest steps x y w c h right first e =
     record {
       run = run_on m (opening d) steps own c.run (subst (λ k. IsRun m k own) c.leads (line_run m x l w lapses right h));
       told = lines_on steps own ∙ ap (λ k. k ++ lines_of own) c.told
-      ∙ ap (λ k. before ++ k) (line_told m x l w lapses h);
+          ∙ ap (λ k. before ++ k) (line_told m x l w lapses h);
       leads = e ∙ ap (λ k. after_all m k own) c.leads ∙ sym leads;
       follows = λ others run told.
           let b = beside m d before l rest steps x c others run told in
@@ -232,10 +244,16 @@ covers_opening m d lines x e = record {
   leads = e;
   follows = λ others run told. subst (λ k. Follows k (after_all m (opening d) others) lines) (sym e)
       (silent_all m (opening d) (opening d) lines others told
-      (record { lock = refl; same_data = refl; place = λ j. refl; foreseen = λ j. tt; holder = λ j same. no_lock j _
-      None refl same }));
+      (record {
+        lock = refl;
+        same_data = refl;
+        place = λ j. refl;
+        foreseen = λ j. tt;
+        holder = λ j same. no_lock j _
+            None refl same;
+      }));
   least = λ others run told c. subst
-  (λ k. Beats m c k (after_all m (opening d) others) lines 0 (unasked_on m c (opening d) others)) (sym e)
+      (λ k. Beats m c k (after_all m (opening d) others) lines 0 (unasked_on m c (opening d) others)) (sym e)
       (subst (λ k. Beats m c (opening d) (after_all m (opening d) others) lines 0 k)
       (let e : 0 + unasked_on m c (opening d) others ≡ unasked_on m c (opening d) others = omega arith in e)
       (silent_beats m c (opening d) (opening d) lines others 0 0 told run

@@ -126,7 +126,6 @@ dom_still n c most kx ky l rest f g f2 g2 lt plain ox oy same h = record {
 
 -- a thread comes back that was woken in the other run
 
-
 first_only : (n c s : ℕ) (f : ℕ → Place) (rest : List LogLine) → s < n
     → count (due c f 1 (Resume s ∷ rest)) n ≡ one (asleep_on c (f s))
 first_only n c s f rest lt =

@@ -57,7 +57,6 @@ ran_out_state v o s c ends lt =
     (with_place s (run_out (with_place s (Waiting c) f s)) (with_place s (Waiting c) f))
     (λ j. out_by s c j f (j == s) refl))
 
-
 pub ran_out_setting : (v : Shown) (o : Object) (s c : ℕ) (ends : List WaitEnd)
     → setting_of (shown v.conds None (set v.places s (RanOut c)) ends v.data_now) o ≡ setting_of v o
 ran_out_setting v o s c ends = λ i. record { seats = length-set v.places s (RanOut c) i; conds = v.conds; object = o }

@@ -10,7 +10,7 @@ ghost use Rattle.monk_judge.specs.declared.place.Place.TheVariants.{Outside, Act
 ghost use Rattle.monk_judge.specs.declared.wait_end.WaitEnd.{WaitEnd};
 
 use crate::blame::Blame;
-use crate::place::{Place, wake_all};
+use crate::place::{Place, mark_woken};
 use crate::told::Told;
 use crate::wait_end::WaitEnd;
 use monk_logs::LogLine;
@@ -353,7 +353,7 @@ impl<T: Guarded> Judge<T> {
         ensures setting { (o : Object) → setting_of self.new o ≡ setting_of self.old o }
         ensures ends { self.new.ends ≡ self.old.ends }
     {
-        wake_all(&mut self.places, cond);
+        mark_woken(&mut self.places, cond);
     }
 
     #[tactic(auto, using(crate::proofs::Shows::state_set, crate::proofs::Shows::setting_set))]

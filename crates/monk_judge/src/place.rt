@@ -61,7 +61,7 @@ impl Place {
 }
 
 /// Wakes all who sleep on the condition.
-pub(crate) fn wake_all(places: &mut [Place], cond: u8)
+pub(crate) fn mark_woken(places: &mut [Place], cond: u8)
     ensures { (k : ℕ) → slice_index_or places.new k Outside ≡ woken cond (slice_index_or places.old k Outside) }
 {
     for place in places.iter_mut() {
