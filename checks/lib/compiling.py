@@ -1,0 +1,67 @@
+"""Whether wrong bodies compile: whether each name in them is known, and each type fits. Nothing is proved."""
+import os
+import re
+import shutil
+import subprocess
+import tempfile
+
+# No function has this name, so a check stops before any proof.
+NO_FUNCTION = ["--jobs", "1", "--start", "no function"]
+ERROR = re.compile(r"^(\S*?)([^/\s]+)/(src/\S+\.rt):(\d+):\d+: (error\b.*)$", re.M)
+
+
+def put_into(folder, rt, edits):
+    """Puts as many of the wrong bodies into the crate's folder as can stand there side by side, and gives the others."""
+    left = []
+    for edit in edits:
+        texts, why = rt.edited(edit.text, folder)
+        for path, text in (texts or {}).items():
+            with open(f"{folder}/{path}", "w", encoding="utf-8") as it:
+                it.write(text)
+        left += [edit] if why else []
+    return left
+
+
+def read_with(crate):
+    """The crates whose sources are read with this one's."""
+    return {crate.name, *(it.name for it in crate.below())}
+
+
+def few_that_read(crates, names):
+    """Crates with which all of these are read, the one with the most first."""
+    chosen, names = [], set(names)
+    while names:
+        crate = max(crates, key=lambda it: (len(names & read_with(it)), -len(read_with(it))))
+        names -= read_with(crate)
+        chosen.append(crate)
+    return chosen
+
+
+def errors_of(rt, room, names):
+    """What the compiler refuses of these crates in the copy: the crate, the file, the line's number and the error."""
+    found = set()
+    for crate in few_that_read(rt.rtlib.crates_below(room), names):
+        words = [rt.rtlib.RATTLE, "check", *crate.words(NO_FUNCTION, keeps=False, as_source=True)]
+        ran = subprocess.run(words, cwd=crate.folder, stdin=subprocess.DEVNULL, capture_output=True, text=True, errors="replace")
+        if "no function" not in ran.stderr + ran.stdout and not ERROR.search(ran.stderr + ran.stdout):
+            found.add((crate.name, "src", 0, f"the compiler says nothing of it: {ran.stderr[-200:]}"))
+        for _, name, path, line, error in ERROR.findall(ran.stderr + ran.stdout):
+            found.add((name, path, int(line), error))
+    return sorted(found)
+
+
+def not_compiled(rt, top, edits):
+    """The wrong bodies that don't compile, by crate, with what the compiler says. They are tried side by side, in as few copies of
+    the repository as hold them."""
+    waiting, told = {name: list(all_) for name, all_ in edits.items()}, []
+    while any(waiting.values()):
+        with tempfile.TemporaryDirectory(prefix="wrong-bodies-") as room:
+            shutil.copytree(f"{top}/crates", f"{room}/crates", ignore=shutil.ignore_patterns("out"))
+            for file in ("crates.txt", "HANDLES"):
+                shutil.copy(f"{top}/{file}", room)
+            tried = {name: all_ for name, all_ in waiting.items() if all_}
+            waiting = {name: put_into(f"{room}/crates/{name}", rt, all_) for name, all_ in tried.items()}
+            told += [f"{name}/{path}:{line}: {error}" for name, path, line, error in errors_of(rt, room, tried)]
+        if tried == waiting:
+            return told + [f"{name}/{it.name}: it can't be put in" for name, all_ in waiting.items() for it in all_]
+    return told
