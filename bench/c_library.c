@@ -1,6 +1,7 @@
 /* What a visit costs, and a bounded buffer: bench/c_library builds this with libmonk, with the plain reference, and with -DPLAIN by a
  * pthread mutex and its conditions.
  *
+ *     c_library alone MONITORS              the least nanoseconds of a visit by one thread, to the last of so many monitors
  *     c_library visits THREADS ROUNDS       the nanoseconds of a visit, by the clock
  *     c_library buffer KIND ROUNDS          the seconds of so many puts and as many takes, by two threads each */
 #include <pthread.h>
@@ -8,11 +9,12 @@
 #include <stdlib.h>
 #include <string.h>
 #include <time.h>
+#include <unistd.h>
 #ifndef PLAIN
 #include "monk.h"
 #endif
 
-enum { MOST_THREADS = 32, NOT_FULL = 0, NOT_EMPTY = 1, CONDITIONS = 2, SIZE = 8, NS_A_SECOND = 1000000000 };
+enum { MOST_THREADS = 32, NOT_FULL = 0, NOT_EMPTY = 1, CONDITIONS = 2, SIZE = 8, NS_A_SECOND = 1000000000, CHUNKS = 200, CHUNK = 2000 };
 
 static pthread_barrier_t line;
 static long rounds, count;                  /* touched inside alone, as the buffer is */
@@ -142,8 +144,48 @@ static double timed(void *(*play[])(void *), unsigned threads) {
     return took;
 }
 
+/* The least of many chunks of visits: what a visit takes while nothing disturbs its thread. */
+static double least_visit(void) {
+    seat s;
+    double least = 0;
+    take(&s);
+    for (int chunk = 0; chunk < CHUNKS; chunk++) {
+        double began = now();
+        for (int i = 0; i < CHUNK; i++) {
+            enter(&s);
+            count++;
+            leave(&s);
+        }
+        double took = now() - began;
+        if (chunk == 0 || took < least) least = took;
+    }
+    give(&s);
+    return least * NS_A_SECOND / CHUNK;
+}
+
+static void *stay(void *unused) {
+    for (;;) pause();
+    return unused;
+}
+
+/* Visits to one monitor after another, each of which gives its memory back. Only the first writes to memory that no program has
+ * touched. A second thread is there, since with one alone a mutex takes no atomic step. */
+static int alone(long monitors) {
+    pthread_t other;
+    double least = 0;
+    if (pthread_create(&other, NULL, stay, NULL)) return 1;
+    while (monitors-- > 0) {
+        make("PNB", 1);
+        least = least_visit();
+        end();
+    }
+    printf("%.6g\n", least);
+    return 0;
+}
+
 int main(int words, char **word) {
     void *(*play[MOST_THREADS])(void *);
+    if (words == 3 && !strcmp(word[1], "alone")) return alone(atol(word[2]));
     if (words != 4) return 2;
     int is_buffer = !strcmp(word[1], "buffer");
     unsigned threads = is_buffer ? 4 : (unsigned)atoi(word[2]);
