@@ -51,6 +51,7 @@ typedef enum lent { FREE, TAKEN, ABANDONED } lent;
 
 typedef struct bell {
     _Alignas(LINE) _Atomic uint32_t rings;
+    _Atomic int is_minded;              /* the seat that waits here was abandoned: the library lets it come in, and leave */
 } bell;
 
 struct monk_seat {
@@ -62,6 +63,7 @@ struct monk_seat {
     _Atomic uint32_t left;
     unsigned number;
     int is_visitor;                     /* lent to the library itself, for a look at the history; changed as `lent` is */
+    bell *bell;                         /* at which it waits, if it was abandoned; changed as `lent` is */
     int wish;
     uint64_t dice;
 };
@@ -71,8 +73,8 @@ struct monk_monitor {
     int kind;
     unsigned seat_count;
     uint32_t bits;                              /* a copy of the flags, touched by the seat that is inside */
-    _Atomic int stopped, closed, abandoned;     /* abandoned: how many seats are, and still wait */
-    pthread_mutex_t lock;                       /* of lending: no call that comes in, waits or goes out takes it */
+    _Atomic int stopped, closed;
+    pthread_mutex_t lock;                       /* of lending, and of abandoned seats: a release takes it if it lets one of them in */
     monk_seat *reader;                          /* the seat that closed it, through which the history is read */
     void *room;                                 /* the tokens' */
     monk_k_seat tokens[MOST_SEATS];
@@ -95,11 +97,11 @@ static int sleep_on(bell *b, uint32_t seen, const struct timespec *limit) {
 static bell *bell_of(monk_monitor *m, size_t word) { return &m->bells[(word - 1) % BELLS]; }
 
 /* Wakes whoever waits for that word. The kernel has granted it before. */
-static void ring(monk_monitor *m, size_t word) {
-    if (word == NOBODY) return;
+static bell *ring(monk_monitor *m, size_t word) {
     bell *b = bell_of(m, word);
     atomic_fetch_add(&b->rings, 1);
     futex_wake(b, 1);
+    return b;
 }
 
 static void pause_processor(void) {
@@ -155,7 +157,20 @@ static uint8_t wish_of(monk_seat *s) {
     return (uint8_t)((s->dice >> 32) % MONK_ANY);
 }
 
-/* Lets seats that were abandoned come in where it is their turn, and leave. Under the lock. */
+/* From now on whoever grants the word of that waiting seat looks after it. Under the lock. */
+static void mind(monk_seat *s) {
+    s->bell = bell_of(s->monitor, monk_k_word(s->token));
+    atomic_store(&s->bell->is_minded, 1);
+}
+
+/* The seat is nobody's any more. Under the lock. */
+static void set_free(monk_seat *s) {
+    if (s->bell) atomic_store(&s->bell->is_minded, 0);
+    s->bell = NULL;
+    atomic_store(&s->lent, FREE);
+}
+
+/* Lets seats that were abandoned come in if it is their turn, and leave. Under the lock. */
 static void settle(monk_monitor *m) {
     unsigned i = 0;
     while (i < m->seat_count) {
@@ -163,25 +178,26 @@ static void settle(monk_monitor *m) {
         if (atomic_load(&s->lent) != ABANDONED || monk_k_poll(s->token) != MONK_INSIDE) continue;
         size_t word = NOBODY;
         noted(s, monk_k_leave(s->token, MONK_WAITER, &word), VISIT);
-        ring(m, word);
-        atomic_store(&s->lent, FREE);
-        atomic_fetch_sub(&m->abandoned, 1);
+        if (word != NOBODY) ring(m, word);
+        set_free(s);
         i = 0;                          /* this leave may have let in a seat that was looked at before */
     }
 }
 
-/* What follows a release: it rings, and looks after abandoned seats. Who abandons a seat counts it first and then polls; who
- * releases grants first and then reads the count: so one of the two sees the grant. */
+/* Wakes whoever was let in, or settles that seat if it was abandoned. Who abandons a seat marks its bell first and then polls; who
+ * releases grants first and then reads the mark: so one of the two sees the grant. */
+static void let_in(monk_monitor *m, size_t word) {
+    if (word == NOBODY || !atomic_load(&ring(m, word)->is_minded)) return;
+    pthread_mutex_lock(&m->lock);
+    settle(m);
+    pthread_mutex_unlock(&m->lock);
+}
+
+/* What follows a release. */
 static int handed_on(monk_seat *s, int answer, size_t word) {
-    monk_monitor *m = s->monitor;
     if (answer < 0) return answer;
     noted(s, answer, 1);
-    ring(m, word);
-    if (atomic_load(&m->abandoned) > 0) {
-        pthread_mutex_lock(&m->lock);
-        settle(m);
-        pthread_mutex_unlock(&m->lock);
-    }
+    let_in(s->monitor, word);
     return answer;
 }
 
@@ -418,7 +434,7 @@ static monk_seat *visitor_that_waits(monk_monitor *m) {
     for (unsigned i = 0; i < m->seat_count; i++) {
         monk_seat *s = &m->seats[i];
         if (!s->is_visitor || atomic_load(&s->lent) != ABANDONED) continue;
-        atomic_fetch_sub(&m->abandoned, 1);
+        set_free(s);
         return s;
     }
     return NULL;
@@ -464,12 +480,12 @@ int monk_abandon(monk_seat *s) {
     pthread_mutex_lock(&m->lock);
     if (place_of(s) == MONK_WAITING) {
         atomic_store(&s->lent, ABANDONED);
-        atomic_fetch_add(&m->abandoned, 1);
+        mind(s);
     } else {
         __tsan_release(m);
         noted(s, monk_k_leave(s->token, wish_of(s), &word), 1);     /* refused if the seat is outside */
-        ring(m, word);
-        atomic_store(&s->lent, FREE);
+        if (word != NOBODY) ring(m, word);
+        set_free(s);
     }
     settle(m);
     end(s, MONK_OK);
