@@ -24,7 +24,8 @@ enum {
     SPINS = 1024,               /* as the hall spins: so many looks over the square of the number of seats */
     PATIENCE_MS = 1000,
     VISIT = 2,                  /* events that a visit wants: an enter and a leave */
-    NOBODY = 0                  /* the word that was granted where none was */
+    NOBODY = 0,                 /* the word that was granted where none was */
+    NO_CONDITION = MOST_CONDITIONS
 };
 
 #ifndef MONK_BUILT
@@ -65,6 +66,8 @@ struct monk_seat {
     int is_visitor;                     /* lent to the library itself, for a look at the history; changed as `lent` is */
     bell *bell;                         /* at which it waits, if it was abandoned; changed as `lent` is */
     int wish;
+    unsigned waits_on;                  /* the condition on which it waits, or NO_CONDITION */
+    uint32_t broadcasts;                /* how many there had been on that condition when the wait began */
     uint64_t dice;
 };
 
@@ -73,6 +76,7 @@ struct monk_monitor {
     int kind;
     unsigned seat_count;
     uint32_t bits;                              /* a copy of the flags, touched by the seat that is inside */
+    uint32_t broadcasts[MOST_CONDITIONS];       /* how many there were on each condition, touched as `bits` is */
     _Atomic int stopped, closed;
     pthread_mutex_t lock;                       /* of lending, and of abandoned seats: a release takes it if it lets one of them in */
     monk_seat *reader;                          /* the seat that closed it, through which the history is read */
@@ -170,17 +174,45 @@ static void set_free(monk_seat *s) {
     atomic_store(&s->lent, FREE);
 }
 
-/* Lets seats that were abandoned come in if it is their turn, and leave. Under the lock. */
+/* Whether it was a signal that let this seat in: it waited on a condition, and no broadcast served all who did. */
+static int was_signalled(const monk_seat *s) {
+    return s->waits_on != NO_CONDITION && s->monitor->broadcasts[s->waits_on] == s->broadcasts;
+}
+
+/* Signals the condition on which an abandoned seat waited, if anybody else waits there. It may be waiting behind this, or have left. */
+static int pass_on(monk_seat *s, size_t *word) {
+    uint8_t condition = byte_of(s->waits_on);
+    if (monk_k_waiting(s->token, condition) <= 0) return MONK_INSIDE;
+    int leaves = monk_mode_of(s->monitor->kind) == MONK_IMMEDIATE_RETURN;
+    return (leaves ? monk_k_signal_leave : monk_k_start_signal)(s->token, condition, MONK_WAITER, word);
+}
+
+/* What an abandoned seat does that has come in: it passes on the signal that served it, unless too few events are left to it, and
+ * leaves. Under a blocking kind its leave is yet to come then. Under the lock. */
+static void go_on_and_out(monk_seat *s) {
+    monk_monitor *m = s->monitor;
+    size_t word = NOBODY;
+    __tsan_acquire(m);
+    int signalled = was_signalled(s);
+    __tsan_release(m);
+    int answer = signalled ? pass_on(s, &word) : MONK_INSIDE;
+    s->waits_on = NO_CONDITION;
+    if (answer == MONK_INSIDE || answer < 0) answer = monk_k_leave(s->token, MONK_WAITER, &word);
+    atomic_store(&s->place, answer);
+    atomic_store(&s->left, monk_k_left(s->token));
+    if (word != NOBODY) ring(m, word);
+    if (answer == MONK_WAITING) mind(s);
+    else set_free(s);
+}
+
+/* Lets seats that were abandoned come in if it is their turn. Under the lock. */
 static void settle(monk_monitor *m) {
     unsigned i = 0;
     while (i < m->seat_count) {
         monk_seat *s = &m->seats[i++];
         if (atomic_load(&s->lent) != ABANDONED || monk_k_poll(s->token) != MONK_INSIDE) continue;
-        size_t word = NOBODY;
-        noted(s, monk_k_leave(s->token, MONK_WAITER, &word), VISIT);
-        if (word != NOBODY) ring(m, word);
-        set_free(s);
-        i = 0;                          /* this leave may have let in a seat that was looked at before */
+        go_on_and_out(s);
+        i = 0;                          /* this may have let in a seat that was looked at before, and marked a bell */
     }
 }
 
@@ -207,6 +239,7 @@ static int poll_once(monk_seat *s) {
     int answer = monk_k_poll(s->token);
     if (answer != MONK_INSIDE) return answer;
     __tsan_acquire(s->monitor);
+    s->waits_on = NO_CONDITION;
     return noted(s, answer, 1);
 }
 
@@ -217,11 +250,23 @@ static int go_out(monk_seat *s) {
     return handed_on(s, answer, word);
 }
 
+/* How many broadcasts there were on a condition, for a seat that is inside: of any other a wait is refused. */
+static uint32_t broadcasts_on(const monk_seat *s, unsigned condition) {
+    return place_of(s) == MONK_INSIDE && condition < MOST_CONDITIONS ? s->monitor->broadcasts[condition] : 0;
+}
+
+/* What follows a wait on a condition. */
+static int waits_on(monk_seat *s, unsigned condition, uint32_t broadcasts, int answer, size_t word) {
+    if (answer == MONK_WAITING) s->waits_on = condition, s->broadcasts = broadcasts;
+    return handed_on(s, answer, word);
+}
+
 static int wait_on(monk_seat *s, unsigned condition) {
     size_t word = NOBODY;
+    uint32_t broadcasts = broadcasts_on(s, condition);
     __tsan_release(s->monitor);
     int answer = monk_k_start_wait(s->token, byte_of(condition), wish_of(s), &word);
-    return handed_on(s, answer, word);
+    return waits_on(s, condition, broadcasts, answer, word);
 }
 
 static int signal_on(monk_seat *s, unsigned condition) {
@@ -233,9 +278,10 @@ static int signal_on(monk_seat *s, unsigned condition) {
 
 static int signal_and_wait(monk_seat *s, unsigned condition, unsigned wait_condition) {
     size_t word = NOBODY;
+    uint32_t broadcasts = broadcasts_on(s, wait_condition);
     __tsan_release(s->monitor);
     int answer = monk_k_start_signal_wait(s->token, byte_of(condition), byte_of(wait_condition), wish_of(s), &word);
-    return handed_on(s, answer, word);
+    return waits_on(s, wait_condition, broadcasts, answer, word);
 }
 
 static int wait_for_flag(monk_seat *s, unsigned flag) {
@@ -315,7 +361,10 @@ int monk_signal_leave(monk_seat *s, unsigned condition) {
 
 int monk_broadcast(monk_seat *s, unsigned condition) {
     int r = begin(s);
-    return r ? r : done(end(s, noted(s, monk_k_broadcast(s->token, byte_of(condition)), 1)));
+    if (r) return r;
+    r = noted(s, monk_k_broadcast(s->token, byte_of(condition)), 1);
+    if (r == MONK_INSIDE) s->monitor->broadcasts[condition]++;
+    return done(end(s, r));
 }
 
 int monk_set_flags(monk_seat *s, uint32_t bits) {
@@ -522,7 +571,7 @@ static uint64_t dice_of(uint64_t seed, unsigned number) {
 static void set_up(monk_monitor *m, const monk_shape *shape, uint32_t budget) {
     for (unsigned i = 0; i < shape->seats; i++) {
         monk_seat *s = &m->seats[i];
-        s->monitor = m, s->token = &m->tokens[i], s->number = i, s->wish = MONK_WAITER, s->dice = dice_of(shape->seed, i);
+        s->monitor = m, s->token = &m->tokens[i], s->number = i, s->wish = MONK_WAITER, s->waits_on = NO_CONDITION, s->dice = dice_of(shape->seed, i);
         s->place = MONK_OUTSIDE;
         s->left = budget;
     }

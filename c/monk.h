@@ -138,7 +138,10 @@ int monk_give_seat(monk_seat *s);
 
 /* Gives a seat back wherever it stands, for a thread that ends or an error path. An inside seat leaves. A waiting one keeps
  * its place, comes in when its turn comes, and leaves at once: the library does that in some thread's next release, and the
- * history has it. So an abandoned seat never keeps the monitor. Nobody can take it before it is outside. */
+ * history has it. So an abandoned seat never keeps the monitor. Nobody can take it before it is outside.
+ * Nor does it keep a signal: if one serves it, and others wait on its condition still, it signals the condition before it leaves
+ * (in immediate-return kinds as it leaves). After a broadcast, which served all, it doesn't. A signal wants three events of it, as
+ * monk_signal does: a seat with fewer leaves without one. */
 int monk_abandon(monk_seat *s);
 
 unsigned monk_seat_number(const monk_seat *s);   /* as in the history */

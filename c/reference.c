@@ -39,8 +39,8 @@ typedef struct { uint8_t first, count, seats[MOST_SEATS]; } queue;
 
 struct monk_seat {
     monk_monitor *monitor;
-    uint8_t number, place, due /* a way, or NOBODY */, flag /* that it waits for */, wish, taken, abandoned, calling, is_visitor;
-    uint32_t left;
+    uint8_t number, place, due /* a way, or NOBODY */, flag, condition /* that it waits for */, wish, taken, abandoned, calling, is_visitor;
+    uint32_t left, broadcasts /* on its condition when its wait began */;
     uint64_t dice;
     pthread_cond_t bell;
 };
@@ -52,7 +52,7 @@ struct monk_monitor {
     unsigned seat_count, conditions, flag_count;
     int stopped, closed;
     int holder;                             /* the seat that is inside or due, or -1: the monitor is free */
-    uint32_t bits;
+    uint32_t bits, broadcasts[MOST_CONDITIONS];
     queue entry, waiters, signallers, until, condition[MOST_CONDITIONS];
     event *events;
     size_t length;
@@ -158,15 +158,34 @@ static void release(monk_monitor *m, monk_seat *s, event e, int place) {
 
 static void free_seat(monk_seat *s) { s->taken = s->abandoned = 0; }
 
-/* Seats that were abandoned come in when they are due, and leave. Tells whom to wake then, or -1. */
+/* Moves the first who waits on a condition to the waiter queue, if there is one. */
+static int serve(monk_monitor *m, unsigned condition) {
+    if (!m->condition[condition].count) return 0;
+    join(&m->waiters, take_front(&m->condition[condition]));
+    return 1;
+}
+
+/* Lets an abandoned seat come in that is due. A signal that served it goes on to the next who waits there, if events enough are left to
+ * it; no broadcast does, since that served all. Then it leaves, unless it waits behind its signal. */
+static void go_on_and_out(monk_monitor *m, monk_seat *s) {
+    unsigned c = s->condition;
+    int leaves = m->rules->mode == MONK_IMMEDIATE_RETURN, signalled = s->due == WAITER && s->broadcasts == m->broadcasts[c];
+    come_in(m, s);
+    if (signalled && s->left >= (leaves ? 1 : 3) && serve(m, c)) {
+        if (!leaves) join(&m->signallers, s->number);
+        release(m, s, (event){.verb = leaves ? SIGNAL_LEAVE : SIGNAL, .a = (uint8_t)c}, leaves ? MONK_OUTSIDE : MONK_WAITING);
+    }
+    if (s->place == MONK_INSIDE) release(m, s, (event){.verb = LEAVE}, MONK_OUTSIDE);
+    if (s->place == MONK_OUTSIDE) free_seat(s);
+}
+
+/* Seats that were abandoned come in when they are due. Tells whom to wake then, or -1. */
 static int settle(monk_monitor *m) {
     for (;;) {
         monk_seat *s = m->holder < 0 ? NULL : &m->seats[m->holder];
         if (!s || !s->due) return -1;
         if (!s->abandoned) return s->number;
-        come_in(m, s);
-        release(m, s, (event){.verb = LEAVE}, MONK_OUTSIDE);
-        free_seat(s);
+        go_on_and_out(m, s);
     }
 }
 
@@ -222,22 +241,20 @@ int monk_poll(monk_seat *s) {
     return end(s, s->place);
 }
 
+static void wait_on(monk_seat *s, unsigned condition) {
+    join(&s->monitor->condition[condition], s->number);
+    s->condition = (uint8_t)condition, s->broadcasts = s->monitor->broadcasts[condition];
+}
+
 int monk_start_wait(monk_seat *s, unsigned condition) {
     int r = begin(s);
     if (r) return r;
     if (mode_of(s) == MONK_AUTOMATIC) return end(s, MONK_NOT_OF_KIND);
     if (!in_conditions(s, condition)) return end(s, MONK_RANGE);
     if ((r = refusal(s, MONK_INSIDE, 3))) return end(s, r);
-    join(&s->monitor->condition[condition], s->number);
+    wait_on(s, condition);
     release(s->monitor, s, (event){.verb = WAIT, .a = (uint8_t)condition}, MONK_WAITING);
     return end(s, s->place);
-}
-
-/* Moves the first who waits on a condition to the waiter queue, if there is one. */
-static int serve(monk_monitor *m, unsigned condition) {
-    if (!m->condition[condition].count) return 0;
-    join(&m->waiters, take_front(&m->condition[condition]));
-    return 1;
 }
 
 int monk_start_signal(monk_seat *s, unsigned condition) {
@@ -261,7 +278,7 @@ int monk_start_signal_wait(monk_seat *s, unsigned condition, unsigned wait_condi
     if (!in_conditions(s, condition) || !in_conditions(s, wait_condition)) return end(s, MONK_RANGE);
     if ((r = refusal(s, MONK_INSIDE, 3))) return end(s, r);
     serve(s->monitor, condition);
-    join(&s->monitor->condition[wait_condition], s->number);
+    wait_on(s, wait_condition);
     release(s->monitor, s, (event){.verb = SIGNAL_WAIT, .a = (uint8_t)condition, .b = (uint8_t)wait_condition}, MONK_WAITING);
     return end(s, s->place);
 }
@@ -311,6 +328,7 @@ int monk_broadcast(monk_seat *s, unsigned condition) {
     if (!in_conditions(s, condition)) return end(s, MONK_RANGE);
     if ((r = refusal(s, MONK_INSIDE, 2))) return end(s, r);
     while (serve(s->monitor, condition)) {}
+    s->monitor->broadcasts[condition]++;
     record(s->monitor, (event){.verb = SIGNAL_ALL, .seat = s->number, .a = (uint8_t)condition});
     return taken(end(s, s->place));
 }
@@ -435,7 +453,7 @@ int monk_abandon(monk_seat *s) {
     monk_monitor *m = s->monitor;
     if (s->place == MONK_INSIDE) release(m, s, (event){.verb = LEAVE}, MONK_OUTSIDE);
     if (s->place == MONK_OUTSIDE) free_seat(s);
-    else s->abandoned = 1;
+    else s->abandoned = 1, s->wish = MONK_WAITER;
     int due = settle(m);
     if (due >= 0) pthread_cond_signal(&m->seats[due].bell);      /* before the lock goes: the monitor may be freed then */
     return end(s, MONK_OK);
@@ -444,29 +462,32 @@ int monk_abandon(monk_seat *s) {
 unsigned monk_seat_number(const monk_seat *s) { return s->number; }
 
 /* A look at a seat, under the lock since another thread may be settling it. */
-static uint32_t look(const monk_seat *s, int what, unsigned condition) {
-    monk_monitor *m = s->monitor;
-    pthread_mutex_lock(&m->lock);
-    uint32_t value = what == 0 ? s->place : what == 1 ? s->left : what == 2 ? m->bits : m->condition[condition].count;
-    pthread_mutex_unlock(&m->lock);
+static uint32_t look(const monk_seat *s, int is_place) {
+    pthread_mutex_lock(&s->monitor->lock);
+    uint32_t value = is_place ? s->place : s->left;
+    pthread_mutex_unlock(&s->monitor->lock);
     return value;
 }
 
-int monk_place(const monk_seat *s) { return s ? (int)look(s, 0, 0) : MONK_RANGE; }
-uint32_t monk_left(const monk_seat *s) { return s ? look(s, 1, 0) : 0; }
+int monk_place(const monk_seat *s) { return s ? (int)look(s, 1) : MONK_RANGE; }
+uint32_t monk_left(const monk_seat *s) { return s ? look(s, 0) : 0; }
 
 int monk_waiting(monk_seat *s, unsigned condition) {
-    if (!s) return MONK_RANGE;
-    if (mode_of(s) == MONK_AUTOMATIC) return MONK_NOT_OF_KIND;
-    if (!in_conditions(s, condition)) return MONK_RANGE;
-    return monk_place(s) == MONK_INSIDE ? (int)look(s, 3, condition) : MONK_NOT_NOW;
+    int r = begin(s);
+    if (r) return r;
+    if (mode_of(s) == MONK_AUTOMATIC) return end(s, MONK_NOT_OF_KIND);
+    if (!in_conditions(s, condition)) return end(s, MONK_RANGE);
+    r = refusal(s, MONK_INSIDE, 0);
+    return end(s, r ? r : s->monitor->condition[condition].count);
 }
 
 int monk_flags(monk_seat *s, uint32_t *bits) {
-    if (!s || !bits) return MONK_RANGE;
-    if (monk_place(s) != MONK_INSIDE) return MONK_NOT_NOW;
-    *bits = look(s, 2, 0);
-    return MONK_OK;
+    if (!bits) return MONK_RANGE;
+    int r = begin(s);
+    if (r) return r;
+    if ((r = refusal(s, MONK_INSIDE, 0))) return end(s, r);
+    *bits = s->monitor->bits;
+    return end(s, MONK_OK);
 }
 
 int monk_set_wish(monk_seat *s, int wish) {

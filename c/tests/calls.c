@@ -203,6 +203,73 @@ static void held(void) {
     end();
 }
 
+/* Lets that seat come in and go out again, if it may come in. Whether it could. */
+static int comes_and_goes(monk_seat *s) {
+    if (monk_place(s) == MONK_WAITING) monk_poll(s);
+    if (monk_place(s) != MONK_INSIDE) return 0;
+    IS(monk_leave(s), MONK_OK);
+    return 1;
+}
+
+static int signal_to(monk_seat *s, unsigned condition) {
+    return monk_mode_of(monk_kind_of(m)) == MONK_IMMEDIATE_RETURN ? monk_signal_leave(s, condition) : monk_start_signal(s, condition);
+}
+
+/* Two seats wait on a condition, and the first is abandoned: a signal lets the second go on, under every kind that has conditions. */
+static void passed_on(void) {
+    for (int kind = MONK_PB; kind <= MONK_NPIR; kind++) {
+        begin(kind, 4, 2, 0, 100);
+        IS(monk_enter(a), MONK_OK); IS(monk_start_wait(a, 0), MONK_WAITING); IS(monk_enter(d), MONK_OK); IS(monk_start_wait(d, 0), MONK_WAITING);
+        IS(monk_abandon(a), MONK_OK); IS(monk_abandon(d), MONK_OK);
+        IS(monk_enter(b), MONK_OK); IS(monk_start_wait(b, 0), MONK_WAITING);
+        IS(monk_enter(c), MONK_OK); IS(signal_to(c, 0) >= 0, 1);
+        int b_went_on = 0;
+        for (int step = 0; step < 4; step++) b_went_on |= comes_and_goes(b), comes_and_goes(c);
+        IS(b_went_on, 1); IS(monk_place(c), MONK_OUTSIDE);
+        IS(monk_take_seat(m, &a), MONK_OK); IS((int)monk_seat_number(a), 0); IS(monk_take_seat(m, &d), MONK_OK);
+        end();
+    }
+}
+
+/* Hoare's hand-over goes by the abandoned seat to the one behind it; it comes back behind the signaller. */
+static void passed_on_at_once(void) {
+    begin(MONK_PB, 3, 1, 0, 100);
+    IS(monk_enter(a), MONK_OK); IS(monk_start_wait(a, 0), MONK_WAITING); IS(monk_abandon(a), MONK_OK);
+    IS(monk_enter(b), MONK_OK); IS(monk_start_wait(b, 0), MONK_WAITING);
+    IS(monk_enter(c), MONK_OK); IS(monk_start_signal(c, 0), MONK_WAITING); IS(monk_poll(c), MONK_WAITING);
+    IS(monk_poll(b), MONK_INSIDE); IS(monk_leave(b), MONK_OK); IS(monk_poll(c), MONK_INSIDE); IS(monk_leave(c), MONK_OK);
+    IS(monk_take_seat(m, &a), MONK_OK); IS((int)monk_left(a), 100 - 6);
+    IS(monk_enter(c), MONK_OK);
+    ENDS(c, "signal 2 0 waiter 0\nresume 0 waiter\nsignal 0 0 waiter 1\nresume 1 waiter\nleave 1 signaller 2\nresume 2 signaller\n"
+            "leave 2 signaller 0\nresume 0 signaller\nleave 0 entry\nenter 2 free\n");
+    end();
+}
+
+/* What was no signal for one isn't passed on: a broadcast, which served all; and where too few events are left. */
+static void not_passed_on(void) {
+    for (int kind = MONK_PNB; kind <= MONK_NPNB; kind++) {
+        begin(kind, 3, 1, 0, 100);
+        IS(monk_enter(a), MONK_OK); IS(monk_start_wait(a, 0), MONK_WAITING); IS(monk_abandon(a), MONK_OK); a = NULL;
+        IS(monk_enter(b), MONK_OK); IS(monk_broadcast(b, 0), MONK_OK); IS(monk_start_wait(b, 0), MONK_WAITING);
+        IS(monk_poll(b), MONK_WAITING);
+        IS(monk_enter(c), MONK_OK); IS(monk_waiting(c, 0), 1); IS(monk_leave(c), MONK_OK);
+        end();
+    }
+    begin(MONK_PNB, 3, 1, 0, 4);
+    IS(monk_enter(a), MONK_OK); IS(monk_start_wait(a, 0), MONK_WAITING); IS(monk_abandon(a), MONK_OK); a = NULL;
+    IS(monk_enter(b), MONK_OK); IS(monk_start_wait(b, 0), MONK_WAITING);
+    IS(monk_enter(c), MONK_OK); IS(monk_signal(c, 0), MONK_OK); IS(monk_leave(c), MONK_OK); IS(monk_poll(b), MONK_WAITING);
+    end();
+    /* At the entry it was no signal that let it in, though it waited on a condition before. */
+    begin(MONK_PNB, 3, 1, 0, 100);
+    IS(monk_enter(a), MONK_OK); IS(monk_start_wait(a, 0), MONK_WAITING);
+    IS(monk_enter(b), MONK_OK); IS(monk_signal(b, 0), MONK_OK); IS(monk_leave(b), MONK_OK); IS(monk_poll(a), MONK_INSIDE); IS(monk_leave(a), MONK_OK);
+    IS(monk_enter(b), MONK_OK); IS(monk_start_wait(b, 0), MONK_WAITING);
+    IS(monk_enter(c), MONK_OK); IS(monk_arrive(a), MONK_WAITING); IS(monk_abandon(a), MONK_OK); a = NULL;
+    IS(monk_leave(c), MONK_OK); IS(monk_poll(b), MONK_WAITING);
+    end();
+}
+
 static long milliseconds(void) {
     struct timespec now;
     clock_gettime(CLOCK_MONOTONIC, &now);
@@ -265,7 +332,8 @@ static void cancelled(void) {
 }
 
 int main(void) {
-    shapes(), misuse(), spent(), hoare(), barging(), returns(), flags(), hung(), abandoned(), held(), looked_at(), cancelled();
+    shapes(), misuse(), spent(), hoare(), barging(), returns(), flags(), hung(), abandoned(), passed_on(), passed_on_at_once(), not_passed_on(), held(), looked_at(),
+    cancelled();
     printf("%d answers, %d wrong\n", made, failed);
     return failed != 0;
 }
