@@ -48,7 +48,8 @@ void __tsan_release(void *at);
 #define __tsan_release(at) ((void)(at))
 #endif
 
-typedef enum lent { FREE, TAKEN, ABANDONED } lent;
+/* Whether somebody has a seat. A lending is the time for which somebody does, and each has a number. */
+typedef enum lent { FREE, TAKEN, ABANDONED, LENT_STATES } lent;
 
 typedef struct bell {
     _Alignas(LINE) _Atomic uint32_t rings;
@@ -59,7 +60,7 @@ struct monk_seat {
     _Alignas(LINE) monk_monitor *monitor;
     monk_k_seat *token;
     _Atomic int calling;                /* a call by this seat is under way */
-    _Atomic int lent;                   /* changed under the monitor's lock alone */
+    _Atomic uint32_t lent;              /* LENT_STATES * lending + a lent; changed under the monitor's lock alone */
     _Atomic int place;                  /* copies of what the token says, for any thread that asks */
     _Atomic uint32_t left;
     unsigned number;
@@ -123,14 +124,54 @@ static int rings_soon(bell *b, uint32_t seen, unsigned seats) {
     return 0;
 }
 
+/* ---- Handles: what the program has of a seat. Below is the seat's address, and above the number of the lending, so that a handle that
+   was given back isn't that of the next owner. (Addresses of programs leave these bits 0.) */
+
+enum { ADDRESS_BITS = 48, LENDINGS = 1 << 16 };
+_Static_assert(sizeof(void *) == sizeof(uint64_t), "a handle has room for a lending");
+
+static monk_seat *seat_of(const monk_seat *handle) {
+    return (monk_seat *)((uintptr_t)handle & (((uintptr_t)1 << ADDRESS_BITS) - 1));
+}
+
+static monk_seat *handle_of(monk_seat *s, uint32_t lending) { return (monk_seat *)((uintptr_t)s | (uintptr_t)lending << ADDRESS_BITS); }
+
+static lent lent_of(monk_seat *s) { return (lent)(atomic_load(&s->lent) % LENT_STATES); }
+
+/* Under the lock. */
+static void set_lent(monk_seat *s, lent how) {
+    atomic_store(&s->lent, atomic_load(&s->lent) / LENT_STATES * LENT_STATES + how);
+}
+
+/* Begins a lending: its handle. Under the lock. */
+static monk_seat *lent_anew(monk_seat *s) {
+    uint32_t lending = (atomic_load(&s->lent) / LENT_STATES + 1) % LENDINGS;
+    atomic_store(&s->lent, lending * LENT_STATES + TAKEN);
+    return handle_of(s, lending);
+}
+
+/* Whether the program has the seat by this handle. */
+static int is_had_by(const monk_seat *handle) {
+    return atomic_load(&seat_of(handle)->lent) == (uint32_t)((uintptr_t)handle >> ADDRESS_BITS) * LENT_STATES + TAKEN;
+}
+
 /* ---- The frame of each call */
 
-/* What a call finds before the kernel is asked. Where it answers MONK_OK the call is under way, until `end`. */
-static int begin(monk_seat *s) {
-    if (!s) return MONK_RANGE;
-    if (atomic_exchange(&s->calling, 1)) return MONK_IN_USE;
-    int answer = atomic_load(&s->monitor->closed) ? MONK_CLOSED : atomic_load(&s->lent) != TAKEN ? MONK_NOT_NOW : MONK_OK;
-    if (answer) atomic_store(&s->calling, 0);
+/* Why no call may be made by this handle, if it may not: MONK_CLOSED or MONK_NOT_NOW, else MONK_OK. */
+static int refused_to(const monk_seat *handle) {
+    return atomic_load(&seat_of(handle)->monitor->closed) ? MONK_CLOSED : is_had_by(handle) ? MONK_OK : MONK_NOT_NOW;
+}
+
+/* What a call by the handle *s finds before the kernel is asked; *s is the seat then. Where it answers MONK_OK the call is under way,
+ * until `end`. A handle that was given back is found first, and without a word: the seat's owner may be about to call. */
+static inline int begin(monk_seat **s) {
+    monk_seat *handle = *s;
+    if (!handle) return MONK_RANGE;
+    *s = seat_of(handle);
+    if (!is_had_by(handle)) return refused_to(handle);
+    if (atomic_exchange(&(*s)->calling, 1)) return MONK_IN_USE;
+    int answer = refused_to(handle);
+    if (answer) atomic_store(&(*s)->calling, 0);
     return answer;
 }
 
@@ -171,7 +212,7 @@ static void mind(monk_seat *s) {
 static void set_free(monk_seat *s) {
     if (s->bell) atomic_store(&s->bell->is_minded, 0);
     s->bell = NULL;
-    atomic_store(&s->lent, FREE);
+    set_lent(s, FREE);
 }
 
 /* Whether it was a signal that let this seat in: it waited on a condition, and no broadcast served all who did. */
@@ -210,7 +251,7 @@ static void settle(monk_monitor *m) {
     unsigned i = 0;
     while (i < m->seat_count) {
         monk_seat *s = &m->seats[i++];
-        if (atomic_load(&s->lent) != ABANDONED || monk_k_poll(s->token) != MONK_INSIDE) continue;
+        if (lent_of(s) != ABANDONED || monk_k_poll(s->token) != MONK_INSIDE) continue;
         go_on_and_out(s);
         i = 0;                          /* this may have let in a seat that was looked at before, and marked a bell */
     }
@@ -316,43 +357,43 @@ static int finished(monk_seat *s, int started) {
 /* ---- Calls that don't wait */
 
 int monk_arrive(monk_seat *s) {
-    int r = begin(s);
+    int r = begin(&s);
     return r ? r : end(s, noted(s, monk_k_arrive(s->token), 0));
 }
 
 int monk_poll(monk_seat *s) {
-    int r = begin(s);
+    int r = begin(&s);
     return r ? r : end(s, poll_once(s));
 }
 
 int monk_leave(monk_seat *s) {
-    int r = begin(s);
+    int r = begin(&s);
     return r ? r : done(end(s, go_out(s)));
 }
 
 int monk_start_wait(monk_seat *s, unsigned condition) {
-    int r = begin(s);
+    int r = begin(&s);
     return r ? r : end(s, wait_on(s, condition));
 }
 
 int monk_start_signal(monk_seat *s, unsigned condition) {
-    int r = begin(s);
+    int r = begin(&s);
     return r ? r : end(s, signal_on(s, condition));
 }
 
 int monk_start_signal_wait(monk_seat *s, unsigned condition, unsigned wait_condition) {
-    int r = begin(s);
+    int r = begin(&s);
     return r ? r : end(s, signal_and_wait(s, condition, wait_condition));
 }
 
 int monk_start_wait_until(monk_seat *s, unsigned flag) {
-    int r = begin(s);
+    int r = begin(&s);
     return r ? r : end(s, wait_for_flag(s, flag));
 }
 
 int monk_signal_leave(monk_seat *s, unsigned condition) {
     size_t word = NOBODY;
-    int r = begin(s);
+    int r = begin(&s);
     if (r) return r;
     __tsan_release(s->monitor);
     r = monk_k_signal_leave(s->token, byte_of(condition), wish_of(s), &word);
@@ -360,7 +401,7 @@ int monk_signal_leave(monk_seat *s, unsigned condition) {
 }
 
 int monk_broadcast(monk_seat *s, unsigned condition) {
-    int r = begin(s);
+    int r = begin(&s);
     if (r) return r;
     r = noted(s, monk_k_broadcast(s->token, byte_of(condition)), 1);
     if (r == MONK_INSIDE) s->monitor->broadcasts[condition]++;
@@ -368,7 +409,7 @@ int monk_broadcast(monk_seat *s, unsigned condition) {
 }
 
 int monk_set_flags(monk_seat *s, uint32_t bits) {
-    int r = begin(s);
+    int r = begin(&s);
     if (r) return r;
     r = noted(s, monk_k_set_flags(s->token, bits), 1);
     if (r == MONK_INSIDE) s->monitor->bits = bits;
@@ -376,13 +417,13 @@ int monk_set_flags(monk_seat *s, uint32_t bits) {
 }
 
 int monk_waiting(monk_seat *s, unsigned condition) {
-    int r = begin(s);
+    int r = begin(&s);
     return r ? r : end(s, (int)monk_k_waiting(s->token, byte_of(condition)));
 }
 
 int monk_flags(monk_seat *s, uint32_t *bits) {
     if (!bits) return MONK_RANGE;
-    int r = begin(s);
+    int r = begin(&s);
     if (r) return r;
     if (place_of(s) != MONK_INSIDE) return end(s, MONK_NOT_NOW);
     *bits = s->monitor->bits;
@@ -413,51 +454,51 @@ static int come_in_within(monk_seat *s, long milliseconds) {
 }
 
 int monk_await(monk_seat *s, long milliseconds) {
-    int r = begin(s);
+    int r = begin(&s);
     if (r) return r;
     return end(s, place_of(s) == MONK_INSIDE ? MONK_INSIDE : come_in_within(s, milliseconds));
 }
 
 int monk_enter_within(monk_seat *s, long milliseconds) {
-    int r = begin(s);
+    int r = begin(&s);
     if (r) return r;
     r = noted(s, monk_k_arrive(s->token), 0);
     return end(s, r == MONK_WAITING ? come_in_within(s, milliseconds) : r);
 }
 
 int monk_enter(monk_seat *s) {
-    int r = begin(s);
+    int r = begin(&s);
     return r ? r : finished(s, noted(s, monk_k_arrive(s->token), 0));
 }
 
 int monk_wait(monk_seat *s, unsigned condition) {
-    int r = begin(s);
+    int r = begin(&s);
     return r ? r : finished(s, wait_on(s, condition));
 }
 
 int monk_signal(monk_seat *s, unsigned condition) {
-    int r = begin(s);
+    int r = begin(&s);
     return r ? r : finished(s, signal_on(s, condition));
 }
 
 int monk_signal_wait(monk_seat *s, unsigned condition, unsigned wait_condition) {
-    int r = begin(s);
+    int r = begin(&s);
     return r ? r : finished(s, signal_and_wait(s, condition, wait_condition));
 }
 
 int monk_wait_until(monk_seat *s, unsigned flag) {
-    int r = begin(s);
+    int r = begin(&s);
     return r ? r : finished(s, wait_for_flag(s, flag));
 }
 
 int monk_pause(monk_seat *s, unsigned n) {
     if (!s) return MONK_RANGE;
-    return monk_mode_of(s->monitor->kind) == MONK_AUTOMATIC ? monk_wait_until(s, n) : monk_wait(s, n);
+    return monk_mode_of(seat_of(s)->monitor->kind) == MONK_AUTOMATIC ? monk_wait_until(s, n) : monk_wait(s, n);
 }
 
 int monk_finish(monk_seat *s, unsigned n) {
     if (!s) return MONK_RANGE;
-    int mode = monk_mode_of(s->monitor->kind);
+    int mode = monk_mode_of(seat_of(s)->monitor->kind);
     if (mode == MONK_IMMEDIATE_RETURN) return monk_signal_leave(s, n);
     int r = mode == MONK_AUTOMATIC ? MONK_OK : monk_signal(s, n);
     return r ? r : monk_leave(s);
@@ -470,8 +511,8 @@ static monk_seat *spare_seat(monk_monitor *m, int from_highest, int *answer) {
     *answer = MONK_NO_SEAT;
     for (unsigned i = 0; i < m->seat_count; i++) {
         monk_seat *s = &m->seats[from_highest ? m->seat_count - 1 - i : i];
-        if (atomic_load(&s->lent) != FREE) continue;
-        if (monk_left(s) >= VISIT) return *answer = MONK_OK, s;
+        if (lent_of(s) != FREE) continue;
+        if (atomic_load(&s->left) >= VISIT) return *answer = MONK_OK, s;
         *answer = MONK_SPENT;
     }
     return NULL;
@@ -482,7 +523,7 @@ static monk_seat *spare_seat(monk_monitor *m, int from_highest, int *answer) {
 static monk_seat *visitor_that_waits(monk_monitor *m) {
     for (unsigned i = 0; i < m->seat_count; i++) {
         monk_seat *s = &m->seats[i];
-        if (!s->is_visitor || atomic_load(&s->lent) != ABANDONED) continue;
+        if (!s->is_visitor || lent_of(s) != ABANDONED) continue;
         set_free(s);
         return s;
     }
@@ -499,8 +540,7 @@ static int lend(monk_monitor *m, int is_visitor, monk_seat **seat) {
         else s = spare_seat(m, is_visitor, &answer);
         if (s) {
             s->wish = MONK_WAITER, s->is_visitor = is_visitor;
-            atomic_store(&s->lent, TAKEN);
-            *seat = s;
+            *seat = lent_anew(s);
         }
     }
     pthread_mutex_unlock(&m->lock);
@@ -510,25 +550,25 @@ static int lend(monk_monitor *m, int is_visitor, monk_seat **seat) {
 int monk_take_seat(monk_monitor *m, monk_seat **seat) { return m && seat ? lend(m, 0, seat) : MONK_RANGE; }
 
 int monk_give_seat(monk_seat *s) {
-    int r = begin(s);
+    int r = begin(&s);
     if (r) return r;
     monk_monitor *m = s->monitor;
     if (place_of(s) != MONK_OUTSIDE) return end(s, MONK_NOT_NOW);
     pthread_mutex_lock(&m->lock);
     atomic_store(&s->calling, 0);
-    atomic_store(&s->lent, FREE);
+    set_lent(s, FREE);
     pthread_mutex_unlock(&m->lock);         /* behind this the monitor may be freed */
     return MONK_OK;
 }
 
 int monk_abandon(monk_seat *s) {
     size_t word = NOBODY;
-    int r = begin(s);
+    int r = begin(&s);
     if (r) return r;
     monk_monitor *m = s->monitor;
     pthread_mutex_lock(&m->lock);
     if (place_of(s) == MONK_WAITING) {
-        atomic_store(&s->lent, ABANDONED);
+        set_lent(s, ABANDONED);
         mind(s);
     } else {
         __tsan_release(m);
@@ -542,12 +582,12 @@ int monk_abandon(monk_seat *s) {
     return MONK_OK;
 }
 
-unsigned monk_seat_number(const monk_seat *s) { return s ? s->number : 0; }
-int monk_place(const monk_seat *s) { return s ? atomic_load(&s->place) : MONK_RANGE; }
-uint32_t monk_left(const monk_seat *s) { return s ? atomic_load(&s->left) : 0; }
+unsigned monk_seat_number(const monk_seat *s) { return s ? seat_of(s)->number : 0; }
+int monk_place(const monk_seat *s) { return !s ? MONK_RANGE : is_had_by(s) ? atomic_load(&seat_of(s)->place) : MONK_NOT_NOW; }
+uint32_t monk_left(const monk_seat *s) { return s && is_had_by(s) ? atomic_load(&seat_of(s)->left) : 0; }
 
 int monk_set_wish(monk_seat *s, int wish) {
-    int r = begin(s);
+    int r = begin(&s);
     if (r) return r;
     if (wish < MONK_ENTRY || wish > MONK_ANY) return end(s, MONK_RANGE);
     s->wish = wish;
@@ -607,7 +647,7 @@ int monk_stop(monk_monitor *m) {
 
 static int has_lent(monk_monitor *m, int also_abandoned) {
     for (unsigned i = 0; i < m->seat_count; i++) {
-        int how = atomic_load(&m->seats[i].lent);
+        lent how = lent_of(&m->seats[i]);
         if (how == TAKEN || (also_abandoned && how == ABANDONED)) return 1;
     }
     return 0;
@@ -641,13 +681,13 @@ static int text_of_closed(monk_monitor *m, char **text, size_t *length) {
 }
 
 static int history_by(monk_seat *s, char **text, size_t *length) {
-    int r = begin(s);
+    int r = begin(&s);
     if (r) return r;
     return end(s, text_of(s, text, length));
 }
 
 int monk_history(monk_monitor *m, monk_seat *by, char **text, size_t *length) {
-    if (!m || !text || (by && by->monitor != m)) return MONK_RANGE;
+    if (!m || !text || (by && seat_of(by)->monitor != m)) return MONK_RANGE;
     if (atomic_load(&m->closed)) return text_of_closed(m, text, length);
     if (by) return history_by(by, text, length);
     monk_seat *visitor;

@@ -55,7 +55,7 @@ extern "C" {
 #define MONK_VERSION 0x000100        /* 0.1.0; monk_version() is that of the library which is linked */
 
 typedef struct monk_monitor monk_monitor;
-typedef struct monk_seat monk_seat;
+typedef struct monk_seat monk_seat;      /* a pointer to it names a lending of a seat, and isn't where the seat is kept */
 
 /* ---- Kinds ------------------------------------------------------------------------------------------------------- */
 
@@ -133,7 +133,8 @@ int monk_kind_of(const monk_monitor *m);
 /* The lowest seat that nobody has and that has two events left. MONK_NO_SEAT; MONK_SPENT where all that are free are. */
 int monk_take_seat(monk_monitor *m, monk_seat **s);
 
-/* Gives an outside seat back; the pointer is no seat any more. Its events stay counted. */
+/* Gives an outside seat back. Its events stay counted. The pointer is no seat any more: every call by it is NOT_NOW, and disturbs
+ * nobody, also when somebody else has taken the seat. (Of a seat's lendings each 65,536th has the same pointer.) */
 int monk_give_seat(monk_seat *s);
 
 /* Gives a seat back wherever it stands, for a thread that ends or an error path. An inside seat leaves. A waiting one keeps
@@ -145,7 +146,7 @@ int monk_give_seat(monk_seat *s);
 int monk_abandon(monk_seat *s);
 
 unsigned monk_seat_number(const monk_seat *s);   /* as in the history */
-int monk_place(const monk_seat *s);              /* MONK_OUTSIDE, MONK_WAITING, MONK_INSIDE */
+int monk_place(const monk_seat *s);              /* MONK_OUTSIDE, MONK_WAITING, MONK_INSIDE; MONK_NOT_NOW if it was given back */
 uint32_t monk_left(const monk_seat *s);          /* events left to it: what each call costs is told with the call */
 
 /* Whom the seat's releases prefer where the kind's priorities leave it open (in NP and Q kinds). It stays until the next

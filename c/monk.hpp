@@ -118,7 +118,8 @@ private:
     }
 };
 
-/// A visit: inside from its beginning to its end. A call that leads outside ends it before its scope does.
+/// A visit: inside from its beginning to its end. A call that leads outside ends it before its scope does, and so does the end of its
+/// seat: from then on every call is refused with MONK_NOT_NOW, whoever has the seat. It may not outlive the monitor.
 class visit {
 public:
     explicit visit(seat &by) : seat_(by.get()) { checked(monk_enter(seat_)); }
