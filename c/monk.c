@@ -432,9 +432,10 @@ int monk_flags(monk_seat *s, uint32_t *bits) {
 
 /* ---- Calls that wait */
 
+enum { MS_A_SECOND = 1000, NS_A_MS = 1000000, NS_A_SECOND = 1000000000 };
+
 /* So many milliseconds from now. */
 static struct timespec limit_in(long milliseconds) {
-    enum { MS_A_SECOND = 1000, NS_A_MS = 1000000, NS_A_SECOND = 1000000000 };
     struct timespec limit;
     clock_gettime(CLOCK_MONOTONIC, &limit);
     limit.tv_sec += milliseconds / MS_A_SECOND;
@@ -457,6 +458,14 @@ int monk_await(monk_seat *s, long milliseconds) {
     int r = begin(&s);
     if (r) return r;
     return end(s, place_of(s) == MONK_INSIDE ? MONK_INSIDE : come_in_within(s, milliseconds));
+}
+
+int monk_await_until(monk_seat *s, const struct timespec *time) {
+    if (!time) return MONK_RANGE;
+    int r = begin(&s);
+    if (r) return r;
+    if (time->tv_sec < 0 || time->tv_nsec < 0 || time->tv_nsec >= NS_A_SECOND) return end(s, MONK_RANGE);
+    return end(s, place_of(s) == MONK_INSIDE ? MONK_INSIDE : come_in(s, time));
 }
 
 int monk_enter_within(monk_seat *s, long milliseconds) {

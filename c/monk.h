@@ -47,6 +47,7 @@
 #include <stddef.h>
 #include <stdint.h>
 #include <stdio.h>
+#include <time.h>
 
 #ifdef __cplusplus
 extern "C" {
@@ -210,6 +211,10 @@ int monk_start_wait_until(monk_seat *s, unsigned flag);           /* inside    i
 /* Waits until the seat is inside, at most so many milliseconds (below 0: as long as it takes). MONK_INSIDE; MONK_WAITING
  * where the time is over, and the seat waits on, at its place in its queue; MONK_STOPPED. */
 int monk_await(monk_seat *s, long milliseconds);
+
+/* As monk_await, until a time by the clock CLOCK_MONOTONIC; one that is over is as 0 milliseconds. MONK_RANGE if it is no time of that
+ * clock, whose nanoseconds are below 10^9 and which has nothing below 0. */
+int monk_await_until(monk_seat *s, const struct timespec *time);
 
 /* monk_arrive and monk_await as one call.                                             outside   inside, or waiting */
 int monk_enter_within(monk_seat *s, long milliseconds);

@@ -360,11 +360,14 @@ static void sleep_until_due(monk_seat *s, const struct timespec *limit) {
     pthread_setcancelstate(before, NULL);
 }
 
+static int is_time(const struct timespec *time) { return time->tv_sec >= 0 && time->tv_nsec >= 0 && time->tv_nsec < 1000000000L; }
+
 /* Sleeps until the seat is due, and lets it come in. */
 static int await(monk_seat *s, const struct timespec *limit) {
     int answer = begin(s);
     if (answer) return answer;
     monk_monitor *m = s->monitor;
+    if (limit && !is_time(limit)) return end(s, MONK_RANGE);
     if (s->place == MONK_INSIDE) return end(s, MONK_INSIDE);
     if ((answer = refusal(s, MONK_WAITING, 0))) return end(s, answer);
     s->calling = 1;
@@ -386,6 +389,8 @@ int monk_await(monk_seat *s, long milliseconds) {
     if (limit.tv_nsec >= 1000000000L) limit.tv_sec++, limit.tv_nsec -= 1000000000L;
     return await(s, &limit);
 }
+
+int monk_await_until(monk_seat *s, const struct timespec *time) { return time ? await(s, time) : MONK_RANGE; }
 
 int monk_enter_within(monk_seat *s, long milliseconds) {
     int started = monk_arrive(s);

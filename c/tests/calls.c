@@ -276,6 +276,42 @@ static long milliseconds(void) {
     return now.tv_sec * 1000 + now.tv_nsec / 1000000;
 }
 
+static struct timespec in_microseconds(long microseconds) {
+    struct timespec then;
+    clock_gettime(CLOCK_MONOTONIC, &then);
+    then.tv_nsec += microseconds * 1000;
+    if (then.tv_nsec >= 1000000000) then.tv_sec++, then.tv_nsec -= 1000000000;
+    return then;
+}
+
+/* By how many nanoseconds a wait of 100 microseconds that nobody ends is late, in the best of many. */
+static long least_late(void) {
+    long least = 1000000000;
+    for (int i = 0; i < 50; i++) {
+        struct timespec until = in_microseconds(100), now;
+        IS(monk_await_until(b, &until), MONK_WAITING);
+        clock_gettime(CLOCK_MONOTONIC, &now);
+        long late = (now.tv_sec - until.tv_sec) * 1000000000 + now.tv_nsec - until.tv_nsec;
+        IS(late >= 0, 1);
+        if (late < least) least = late;
+    }
+    return least;
+}
+
+/* Waits until a time, which may be finer than a millisecond. */
+static void until(void) {
+    struct timespec over = {0, 0}, later = in_microseconds(600000), no_times[] = {{0, 1000000000}, {0, -1}, {-1, 0}};
+    begin(MONK_PNB, 2, 1, 0, 100);
+    for (int i = 0; i < 3; i++) IS(monk_await_until(a, &no_times[i]), MONK_RANGE);
+    IS(monk_await_until(a, NULL), MONK_RANGE); IS(monk_await_until(NULL, &over), MONK_RANGE); IS(monk_await_until(a, &over), MONK_NOT_NOW);
+    IS(monk_enter(a), MONK_OK); IS(monk_await_until(a, &over), MONK_INSIDE);
+    IS(monk_arrive(b), MONK_WAITING); IS(monk_await_until(b, &over), MONK_WAITING);
+    IS(least_late() < 900000, 1);
+    IS(monk_leave(a), MONK_OK); IS(monk_await_until(b, &over), MONK_INSIDE);
+    IS(monk_arrive(a), MONK_WAITING); IS(monk_stop(m), MONK_OK); IS(monk_await_until(a, &later), MONK_STOPPED);
+    end();
+}
+
 static void *leaver(void *p) {
     (void)p;
     nanosleep(&(struct timespec){0, 100000000}, NULL);
@@ -333,7 +369,7 @@ static void cancelled(void) {
 
 int main(void) {
     shapes(), misuse(), spent(), hoare(), barging(), returns(), flags(), hung(), abandoned(), passed_on(), passed_on_at_once(), not_passed_on(), held(), looked_at(),
-    cancelled();
+    cancelled(), until();
     printf("%d answers, %d wrong\n", made, failed);
     return failed != 0;
 }
