@@ -6,7 +6,6 @@
 #include "monk_kernel.h"
 #include <errno.h>
 #include <linux/futex.h>
-#include <pthread.h>
 #include <stdatomic.h>
 #include <stdlib.h>
 #include <sys/syscall.h>
@@ -79,7 +78,7 @@ struct monk_monitor {
     uint32_t bits;                              /* a copy of the flags, touched by the seat that is inside */
     uint32_t broadcasts[MOST_CONDITIONS];       /* how many there were on each condition, touched as `bits` is */
     _Atomic int stopped, closed;
-    pthread_mutex_t lock;                       /* of lending, and of abandoned seats: a release takes it if it lets one of them in */
+    _Atomic uint32_t lock;                      /* of lending, and of abandoned seats: a release takes it if it lets one of them in */
     monk_seat *reader;                          /* the seat that closed it, through which the history is read */
     void *room;                                 /* the tokens' */
     monk_k_seat tokens[MOST_SEATS];
@@ -88,13 +87,13 @@ struct monk_monitor {
 
 /* ---- Bells: where threads sleep */
 
-static void futex_wake(bell *b, int most) {
-    syscall(SYS_futex, &b->rings, FUTEX_WAKE_PRIVATE, most, NULL, NULL, 0);
+static void futex_wake(_Atomic uint32_t *at, int most) {
+    syscall(SYS_futex, at, FUTEX_WAKE_PRIVATE, most, NULL, NULL, 0);
 }
 
-/* Sleeps unless the bell has rung since; until then at most, where there is a limit. 0 if the time is over. */
-static int sleep_on(bell *b, uint32_t seen, const struct timespec *limit) {
-    long slept = syscall(SYS_futex, &b->rings, FUTEX_WAIT_BITSET_PRIVATE, seen, limit, NULL, FUTEX_BITSET_MATCH_ANY);
+/* Sleeps if the number is still what was seen; until then at most, where there is a limit. 0 if the time is over. */
+static int sleep_on(_Atomic uint32_t *at, uint32_t seen, const struct timespec *limit) {
+    long slept = syscall(SYS_futex, at, FUTEX_WAIT_BITSET_PRIVATE, seen, limit, NULL, FUTEX_BITSET_MATCH_ANY);
     return slept == 0 || errno != ETIMEDOUT;
 }
 
@@ -105,7 +104,7 @@ static bell *bell_of(monk_monitor *m, size_t word) { return &m->bells[(word - 1)
 static bell *ring(monk_monitor *m, size_t word) {
     bell *b = bell_of(m, word);
     atomic_fetch_add(&b->rings, 1);
-    futex_wake(b, 1);
+    futex_wake(&b->rings, 1);
     return b;
 }
 
@@ -122,6 +121,24 @@ static int rings_soon(bell *b, uint32_t seen, unsigned seats) {
         pause_processor();
     }
     return 0;
+}
+
+/* ---- The monitor's lock. It isn't a mutex of the system's, since a program may have something in place of pthread_mutex_lock that
+   records the program's own locks. */
+
+enum { OPEN, LOCKED, WANTED };
+
+static void lock(monk_monitor *m) {
+    uint32_t was = OPEN;
+    if (!atomic_compare_exchange_strong(&m->lock, &was, LOCKED))
+        while (atomic_exchange(&m->lock, WANTED) != OPEN) sleep_on(&m->lock, WANTED, NULL);
+    __tsan_acquire(&m->lock);
+}
+
+/* Behind this the monitor may be freed: the wake goes by the address alone. */
+static void unlock(monk_monitor *m) {
+    __tsan_release(&m->lock);
+    if (atomic_exchange(&m->lock, OPEN) == WANTED) futex_wake(&m->lock, 1);
 }
 
 /* ---- Handles: what the program has of a seat. Below is the seat's address, and above the number of the lending, so that a handle that
@@ -261,9 +278,9 @@ static void settle(monk_monitor *m) {
  * releases grants first and then reads the mark: so one of the two sees the grant. */
 static void let_in(monk_monitor *m, size_t word) {
     if (word == NOBODY || !atomic_load(&ring(m, word)->is_minded)) return;
-    pthread_mutex_lock(&m->lock);
+    lock(m);
     settle(m);
-    pthread_mutex_unlock(&m->lock);
+    unlock(m);
 }
 
 /* What follows a release. */
@@ -345,7 +362,7 @@ static int come_in(monk_seat *s, const struct timespec *limit) {
         if (answer != MONK_WAITING) return answer;
         if (atomic_load(&m->stopped) && !s->is_visitor) return MONK_STOPPED;
         if (!in_time) return MONK_WAITING;
-        if (!rings_soon(b, seen, m->seat_count)) in_time = sleep_on(b, seen, limit);
+        if (!rings_soon(b, seen, m->seat_count)) in_time = sleep_on(&b->rings, seen, limit);
     }
 }
 
@@ -542,7 +559,7 @@ static monk_seat *visitor_that_waits(monk_monitor *m) {
 /* To a thread the lowest seat, to a visitor the highest. */
 static int lend(monk_monitor *m, int is_visitor, monk_seat **seat) {
     int answer = MONK_CLOSED;
-    pthread_mutex_lock(&m->lock);
+    lock(m);
     if (!atomic_load(&m->closed)) {
         monk_seat *s = is_visitor ? visitor_that_waits(m) : NULL;
         if (s) answer = MONK_OK;
@@ -552,7 +569,7 @@ static int lend(monk_monitor *m, int is_visitor, monk_seat **seat) {
             *seat = lent_anew(s);
         }
     }
-    pthread_mutex_unlock(&m->lock);
+    unlock(m);
     return answer;
 }
 
@@ -563,10 +580,10 @@ int monk_give_seat(monk_seat *s) {
     if (r) return r;
     monk_monitor *m = s->monitor;
     if (place_of(s) != MONK_OUTSIDE) return end(s, MONK_NOT_NOW);
-    pthread_mutex_lock(&m->lock);
+    lock(m);
     atomic_store(&s->calling, 0);
     set_lent(s, FREE);
-    pthread_mutex_unlock(&m->lock);         /* behind this the monitor may be freed */
+    unlock(m);
     return MONK_OK;
 }
 
@@ -575,7 +592,7 @@ int monk_abandon(monk_seat *s) {
     int r = begin(&s);
     if (r) return r;
     monk_monitor *m = s->monitor;
-    pthread_mutex_lock(&m->lock);
+    lock(m);
     if (place_of(s) == MONK_WAITING) {
         set_lent(s, ABANDONED);
         mind(s);
@@ -587,7 +604,7 @@ int monk_abandon(monk_seat *s) {
     }
     settle(m);
     end(s, MONK_OK);
-    pthread_mutex_unlock(&m->lock);         /* behind this the monitor may be freed */
+    unlock(m);
     return MONK_OK;
 }
 
@@ -638,7 +655,6 @@ int monk_make(monk_monitor **out, const monk_shape *shape) {
     uint32_t budget = shape->budget ? shape->budget : USUAL_BUDGET;
     int answer = monk_k_make((uint8_t)shape->kind, (uint8_t)shape->conditions, (uint8_t)shape->flags, budget, m->tokens, shape->seats);
     if (answer) return free(m), free(room), answer;
-    pthread_mutex_init(&m->lock, NULL);
     set_up(m, shape, budget);
     *out = m;
     return MONK_OK;
@@ -649,7 +665,7 @@ int monk_stop(monk_monitor *m) {
     atomic_store(&m->stopped, 1);
     for (unsigned i = 0; i < BELLS; i++) {
         atomic_fetch_add(&m->bells[i].rings, 1);
-        futex_wake(&m->bells[i], INT32_MAX);
+        futex_wake(&m->bells[i].rings, INT32_MAX);
     }
     return MONK_OK;
 }
@@ -683,9 +699,9 @@ static int text_of(monk_seat *s, char **text, size_t *length) {
 
 /* Any thread may ask for it, and a token is used by one call at a time. */
 static int text_of_closed(monk_monitor *m, char **text, size_t *length) {
-    pthread_mutex_lock(&m->lock);
+    lock(m);
     int r = text_of(m->reader, text, length);
-    pthread_mutex_unlock(&m->lock);
+    unlock(m);
     return r;
 }
 
@@ -734,25 +750,24 @@ static int close_by(monk_monitor *m, monk_seat *s) {
 int monk_close(monk_monitor *m) {
     int answer = MONK_CLOSED;
     if (!m) return MONK_RANGE;
-    pthread_mutex_lock(&m->lock);
+    lock(m);
     if (!atomic_load(&m->closed)) {
         monk_seat *s = spare_seat(m, 0, &answer);
         if (has_lent(m, 1)) answer = MONK_BUSY;
         else if (s) answer = close_by(m, s);
         if (!answer) atomic_store(&m->closed, 1);
     }
-    pthread_mutex_unlock(&m->lock);
+    unlock(m);
     return answer;
 }
 
 int monk_free(monk_monitor *m) {
     if (!m) return MONK_OK;
-    pthread_mutex_lock(&m->lock);
+    lock(m);
     int busy = has_lent(m, 0);
-    pthread_mutex_unlock(&m->lock);
+    unlock(m);
     if (busy) return MONK_BUSY;
     for (unsigned i = 0; i < m->seat_count; i++) monk_k_drop(&m->tokens[i]);
-    pthread_mutex_destroy(&m->lock);
     free(m->room);
     free(m);
     return MONK_OK;
