@@ -31,21 +31,18 @@ enum {
 #define MONK_BUILT "proved kernel"
 #endif
 
-/* The threads' sanitizer doesn't see the kernel's atomic words: it is told where one seat hands the monitor to the next. */
-#if defined __SANITIZE_THREAD__
-#define SEEN_BY_SANITIZER 1
-#elif defined __has_feature
-#if __has_feature(thread_sanitizer)
-#define SEEN_BY_SANITIZER 1
-#endif
-#endif
-#ifdef SEEN_BY_SANITIZER
-void __tsan_acquire(void *at);
-void __tsan_release(void *at);
-#else
-#define __tsan_acquire(at) ((void)(at))
-#define __tsan_release(at) ((void)(at))
-#endif
+/* ThreadSanitizer doesn't see the kernel's atomic words: it is told where one thread hands what it did to the next. These names are
+ * null in a program that is built without it. */
+void __tsan_acquire(void *at) __attribute__((weak));
+void __tsan_release(void *at) __attribute__((weak));
+
+static void see_what_was_shown(void *at) {
+    if (__tsan_acquire) __tsan_acquire(at);
+}
+
+static void show(void *at) {
+    if (__tsan_release) __tsan_release(at);
+}
 
 /* Whether somebody has a seat. A lending is the time for which somebody does, and each has a number. */
 typedef enum lent { FREE, TAKEN, ABANDONED, LENT_STATES } lent;
@@ -132,12 +129,12 @@ static void lock(monk_monitor *m) {
     uint32_t was = OPEN;
     if (!atomic_compare_exchange_strong(&m->lock, &was, LOCKED))
         while (atomic_exchange(&m->lock, WANTED) != OPEN) sleep_on(&m->lock, WANTED, NULL);
-    __tsan_acquire(&m->lock);
+    see_what_was_shown(&m->lock);
 }
 
 /* Behind this the monitor may be freed: the wake goes by the address alone. */
 static void unlock(monk_monitor *m) {
-    __tsan_release(&m->lock);
+    show(&m->lock);
     if (atomic_exchange(&m->lock, OPEN) == WANTED) futex_wake(&m->lock, 1);
 }
 
@@ -250,9 +247,9 @@ static int pass_on(monk_seat *s, size_t *word) {
 static void go_on_and_out(monk_seat *s) {
     monk_monitor *m = s->monitor;
     size_t word = NOBODY;
-    __tsan_acquire(m);
+    see_what_was_shown(m);
     int signalled = was_signalled(s);
-    __tsan_release(m);
+    show(m);
     int answer = signalled ? pass_on(s, &word) : MONK_INSIDE;
     s->waits_on = NO_CONDITION;
     if (answer == MONK_INSIDE || answer < 0) answer = monk_k_leave(s->token, MONK_WAITER, &word);
@@ -296,14 +293,14 @@ static int handed_on(monk_seat *s, int answer, size_t word) {
 static int poll_once(monk_seat *s) {
     int answer = monk_k_poll(s->token);
     if (answer != MONK_INSIDE) return answer;
-    __tsan_acquire(s->monitor);
+    see_what_was_shown(s->monitor);
     s->waits_on = NO_CONDITION;
     return noted(s, answer, 1);
 }
 
 static int go_out(monk_seat *s) {
     size_t word = NOBODY;
-    __tsan_release(s->monitor);
+    show(s->monitor);
     int answer = monk_k_leave(s->token, wish_of(s), &word);
     return handed_on(s, answer, word);
 }
@@ -322,14 +319,14 @@ static int waits_on(monk_seat *s, unsigned condition, uint32_t broadcasts, int a
 static int wait_on(monk_seat *s, unsigned condition) {
     size_t word = NOBODY;
     uint32_t broadcasts = broadcasts_on(s, condition);
-    __tsan_release(s->monitor);
+    show(s->monitor);
     int answer = monk_k_start_wait(s->token, byte_of(condition), wish_of(s), &word);
     return waits_on(s, condition, broadcasts, answer, word);
 }
 
 static int signal_on(monk_seat *s, unsigned condition) {
     size_t word = NOBODY;
-    __tsan_release(s->monitor);
+    show(s->monitor);
     int answer = monk_k_start_signal(s->token, byte_of(condition), wish_of(s), &word);
     return handed_on(s, answer, word);
 }
@@ -337,16 +334,23 @@ static int signal_on(monk_seat *s, unsigned condition) {
 static int signal_and_wait(monk_seat *s, unsigned condition, unsigned wait_condition) {
     size_t word = NOBODY;
     uint32_t broadcasts = broadcasts_on(s, wait_condition);
-    __tsan_release(s->monitor);
+    show(s->monitor);
     int answer = monk_k_start_signal_wait(s->token, byte_of(condition), byte_of(wait_condition), wish_of(s), &word);
     return waits_on(s, wait_condition, broadcasts, answer, word);
 }
 
 static int wait_for_flag(monk_seat *s, unsigned flag) {
     size_t word = NOBODY;
-    __tsan_release(s->monitor);
+    show(s->monitor);
     int answer = monk_k_start_wait_until(s->token, byte_of(flag), wish_of(s), &word);
     return handed_on(s, answer, word);
+}
+
+/* Whether a stop ends this seat's wait. It doesn't end a look at the history. */
+static int is_sent_home(const monk_seat *s) {
+    if (s->is_visitor || !atomic_load(&s->monitor->stopped)) return 0;
+    see_what_was_shown(&s->monitor->stopped);
+    return 1;
 }
 
 /* Waits until the seat is inside. A stop sends it home, unless it comes for a look at the history. The bell is read before the
@@ -360,7 +364,7 @@ static int come_in(monk_seat *s, const struct timespec *limit) {
         uint32_t seen = atomic_load(&b->rings);
         answer = poll_once(s);
         if (answer != MONK_WAITING) return answer;
-        if (atomic_load(&m->stopped) && !s->is_visitor) return MONK_STOPPED;
+        if (is_sent_home(s)) return MONK_STOPPED;
         if (!in_time) return MONK_WAITING;
         if (!rings_soon(b, seen, m->seat_count)) in_time = sleep_on(&b->rings, seen, limit);
     }
@@ -412,7 +416,7 @@ int monk_signal_leave(monk_seat *s, unsigned condition) {
     size_t word = NOBODY;
     int r = begin(&s);
     if (r) return r;
-    __tsan_release(s->monitor);
+    show(s->monitor);
     r = monk_k_signal_leave(s->token, byte_of(condition), wish_of(s), &word);
     return done(end(s, handed_on(s, r, word)));
 }
@@ -466,7 +470,7 @@ static int come_in_within(monk_seat *s, long milliseconds) {
     if (milliseconds < 0) return come_in(s, NULL);
     int answer = poll_once(s);
     if (answer != MONK_WAITING) return answer;
-    if (milliseconds == 0) return atomic_load(&s->monitor->stopped) ? MONK_STOPPED : MONK_WAITING;
+    if (milliseconds == 0) return is_sent_home(s) ? MONK_STOPPED : MONK_WAITING;
     struct timespec limit = limit_in(milliseconds);
     return come_in(s, &limit);
 }
@@ -597,7 +601,7 @@ int monk_abandon(monk_seat *s) {
         set_lent(s, ABANDONED);
         mind(s);
     } else {
-        __tsan_release(m);
+        show(m);
         noted(s, monk_k_leave(s->token, wish_of(s), &word), 1);     /* refused if the seat is outside */
         if (word != NOBODY) ring(m, word);
         set_free(s);
@@ -662,6 +666,7 @@ int monk_make(monk_monitor **out, const monk_shape *shape) {
 
 int monk_stop(monk_monitor *m) {
     if (!m) return MONK_RANGE;
+    show(&m->stopped);
     atomic_store(&m->stopped, 1);
     for (unsigned i = 0; i < BELLS; i++) {
         atomic_fetch_add(&m->bells[i].rings, 1);

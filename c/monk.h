@@ -27,6 +27,7 @@
  * THREADS. A seat is used by one thread at a time. It may pass to another thread between two calls. A second call by a seat
  * while one is under way is answered MONK_IN_USE. All other calls may be made by any thread at any time. What a thread
  * does to its data while its seat is inside, the next thread inside sees: the monitor orders memory as a mutex does.
+ * So does a stop for whomever it sends home, and a seat that is given back for whoever takes it. ThreadSanitizer sees this order.
  *
  * WHAT IS PROVED of the library (not of reference.c, which is a plain model of it): that at most one seat is inside, that
  * every call which was taken is in the history exactly once, that the history is legal for the kind, and that every release
