@@ -8,6 +8,7 @@
 #include <linux/futex.h>
 #include <stdatomic.h>
 #include <stdlib.h>
+#include <sys/eventfd.h>
 #include <sys/syscall.h>
 #include <time.h>
 #include <unistd.h>
@@ -24,7 +25,8 @@ enum {
     PATIENCE_MS = 1000,
     VISIT = 2,                  /* events that a visit wants: an enter and a leave */
     NOBODY = 0,                 /* the word that was granted where none was */
-    NO_CONDITION = MOST_CONDITIONS
+    NO_CONDITION = MOST_CONDITIONS,
+    NO_FILE = -1
 };
 
 #ifndef MONK_BUILT
@@ -49,6 +51,7 @@ typedef enum lent { FREE, TAKEN, ABANDONED, LENT_STATES } lent;
 
 typedef struct bell {
     _Alignas(LINE) _Atomic uint32_t rings;
+    _Atomic int file;                   /* an eventfd by which an event loop waits for this bell, plus 1; else 0 */
     _Atomic int is_minded;              /* the seat that waits here was abandoned: the library lets it come in, and leave */
 } bell;
 
@@ -62,6 +65,8 @@ struct monk_seat {
     unsigned number;
     int is_visitor;                     /* lent to the library itself, for a look at the history; changed as `lent` is */
     bell *bell;                         /* at which it waits, if it was abandoned; changed as `lent` is */
+    bell *watched;                      /* at which an event loop waits for it */
+    int file;                           /* its eventfd, or NO_FILE */
     int wish;
     unsigned waits_on;                  /* the condition on which it waits, or NO_CONDITION */
     uint32_t broadcasts;                /* how many there had been on that condition when the wait began */
@@ -97,11 +102,18 @@ static int sleep_on(_Atomic uint32_t *at, uint32_t seen, const struct timespec *
 /* The bell of a word: each has one of its own, since words count from 1 and there are two for each seat. */
 static bell *bell_of(monk_monitor *m, size_t word) { return &m->bells[(word - 1) % BELLS]; }
 
+/* Rings for so many threads that sleep there at most, and for an event loop. (A call of the C library would let a thread be cancelled.) */
+static void ring_for(bell *b, int most) {
+    atomic_fetch_add(&b->rings, 1);
+    futex_wake(&b->rings, most);
+    int file = atomic_load(&b->file) - 1;
+    if (file != NO_FILE) syscall(SYS_write, file, &(uint64_t){1}, sizeof(uint64_t));
+}
+
 /* Wakes whoever waits for that word. The kernel has granted it before. */
 static bell *ring(monk_monitor *m, size_t word) {
     bell *b = bell_of(m, word);
-    atomic_fetch_add(&b->rings, 1);
-    futex_wake(&b->rings, 1);
+    ring_for(b, 1);
     return b;
 }
 
@@ -290,10 +302,17 @@ static int handed_on(monk_seat *s, int answer, size_t word) {
 
 /* ---- Steps of a call that is under way */
 
+/* No event loop waits for this seat any more. */
+static void unwatch(monk_seat *s) {
+    if (s->watched) atomic_store(&s->watched->file, 0);
+    s->watched = NULL;
+}
+
 static int poll_once(monk_seat *s) {
     int answer = monk_k_poll(s->token);
     if (answer != MONK_INSIDE) return answer;
     see_what_was_shown(s->monitor);
+    unwatch(s);
     s->waits_on = NO_CONDITION;
     return noted(s, answer, 1);
 }
@@ -489,6 +508,29 @@ int monk_await_until(monk_seat *s, const struct timespec *time) {
     return end(s, place_of(s) == MONK_INSIDE ? MONK_INSIDE : come_in(s, time));
 }
 
+/* Lets the seat's eventfd be written from now on when its bell rings, and takes away what was written before. */
+static int watch(monk_seat *s) {
+    if (s->file == NO_FILE) s->file = eventfd(0, EFD_CLOEXEC | EFD_NONBLOCK);
+    if (s->file == NO_FILE) return MONK_IO;
+    s->watched = bell_of(s->monitor, monk_k_word(s->token));
+    atomic_store(&s->watched->file, s->file + 1);
+    syscall(SYS_read, s->file, &(uint64_t){0}, sizeof(uint64_t));
+    return MONK_OK;
+}
+
+/* The file is watched before the poll and the look at the stop flag, as a bell is read before them. */
+int monk_wait_fd(monk_seat *s, int *file) {
+    if (!file) return MONK_RANGE;
+    int r = begin(&s);
+    if (r) return r;
+    if (place_of(s) == MONK_INSIDE) return end(s, MONK_INSIDE);
+    r = place_of(s) == MONK_WAITING ? watch(s) : MONK_NOT_NOW;
+    if (r) return end(s, r);
+    r = come_in_within(s, 0);
+    if (r == MONK_WAITING) *file = s->file;
+    return end(s, r);
+}
+
 int monk_enter_within(monk_seat *s, long milliseconds) {
     int r = begin(&s);
     if (r) return r;
@@ -596,6 +638,7 @@ int monk_abandon(monk_seat *s) {
     int r = begin(&s);
     if (r) return r;
     monk_monitor *m = s->monitor;
+    unwatch(s);
     lock(m);
     if (place_of(s) == MONK_WAITING) {
         set_lent(s, ABANDONED);
@@ -641,7 +684,7 @@ static uint64_t dice_of(uint64_t seed, unsigned number) {
 static void set_up(monk_monitor *m, const monk_shape *shape, uint32_t budget) {
     for (unsigned i = 0; i < shape->seats; i++) {
         monk_seat *s = &m->seats[i];
-        s->monitor = m, s->token = &m->tokens[i], s->number = i, s->wish = MONK_WAITER, s->waits_on = NO_CONDITION, s->dice = dice_of(shape->seed, i);
+        s->monitor = m, s->token = &m->tokens[i], s->number = i, s->wish = MONK_WAITER, s->waits_on = NO_CONDITION, s->file = NO_FILE, s->dice = dice_of(shape->seed, i);
         s->place = MONK_OUTSIDE;
         s->left = budget;
     }
@@ -668,10 +711,7 @@ int monk_stop(monk_monitor *m) {
     if (!m) return MONK_RANGE;
     show(&m->stopped);
     atomic_store(&m->stopped, 1);
-    for (unsigned i = 0; i < BELLS; i++) {
-        atomic_fetch_add(&m->bells[i].rings, 1);
-        futex_wake(&m->bells[i].rings, INT32_MAX);
-    }
+    for (unsigned i = 0; i < BELLS; i++) ring_for(&m->bells[i], INT32_MAX);
     return MONK_OK;
 }
 
@@ -772,7 +812,10 @@ int monk_free(monk_monitor *m) {
     int busy = has_lent(m, 0);
     unlock(m);
     if (busy) return MONK_BUSY;
-    for (unsigned i = 0; i < m->seat_count; i++) monk_k_drop(&m->tokens[i]);
+    for (unsigned i = 0; i < m->seat_count; i++) {
+        monk_k_drop(&m->tokens[i]);
+        if (m->seats[i].file != NO_FILE) close(m->seats[i].file);
+    }
     free(m->room);
     free(m);
     return MONK_OK;

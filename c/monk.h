@@ -94,7 +94,7 @@ enum {
     MONK_IN_USE = -8,        /* another thread is in a call by this seat */
     MONK_STOPPED = -9,       /* monk_stop: the call was taken, but the seat is not in; it still waits */
     MONK_CLOSED = -10,       /* the monitor is closed */
-    MONK_IO = -11            /* a file could not be written: errno says why */
+    MONK_IO = -11            /* a file could not be written, or made: errno says why */
 };
 
 const char *monk_strerror(int answer);           /* one line for each answer; never NULL */
@@ -216,6 +216,12 @@ int monk_await(monk_seat *s, long milliseconds);
 /* As monk_await, until a time by the clock CLOCK_MONOTONIC; one that is over is as 0 milliseconds. MONK_RANGE if it is no time of that
  * clock, whose nanoseconds are below 10^9 and which has nothing below 0. */
 int monk_await_until(monk_seat *s, const struct timespec *time);
+
+/* As monk_await with 0 milliseconds; and if the answer is MONK_WAITING, *file is a file that becomes readable when this wait ends, by
+ * the seat's turn or a stop. It may be readable before; so call this again then, and at each new wait. For poll, epoll and the like alone:
+ * don't read it. Each seat has one, which stays open until monk_free, so take it out of your set before you give the seat back.
+ * MONK_IO if the system has no file left. */
+int monk_wait_fd(monk_seat *s, int *file);
 
 /* monk_arrive and monk_await as one call.                                             outside   inside, or waiting */
 int monk_enter_within(monk_seat *s, long milliseconds);

@@ -9,9 +9,12 @@
 #include <pthread.h>
 #include <stdlib.h>
 #include <string.h>
+#include <sys/eventfd.h>
+#include <sys/syscall.h>
 #include <time.h>
+#include <unistd.h>
 
-enum { MOST_SEATS = 32, MOST_CONDITIONS = 8, MOST_FLAGS = 32, MOST_BUDGET = 1 << 20, USUAL_BUDGET = 65536, PATIENCE_MS = 1000 };
+enum { MOST_SEATS = 32, MOST_CONDITIONS = 8, MOST_FLAGS = 32, MOST_BUDGET = 1 << 20, USUAL_BUDGET = 65536, PATIENCE_MS = 1000, NO_FILE = -1 };
 
 /* ---- Kinds */
 
@@ -43,6 +46,7 @@ struct monk_seat {
     uint8_t number, place, due /* a way, or NOBODY */, flag, condition /* that it waits for */, wish, taken, abandoned, calling, is_visitor;
     uint32_t left, broadcasts /* on its condition when its wait began */;
     uint64_t dice;
+    int file /* an eventfd, or NO_FILE */;
     pthread_cond_t bell;
 };
 
@@ -198,21 +202,31 @@ static int refusal(const monk_seat *s, int place, uint32_t wants) {
     return s->left < wants ? MONK_SPENT : MONK_OK;
 }
 
+/* Whether the program has the seat. */
+static int is_had(const monk_seat *s) { return s->taken && !s->abandoned; }
+
 static int begin(monk_seat *s) {
     if (!s) return MONK_RANGE;
     pthread_mutex_lock(&s->monitor->lock);
     int answer = s->calling ? MONK_IN_USE : s->monitor->closed ? MONK_CLOSED : MONK_OK;
-    if (!answer && (!s->taken || s->abandoned)) answer = MONK_NOT_NOW;
+    if (!answer && !is_had(s)) answer = MONK_NOT_NOW;
     if (answer) pthread_mutex_unlock(&s->monitor->lock);
     return answer;
+}
+
+/* Wakes the event loop that waits for a seat, under the lock since the monitor may be freed behind it. */
+static void write_file(const monk_seat *s) {
+    if (s->file != NO_FILE) syscall(SYS_write, s->file, &(uint64_t){1}, sizeof(uint64_t));
 }
 
 /* Ends a call: settles who goes on, and wakes that seat. */
 static int end(monk_seat *s, int answer) {
     monk_monitor *m = s->monitor;
     int due = answer > MONK_OK ? settle(m) : -1;
+    int wakes = due >= 0 && due != s->number;
+    if (wakes) write_file(&m->seats[due]);
     pthread_mutex_unlock(&m->lock);
-    if (due >= 0 && due != s->number) pthread_cond_signal(&m->seats[due].bell);
+    if (wakes) pthread_cond_signal(&m->seats[due].bell);
     return answer;
 }
 
@@ -392,6 +406,21 @@ int monk_await(monk_seat *s, long milliseconds) {
 
 int monk_await_until(monk_seat *s, const struct timespec *time) { return time ? await(s, time) : MONK_RANGE; }
 
+int monk_wait_fd(monk_seat *s, int *file) {
+    if (!file) return MONK_RANGE;
+    int r = begin(s);
+    if (r) return r;
+    if (s->place == MONK_INSIDE) return end(s, MONK_INSIDE);
+    if ((r = refusal(s, MONK_WAITING, 0))) return end(s, r);
+    if (s->file == NO_FILE) s->file = eventfd(0, EFD_CLOEXEC | EFD_NONBLOCK);
+    if (s->file == NO_FILE) return end(s, MONK_IO);
+    syscall(SYS_read, s->file, &(uint64_t){0}, sizeof(uint64_t));
+    if (s->due) come_in(s->monitor, s);
+    if (s->place == MONK_WAITING && is_stopped(s)) return end(s, MONK_STOPPED);
+    if (s->place == MONK_WAITING) *file = s->file;
+    return end(s, s->place);
+}
+
 int monk_enter_within(monk_seat *s, long milliseconds) {
     int started = monk_arrive(s);
     return started == MONK_WAITING ? monk_await(s, milliseconds) : started;
@@ -461,22 +490,28 @@ int monk_abandon(monk_seat *s) {
     if (s->place == MONK_OUTSIDE) free_seat(s);
     else s->abandoned = 1, s->wish = MONK_WAITER;
     int due = settle(m);
-    if (due >= 0) pthread_cond_signal(&m->seats[due].bell);      /* before the lock goes: the monitor may be freed then */
+    if (due >= 0) write_file(&m->seats[due]), pthread_cond_signal(&m->seats[due].bell);      /* under the lock, too */
     return end(s, MONK_OK);
 }
 
 unsigned monk_seat_number(const monk_seat *s) { return s->number; }
 
 /* A look at a seat, under the lock since another thread may be settling it. */
-static uint32_t look(const monk_seat *s, int is_place) {
+int monk_place(const monk_seat *s) {
+    if (!s) return MONK_RANGE;
     pthread_mutex_lock(&s->monitor->lock);
-    uint32_t value = is_place ? s->place : s->left;
+    int place = is_had(s) ? s->place : MONK_NOT_NOW;
     pthread_mutex_unlock(&s->monitor->lock);
-    return value;
+    return place;
 }
 
-int monk_place(const monk_seat *s) { return s ? (int)look(s, 1) : MONK_RANGE; }
-uint32_t monk_left(const monk_seat *s) { return s ? look(s, 0) : 0; }
+uint32_t monk_left(const monk_seat *s) {
+    if (!s) return 0;
+    pthread_mutex_lock(&s->monitor->lock);
+    uint32_t left = is_had(s) ? s->left : 0;
+    pthread_mutex_unlock(&s->monitor->lock);
+    return left;
+}
 
 int monk_waiting(monk_seat *s, unsigned condition) {
     int r = begin(s);
@@ -523,6 +558,7 @@ int monk_make(monk_monitor **out, const monk_shape *shape) {
     for (unsigned i = 0; i < shape->seats; i++) {
         monk_seat *s = &m->seats[i];
         s->monitor = m, s->number = (uint8_t)i, s->place = MONK_OUTSIDE, s->left = budget, s->wish = MONK_WAITER;
+        s->file = NO_FILE;
         s->dice = (shape->seed + 1) * 0x9e3779b97f4a7c15u + (i + 1) * 0xbf58476d1ce4e5b9u;
         if (!s->dice) s->dice = 1;
         pthread_cond_init(&s->bell, &clock);
@@ -536,7 +572,7 @@ int monk_stop(monk_monitor *m) {
     if (!m) return MONK_RANGE;
     pthread_mutex_lock(&m->lock);
     m->stopped = 1;
-    for (unsigned i = 0; i < m->seat_count; i++) pthread_cond_broadcast(&m->seats[i].bell);
+    for (unsigned i = 0; i < m->seat_count; i++) write_file(&m->seats[i]), pthread_cond_broadcast(&m->seats[i].bell);
     pthread_mutex_unlock(&m->lock);
     return MONK_OK;
 }
@@ -577,7 +613,10 @@ int monk_free(monk_monitor *m) {
     int busy = has_lent(m);
     pthread_mutex_unlock(&m->lock);
     if (busy) return MONK_BUSY;
-    for (unsigned i = 0; i < m->seat_count; i++) pthread_cond_destroy(&m->seats[i].bell);
+    for (unsigned i = 0; i < m->seat_count; i++) {
+        pthread_cond_destroy(&m->seats[i].bell);
+        if (m->seats[i].file != NO_FILE) close(m->seats[i].file);
+    }
     pthread_mutex_destroy(&m->lock);
     free(m->events);
     free(m);

@@ -1,5 +1,6 @@
 /* What every call answers, where it is right and where it isn't; by one thread where that will do. */
 #include "monk.h"
+#include <poll.h>
 #include <pthread.h>
 #include <stdio.h>
 #include <stdlib.h>
@@ -312,6 +313,29 @@ static void until(void) {
     end();
 }
 
+static int is_readable(int file) {
+    struct pollfd it = {.fd = file, .events = POLLIN};
+    return poll(&it, 1, 0);
+}
+
+/* A file that becomes readable when a wait ends. */
+static void watched(void) {
+    int file = -1, same = -1;
+    begin(MONK_PNB, 2, 1, 0, 100);
+    IS(monk_wait_fd(a, NULL), MONK_RANGE); IS(monk_wait_fd(NULL, &file), MONK_RANGE); IS(monk_wait_fd(a, &file), MONK_NOT_NOW);
+    IS(monk_enter(a), MONK_OK); IS(monk_wait_fd(a, &file), MONK_INSIDE); IS(file, -1);
+    IS(monk_arrive(b), MONK_WAITING); IS(monk_wait_fd(b, &file), MONK_WAITING); IS(is_readable(file), 0);
+    IS(monk_leave(a), MONK_OK); IS(is_readable(file), 1); IS(monk_wait_fd(b, &same), MONK_INSIDE); IS(same, -1);
+    IS(monk_start_wait(b, 0), MONK_WAITING); IS(monk_wait_fd(b, &same), MONK_WAITING); IS(same, file); IS(is_readable(file), 0);
+    IS(monk_enter(a), MONK_OK); IS(monk_signal(a, 0), MONK_OK); IS(is_readable(file), 0); IS(monk_leave(a), MONK_OK); IS(is_readable(file), 1);
+    IS(monk_await(b, 0), MONK_INSIDE); IS(monk_leave(b), MONK_OK);
+    /* One that was granted, or stopped, before the file was asked for. */
+    IS(monk_enter(a), MONK_OK); IS(monk_arrive(b), MONK_WAITING); IS(monk_leave(a), MONK_OK); IS(monk_wait_fd(b, &file), MONK_INSIDE);
+    IS(monk_arrive(a), MONK_WAITING); IS(monk_wait_fd(a, &file), MONK_WAITING); IS(is_readable(file), 0); IS(monk_stop(m), MONK_OK);
+    IS(is_readable(file), 1); IS(monk_wait_fd(a, &file), MONK_STOPPED);
+    end();
+}
+
 static void *leaver(void *p) {
     (void)p;
     nanosleep(&(struct timespec){0, 100000000}, NULL);
@@ -368,8 +392,8 @@ static void cancelled(void) {
 }
 
 int main(void) {
-    shapes(), misuse(), spent(), hoare(), barging(), returns(), flags(), hung(), abandoned(), passed_on(), passed_on_at_once(), not_passed_on(), held(), looked_at(),
-    cancelled(), until();
+    shapes(), misuse(), spent(), hoare(), barging(), returns(), flags(), hung(), abandoned(), passed_on(), passed_on_at_once();
+    not_passed_on(), held(), looked_at(), cancelled(), until(), watched();
     printf("%d answers, %d wrong\n", made, failed);
     return failed != 0;
 }
