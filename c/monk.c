@@ -62,15 +62,15 @@ struct monk_seat {
     _Atomic uint32_t lent;              /* LENT_STATES * lending + a lent; changed under the monitor's lock alone */
     _Atomic int place;                  /* copies of what the token says, for any thread that asks */
     _Atomic uint32_t left;
-    unsigned number;
-    int is_visitor;                     /* lent to the library itself, for a look at the history; changed as `lent` is */
-    bell *bell;                         /* at which it waits, if it was abandoned; changed as `lent` is */
-    bell *watched;                      /* at which an event loop waits for it */
-    int file;                           /* its eventfd, or NO_FILE */
     int wish;
     unsigned waits_on;                  /* the condition on which it waits, or NO_CONDITION */
-    uint32_t broadcasts;                /* how many there had been on that condition when the wait began */
     uint64_t dice;
+    bell *watched;                      /* at which an event loop waits for it */
+    int file;                           /* its eventfd, or NO_FILE */
+    uint32_t broadcasts;                /* how many there had been on its condition when the wait began */
+    bell *bell;                         /* at which it waits, if it was abandoned; changed as `lent` is */
+    int is_visitor;                     /* lent to the library itself, for a look at the history; changed as `lent` is */
+    unsigned number;
 };
 
 struct monk_monitor {
@@ -102,7 +102,7 @@ static int sleep_on(_Atomic uint32_t *at, uint32_t seen, const struct timespec *
 /* The bell of a word: each has one of its own, since words count from 1 and there are two for each seat. */
 static bell *bell_of(monk_monitor *m, size_t word) { return &m->bells[(word - 1) % BELLS]; }
 
-/* Rings for so many threads that sleep there at most, and for an event loop. (A call of the C library would let a thread be cancelled.) */
+/* Rings for so many threads that sleep there at most, and for an event loop. (In the C library's write a thread could be cancelled.) */
 static void ring_for(bell *b, int most) {
     atomic_fetch_add(&b->rings, 1);
     futex_wake(&b->rings, most);
@@ -189,7 +189,7 @@ static int refused_to(const monk_seat *handle) {
 }
 
 /* What a call by the handle *s finds before the kernel is asked; *s is the seat then. Where it answers MONK_OK the call is under way,
- * until `end`. A handle that was given back is found first, and without a word: the seat's owner may be about to call. */
+ * until `end`. A handle that was given back is refused before the seat is touched, so that a call of its owner isn't MONK_IN_USE. */
 static inline int begin(monk_seat **s) {
     monk_seat *handle = *s;
     if (!handle) return MONK_RANGE;
@@ -508,7 +508,7 @@ int monk_await_until(monk_seat *s, const struct timespec *time) {
     return end(s, place_of(s) == MONK_INSIDE ? MONK_INSIDE : come_in(s, time));
 }
 
-/* Lets the seat's eventfd be written from now on when its bell rings, and takes away what was written before. */
+/* From now on the seat's eventfd is written when its bell rings; what was written before is taken away. */
 static int watch(monk_seat *s) {
     if (s->file == NO_FILE) s->file = eventfd(0, EFD_CLOEXEC | EFD_NONBLOCK);
     if (s->file == NO_FILE) return MONK_IO;
@@ -684,7 +684,8 @@ static uint64_t dice_of(uint64_t seed, unsigned number) {
 static void set_up(monk_monitor *m, const monk_shape *shape, uint32_t budget) {
     for (unsigned i = 0; i < shape->seats; i++) {
         monk_seat *s = &m->seats[i];
-        s->monitor = m, s->token = &m->tokens[i], s->number = i, s->wish = MONK_WAITER, s->waits_on = NO_CONDITION, s->file = NO_FILE, s->dice = dice_of(shape->seed, i);
+        s->monitor = m, s->token = &m->tokens[i], s->number = i, s->wish = MONK_WAITER, s->dice = dice_of(shape->seed, i);
+        s->waits_on = NO_CONDITION, s->file = NO_FILE;
         s->place = MONK_OUTSIDE;
         s->left = budget;
     }
@@ -814,7 +815,7 @@ int monk_free(monk_monitor *m) {
     if (busy) return MONK_BUSY;
     for (unsigned i = 0; i < m->seat_count; i++) {
         monk_k_drop(&m->tokens[i]);
-        if (m->seats[i].file != NO_FILE) close(m->seats[i].file);
+        if (m->seats[i].file != NO_FILE) syscall(SYS_close, m->seats[i].file);
     }
     free(m->room);
     free(m);

@@ -87,7 +87,7 @@ enum {
     MONK_NOT_NOW = -1,       /* the seat is at another place than the call asks for */
     MONK_SPENT = -2,         /* too few events are left to the seat: it can still leave */
     MONK_NOT_OF_KIND = -3,   /* monitors of this kind have no such call */
-    MONK_RANGE = -4,         /* a kind, number of seats, condition, flag or budget out of range, or a null pointer */
+    MONK_RANGE = -4,         /* a kind, number of seats, condition, flag, budget or time out of range, or a null pointer */
     MONK_MEMORY = -5,        /* a request for memory was refused */
     MONK_NO_SEAT = -6,       /* every seat is taken */
     MONK_BUSY = -7,          /* seats are taken still, or the monitor didn't come free in time */

@@ -30,9 +30,10 @@ static int works_inside(monk_seat *s, uint64_t *dice) {
     }
 }
 
-/* Takes a seat part of the way, and gives it up there. */
+/* Takes a seat part of the way, with any wish, and gives it up there. */
 static void go_part_of_the_way(monk_seat *s, uint64_t *dice) {
     unsigned way = thrown(dice, PLACES);
+    MUST(monk_set_wish(s, (int)thrown(dice, MONK_ANY + 1)));
     if (way > 0) MUST(monk_arrive(s));
     if (way > 1) MUST(monk_await(s, -1));
     if (way > 2) MUST(works_inside(s, dice));
