@@ -28,7 +28,7 @@ namespace monk {
 /// A refused call. `answer` is one of monk.h's, below 0.
 class error : public std::runtime_error {
 public:
-    explicit error(int answer) : std::runtime_error(monk_strerror(answer)), answer(answer) {}
+    explicit error(int refusal) : std::runtime_error(monk_strerror(refusal)), answer(refusal) {}
     int answer;
 };
 
