@@ -232,11 +232,11 @@ static void passed_on(void) {
     }
 }
 
-/* Hoare's hand-over goes by the abandoned seat to the one behind it; it comes back behind the signaller. */
+/* Hoare's hand-over goes by the abandoned seat to the one behind it; it comes back behind the signaller, and signals no more. */
 static void passed_on_at_once(void) {
-    begin(MONK_PB, 3, 1, 0, 100);
+    begin(MONK_PB, 4, 1, 0, 100);
     IS(monk_enter(a), MONK_OK); IS(monk_start_wait(a, 0), MONK_WAITING); IS(monk_abandon(a), MONK_OK);
-    IS(monk_enter(b), MONK_OK); IS(monk_start_wait(b, 0), MONK_WAITING);
+    IS(monk_enter(b), MONK_OK); IS(monk_start_wait(b, 0), MONK_WAITING); IS(monk_enter(d), MONK_OK); IS(monk_start_wait(d, 0), MONK_WAITING);
     IS(monk_enter(c), MONK_OK); IS(monk_start_signal(c, 0), MONK_WAITING); IS(monk_poll(c), MONK_WAITING);
     IS(monk_poll(b), MONK_INSIDE); IS(monk_leave(b), MONK_OK); IS(monk_poll(c), MONK_INSIDE); IS(monk_leave(c), MONK_OK);
     IS(monk_take_seat(m, &a), MONK_OK); IS((int)monk_left(a), 100 - 6);
