@@ -27,6 +27,7 @@
  * THREADS. A seat is used by one thread at a time. It may pass to another thread between two calls. A second call by a seat
  * while one is under way is answered MONK_IN_USE. All other calls may be made by any thread at any time. What a thread
  * does to its data while its seat is inside, the next thread inside sees: the monitor orders memory as a mutex does.
+ * So does a stop for whomever it sends home, and a seat that is given back for whoever takes it. ThreadSanitizer sees this order.
  *
  * WHAT IS PROVED of the library (not of reference.c, which is a plain model of it): that at most one seat is inside, that
  * every call which was taken is in the history exactly once, that the history is legal for the kind, and that every release
@@ -47,6 +48,7 @@
 #include <stddef.h>
 #include <stdint.h>
 #include <stdio.h>
+#include <time.h>
 
 #ifdef __cplusplus
 extern "C" {
@@ -55,7 +57,7 @@ extern "C" {
 #define MONK_VERSION 0x000100        /* 0.1.0; monk_version() is that of the library which is linked */
 
 typedef struct monk_monitor monk_monitor;
-typedef struct monk_seat monk_seat;
+typedef struct monk_seat monk_seat;      /* a pointer to it names a lending of a seat, and isn't where the seat is kept */
 
 /* ---- Kinds ------------------------------------------------------------------------------------------------------- */
 
@@ -85,14 +87,14 @@ enum {
     MONK_NOT_NOW = -1,       /* the seat is at another place than the call asks for */
     MONK_SPENT = -2,         /* too few events are left to the seat: it can still leave */
     MONK_NOT_OF_KIND = -3,   /* monitors of this kind have no such call */
-    MONK_RANGE = -4,         /* a kind, number of seats, condition, flag or budget out of range, or a null pointer */
+    MONK_RANGE = -4,         /* a kind, number of seats, condition, flag, budget or time out of range, or a null pointer */
     MONK_MEMORY = -5,        /* a request for memory was refused */
     MONK_NO_SEAT = -6,       /* every seat is taken */
     MONK_BUSY = -7,          /* seats are taken still, or the monitor didn't come free in time */
     MONK_IN_USE = -8,        /* another thread is in a call by this seat */
     MONK_STOPPED = -9,       /* monk_stop: the call was taken, but the seat is not in; it still waits */
     MONK_CLOSED = -10,       /* the monitor is closed */
-    MONK_IO = -11            /* a file could not be written: errno says why */
+    MONK_IO = -11            /* a file could not be written, or made: errno says why */
 };
 
 const char *monk_strerror(int answer);           /* one line for each answer; never NULL */
@@ -133,16 +135,20 @@ int monk_kind_of(const monk_monitor *m);
 /* The lowest seat that nobody has and that has two events left. MONK_NO_SEAT; MONK_SPENT where all that are free are. */
 int monk_take_seat(monk_monitor *m, monk_seat **s);
 
-/* Gives an outside seat back; the pointer is no seat any more. Its events stay counted. */
+/* Gives an outside seat back. Its events stay counted. The pointer is no seat any more: every call by it is NOT_NOW, and disturbs
+ * nobody, also when somebody else has taken the seat. (Of a seat's lendings each 65,536th has the same pointer.) */
 int monk_give_seat(monk_seat *s);
 
 /* Gives a seat back wherever it stands, for a thread that ends or an error path. An inside seat leaves. A waiting one keeps
  * its place, comes in when its turn comes, and leaves at once: the library does that in some thread's next release, and the
- * history has it. So an abandoned seat never keeps the monitor. Nobody can take it before it is outside. */
+ * history has it. So an abandoned seat never keeps the monitor. Nobody can take it before it is outside.
+ * Nor does it keep a signal: if one serves it, and others wait on its condition still, it signals the condition before it leaves
+ * (in immediate-return kinds as it leaves). After a broadcast, which served all, it doesn't. A signal wants three events of it, as
+ * monk_signal does: a seat with fewer leaves without one. */
 int monk_abandon(monk_seat *s);
 
 unsigned monk_seat_number(const monk_seat *s);   /* as in the history */
-int monk_place(const monk_seat *s);              /* MONK_OUTSIDE, MONK_WAITING, MONK_INSIDE */
+int monk_place(const monk_seat *s);              /* MONK_OUTSIDE, MONK_WAITING, MONK_INSIDE; MONK_NOT_NOW if it was given back */
 uint32_t monk_left(const monk_seat *s);          /* events left to it: what each call costs is told with the call */
 
 /* Whom the seat's releases prefer where the kind's priorities leave it open (in NP and Q kinds). It stays until the next
@@ -206,6 +212,16 @@ int monk_start_wait_until(monk_seat *s, unsigned flag);           /* inside    i
 /* Waits until the seat is inside, at most so many milliseconds (below 0: as long as it takes). MONK_INSIDE; MONK_WAITING
  * where the time is over, and the seat waits on, at its place in its queue; MONK_STOPPED. */
 int monk_await(monk_seat *s, long milliseconds);
+
+/* As monk_await, until a time by the clock CLOCK_MONOTONIC; one that is over is as 0 milliseconds. MONK_RANGE if it is no time of that
+ * clock, whose nanoseconds are below 10^9 and which has nothing below 0. */
+int monk_await_until(monk_seat *s, const struct timespec *time);
+
+/* As monk_await with 0 milliseconds; and if the answer is MONK_WAITING, *file is a file that becomes readable when this wait ends, by
+ * the seat's turn or a stop. It may be readable before; so call this again then, and at each new wait. For poll, epoll and the like alone:
+ * don't read it. Each seat has one, which stays open until monk_free, so take it out of your set before you give the seat back.
+ * MONK_IO if the system has no file left. */
+int monk_wait_fd(monk_seat *s, int *file);
 
 /* monk_arrive and monk_await as one call.                                             outside   inside, or waiting */
 int monk_enter_within(monk_seat *s, long milliseconds);

@@ -28,7 +28,7 @@ namespace monk {
 /// A refused call. `answer` is one of monk.h's, below 0.
 class error : public std::runtime_error {
 public:
-    explicit error(int answer) : std::runtime_error(monk_strerror(answer)), answer(answer) {}
+    explicit error(int refusal) : std::runtime_error(monk_strerror(refusal)), answer(refusal) {}
     int answer;
 };
 
@@ -118,7 +118,8 @@ private:
     }
 };
 
-/// A visit: inside from its beginning to its end. A call that leads outside ends it before its scope does.
+/// A visit: inside from its beginning to its end. A call that leads outside ends it before its scope does, and so does the end of its
+/// seat: from then on every call is refused with MONK_NOT_NOW, whoever has the seat. It may not outlive the monitor.
 class visit {
 public:
     explicit visit(seat &by) : seat_(by.get()) { checked(monk_enter(seat_)); }

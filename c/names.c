@@ -40,7 +40,7 @@ const char *monk_strerror(int answer) {
     case MONK_IN_USE: return "another thread is in a call by this seat";
     case MONK_STOPPED: return "stopped: the seat still waits";
     case MONK_CLOSED: return "the monitor is closed";
-    case MONK_IO: return "the file can't be written";
+    case MONK_IO: return "a file can't be written, or made";
     default: return "no answer of monk";
     }
 }

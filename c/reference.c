@@ -1,16 +1,20 @@
 /* reference.c - the interface of monk.h by one mutex and a condition variable for each seat. Nothing of it is proved: it is a
  * plain model of the rules, an oracle for tests of the proved library and a peer for its benchmarks.
  *
- * Everything is changed under the mutex, so each call is one step; a thread that waits sleeps on its seat's bell. */
+ * Everything is changed under the mutex, so each call is one step; a thread that waits sleeps on its seat's bell. One thing of the
+ * library's is missing: a pointer to a seat that was given back isn't told from the next owner's. */
 #define _GNU_SOURCE
 #include "monk.h"
 #include <errno.h>
 #include <pthread.h>
 #include <stdlib.h>
 #include <string.h>
+#include <sys/eventfd.h>
+#include <sys/syscall.h>
 #include <time.h>
+#include <unistd.h>
 
-enum { MOST_SEATS = 32, MOST_CONDITIONS = 8, MOST_FLAGS = 32, MOST_BUDGET = 1 << 20, USUAL_BUDGET = 65536, PATIENCE_MS = 1000 };
+enum { MOST_SEATS = 32, MOST_CONDITIONS = 8, MOST_FLAGS = 32, MOST_BUDGET = 1 << 20, USUAL_BUDGET = 65536, PATIENCE_MS = 1000, NO_FILE = -1 };
 
 /* ---- Kinds */
 
@@ -39,9 +43,10 @@ typedef struct { uint8_t first, count, seats[MOST_SEATS]; } queue;
 
 struct monk_seat {
     monk_monitor *monitor;
-    uint8_t number, place, due /* a way, or NOBODY */, flag /* that it waits for */, wish, taken, abandoned, calling, is_visitor;
-    uint32_t left;
+    uint8_t number, place, due /* a way, or NOBODY */, flag, condition /* that it waits for */, wish, taken, abandoned, calling, is_visitor;
+    uint32_t left, broadcasts /* on its condition when its wait began */;
     uint64_t dice;
+    int file /* an eventfd, or NO_FILE */;
     pthread_cond_t bell;
 };
 
@@ -52,7 +57,7 @@ struct monk_monitor {
     unsigned seat_count, conditions, flag_count;
     int stopped, closed;
     int holder;                             /* the seat that is inside or due, or -1: the monitor is free */
-    uint32_t bits;
+    uint32_t bits, broadcasts[MOST_CONDITIONS];
     queue entry, waiters, signallers, until, condition[MOST_CONDITIONS];
     event *events;
     size_t length;
@@ -158,15 +163,34 @@ static void release(monk_monitor *m, monk_seat *s, event e, int place) {
 
 static void free_seat(monk_seat *s) { s->taken = s->abandoned = 0; }
 
-/* Seats that were abandoned come in when they are due, and leave. Tells whom to wake then, or -1. */
+/* Moves the first who waits on a condition to the waiter queue, if there is one. */
+static int serve(monk_monitor *m, unsigned condition) {
+    if (!m->condition[condition].count) return 0;
+    join(&m->waiters, take_front(&m->condition[condition]));
+    return 1;
+}
+
+/* Lets an abandoned seat come in that is due. A signal that served it goes on to the next who waits there, if events enough are left to
+ * it; no broadcast does, since that served all. Then it leaves, unless it waits behind its signal. */
+static void go_on_and_out(monk_monitor *m, monk_seat *s) {
+    unsigned c = s->condition;
+    int leaves = m->rules->mode == MONK_IMMEDIATE_RETURN, signalled = s->due == WAITER && s->broadcasts == m->broadcasts[c];
+    come_in(m, s);
+    if (signalled && s->left >= (leaves ? 1 : 3) && serve(m, c)) {
+        if (!leaves) join(&m->signallers, s->number);
+        release(m, s, (event){.verb = leaves ? SIGNAL_LEAVE : SIGNAL, .a = (uint8_t)c}, leaves ? MONK_OUTSIDE : MONK_WAITING);
+    }
+    if (s->place == MONK_INSIDE) release(m, s, (event){.verb = LEAVE}, MONK_OUTSIDE);
+    if (s->place == MONK_OUTSIDE) free_seat(s);
+}
+
+/* Seats that were abandoned come in when they are due. Tells whom to wake then, or -1. */
 static int settle(monk_monitor *m) {
     for (;;) {
         monk_seat *s = m->holder < 0 ? NULL : &m->seats[m->holder];
         if (!s || !s->due) return -1;
         if (!s->abandoned) return s->number;
-        come_in(m, s);
-        release(m, s, (event){.verb = LEAVE}, MONK_OUTSIDE);
-        free_seat(s);
+        go_on_and_out(m, s);
     }
 }
 
@@ -178,21 +202,31 @@ static int refusal(const monk_seat *s, int place, uint32_t wants) {
     return s->left < wants ? MONK_SPENT : MONK_OK;
 }
 
+/* Whether the program has the seat. */
+static int is_had(const monk_seat *s) { return s->taken && !s->abandoned; }
+
 static int begin(monk_seat *s) {
     if (!s) return MONK_RANGE;
     pthread_mutex_lock(&s->monitor->lock);
     int answer = s->calling ? MONK_IN_USE : s->monitor->closed ? MONK_CLOSED : MONK_OK;
-    if (!answer && (!s->taken || s->abandoned)) answer = MONK_NOT_NOW;
+    if (!answer && !is_had(s)) answer = MONK_NOT_NOW;
     if (answer) pthread_mutex_unlock(&s->monitor->lock);
     return answer;
+}
+
+/* Wakes the event loop that waits for a seat, under the lock since the monitor may be freed behind it. */
+static void write_file(const monk_seat *s) {
+    if (s->file != NO_FILE) syscall(SYS_write, s->file, &(uint64_t){1}, sizeof(uint64_t));
 }
 
 /* Ends a call: settles who goes on, and wakes that seat. */
 static int end(monk_seat *s, int answer) {
     monk_monitor *m = s->monitor;
     int due = answer > MONK_OK ? settle(m) : -1;
+    int wakes = due >= 0 && due != s->number;
+    if (wakes) write_file(&m->seats[due]);
     pthread_mutex_unlock(&m->lock);
-    if (due >= 0 && due != s->number) pthread_cond_signal(&m->seats[due].bell);
+    if (wakes) pthread_cond_signal(&m->seats[due].bell);
     return answer;
 }
 
@@ -222,22 +256,20 @@ int monk_poll(monk_seat *s) {
     return end(s, s->place);
 }
 
+static void wait_on(monk_seat *s, unsigned condition) {
+    join(&s->monitor->condition[condition], s->number);
+    s->condition = (uint8_t)condition, s->broadcasts = s->monitor->broadcasts[condition];
+}
+
 int monk_start_wait(monk_seat *s, unsigned condition) {
     int r = begin(s);
     if (r) return r;
     if (mode_of(s) == MONK_AUTOMATIC) return end(s, MONK_NOT_OF_KIND);
     if (!in_conditions(s, condition)) return end(s, MONK_RANGE);
     if ((r = refusal(s, MONK_INSIDE, 3))) return end(s, r);
-    join(&s->monitor->condition[condition], s->number);
+    wait_on(s, condition);
     release(s->monitor, s, (event){.verb = WAIT, .a = (uint8_t)condition}, MONK_WAITING);
     return end(s, s->place);
-}
-
-/* Moves the first who waits on a condition to the waiter queue, if there is one. */
-static int serve(monk_monitor *m, unsigned condition) {
-    if (!m->condition[condition].count) return 0;
-    join(&m->waiters, take_front(&m->condition[condition]));
-    return 1;
 }
 
 int monk_start_signal(monk_seat *s, unsigned condition) {
@@ -261,7 +293,7 @@ int monk_start_signal_wait(monk_seat *s, unsigned condition, unsigned wait_condi
     if (!in_conditions(s, condition) || !in_conditions(s, wait_condition)) return end(s, MONK_RANGE);
     if ((r = refusal(s, MONK_INSIDE, 3))) return end(s, r);
     serve(s->monitor, condition);
-    join(&s->monitor->condition[wait_condition], s->number);
+    wait_on(s, wait_condition);
     release(s->monitor, s, (event){.verb = SIGNAL_WAIT, .a = (uint8_t)condition, .b = (uint8_t)wait_condition}, MONK_WAITING);
     return end(s, s->place);
 }
@@ -311,6 +343,7 @@ int monk_broadcast(monk_seat *s, unsigned condition) {
     if (!in_conditions(s, condition)) return end(s, MONK_RANGE);
     if ((r = refusal(s, MONK_INSIDE, 2))) return end(s, r);
     while (serve(s->monitor, condition)) {}
+    s->monitor->broadcasts[condition]++;
     record(s->monitor, (event){.verb = SIGNAL_ALL, .seat = s->number, .a = (uint8_t)condition});
     return taken(end(s, s->place));
 }
@@ -341,11 +374,14 @@ static void sleep_until_due(monk_seat *s, const struct timespec *limit) {
     pthread_setcancelstate(before, NULL);
 }
 
+static int is_time(const struct timespec *time) { return time->tv_sec >= 0 && time->tv_nsec >= 0 && time->tv_nsec < 1000000000L; }
+
 /* Sleeps until the seat is due, and lets it come in. */
 static int await(monk_seat *s, const struct timespec *limit) {
     int answer = begin(s);
     if (answer) return answer;
     monk_monitor *m = s->monitor;
+    if (limit && !is_time(limit)) return end(s, MONK_RANGE);
     if (s->place == MONK_INSIDE) return end(s, MONK_INSIDE);
     if ((answer = refusal(s, MONK_WAITING, 0))) return end(s, answer);
     s->calling = 1;
@@ -366,6 +402,23 @@ int monk_await(monk_seat *s, long milliseconds) {
     limit.tv_nsec += milliseconds % 1000 * 1000000L;
     if (limit.tv_nsec >= 1000000000L) limit.tv_sec++, limit.tv_nsec -= 1000000000L;
     return await(s, &limit);
+}
+
+int monk_await_until(monk_seat *s, const struct timespec *time) { return time ? await(s, time) : MONK_RANGE; }
+
+int monk_wait_fd(monk_seat *s, int *file) {
+    if (!file) return MONK_RANGE;
+    int r = begin(s);
+    if (r) return r;
+    if (s->place == MONK_INSIDE) return end(s, MONK_INSIDE);
+    if ((r = refusal(s, MONK_WAITING, 0))) return end(s, r);
+    if (s->file == NO_FILE) s->file = eventfd(0, EFD_CLOEXEC | EFD_NONBLOCK);
+    if (s->file == NO_FILE) return end(s, MONK_IO);
+    syscall(SYS_read, s->file, &(uint64_t){0}, sizeof(uint64_t));
+    if (s->due) come_in(s->monitor, s);
+    if (s->place == MONK_WAITING && is_stopped(s)) return end(s, MONK_STOPPED);
+    if (s->place == MONK_WAITING) *file = s->file;
+    return end(s, s->place);
 }
 
 int monk_enter_within(monk_seat *s, long milliseconds) {
@@ -435,38 +488,47 @@ int monk_abandon(monk_seat *s) {
     monk_monitor *m = s->monitor;
     if (s->place == MONK_INSIDE) release(m, s, (event){.verb = LEAVE}, MONK_OUTSIDE);
     if (s->place == MONK_OUTSIDE) free_seat(s);
-    else s->abandoned = 1;
+    else s->abandoned = 1, s->wish = MONK_WAITER;
     int due = settle(m);
-    if (due >= 0) pthread_cond_signal(&m->seats[due].bell);      /* before the lock goes: the monitor may be freed then */
+    if (due >= 0) write_file(&m->seats[due]), pthread_cond_signal(&m->seats[due].bell);      /* under the lock, too */
     return end(s, MONK_OK);
 }
 
 unsigned monk_seat_number(const monk_seat *s) { return s->number; }
 
 /* A look at a seat, under the lock since another thread may be settling it. */
-static uint32_t look(const monk_seat *s, int what, unsigned condition) {
-    monk_monitor *m = s->monitor;
-    pthread_mutex_lock(&m->lock);
-    uint32_t value = what == 0 ? s->place : what == 1 ? s->left : what == 2 ? m->bits : m->condition[condition].count;
-    pthread_mutex_unlock(&m->lock);
-    return value;
+int monk_place(const monk_seat *s) {
+    if (!s) return MONK_RANGE;
+    pthread_mutex_lock(&s->monitor->lock);
+    int place = is_had(s) ? s->place : MONK_NOT_NOW;
+    pthread_mutex_unlock(&s->monitor->lock);
+    return place;
 }
 
-int monk_place(const monk_seat *s) { return s ? (int)look(s, 0, 0) : MONK_RANGE; }
-uint32_t monk_left(const monk_seat *s) { return s ? look(s, 1, 0) : 0; }
+uint32_t monk_left(const monk_seat *s) {
+    if (!s) return 0;
+    pthread_mutex_lock(&s->monitor->lock);
+    uint32_t left = is_had(s) ? s->left : 0;
+    pthread_mutex_unlock(&s->monitor->lock);
+    return left;
+}
 
 int monk_waiting(monk_seat *s, unsigned condition) {
-    if (!s) return MONK_RANGE;
-    if (mode_of(s) == MONK_AUTOMATIC) return MONK_NOT_OF_KIND;
-    if (!in_conditions(s, condition)) return MONK_RANGE;
-    return monk_place(s) == MONK_INSIDE ? (int)look(s, 3, condition) : MONK_NOT_NOW;
+    int r = begin(s);
+    if (r) return r;
+    if (mode_of(s) == MONK_AUTOMATIC) return end(s, MONK_NOT_OF_KIND);
+    if (!in_conditions(s, condition)) return end(s, MONK_RANGE);
+    r = refusal(s, MONK_INSIDE, 0);
+    return end(s, r ? r : s->monitor->condition[condition].count);
 }
 
 int monk_flags(monk_seat *s, uint32_t *bits) {
-    if (!s || !bits) return MONK_RANGE;
-    if (monk_place(s) != MONK_INSIDE) return MONK_NOT_NOW;
-    *bits = look(s, 2, 0);
-    return MONK_OK;
+    if (!bits) return MONK_RANGE;
+    int r = begin(s);
+    if (r) return r;
+    if ((r = refusal(s, MONK_INSIDE, 0))) return end(s, r);
+    *bits = s->monitor->bits;
+    return end(s, MONK_OK);
 }
 
 int monk_set_wish(monk_seat *s, int wish) {
@@ -496,6 +558,7 @@ int monk_make(monk_monitor **out, const monk_shape *shape) {
     for (unsigned i = 0; i < shape->seats; i++) {
         monk_seat *s = &m->seats[i];
         s->monitor = m, s->number = (uint8_t)i, s->place = MONK_OUTSIDE, s->left = budget, s->wish = MONK_WAITER;
+        s->file = NO_FILE;
         s->dice = (shape->seed + 1) * 0x9e3779b97f4a7c15u + (i + 1) * 0xbf58476d1ce4e5b9u;
         if (!s->dice) s->dice = 1;
         pthread_cond_init(&s->bell, &clock);
@@ -509,7 +572,7 @@ int monk_stop(monk_monitor *m) {
     if (!m) return MONK_RANGE;
     pthread_mutex_lock(&m->lock);
     m->stopped = 1;
-    for (unsigned i = 0; i < m->seat_count; i++) pthread_cond_broadcast(&m->seats[i].bell);
+    for (unsigned i = 0; i < m->seat_count; i++) write_file(&m->seats[i]), pthread_cond_broadcast(&m->seats[i].bell);
     pthread_mutex_unlock(&m->lock);
     return MONK_OK;
 }
@@ -550,7 +613,10 @@ int monk_free(monk_monitor *m) {
     int busy = has_lent(m);
     pthread_mutex_unlock(&m->lock);
     if (busy) return MONK_BUSY;
-    for (unsigned i = 0; i < m->seat_count; i++) pthread_cond_destroy(&m->seats[i].bell);
+    for (unsigned i = 0; i < m->seat_count; i++) {
+        pthread_cond_destroy(&m->seats[i].bell);
+        if (m->seats[i].file != NO_FILE) close(m->seats[i].file);
+    }
     pthread_mutex_destroy(&m->lock);
     free(m->events);
     free(m);

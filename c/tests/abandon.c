@@ -30,12 +30,19 @@ static int works_inside(monk_seat *s, uint64_t *dice) {
     }
 }
 
-/* Takes a seat part of the way, and gives it up there. */
+/* Sometimes an event loop waits for the seat, too. */
+static void watch(monk_seat *s, uint64_t *dice) {
+    int file;
+    if (monk_place(s) == MONK_WAITING && thrown(dice, 2)) MUST(monk_wait_fd(s, &file));
+}
+
+/* Takes a seat part of the way, with any wish, and gives it up there. */
 static void go_part_of_the_way(monk_seat *s, uint64_t *dice) {
     unsigned way = thrown(dice, PLACES);
-    if (way > 0) MUST(monk_arrive(s));
+    MUST(monk_set_wish(s, (int)thrown(dice, MONK_ANY + 1)));
+    if (way > 0) MUST(monk_arrive(s)), watch(s, dice);
     if (way > 1) MUST(monk_await(s, -1));
-    if (way > 2) MUST(works_inside(s, dice));
+    if (way > 2) MUST(works_inside(s, dice)), watch(s, dice);
     if (way > 3 && monk_await(s, 1) == MONK_INSIDE) MUST(monk_finish(s, thrown(dice, QUEUES)));
     given_up[way]++;
     MUST(monk_abandon(s));

@@ -1,5 +1,6 @@
 /* What every call answers, where it is right and where it isn't; by one thread where that will do. */
 #include "monk.h"
+#include <poll.h>
 #include <pthread.h>
 #include <stdio.h>
 #include <stdlib.h>
@@ -203,10 +204,136 @@ static void held(void) {
     end();
 }
 
+/* Lets that seat come in and go out again, if it may come in. Whether it could. */
+static int comes_and_goes(monk_seat *s) {
+    if (monk_place(s) == MONK_WAITING) monk_poll(s);
+    if (monk_place(s) != MONK_INSIDE) return 0;
+    IS(monk_leave(s), MONK_OK);
+    return 1;
+}
+
+static int signal_to(monk_seat *s, unsigned condition) {
+    return monk_mode_of(monk_kind_of(m)) == MONK_IMMEDIATE_RETURN ? monk_signal_leave(s, condition) : monk_start_signal(s, condition);
+}
+
+/* Two seats wait on a condition, and the first is abandoned: a signal lets the second go on, under every kind that has conditions. */
+static void passed_on(void) {
+    for (int kind = MONK_PB; kind <= MONK_NPIR; kind++) {
+        begin(kind, 4, 2, 0, 100);
+        IS(monk_enter(a), MONK_OK); IS(monk_start_wait(a, 0), MONK_WAITING); IS(monk_enter(d), MONK_OK); IS(monk_start_wait(d, 0), MONK_WAITING);
+        IS(monk_abandon(a), MONK_OK); IS(monk_abandon(d), MONK_OK);
+        IS(monk_enter(b), MONK_OK); IS(monk_start_wait(b, 0), MONK_WAITING);
+        IS(monk_enter(c), MONK_OK); IS(signal_to(c, 0) >= 0, 1);
+        int b_went_on = 0;
+        for (int step = 0; step < 4; step++) b_went_on |= comes_and_goes(b), comes_and_goes(c);
+        IS(b_went_on, 1); IS(monk_place(c), MONK_OUTSIDE);
+        IS(monk_take_seat(m, &a), MONK_OK); IS((int)monk_seat_number(a), 0); IS(monk_take_seat(m, &d), MONK_OK);
+        end();
+    }
+}
+
+/* Hoare's hand-over goes by the abandoned seat to the one behind it; it comes back behind the signaller, and signals no more. */
+static void passed_on_at_once(void) {
+    begin(MONK_PB, 4, 1, 0, 100);
+    IS(monk_enter(a), MONK_OK); IS(monk_start_wait(a, 0), MONK_WAITING); IS(monk_abandon(a), MONK_OK);
+    IS(monk_enter(b), MONK_OK); IS(monk_start_wait(b, 0), MONK_WAITING); IS(monk_enter(d), MONK_OK); IS(monk_start_wait(d, 0), MONK_WAITING);
+    IS(monk_enter(c), MONK_OK); IS(monk_start_signal(c, 0), MONK_WAITING); IS(monk_poll(c), MONK_WAITING);
+    IS(monk_poll(b), MONK_INSIDE); IS(monk_leave(b), MONK_OK); IS(monk_poll(c), MONK_INSIDE); IS(monk_leave(c), MONK_OK);
+    IS(monk_take_seat(m, &a), MONK_OK); IS((int)monk_left(a), 100 - 6);
+    IS(monk_enter(c), MONK_OK);
+    ENDS(c, "signal 2 0 waiter 0\nresume 0 waiter\nsignal 0 0 waiter 1\nresume 1 waiter\nleave 1 signaller 2\nresume 2 signaller\n"
+            "leave 2 signaller 0\nresume 0 signaller\nleave 0 entry\nenter 2 free\n");
+    end();
+}
+
+/* What was no signal for one isn't passed on: a broadcast, which served all; and where too few events are left. */
+static void not_passed_on(void) {
+    for (int kind = MONK_PNB; kind <= MONK_NPNB; kind++) {
+        begin(kind, 3, 1, 0, 100);
+        IS(monk_enter(a), MONK_OK); IS(monk_start_wait(a, 0), MONK_WAITING); IS(monk_abandon(a), MONK_OK); a = NULL;
+        IS(monk_enter(b), MONK_OK); IS(monk_broadcast(b, 0), MONK_OK); IS(monk_start_wait(b, 0), MONK_WAITING);
+        IS(monk_poll(b), MONK_WAITING);
+        IS(monk_enter(c), MONK_OK); IS(monk_waiting(c, 0), 1); IS(monk_leave(c), MONK_OK);
+        end();
+    }
+    begin(MONK_PNB, 3, 1, 0, 4);
+    IS(monk_enter(a), MONK_OK); IS(monk_start_wait(a, 0), MONK_WAITING); IS(monk_abandon(a), MONK_OK); a = NULL;
+    IS(monk_enter(b), MONK_OK); IS(monk_start_wait(b, 0), MONK_WAITING);
+    IS(monk_enter(c), MONK_OK); IS(monk_signal(c, 0), MONK_OK); IS(monk_leave(c), MONK_OK); IS(monk_poll(b), MONK_WAITING);
+    end();
+    /* At the entry it was no signal that let it in, though it waited on a condition before. */
+    begin(MONK_PNB, 3, 1, 0, 100);
+    IS(monk_enter(a), MONK_OK); IS(monk_start_wait(a, 0), MONK_WAITING);
+    IS(monk_enter(b), MONK_OK); IS(monk_signal(b, 0), MONK_OK); IS(monk_leave(b), MONK_OK); IS(monk_poll(a), MONK_INSIDE); IS(monk_leave(a), MONK_OK);
+    IS(monk_enter(b), MONK_OK); IS(monk_start_wait(b, 0), MONK_WAITING);
+    IS(monk_enter(c), MONK_OK); IS(monk_arrive(a), MONK_WAITING); IS(monk_abandon(a), MONK_OK); a = NULL;
+    IS(monk_leave(c), MONK_OK); IS(monk_poll(b), MONK_WAITING);
+    end();
+}
+
 static long milliseconds(void) {
     struct timespec now;
     clock_gettime(CLOCK_MONOTONIC, &now);
     return now.tv_sec * 1000 + now.tv_nsec / 1000000;
+}
+
+static struct timespec in_microseconds(long microseconds) {
+    struct timespec then;
+    clock_gettime(CLOCK_MONOTONIC, &then);
+    then.tv_nsec += microseconds * 1000;
+    if (then.tv_nsec >= 1000000000) then.tv_sec++, then.tv_nsec -= 1000000000;
+    return then;
+}
+
+/* By how many nanoseconds a wait of 100 microseconds that nobody ends is late, in the best of many. */
+static long least_late(void) {
+    long least = 1000000000;
+    for (int i = 0; i < 50; i++) {
+        struct timespec until = in_microseconds(100), now;
+        IS(monk_await_until(b, &until), MONK_WAITING);
+        clock_gettime(CLOCK_MONOTONIC, &now);
+        long late = (now.tv_sec - until.tv_sec) * 1000000000 + now.tv_nsec - until.tv_nsec;
+        IS(late >= 0, 1);
+        if (late < least) least = late;
+    }
+    return least;
+}
+
+/* Waits until a time, which may be finer than a millisecond. */
+static void until(void) {
+    struct timespec over = {0, 0}, later = in_microseconds(600000), no_times[] = {{0, 1000000000}, {0, -1}, {-1, 0}};
+    begin(MONK_PNB, 2, 1, 0, 100);
+    for (int i = 0; i < 3; i++) IS(monk_await_until(a, &no_times[i]), MONK_RANGE);
+    IS(monk_await_until(a, NULL), MONK_RANGE); IS(monk_await_until(NULL, &over), MONK_RANGE); IS(monk_await_until(a, &over), MONK_NOT_NOW);
+    IS(monk_enter(a), MONK_OK); IS(monk_await_until(a, &over), MONK_INSIDE);
+    IS(monk_arrive(b), MONK_WAITING); IS(monk_await_until(b, &over), MONK_WAITING);
+    IS(least_late() < 900000, 1);
+    IS(monk_leave(a), MONK_OK); IS(monk_await_until(b, &over), MONK_INSIDE);
+    IS(monk_arrive(a), MONK_WAITING); IS(monk_stop(m), MONK_OK); IS(monk_await_until(a, &later), MONK_STOPPED);
+    end();
+}
+
+static int is_readable(int file) {
+    struct pollfd it = {.fd = file, .events = POLLIN};
+    return poll(&it, 1, 0);
+}
+
+/* A file that becomes readable when a wait ends. */
+static void watched(void) {
+    int file = -1, same = -1;
+    begin(MONK_PNB, 2, 1, 0, 100);
+    IS(monk_wait_fd(a, NULL), MONK_RANGE); IS(monk_wait_fd(NULL, &file), MONK_RANGE); IS(monk_wait_fd(a, &file), MONK_NOT_NOW);
+    IS(monk_enter(a), MONK_OK); IS(monk_wait_fd(a, &file), MONK_INSIDE); IS(file, -1);
+    IS(monk_arrive(b), MONK_WAITING); IS(monk_wait_fd(b, &file), MONK_WAITING); IS(is_readable(file), 0);
+    IS(monk_leave(a), MONK_OK); IS(is_readable(file), 1); IS(monk_wait_fd(b, &same), MONK_INSIDE); IS(same, -1);
+    IS(monk_start_wait(b, 0), MONK_WAITING); IS(monk_wait_fd(b, &same), MONK_WAITING); IS(same, file); IS(is_readable(file), 0);
+    IS(monk_enter(a), MONK_OK); IS(monk_signal(a, 0), MONK_OK); IS(is_readable(file), 0); IS(monk_leave(a), MONK_OK); IS(is_readable(file), 1);
+    IS(monk_await(b, 0), MONK_INSIDE); IS(monk_leave(b), MONK_OK);
+    /* One that was granted, or stopped, before the file was asked for. */
+    IS(monk_enter(a), MONK_OK); IS(monk_arrive(b), MONK_WAITING); IS(monk_leave(a), MONK_OK); IS(monk_wait_fd(b, &file), MONK_INSIDE);
+    IS(monk_arrive(a), MONK_WAITING); IS(monk_wait_fd(a, &file), MONK_WAITING); IS(is_readable(file), 0); IS(monk_stop(m), MONK_OK);
+    IS(is_readable(file), 1); IS(monk_wait_fd(a, &file), MONK_STOPPED);
+    end();
 }
 
 static void *leaver(void *p) {
@@ -265,7 +392,8 @@ static void cancelled(void) {
 }
 
 int main(void) {
-    shapes(), misuse(), spent(), hoare(), barging(), returns(), flags(), hung(), abandoned(), held(), looked_at(), cancelled();
+    shapes(), misuse(), spent(), hoare(), barging(), returns(), flags(), hung(), abandoned(), passed_on(), passed_on_at_once();
+    not_passed_on(), held(), looked_at(), cancelled(), until(), watched();
     printf("%d answers, %d wrong\n", made, failed);
     return failed != 0;
 }

@@ -4,7 +4,8 @@
     differential.py LIBRARY REFERENCE MONK [SCRIPTS [SEED]]
 
 LIBRARY and REFERENCE are script.c, linked with the one and with the other: both must print the same answers and the same history.
-MONK plays the same calls as atomic steps, and must print that history too, and audit it `legal`."""
+MONK plays the same calls as atomic steps, and must print that history too, and audit it `legal`. Behind these come as many scripts in
+which seats are abandoned and taken again. What such a seat does then is no call, so MONK audits their histories alone."""
 import concurrent.futures
 import os
 import random
@@ -24,6 +25,8 @@ MOST_FLAGS = 5
 LONGEST = 200
 # How often a call is one that is probably taken: mostly, but misuse has to come too. And how often it is of the seat that is inside.
 LIKELY, BUSY = 0.93, 0.5
+# How often a seat is abandoned, and how often one is taken again, in a script that has such seats.
+ABANDON, TAKE = 0.08, 0.12
 
 Call = tuple[int, str, tuple[int, ...]]
 Shape = tuple[str, int, int, int, int]
@@ -39,9 +42,11 @@ class Guess:
 
     def __init__(self, seats: int) -> None:
         self.outside, self.inside = set(range(seats)), -1
+        self.given_up: set[int] = set()
 
     def seat(self, dice: random.Random, seats: int) -> int:
-        return self.inside if self.inside >= 0 and dice.random() < BUSY else dice.randrange(seats)
+        seat = self.inside if self.inside >= 0 and dice.random() < BUSY else dice.randrange(seats)
+        return dice.randrange(seats) if seat in self.given_up else seat
 
     def names(self, seat: int, kind: str) -> list[str]:
         if seat == self.inside:
@@ -56,6 +61,18 @@ class Guess:
         elif seat == self.inside and name in ("leave", "signal-leave", "wait", "signal-wait", "until", "signal"):
             self.inside = -1
             self.outside |= {seat} if name in ("leave", "signal-leave") else set()
+
+
+    def abandon(self, seat: int) -> Call:
+        self.given_up.add(seat)
+        self.inside = -1 if seat == self.inside else self.inside
+        return seat, "abandon", ()
+
+    def take(self) -> Call:
+        seat = min(self.given_up)
+        self.given_up.discard(seat)
+        self.outside.add(seat)
+        return seat, "take", ()
 
 
 def inside_names(kind: str) -> list[str]:
@@ -80,12 +97,20 @@ def call_at_random(shape: Shape, seats: int, guess: Guess, dice: random.Random) 
     return seat, name, every[name]
 
 
-def script_at_random(kind: str, dice: random.Random) -> tuple[Shape, list[Call]]:
+def next_at_random(shape: Shape, seats: int, guess: Guess, dice: random.Random, has_abandoned: bool) -> Call:
+    if has_abandoned and dice.random() < ABANDON:
+        return guess.abandon(dice.randrange(seats))
+    if guess.given_up and dice.random() < TAKE:
+        return guess.take()
+    return call_at_random(shape, seats, guess, dice)
+
+
+def script_at_random(kind: str, dice: random.Random, has_abandoned: bool) -> tuple[Shape, list[Call]]:
     """The last seat is spared for the end: then each seat comes in that can, so that somebody is inside and can read the history."""
     shape = shape_at_random(kind, dice)
     spare = shape[1] - 1
     guess = Guess(spare)
-    calls = [call_at_random(shape, spare, guess, dice) for _ in range(dice.randrange(LONGEST))]
+    calls = [next_at_random(shape, spare, guess, dice, has_abandoned) for _ in range(dice.randrange(LONGEST))]
     return shape, calls + [(seat, "poll", ()) for seat in range(spare)] + [(spare, "arrive", ()), (spare, "poll", ())]
 
 
@@ -127,31 +152,41 @@ def said(words: list[str], text: str) -> str:
     return done.stdout
 
 
-def tried(library: str, reference: str, monk: str, kind: str, seed: str) -> int:
-    """How many events the history of a script has; ends the program where two disagree."""
-    shape, calls = script_at_random(kind, random.Random(seed))
-    text = text_of(shape, calls)
+def agreed(library: str, reference: str, text: str, seed: str) -> list[str]:
+    """What library and reference both print; ends the program where they differ."""
     ours, theirs = said([library], text), said([reference], text)
     if ours != theirs:
         sys.exit(f"seed {seed}: library and reference differ\n{text}\n--- library\n{ours}\n--- reference\n{theirs}")
-    lines = ours.splitlines()
-    answers, history = [int(line) for line in lines[: len(calls)]], "\n".join(lines[len(calls):]) + "\n"
-    if history == "nobody is inside\n":
-        return 0
-    played = said([monk, "play"], play_of(shape, calls, answers))
-    if played != history:
-        sys.exit(f"seed {seed}: library and play differ\n{play_of(shape, calls, answers)}\n--- library\n{history}\n--- play\n{played}")
+    return ours.splitlines()
+
+
+def audited(monk: str, history: str, seed: str) -> int:
     events = len(history.splitlines()) - 1
     if said([monk, "audit"], history) != f"legal {events}\n":
         sys.exit(f"seed {seed}: the history is not legal\n{history}")
     return events
 
 
+def tried(library: str, reference: str, monk: str, kind: str, seed: str, has_abandoned: bool) -> int:
+    """How many events the history of a script has; ends the program where two disagree."""
+    shape, calls = script_at_random(kind, random.Random(seed), has_abandoned)
+    lines = agreed(library, reference, text_of(shape, calls), seed)
+    answers, history = [int(line) for line in lines[: len(calls)]], "\n".join(lines[len(calls):]) + "\n"
+    if history == "nobody is inside\n":
+        return 0
+    if not has_abandoned:
+        played = said([monk, "play"], play_of(shape, calls, answers))
+        if played != history:
+            sys.exit(f"seed {seed}: library and play differ\n{play_of(shape, calls, answers)}\n--- library\n{history}\n--- play\n{played}")
+    return audited(monk, history, seed)
+
+
 def main(library: str, reference: str, monk: str, scripts: str = "4000", seed: str = "1") -> None:
-    tasks = [(KINDS[n % len(KINDS)], f"{seed}.{n}") for n in range(int(scripts))]
+    plain = [(KINDS[n % len(KINDS)], f"{seed}.{n}", False) for n in range(int(scripts))]
+    tasks = plain + [(kind, name, True) for kind, name, _ in plain]
     with concurrent.futures.ThreadPoolExecutor() as pool:
         events = list(pool.map(lambda task: tried(library, reference, monk, *task), tasks))
-    print(f"{len(tasks)} scripts, {sum(count > 0 for count in events)} histories, {sum(events)} events: all agree")
+    print(f"{len(plain)} scripts and as many with abandoned seats, {sum(count > 0 for count in events)} histories, {sum(events)} events: all agree")
 
 
 main(*sys.argv[1:])

@@ -1,6 +1,9 @@
 /* Refuses each request for memory in turn: the call answers MONK_MEMORY, nothing is kept, and the next try succeeds. Other calls make no
- * request. Linked with --wrap for each function that gives memory. */
+ * request. A file that the system refuses is MONK_IO, and monk_free closes those that it gave. Linked with --wrap for each function that
+ * gives memory. */
 #include "common.h"
+#include <sys/resource.h>
+#include <unistd.h>
 
 static long requests, refused_at, kept;
 
@@ -67,10 +70,32 @@ static long refuse_each(int call(void)) {
     }
 }
 
+/* The lowest number of a file that isn't open. */
+static int next_file(void) {
+    int file = dup(0);
+    HOLDS(file >= 0 && close(file) == 0);
+    return file;
+}
+
+/* A seat that waits stays where it is when its file is refused. */
+static void refuse_file(void) {
+    struct rlimit usual, none;
+    int file = -1;
+    HOLDS(getrlimit(RLIMIT_NOFILE, &usual) == 0);
+    none = usual, none.rlim_cur = (rlim_t)next_file();
+    HOLDS(setrlimit(RLIMIT_NOFILE, &none) == 0);
+    HOLDS(monk_wait_fd(b, &file) == MONK_IO && file == -1 && monk_place(b) == MONK_WAITING);
+    HOLDS(setrlimit(RLIMIT_NOFILE, &usual) == 0);
+    HOLDS(monk_wait_fd(b, &file) == MONK_WAITING && file >= 0);
+}
+
 static void work(void) {
     MUST(monk_take_seat(monitor, &b));
+    MUST(monk_arrive(b));
+    refuse_file();
+    HOLDS(monk_left(b) == shape.budget);
     MUST(monk_start_wait(a, 0));
-    MUST(monk_enter(b));
+    HOLDS(monk_poll(b) == MONK_INSIDE);
     MUST(monk_set_flags(b, 1));
     MUST(monk_signal(b, 0));
     MUST(monk_broadcast(b, 0));
@@ -86,6 +111,7 @@ static void work(void) {
 }
 
 int main(void) {
+    int file = next_file();
     long made = refuse_each(make);
     MUST(monk_take_seat(monitor, &a));
     MUST(monk_enter(a));
@@ -94,7 +120,7 @@ int main(void) {
     work();
     HOLDS(requests == 0);
     MUST(monk_free(monitor));
-    HOLDS(kept == 0);
+    HOLDS(kept == 0 && next_file() == file);
     printf("memory: %ld requests of make and %ld of a history refused, none by other calls\n", made, read);
     return 0;
 }

@@ -1,6 +1,8 @@
 /* Carries a script out by one thread, for differential.py: a line for each answer, and the history at the end.
  *
- *     script <SCRIPT      the first line is `KIND SEATS CONDITIONS FLAGS BUDGET`, the others are `SEAT CALL [NUMBER [NUMBER]]` */
+ *     script <SCRIPT      the first line is `KIND SEATS CONDITIONS FLAGS BUDGET`, the others are `SEAT CALL [NUMBER [NUMBER]]`
+ *
+ * `take` takes the lowest seat that was abandoned and is outside, whichever SEAT is: its number is the answer. */
 #include "monk.h"
 #include <stdio.h>
 #include <stdlib.h>
@@ -9,6 +11,9 @@
 enum { MOST_SEATS = 32, WORD = 32 };
 
 typedef int call(monk_seat *seat, unsigned a, unsigned b);
+
+static monk_monitor *m;
+static monk_seat *seats[MOST_SEATS];
 
 static int arrive(monk_seat *s, unsigned a, unsigned b) { return (void)a, (void)b, monk_arrive(s); }
 static int poll_once(monk_seat *s, unsigned a, unsigned b) { return (void)a, (void)b, monk_poll(s); }
@@ -23,6 +28,16 @@ static int set_wish(monk_seat *s, unsigned a, unsigned b) { return (void)b, monk
 static int waiting(monk_seat *s, unsigned a, unsigned b) { return (void)b, monk_waiting(s, a); }
 static int left(monk_seat *s, unsigned a, unsigned b) { return (void)a, (void)b, (int)monk_left(s); }
 
+static int abandon(monk_seat *s, unsigned a, unsigned b) { return (void)a, (void)b, monk_abandon(s); }
+
+static int take(monk_seat *s, unsigned a, unsigned b) {
+    (void)a, (void)b;
+    int answer = monk_take_seat(m, &s);
+    if (answer) return answer;
+    seats[monk_seat_number(s)] = s;
+    return (int)monk_seat_number(s);
+}
+
 static const struct {
     const char *name;
     call *call;
@@ -31,6 +46,7 @@ static const struct {
     {"signal", start_signal},   {"until", start_until},     {"signal-leave", signal_leave},
     {"signal-wait", monk_start_signal_wait},                {"signal-all", broadcast},
     {"set", set_flags},         {"wish", set_wish},         {"waiting", waiting},   {"left", left},
+    {"abandon", abandon},       {"take", take},
 };
 
 static call *call_named(const char *name) {
@@ -40,7 +56,7 @@ static call *call_named(const char *name) {
     exit(2);
 }
 
-static void print_history(monk_monitor *m, monk_seat **seats, unsigned count) {
+static void print_history(unsigned count) {
     for (unsigned i = 0; i < count; i++) {
         char *text;
         if (monk_place(seats[i]) != MONK_INSIDE) continue;
@@ -56,8 +72,6 @@ int main(void) {
     char name[WORD];
     unsigned seat, a, b;
     monk_shape shape = {.seed = 1};
-    monk_monitor *m;
-    monk_seat *seats[MOST_SEATS];
     if (scanf("%31s %u %u %u %u\n", name, &shape.seats, &shape.conditions, &shape.flags, &shape.budget) != 5) return 2;
     shape.kind = monk_kind_named(name);
     if (shape.kind < 0 || monk_make(&m, &shape)) return 2;
@@ -68,7 +82,7 @@ int main(void) {
         if (sscanf(line, "%u %31s %u %u", &seat, name, &a, &b) < 2 || seat >= shape.seats) return 2;
         printf("%d\n", call_named(name)(seats[seat], a, b));
     }
-    print_history(m, seats, shape.seats);
+    print_history(shape.seats);
     for (unsigned i = 0; i < shape.seats; i++) monk_abandon(seats[i]);
     return monk_free(m) != MONK_OK;
 }

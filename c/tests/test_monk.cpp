@@ -4,6 +4,7 @@
 #include <atomic>
 #include <chrono>
 #include <iostream>
+#include <optional>
 #include <thread>
 #include <vector>
 
@@ -90,6 +91,20 @@ void a_seat_that_is_assigned_to_gives_its_own_back() {
     HOLDS(first.get() != nullptr && first.number() == 1);
 }
 
+void a_visit_that_outlives_its_seat_disturbs_nobody() {
+    monk::monitor monitor(shape_of(MONK_PB, 1));
+    std::optional<monk::visit> late;
+    {
+        monk::seat seat(monitor);
+        late.emplace(seat);
+    }
+    monk::seat next(monitor);
+    monk::visit in(next);
+    HOLDS(answer_of([&] { late->leave(); }) == MONK_NOT_NOW);
+    late.reset();
+    HOLDS(monk_place(next.get()) == MONK_INSIDE);
+}
+
 void an_error_can_be_assigned() {
     monk::error last(MONK_BUSY);
     last = monk::error(MONK_SPENT);
@@ -162,6 +177,7 @@ void many_threads() {
 int main() {
     every_kind_visits(), refusals_are_thrown(), an_exception_leaves(), a_thread_that_ends_keeps_nothing();
     a_seat_that_is_assigned_to_gives_its_own_back(), an_error_can_be_assigned();
+    a_visit_that_outlives_its_seat_disturbs_nobody();
     a_run_that_hangs_is_looked_at(), many_threads();
     std::cout << checks << " checks of monk.hpp hold\n";
 }
