@@ -1,6 +1,9 @@
 /* What a visit costs, and a bounded buffer: bench/c_library builds this with libmonk, with the plain reference, and with -DPLAIN by a
  * pthread mutex and its conditions.
  *
+ *     c_library build                       which library it is
+ *     c_library visit ABANDONED CHUNKS      the nanoseconds of a visit by the only seat that comes, while so many others that were abandoned
+ *                                           wait on a condition: the least of so many chunks of 2,000 visits
  *     c_library visits THREADS ROUNDS       the nanoseconds of a visit, by the clock
  *     c_library buffer KIND ROUNDS          the seconds of so many puts and as many takes, by two threads each */
 #include <pthread.h>
@@ -8,11 +11,12 @@
 #include <stdlib.h>
 #include <string.h>
 #include <time.h>
+#include <unistd.h>
 #ifndef PLAIN
 #include "monk.h"
 #endif
 
-enum { MOST_THREADS = 32, NOT_FULL = 0, NOT_EMPTY = 1, CONDITIONS = 2, SIZE = 8, NS_A_SECOND = 1000000000 };
+enum { MOST_THREADS = 32, NOT_FULL = 0, NOT_EMPTY = 1, CONDITIONS = 2, SIZE = 8, CHUNK = 2000, NS_A_SECOND = 1000000000 };
 
 static pthread_barrier_t line;
 static long rounds, count;                  /* touched inside alone, as the buffer is */
@@ -23,7 +27,9 @@ typedef struct { int unused; } seat;
 static pthread_mutex_t lock = PTHREAD_MUTEX_INITIALIZER;
 static pthread_cond_t conditions[CONDITIONS] = {PTHREAD_COND_INITIALIZER, PTHREAD_COND_INITIALIZER};
 
+static const char *build(void) { return "pthread mutex"; }
 static void make(const char *kind, unsigned threads) { (void)kind, (void)threads; }
+static void abandon_one(void) {}
 static void end(void) {}
 static void take(seat *s) { s->unused = 0; }
 static void give(seat *s) { (void)s; }
@@ -48,6 +54,8 @@ static void must(int answer) {
     exit(1);
 }
 
+static const char *build(void) { return monk_build(); }
+
 static void make(const char *kind, unsigned threads) {
     int number = monk_kind_named(kind);
     must(number);
@@ -60,6 +68,15 @@ static void make(const char *kind, unsigned threads) {
 static void end(void) {
     must(monk_close(monitor));
     must(monk_free(monitor));
+}
+
+/* One seat more waits on a condition, and nobody has it. */
+static void abandon_one(void) {
+    monk_seat *s;
+    must(monk_take_seat(monitor, &s));
+    must(monk_enter(s));
+    must(monk_start_wait(s, NOT_FULL));
+    must(monk_abandon(s));
 }
 
 static void take(seat *s) { must(monk_take_seat(monitor, &s->of)); }
@@ -142,17 +159,51 @@ static double timed(void *(*play[])(void *), unsigned threads) {
     return took;
 }
 
-int main(int words, char **word) {
+/* That there is a second thread makes a mutex no cheaper than it is in a program that needs one. */
+static void *be_there(void *unused) {
+    for (;;) pause();
+    return unused;
+}
+
+/* The nanoseconds of a visit: the least of so many chunks. */
+static double least(unsigned abandoned, long chunks) {
+    pthread_t other;
+    seat s;
+    double best = NS_A_SECOND;
+    make("PNB", abandoned + 1);
+    for (unsigned i = 0; i < abandoned; i++) abandon_one();
+    take(&s);
+    pthread_create(&other, NULL, be_there, NULL);
+    while (chunks-- > 0) {
+        double began = now();
+        for (int i = 0; i < CHUNK; i++) {
+            enter(&s);
+            count++;
+            leave(&s);
+        }
+        double each = (now() - began) * NS_A_SECOND / CHUNK;
+        if (each < best) best = each;
+    }
+    return best;
+}
+
+/* The nanoseconds of a visit, or the seconds of the buffer, by threads that meet. */
+static double contended(int is_buffer, const char *kind, unsigned threads) {
     void *(*play[MOST_THREADS])(void *);
-    if (words != 4) return 2;
-    int is_buffer = !strcmp(word[1], "buffer");
-    unsigned threads = is_buffer ? 4 : (unsigned)atoi(word[2]);
-    if (threads < 1 || threads > MOST_THREADS) return 2;
-    rounds = atol(word[3]);
     for (unsigned i = 0; i < threads; i++) play[i] = !is_buffer ? visit : i % 2 ? get : put;
-    make(is_buffer ? word[2] : "PNB", threads);
+    make(kind, threads);
     double took = timed(play, threads);
     end();
-    printf("%.6g\n", is_buffer ? took : took * NS_A_SECOND / ((double)rounds * threads));
+    return is_buffer ? took : took * NS_A_SECOND / ((double)rounds * threads);
+}
+
+int main(int words, char **word) {
+    if (words == 2 && !strcmp(word[1], "build")) return puts(build()) < 0;
+    if (words != 4) return 2;
+    int is_buffer = !strcmp(word[1], "buffer"), is_alone = !strcmp(word[1], "visit");
+    unsigned number = is_buffer ? 4 : (unsigned)atoi(word[2]), least_number = is_alone ? 0 : 1;
+    if (number < least_number || number >= MOST_THREADS + least_number) return 2;
+    rounds = atol(word[3]);
+    printf("%.6g\n", is_alone ? least(number, rounds) : contended(is_buffer, is_buffer ? word[2] : "PNB", number));
     return 0;
 }
