@@ -179,16 +179,11 @@ def _leave_before(rest: Callable[[int, object, Tuple[Any, ...]], None]) -> Any:
 
 
 class _End(property):
-    """`__exit__` of what has a seat, `here`: a call that `_leave_before` makes, of this seat. A `with` asks for it before it comes in; some
-    callers, as contextlib.ExitStack, ask the class."""
-
-    def __init__(self, call: Any) -> None:
-        bound = types.MethodType
-        super().__init__(lambda of: bound(call, of.here))
-        self._call = call
+    """`__exit__` by a call that `_leave_before` makes, of a seat: the getter gives both as one. A `with` asks for it before it comes in. Some
+    callers, as contextlib.ExitStack, ask the class instead."""
 
     def __call__(self, of: Any, *words: object) -> None:
-        self._call(of.here, *words)
+        self.__get__(of)(*words)
 
 
 def _is_left(answer: int, _: object, words: Tuple[Any, ...]) -> None:
@@ -196,9 +191,9 @@ def _is_left(answer: int, _: object, words: Tuple[Any, ...]) -> None:
         words[0]._not_left(answer)
 
 
-_end_of_visit = _End(_leave_before(_is_left))
+_leave_visit = _leave_before(_is_left)
 # A seat that ends is given back where it has left, too.
-_end_of_seat = _End(_leave_before(lambda _answer, _call, words: words[0].give()))
+_leave_seat = _leave_before(lambda _answer, _call, words: words[0].give())
 
 
 def _checked(answer: int) -> int:
@@ -314,10 +309,6 @@ class Seat(ctypes.c_void_p):
         _checked(_library.monk_take_seat(self._handle.at, ctypes.byref(self)))
         if wish != "waiter":
             self.wish(wish)
-
-    @property
-    def here(self) -> Seat:
-        return self
 
     def _pointer(self) -> Seat:
         if not self:
@@ -501,7 +492,7 @@ class Seat(ctypes.c_void_p):
     def __enter__(self) -> Seat:
         return self
 
-    __exit__ = _end_of_seat
+    __exit__ = _End(lambda self: types.MethodType(_leave_seat, self))
 
     def __del__(self) -> None:
         if not self or not self._handle.is_here():
@@ -519,16 +510,27 @@ class Seat(ctypes.c_void_p):
 
 
 class _Here(threading.local):
+    """What a thread has of a monitor: its seat, which may be given back and taken again, and the call that ends its visit."""
+
     seat: Optional[Seat] = None
+    end: Any = None
 
 
 class _Visits:
     """What a monitor and its conditions have of a lock."""
 
+    _here: _Here
+
     @property
     def here(self) -> Seat:
-        """This thread's seat."""
+        """This thread's seat, taken at the first use, and given back when the thread ends."""
         raise NotImplementedError
+
+    def _end(self) -> Any:
+        end = self._here.end
+        if end is None:
+            end = self._here.end = types.MethodType(_leave_visit, self.here)
+        return end
 
     def acquire(self) -> bool:
         """Comes in."""
@@ -540,10 +542,10 @@ class _Visits:
         self.here._release()
 
     def __enter__(self: V) -> V:
-        self.here.enter()
+        (self._here.seat or self.here).enter()
         return self
 
-    __exit__ = _end_of_visit
+    __exit__ = _End(_end)
 
 
 class Monitor(_Visits):
@@ -662,7 +664,7 @@ class Condition(_Visits):
     place in a queue."""
 
     def __init__(self, monitor: Monitor, number: int) -> None:
-        self.monitor, self.number = monitor, number
+        self.monitor, self.number, self._here = monitor, number, monitor._here
 
     @property
     def here(self) -> Seat:
@@ -747,4 +749,4 @@ class inside:
         self.here.enter()
         return self.here
 
-    __exit__ = _end_of_visit
+    __exit__ = _End(lambda self: types.MethodType(_leave_visit, self.here))
