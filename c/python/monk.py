@@ -26,6 +26,7 @@ from __future__ import annotations
 
 import ctypes
 import math
+import operator
 import os
 import shutil
 import subprocess
@@ -179,7 +180,7 @@ def _leave_before(rest: Callable[[int, object, Tuple[Any, ...]], None]) -> Any:
 
 
 class _End(property):
-    """`__exit__` by a call that `_leave_before` makes, of a seat: the getter gives both as one. A `with` asks for it before it comes in. Some
+    """`__exit__` by a call that `_leave_before` makes, of a seat: the getter gives both as one. A `with` gets it before it comes in. Some
     callers, as contextlib.ExitStack, ask the class instead."""
 
     def __call__(self, of: Any, *words: object) -> None:
@@ -295,15 +296,14 @@ def _drop_look(lines: List[str], look: int) -> None:
 
 
 class Seat(ctypes.c_void_p):
-    """A seat of a monitor, with every call of the library. One thread at a time uses it. It is the library's pointer, and null once the
-    seat was given back."""
+    """A seat of a monitor, with every call of the library. One thread at a time uses it. It is the library's pointer, and null until the
+    seat is taken and after it was given back."""
 
-    def __init__(self, handle: _Handle, wish: str) -> None:
+    def __init__(self, handle: _Handle) -> None:
         super().__init__()
         # A call that signals and leaves was its way out, and no release or end of a `with` has come behind it yet.
         self._has_signalled_out = False
         self._handle = handle
-        self._take(wish)
 
     def _take(self, wish: str) -> None:
         _checked(_library.monk_take_seat(self._handle.at, ctypes.byref(self)))
@@ -510,10 +510,11 @@ class Seat(ctypes.c_void_p):
 
 
 class _Here(threading.local):
-    """What a thread has of a monitor: its seat, which may be given back and taken again, and the call that ends its visit."""
+    """What a thread has of a monitor: its seat, and the call that ends its visit. Python makes both anew for each thread that asks."""
 
-    seat: Optional[Seat] = None
-    end: Any = None
+    def __init__(self, handle: _Handle) -> None:
+        self.seat = Seat(handle)
+        self.end = types.MethodType(_leave_visit, self.seat)
 
 
 class _Visits:
@@ -525,12 +526,6 @@ class _Visits:
     def here(self) -> Seat:
         """This thread's seat, taken at the first use, and given back when the thread ends."""
         raise NotImplementedError
-
-    def _end(self) -> Any:
-        end = self._here.end
-        if end is None:
-            end = self._here.end = types.MethodType(_leave_visit, self.here)
-        return end
 
     def acquire(self) -> bool:
         """Comes in."""
@@ -545,7 +540,7 @@ class _Visits:
         (self._here.seat or self.here).enter()
         return self
 
-    __exit__ = _End(_end)
+    __exit__ = _End(operator.attrgetter("_here.end"))
 
 
 class Monitor(_Visits):
@@ -565,7 +560,7 @@ class Monitor(_Visits):
         self._handle = _Handle(_Shape(KINDS.index(kind), seats, conditions, flags, budget, seed))
         self.kind, self.mode, self.wish = kind, self._handle.mode, wish
         self.seats, self.conditions, self.flag_count = seats, conditions, flags
-        self._here, self._conditions_named, self._flags_named = _Here(), 0, 0
+        self._here, self._conditions_named, self._flags_named = _Here(self._handle), 0, 0
 
     def condition(self, number: Optional[int] = None) -> Condition:
         """The next of its conditions, or the one of that number."""
@@ -585,22 +580,21 @@ class Monitor(_Visits):
 
     def seat(self) -> Seat:
         """A seat of its own, for `with monitor.seat() as seat:`."""
-        return Seat(self._handle, self.wish)
+        seat = Seat(self._handle)
+        seat._take(self.wish)
+        return seat
 
     @property
     def here(self) -> Seat:
         """This thread's seat, taken at the first use, and given back when the thread ends."""
         seat = self._here.seat
-        if seat is None:
-            seat = self._here.seat = self.seat()
-        elif not seat:
+        if not seat:
             seat._take(self.wish)
         return seat
 
     def give(self) -> None:
         """Gives this thread's seat back before the thread ends."""
-        if self._here.seat is not None:
-            self._here.seat.give()
+        self._here.seat.give()
 
     def set_flags(self, *flags: Union[int, Flag, Tuple[Union[int, Flag], bool]]) -> None:
         """Sets all flags at once: those that are given are set, and no other. Each is a flag, or a pair of one and whether it is set."""
@@ -689,7 +683,7 @@ class Condition(_Visits):
     def notify(self, n: int = 1) -> None:
         """Signals n times. Under a blocking kind whoever is served goes on first. Under immediate return the caller is outside then."""
         if self.monitor.mode != "immediate return":
-            seat = self.monitor.here
+            seat = self._here.seat or self.here
             for _ in range(n):
                 seat.signal(self.number)
         elif n == 1:
