@@ -2,8 +2,9 @@
  * pthread mutex and its conditions.
  *
  *     c_library build                       which library it is
- *     c_library visit ABANDONED CHUNKS      the nanoseconds of a visit by the only seat that comes, while so many others that were abandoned
- *                                           wait on a condition: the least of so many chunks of 2,000 visits
+ *     c_library visit MONITORS CHUNKS       the nanoseconds of a visit by the only seat: the least of so many chunks of 2,000 visits to the
+ *                                           last of so many monitors; the first one's memory was never used before
+ *     c_library abandoned SEATS CHUNKS      the same, to one monitor, while so many seats that were abandoned wait on a condition
  *     c_library visits THREADS ROUNDS       the nanoseconds of a visit, by the clock
  *     c_library buffer KIND ROUNDS          the seconds of so many puts and as many takes, by two threads each */
 #include <pthread.h>
@@ -165,24 +166,34 @@ static void *be_there(void *unused) {
     return unused;
 }
 
-/* The nanoseconds of a visit: the least of so many chunks. */
-static double least(unsigned abandoned, long chunks) {
-    pthread_t other;
-    seat s;
+static double least_of(seat *s, long chunks) {
     double best = NS_A_SECOND;
-    make("PNB", abandoned + 1);
-    for (unsigned i = 0; i < abandoned; i++) abandon_one();
-    take(&s);
-    pthread_create(&other, NULL, be_there, NULL);
     while (chunks-- > 0) {
         double began = now();
         for (int i = 0; i < CHUNK; i++) {
-            enter(&s);
+            enter(s);
             count++;
-            leave(&s);
+            leave(s);
         }
         double each = (now() - began) * NS_A_SECOND / CHUNK;
         if (each < best) best = each;
+    }
+    return best;
+}
+
+/* The least of a visit's nanoseconds, to the last of so many monitors, while so many abandoned seats wait. */
+static double least(unsigned monitors, unsigned abandoned, long chunks) {
+    pthread_t other;
+    seat s;
+    double best = 0;
+    pthread_create(&other, NULL, be_there, NULL);
+    while (monitors-- > 0) {
+        make("PNB", abandoned + 1);
+        for (unsigned i = 0; i < abandoned; i++) abandon_one();
+        take(&s);
+        best = least_of(&s, chunks);
+        give(&s);
+        if (monitors > 0) end();
     }
     return best;
 }
@@ -200,10 +211,13 @@ static double contended(int is_buffer, const char *kind, unsigned threads) {
 int main(int words, char **word) {
     if (words == 2 && !strcmp(word[1], "build")) return puts(build()) < 0;
     if (words != 4) return 2;
-    int is_buffer = !strcmp(word[1], "buffer"), is_alone = !strcmp(word[1], "visit");
-    unsigned number = is_buffer ? 4 : (unsigned)atoi(word[2]), least_number = is_alone ? 0 : 1;
-    if (number < least_number || number >= MOST_THREADS + least_number) return 2;
+    int is_visit = !strcmp(word[1], "visit"), is_abandoned = !strcmp(word[1], "abandoned"), is_buffer = !strcmp(word[1], "buffer");
+    unsigned number = is_buffer ? 4 : (unsigned)atoi(word[2]), seats = is_abandoned ? number + 1 : number;
+    if (seats < 1 || seats > MOST_THREADS) return 2;
     rounds = atol(word[3]);
-    printf("%.6g\n", is_alone ? least(number, rounds) : contended(is_buffer, is_buffer ? word[2] : "PNB", number));
+    double told = is_visit       ? least(number, 0, rounds)
+                  : is_abandoned ? least(1, number, rounds)
+                                 : contended(is_buffer, is_buffer ? word[2] : "PNB", number);
+    printf("%.6g\n", told);
     return 0;
 }
