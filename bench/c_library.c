@@ -1,7 +1,10 @@
 /* What a visit costs, and a bounded buffer: bench/c_library builds this with libmonk, with the plain reference, and with -DPLAIN by a
  * pthread mutex and its conditions.
  *
- *     c_library alone MONITORS              the least nanoseconds of a visit by one thread, to the last of so many monitors
+ *     c_library build                       which library it is
+ *     c_library visit MONITORS CHUNKS       the nanoseconds of a visit by the only seat: the least of so many chunks of 2,000 visits to the
+ *                                           last of so many monitors; the first one's memory was never used before
+ *     c_library abandoned SEATS CHUNKS      the same, to one monitor, while so many seats that were abandoned wait on a condition
  *     c_library visits THREADS ROUNDS       the nanoseconds of a visit, by the clock
  *     c_library buffer KIND ROUNDS          the seconds of so many puts and as many takes, by two threads each */
 #include <pthread.h>
@@ -14,7 +17,7 @@
 #include "monk.h"
 #endif
 
-enum { MOST_THREADS = 32, NOT_FULL = 0, NOT_EMPTY = 1, CONDITIONS = 2, SIZE = 8, NS_A_SECOND = 1000000000, CHUNKS = 200, CHUNK = 2000 };
+enum { MOST_THREADS = 32, NOT_FULL = 0, NOT_EMPTY = 1, CONDITIONS = 2, SIZE = 8, CHUNK = 2000, NS_A_SECOND = 1000000000 };
 
 static pthread_barrier_t line;
 static long rounds, count;                  /* touched inside alone, as the buffer is */
@@ -25,7 +28,9 @@ typedef struct { int unused; } seat;
 static pthread_mutex_t lock = PTHREAD_MUTEX_INITIALIZER;
 static pthread_cond_t conditions[CONDITIONS] = {PTHREAD_COND_INITIALIZER, PTHREAD_COND_INITIALIZER};
 
+static const char *build(void) { return "pthread mutex"; }
 static void make(const char *kind, unsigned threads) { (void)kind, (void)threads; }
+static void abandon_one(void) {}
 static void end(void) {}
 static void take(seat *s) { s->unused = 0; }
 static void give(seat *s) { (void)s; }
@@ -50,6 +55,8 @@ static void must(int answer) {
     exit(1);
 }
 
+static const char *build(void) { return monk_build(); }
+
 static void make(const char *kind, unsigned threads) {
     int number = monk_kind_named(kind);
     must(number);
@@ -62,6 +69,15 @@ static void make(const char *kind, unsigned threads) {
 static void end(void) {
     must(monk_close(monitor));
     must(monk_free(monitor));
+}
+
+/* One seat more waits on a condition, and nobody has it. */
+static void abandon_one(void) {
+    monk_seat *s;
+    must(monk_take_seat(monitor, &s));
+    must(monk_enter(s));
+    must(monk_start_wait(s, NOT_FULL));
+    must(monk_abandon(s));
 }
 
 static void take(seat *s) { must(monk_take_seat(monitor, &s->of)); }
@@ -144,57 +160,64 @@ static double timed(void *(*play[])(void *), unsigned threads) {
     return took;
 }
 
-/* The least of many chunks of visits: what a visit takes while nothing disturbs its thread. */
-static double least_visit(void) {
-    seat s;
-    double least = 0;
-    take(&s);
-    for (int chunk = 0; chunk < CHUNKS; chunk++) {
-        double began = now();
-        for (int i = 0; i < CHUNK; i++) {
-            enter(&s);
-            count++;
-            leave(&s);
-        }
-        double took = now() - began;
-        if (chunk == 0 || took < least) least = took;
-    }
-    give(&s);
-    return least * NS_A_SECOND / CHUNK;
-}
-
-static void *stay(void *unused) {
+/* That there is a second thread makes a mutex no cheaper than it is in a program that needs one. */
+static void *be_there(void *unused) {
     for (;;) pause();
     return unused;
 }
 
-/* Visits to one monitor after another, each of which gives its memory back. Only the first writes to memory that no program has
- * touched. A second thread is there, since with one alone a mutex takes no atomic step. */
-static int alone(long monitors) {
-    pthread_t other;
-    double least = 0;
-    if (pthread_create(&other, NULL, stay, NULL)) return 1;
-    while (monitors-- > 0) {
-        make("PNB", 1);
-        least = least_visit();
-        end();
+static double least_of(seat *s, long chunks) {
+    double best = NS_A_SECOND;
+    while (chunks-- > 0) {
+        double began = now();
+        for (int i = 0; i < CHUNK; i++) {
+            enter(s);
+            count++;
+            leave(s);
+        }
+        double each = (now() - began) * NS_A_SECOND / CHUNK;
+        if (each < best) best = each;
     }
-    printf("%.6g\n", least);
-    return 0;
+    return best;
+}
+
+/* The least of a visit's nanoseconds, to the last of so many monitors, while so many abandoned seats wait. */
+static double least(unsigned monitors, unsigned abandoned, long chunks) {
+    pthread_t other;
+    seat s;
+    double best = 0;
+    pthread_create(&other, NULL, be_there, NULL);
+    while (monitors-- > 0) {
+        make("PNB", abandoned + 1);
+        for (unsigned i = 0; i < abandoned; i++) abandon_one();
+        take(&s);
+        best = least_of(&s, chunks);
+        give(&s);
+        if (monitors > 0) end();
+    }
+    return best;
+}
+
+/* The nanoseconds of a visit, or the seconds of the buffer, by threads that meet. */
+static double contended(int is_buffer, const char *kind, unsigned threads) {
+    void *(*play[MOST_THREADS])(void *);
+    for (unsigned i = 0; i < threads; i++) play[i] = !is_buffer ? visit : i % 2 ? get : put;
+    make(kind, threads);
+    double took = timed(play, threads);
+    end();
+    return is_buffer ? took : took * NS_A_SECOND / ((double)rounds * threads);
 }
 
 int main(int words, char **word) {
-    void *(*play[MOST_THREADS])(void *);
-    if (words == 3 && !strcmp(word[1], "alone")) return alone(atol(word[2]));
+    if (words == 2 && !strcmp(word[1], "build")) return puts(build()) < 0;
     if (words != 4) return 2;
-    int is_buffer = !strcmp(word[1], "buffer");
-    unsigned threads = is_buffer ? 4 : (unsigned)atoi(word[2]);
-    if (threads < 1 || threads > MOST_THREADS) return 2;
+    int is_visit = !strcmp(word[1], "visit"), is_abandoned = !strcmp(word[1], "abandoned"), is_buffer = !strcmp(word[1], "buffer");
+    unsigned number = is_buffer ? 4 : (unsigned)atoi(word[2]), seats = is_abandoned ? number + 1 : number;
+    if (seats < 1 || seats > MOST_THREADS) return 2;
     rounds = atol(word[3]);
-    for (unsigned i = 0; i < threads; i++) play[i] = !is_buffer ? visit : i % 2 ? get : put;
-    make(is_buffer ? word[2] : "PNB", threads);
-    double took = timed(play, threads);
-    end();
-    printf("%.6g\n", is_buffer ? took : took * NS_A_SECOND / ((double)rounds * threads));
+    double told = is_visit       ? least(number, 0, rounds)
+                  : is_abandoned ? least(1, number, rounds)
+                                 : contended(is_buffer, is_buffer ? word[2] : "PNB", number);
+    printf("%.6g\n", told);
     return 0;
 }

@@ -24,15 +24,18 @@ system's libmonk.so.0. A refused call raises an error named after the answer, an
 
 from __future__ import annotations
 
-import contextlib
 import ctypes
+import math
+import operator
 import os
 import shutil
 import subprocess
 import tempfile
 import threading
+import time
+import types
 import warnings
-from typing import Any, Callable, Iterator, List, Optional, Tuple, Type, TypeVar, Union
+from typing import Any, Callable, List, Optional, Tuple, Type, TypeVar, Union
 
 __all__ = ["Monitor", "Condition", "Flag", "Seat", "KINDS", "MODES", "WISHES", "MonkError", "NotNow", "Spent", "NotOfKind",
            "OutOfRange", "NoMemory", "NoSeat", "Busy", "InUse", "Stopped", "Closed", "version", "build"]
@@ -57,6 +60,7 @@ SHAPES = {"seats": (1, 32, "1 to 32"), "conditions": (0, 8, "0 to 8"), "flags": 
           "budget": (2, 2**20, f"2 to {2**20}, or 0 for 65536"), "seed": (0, 2**64 - 1, f"0 to {2**64 - 1}")}
 
 T = TypeVar("T")
+V = TypeVar("V", bound="_Visits")
 
 
 class MonkError(RuntimeError):
@@ -158,6 +162,41 @@ _start_signal = _library_now.monk_start_signal
 _enter_within.argtypes = _leave.argtypes = None
 
 
+class _Unread:
+    """The type of an argument that C doesn't read: a 0 stands for every object."""
+
+    from_param = [].count
+
+
+def _leave_before(rest: Callable[[int, object, Tuple[Any, ...]], None]) -> Any:
+    """A call of the library that leaves by a seat. What is left to do then follows, with the answer and the words of the call.
+
+    Python sees an interrupt only while it runs code of its own. At the beginning of an `__exit__` in Python the seat would still be inside,
+    and an interrupt there would leave it so. This call is C, and has left before any code of Python's runs."""
+    call = _library_now["monk_leave"]
+    # The seat, and the three words of an `__exit__`.
+    call.argtypes, call.errcheck = [ctypes.c_void_p, _Unread, _Unread, _Unread], rest
+    return call
+
+
+class _End(property):
+    """`__exit__` by a call that `_leave_before` makes, of a seat: the getter gives both as one. A `with` gets it before it comes in. Some
+    callers, as contextlib.ExitStack, ask the class instead."""
+
+    def __call__(self, of: Any, *words: object) -> None:
+        self.__get__(of)(*words)
+
+
+def _is_left(answer: int, _: object, words: Tuple[Any, ...]) -> None:
+    if answer < 0:
+        words[0]._not_left(answer)
+
+
+_leave_visit = _leave_before(_is_left)
+# A seat that ends is given back where it has left, too.
+_leave_seat = _leave_before(lambda _answer, _call, words: words[0].give())
+
+
 def _checked(answer: int) -> int:
     if answer < 0:
         raise ERRORS.get(answer, MonkError)(_library.monk_strerror(answer).decode())
@@ -195,13 +234,26 @@ class _Handle:
         _checked(_library.monk_make(ctypes.byref(self.at), ctypes.byref(shape)))
         self.kind, self.mode = KINDS[shape.kind], MODES[shape.kind // KINDS_OF_A_MODE]
         self.conditions, self.flags = int(shape.conditions), int(shape.flags)
-        self._process = os.getpid()
+        self._process, self._is_closed = os.getpid(), False
+        # The events by which the library came in for a look, from 1 on. It leaves at the next event.
+        self._looks: List[int] = []
 
     def is_here(self) -> bool:
         """Whether this process made it: in the child of a fork the library must not be called."""
         return self._process == os.getpid()
 
-    def history(self, by: Optional[ctypes.c_void_p]) -> str:
+    def close(self) -> None:
+        _checked(_library.monk_close(self.at))
+        self._is_closed = True
+
+    def history(self, by: Optional[Seat]) -> str:
+        """The history by a seat that is inside, else by a look: a visit of the library's own, which isn't in it."""
+        text = self._text(by)
+        if by is None and not self._is_closed:
+            self._looks.append(_events_in(text))
+        return _without_looks(text, self._looks)
+
+    def _text(self, by: Optional[Seat]) -> str:
         text, length = ctypes.c_void_p(), ctypes.c_size_t()
         _checked(_library.monk_history(self.at, by, ctypes.byref(text), ctypes.byref(length)))
         try:
@@ -214,23 +266,54 @@ class _Handle:
             _library.monk_free(self.at)
 
 
-class Seat:
-    """A seat of a monitor, with every call of the library. One thread at a time uses it."""
+def _events_in(text: str) -> int:
+    """How many events the history has: one in each line behind the header."""
+    return text.count("\n") - 1
 
-    def __init__(self, handle: _Handle, wish: str) -> None:
-        at = ctypes.c_void_p()
-        self._at: Optional[ctypes.c_void_p] = None
+
+def _without_looks(text: str, looks: List[int]) -> str:
+    """The history without the visits of these looks. A look comes in when the monitor is open to the entry, and changes nothing. So it is
+    legal without them."""
+    if not looks:
+        return text
+    lines = text.splitlines()
+    for look in sorted(looks, reverse=True):
+        if look < len(lines):
+            _drop_look(lines, look)
+    if lines[1:]:
+        # It may have been handed the monitor by a look, and now it is the first.
+        lines[1] = lines[1].replace(" handed", " free")
+    return "\n".join(lines) + "\n"
+
+
+def _drop_look(lines: List[str], look: int) -> None:
+    """Drops a look that came in at that line. Whom it chose when it left had been in a queue before it came. The release before it chose
+    the entry, and is told to have chosen that seat."""
+    chosen = [line.split(" ", 2)[2] for line in lines[look + 1:look + 2]]
+    del lines[look:look + 2]
+    if chosen not in ([], ["entry"]):
+        lines[look - 1] = lines[look - 1][:-len("entry")] + chosen[0]
+
+
+class Seat(ctypes.c_void_p):
+    """A seat of a monitor, with every call of the library. One thread at a time uses it. It is the library's pointer, and null until the
+    seat is taken and after it was given back."""
+
+    def __init__(self, handle: _Handle) -> None:
+        super().__init__()
         # A call that signals and leaves was its way out, and no release or end of a `with` has come behind it yet.
         self._has_signalled_out = False
-        _checked(_library.monk_take_seat(handle.at, ctypes.byref(at)))
-        self._handle, self._at = handle, at
+        self._handle = handle
+
+    def _take(self, wish: str) -> None:
+        _checked(_library.monk_take_seat(self._handle.at, ctypes.byref(self)))
         if wish != "waiter":
             self.wish(wish)
 
-    def _pointer(self) -> ctypes.c_void_p:
-        if self._at is None:
+    def _pointer(self) -> Seat:
+        if not self:
             raise NotNow("the seat was given back")
-        return self._at
+        return self
 
     def _asked(self, call: str, ask: Callable[..., int], what: str, *numbers: int) -> int:
         """The library's answer to a call about conditions or flags. It knows which there are, but C can't hold every number."""
@@ -264,15 +347,22 @@ class Seat:
 
     def await_(self, timeout: Optional[float] = None) -> bool:
         """Waits until it is inside. False if `timeout` seconds are over: then it waits on, at its place in its queue."""
-        if timeout is not None:
-            milliseconds = max(0, int(timeout * MS_A_SECOND))
-            if milliseconds > MOST_LONG:
-                raise OutOfRange(f"await_({timeout}): seconds are 0 to {MOST_LONG // MS_A_SECOND}")
-            return _checked(_library.monk_await(self._pointer(), milliseconds)) == INSIDE
-        slices = SLICE_MS if threading.current_thread() is threading.main_thread() else FOREVER
-        while _checked(_library.monk_await(self._pointer(), slices)) != INSIDE:
-            pass
-        return True
+        limit = FOREVER if timeout is None else max(0, int(timeout * MS_A_SECOND))
+        if timeout is not None and limit > MOST_LONG:
+            raise OutOfRange(f"await_({timeout}): seconds are 0 to {MOST_LONG // MS_A_SECOND}")
+        if threading.current_thread() is threading.main_thread():
+            return self._await_in_slices(limit)
+        return _checked(_library.monk_await(self._pointer(), limit)) == INSIDE
+
+    def _await_in_slices(self, limit: int) -> bool:
+        """Waits for so many milliseconds, and looks for an interrupt after each slice of them."""
+        end = math.inf if limit == FOREVER else time.monotonic() * MS_A_SECOND + limit
+        while True:
+            left = max(0, min(SLICE_MS, end - time.monotonic() * MS_A_SECOND))
+            if _checked(_library.monk_await(self._pointer(), math.ceil(left))) == INSIDE:
+                return True
+            if left < SLICE_MS:
+                return False
 
     def _finished(self, place: int) -> None:
         if place == WAITING:
@@ -287,19 +377,22 @@ class Seat:
         return _checked(_library.monk_poll(self._pointer())) == INSIDE
 
     def enter(self) -> None:
-        """Comes in. If an interrupt ends the wait, the seat is given up."""
-        answer = _enter_within(self._at, AT_ONCE)
-        if answer != INSIDE:
-            self._go_on_entering(answer)
+        """Comes in. If an interrupt ends the call, the seat isn't inside; if it ends the wait, the seat is given up."""
+        answer, self._has_signalled_out = INSIDE, False
+        try:
+            answer = _enter_within(self, AT_ONCE)
+            if answer != INSIDE:
+                self._go_on_entering(answer)
+        except BaseException:
+            # A refused call has changed nothing. An interrupt may have come before the answer was kept.
+            if answer > 0 or answer == STOPPED:
+                self.go_out()
+            raise
 
     def _go_on_entering(self, answer: int) -> None:
         if answer < 0 and answer != STOPPED:
-            _checked(answer if self._at is not None else NOT_NOW)
-        try:
-            self.await_()
-        except BaseException:
-            self.give()
-            raise
+            _checked(answer if self else NOT_NOW)
+        self.await_()
 
     def leave(self) -> None:
         _checked(_library.monk_leave(self._pointer()))
@@ -311,7 +404,7 @@ class Seat:
     def signal(self, condition: int) -> None:
         """Serves the first who waits there. Under a blocking kind that one goes on first."""
         # A number that C can't hold goes the long way, on which it is refused.
-        place = _start_signal(self._at, condition) if 0 <= condition <= MOST_UNSIGNED else RANGE
+        place = _start_signal(self, condition) if 0 <= condition <= MOST_UNSIGNED else RANGE
         if place == RANGE:
             place = self._asked("signal", _start_signal, "conditions", condition)
         if place != INSIDE:
@@ -374,33 +467,37 @@ class Seat:
 
     def give(self) -> None:
         """Gives it back, wherever it stands: an inside seat leaves, a waiting one leaves when its turn has come."""
-        at, self._at = self._at, None
-        if at is not None:
+        at = ctypes.c_void_p(self.value)
+        self.value = None
+        if at:
             _checked(_library.monk_abandon(at))
 
     def go_out(self) -> None:
         """Leaves if it is inside. If it waits still, since its wait was stopped or interrupted, it is given up."""
-        if self._at is not None:
-            self._gone_out()
+        _is_left(_leave(self), None, (self,))
 
-    def _gone_out(self) -> int:
-        """As go_out. The library's answer, if there was no visit to end."""
-        answer, was_out, self._has_signalled_out = _leave(self._at), self._has_signalled_out, False
-        if answer < 0 and _library.monk_place(self._at) == WAITING:
+    def _release(self) -> None:
+        """As go_out, but refused if there is no visit to end."""
+        answer = _leave(self)
+        _checked(self._not_left(answer) if answer < 0 else answer)
+
+    def _not_left(self, answer: int) -> int:
+        """What follows a leave that was refused with this answer. It is the answer still, if there was no visit to end."""
+        was_out, self._has_signalled_out = self._has_signalled_out, False
+        if _library.monk_place(self) == WAITING:
             self.give()
             return 0
-        return 0 if answer == NOT_NOW and was_out else int(answer)
+        return 0 if was_out and answer == NOT_NOW else answer
 
     def __enter__(self) -> Seat:
         return self
 
-    def __exit__(self, *_: object) -> None:
-        self.give()
+    __exit__ = _End(lambda self: types.MethodType(_leave_seat, self))
 
     def __del__(self) -> None:
-        if self._at is None or not self._handle.is_here():
+        if not self or not self._handle.is_here():
             return
-        if _library.monk_place(self._at) == INSIDE:
+        if _library.monk_place(self) == INSIDE:
             self._warn()
         self.give()
 
@@ -413,10 +510,40 @@ class Seat:
 
 
 class _Here(threading.local):
-    seat: Optional[Seat] = None
+    """What a thread has of a monitor: its seat, and the call that ends its visit. Python makes both anew for each thread that asks."""
+
+    def __init__(self, handle: _Handle) -> None:
+        self.seat = Seat(handle)
+        self.end = types.MethodType(_leave_visit, self.seat)
 
 
-class Monitor:
+class _Visits:
+    """What a monitor and its conditions have of a lock."""
+
+    _here: _Here
+
+    @property
+    def here(self) -> Seat:
+        """This thread's seat, taken at the first use, and given back when the thread ends."""
+        raise NotImplementedError
+
+    def acquire(self) -> bool:
+        """Comes in."""
+        self.here.enter()
+        return True
+
+    def release(self) -> None:
+        """Leaves; nothing if a signal was the way out already. NotNow if there is no visit to end, so a second release is refused."""
+        self.here._release()
+
+    def __enter__(self: V) -> V:
+        (self._here.seat or self.here).enter()
+        return self
+
+    __exit__ = _End(operator.attrgetter("_here.end"))
+
+
+class Monitor(_Visits):
     """A monitor of a kind. `with monitor:` comes in by the calling thread's seat, and leaves at the end.
 
     kind: one of KINDS. seats: 1 to 32, one for each thread, and one to spare for a look at a run that hangs. conditions: 0 to 8.
@@ -433,7 +560,7 @@ class Monitor:
         self._handle = _Handle(_Shape(KINDS.index(kind), seats, conditions, flags, budget, seed))
         self.kind, self.mode, self.wish = kind, self._handle.mode, wish
         self.seats, self.conditions, self.flag_count = seats, conditions, flags
-        self._here, self._conditions_named, self._flags_named = _Here(), 0, 0
+        self._here, self._conditions_named, self._flags_named = _Here(self._handle), 0, 0
 
     def condition(self, number: Optional[int] = None) -> Condition:
         """The next of its conditions, or the one of that number."""
@@ -453,49 +580,21 @@ class Monitor:
 
     def seat(self) -> Seat:
         """A seat of its own, for `with monitor.seat() as seat:`."""
-        return Seat(self._handle, self.wish)
+        seat = Seat(self._handle)
+        seat._take(self.wish)
+        return seat
 
     @property
     def here(self) -> Seat:
         """This thread's seat, taken at the first use, and given back when the thread ends."""
         seat = self._here.seat
-        if seat is None or seat._at is None:
-            seat = self._here.seat = self.seat()
+        if not seat:
+            seat._take(self.wish)
         return seat
 
     def give(self) -> None:
         """Gives this thread's seat back before the thread ends."""
-        if self._here.seat is not None:
-            self._here.seat.give()
-
-    def acquire(self) -> bool:
-        """Comes in."""
-        self.here.enter()
-        return True
-
-    def release(self) -> None:
-        """Leaves; nothing if a signal was the way out already. NotNow if there is no visit to end, so a second release is refused."""
-        _checked(self.here._gone_out())
-
-    def __enter__(self) -> Monitor:
-        seat = self._here.seat
-        # A seat that was given back is the null pointer, which the library refuses.
-        answer = NOT_NOW if seat is None else _enter_within(seat._at, AT_ONCE)
-        if answer != INSIDE:
-            self._go_on_entering(answer)
-        return self
-
-    def _go_on_entering(self, answer: int) -> None:
-        seat = self._here.seat
-        if seat is None or seat._at is None:
-            self.here.enter()
-        else:
-            seat._go_on_entering(answer)
-
-    def __exit__(self, *_: object) -> None:
-        seat = self._here.seat
-        if seat is not None and _leave(seat._at) < 0:
-            seat.go_out()
+        self._here.seat.give()
 
     def set_flags(self, *flags: Union[int, Flag, Tuple[Union[int, Flag], bool]]) -> None:
         """Sets all flags at once: those that are given are set, and no other. Each is a flag, or a pair of one and whether it is set."""
@@ -515,13 +614,12 @@ class Monitor:
     def close(self) -> None:
         """No seat may be taken, but this thread's, which is given back. From then on the history is whole."""
         self.give()
-        _checked(_library.monk_close(self._handle.at))
+        self._handle.close()
 
     def history(self) -> str:
-        """The history up to now: by this thread's seat if it is inside, else by a visit of a seat that nobody has."""
+        """The history up to now: by this thread's seat if it is inside, else by a look of a seat that nobody has, which isn't in it."""
         seat = self._here.seat
-        inside = seat is not None and seat._at is not None and seat.place == PLACES[INSIDE]
-        return self._handle.history(seat._at if inside and seat is not None else None)
+        return seat.history() if seat and seat.place == PLACES[INSIDE] else self._handle.history(None)
 
     def save(self, path: str) -> None:
         """Writes the history into a file."""
@@ -555,23 +653,19 @@ def _asked(command: str, text: str) -> str:
     return done.stdout
 
 
-class Condition:
+class Condition(_Visits):
     """A condition of a monitor, used like threading.Condition by a thread that is inside. It has no time limits: who waits holds a
     place in a queue."""
 
     def __init__(self, monitor: Monitor, number: int) -> None:
-        self.monitor, self.number = monitor, number
-        self.acquire, self.release = monitor.acquire, monitor.release
+        self.monitor, self.number, self._here = monitor, number, monitor._here
+
+    @property
+    def here(self) -> Seat:
+        return self.monitor.here
 
     def __int__(self) -> int:
         return self.number
-
-    def __enter__(self) -> Condition:
-        self.monitor.__enter__()
-        return self
-
-    def __exit__(self, *words: object) -> None:
-        self.monitor.__exit__(*words)
 
     def wait(self) -> bool:
         """Waits until a signal serves this thread and its turn comes."""
@@ -589,7 +683,7 @@ class Condition:
     def notify(self, n: int = 1) -> None:
         """Signals n times. Under a blocking kind whoever is served goes on first. Under immediate return the caller is outside then."""
         if self.monitor.mode != "immediate return":
-            seat = self.monitor.here
+            seat = self._here.seat or self.here
             for _ in range(n):
                 seat.signal(self.number)
         elif n == 1:
@@ -639,11 +733,14 @@ class Flag:
         self.monitor.here.finish(self.number)
 
 
-@contextlib.contextmanager
-def inside(seat: Seat) -> Iterator[Seat]:
+class inside:
     """A visit by a seat of its own: `with monk.inside(seat):`."""
-    seat.enter()
-    try:
-        yield seat
-    finally:
-        seat.go_out()
+
+    def __init__(self, seat: Seat) -> None:
+        self.here = seat
+
+    def __enter__(self) -> Seat:
+        self.here.enter()
+        return self.here
+
+    __exit__ = _End(lambda self: types.MethodType(_leave_visit, self.here))

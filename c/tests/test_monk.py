@@ -1,27 +1,28 @@
-"""monk.py: every kind, seats that come back, exceptions inside a visit, interrupts, a run that hangs, many threads, threads that end
-inside, numbers out of range, the child of a fork.
+"""monk.py: every kind, seats that come back, exceptions inside a visit, a run that hangs, many threads, threads that end inside, numbers
+out of range, the child of a fork, looks at a run (looks.py) and interrupts (interrupts.py).
 
 MONK_LIBRARY names the library that is tried, and MONK the program that audits."""
 
 from __future__ import annotations
 
+import contextlib
 import gc
 import os
-import signal
 import subprocess
 import sys
-import tempfile
 import threading
 import time
 import unittest
-import unittest.mock
 import warnings
 
 HERE = os.path.dirname(os.path.abspath(__file__))
 sys.path.insert(0, os.path.join(os.path.dirname(HERE), "python"))
 
 import monk  # noqa: E402  (the folder is named first)
+from interrupts import Interrupts  # noqa: E402
+from looks import Looks, Programs  # noqa: E402
 
+__all__ = ["Interrupts", "Looks", "Programs"]
 AUTOMATIC = ("PIS", "NPIS")
 IMMEDIATE = ("PIR", "NPIR")
 NON_BLOCKING = ("PNB", "NPNB")
@@ -267,6 +268,39 @@ class Endings(unittest.TestCase):
                     monitor.here.finish(0)
                 self.assertRaises(monk.NotNow, monitor.release)
 
+    def test_a_way_out_without_a_release(self) -> None:
+        """The next visit wants a release of its own, and has no second one."""
+        for kind in monk.KINDS:
+            with self.subTest(kind):
+                monitor = made(kind)
+                monitor.acquire()
+                monitor.here.finish(0)
+                monitor.acquire()
+                monitor.release()
+                self.assertRaises(monk.NotNow, monitor.release)
+
+    def test_a_seat_that_is_given_back_and_taken_again(self) -> None:
+        """A `with` that is under way ends the visit of the thread's new seat."""
+        monitor = made("PB", seats=2)
+        with monitor:
+            monitor.give()
+            other = monitor.seat()
+            monitor.acquire()
+            self.assertEqual((monitor.here.number, other.number), (1, 0))
+        self.assertEqual(monitor.here.place, "outside")
+
+    def test_a_stack_of_exits(self) -> None:
+        monitor = made("PNB")
+        with contextlib.ExitStack() as stack:
+            for lock in (monitor, monitor.seat()):
+                stack.enter_context(lock)
+            self.assertEqual(monitor.here.place, "inside")
+        self.assertEqual(monitor.here.place, "outside")
+        with self.assertRaises(KeyError), contextlib.ExitStack() as stack:
+            stack.enter_context(monitor.condition())
+            raise KeyError
+        self.assertEqual(monitor.here.place, "outside")
+
     def test_a_release_after_a_stop(self) -> None:
         monitor = made("PB")
         monitor.acquire()
@@ -274,19 +308,6 @@ class Endings(unittest.TestCase):
         self.assertRaises(monk.Stopped, monitor.condition().wait)
         monitor.release()
         self.assertRaises(monk.NotNow, monitor.release)
-
-    def test_an_interrupt(self) -> None:
-        # a process in the background may have begun with this signal ignored
-        before = signal.signal(signal.SIGINT, signal.default_int_handler)
-        self.addCleanup(signal.signal, signal.SIGINT, before)
-        monitor = made("PB")
-        threading.Timer(0.2, signal.raise_signal, [signal.SIGINT]).start()
-        with self.assertRaises(KeyboardInterrupt):
-            with monitor:
-                monitor.condition().wait()
-        with monitor:
-            self.assertEqual(monitor.here.number, 1)
-            self.assertEqual(monitor.here.waiting(0), 1)
 
     def test_a_run_that_hangs(self) -> None:
         monitor, stopped = made("PNB", seats=3), []
@@ -318,30 +339,6 @@ class Endings(unittest.TestCase):
         self.assertTrue(second.await_(0.01))
         self.assertEqual(second.history().splitlines()[-1], "enter 1 handed")
         second.leave()
-
-
-class Programs(unittest.TestCase):
-    """What `monk` says: its status tells whether it failed, and not what it writes to standard error."""
-
-    def asked(self, script: str) -> str:
-        with tempfile.TemporaryDirectory() as room:
-            path = os.path.join(room, "monk")
-            with open(path, "w", encoding="ascii") as file:
-                file.write("#!/bin/sh\ncat >/dev/null\n" + script)
-            os.chmod(path, 0o755)
-            with unittest.mock.patch.dict(os.environ, {"MONK": path}):
-                return made("PB").audit()
-
-    def test_a_word_on_standard_error(self) -> None:
-        self.assertEqual(self.asked("echo legal 2; echo a hint >&2\n"), "legal 2\n")
-        self.assertEqual(self.asked("echo forbidden 1 3 turn; echo a hint >&2; exit 1\n"), "forbidden 1 3 turn\n")
-
-    def test_a_failure(self) -> None:
-        for script, words in (("echo memory >&2; exit 4\n", "memory"), ("echo unreadable 1 1 header; exit 2\n", "unreadable 1 1 header"),
-                              ("exit 3\n", "monk audit ended with status 3"), ("kill -9 $$\n", "monk audit ended with status -9")):
-            with self.subTest(words), self.assertRaises(monk.MonkError) as refused:
-                self.asked(script)
-            self.assertEqual(str(refused.exception), words)
 
 
 class Many(unittest.TestCase):
