@@ -98,66 +98,64 @@ static double now(void) {
     return (double)time.tv_sec + (double)time.tv_nsec / NS_A_SECOND;
 }
 
-static void *visit(void *unused) {
+static void visit(seat *s, long i) {
+    (void)i;
+    enter(s);
+    count++;
+    leave(s);
+}
+
+static void put(seat *s, long i) {
+    enter(s);
+    say(s);
+    while (filled == SIZE) pause_on(s, NOT_FULL);
+    buffer[(first + filled++) % SIZE] = i;
+    say(s);
+    finish(s, NOT_EMPTY);
+}
+
+static void get(seat *s, long i) {
+    (void)i;
+    enter(s);
+    say(s);
+    while (filled == 0) pause_on(s, NOT_EMPTY);
+    taken_sum += buffer[first];
+    first = (first + 1) % SIZE, filled--;
+    say(s);
+    finish(s, NOT_FULL);
+}
+
+/* What a thread does in each round, and when it began and ended by its own clock: another thread may come late to see it. */
+typedef struct {
+    void (*round)(seat *, long);
+    double began, ended;
+} job;
+
+static void *play(void *at) {
+    job *j = at;
     seat s;
     take(&s);
     pthread_barrier_wait(&line);
-    for (long i = 0; i < rounds; i++) {
-        enter(&s);
-        count++;
-        leave(&s);
-    }
+    j->began = now();
+    for (long i = 0; i < rounds; i++) j->round(&s, i);
+    j->ended = now();
     pthread_barrier_wait(&line);
     give(&s);
-    return unused;
+    return NULL;
 }
 
-static void *put(void *unused) {
-    seat s;
-    take(&s);
-    pthread_barrier_wait(&line);
-    for (long i = 0; i < rounds; i++) {
-        enter(&s);
-        say(&s);
-        while (filled == SIZE) pause_on(&s, NOT_FULL);
-        buffer[(first + filled++) % SIZE] = i;
-        say(&s);
-        finish(&s, NOT_EMPTY);
-    }
-    pthread_barrier_wait(&line);
-    give(&s);
-    return unused;
-}
-
-static void *get(void *unused) {
-    seat s;
-    take(&s);
-    pthread_barrier_wait(&line);
-    for (long i = 0; i < rounds; i++) {
-        enter(&s);
-        say(&s);
-        while (filled == 0) pause_on(&s, NOT_EMPTY);
-        taken_sum += buffer[first];
-        first = (first + 1) % SIZE, filled--;
-        say(&s);
-        finish(&s, NOT_FULL);
-    }
-    pthread_barrier_wait(&line);
-    give(&s);
-    return unused;
-}
-
-/* How many seconds the threads take, from the line on until the last is done. */
-static double timed(void *(*play[])(void *), unsigned threads) {
+/* How many seconds the threads take, from when the first begins until the last ends. */
+static double timed(job *jobs, unsigned threads) {
     pthread_t crew[MOST_THREADS];
-    pthread_barrier_init(&line, NULL, threads + 1);
-    for (unsigned i = 0; i < threads; i++) pthread_create(&crew[i], NULL, play[i], NULL);
-    pthread_barrier_wait(&line);
-    double began = now();
-    pthread_barrier_wait(&line);
-    double took = now() - began;
+    pthread_barrier_init(&line, NULL, threads);
+    for (unsigned i = 0; i < threads; i++) pthread_create(&crew[i], NULL, play, &jobs[i]);
     for (unsigned i = 0; i < threads; i++) pthread_join(crew[i], NULL);
-    return took;
+    double began = jobs[0].began, ended = jobs[0].ended;
+    for (unsigned i = 1; i < threads; i++) {
+        if (jobs[i].began < began) began = jobs[i].began;
+        if (jobs[i].ended > ended) ended = jobs[i].ended;
+    }
+    return ended - began;
 }
 
 /* That there is a second thread makes a mutex no cheaper than it is in a program that needs one. */
@@ -170,11 +168,7 @@ static double least_of(seat *s, long chunks) {
     double best = NS_A_SECOND;
     while (chunks-- > 0) {
         double began = now();
-        for (int i = 0; i < CHUNK; i++) {
-            enter(s);
-            count++;
-            leave(s);
-        }
+        for (int i = 0; i < CHUNK; i++) visit(s, i);
         double each = (now() - began) * NS_A_SECOND / CHUNK;
         if (each < best) best = each;
     }
@@ -200,10 +194,10 @@ static double least(unsigned monitors, unsigned abandoned, long chunks) {
 
 /* The nanoseconds of a visit, or the seconds of the buffer, by threads that meet. */
 static double contended(int is_buffer, const char *kind, unsigned threads) {
-    void *(*play[MOST_THREADS])(void *);
-    for (unsigned i = 0; i < threads; i++) play[i] = !is_buffer ? visit : i % 2 ? get : put;
+    job jobs[MOST_THREADS];
+    for (unsigned i = 0; i < threads; i++) jobs[i].round = !is_buffer ? visit : i % 2 ? get : put;
     make(kind, threads);
-    double took = timed(play, threads);
+    double took = timed(jobs, threads);
     end();
     return is_buffer ? took : took * NS_A_SECOND / ((double)rounds * threads);
 }
