@@ -156,7 +156,7 @@ static void flags(void) {
 /* A thread waits, and another stops the monitor. */
 static void *stopper(void *p) {
     (void)p;
-    nanosleep(&(struct timespec){0, 20000000}, NULL);
+    while (monk_place(a) != MONK_WAITING) nanosleep(&(struct timespec){0, 1000000}, NULL);
     IS(monk_leave(a), MONK_IN_USE);                /* a is in a wait of the main thread */
     IS(monk_stop(m), MONK_OK);
     return NULL;

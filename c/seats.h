@@ -1,0 +1,269 @@
+/* seats.h - what monk.c, calls.c and abandoned.c share: a monitor's seats and bells, its lock, and the frame of each call. It isn't
+ * for programs. */
+#ifndef MONK_SEATS_H
+#define MONK_SEATS_H
+#define _GNU_SOURCE
+#include "monk.h"
+#include "monk_kernel.h"
+#include <errno.h>
+#include <linux/futex.h>
+#include <stdatomic.h>
+#include <stdlib.h>
+#include <sys/eventfd.h>
+#include <sys/syscall.h>
+#include <time.h>
+#include <unistd.h>
+
+enum {
+    MOST_SEATS = 32,
+    MOST_CONDITIONS = 8,
+    MOST_FLAGS = 32,
+    MOST_BUDGET = 1 << 20,
+    USUAL_BUDGET = 65536,
+    BELLS = 2 * MOST_SEATS,     /* one for each word of a hall at which seats wait: 1 to 64 */
+    LINE = 64,                  /* bytes that processors pass on together */
+    SPINS = 1024,               /* as the hall spins: so many looks over the square of the number of seats */
+    PATIENCE_MS = 1000,
+    VISIT = 2,                  /* events that a visit wants: an enter and a leave */
+    NOBODY = 0,                 /* the word that was granted where none was */
+    NO_CONDITION = MOST_CONDITIONS,
+    NO_FILE = -1
+};
+
+/* ThreadSanitizer doesn't see the kernel's atomic words: it is told where one thread hands what it did to the next. These names are
+ * null in a program that is built without it. */
+void __tsan_acquire(void *at) __attribute__((weak));
+void __tsan_release(void *at) __attribute__((weak));
+
+static inline void see_what_was_shown(void *at) {
+    if (__tsan_acquire) __tsan_acquire(at);
+}
+
+static inline void show(void *at) {
+    if (__tsan_release) __tsan_release(at);
+}
+
+/* Whether somebody has a seat. A lending is the time for which somebody does, and each has a number. */
+typedef enum lent { FREE, TAKEN, ABANDONED, LENT_STATES } lent;
+
+typedef struct bell {
+    _Alignas(LINE) _Atomic uint32_t rings;
+    _Atomic int file;                   /* an eventfd by which an event loop waits for this bell, plus 1; else 0 */
+    _Atomic int is_minded;              /* the seat that waits here was abandoned: the library lets it come in, and leave */
+} bell;
+
+struct monk_seat {
+    _Alignas(LINE) monk_monitor *monitor;
+    monk_k_seat *token;
+    _Atomic int calling;                /* a call by this seat is under way */
+    _Atomic uint32_t lent;              /* LENT_STATES * lending + a lent; changed under the monitor's lock alone */
+    _Atomic int place;                  /* copies of what the token says, for any thread that asks */
+    _Atomic uint32_t left;
+    int wish;
+    unsigned waits_on;                  /* the condition on which it waits, or NO_CONDITION */
+    uint64_t dice;
+    bell *watched;                      /* at which an event loop waits for it */
+    int file;                           /* its eventfd, or NO_FILE */
+    uint32_t broadcasts;                /* how many there had been on its condition when the wait began */
+    bell *bell;                         /* at which it waits, if it was abandoned; changed as `lent` is */
+    int is_visitor;                     /* lent to the library itself, for a look at the history; changed as `lent` is */
+    unsigned number;
+};
+
+struct monk_monitor {
+    bell bells[BELLS];
+    int kind;
+    unsigned seat_count;
+    uint32_t bits;                              /* a copy of the flags, touched by the seat that is inside */
+    uint32_t broadcasts[MOST_CONDITIONS];       /* how many there were on each condition, touched as `bits` is */
+    _Atomic int stopped, closed;
+    _Atomic uint32_t lock;                      /* of lending, and of abandoned seats: a release takes it if it lets one of them in */
+    monk_seat *reader;                          /* the seat that closed it, through which the history is read */
+    void *room;                                 /* the tokens' */
+    monk_k_seat tokens[MOST_SEATS];
+    struct monk_seat seats[MOST_SEATS];
+};
+
+/* ---- Bells: where threads sleep */
+
+static inline void futex_wake(_Atomic uint32_t *at, int most) {
+    syscall(SYS_futex, at, FUTEX_WAKE_PRIVATE, most, NULL, NULL, 0);
+}
+
+/* Sleeps if the number is still what was seen; until then at most, where there is a limit. 0 if the time is over. */
+static inline int sleep_on(_Atomic uint32_t *at, uint32_t seen, const struct timespec *limit) {
+    long slept = syscall(SYS_futex, at, FUTEX_WAIT_BITSET_PRIVATE, seen, limit, NULL, FUTEX_BITSET_MATCH_ANY);
+    return slept == 0 || errno != ETIMEDOUT;
+}
+
+/* The bell of a word: each has one of its own, since words count from 1 and there are two for each seat. */
+static inline bell *bell_of(monk_monitor *m, size_t word) { return &m->bells[(word - 1) % BELLS]; }
+
+/* Rings for so many threads that sleep there at most, and for an event loop. (In the C library's write a thread could be cancelled.) */
+static inline void ring_for(bell *b, int most) {
+    atomic_fetch_add(&b->rings, 1);
+    futex_wake(&b->rings, most);
+    int file = atomic_load(&b->file) - 1;
+    if (file != NO_FILE) syscall(SYS_write, file, &(uint64_t){1}, sizeof(uint64_t));
+}
+
+/* Wakes whoever waits for that word. The kernel has granted it before. */
+static inline bell *ring(monk_monitor *m, size_t word) {
+    bell *b = bell_of(m, word);
+    ring_for(b, 1);
+    return b;
+}
+
+static inline void pause_processor(void) {
+#if defined __x86_64__ || defined __i386__
+    __builtin_ia32_pause();
+#endif
+}
+
+/* Looks at the bell for a while before its thread sleeps. */
+static inline int rings_soon(bell *b, uint32_t seen, unsigned seats) {
+    for (unsigned looks = SPINS / (seats * seats) + 1; looks > 0; looks--) {
+        if (atomic_load_explicit(&b->rings, memory_order_relaxed) != seen) return 1;
+        pause_processor();
+    }
+    return 0;
+}
+
+/* ---- The monitor's lock. It isn't a mutex of the system's, since a program may have something in place of pthread_mutex_lock that
+   records the program's own locks. */
+
+enum { OPEN, LOCKED, WANTED };
+
+static inline void lock(monk_monitor *m) {
+    uint32_t was = OPEN;
+    if (!atomic_compare_exchange_strong(&m->lock, &was, LOCKED))
+        while (atomic_exchange(&m->lock, WANTED) != OPEN) sleep_on(&m->lock, WANTED, NULL);
+    see_what_was_shown(&m->lock);
+}
+
+/* Behind this the monitor may be freed: the wake goes by the address alone. */
+static inline void unlock(monk_monitor *m) {
+    show(&m->lock);
+    if (atomic_exchange(&m->lock, OPEN) == WANTED) futex_wake(&m->lock, 1);
+}
+
+/* ---- Handles: what the program has of a seat. Below is the seat's address, and above the number of the lending, so that a handle that
+   was given back isn't that of the next owner. (Addresses of programs leave these bits 0.) */
+
+enum { ADDRESS_BITS = 48, LENDINGS = 1 << 16 };
+_Static_assert(sizeof(void *) == sizeof(uint64_t), "a handle has room for a lending");
+
+static inline monk_seat *seat_of(const monk_seat *handle) {
+    return (monk_seat *)((uintptr_t)handle & (((uintptr_t)1 << ADDRESS_BITS) - 1));
+}
+
+static inline monk_seat *handle_of(monk_seat *s, uint32_t lending) { return (monk_seat *)((uintptr_t)s | (uintptr_t)lending << ADDRESS_BITS); }
+
+static inline lent lent_of(monk_seat *s) { return (lent)(atomic_load(&s->lent) % LENT_STATES); }
+
+/* Under the lock. */
+static inline void set_lent(monk_seat *s, lent how) {
+    atomic_store(&s->lent, atomic_load(&s->lent) / LENT_STATES * LENT_STATES + how);
+}
+
+/* Begins a lending: its handle. Under the lock. */
+static inline monk_seat *lent_anew(monk_seat *s) {
+    uint32_t lending = (atomic_load(&s->lent) / LENT_STATES + 1) % LENDINGS;
+    atomic_store(&s->lent, lending * LENT_STATES + TAKEN);
+    return handle_of(s, lending);
+}
+
+/* Whether the program has the seat by this handle. */
+static inline int is_had_by(const monk_seat *handle) {
+    return atomic_load(&seat_of(handle)->lent) == (uint32_t)((uintptr_t)handle >> ADDRESS_BITS) * LENT_STATES + TAKEN;
+}
+
+/* ---- The frame of each call */
+
+/* Why no call may be made by this handle, if it may not: MONK_CLOSED or MONK_NOT_NOW, else MONK_OK. */
+static inline int refused_to(const monk_seat *handle) {
+    return atomic_load(&seat_of(handle)->monitor->closed) ? MONK_CLOSED : is_had_by(handle) ? MONK_OK : MONK_NOT_NOW;
+}
+
+/* What a call by the handle *s finds before the kernel is asked; *s is the seat then. Where it answers MONK_OK the call is under way,
+ * until `end`. A handle that was given back is refused before the seat is touched, so that a call of its owner isn't MONK_IN_USE. */
+static inline int begin(monk_seat **s) {
+    monk_seat *handle = *s;
+    if (!handle) return MONK_RANGE;
+    *s = seat_of(handle);
+    if (!is_had_by(handle)) return refused_to(handle);
+    if (atomic_exchange(&(*s)->calling, 1)) return MONK_IN_USE;
+    int answer = refused_to(handle);
+    if (answer) atomic_store(&(*s)->calling, 0);
+    return answer;
+}
+
+static inline int end(monk_seat *s, int answer) {
+    atomic_store_explicit(&s->calling, 0, memory_order_release);
+    return answer;
+}
+
+/* Notes where the seat stands after a call that the kernel took, and that so many events were recorded. */
+static inline int noted(monk_seat *s, int answer, uint32_t recorded) {
+    if (answer < 0) return answer;
+    uint32_t left = atomic_load_explicit(&s->left, memory_order_relaxed);
+    atomic_store_explicit(&s->place, answer, memory_order_relaxed);
+    atomic_store_explicit(&s->left, left - recorded, memory_order_relaxed);
+    return answer;
+}
+
+static inline int place_of(const monk_seat *s) { return atomic_load_explicit(&s->place, memory_order_relaxed); }
+
+/* Of a call that doesn't wait: its place becomes MONK_OK. */
+static inline int done(int answer) { return answer > 0 ? MONK_OK : answer; }
+
+static inline uint8_t byte_of(unsigned number) { return number < UINT8_MAX ? (uint8_t)number : UINT8_MAX; }
+
+static inline uint8_t wish_of(monk_seat *s) {
+    if (s->wish != MONK_ANY) return (uint8_t)s->wish;
+    s->dice ^= s->dice << 13, s->dice ^= s->dice >> 7, s->dice ^= s->dice << 17;
+    return (uint8_t)((s->dice >> 32) % MONK_ANY);
+}
+
+/* From now on whoever grants the word of that waiting seat looks after it. Under the lock. */
+static inline void mind(monk_seat *s) {
+    s->bell = bell_of(s->monitor, monk_k_word(s->token));
+    atomic_store(&s->bell->is_minded, 1);
+}
+
+/* The seat is nobody's any more. Under the lock. */
+static inline void set_free(monk_seat *s) {
+    if (s->bell) atomic_store(&s->bell->is_minded, 0);
+    s->bell = NULL;
+    set_lent(s, FREE);
+}
+
+/* ---- What follows a release */
+
+/* Lets seats that were abandoned come in if it is their turn. Under the lock. */
+void settle_abandoned(monk_monitor *m);
+
+/* Wakes whoever was let in, or settles that seat if it was abandoned. Who abandons a seat marks its bell first and then polls; who
+ * releases grants first and then reads the mark: so one of the two sees the grant. */
+static inline void let_in(monk_monitor *m, size_t word) {
+    if (word == NOBODY || !atomic_load(&ring(m, word)->is_minded)) return;
+    lock(m);
+    settle_abandoned(m);
+    unlock(m);
+}
+
+/* What follows a release. */
+static inline int handed_on(monk_seat *s, int answer, size_t word) {
+    if (answer < 0) return answer;
+    noted(s, answer, 1);
+    let_in(s->monitor, word);
+    return answer;
+}
+
+/* No event loop waits for this seat any more. */
+static inline void unwatch(monk_seat *s) {
+    if (s->watched) atomic_store(&s->watched->file, 0);
+    s->watched = NULL;
+}
+
+#endif
