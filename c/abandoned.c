@@ -8,7 +8,7 @@ static int was_signalled(const monk_seat *s) {
 
 /* Signals the condition on which an abandoned seat waited, if anybody else waits there. It may be waiting behind this, or have left. */
 static int pass_on(monk_seat *s, size_t *word) {
-    uint8_t condition = byte_of(s->waits_on);
+    uint8_t condition = s->waits_on;
     if (monk_k_waiting(s->token, condition) <= 0) return MONK_INSIDE;
     int leaves = monk_mode_of(s->monitor->kind) == MONK_IMMEDIATE_RETURN;
     return (leaves ? monk_k_signal_leave : monk_k_start_signal)(s->token, condition, MONK_WAITER, word);
@@ -25,7 +25,7 @@ static void go_on_and_out(monk_seat *s) {
     int answer = signalled ? pass_on(s, &word) : MONK_INSIDE;
     s->waits_on = NO_CONDITION;
     if (answer == MONK_INSIDE || answer < 0) answer = monk_k_leave(s->token, MONK_WAITER, &word);
-    atomic_store(&s->place, answer);
+    atomic_store(&s->place, (int8_t)answer);
     atomic_store(&s->left, monk_k_left(s->token));
     if (word != NOBODY) ring(m, word);
     if (answer == MONK_WAITING) mind(s);

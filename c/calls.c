@@ -35,7 +35,7 @@ static uint32_t broadcasts_on(const monk_seat *s, unsigned condition) {
 
 /* What follows a wait on a condition. */
 static int waits_on(monk_seat *s, unsigned condition, uint32_t broadcasts, int answer, size_t word) {
-    if (answer == MONK_WAITING) s->waits_on = condition, s->broadcasts = broadcasts;
+    if (answer == MONK_WAITING) s->waits_on = byte_of(condition), s->broadcasts = broadcasts;
     return handed_on(s, answer, word);
 }
 

@@ -42,7 +42,7 @@ static int lend(monk_monitor *m, int is_visitor, monk_seat **seat) {
         if (s) answer = MONK_OK;
         else s = spare_seat(m, is_visitor, &answer);
         if (s) {
-            s->wish = MONK_WAITER, s->is_visitor = is_visitor;
+            s->wish = MONK_WAITER, s->is_visitor = (uint8_t)is_visitor;
             *seat = lent_anew(s);
         }
     }
@@ -94,7 +94,7 @@ int monk_set_wish(monk_seat *s, int wish) {
     int r = begin(&s);
     if (r) return r;
     if (wish < MONK_ENTRY || wish > MONK_ANY) return end(s, MONK_RANGE);
-    s->wish = wish;
+    s->wish = (uint8_t)wish;
     return end(s, MONK_OK);
 }
 
@@ -115,7 +115,7 @@ static uint64_t dice_of(uint64_t seed, unsigned number) {
 static void set_up(monk_monitor *m, const monk_shape *shape, uint32_t budget) {
     for (unsigned i = 0; i < shape->seats; i++) {
         monk_seat *s = &m->seats[i];
-        s->monitor = m, s->token = &m->tokens[i], s->number = i, s->wish = MONK_WAITER, s->dice = dice_of(shape->seed, i);
+        s->monitor = m, s->token = &m->tokens[i], s->number = (uint8_t)i, s->wish = MONK_WAITER, s->dice = dice_of(shape->seed, i);
         s->waits_on = NO_CONDITION, s->file = NO_FILE;
         s->place = MONK_OUTSIDE;
         s->left = budget;

@@ -55,20 +55,20 @@ typedef struct bell {
 struct monk_seat {
     _Alignas(LINE) monk_monitor *monitor;
     monk_k_seat *token;
-    _Atomic int calling;                /* a call by this seat is under way */
-    _Atomic uint32_t lent;              /* LENT_STATES * lending + a lent; changed under the monitor's lock alone */
-    _Atomic int place;                  /* copies of what the token says, for any thread that asks */
-    _Atomic uint32_t left;
-    int wish;
-    unsigned waits_on;                  /* the condition on which it waits, or NO_CONDITION */
     uint64_t dice;
     bell *watched;                      /* at which an event loop waits for it */
-    int file;                           /* its eventfd, or NO_FILE */
-    uint32_t broadcasts;                /* how many there had been on its condition when the wait began */
     bell *bell;                         /* at which it waits, if it was abandoned; changed as `lent` is */
-    int is_visitor;                     /* lent to the library itself, for a look at the history; changed as `lent` is */
-    unsigned number;
+    _Atomic uint32_t lent;              /* LENT_STATES * lending + a lent; changed under the monitor's lock alone */
+    _Atomic uint32_t left;              /* this and the place are copies of what the token says, for any thread that asks */
+    uint32_t broadcasts;                /* how many there had been on its condition when the wait began */
+    int file;                           /* its eventfd, or NO_FILE */
+    _Atomic uint8_t calling;            /* a call by this seat is under way */
+    _Atomic int8_t place;
+    uint8_t wish, number;
+    uint8_t waits_on;                   /* the condition on which it waits, or NO_CONDITION */
+    uint8_t is_visitor;                 /* lent to the library itself, for a look at the history; changed as `lent` is */
 };
+_Static_assert(sizeof(struct monk_seat) == LINE, "a seat has a line of its own, and no more");
 
 struct monk_monitor {
     bell bells[BELLS];
@@ -207,7 +207,7 @@ static inline int end(monk_seat *s, int answer) {
 static inline int noted(monk_seat *s, int answer, uint32_t recorded) {
     if (answer < 0) return answer;
     uint32_t left = atomic_load_explicit(&s->left, memory_order_relaxed);
-    atomic_store_explicit(&s->place, answer, memory_order_relaxed);
+    atomic_store_explicit(&s->place, (int8_t)answer, memory_order_relaxed);
     atomic_store_explicit(&s->left, left - recorded, memory_order_relaxed);
     return answer;
 }
@@ -220,7 +220,7 @@ static inline int done(int answer) { return answer > 0 ? MONK_OK : answer; }
 static inline uint8_t byte_of(unsigned number) { return number < UINT8_MAX ? (uint8_t)number : UINT8_MAX; }
 
 static inline uint8_t wish_of(monk_seat *s) {
-    if (s->wish != MONK_ANY) return (uint8_t)s->wish;
+    if (s->wish != MONK_ANY) return s->wish;
     s->dice ^= s->dice << 13, s->dice ^= s->dice >> 7, s->dice ^= s->dice << 17;
     return (uint8_t)((s->dice >> 32) % MONK_ANY);
 }
