@@ -1,4 +1,6 @@
-"""Whether wrong bodies compile: whether each name in them is known, and each type fits. Nothing is proved."""
+"""Whether wrong bodies compile, those of must-fail/ too: whether each name in them is known, and each type fits. Nothing is proved."""
+import collections
+import glob
 import os
 import re
 import shutil
@@ -7,14 +9,25 @@ import tempfile
 
 # No function has this name, so a check stops before any proof.
 NO_FUNCTION = ["--jobs", "1", "--start", "no function"]
-ERROR = re.compile(r"^(\S*?)([^/\s]+)/(src/\S+\.rt):(\d+):\d+: (error\b.*)$", re.M)
+ERROR = re.compile(r"^(?:\S*?([^/\s]+)/)?(src/\S+\.rt):(\d+):\d+: (error\b.*)$", re.M)
+
+
+def edits_of(top, is_asked):
+    """By crate, the files of the wrong bodies that are asked for."""
+    found = collections.defaultdict(list)
+    for folder in ("wrong-bodies", "must-fail"):
+        for file in sorted(glob.glob(f"{top}/crates/*/{folder}/*.edit")):
+            name = file.split("/")[-3]
+            found[name] += [file] if is_asked(name, file) else []
+    return found
 
 
 def put_into(folder, rt, edits):
     """Puts as many of the wrong bodies into the crate's folder as can stand there side by side, and gives the others."""
     left = []
     for edit in edits:
-        texts, why = rt.edited(edit.text, folder)
+        with open(edit, encoding="utf-8") as it:
+            texts, why = rt.edited(it.read(), folder)
         for path, text in (texts or {}).items():
             with open(f"{folder}/{path}", "w", encoding="utf-8") as it:
                 it.write(text)
@@ -43,17 +56,17 @@ def errors_of(rt, room, names):
     for crate in few_that_read(rt.rtlib.crates_below(room), names):
         words = [rt.rtlib.RATTLE, "check", *crate.words(NO_FUNCTION, keeps=False, as_source=True)]
         ran = subprocess.run(words, cwd=crate.folder, stdin=subprocess.DEVNULL, capture_output=True, text=True, errors="replace")
-        if "no function" not in ran.stderr + ran.stdout and not ERROR.search(ran.stderr + ran.stdout):
-            found.add((crate.name, "src", 0, f"the compiler says nothing of it: {ran.stderr[-200:]}"))
-        for _, name, path, line, error in ERROR.findall(ran.stderr + ran.stdout):
-            found.add((name, path, int(line), error))
+        errors = ERROR.findall(ran.stderr)
+        if not errors and NO_FUNCTION[-1] not in ran.stderr:
+            errors = [("", "src", 0, f"the compiler ended with {ran.stderr[-200:]}")]
+        found.update((name or crate.name, path, int(line), error) for name, path, line, error in errors)
     return sorted(found)
 
 
-def not_compiled(rt, top, edits):
+def not_compiled(rt, top, is_asked):
     """The wrong bodies that don't compile, by crate, with what the compiler says. They are tried side by side, in as few copies of
     the repository as hold them."""
-    waiting, told = {name: list(all_) for name, all_ in edits.items()}, []
+    waiting, told = edits_of(top, is_asked), []
     while any(waiting.values()):
         with tempfile.TemporaryDirectory(prefix="wrong-bodies-") as room:
             shutil.copytree(f"{top}/crates", f"{room}/crates", ignore=shutil.ignore_patterns("out"))
@@ -63,5 +76,5 @@ def not_compiled(rt, top, edits):
             waiting = {name: put_into(f"{room}/crates/{name}", rt, all_) for name, all_ in tried.items()}
             told += [f"{name}/{path}:{line}: {error}" for name, path, line, error in errors_of(rt, room, tried)]
         if tried == waiting:
-            return told + [f"{name}/{it.name}: it can't be put in" for name, all_ in waiting.items() for it in all_]
+            return told + [f"{it}: it can't be put in" for all_ in waiting.values() for it in all_]
     return told
