@@ -1,0 +1,69 @@
+-- The answer to a log
+use Rattle.std.specs.Prelude.{◌≡◌, ◌==◌, ◌^◌, ℕ, Bool, List, ◌++◌, Option, MatchOption, Result, Ok, Err, codes}
+use Rattle.std.specs.List.{list_any, starts_with}
+use Rattle.std.specs.Str.{bytes_eq}
+use Rattle.monk_kinds.specs.declared.name.KindName.{KindName}
+use Rattle.monk_history.specs.Text.Lines.{lines_of}
+use Rattle.monk_history.specs.declared.text.fault.ReadFault.{ReadFault}
+use Rattle.monk_judge.specs.declared.waits_for.WaitsFor.{WaitsFor}
+use Rattle.monk_logs.specs.Log.{LogHeading}
+use Rattle.monk_logs.specs.Log.Reading.{Log, log_at}
+use Rattle.monk_logs.specs.declared.text.line.LogLine.{LogLine}
+use Rattle.monk_commands.specs.Answer.{unreadable}
+use Rattle.monk_commands.specs.LogFound.{IsFinding, finding_line, finding_status}
+use Rattle.monk_commands.specs.LogRefused.{refusal_line, refusal_of}
+use Rattle.monk_commands.specs.declared.logs.finding.Finding.{Finding}
+use Rattle.monk_commands.specs.declared.logs.refusal.LogRefusal.{LogRefusal}
+use Rattle.monk_commands.specs.declared.logs.view.LogView.{LogView}
+use Rattle.monk_commands.specs.declared.logs.view.LogView.TheVariants.{Line, Json, Explanation}
+use Rattle.monk_commands.specs.declared.question.Question.{Question}
+
+-- a text whose first word is that of a log
+abbrev pub is_log_text : List ℕ → Bool
+is_log_text input = starts_with (λ (a b : ℕ). a == b) input (codes "log ")
+
+-- whether a line of the file beside a log says that its program ended by itself
+abbrev pub has_ended : List ℕ → Bool
+has_ended beside = list_any (λ l. bytes_eq l (codes "ended by itself")) (lines_of beside)
+
+-- a text begins with that one
+pub record BeginsWith (front text : List ℕ) : Type 0 where
+  pub rest : List ℕ
+  pub is : text ≡ front ++ rest
+
+-- the text tells the finding: as its line, or as sentences behind its line; of the form for other programs nothing is said
+abbrev pub Tells : LogView → Finding → List ℕ → Type 0
+Tells Line f text = text ≡ finding_line f
+Tells Json f text = Unit {0}
+Tells Explanation f text = BeginsWith (finding_line f) text
+
+-- a finding of the log is told, with its status
+pub record IsJudged (view : LogView) (means : List WaitsFor) (ended : Bool) (h : LogHeading) (lines : List LogLine)
+    (status : ℕ) (Puts : List ℕ → Type 0) : Type 0 where
+  pub finding : Finding
+  pub found : IsFinding means ended h lines finding
+  pub status_is : status ≡ finding_status finding
+  pub text : List ℕ
+  pub tells : Tells view finding text
+  pub puts : Puts text
+
+-- it is refused
+abbrev pub IsRefused : LogRefusal → ℕ → (List ℕ → Type 0) → Type 0
+IsRefused r status Puts = (status ≡ 2) × Puts (refusal_line r)
+
+-- the answer to a log that was read
+abbrev pub IsLogAnswer : LogView → Option KindName → List WaitsFor → Bool → LogHeading → List LogLine → ℕ
+    → (List ℕ → Type 0) → Type 0
+IsLogAnswer view k means ended h lines status Puts =
+    MatchOption (refusal_of k means h lines) (IsJudged view means ended h lines status Puts)
+    (λ r. IsRefused r status Puts)
+
+-- the answer to what was read as a log
+abbrev pub IsLogReading : LogView → Question → Result Log ReadFault → ℕ → (List ℕ → Type 0) → Type 0
+IsLogReading view q (Ok l) status Puts =
+    IsLogAnswer view q.kind q.means.now (has_ended q.beside.now) l.0 l.1 status Puts
+IsLogReading view q (Err f) status Puts = (status ≡ 2) × Puts (unreadable f).text
+
+-- the answer to the text of a log
+abbrev pub IsAnswerToLog : LogView → Question → List ℕ → ℕ → (List ℕ → Type 0) → Type 0
+IsAnswerToLog view q input status Puts = IsLogReading view q (log_at (2 ^ 25) input) status Puts

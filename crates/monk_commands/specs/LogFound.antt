@@ -1,0 +1,192 @@
+-- What is said of a judged log, in one line
+use Rattle.std.specs.Prelude.{◌≡◌, ℕ, ◌+◌, ◌==◌, ◌&&◌, ◌||◌, Bool, true, false, not, List, [], ◌++◌, codes, slice_get, if◌then◌else◌}
+use Rattle.std.specs.Prelude.{Option, Some, None, is_some, nat_lt, nat_le, option_map, min, ◌^◌, ◌-◌}
+use Rattle.std.specs.Fmt.{decimal}
+use Rattle.monk_object.specs.Names.{meaning_named, opening_named}
+use Rattle.monk_logs.specs.Crossed.{crossed_of}
+use Rattle.monk_logs.specs.Expiry.{line_seat}
+use Rattle.monk_logs.specs.Log.{LogHeading}
+use Rattle.monk_logs.specs.declared.crossed.Crossed.{Crossed}
+use Rattle.monk_logs.specs.declared.text.line.LogLine.{LogLine}
+use Rattle.monk_judge.specs.Blame.{blame_word}
+use Rattle.monk_judge.specs.Reports.{IsReport}
+use Rattle.monk_judge.specs.Run.{setting}
+use Rattle.monk_judge.specs.declared.blame.Blame.{Blame}
+use Rattle.monk_judge.specs.declared.blame.Blame.TheVariants.{Range, Call, Held, NoLock, Asleep, Awake, Reply}
+use Rattle.monk_judge.specs.declared.holder.Holder.{Holder}
+use Rattle.monk_judge.specs.declared.misfit.Misfit.{Misfit}
+use Rattle.monk_judge.specs.declared.report.Report.{Report}
+use Rattle.monk_judge.specs.declared.tally.Tally.{Tally}
+use Rattle.monk_judge.specs.declared.waits_for.WaitsFor.{WaitsFor}
+use Rattle.monk_commands.specs.declared.logs.finding.Finding.{Finding}
+
+-- ---- the value
+
+-- the seat of the line that misfits; 0 if none does
+abbrev pub wrong_seat : Option Misfit → List LogLine → ℕ
+wrong_seat None lines = 0
+wrong_seat (Some f) lines = seat_or_0 (option_map line_seat (slice_get lines f.line))
+  where
+    seat_or_0 : Option ℕ → ℕ
+    seat_or_0 None = 0
+    seat_or_0 (Some s) = s
+
+-- it is found of the log of a program that has ended by itself or hasn't
+pub record IsFinding (means : List WaitsFor) (ended : Bool) (h : LogHeading) (lines : List LogLine)
+    (f : Finding) : Type 0 where
+  pub report :
+      IsReport (setting h.seats h.conds (meaning_named h.object)) (opening_named h.object h.size) means lines f.report
+  pub crossed : f.crossed ≡ crossed_of lines
+  pub seats : f.seats ≡ h.seats
+  pub wrong : f.wrong_seat ≡ wrong_seat f.report.misfit lines
+  pub ended : f.has_ended ≡ ended
+
+-- ---- the status
+
+-- whether somebody holds the lock at the end of a program that didn't end by itself
+abbrev pub is_busy : Bool → Option Holder → Bool
+is_busy ended holder = is_some holder && not ended
+
+-- 1 if the log misfits, if a signal is missed, or if the program is busy at its end
+abbrev pub finding_status : Finding → ℕ
+finding_status f =
+    if is_some f.report.misfit || is_some f.report.missed || is_busy f.has_ended f.report.holder then 1 else 0
+
+-- ---- the words
+
+-- the number in the file of the line with that index behind the header, as far as numbers reach
+abbrev pub number : ℕ → ℕ
+number index = min (index + 2) (2 ^ 64 - 1)
+
+-- what stands behind the number of spurious wake-ups
+abbrev pub wake_up_words : ℕ → List ℕ
+wake_up_words n = if n == 1 then codes " spurious wake-up" else codes " spurious wake-ups"
+
+-- so many spurious wake-ups, of which that is the first
+abbrev pub wake_ups : ℕ → ℕ → List ℕ
+wake_ups n k = decimal n ++ (wake_up_words n ++ (codes ", first at " ++ decimal (number k)))
+
+-- a log that fits
+abbrev pub fitting_words : ℕ → Option ℕ → List ℕ
+fitting_words n None = codes "fits"
+fitting_words n (Some k) = codes "fits with " ++ wake_ups n k
+
+-- that a seat takes the lock which another holds
+abbrev pub held_words : ℕ → Option Holder → List ℕ
+held_words s None = codes "seat " ++ (decimal s ++ codes " takes the lock that another seat holds")
+held_words s (Some h) =
+    codes "seat " ++ (decimal s ++ (codes " takes the lock, but seat " ++ (decimal h.seat
+    ++ (codes " holds it since " ++ decimal (number h.since)))))
+
+-- a sentence about a seat
+abbrev pub about : ℕ → List ℕ → List ℕ
+about s words = codes "seat " ++ (decimal s ++ words)
+
+-- what is wrong with a line of that seat
+abbrev pub blame_words : Blame → ℕ → Option Holder → List ℕ
+blame_words Range s holder = codes "the header has no such seat, condition or code"
+blame_words Call s holder = codes "until is no call of a mutex"
+blame_words Held s holder = held_words s holder
+blame_words NoLock s holder = about s (codes " does this without the lock")
+blame_words Asleep s holder = about s (codes " comes in, but it has not come back from its wait")
+blame_words Awake s holder = about s (codes " comes back, but it does not wait")
+blame_words Reply s holder = about s (codes " relied on what no longer held")
+
+-- a log that misfits
+abbrev pub misfit_words : Misfit → ℕ → Option Holder → List ℕ
+misfit_words f s holder =
+    codes "misfit at " ++ (decimal (number f.line) ++ (codes ": " ++ (blame_word f.why
+    ++ (codes ", " ++ blame_words f.why s holder))))
+
+-- whether it fits
+abbrev pub verdict_words : Option Misfit → Finding → List ℕ
+verdict_words None f = fitting_words f.report.tally.spurious f.report.tally.first_spurious
+verdict_words (Some wrong) f = misfit_words wrong f.wrong_seat f.report.holder
+
+-- how it is told that somebody holds the lock
+abbrev pub busy_front : Bool → List ℕ
+busy_front ended = if ended then codes "; busy at the end" else codes "; busy"
+
+-- who holds the lock at the end
+abbrev pub busy_words : Bool → Holder → List ℕ
+busy_words ended h =
+    busy_front ended
+    ++ (codes ", seat " ++ (decimal h.seat ++ (codes " holds the lock since " ++ decimal (number h.since))))
+
+-- so many sleep
+abbrev pub sleep_words : ℕ → List ℕ
+sleep_words n = if n == 1 then codes " sleeps" else codes " sleep"
+
+-- how a log of so many seats ends in which nobody holds the lock, by how many sleep and how many were woken
+abbrev pub idle_words : ℕ → ℕ → ℕ → List ℕ
+idle_words seats asleep woken =
+    if nat_lt 0 woken then codes "; owed, " ++ (decimal woken ++ codes " woken and not back")
+    else if asleep == 0 then codes "; free"
+    else if asleep == seats then codes "; dead, all " ++ (decimal asleep ++ codes " sleep")
+    else codes "; open, " ++ (decimal asleep ++ sleep_words asleep)
+
+-- how the program ends
+abbrev pub end_words : Option Holder → Finding → List ℕ
+end_words None f = idle_words f.seats f.report.asleep f.report.woken
+end_words (Some h) f = busy_words f.has_ended h
+
+-- the end of a log that fits
+abbrev pub ending_words : Option Misfit → Finding → List ℕ
+ending_words None f = end_words f.report.holder f
+ending_words (Some wrong) f = []
+
+-- the spurious wake-ups before a misfit
+abbrev pub spurious_words : Option Misfit → ℕ → Option ℕ → List ℕ
+spurious_words None n first = []
+spurious_words (Some wrong) n None = []
+spurious_words (Some wrong) n (Some k) = codes "; " ++ wake_ups n k
+
+-- a number behind a word, if it isn't 0
+abbrev pub counted : List ℕ → ℕ → List ℕ
+counted word n = if n == 0 then [] else word ++ decimal n
+
+-- the number of a line behind a word, if there is one
+abbrev pub placed : List ℕ → Option ℕ → List ℕ
+placed word None = []
+placed word (Some k) = word ++ decimal (number k)
+
+-- the seats that a signal crossed on their way to sleep, and the last of these signals, which counts from 1 behind the header
+abbrev pub crossed_words : Option Crossed → List ℕ
+crossed_words None = []
+crossed_words (Some c) =
+    codes "; crossed " ++ (decimal c.seats ++ (codes " at " ++ decimal (min (c.line + 1) (2 ^ 64 - 1))))
+
+-- how many threads have to be overtaken before something is said of it
+abbrev pub enough_overtaken : ℕ
+enough_overtaken = 8
+
+-- that of the threads that were overtaken on their way back none waited again
+abbrev pub never_words : ℕ → ℕ → Option ℕ → List ℕ
+never_words overtaken again None = []
+never_words overtaken again (Some k) =
+    if again == 0 && nat_le enough_overtaken overtaken
+    then codes "; never waits again (0 of " ++ (decimal overtaken ++ (codes " overtaken), first at "
+    ++ decimal (number k)))
+    else []
+
+-- what is counted of signals
+abbrev pub tally_words : Tally → List ℕ
+tally_words t =
+    counted (codes "; served ") t.served ++ (counted (codes "; passed ") t.passed
+    ++ (counted (codes "; unheard ") t.unheard ++ placed (codes ", last at ") t.last_unheard))
+
+-- what was found beside
+abbrev pub remark_words : Finding → List ℕ
+remark_words f =
+    placed (codes "; missed at ") f.report.missed ++ (crossed_words f.crossed
+    ++ never_words f.report.tally.overtaken f.report.tally.again f.report.tally.first_not_again)
+
+-- whether it fits and how it ends
+abbrev pub front_words : Finding → List ℕ
+front_words f =
+    verdict_words f.report.misfit f ++ (ending_words f.report.misfit f
+    ++ spurious_words f.report.misfit f.report.tally.spurious f.report.tally.first_spurious)
+
+-- the line of a finding
+abbrev pub finding_line : Finding → List ℕ
+finding_line f = front_words f ++ (tally_words f.report.tally ++ (remark_words f ++ codes "\n"))

@@ -1,0 +1,145 @@
+//! The answer to a log.
+
+ghost use Rattle.std.specs.Prelude.{◌≡◌, ◌≤◌, ◌^◌, IfOk, IsErrOf, length, string_bytes};
+ghost use Rattle.monk_object.specs.Names.{most};
+ghost use Rattle.monk_commands.specs.LogAnswered as answered;
+ghost use Rattle.monk_commands.specs.LogFound as found;
+ghost use Rattle.monk_commands.specs.LogFound.{IsFinding};
+
+use crate::answer::unreadable;
+use crate::fault::StreamFault;
+use crate::lines_answer::LinesAnswer;
+use crate::logs::beside::has_ended;
+use crate::logs::explanation::explanation;
+use crate::logs::finding::Finding;
+use crate::logs::finding_json::finding_json;
+use crate::logs::finding_line::finding_line;
+use crate::logs::judging::report;
+use crate::logs::refusal::LogRefusal;
+use crate::logs::view::LogView;
+use crate::question::Question;
+use monk_judge::{Misfit, WaitsFor};
+use monk_logs::{LogHeader, LogLine, find_crossed, read_log};
+use std::alloc::{AllocError, Global};
+
+/// Whether the first word of the text is that of a log.
+pub(crate) fn is_log(bytes: &[u8]) -> bool
+    ensures { result ≡ answered.is_log_text bytes.now }
+{
+    bytes.starts_with(b"log ")
+}
+
+/// The seat of the line that misfits; 0 if none does.
+fn wrong_seat(misfit: Option<Misfit>, lines: &[LogLine]) -> u8
+    ensures { result ≡ found.wrong_seat misfit lines.now }
+{
+    match misfit {
+        Some(misfit) => match lines.get(misfit.line) {
+            Some(line) => line.seat(),
+            None => 0,
+        },
+        None => 0,
+    }
+}
+
+/// What is found of a log.
+fn finding(
+    alloc: Global,
+    means: &[WaitsFor],
+    has_ended: bool,
+    header: &LogHeader,
+    lines: &[LogLine],
+) -> Result<Finding, AllocError>
+    requires few { length lines.now ≤ 2 ^ 25 }
+    requires size { header.now.size ≤ most header.now.object }
+    ensures { IfOk result (λ f. IsFinding means.now has_ended header.now lines.now f) }
+{
+    let report = report(alloc, means, header, lines)?;
+    Ok(Finding {
+        report,
+        crossed: find_crossed(lines),
+        seats: header.seats(),
+        wrong_seat: wrong_seat(report.misfit, lines),
+        has_ended,
+    })
+}
+
+/// The finding, told.
+fn told(
+    alloc: Global,
+    view: LogView,
+    question: Question<'_>,
+    header: &LogHeader,
+    lines: &[LogLine],
+    finding: &Finding,
+) -> Result<String, AllocError>
+    requires few { length lines.now ≤ 2 ^ 25 }
+    requires size { header.now.size ≤ most header.now.object }
+    ensures { IfOk result (λ text. answered.Tells view finding.now (string_bytes text)) }
+{
+    match view {
+        LogView::Line => finding_line(alloc, finding),
+        LogView::Json => finding_json(alloc, question.name, finding),
+        LogView::Explanation => explanation(alloc, question.beside, header, lines, finding),
+    }
+}
+
+/// The answer to a log that is judged.
+fn judged(
+    alloc: Global,
+    view: LogView,
+    question: Question<'_>,
+    header: &LogHeader,
+    lines: &[LogLine],
+) -> Result<LinesAnswer, AllocError>
+    requires few { length lines.now ≤ 2 ^ 25 }
+    requires size { header.now.size ≤ most header.now.object }
+    ensures { IfOk result (λ a. answered.IsJudged view question.means.now (answered.has_ended question.beside.now)
+        header.now lines.now a.status (λ text. a.lines.items ≡ text)) }
+{
+    let has_ended = has_ended(question.beside);
+    let finding = finding(alloc, question.means, has_ended, header, lines)?;
+    let text = told(alloc, view, question, header, lines, &finding)?;
+    Ok(LinesAnswer {
+        status: finding.status(),
+        lines: text.into_bytes(),
+    })
+}
+
+/// The answer to a log that was read.
+fn answer_to_read(
+    alloc: Global,
+    view: LogView,
+    question: Question<'_>,
+    header: &LogHeader,
+    lines: &[LogLine],
+) -> Result<LinesAnswer, AllocError>
+    requires few { length lines.now ≤ 2 ^ 25 }
+    ensures { IfOk result (λ a. answered.IsLogAnswer view question.kind question.means.now
+        (answered.has_ended question.beside.now) header.now lines.now a.status (λ text. a.lines.items ≡ text)) }
+{
+    match LogRefusal::of(question.kind, question.means, header, lines) {
+        Some(refusal) => Ok(LinesAnswer {
+            status: 2,
+            lines: refusal.line(alloc)?.into_bytes(),
+        }),
+        None => judged(alloc, view, question, header, lines),
+    }
+}
+
+/// The answer to the text of a log.
+pub(crate) fn answer_to_log(
+    alloc: Global,
+    view: LogView,
+    question: Question<'_>,
+    bytes: &[u8],
+) -> Result<LinesAnswer, StreamFault>
+    ensures answer { IfOk result
+        (λ a. answered.IsAnswerToLog view question bytes.now a.status (λ text. a.lines.items ≡ text)) }
+    ensures no_file { IsErrOf result StreamFault.File → ⊥ }
+{
+    match read_log(alloc, bytes) {
+        Ok((header, lines)) => Ok(answer_to_read(alloc, view, question, &header, &lines)?),
+        Err(fault) => Ok(LinesAnswer::of_line(unreadable(alloc, fault)?)),
+    }
+}

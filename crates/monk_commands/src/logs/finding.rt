@@ -1,0 +1,47 @@
+//! What is found of a log.
+
+ghost use Rattle.std.specs.Prelude.{◌≡◌};
+ghost use Rattle.monk_commands.specs.LogFound.{finding_status, is_busy};
+
+use monk_judge::{Holder, Report};
+use monk_logs::Crossed;
+
+/// What is found of a log.
+#[derive(Clone, Copy, Debug, PartialEq, Eq)]
+pub(crate) struct Finding {
+    /// What it tells of its program.
+    pub(crate) report: Report,
+    /// The seats that a signal crossed on their way to sleep.
+    pub(crate) crossed: Option<Crossed>,
+    /// How many seats it has.
+    pub(crate) seats: u8,
+    /// The seat of the line that misfits; 0 if none does.
+    pub(crate) wrong_seat: u8,
+    /// Whether its program has ended by itself.
+    pub(crate) has_ended: bool,
+}
+
+/// Whether somebody holds the lock at the end of a program that didn't end by itself.
+fn is_busy(has_ended: bool, holder: Option<Holder>) -> bool
+    ensures { result ≡ is_busy has_ended holder }
+{
+    holder.is_some() && !has_ended
+}
+
+impl Finding {
+    /// The exit status: 1 if the log misfits, if a signal is missed, or if the program is busy at its end. A program
+    /// that ends by itself isn't stuck, so its end is no fault.
+    pub(crate) fn status(&self) -> u8
+        ensures { result ≡ finding_status self.now }
+    {
+        let report = &self.report;
+        if report.misfit.is_some()
+            || report.missed.is_some()
+            || is_busy(self.has_ended, report.holder)
+        {
+            1
+        } else {
+            0
+        }
+    }
+}

@@ -1,0 +1,36 @@
+//! A log, judged over the object that its header names.
+
+ghost use Rattle.std.specs.Prelude.{◌≡◌, ◌≤◌, ◌^◌, IfOk, length};
+ghost use Rattle.monk_object.specs.Names.{most, meaning_named, opening_named};
+ghost use Rattle.monk_judge.specs.Reports.{IsReport};
+ghost use Rattle.monk_judge.specs.Run.{setting};
+
+use crate::objects::{book, flags, shop};
+use monk_judge::{Report, WaitsFor, judge_log};
+use monk_logs::{LogHeader, LogLine};
+use monk_object::{Buffer, ObjectName};
+use std::alloc::{AllocError, Global};
+
+/// What the log tells of its program.
+pub(crate) fn report(
+    alloc: Global,
+    means: &[WaitsFor],
+    header: &LogHeader,
+    lines: &[LogLine],
+) -> Result<Report, AllocError>
+    requires few { length lines.now ≤ 2 ^ 25 }
+    requires size { header.now.size ≤ most header.now.object }
+    ensures { IfOk result (λ r. IsReport (setting header.now.seats header.now.conds (meaning_named header.now.object))
+        (opening_named header.now.object header.now.size) means.now lines.now r) }
+{
+    let (seats, conds, size) = (header.seats(), header.conds(), header.size());
+    match header.object() {
+        ObjectName::Buffer => match Buffer::make(alloc, size) {
+            Ok(buffer) => judge_log(alloc, seats, conds, buffer, lines, means),
+            Err(_) => Err(AllocError),
+        },
+        ObjectName::Book => judge_log(alloc, seats, conds, book(size), lines, means),
+        ObjectName::Shop => judge_log(alloc, seats, conds, shop(size), lines, means),
+        ObjectName::Flags => judge_log(alloc, seats, conds, flags(size), lines, means),
+    }
+}

@@ -1,0 +1,93 @@
+//! What is counted in a log, and what else was found.
+
+ghost use Rattle.std.specs.Prelude.{◌≡◌, IfOk, string_bytes};
+ghost use Rattle.monk_commands.specs.LogFound as found;
+
+use crate::logs::finding::Finding;
+use crate::logs::verdict_words::number;
+use monk_judge::Tally;
+use monk_logs::Crossed;
+use std::alloc::{AllocError, Global};
+
+/// How many threads have to be overtaken before it is said that none waits again. Under contention a `while` waits
+/// again now and then, and an `if` never does. With fewer it would often be said of a right program.
+const ENOUGH_OVERTAKEN: u64 = 8;
+
+/// A number behind a word, if it isn't 0.
+fn counted(alloc: Global, word: &str, many: u64) -> Result<String, AllocError>
+    ensures { IfOk result (λ text. string_bytes text ≡ found.counted word.now many) }
+{
+    if many == 0 {
+        return Ok(String::new(alloc));
+    }
+    Ok(format!(in alloc; "{word}{many}")?)
+}
+
+/// The number of a line behind a word, if there is one.
+fn placed(alloc: Global, word: &str, index: Option<usize>) -> Result<String, AllocError>
+    ensures { IfOk result (λ text. string_bytes text ≡ found.placed word.now index) }
+{
+    match index {
+        None => Ok(String::new(alloc)),
+        Some(index) => {
+            let line = number(index);
+            Ok(format!(in alloc; "{word}{line}")?)
+        }
+    }
+}
+
+/// The seats that a signal crossed on their way to sleep.
+fn crossed_words(alloc: Global, crossed: Option<Crossed>) -> Result<String, AllocError>
+    ensures { IfOk result (λ text. string_bytes text ≡ found.crossed_words crossed) }
+{
+    match crossed {
+        None => Ok(String::new(alloc)),
+        Some(crossed) => {
+            // Behind the header lines are counted from 1 there.
+            let (seats, line) = (crossed.seats, crossed.line.saturating_add(1));
+            Ok(format!(in alloc; "; crossed {seats} at {line}")?)
+        }
+    }
+}
+
+/// That of the threads that were overtaken on their way back none waited again.
+fn never_words(
+    alloc: Global,
+    overtaken: u64,
+    again: u64,
+    first: Option<usize>,
+) -> Result<String, AllocError>
+    ensures { IfOk result (λ text. string_bytes text ≡ found.never_words overtaken again first) }
+{
+    let Some(first) = first else {
+        return Ok(String::new(alloc));
+    };
+    if again == 0 && overtaken >= ENOUGH_OVERTAKEN {
+        let line = number(first);
+        Ok(format!(in alloc; "; never waits again (0 of {overtaken} overtaken), first at {line}")?)
+    } else {
+        Ok(String::new(alloc))
+    }
+}
+
+/// What is counted of signals.
+pub(crate) fn tally_words(alloc: Global, tally: &Tally) -> Result<String, AllocError>
+    ensures { IfOk result (λ text. string_bytes text ≡ found.tally_words tally.now) }
+{
+    let served = counted(alloc, "; served ", tally.served)?;
+    let passed = counted(alloc, "; passed ", tally.passed)?;
+    let unheard = counted(alloc, "; unheard ", tally.unheard)?;
+    let last = placed(alloc, ", last at ", tally.last_unheard)?;
+    Ok(format!(in alloc; "{served}{passed}{unheard}{last}")?)
+}
+
+/// What was found beside.
+pub(crate) fn remark_words(alloc: Global, finding: &Finding) -> Result<String, AllocError>
+    ensures { IfOk result (λ text. string_bytes text ≡ found.remark_words finding.now) }
+{
+    let (report, tally) = (&finding.report, &finding.report.tally);
+    let missed = placed(alloc, "; missed at ", report.missed)?;
+    let crossed = crossed_words(alloc, finding.crossed)?;
+    let never = never_words(alloc, tally.overtaken, tally.again, tally.first_not_again)?;
+    Ok(format!(in alloc; "{missed}{crossed}{never}")?)
+}

@@ -1,0 +1,12 @@
+//! How a finding is told.
+
+/// How a finding is told.
+#[derive(Clone, Copy, Debug, PartialEq, Eq)]
+pub(crate) enum LogView {
+    /// In one line for a reader and for `grep`.
+    Line,
+    /// In one line of JSON.
+    Json,
+    /// In that line, and sentences behind it.
+    Explanation,
+}
