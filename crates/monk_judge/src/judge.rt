@@ -110,8 +110,31 @@ impl<T: Guarded> Judge<T> {
         many
     }
 
-    /// Where a seat is.
-    fn place(&self, seat: u8) -> Result<Place, Blame>
+    /// Where the seat is; `None` if there is no such seat.
+    pub fn place(&self, seat: u8) -> Option<Place> {
+        self.places.get(usize::from(seat)).copied()
+    }
+
+    /// Whether somebody sleeps on the condition, and nobody is woken there.
+    pub(crate) fn is_unsignalled(&self, cond: u8) -> bool {
+        let mut sleeps = false;
+        for place in &self.places {
+            match *place {
+                Place::Woken(on) if on == cond => return false,
+                Place::Waiting(on) if on == cond => sleeps = true,
+                _ => {}
+            }
+        }
+        sleeps
+    }
+
+    /// Whether the object has the predicate, and it holds.
+    pub(crate) fn object_holds(&self, pred: u8) -> bool {
+        pred < T::PREDICATES && self.object.holds(pred)
+    }
+
+    /// Where a seat of the header is.
+    fn at(&self, seat: u8) -> Result<Place, Blame>
         ensures { MatchResult result (λ p. (seat < length self.now.places)
             × (p ≡ slice_index_or self.now.places seat Outside))
             (λ e. length self.now.places ≤ seat) }
@@ -156,7 +179,7 @@ impl<T: Guarded> Judge<T> {
     fn enter(&mut self, seat: u8) -> Result<Told, Blame>
         ensures { (e : WaitEnd) → Does T.meaning self.old self.new (lines.Enter seat) e result }
     {
-        let place = self.place(seat)?;
+        let place = self.at(seat)?;
         if self.lock.is_some() {
             return Err(Blame::Held);
         }
@@ -193,7 +216,7 @@ impl<T: Guarded> Judge<T> {
     fn resume(&mut self, seat: u8) -> Result<Told, Blame>
         ensures { (e : WaitEnd) → Does T.meaning self.old self.new (lines.Resume seat) e result }
     {
-        let place = self.place(seat)?;
+        let place = self.at(seat)?;
         if self.lock.is_some() {
             return Err(Blame::Held);
         }
@@ -210,7 +233,7 @@ impl<T: Guarded> Judge<T> {
     fn lapse(&mut self, seat: u8) -> Result<Told, Blame>
         ensures { (e : WaitEnd) → Does T.meaning self.old self.new (lines.Lapse seat) e result }
     {
-        let place = self.place(seat)?;
+        let place = self.at(seat)?;
         if self.lock.is_some() {
             return Err(Blame::Held);
         }
@@ -227,7 +250,7 @@ impl<T: Guarded> Judge<T> {
         ensures { MatchResult result (λ _. (seat < length self.now.places) × (self.now.lock ≡ Some seat))
             (λ e. (seat < length self.now.places) × (self.now.lock ≡ Some seat) → ⊥) }
     {
-        let _place = self.place(seat)?;
+        let _place = self.at(seat)?;
         if self.lock == Some(seat) {
             Ok(())
         } else {
@@ -276,7 +299,7 @@ impl<T: Guarded> Judge<T> {
         ensures { MatchResult result (λ _. MaySignal (setting_of self.now T.meaning) (state_of self.now) seat cond)
             (λ e. MaySignal (setting_of self.now T.meaning) (state_of self.now) seat cond → ⊥) }
     {
-        let place = self.place(seat)?;
+        let place = self.at(seat)?;
         if cond >= self.conds {
             return Err(Blame::Range);
         }

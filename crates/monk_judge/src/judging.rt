@@ -8,16 +8,21 @@ ghost use Rattle.monk_judge.specs.Run.{opening, setting};
 ghost use Rattle.monk_judge.specs.Shown.{setting_of, state_of};
 
 use crate::ahead::look_ahead;
+use crate::holder::{Holder, last_taking};
 use crate::judge::Judge;
 use crate::misfit::Misfit;
+use crate::missed::Missed;
+use crate::overtaking::Overtaking;
 use crate::report::Report;
 use crate::tally::Tally;
 use crate::wait_end::WaitEnd;
+use crate::waits_for::WaitsFor;
 use monk_logs::LogLine;
 use monk_object::Guarded;
 use std::alloc::{AllocError, Global};
 
 /// Judges the lines of a log of a program whose mutex guards the object, as `monk_logs::read_log` reads them.
+/// `means` tells what those wait for who wait on a condition.
 ///
 /// # Errors
 ///
@@ -26,13 +31,15 @@ use std::alloc::{AllocError, Global};
 /// # Cost
 ///
 /// Each line is read twice: from the last to the first, for how waits end, and from the first on. A
-/// signal looks over the seats, and so does a thread that comes in.
+/// signal looks over the seats, and so does a thread that takes the lock. A `leave` or `wait` does
+/// so for each of `means`.
 pub fn judge_log<T: Guarded>(
     alloc: Global,
     seats: u8,
     conds: u8,
     object: T,
     lines: &[LogLine],
+    means: &[WaitsFor],
 ) -> Result<Report, AllocError>
     requires { length lines.now ≤ most_lines }
     // It tells the misfit exactly. It counts in a run of the lines before, with as few wake-ups that
@@ -41,14 +48,45 @@ pub fn judge_log<T: Guarded>(
 {
     let ends = look_ahead(alloc, lines)?;
     let mut judge = Judge::opening(alloc, seats, conds, object)?;
-    let (tally, misfit) = take_lines(&mut judge, lines, &ends);
+    let mut seen = Seen::nothing();
+    let misfit = take_lines(&mut judge, lines, &ends, means, &mut seen);
     Ok(Report {
         misfit,
-        tally,
-        holder: judge.lock(),
+        tally: seen.tally(),
+        holder: holder_of(&judge, lines, misfit),
         asleep: judge.asleep(),
         woken: judge.woken(),
+        missed: seen.missed.line,
     })
+}
+
+/// What was seen in the lines so far.
+#[derive(Drop)]
+struct Seen {
+    tally: Tally,
+    missed: Missed,
+    overtaking: Overtaking,
+}
+
+impl Seen {
+    /// Of no lines.
+    fn nothing() -> Seen {
+        Seen {
+            tally: Tally::NOTHING,
+            missed: Missed::NOTHING,
+            overtaking: Overtaking::nothing(),
+        }
+    }
+
+    /// What was counted.
+    fn tally(&self) -> Tally {
+        Tally {
+            overtaken: self.overtaking.many(),
+            again: self.overtaking.again(),
+            first_not_again: self.overtaking.first_not_again(),
+            ..self.tally
+        }
+    }
 }
 
 /// Takes the lines, up to the first that can't stand. `ends` says how a wait in each line would end.
@@ -56,19 +94,41 @@ fn take_lines<T: Guarded>(
     judge: &mut Judge<T>,
     lines: &[LogLine],
     ends: &[WaitEnd],
-) -> (Tally, Option<Misfit>)
+    means: &[WaitsFor],
+    seen: &mut Seen,
+) -> Option<Misfit>
     requires opening { state_of judge.old ≡ opening judge.old.data_now }
     requires seats { length judge.old.ends ≡ length judge.old.places }
     requires ends { AreEnds ends.now lines.now }
     requires few { length lines.now ≤ most_lines }
-    ensures { IsTaken (setting_of judge.old T.meaning) judge.old.data_now lines.now result.1 result.0 judge.new }
 {
-    let mut tally = Tally::NOTHING;
     for (index, line) in lines.iter().enumerate() {
+        let was = judge.place(line.seat());
         match judge.line(*line, ends[index]) {
-            Ok(told) => tally.line(index, told),
-            Err(why) => return (tally, Some(Misfit { line: index, why })),
+            Ok(told) => seen.tally.line(index, told),
+            Err(why) => return Some(Misfit { line: index, why }),
         }
+        seen.missed.line(judge, means, index, *line);
+        seen.overtaking.line(judge, index, *line, was);
     }
-    (tally, None)
+    None
+}
+
+/// Who has the lock behind the lines before the misfit.
+fn holder_of<T: Guarded>(
+    judge: &Judge<T>,
+    lines: &[LogLine],
+    misfit: Option<Misfit>,
+) -> Option<Holder> {
+    let fitting = match misfit {
+        Some(found) => &lines[..found.line],
+        None => lines,
+    };
+    match judge.lock() {
+        Some(seat) => Some(Holder {
+            seat,
+            since: last_taking(fitting),
+        }),
+        None => None,
+    }
 }

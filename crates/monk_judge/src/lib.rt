@@ -5,22 +5,34 @@
 
 mod ahead;
 mod blame;
+mod holder;
 mod judge;
 mod judging;
 mod misfit;
+mod missed;
+mod overtaking;
 mod place;
 mod report;
+mod run;
+mod running;
+mod step;
 mod tally;
 mod told;
 mod wait_end;
+mod waits_for;
 
 pub use ahead::look_ahead;
 pub use blame::Blame;
+pub use holder::Holder;
 pub use judge::Judge;
 pub use judging::judge_log;
 pub use misfit::Misfit;
 pub use place::Place;
 pub use report::Report;
+pub use run::Run;
+pub use running::run_of_log;
+pub use step::Step;
 pub use tally::Tally;
 pub use told::Told;
 pub use wait_end::WaitEnd;
+pub use waits_for::WaitsFor;

@@ -19,6 +19,14 @@ pub struct Tally {
     pub first_spurious: Option<usize>,
     /// How many signals and broadcasts found nobody.
     pub unheard: u64,
+    /// The last line that is such a signal, counted from 0 behind the header.
+    pub last_unheard: Option<usize>,
+    /// How many woken threads came back by a `resume` behind others that took the lock since.
+    pub overtaken: u64,
+    /// How many of these waited again on the same condition, as the next that they did.
+    pub again: u64,
+    /// The `resume` of the first that didn't, counted from 0 behind the header.
+    pub first_not_again: Option<usize>,
 }
 
 impl Tally {
@@ -29,6 +37,10 @@ impl Tally {
         spurious: 0,
         first_spurious: None,
         unheard: 0,
+        last_unheard: None,
+        overtaken: 0,
+        again: 0,
+        first_not_again: None,
     };
 
     /// Counts the line with that index, which told that. A broadcast wakes 255 threads at most.
@@ -45,7 +57,10 @@ impl Tally {
         match told {
             Told::Plain => {}
             Told::Passed => self.passed += 1,
-            Told::Unheard => self.unheard += 1,
+            Told::Unheard => {
+                self.unheard += 1;
+                self.last_unheard = Some(index);
+            }
             Told::Woke(_) => self.served += 1,
             Told::WokeAll(many) => self.served += u64::from(many),
             Told::Spurious => {

@@ -27,6 +27,7 @@ fn judged(rt: &HostRuntime, lines: &[u8]) -> Result<Report, Fail> {
         header.conds(),
         buffer,
         lines.as_slice(),
+        &[],
     )?)
 }
 
@@ -38,11 +39,12 @@ fn is_row(report: &Report, row: &Row) -> bool {
         spurious,
         first_spurious: row.first_spurious,
         unheard,
+        ..report.tally
     };
     let misfit = row.misfit.map(|(line, why)| Misfit { line, why });
     report.misfit == misfit
         && report.tally == tally
-        && (report.holder, report.asleep, report.woken) == row.end
+        && (report.holder.map(|holder| holder.seat), report.asleep, report.woken) == row.end
 }
 
 const FREE: (Option<u8>, u8, u8) = (None, 0, 0);

@@ -1,0 +1,37 @@
+//! Who has the lock.
+
+use monk_logs::LogLine;
+
+/// Who has the lock, and since when.
+#[derive(Clone, Copy, Debug, PartialEq, Eq)]
+pub struct Holder {
+    /// The seat.
+    pub seat: u8,
+    /// The line with which it took the lock, counted from 0 behind the header.
+    pub since: usize,
+}
+
+/// Whether a thread takes the lock with that line.
+pub(crate) fn takes_lock(line: LogLine) -> bool {
+    match line {
+        LogLine::Enter(_) | LogLine::Resume(_) | LogLine::Lapse(_) => true,
+        LogLine::Leave(_)
+        | LogLine::Wait(..)
+        | LogLine::Signal(..)
+        | LogLine::Broadcast(..)
+        | LogLine::Until(..)
+        | LogLine::Act(..) => false,
+    }
+}
+
+/// The last of the lines with which a thread takes the lock; 0 if none does.
+pub(crate) fn last_taking(lines: &[LogLine]) -> usize {
+    let mut index = lines.len();
+    while index > 0 {
+        index -= 1;
+        if takes_lock(lines[index]) {
+            return index;
+        }
+    }
+    0
+}

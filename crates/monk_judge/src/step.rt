@@ -1,0 +1,49 @@
+//! A step of a run.
+
+use monk_logs::LogLine;
+use std::fmt;
+
+/// A step of a run: what a line tells, or something that no line tells.
+#[derive(Clone, Copy, Debug, PartialEq, Eq)]
+pub enum Step {
+    /// A line, with the thread that a signal wakes.
+    Tells(LogLine, Option<u8>),
+    /// The wait of that thread runs out.
+    RunsOut(u8),
+    /// That thread wakes though nobody sent a signal.
+    WakesUnasked(u8),
+}
+
+/// As in `signal 2 0 wakes 1`, `out 0` or `wake 1`.
+impl fmt::Display for Step {
+    fn fmt<W: fmt::Write>(&self, f: &mut fmt::Formatter<W>) -> fmt::Result {
+        match *self {
+            Step::Tells(line, None) => write!(f, "{}", LineWords(line)),
+            Step::Tells(line, Some(seat)) => write!(f, "{} wakes {seat}", LineWords(line)),
+            Step::RunsOut(seat) => write!(f, "out {seat}"),
+            Step::WakesUnasked(seat) => write!(f, "wake {seat}"),
+        }
+    }
+}
+
+/// The words of a line of a log.
+#[derive(Clone, Copy)]
+struct LineWords(LogLine);
+
+impl fmt::Display for LineWords {
+    fn fmt<W: fmt::Write>(&self, f: &mut fmt::Formatter<W>) -> fmt::Result {
+        match self.0 {
+            LogLine::Enter(seat) => write!(f, "enter {seat}"),
+            LogLine::Resume(seat) => write!(f, "resume {seat}"),
+            LogLine::Lapse(seat) => write!(f, "lapse {seat}"),
+            LogLine::Leave(seat) => write!(f, "leave {seat}"),
+            LogLine::Wait(seat, cond) => write!(f, "wait {seat} {cond}"),
+            LogLine::Signal(seat, cond) => write!(f, "signal {seat} {cond}"),
+            LogLine::Broadcast(seat, cond) => write!(f, "broadcast {seat} {cond}"),
+            LogLine::Until(seat, pred) => write!(f, "until {seat} {pred}"),
+            LogLine::Act(seat, op, reply) => {
+                write!(f, "act {seat} {} {} {reply}", op.code, op.arg)
+            }
+        }
+    }
+}
