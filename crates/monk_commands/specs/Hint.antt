@@ -8,9 +8,8 @@ use Rattle.std.specs.Str.{str_eq_ignore_ascii_case}
 use Rattle.monk_commands.specs.declared.hint.Hint.{Hint}
 use Rattle.monk_commands.specs.declared.hint.Hint.TheVariants as hint
 use Rattle.monk_commands.specs.declared.task.Task.{Task}
-use Rattle.monk_commands.specs.declared.task.Task.TheVariants.{Audit, Play, Upgrade, Fit, FitKind}
-use Rattle.monk_commands.specs.declared.task.Task.TheVariants.{Trace, Explain, ExplainKind, Draw, DrawRun, Page}
-use Rattle.monk_commands.specs.declared.task.Task.TheVariants.{Complete, CompleteRun}
+use Rattle.monk_commands.specs.declared.task.Task.TheVariants.{Audit, Play, Upgrade, Fit, Trace, Explain, Draw, Page}
+use Rattle.monk_commands.specs.declared.task.Task.TheVariants.{Complete}
 use Rattle.monk_commands.specs.declared.text_name.TextName.{TextName}
 use Rattle.monk_commands.specs.declared.text_name.TextName.TheVariants as name
 use Rattle.monk_history.specs.declared.text.fault.Flaw.TheVariants as flaw
@@ -62,32 +61,24 @@ abbrev pub reads : Task → TextName → Bool
 reads Audit t = is_history t
 reads Play t = is_play t
 reads Upgrade t = is_history t
-reads (Fit lapses means) t = not (is_play t)
-reads (FitKind kind lapses means n) t = not (is_play t)
+reads (Fit form q) t = not (is_play t)
 reads Trace t = is_play t
-reads Explain t = is_history t
-reads (ExplainKind kind lapses means) t = not (is_play t)
-reads (Draw window) t = is_history t
-reads (DrawRun kind order window) t = is_log t
+reads (Explain q) t = not (is_play t)
+reads (Draw window) t = not (is_play t)
 reads (Page window) t = is_history t
 reads (Complete kind) t = is_log t
-reads (CompleteRun kind order) t = is_log t
 
 -- the text that it reads, a history where it reads two
 abbrev pub wanted : Task → TextName
 wanted Audit = name.History
 wanted Play = name.Play
 wanted Upgrade = name.History
-wanted (Fit lapses means) = name.History
-wanted (FitKind kind lapses means n) = name.History
+wanted (Fit form q) = name.History
 wanted Trace = name.Play
-wanted Explain = name.History
-wanted (ExplainKind kind lapses means) = name.History
+wanted (Explain q) = name.History
 wanted (Draw window) = name.History
-wanted (DrawRun kind order window) = name.Log
 wanted (Page window) = name.History
 wanted (Complete kind) = name.Log
-wanted (CompleteRun kind order) = name.Log
 
 -- ---- by single bytes
 
@@ -233,7 +224,7 @@ header_form name.Log = codes "log 1 SEATS CONDS OBJECT SIZE"
 abbrev pub commands_that_read : TextName → List ℕ
 commands_that_read name.History = codes "monk audit, explain, draw, page, fit or upgrade"
 commands_that_read name.Play = codes "monk play or trace"
-commands_that_read name.Log = codes "monk fit, complete, explain --kind or draw --kind"
+commands_that_read name.Log = codes "monk fit, explain, draw or complete"
 
 -- what stands before the word of an object in a sentence: flags are many
 abbrev pub article : ObjectName → List ℕ

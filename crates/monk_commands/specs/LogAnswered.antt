@@ -37,33 +37,37 @@ Tells Line f text = text ≡ finding_line f
 Tells Json f text = Unit {0}
 Tells Explanation f text = BeginsWith (finding_line f) text
 
+-- a line that tells why nothing is found; of the form for other programs nothing is said
+abbrev pub Says : LogView → List ℕ → List ℕ → Type 0
+Says Line line text = text ≡ line
+Says Json line text = Unit {0}
+Says Explanation line text = text ≡ line
+
 -- a finding of the log is told, with its status
 pub record IsJudged (view : LogView) (means : List WaitsFor) (ended : Bool) (h : LogHeading) (lines : List LogLine)
-    (status : ℕ) (Puts : List ℕ → Type 0) : Type 0 where
+    (status : ℕ) (text : List ℕ) : Type 0 where
   pub finding : Finding
   pub found : IsFinding means ended h lines finding
   pub status_is : status ≡ finding_status finding
-  pub text : List ℕ
   pub tells : Tells view finding text
-  pub puts : Puts text
 
 -- it is refused
-abbrev pub IsRefused : LogRefusal → ℕ → (List ℕ → Type 0) → Type 0
-IsRefused r status Puts = (status ≡ 2) × Puts (refusal_line r)
+abbrev pub IsRefused : LogView → LogRefusal → ℕ → List ℕ → Type 0
+IsRefused view r status text = (status ≡ 2) × Says view (refusal_line r) text
 
 -- the answer to a log that was read
 abbrev pub IsLogAnswer : LogView → Option KindName → List WaitsFor → Bool → LogHeading → List LogLine → ℕ
-    → (List ℕ → Type 0) → Type 0
-IsLogAnswer view k means ended h lines status Puts =
-    MatchOption (refusal_of k means h lines) (IsJudged view means ended h lines status Puts)
-    (λ r. IsRefused r status Puts)
+    → List ℕ → Type 0
+IsLogAnswer view k means ended h lines status text =
+    MatchOption (refusal_of k means h lines) (IsJudged view means ended h lines status text)
+    (λ r. IsRefused view r status text)
 
 -- the answer to what was read as a log
-abbrev pub IsLogReading : LogView → Question → Result Log ReadFault → ℕ → (List ℕ → Type 0) → Type 0
-IsLogReading view q (Ok l) status Puts =
-    IsLogAnswer view q.kind q.means.now (has_ended q.beside.now) l.0 l.1 status Puts
-IsLogReading view q (Err f) status Puts = (status ≡ 2) × Puts (unreadable f).text
+abbrev pub IsLogReading : LogView → Question → Result Log ReadFault → ℕ → List ℕ → Type 0
+IsLogReading view q (Ok l) status text =
+    IsLogAnswer view q.kind q.means.now (has_ended q.beside.now) l.0 l.1 status text
+IsLogReading view q (Err f) status text = (status ≡ 2) × Says view (unreadable f).text text
 
 -- the answer to the text of a log
-abbrev pub IsAnswerToLog : LogView → Question → List ℕ → ℕ → (List ℕ → Type 0) → Type 0
-IsAnswerToLog view q input status Puts = IsLogReading view q (log_at (2 ^ 25) input) status Puts
+abbrev pub IsAnswerToLog : LogView → Question → List ℕ → ℕ → List ℕ → Type 0
+IsAnswerToLog view q input status text = IsLogReading view q (log_at (2 ^ 25) input) status text

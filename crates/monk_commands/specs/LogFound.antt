@@ -160,26 +160,30 @@ crossed_words (Some c) =
 abbrev pub enough_overtaken : ℕ
 enough_overtaken = 8
 
+-- whether of enough threads that were overtaken none waited again
+abbrev pub never_again : ℕ → ℕ → Bool
+never_again overtaken again = again == 0 && nat_le enough_overtaken overtaken
+
 -- that of the threads that were overtaken on their way back none waited again
-abbrev pub never_words : ℕ → ℕ → Option ℕ → List ℕ
-never_words overtaken again None = []
-never_words overtaken again (Some k) =
-    if again == 0 && nat_le enough_overtaken overtaken
-    then codes "; never waits again (0 of " ++ (decimal overtaken ++ (codes " overtaken), first at "
+abbrev pub never_words : Finding → Option ℕ → List ℕ
+never_words f None = []
+never_words f (Some k) =
+    if never_again f.report.tally.overtaken f.report.tally.again
+    then codes "; never waits again (0 of " ++ (decimal f.report.tally.overtaken ++ (codes " overtaken), first at "
     ++ decimal (number k)))
     else []
 
 -- what is counted of signals
 abbrev pub tally_words : Tally → List ℕ
 tally_words t =
-    counted (codes "; served ") t.served ++ (counted (codes "; passed ") t.passed
+    counted (codes "; served ") t.served ++ (counted (codes ", passed ") t.passed
     ++ (counted (codes "; unheard ") t.unheard ++ placed (codes ", last at ") t.last_unheard))
 
 -- what was found beside
 abbrev pub remark_words : Finding → List ℕ
 remark_words f =
     placed (codes "; missed at ") f.report.missed ++ (crossed_words f.crossed
-    ++ never_words f.report.tally.overtaken f.report.tally.again f.report.tally.first_not_again)
+    ++ never_words f f.report.tally.first_not_again)
 
 -- whether it fits and how it ends
 abbrev pub front_words : Finding → List ℕ

@@ -8,16 +8,13 @@ use Rattle.monk_object.specs.declared.name.ObjectName.TheVariants as object
 use Rattle.monk_history.specs.Text.Words.{Word, Taken}
 use Rattle.monk_logs.specs.Log.{LogHeading}
 use Rattle.monk_logs.specs.Log.Reading.{log_header_at}
-use Rattle.monk_logs.specs.declared.counts.waits_for.WaitsFor.{WaitsFor}
-use Rattle.monk_logs.specs.declared.lapses.Lapses.{Lapses}
-use Rattle.monk_logs.specs.declared.lapses.Lapses.TheVariants.{Told, Allowed}
+use Rattle.monk_judge.specs.declared.waits_for.WaitsFor.{WaitsFor}
 use Rattle.monk_commands.specs.Hint.{first_words, text_named}
 use Rattle.monk_commands.specs.declared.option_hint.OptionHint.{OptionHint}
 use Rattle.monk_commands.specs.declared.option_hint.OptionHint.TheVariants as hint
 use Rattle.monk_commands.specs.declared.task.Task.{Task}
-use Rattle.monk_commands.specs.declared.task.Task.TheVariants.{Audit, Play, Upgrade, Fit, FitKind}
-use Rattle.monk_commands.specs.declared.task.Task.TheVariants.{Trace, Explain, ExplainKind, Draw, DrawRun, Page}
-use Rattle.monk_commands.specs.declared.task.Task.TheVariants.{Complete, CompleteRun}
+use Rattle.monk_commands.specs.declared.task.Task.TheVariants.{Audit, Play, Upgrade, Fit, Trace, Explain, Draw, Page}
+use Rattle.monk_commands.specs.declared.task.Task.TheVariants.{Complete}
 use Rattle.monk_commands.specs.declared.text_name.TextName.{TextName}
 use Rattle.monk_commands.specs.declared.text_name.TextName.TheVariants as name
 
@@ -41,41 +38,36 @@ heading_hint means (Err f) = None
 
 -- ---- a history
 
--- the hint for a history: an option is given
-abbrev pub history_hint : Lapses → List WaitsFor → Option OptionHint
-history_hint Told [] = None
-history_hint Told (w ∷ ws) = Some hint.History
-history_hint Allowed means = Some hint.History
+-- the hint for a history: the option is given
+abbrev pub history_hint : List WaitsFor → Option OptionHint
+history_hint [] = None
+history_hint (w ∷ ws) = Some hint.History
 
 -- ---- all
 
 -- the hint for a text of that name, by the words of its first line
-abbrev pub text_hint : Lapses → List WaitsFor → List Word → Option TextName → Option OptionHint
-text_hint x means ws None = None
-text_hint x means ws (Some name.History) = history_hint x means
-text_hint x means ws (Some name.Play) = None
-text_hint x means ws (Some name.Log) = heading_hint means (log_header_at ws)
+abbrev pub text_hint : List WaitsFor → List Word → Option TextName → Option OptionHint
+text_hint means ws None = None
+text_hint means ws (Some name.History) = history_hint means
+text_hint means ws (Some name.Play) = None
+text_hint means ws (Some name.Log) = heading_hint means (log_header_at ws)
 
--- the hint for an input that is judged with these options, by the words of its first line
-abbrev pub fit_hint : Lapses → List WaitsFor → List Word → Option OptionHint
-fit_hint x means [] = None
-fit_hint x means (w ∷ ws) = text_hint x means (w ∷ ws) (text_named w)
+-- the hint for an input that is judged with this option, by the words of its first line
+abbrev pub fit_hint : List WaitsFor → List Word → Option OptionHint
+fit_hint means [] = None
+fit_hint means (w ∷ ws) = text_hint means (w ∷ ws) (text_named w)
 
 -- the hint for an input that the task has read, by its first bytes
 abbrev pub option_hint_of : Task → List ℕ → Option OptionHint
 option_hint_of Audit front = None
 option_hint_of Play front = None
 option_hint_of Upgrade front = None
-option_hint_of (Fit lapses means) front = fit_hint lapses means.now (first_words front)
-option_hint_of (FitKind kind lapses means n) front = fit_hint lapses means.now (first_words front)
+option_hint_of (Fit form q) front = fit_hint q.means.now (first_words front)
 option_hint_of Trace front = None
-option_hint_of Explain front = None
-option_hint_of (ExplainKind kind lapses means) front = fit_hint lapses means.now (first_words front)
+option_hint_of (Explain q) front = fit_hint q.means.now (first_words front)
 option_hint_of (Draw window) front = None
-option_hint_of (DrawRun kind order window) front = None
 option_hint_of (Page window) front = None
 option_hint_of (Complete kind) front = None
-option_hint_of (CompleteRun kind order) front = None
 
 -- ---- the sentences
 
@@ -102,4 +94,4 @@ option_sentence (hint.Condition w conds) =
 option_sentence (hint.Predicate w o) =
     meaning_words w ++ (codes ": " ++ (object_called o ++ (codes " has no predicate " ++ (decimal w.pred
     ++ (codes "; it has " ++ how_many (meaning_named o).predicates)))))
-option_sentence hint.History = codes "--means and --lapses are for logs, and this is a history"
+option_sentence hint.History = codes "--means is for logs, and this is a history"

@@ -1,6 +1,6 @@
 -- The command line of the program, as clap sees it, and what a line asks for
 use Rattle.std.specs.Prelude.{◌≡◌, ℕ, List, [], ◌∷◌, ◌++◌, Option, Some, None, IfSome, IsSomeAnd, true, false, map, option_map, codes, pos}
-use Rattle.std.specs.Prelude.{◌≤◌, length, string_bytes}
+use Rattle.std.specs.Prelude.{string_bytes}
 use Rattle.std.specs.Str.Parse.{IsNumeral, digits_value, without_leading_plus}
 use Rattle.std.specs.Borrow.{Bor}
 use Rattle.clap.specs.Words.{AddsSubcommand, App, Row, Rule, Text, all_of, app_of, first_of, one_of, new_app, new_rule, with_rule}
@@ -14,21 +14,17 @@ use Rattle.monk_draw.specs.Asked.{numbers_meant, window_fault}
 use Rattle.monk_draw.specs.declared.window.Window.{Window}
 use Rattle.monk_kinds.specs.Names.{kind_word, kinds as monitor_kinds}
 use Rattle.monk_kinds.specs.declared.name.KindName.{KindName}
-use Rattle.monk_logs.specs.declared.lapses.Lapses.{Lapses}
-use Rattle.monk_logs.specs.declared.lapses.Lapses.TheVariants.{Told, Allowed}
-use Rattle.monk_logs.specs.declared.counts.waits_for.WaitsFor.{WaitsFor}
-use Rattle.monk_logs.specs.declared.runs.run_order.RunOrder.{RunOrder}
-use Rattle.monk_logs.specs.declared.runs.run_order.RunOrder.TheVariants.{Wake, Any}
-use Rattle.monk_logs.specs.Fit.{order_word}
-use Rattle.monk_logs.specs.RunFound.{order_of}
+use Rattle.monk_judge.specs.declared.waits_for.WaitsFor.{WaitsFor}
 use Rattle.monk_object.specs.Names.{object_word}
 use Rattle.monk_samples.specs.Samples.{IsInRange, sample_object}
 use Rattle.monk_samples.specs.declared.sample.Sample.{Sample}
 use Rattle.monk_samples.specs.declared.sample.Sample.TheVariants.{Buffer, Book, Shop}
+use Rattle.monk_commands.specs.declared.fit_form.FitForm.{FitForm}
+use Rattle.monk_commands.specs.declared.fit_form.FitForm.TheVariants.{Words, Json}
+use Rattle.monk_commands.specs.declared.request.Judging.{Judging}
 use Rattle.monk_commands.specs.declared.request.Line.{Line}
-use Rattle.monk_commands.specs.declared.request.Line.TheVariants.{Classify, Audit, Play, Upgrade, Fit, FitKind}
-use Rattle.monk_commands.specs.declared.request.Line.TheVariants.{Trace, Explain, ExplainKind, Draw, DrawRun, Page}
-use Rattle.monk_commands.specs.declared.request.Line.TheVariants.{Complete, CompleteRun, Run, Record, Hasty}
+use Rattle.monk_commands.specs.declared.request.Line.TheVariants.{Classify, Audit, Play, Upgrade, Fit, Trace, Explain}
+use Rattle.monk_commands.specs.declared.request.Line.TheVariants.{Draw, Page, Complete, Run, Record, Hasty}
 
 -- a word that must stand there, and that the parser takes
 abbrev pub required_rule : Text → ValueParser → Rule
@@ -120,52 +116,23 @@ window_app name =
     with_rule (with_rule (with_rule (new_app name) (number_rule (codes "from"))) (number_rule (codes "to")))
     (new_rule (codes "FILE"))
 
--- a command of that name that takes a kind or none, what a log may tell, and then what that rule says
-abbrev pub judging_app : Text → Rule → KindNames → App
-judging_app name last n =
-    with_rule (with_rule (with_rule (with_rule (new_app name) (chosen_rule (codes "kind") (Names n.kinds)))
-    (flag_rule (codes "lapses")))
-    (repeated_rule (codes "means")))
-    last
+-- a command of that name that takes a kind or none, and what is waited for in a log
+abbrev pub judging_app : Text → KindNames → App
+judging_app name n =
+    with_rule (with_rule (new_app name) (chosen_rule (codes "kind") (Names n.kinds))) (repeated_rule (codes "means"))
 
--- the command that takes a kind or none, what a log may tell, and files
+-- the command that takes a kind or none, what is waited for in a log, a flag, and files
 abbrev pub fit_app : KindNames → App
-fit_app n = judging_app (codes "fit") files_rule n
+fit_app n = with_rule (with_rule (judging_app (codes "fit") n) (flag_rule (codes "json"))) files_rule
 
--- the command that takes a kind or none, what a log may tell, and a file
+-- the command that takes a kind or none, what is waited for in a log, and a file
 abbrev pub explain_app : KindNames → App
-explain_app n = judging_app (codes "explain") (new_rule (codes "FILE")) n
+explain_app n = with_rule (judging_app (codes "explain") n) (new_rule (codes "FILE"))
 
--- the orders in which a run is looked for
-abbrev pub run_orders : List RunOrder
-run_orders = Wake ∷ Any ∷ []
-
--- the word of such an order
-abbrev pub run_order_word : RunOrder → Text
-run_order_word o = order_word (order_of o)
-
--- lists that have exactly the names of the kinds and of those orders
-pub record RunChoices : Type 0 where
-  pub kinds : NameList
-  pub orders : NameList
-  pub all_kinds : words_in kinds ≡ map kind_word monitor_kinds
-  pub all_orders : words_in orders ≡ map run_order_word run_orders
-
--- the command that takes a kind, an order or none, and a file
-abbrev pub complete_app : RunChoices → App
+-- the command that takes a kind or none, and a file
+abbrev pub complete_app : KindNames → App
 complete_app n =
-    with_rule (with_rule (with_rule (new_app (codes "complete")) (required_rule (codes "KIND") (Names n.kinds)))
-    (chosen_rule (codes "order") (Names n.orders)))
-    (new_rule (codes "FILE"))
-
--- the command that takes a kind and an order or none, the first and the last of the events that it shows, and a file
-abbrev pub draw_app : RunChoices → App
-draw_app n =
-    with_rule (with_rule (with_rule (with_rule (with_rule (new_app (codes "draw"))
-    (chosen_rule (codes "kind") (Names n.kinds)))
-    (chosen_rule (codes "order") (Names n.orders)))
-    (number_rule (codes "from")))
-    (number_rule (codes "to")))
+    with_rule (with_rule (new_app (codes "complete")) (chosen_rule (codes "kind") (Names n.kinds)))
     (new_rule (codes "FILE"))
 
 -- the command has these rules, and none that is for its subcommands too
@@ -194,10 +161,10 @@ plain_app fitted =
     (file_app (codes "trace")).top
 
 -- the program with its commands
-abbrev pub monk_app : KindNames → KindNames → RunChoices → RunChoices → RunNames → RunNames → KindNames → App
-monk_app fitted explained drawn completed run recorded hasty =
+abbrev pub monk_app : KindNames → KindNames → KindNames → RunNames → RunNames → KindNames → App
+monk_app fitted explained completed run recorded hasty =
     with_subcommand (with_subcommand (with_subcommand (with_subcommand (with_subcommand (with_subcommand
-    (with_subcommand (plain_app fitted) (explain_app explained).top) (draw_app drawn).top)
+    (with_subcommand (plain_app fitted) (explain_app explained).top) (window_app (codes "draw")).top)
     (window_app (codes "page")).top) (complete_app completed).top) (run_app (codes "run") run).top)
     (run_app (codes "record") recorded).top) (hasty_app hasty).top
 
@@ -205,39 +172,35 @@ monk_app fitted explained drawn completed run recorded hasty =
 pub record IsMonk (a : App) : Type 0 where
   pub fitted : KindNames
   pub explained : KindNames
-  pub drawn : RunChoices
-  pub completed : RunChoices
+  pub completed : KindNames
   pub run : RunNames
   pub recorded : RunNames
   pub hasty : KindNames
-  pub is : a ≡ monk_app fitted explained drawn completed run recorded hasty
+  pub is : a ≡ monk_app fitted explained completed run recorded hasty
 
 -- the command is the program with the commands that need no kind
 pub record IsPlainMonk (c : Command) : Type 0 where
   pub fitted : KindNames
   pub is : app_of c ≡ plain_app fitted
 
--- the command has that name, takes a kind or none and what a log may tell, and then what that rule says
-pub record IsJudgingCommand (name : Text) (last : Rule) (c : Command) : Type 0 where
+-- the command has that name so far, and takes a kind or none, and what is waited for in a log
+pub record IsJudgingCommand (name : Text) (c : Command) : Type 0 where
   pub names : KindNames
-  pub is : IsSubcommand c (judging_app name last names)
+  pub is : IsOwnApp (judging_app name names) c
 
 -- the command is `fit`
-abbrev pub IsFitCommand : Command → Type 0
-IsFitCommand c = IsJudgingCommand (codes "fit") files_rule c
+pub record IsFitCommand (c : Command) : Type 0 where
+  pub names : KindNames
+  pub is : IsSubcommand c (fit_app names)
 
 -- the command is `explain`
-abbrev pub IsExplainCommand : Command → Type 0
-IsExplainCommand c = IsJudgingCommand (codes "explain") (new_rule (codes "FILE")) c
-
--- the command is `draw`
-pub record IsDrawCommand (c : Command) : Type 0 where
-  pub names : RunChoices
-  pub is : IsSubcommand c (draw_app names)
+pub record IsExplainCommand (c : Command) : Type 0 where
+  pub names : KindNames
+  pub is : IsSubcommand c (explain_app names)
 
 -- the command is `complete`
 pub record IsCompleteCommand (c : Command) : Type 0 where
-  pub names : RunChoices
+  pub names : KindNames
   pub is : IsSubcommand c (complete_app names)
 
 -- the command is one that runs a sample
@@ -256,16 +219,12 @@ command_word (Classify e w s) = codes "classify"
 command_word (Audit file) = codes "audit"
 command_word (Play file) = codes "play"
 command_word (Upgrade file) = codes "upgrade"
-command_word (Fit file lapses means) = codes "fit"
-command_word (FitKind kind files lapses means) = codes "fit"
+command_word (Fit files judging form) = codes "fit"
 command_word (Trace file) = codes "trace"
-command_word (Explain file) = codes "explain"
-command_word (ExplainKind kind file lapses means) = codes "explain"
+command_word (Explain file judging) = codes "explain"
 command_word (Draw file window) = codes "draw"
-command_word (DrawRun kind order file window) = codes "draw"
 command_word (Page file window) = codes "page"
-command_word (Complete kind file) = codes "complete"
-command_word (CompleteRun kind order file) = codes "complete"
+command_word (Complete file kind) = codes "complete"
 command_word (Run kind sample seats rounds) = codes "run"
 command_word (Record kind sample seats rounds) = codes "record"
 command_word (Hasty kind seats rounds file) = codes "hasty"
@@ -292,11 +251,11 @@ pub record IsWindowIn (window : Option Window) (rows : List Row) : Type 0 where
   pub meant : option_map (λ (w : Window). (w.from, w.to)) window ≡ numbers_meant from to
   pub fine : IfSome (numbers_meant from to) (λ n. window_fault n.0 n.1 ≡ None)
 
--- the flag `lapses` that clap has found, if any, says so
-pub record AreLapses (lapses : Lapses) (rows : List Row) : Type 0 where
-  pub none : one_of (codes "lapses") rows ≡ None → lapses ≡ Told
-  pub set : one_of (codes "lapses") rows ≡ Some (codes "true") → lapses ≡ Allowed
-  pub unset : one_of (codes "lapses") rows ≡ Some (codes "false") → lapses ≡ Told
+-- the flag `json` that clap has found, if any, says so
+pub record IsForm (form : FitForm) (rows : List Row) : Type 0 where
+  pub none : one_of (codes "json") rows ≡ None → form ≡ Words
+  pub set : one_of (codes "json") rows ≡ Some (codes "true") → form ≡ Json
+  pub unset : one_of (codes "json") rows ≡ Some (codes "false") → form ≡ Words
 
 -- a whole number in digits
 pub record IsInDigits (text : Text) (n : ℕ) : Type 0 where
@@ -323,10 +282,10 @@ abbrev pub words_or_none : Option (List Text) → List Text
 words_or_none None = []
 words_or_none (Some words) = words
 
--- what clap has found for a log: which lines may tell of a wait that ran out, and what is waited for
-abbrev pub AreLogValues : Lapses → List WaitsFor → List Row → Type 0
-AreLogValues lapses means rows =
-    AreLapses lapses rows × AreMeanings (words_or_none (all_of (codes "means") rows)) means
+-- how to judge is what clap has found: a kind, and what is waited for
+pub record AreJudging (j : Judging) (rows : List Row) : Type 0 where
+  pub kind : first_of (codes "kind") rows ≡ option_map kind_word j.kind
+  pub means : AreMeanings (words_or_none (all_of (codes "means") rows)) j.means.items
 
 -- seats and rounds are those that clap has found
 abbrev pub AreSizes : ℕ → ℕ → List Row → Type 0
@@ -339,11 +298,6 @@ AreRunValues kind sample seats rounds rows =
     × (first_of (codes "SAMPLE") rows ≡ Some (sample_word sample))
     × AreSizes seats rounds rows
 
--- the order of a run is the one of that word, and where no word names one the widest
-abbrev pub IsOrderOrAny : RunOrder → Option Text → Type 0
-IsOrderOrAny o None = o ≡ Any
-IsOrderOrAny o (Some word) = run_order_word o ≡ word
-
 -- the values of the line are those that clap has found, in the rows of its command
 abbrev pub ValuesAre : Line → List Row → Type 0
 ValuesAre (Classify e w s) rows = HasNumber (codes "ENTRY") e rows × HasNumber (codes "WAITER") w rows
@@ -351,30 +305,18 @@ ValuesAre (Classify e w s) rows = HasNumber (codes "ENTRY") e rows × HasNumber 
 ValuesAre (Audit file) rows = first_of (codes "FILE") rows ≡ option_map string_bytes file
 ValuesAre (Play file) rows = first_of (codes "FILE") rows ≡ option_map string_bytes file
 ValuesAre (Upgrade file) rows = first_of (codes "FILE") rows ≡ option_map string_bytes file
-ValuesAre (Fit file lapses means) rows = (first_of (codes "FILE") rows ≡ option_map string_bytes file)
-    × (length (words_or_none (all_of (codes "FILE") rows)) ≤ 1) × (first_of (codes "kind") rows ≡ None)
-    × AreLogValues lapses means.items rows
-ValuesAre (FitKind kind files lapses means) rows = (first_of (codes "kind") rows ≡ Some (kind_word kind))
-    × (words_or_none (all_of (codes "FILE") rows) ≡ map string_bytes files.items)
-    × AreLogValues lapses means.items rows
+ValuesAre (Fit files judging form) rows =
+    (words_or_none (all_of (codes "FILE") rows) ≡ map string_bytes files.items) × AreJudging judging rows
+    × IsForm form rows
 ValuesAre (Trace file) rows = first_of (codes "FILE") rows ≡ option_map string_bytes file
-ValuesAre (Explain file) rows = (first_of (codes "FILE") rows ≡ option_map string_bytes file)
-    × (first_of (codes "kind") rows ≡ None) × AreLogValues Told [] rows
-ValuesAre (ExplainKind kind file lapses means) rows = (first_of (codes "kind") rows ≡ Some (kind_word kind))
-    × (first_of (codes "FILE") rows ≡ option_map string_bytes file)
-    × AreLogValues lapses means.items rows
+ValuesAre (Explain file judging) rows =
+    (first_of (codes "FILE") rows ≡ option_map string_bytes file) × AreJudging judging rows
 ValuesAre (Draw file window) rows = (first_of (codes "FILE") rows ≡ option_map string_bytes file)
-    × (first_of (codes "kind") rows ≡ None) × (first_of (codes "order") rows ≡ None) × IsWindowIn window rows
-ValuesAre (DrawRun kind order file window) rows = (first_of (codes "kind") rows ≡ Some (kind_word kind))
-    × IsOrderOrAny order (first_of (codes "order") rows)
-    × (first_of (codes "FILE") rows ≡ option_map string_bytes file) × IsWindowIn window rows
+    × IsWindowIn window rows
 ValuesAre (Page file window) rows = (first_of (codes "FILE") rows ≡ option_map string_bytes file)
     × IsWindowIn window rows
-ValuesAre (Complete kind file) rows = (first_of (codes "KIND") rows ≡ Some (kind_word kind))
-    × (first_of (codes "order") rows ≡ None) × (first_of (codes "FILE") rows ≡ option_map string_bytes file)
-ValuesAre (CompleteRun kind order file) rows = (first_of (codes "KIND") rows ≡ Some (kind_word kind))
-    × (first_of (codes "order") rows ≡ Some (run_order_word order))
-    × (first_of (codes "FILE") rows ≡ option_map string_bytes file)
+ValuesAre (Complete file kind) rows = (first_of (codes "FILE") rows ≡ option_map string_bytes file)
+    × (first_of (codes "kind") rows ≡ option_map kind_word kind)
 ValuesAre (Run kind sample seats rounds) rows = AreRunValues kind sample seats rounds rows
 ValuesAre (Record kind sample seats rounds) rows = AreRunValues kind sample seats rounds rows
 ValuesAre (Hasty kind seats rounds file) rows = (first_of (codes "KIND") rows ≡ Some (kind_word kind))
@@ -386,16 +328,12 @@ RunIsInRange (Classify e w s) = Unit {0}
 RunIsInRange (Audit file) = Unit {0}
 RunIsInRange (Play file) = Unit {0}
 RunIsInRange (Upgrade file) = Unit {0}
-RunIsInRange (Fit file lapses means) = Unit {0}
-RunIsInRange (FitKind kind files lapses means) = Unit {0}
+RunIsInRange (Fit files judging form) = Unit {0}
 RunIsInRange (Trace file) = Unit {0}
-RunIsInRange (Explain file) = Unit {0}
-RunIsInRange (ExplainKind kind file lapses means) = Unit {0}
+RunIsInRange (Explain file judging) = Unit {0}
 RunIsInRange (Draw file window) = Unit {0}
-RunIsInRange (DrawRun kind order file window) = Unit {0}
 RunIsInRange (Page file window) = Unit {0}
-RunIsInRange (Complete kind file) = Unit {0}
-RunIsInRange (CompleteRun kind order file) = Unit {0}
+RunIsInRange (Complete file kind) = Unit {0}
 RunIsInRange (Run kind sample seats rounds) = IsInRange seats rounds
 RunIsInRange (Record kind sample seats rounds) = IsInRange seats rounds
 RunIsInRange (Hasty kind seats rounds file) = IsInRange seats rounds

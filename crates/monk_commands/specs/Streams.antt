@@ -12,6 +12,17 @@ abbrev pub Answers : (List ℕ → LineAnswer) → Option (List ℕ) → Option 
 Answers answer input before after status =
     IfSome input (λ bytes. (status ≡ (answer bytes).status) × Appends before after (answer bytes).text)
 
+-- such a text is put, with that status
+pub record IsPut (Is : ℕ → List ℕ → Type 0) (status : ℕ) (Puts : List ℕ → Type 0) : Type 0 where
+  pub text : List ℕ
+  pub is : Is status text
+  pub puts : Puts text
+
+-- known input and output: the status and the appended text are an answer to the input
+abbrev pub HasAnswered : (List ℕ → ℕ → List ℕ → Type 0) → Option (List ℕ) → Option (List ℕ) → Option (List ℕ) → ℕ
+    → Type 0
+HasAnswered Is input before after status = IfSome input (λ bytes. IsPut (Is bytes) status (Appends before after))
+
 -- its counters are far from their end
 pub record IsYoung {R : Type 0} (d : Device R) : Type 0 where
   pub reads : reads_of d < 2 ^ 63

@@ -1,19 +1,22 @@
-//! The explaining stream: the text of a history in, its verdict, how the monitor stands and what is wrong out.
+//! The explaining stream: the text of a history or of a log in, its verdict, how things stand and what is wrong out.
 
-ghost use Rattle.std.specs.Prelude.{◌≡◌, ◌≤◌, ◌^◌, false, length, IfOk, IfSome, IsErrOf, ◌↔◌, Ok, string_bytes};
-ghost use Rattle.std.specs.Io.KnownBytes.{Appends};
+ghost use Rattle.std.specs.Prelude.{◌≡◌, ◌≤◌, ◌^◌, false, length, IfOk, IsErrOf, Ok, string_bytes};
 ghost use Rattle.monk_history.specs.Text.Device.{inner_of, has_failed};
 ghost use Rattle.monk_history.specs.Text.Reading.{history};
 ghost use Rattle.monk_tell.specs.Told.{telling_of};
-ghost use Rattle.monk_commands.specs.Explained.{BeginsAsAudit, IsExplained, IsExplanationOf, told_answer};
-ghost use Rattle.monk_commands.specs.Legal.{IsLegalText, IsForbiddenText};
-ghost use Rattle.monk_commands.specs.Streams.{IsStreamOutcome};
+ghost use Rattle.monk_commands.specs.Explained.{IsExplainAnswer, IsExplained, IsExplanationOf, IsExplanationUnder};
+ghost use Rattle.monk_commands.specs.Explained.{told_answer};
+ghost use Rattle.monk_commands.specs.Streams.{HasAnswered, IsStreamOutcome};
 
 use crate::answer::{LineAnswer, put, too_big, unreadable, verdict_answer};
 use crate::fault::StreamFault;
 use crate::input::read_all;
-use monk_audit::AuditFault;
+use crate::logs::answering::{answer_to_log, is_log};
+use crate::logs::view::LogView;
+use crate::question::Question;
+use monk_audit::{AuditFault, under};
 use monk_history::{Device, Event, Header, read};
+use monk_kinds::KindName;
 use monk_tell::{Telling, tell};
 use std::alloc::Global;
 use std::io::{Read, Write};
@@ -50,8 +53,8 @@ pub(crate) fn explained(
     }
 }
 
-/// The answer to a text.
-fn answer_to_text(alloc: Global, bytes: &[u8]) -> Result<LineAnswer, StreamFault>
+/// The answer to the text of a history under its own kind.
+fn answer_to_history(alloc: Global, bytes: &[u8]) -> Result<LineAnswer, StreamFault>
     ensures answer { IfOk result (λ a. IsExplanationOf bytes.now a.status (λ text. string_bytes a.text ≡ text)) }
     ensures status { IfOk result (λ a. a.status ≤ 2) }
     ensures no_file { IsErrOf result StreamFault.File → ⊥ }
@@ -62,11 +65,50 @@ fn answer_to_text(alloc: Global, bytes: &[u8]) -> Result<LineAnswer, StreamFault
     }
 }
 
-/// Reads all of the reader, and writes the line and ends with the status of an audit of it. Of a
+/// The answer to the text of a history under that kind.
+fn answer_under(alloc: Global, kind: KindName, bytes: &[u8]) -> Result<LineAnswer, StreamFault>
+    ensures answer { IfOk result
+        (λ a. IsExplanationUnder kind bytes.now a.status (λ text. string_bytes a.text ≡ text)) }
+    ensures status { IfOk result (λ a. a.status ≤ 2) }
+    ensures no_file { IsErrOf result StreamFault.File → ⊥ }
+{
+    match read(alloc, bytes) {
+        Ok((header, events)) => explained(alloc, &under(&header, kind), &events),
+        Err(fault) => unreadable(alloc, fault),
+    }
+}
+
+/// The answer to a text.
+fn answer_to_text(
+    alloc: Global,
+    question: Question<'_>,
+    bytes: &[u8],
+) -> Result<LineAnswer, StreamFault>
+    ensures answer { IfOk result (λ a. IsExplainAnswer question bytes.now a.status (string_bytes a.text)) }
+    ensures status { IfOk result (λ a. a.status ≤ 2) }
+    ensures no_file { IsErrOf result StreamFault.File → ⊥ }
+{
+    if is_log(bytes) {
+        return answer_to_log(alloc, LogView::Explanation, question, bytes);
+    }
+    match question.kind {
+        Some(kind) => answer_under(alloc, kind, bytes),
+        None => answer_to_history(alloc, bytes),
+    }
+}
+
+/// Reads all of the reader, judges it, and writes what it is and why.
+///
+/// Of a history it writes the line and ends with the status of an audit of it, under the kind if one is named. Of a
 /// legal history it goes on with the situation in which the history ends: the kind, the turn, who
 /// is inside, the data, the acts that the object refused and the queues. Of a forbidden one it goes
 /// on with the event that is not allowed, the situation before it, the object's own reply or what
 /// might have been chosen, and a sentence that says why. docs/TEXT.md has the lines.
+///
+/// Of a log it writes the line that [`fit_stream`](crate::fit_stream) writes behind its name, with its status. Then come
+/// the lines to look at, each with where it stands in the source if the recorder wrote that down, and a sentence: of a
+/// misfit that line and those that led to it, else what is wrong at the end. Last it tells where each seat is, and since
+/// which line.
 ///
 /// # Errors
 ///
@@ -76,9 +118,11 @@ fn answer_to_text(alloc: Global, bytes: &[u8]) -> Result<LineAnswer, StreamFault
 ///
 /// # Cost
 ///
-/// One pass over the text and two over the events; memory for the text, for the events and for the queues.
+/// Of a history one pass over the text and two over the events; memory for the text, for the events and for the queues.
+/// Of a log that of `fit_stream` twice, and memory for the steps of a run.
 pub fn explain_stream<R: Read, W: Write>(
     alloc: Global,
+    question: Question<'_>,
     reader: &mut Device<R>,
     writer: &mut Device<W>,
 ) -> Result<u8, StreamFault>
@@ -87,20 +131,11 @@ pub fn explain_stream<R: Read, W: Write>(
 
     // What is written, and its status, are the explanation of what the reader had.
     ensures answer { IfOk result
-        (λ status. IfSome (R.remaining (inner_of reader.old))
-        (λ input. IsExplanationOf input status
-        (Appends (W.contents (inner_of writer.old)) (W.contents (inner_of writer.new))))) }
-    // The line of an audit comes first, and the status is that of an audit.
-    ensures audit { IfOk result
-        (BeginsAsAudit (R.remaining (inner_of reader.old)) (W.contents (inner_of writer.old))
+        (HasAnswered (IsExplainAnswer question) (R.remaining (inner_of reader.old)) (W.contents (inner_of writer.old))
         (W.contents (inner_of writer.new))) }
-    ensures legal { IfOk result (λ status. IfSome (R.remaining (inner_of reader.old))
-        (λ input. (status ≡ 0) ↔ IsLegalText input)) }
-    ensures forbidden { IfOk result
-        (λ status. IfSome (R.remaining (inner_of reader.old)) (λ input. (status ≡ 1) ↔ IsForbiddenText input)) }
     ensures statuses { IfOk result (λ status. status ≤ 2) }
     ensures outcome { IsStreamOutcome R.remaining reader.old reader.new writer.old writer.new result }
 {
     let bytes = read_all(alloc, reader)?;
-    put(&answer_to_text(alloc, &bytes)?, writer)
+    put(&answer_to_text(alloc, question, &bytes)?, writer)
 }

@@ -1,23 +1,26 @@
-//! The fitting stream: the text of a history or of a log in, what it is under each of the ten kinds out.
+//! The fitting stream: the text of a history or of a log in, how it is judged out.
 
-ghost use Rattle.std.specs.Prelude.{◌≡◌, ◌≤◌, ◌^◌, ◌⊎◌, ◌++◌, false, length, IfOk, OnOk, IfSome, IsErrOf, ◌↔◌};
-ghost use Rattle.std.specs.Io.KnownBytes.{Appends};
+ghost use Rattle.std.specs.Prelude.{◌≡◌, ◌≤◌, ◌^◌, ◌++◌, ◌↔◌, false, None, length, IfOk, OnOk, IfSome, IsErrOf, string_bytes};
 ghost use Rattle.monk_object.specs.Names.{most};
 ghost use Rattle.monk_history.specs.Text.Device.{inner_of, has_failed};
 ghost use Rattle.monk_kinds.specs.Names.{kinds};
-ghost use Rattle.monk_commands.specs.Fitted.{IsFitText, fit_answer, fit_line, fit_lines, fit_of, fits_some, is_fit, verdict_under};
-ghost use Rattle.monk_commands.specs.LogFitted.{IsFitLogText, fit_answer_of, is_log_text};
-ghost use Rattle.monk_commands.specs.Streams.{Answers, IsStreamOutcome, IsWriting};
+ghost use Rattle.monk_commands.specs.FitAnswered as answered;
+ghost use Rattle.monk_commands.specs.Fitted.{IsFitText, fit_line, fit_lines, fit_answer, fit_of, fits_some, is_fit};
+ghost use Rattle.monk_commands.specs.Fitted.{verdict_under};
+ghost use Rattle.monk_commands.specs.LogAnswered.{is_log_text};
+ghost use Rattle.monk_commands.specs.Streams.{HasAnswered, IsStreamOutcome};
 
-use crate::answer::{put, too_big, unreadable, verdict_answer};
+use crate::answer::{LineAnswer, put, too_big, unreadable, verdict_answer};
 use crate::fault::StreamFault;
+use crate::fit_form::FitForm;
 use crate::input::read_all;
-use crate::log_fitting::fit_log_text;
+use crate::logs::answering::{answer_to_log, is_log};
+use crate::logs::view::LogView;
+use crate::question::Question;
 use monk_audit::{AuditFault, Verdict, audit, under};
 use monk_history::{Device, Event, Header, read};
 use monk_kinds::KindName;
-use monk_logs::{Lapses, WaitsFor};
-use std::alloc::Global;
+use std::alloc::{AllocError, Global};
 use std::io::{Read, Write};
 
 /// The verdict on the events under the kind, whatever kind the header names.
@@ -41,24 +44,24 @@ fn verdict_under(
 }
 
 /// Puts the line of the kind behind the page. Gives whether the events are legal under it.
-pub(crate) fn put_line(
+fn put_line(
     alloc: Global,
-    page: &mut Vec<u8>,
+    page: &mut String,
     header: &Header,
     events: &[Event],
     kind: KindName,
 ) -> Result<bool, StreamFault>
     requires few { length events.now ≤ 2 ^ 25 }
     requires fits { header.now.size ≤ most header.now.object }
-    ensures line { OnOk result (page.new.items ≡ page.old.items ++ fit_line header.now events.now kind) }
+    ensures line { OnOk result (string_bytes page.new ≡ string_bytes page.old ++ fit_line header.now events.now kind) }
     ensures fit { IfOk result (λ fits. fits ≡ is_fit (verdict_under header.now events.now kind)) }
     ensures no_file { IsErrOf result StreamFault.File → ⊥ }
 {
     let verdict = verdict_under(alloc, header, events, kind)?;
     let answer = verdict_answer(alloc, verdict)?;
-    page.extend_from_slice(kind.text())?;
-    page.extend_from_slice(b" ")?;
-    page.extend_from_slice(answer.text.as_bytes())?;
+    page.push_str(kind.as_str())?;
+    page.push_str(" ")?;
+    page.push_str(answer.text.as_str())?;
     Ok(answer.status == 0)
 }
 
@@ -67,14 +70,14 @@ fn all_lines(
     alloc: Global,
     header: &Header,
     events: &[Event],
-) -> Result<(Vec<u8>, bool), StreamFault>
+) -> Result<(String, bool), StreamFault>
     requires few { length events.now ≤ 2 ^ 25 }
     requires fits { header.now.size ≤ most header.now.object }
-    ensures lines { IfOk result (λ r. r.0.items ≡ fit_lines header.now events.now kinds) }
+    ensures lines { IfOk result (λ r. string_bytes r.0 ≡ fit_lines header.now events.now kinds) }
     ensures fit { IfOk result (λ r. r.1 ≡ fits_some header.now events.now kinds) }
     ensures no_file { IsErrOf result StreamFault.File → ⊥ }
 {
-    let mut page = Vec::new(alloc);
+    let mut page = String::new(alloc);
     let mut is_fit = false;
     for kind in KindName::ALL.iter() {
         let fits = put_line(alloc, &mut page, header, events, *kind)?;
@@ -83,90 +86,139 @@ fn all_lines(
     Ok((page, is_fit))
 }
 
-/// Answers a history that was read.
-fn fit<W: Write>(
-    alloc: Global,
-    header: &Header,
-    events: &[Event],
-    writer: &mut Device<W>,
-) -> Result<u8, StreamFault>
-    requires works { has_failed writer.old ≡ false }
+/// The answer to a history under each kind.
+fn fit(alloc: Global, header: &Header, events: &[Event]) -> Result<LineAnswer, StreamFault>
     requires few { length events.now ≤ 2 ^ 25 }
     ensures answer { IfOk result
-        (λ status. (status ≡ (fit_answer header.now events.now).status)
-        × Appends (W.contents (inner_of writer.old)) (W.contents (inner_of writer.new))
-        (fit_answer header.now events.now).text) }
-    ensures writing { IsWriting writer.old writer.new result }
+        (λ a. answered.IsOf (fit_answer header.now events.now) a.status (string_bytes a.text)) }
+    ensures no_file { IsErrOf result StreamFault.File → ⊥ }
 {
     if header.size() > header.object().greatest_size() {
-        return put(&too_big(alloc)?, writer);
+        return too_big(alloc);
     }
-    let (page, is_fit) = all_lines(alloc, header, events)?;
-    match writer.write_all(&page) {
-        Ok(()) => Ok(if is_fit { 0 } else { 1 }),
-        Err(_) => Err(StreamFault::File),
-    }
+    let (text, is_fit) = all_lines(alloc, header, events)?;
+    let status = if is_fit { 0 } else { 1 };
+    Ok(LineAnswer { status, text })
 }
 
-/// Answers the text of a history.
-fn fit_history<W: Write>(
+/// The answer to a history under the kind.
+fn fit_under(
     alloc: Global,
-    bytes: &[u8],
-    writer: &mut Device<W>,
-) -> Result<u8, StreamFault>
-    requires { has_failed writer.old ≡ false }
+    kind: KindName,
+    header: &Header,
+    events: &[Event],
+) -> Result<LineAnswer, StreamFault>
+    requires few { length events.now ≤ 2 ^ 25 }
     ensures answer { IfOk result
-        (λ status. (status ≡ (fit_of bytes.now).status)
-        × Appends (W.contents (inner_of writer.old)) (W.contents (inner_of writer.new)) (fit_of bytes.now).text) }
-    ensures writing { IsWriting writer.old writer.new result }
+        (λ a. answered.IsOf (answered.kind_fit_answer kind header.now events.now) a.status (string_bytes a.text)) }
+    ensures no_file { IsErrOf result StreamFault.File → ⊥ }
+{
+    if header.size() > header.object().greatest_size() {
+        return too_big(alloc);
+    }
+    let mut text = String::new(alloc);
+    let is_legal = put_line(alloc, &mut text, header, events, kind)?;
+    let status = if is_legal { 0 } else { 1 };
+    Ok(LineAnswer { status, text })
+}
+
+/// The answer to the text of a history under each kind.
+fn answer_to_history(alloc: Global, bytes: &[u8]) -> Result<LineAnswer, StreamFault>
+    ensures answer { IfOk result (λ a. answered.IsOf (fit_of bytes.now) a.status (string_bytes a.text)) }
+    ensures no_file { IsErrOf result StreamFault.File → ⊥ }
 {
     match read(alloc, bytes) {
-        Ok((header, events)) => fit(alloc, &header, &events, writer),
-        Err(fault) => put(&unreadable(alloc, fault)?, writer),
+        Ok((header, events)) => fit(alloc, &header, &events),
+        Err(fault) => unreadable(alloc, fault),
     }
 }
 
-/// Whether the first word of the text is that of a log.
-pub(crate) fn is_log(bytes: &[u8]) -> bool
-    ensures { result ≡ is_log_text bytes.now }
+/// The answer to the text of a history under the kind.
+fn answer_under(alloc: Global, kind: KindName, bytes: &[u8]) -> Result<LineAnswer, StreamFault>
+    ensures answer { IfOk result
+        (λ a. answered.IsOf (answered.kind_fit_of kind bytes.now) a.status (string_bytes a.text)) }
+    ensures no_file { IsErrOf result StreamFault.File → ⊥ }
 {
-    bytes.starts_with(b"log ")
+    match read(alloc, bytes) {
+        Ok((header, events)) => fit_under(alloc, kind, &header, &events),
+        Err(fault) => unreadable(alloc, fault),
+    }
 }
 
-/// Answers a text.
-fn fit_text<W: Write>(
+/// The answer behind a name.
+fn named(alloc: Global, name: &str, answer: LineAnswer) -> Result<LineAnswer, AllocError>
+    ensures status { IfOk result (λ a. a.status ≡ answer.status) }
+    ensures text { IfOk result (λ a. string_bytes a.text ≡ answered.named_line name.now (string_bytes answer.text)) }
+{
+    let (status, line) = (answer.status, answer.text);
+    let text = format!(in alloc; "{name}: {line}")?;
+    Ok(LineAnswer { status, text })
+}
+
+/// The answer to a history.
+fn fit_history(
     alloc: Global,
-    lapses: Lapses,
-    means: &[WaitsFor],
+    question: Question<'_>,
     bytes: &[u8],
-    writer: &mut Device<W>,
-) -> Result<u8, StreamFault>
-    requires { has_failed writer.old ≡ false }
+) -> Result<LineAnswer, StreamFault>
     ensures answer { IfOk result
-        (λ status. (status ≡ (fit_answer_of lapses means.now bytes.now).status)
-        × Appends (W.contents (inner_of writer.old)) (W.contents (inner_of writer.new))
-        (fit_answer_of lapses means.now bytes.now).text) }
-    ensures writing { IsWriting writer.old writer.new result }
+        (λ a. answered.IsHistoryFit question.kind question.name.now bytes.now a.status (string_bytes a.text)) }
+    ensures no_file { IsErrOf result StreamFault.File → ⊥ }
+{
+    match question.kind {
+        Some(kind) => Ok(named(alloc, question.name, answer_under(alloc, kind, bytes)?)?),
+        None => answer_to_history(alloc, bytes),
+    }
+}
+
+/// The answer to a log.
+fn fit_log(
+    alloc: Global,
+    form: FitForm,
+    question: Question<'_>,
+    bytes: &[u8],
+) -> Result<LineAnswer, StreamFault>
+    ensures answer { IfOk result (λ a. answered.IsLogFit form question bytes.now a.status (string_bytes a.text)) }
+    ensures no_file { IsErrOf result StreamFault.File → ⊥ }
+{
+    match form {
+        FitForm::Words => {
+            let answer = answer_to_log(alloc, LogView::Line, question, bytes)?;
+            Ok(named(alloc, question.name, answer)?)
+        }
+        FitForm::Json => answer_to_log(alloc, LogView::Json, question, bytes),
+    }
+}
+
+/// The answer to a text.
+fn fit_text(
+    alloc: Global,
+    form: FitForm,
+    question: Question<'_>,
+    bytes: &[u8],
+) -> Result<LineAnswer, StreamFault>
+    ensures answer { IfOk result (λ a. answered.IsFitAnswer form question bytes.now a.status (string_bytes a.text)) }
+    ensures no_file { IsErrOf result StreamFault.File → ⊥ }
 {
     if is_log(bytes) {
-        fit_log_text(alloc, lapses, means, bytes, writer)
+        fit_log(alloc, form, question, bytes)
     } else {
-        fit_history(alloc, bytes, writer)
+        fit_history(alloc, question, bytes)
     }
 }
 
-/// Reads all of the reader, judges the events of a history under each of the ten kinds in turn,
-/// whatever kind the header names, and writes ten lines, in the order of [`KindName::ALL`]: `KIND
-/// legal N` or `KIND forbidden STEP REASON WORD`, where the rest is what an audit says under that
-/// kind. The status is 0 where they are legal under one kind at least, else 1.
+/// Reads all of the reader, judges it, and writes what it is.
 ///
-/// Of a log, whose first word is `log`, it writes `KIND fits ORDER`, with the strictest order in
-/// which the log could be of that kind ([`fit`](monk_logs::fit)), or `KIND misfit STEP NUMBER
-/// WORD`, the first line that can't be of that kind in any order, and the reason. Behind these
-/// stand two lines of counts, of the log as one of NPNB in any order
-/// ([`Counts`](monk_logs::Counts)): `served N passed N lapsed N` and `left waiting N woken N inside
-/// N`; and, where `means` tells what is waited for, `missed STEP` or `missed none`. The status is 0
-/// where it fits one kind at least, else 1. `lapses` and `means` are for logs alone.
+/// Of a log, whose first word is `log`, it writes one line behind `NAME: `, or one line of JSON: whether it fits, how
+/// its program ends, and what is counted and found beside ([`judge_log`](monk_judge::judge_log)). docs/LOGS.md has the
+/// words. Lines are counted as in the file. The status is 1 if the log misfits, misses a signal or ends busy, though its
+/// program didn't end by itself; else 0. A log with another kind than NPNB, or with `means` but without acts, is refused
+/// by a line with status 2.
+///
+/// Of a history, whatever kind its header names, it writes ten lines, in the order of [`KindName::ALL`]: `KIND legal N`
+/// or `KIND forbidden STEP REASON WORD`, where the rest is what an audit says under that kind. The status is 0 where
+/// the events are legal under one kind at least, else 1. With a kind it writes the line of this kind alone, behind
+/// `NAME: `, with status 0 if they are legal under it.
 ///
 /// Where the reader has no such text, the line `unreadable LINE NUMBER WORD` is written with status 2, and where the
 /// size is above the object's greatest, `object` with status 2.
@@ -179,15 +231,12 @@ fn fit_text<W: Write>(
 ///
 /// # Cost
 ///
-/// One pass over the text and ten over the events, with memory for the text, the events and the
-/// queues. Of a log one pass over the text that looks for its first fault, three for all kinds
-/// ([`LogFits`](monk_logs::LogFits)) in each order that is tried, up to three for each kind that it
-/// doesn't fit so, each up to the first misfit there, and, where it doesn't fit NPNB or lapses are
-/// allowed, one that counts; memory for the text and the queues alone.
+/// Of a log one pass over the text and two over its lines; memory for the text and some 32 bytes for each line. Of a
+/// history one pass over the text and one over the events for each kind; memory for the text, the events and the queues.
 pub fn fit_stream<R: Read, W: Write>(
     alloc: Global,
-    lapses: Lapses,
-    means: &[WaitsFor],
+    form: FitForm,
+    question: Question<'_>,
     reader: &mut Device<R>,
     writer: &mut Device<W>,
 ) -> Result<u8, StreamFault>
@@ -196,16 +245,15 @@ pub fn fit_stream<R: Read, W: Write>(
 
     // What is written, and its status, are the answer to what the reader had.
     ensures answer { IfOk result
-        (Answers (fit_answer_of lapses means.now) (R.remaining (inner_of reader.old)) (W.contents (inner_of writer.old))
-        (W.contents (inner_of writer.new))) }
-    // The status is 0 exactly for the text of a history that is legal under one of the kinds, or of
-    // a log that is open under one in some order.
+        (HasAnswered (answered.IsFitAnswer form question) (R.remaining (inner_of reader.old))
+        (W.contents (inner_of writer.old)) (W.contents (inner_of writer.new))) }
+    // Of a history the status is 0 exactly where it is legal under one of the kinds, if none is named.
     ensures fits { IfOk result
         (λ status. IfSome (R.remaining (inner_of reader.old))
-        (λ input. (status ≡ 0) ↔ (IsFitText input ⊎ IsFitLogText lapses input))) }
+        (λ input. is_log_text input ≡ false → question.kind ≡ None → (status ≡ 0) ↔ IsFitText input)) }
     ensures statuses { IfOk result (λ status. status ≤ 2) }
     ensures outcome { IsStreamOutcome R.remaining reader.old reader.new writer.old writer.new result }
 {
     let bytes = read_all(alloc, reader)?;
-    fit_text(alloc, lapses, means, &bytes, writer)
+    put(&fit_text(alloc, form, question, &bytes)?, writer)
 }

@@ -5,7 +5,7 @@ pub(crate) const PRIORITY: &str = "A priority, 0 to 255; greater is higher";
 pub(crate) const FILE: &str = "The text; with none or with `-`, standard input";
 
 pub(crate) const FILES: &str =
-    "The text, with --kind any number of them; with none or with `-`, standard input";
+    "The texts, any number of them; with none or with `-`, standard input";
 
 pub(crate) const FROM: &str = "The first event to show";
 
@@ -46,18 +46,17 @@ pub(crate) static UPGRADE: Help = Help {
 };
 
 pub(crate) static FIT: Help = Help {
-    about: "Tells under which kinds a history is legal, or which kinds a log fits",
-    example: "Example: monk fit examples/threads_at_a_buffer.log --means 0=0 --means 1=1\n\
-        With --kind it writes one line for each file.\n\
-        Example: monk fit --kind NPNB logs/*.log\n\
-        Status: 0 fits a kind, 1 fits none, 2 unreadable; 3 wrong words, 4 a failed file or no memory.\n\
-        With --kind the worst of all files: 0 fits it, 1 doesn't, misses a signal or ends busy\n\
+    about: "Judges logs, a line for each, or a history under each of the ten kinds",
+    example: "Example: monk fit logs/*.log\n\
+        Example: monk fit --means 0=0 --means 1=1 examples/threads_at_a_buffer.log\n\
+        Status, the worst of all files: 0 fits, 1 misfits, misses a signal or ends busy, 2 unreadable;\n\
+        of a history 0 legal under a kind, 1 under none; 3 wrong words, 4 a failed file or no memory\n\
         Read: docs/LOGS.md",
 };
 
-pub(crate) const ONE_KIND: &str = "Judge under this kind alone";
+pub(crate) const ONE_KIND: &str = "Judge a history under this kind alone";
 
-pub(crate) const LAPSES: &str = "In a log, a `resume` may be a timed wait that ran out";
+pub(crate) const JSON: &str = "Of each log one line of JSON";
 
 pub(crate) const MEANS: &str =
     "In a log, threads that wait on the condition wait for the predicate";
@@ -70,18 +69,13 @@ pub(crate) static TRACE: Help = Help {
 };
 
 pub(crate) static EXPLAIN: Help = Help {
-    about: "Tells whether a history is legal, how the monitor stands, and what is wrong",
+    about: "Tells how a history or a log is judged, how things stand, and what is wrong",
     example: "Example: monk explain examples/hoare_handover_under_mesa.history\n\
-        With --kind it judges a history or a log under that kind.\n\
-        Example: monk explain --kind NPNB examples/woken_by_nobody.log\n\
+        Example: monk explain examples/if_for_while.log\n\
         Status: 0 legal, 1 forbidden, 2 unreadable; 3 wrong words, 4 a failed file or no memory.\n\
-        Of a log 0 fits, 1 doesn't, misses a signal or ends busy\n\
+        Of a log 0 fits, 1 misfits, misses a signal or ends busy\n\
         Read: docs/TEXT.md, of logs docs/LOGS.md",
 };
-
-pub(crate) const DRAWN_KIND: &str = "Draw a log: a run of a monitor of this kind that tells it";
-
-pub(crate) const DRAWN_ORDER: &str = "With --kind, the order of its queues; with none `any`";
 
 pub(crate) static DRAW: Help = Help {
     about: "Draws a history, or a run that tells a log, as a picture",
@@ -89,7 +83,7 @@ pub(crate) static DRAW: Help = Help {
         up to the forbidden one; with --from alone the first 2000 from there on; with --to alone the\n\
         last 2000 up to there; with both at most 2000.\n\
         Example: monk draw examples/hoare_handover.history --from 4 --to 7\n\
-        Example: monk draw --kind NPNB examples/if_for_while.log\n\
+        Example: monk draw examples/if_for_while.log\n\
         Status: 0 legal, 1 forbidden, 2 unreadable; 3 wrong words, 4 a failed file or no memory.\n\
         Of a log 0 fits, 1 misfits\n\
         Read: docs/TEXT.md, of logs docs/LOGS.md",
@@ -103,13 +97,13 @@ pub(crate) static PAGE: Help = Help {
         Read: docs/TEXT.md",
 };
 
-pub(crate) const ORDER: &str =
-    "Not in order of arrival: a run, with whom each signal serves, in this order";
+pub(crate) const COMPLETED_KIND: &str =
+    "Write a history of a monitor of this kind, with queues in order of arrival";
 
 pub(crate) static COMPLETE: Help = Help {
-    about: "Turns a log into a history of a given kind",
-    example: "Example: monk complete NPNB examples/threads_at_a_buffer.log\n\
-        Example: monk complete --order any NPNB examples/if_for_while.log\n\
+    about: "Turns a log into a run that tells it, or into a history of a given kind",
+    example: "Example: monk complete examples/if_for_while.log\n\
+        Example: monk complete --kind NPNB examples/threads_at_a_buffer.log\n\
         Status: 0 completed, 1 a misfit, 2 unreadable; 3 wrong words, 4 a failed file or no memory\n\
         Read: docs/LOGS.md",
 };

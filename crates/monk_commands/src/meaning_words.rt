@@ -6,7 +6,7 @@ ghost use Rattle.monk_commands.specs.Request.{AreMeanings, IsInDigits, IsMeaning
 
 use crate::request::LineFault;
 use clap::ArgMatches;
-use monk_logs::WaitsFor;
+use monk_judge::WaitsFor;
 use std::alloc::Global;
 
 fn number_of(digits: &str) -> Option<u8>

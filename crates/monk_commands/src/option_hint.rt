@@ -11,7 +11,8 @@ use crate::hint::first_line;
 use crate::task::Task;
 use crate::text_name::TextName;
 use monk_history::lines::{Head, LineWords};
-use monk_logs::{Lapses, LogHeader, WaitsFor};
+use monk_judge::WaitsFor;
+use monk_logs::LogHeader;
 use monk_object::{Book, Buffer, Flags, Guarded, ObjectName, Shop};
 
 /// What the options of `fit` and `explain` name that the input doesn't have. It prints itself as one
@@ -50,41 +51,39 @@ pub fn option_hint_for(task: &Task<'_>, front: &[u8]) -> Option<OptionHint>
     ensures { result ≡ option_hint_of task.now front.now }
 {
     match *task {
-        Task::Fit(lapses, means)
-        | Task::FitKind(_, lapses, means, _)
-        | Task::ExplainKind(_, lapses, means) => fit_hint(lapses, means, first_line(front)),
+        Task::Fit(_, question) | Task::Explain(question) => {
+            fit_hint(question.means, first_line(front))
+        }
         Task::Audit
         | Task::Play
         | Task::Upgrade
         | Task::Trace
-        | Task::Explain
         | Task::Draw(_)
-        | Task::DrawRun(..)
         | Task::Page(_)
-        | Task::Complete(_)
-        | Task::CompleteRun(..) => None,
+        | Task::Complete(_) => None,
     }
 }
 
 /// By the first line, where it begins as a header.
-fn fit_hint(lapses: Lapses, means: &[WaitsFor], line: Option<&[u8]>) -> Option<OptionHint>
-    ensures { result ≡ fit_hint lapses means.now (words_left (option_map (λ x. x.now) line.entry)) }
+fn fit_hint(means: &[WaitsFor], line: Option<&[u8]>) -> Option<OptionHint>
+    ensures { result ≡ fit_hint means.now (words_left (option_map (λ x. x.now) line.entry)) }
 {
     let line = line?;
     match TextName::of_word(LineWords::of(line).next()?)? {
-        TextName::History => history_hint(lapses, means),
+        TextName::History => history_hint(means),
         TextName::Play => None,
         TextName::Log => log_hint(means, line),
     }
 }
 
 /// By the options, where the input is a history.
-fn history_hint(lapses: Lapses, means: &[WaitsFor]) -> Option<OptionHint>
-    ensures { result ≡ history_hint lapses means.now }
+fn history_hint(means: &[WaitsFor]) -> Option<OptionHint>
+    ensures { result ≡ history_hint means.now }
 {
-    match lapses {
-        Lapses::Told if means.is_empty() => None,
-        Lapses::Told | Lapses::Allowed => Some(OptionHint::History),
+    if means.is_empty() {
+        None
+    } else {
+        Some(OptionHint::History)
     }
 }
 

@@ -4,7 +4,7 @@ ghost use Rattle.std.specs.Prelude.{◌≡◌};
 ghost use Rattle.monk_commands.specs.OptionHint.{object_called};
 
 use crate::option_hint::{OptionHint, predicates};
-use monk_logs::WaitsFor;
+use monk_judge::WaitsFor;
 use monk_object::ObjectName;
 use std::fmt;
 
@@ -32,10 +32,7 @@ impl fmt::Display for OptionHint {
                 meaning.pred,
                 HowMany(predicates(object))
             ),
-            OptionHint::History => write!(
-                f,
-                "--means and --lapses are for logs, and this is a history"
-            ),
+            OptionHint::History => write!(f, "--means is for logs, and this is a history"),
         }
     }
 }

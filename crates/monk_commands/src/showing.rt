@@ -12,6 +12,8 @@ ghost use Rattle.monk_commands.specs.Streams.{IsStreamOutcome, IsWriting};
 use crate::answer::{LineAnswer, put, too_big, unreadable};
 use crate::fault::StreamFault;
 use crate::input::read_all;
+use crate::logs::answering::is_log;
+use crate::logs::drawing::draw_log;
 use crate::show::Show;
 use monk_audit::{AuditFault, Verdict, audit};
 use monk_draw::{Window, draw, is_behind, showable};
@@ -163,6 +165,9 @@ fn show_text<W: Write>(
         (Appends (W.contents (inner_of writer.old)) (W.contents (inner_of writer.new)))) }
     ensures writing { IsWriting writer.old writer.new result }
 {
+    if show == Show::Picture && is_log(bytes) {
+        return put(&draw_log(alloc, window, bytes)?, writer);
+    }
     match read(alloc, bytes) {
         Ok((header, events)) => show_history(alloc, show, &header, &events, window, writer),
         Err(fault) => put(&unreadable(alloc, fault)?, writer),

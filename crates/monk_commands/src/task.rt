@@ -8,12 +8,11 @@ use crate::auditing::audit_stream;
 use crate::completing::complete_stream;
 use crate::explaining::explain_stream;
 use crate::fault::StreamFault;
+use crate::fit_form::FitForm;
 use crate::fitting::fit_stream;
-use crate::kind_explaining::explain_kind_stream;
-use crate::kind_fitting::fit_kind_stream;
+use crate::logs::completing::complete_run_stream;
 use crate::playing::play_stream;
-use crate::run_completing::complete_run_stream;
-use crate::run_drawing::draw_run_stream;
+use crate::question::Question;
 use crate::show::Show;
 use crate::showing::show_stream;
 use crate::tracing::trace_stream;
@@ -21,7 +20,6 @@ use crate::upgrading::upgrade_stream;
 use monk_draw::Window;
 use monk_history::Device;
 use monk_kinds::KindName;
-use monk_logs::{Lapses, RunOrder, WaitsFor};
 use std::alloc::Global;
 use std::io::{Read, Write};
 
@@ -34,31 +32,19 @@ pub enum Task<'a> {
     Play,
     /// The same history in a version that has every event, by [`upgrade_stream`].
     Upgrade,
-    /// The verdicts on a history or a log under each of the ten kinds, by [`fit_stream`]: of a log
-    /// with what it says of waits.
-    Fit(Lapses, &'a [WaitsFor]),
-    /// The verdict on a history or a log of that name under the kind, by [`fit_kind_stream`]: of a
-    /// log with what it says of waits.
-    FitKind(KindName, Lapses, &'a [WaitsFor], &'a str),
+    /// How a history or a log is judged, by [`fit_stream`].
+    Fit(FitForm, Question<'a>),
     /// Each command of a play with its answer, by [`trace_stream`].
     Trace,
-    /// The verdict on a history, and why, by [`explain_stream`].
-    Explain,
-    /// The verdict on a history or a log under the kind, and why, by [`explain_kind_stream`]: of a log
-    /// with its counts, and with the last line of each seat.
-    ExplainKind(KindName, Lapses, &'a [WaitsFor]),
-    /// The picture of a history, by [`show_stream`]: of the events that are asked for.
+    /// How a history or a log is judged, and why, by [`explain_stream`].
+    Explain(Question<'a>),
+    /// The picture of a history or of a log, by [`show_stream`]: of the events that are asked for.
     Draw(Option<Window>),
-    /// The picture of a run of a monitor of the kind, with its queues in that order, that tells a log,
-    /// by [`draw_run_stream`]: of the steps that are asked for.
-    DrawRun(KindName, RunOrder, Option<Window>),
     /// The page of a history, by [`show_stream`]: of the events that are asked for.
     Page(Option<Window>),
-    /// A legal history of a monitor of the kind that tells a log, by [`complete_stream`].
-    Complete(KindName),
-    /// A run of a monitor of the kind, with its queues in that order, that tells a log, by
-    /// [`complete_run_stream`].
-    CompleteRun(KindName, RunOrder),
+    /// A legal history of a monitor of the kind that tells a log, by [`complete_stream`]; with no kind, a run of a mutex
+    /// with condition variables, by [`complete_run_stream`].
+    Complete(Option<KindName>),
 }
 
 impl Task<'_> {
@@ -95,24 +81,13 @@ impl Task<'_> {
             Task::Audit => audit_stream(alloc, reader, writer),
             Task::Play => play_stream(alloc, reader, writer),
             Task::Upgrade => upgrade_stream(alloc, reader, writer),
-            Task::Fit(lapses, means) => fit_stream(alloc, lapses, means, reader, writer),
-            Task::FitKind(kind, lapses, means, name) => {
-                fit_kind_stream(alloc, kind, lapses, means, name, reader, writer)
-            }
+            Task::Fit(form, question) => fit_stream(alloc, form, question, reader, writer),
             Task::Trace => trace_stream(alloc, reader, writer),
-            Task::Explain => explain_stream(alloc, reader, writer),
-            Task::ExplainKind(kind, lapses, means) => {
-                explain_kind_stream(alloc, kind, lapses, means, reader, writer)
-            }
+            Task::Explain(question) => explain_stream(alloc, question, reader, writer),
             Task::Draw(window) => show_stream(alloc, Show::Picture, window, reader, writer),
-            Task::DrawRun(kind, order, window) => {
-                draw_run_stream(alloc, kind, order, window, reader, writer)
-            }
             Task::Page(window) => show_stream(alloc, Show::Page, window, reader, writer),
-            Task::Complete(kind) => complete_stream(alloc, kind, reader, writer),
-            Task::CompleteRun(kind, order) => {
-                complete_run_stream(alloc, kind, order, reader, writer)
-            }
+            Task::Complete(Some(kind)) => complete_stream(alloc, kind, reader, writer),
+            Task::Complete(None) => complete_run_stream(alloc, reader, writer),
         }
     }
 }

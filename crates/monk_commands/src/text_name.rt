@@ -35,14 +35,10 @@ impl TextName {
         ensures { result ≡ reads task.now self }
     {
         match task {
-            Task::Audit | Task::Upgrade | Task::Explain | Task::Draw(_) | Task::Page(_) => {
-                self == TextName::History
-            }
+            Task::Audit | Task::Upgrade | Task::Page(_) => self == TextName::History,
             Task::Play | Task::Trace => self == TextName::Play,
-            Task::Complete(_) | Task::CompleteRun(..) | Task::DrawRun(..) => self == TextName::Log,
-            Task::Fit(_, _) | Task::FitKind(_, _, _, _) | Task::ExplainKind(_, _, _) => {
-                self != TextName::Play
-            }
+            Task::Complete(_) => self == TextName::Log,
+            Task::Fit(..) | Task::Explain(_) | Task::Draw(_) => self != TextName::Play,
         }
     }
 
@@ -52,7 +48,7 @@ impl TextName {
     {
         match task {
             Task::Play | Task::Trace => TextName::Play,
-            Task::Complete(_) | Task::CompleteRun(..) | Task::DrawRun(..) => TextName::Log,
+            Task::Complete(_) => TextName::Log,
             _ => TextName::History,
         }
     }

@@ -4,7 +4,7 @@ ghost use Rattle.std.specs.Prelude.{◌≡◌, false, IfOk, IfSome, IsOkAnd, Som
 ghost use Rattle.clap.specs.Words.{AddsArg, AddsSubcommand, App, app_of, found_of, new_app, rows_of, rule_of, subcommand_of};
 ghost use Rattle.clap.specs.Words.{subcommand_rows_of};
 ghost use Rattle.clap.specs.declared.builder.value_parser.ValueParser.TheVariants.{Signed};
-ghost use Rattle.monk_commands.specs.Request.{IsAsked, IsCompleteCommand, IsDrawCommand, IsHastyCommand};
+ghost use Rattle.monk_commands.specs.Request.{IsAsked, IsCompleteCommand, IsHastyCommand};
 ghost use Rattle.monk_commands.specs.Request.{IsExplainCommand};
 ghost use Rattle.monk_commands.specs.Request.{IsFitCommand, IsJudgingCommand};
 ghost use Rattle.monk_commands.specs.Request.{IsMonk, IsOwnApp, IsPlainMonk, IsRead, IsRunCommand, IsSubcommand};
@@ -12,14 +12,12 @@ ghost use Rattle.monk_commands.specs.Request.{bare_app, classify_app, file_app, 
 ghost use Rattle.monk_commands.specs.Request.{window_app};
 
 use crate::arguments::{chosen, file, files, flag, history, number, repeated, required};
-use crate::draw_words::line_to_draw;
 use crate::file_words::file_of;
-use crate::fit_words::{line_to_explain, line_to_fit};
+use crate::fit_words::{line_to_explain, line_to_fit, one_kind};
 use crate::help::{
-    AUDIT, CLASSIFY, COMPLETE, DRAW, DRAWN_KIND, DRAWN_ORDER, EXPLAIN, FIT, FROM, HASTY, Help,
-    LAPSES, MEANS, ONE_KIND, ORDER, PAGE, PLAY, PRIORITY, RECORD, RUN, TO, TRACE, UPGRADE,
+    AUDIT, CLASSIFY, COMPLETE, COMPLETED_KIND, DRAW, EXPLAIN, FIT, FROM, HASTY, Help, JSON, MEANS,
+    ONE_KIND, PAGE, PLAY, PRIORITY, RECORD, RUN, TO, TRACE, UPGRADE,
 };
-use crate::order_words::order_of;
 use crate::request::{Line, LineFault};
 use crate::run_words::{kind_of, line_to_hasty, line_to_record, line_to_run};
 use crate::window_words::window_of;
@@ -32,8 +30,6 @@ static KINDS: [&str; 10] = [
     "PB", "NPB", "PNB", "NPNB", "PQB", "NPQB", "PIR", "NPIR", "PIS", "NPIS",
 ];
 
-static ORDERS: [&str; 2] = ["wake", "any"];
-
 static SAMPLES: [&str; 3] = ["buffer", "book", "shop"];
 
 const VERSION: &str = "1.0.0";
@@ -42,7 +38,7 @@ fn command<'a>(alloc: Global) -> Result<Command<'a>, AllocError>
     ensures { IfOk result (λ c. IsMonk (app_of c)) }
 {
     let program = adding(plain(alloc), explaining(alloc));
-    let program = adding(program, drawing(alloc));
+    let program = adding(program, with_window(alloc, "draw", &DRAW));
     let program = adding(program, with_window(alloc, "page", &PAGE));
     let program = adding(program, completing(alloc));
     let program = adding(program, running(alloc, "run", &RUN));
@@ -116,34 +112,28 @@ fn classify<'a>(alloc: Global) -> Result<Command<'a>, AllocError>
     taking(command, priority(alloc, "SIGNALLER"))
 }
 
-/// A command that takes a kind or none, what a log may tell, and last what it reads.
-fn judging<'a>(
-    alloc: Global,
-    name: &'a str,
-    help: &Help,
-    last: Arg<'a>,
-) -> Result<Command<'a>, AllocError>
-    requires local { last.global ≡ false }
-    ensures { IfOk result (IsJudgingCommand name.entry.now (rule_of last.entry)) }
+/// A command of that name that takes a kind or none, and what is waited for in a log.
+fn judging<'a>(alloc: Global, name: &'a str, help: &Help) -> Result<Command<'a>, AllocError>
+    ensures { IfOk result (IsJudgingCommand name.entry.now) }
 {
     let kinds = ValueParser::Names(KINDS.as_slice());
     let kind = chosen(alloc, "kind", ONE_KIND, "KIND", kinds);
     let command = described(alloc, name, help).arg(kind);
-    let command = taking(command, flag(alloc, "lapses", LAPSES));
-    let command = taking(command, repeated(alloc, "means", MEANS, "COND=PRED"));
-    taking(command, last)
+    taking(command, repeated(alloc, "means", MEANS, "COND=PRED"))
 }
 
 fn fitting<'a>(alloc: Global) -> Result<Command<'a>, AllocError>
     ensures { IfOk result IsFitCommand }
 {
-    judging(alloc, "fit", &FIT, files(alloc))
+    let command = judging(alloc, "fit", &FIT);
+    let command = taking(command, flag(alloc, "json", JSON));
+    taking(command, files(alloc))
 }
 
 fn explaining<'a>(alloc: Global) -> Result<Command<'a>, AllocError>
     ensures { IfOk result IsExplainCommand }
 {
-    judging(alloc, "explain", &EXPLAIN, file(alloc))
+    taking(judging(alloc, "explain", &EXPLAIN), file(alloc))
 }
 
 /// A command that shows some events of a file, or of standard input where none is named.
@@ -155,32 +145,13 @@ fn with_window<'a>(alloc: Global, name: &'a str, help: &Help) -> Result<Command<
     taking(command, file(alloc))
 }
 
-/// The command that draws some events of a history, or of a run of that kind in that order that tells a log.
-fn drawing<'a>(alloc: Global) -> Result<Command<'a>, AllocError>
-    ensures { IfOk result IsDrawCommand }
-{
-    let kinds = ValueParser::Names(KINDS.as_slice());
-    let orders = ValueParser::Names(ORDERS.as_slice());
-    let kind = chosen(alloc, "kind", DRAWN_KIND, "KIND", kinds);
-    let command = described(alloc, "draw", &DRAW).arg(kind);
-    let command = taking(
-        command,
-        chosen(alloc, "order", DRAWN_ORDER, "ORDER", orders),
-    );
-    let command = taking(command, number(alloc, "from", FROM));
-    let command = taking(command, number(alloc, "to", TO));
-    taking(command, file(alloc))
-}
-
-/// The command that takes a kind, an order or none, and a file, or standard input where none is named.
+/// The command that takes a kind or none, and a file, or standard input where none is named.
 fn completing<'a>(alloc: Global) -> Result<Command<'a>, AllocError>
     ensures { IfOk result IsCompleteCommand }
 {
     let kinds = ValueParser::Names(KINDS.as_slice());
-    let orders = ValueParser::Names(ORDERS.as_slice());
-    let kind = required(alloc, "KIND", "The kind of monitor", kinds);
+    let kind = chosen(alloc, "kind", COMPLETED_KIND, "KIND", kinds);
     let command = described(alloc, "complete", &COMPLETE).arg(kind);
-    let command = taking(command, chosen(alloc, "order", ORDER, "ORDER", orders));
     taking(command, file(alloc))
 }
 
@@ -263,18 +234,20 @@ fn line_to_page(alloc: Global, matches: &ArgMatches<'_>) -> Result<Line, LineFau
     Ok(Line::Page(file, window))
 }
 
-fn line_to_complete(alloc: Global, matches: &ArgMatches<'_>) -> Result<Option<Line>, LineFault>
-    ensures { IfOk result (λ found. IfSome found (λ l. IsRead (codes "complete") l (rows_of (found_of matches.now)))) }
+fn line_to_draw(alloc: Global, matches: &ArgMatches<'_>) -> Result<Line, LineFault>
+    ensures { IfOk result (λ l. IsRead (codes "draw") l (rows_of (found_of matches.now))) }
 {
-    let Some(kind) = kind_of(matches) else {
-        return Ok(None);
-    };
     let file = file_of(alloc, matches)?;
-    let order = order_of(alloc, matches)?;
-    match order {
-        Some(order) => Ok(Some(Line::CompleteRun(kind, order, file))),
-        None => Ok(Some(Line::Complete(kind, file))),
-    }
+    let window = window_of(alloc, matches)?;
+    Ok(Line::Draw(file, window))
+}
+
+fn line_to_complete(alloc: Global, matches: &ArgMatches<'_>) -> Result<Line, LineFault>
+    ensures { IfOk result (λ l. IsRead (codes "complete") l (rows_of (found_of matches.now))) }
+{
+    let file = file_of(alloc, matches)?;
+    let kind = one_kind(alloc, matches)?;
+    Ok(Line::Complete(file, kind))
 }
 
 /// What a command of that name asks for that takes a file alone, if there is one.
@@ -308,6 +281,7 @@ fn line_of_text(
         "explain" => Ok(Some(line_to_explain(alloc, matches)?)),
         "draw" => Ok(Some(line_to_draw(alloc, matches)?)),
         "page" => Ok(Some(line_to_page(alloc, matches)?)),
+        "complete" => Ok(Some(line_to_complete(alloc, matches)?)),
         _ => line_to_read(alloc, name, matches),
     }
 }
@@ -318,7 +292,6 @@ fn line_of(alloc: Global, name: &str, matches: &ArgMatches<'_>) -> Result<Option
 {
     match name {
         "classify" => Ok(priorities_of(matches)),
-        "complete" => line_to_complete(alloc, matches),
         "run" => Ok(line_to_run(matches)),
         "record" => Ok(line_to_record(matches)),
         "hasty" => line_to_hasty(alloc, matches),

@@ -5,3 +5,4 @@ pub mod Ends
 pub mod Shown
 pub mod Counts
 pub mod Reports
+pub mod Blame

@@ -1,5 +1,8 @@
 //! Why a line can't stand where it does.
 
+ghost use Rattle.std.specs.Prelude.{◌≡◌};
+ghost use Rattle.monk_judge.specs.Blame.{blame_word};
+
 /// Why no run tells the lines up to this one: the first of these that applies.
 #[derive(Clone, Copy, Debug, PartialEq, Eq)]
 pub enum Blame {
@@ -21,7 +24,9 @@ pub enum Blame {
 
 impl Blame {
     /// Its word.
-    pub fn text(self) -> &'static str {
+    pub fn text(self) -> &'static str
+        ensures { result.now ≡ blame_word self }
+    {
         match self {
             Blame::Range => "range",
             Blame::Call => "call",

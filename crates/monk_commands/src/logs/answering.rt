@@ -2,22 +2,23 @@
 
 ghost use Rattle.std.specs.Prelude.{◌≡◌, ◌≤◌, ◌^◌, IfOk, IsErrOf, length, string_bytes};
 ghost use Rattle.monk_object.specs.Names.{most};
+ghost use Rattle.monk_commands.specs.Answer.{unreadable};
 ghost use Rattle.monk_commands.specs.LogAnswered as answered;
 ghost use Rattle.monk_commands.specs.LogFound as found;
 ghost use Rattle.monk_commands.specs.LogFound.{IsFinding};
 
-use crate::answer::unreadable;
+use crate::answer::{LineAnswer, unreadable};
 use crate::fault::StreamFault;
-use crate::lines_answer::LinesAnswer;
 use crate::logs::beside::has_ended;
 use crate::logs::explanation::explanation;
 use crate::logs::finding::Finding;
-use crate::logs::finding_json::finding_json;
+use crate::logs::finding_json::{fault_json, finding_json};
 use crate::logs::finding_line::finding_line;
 use crate::logs::judging::report;
 use crate::logs::refusal::LogRefusal;
 use crate::logs::view::LogView;
 use crate::question::Question;
+use monk_history::ReadFault;
 use monk_judge::{Misfit, WaitsFor};
 use monk_logs::{LogHeader, LogLine, find_crossed, read_log};
 use std::alloc::{AllocError, Global};
@@ -84,6 +85,16 @@ fn told(
     }
 }
 
+/// The line that tells why nothing is found, as it is told.
+fn said(alloc: Global, view: LogView, name: &str, line: String) -> Result<String, AllocError>
+    ensures { IfOk result (λ text. answered.Says view (string_bytes line) (string_bytes text)) }
+{
+    match view {
+        LogView::Line | LogView::Explanation => Ok(line),
+        LogView::Json => fault_json(alloc, name, line.as_str()),
+    }
+}
+
 /// The answer to a log that is judged.
 fn judged(
     alloc: Global,
@@ -91,18 +102,18 @@ fn judged(
     question: Question<'_>,
     header: &LogHeader,
     lines: &[LogLine],
-) -> Result<LinesAnswer, AllocError>
+) -> Result<LineAnswer, AllocError>
     requires few { length lines.now ≤ 2 ^ 25 }
     requires size { header.now.size ≤ most header.now.object }
     ensures { IfOk result (λ a. answered.IsJudged view question.means.now (answered.has_ended question.beside.now)
-        header.now lines.now a.status (λ text. a.lines.items ≡ text)) }
+        header.now lines.now a.status (string_bytes a.text)) }
 {
     let has_ended = has_ended(question.beside);
     let finding = finding(alloc, question.means, has_ended, header, lines)?;
     let text = told(alloc, view, question, header, lines, &finding)?;
-    Ok(LinesAnswer {
+    Ok(LineAnswer {
         status: finding.status(),
-        lines: text.into_bytes(),
+        text,
     })
 }
 
@@ -113,18 +124,34 @@ fn answer_to_read(
     question: Question<'_>,
     header: &LogHeader,
     lines: &[LogLine],
-) -> Result<LinesAnswer, AllocError>
+) -> Result<LineAnswer, AllocError>
     requires few { length lines.now ≤ 2 ^ 25 }
     ensures { IfOk result (λ a. answered.IsLogAnswer view question.kind question.means.now
-        (answered.has_ended question.beside.now) header.now lines.now a.status (λ text. a.lines.items ≡ text)) }
+        (answered.has_ended question.beside.now) header.now lines.now a.status (string_bytes a.text)) }
 {
     match LogRefusal::of(question.kind, question.means, header, lines) {
-        Some(refusal) => Ok(LinesAnswer {
-            status: 2,
-            lines: refusal.line(alloc)?.into_bytes(),
-        }),
+        Some(refusal) => {
+            let text = said(alloc, view, question.name, refusal.line(alloc)?)?;
+            Ok(LineAnswer { status: 2, text })
+        }
         None => judged(alloc, view, question, header, lines),
     }
+}
+
+/// The answer to a text that can't be read.
+fn answer_to_fault(
+    alloc: Global,
+    view: LogView,
+    name: &str,
+    fault: ReadFault,
+) -> Result<LineAnswer, StreamFault>
+    ensures answer { IfOk result
+        (λ a. (a.status ≡ 2) × answered.Says view (unreadable fault).text (string_bytes a.text)) }
+    ensures no_file { IsErrOf result StreamFault.File → ⊥ }
+{
+    let answer = unreadable(alloc, fault)?;
+    let text = said(alloc, view, name, answer.text)?;
+    Ok(LineAnswer { status: 2, text })
 }
 
 /// The answer to the text of a log.
@@ -133,13 +160,13 @@ pub(crate) fn answer_to_log(
     view: LogView,
     question: Question<'_>,
     bytes: &[u8],
-) -> Result<LinesAnswer, StreamFault>
+) -> Result<LineAnswer, StreamFault>
     ensures answer { IfOk result
-        (λ a. answered.IsAnswerToLog view question bytes.now a.status (λ text. a.lines.items ≡ text)) }
+        (λ a. answered.IsAnswerToLog view question bytes.now a.status (string_bytes a.text)) }
     ensures no_file { IsErrOf result StreamFault.File → ⊥ }
 {
     match read_log(alloc, bytes) {
         Ok((header, lines)) => Ok(answer_to_read(alloc, view, question, &header, &lines)?),
-        Err(fault) => Ok(LinesAnswer::of_line(unreadable(alloc, fault)?)),
+        Err(fault) => answer_to_fault(alloc, view, question.name, fault),
     }
 }

@@ -32,11 +32,7 @@ fn busy_words(alloc: Global, has_ended: bool, holder: Holder) -> Result<String, 
 fn sleep_words(many: u8) -> &'static str
     ensures { result.now ≡ found.sleep_words many }
 {
-    if many == 1 {
-        " sleeps"
-    } else {
-        " sleep"
-    }
+    if many == 1 { " sleeps" } else { " sleep" }
 }
 
 /// How a log of so many seats ends in which nobody holds the lock.

@@ -1,7 +1,7 @@
 //! What is found of a log.
 
 ghost use Rattle.std.specs.Prelude.{◌≡◌};
-ghost use Rattle.monk_commands.specs.LogFound.{finding_status, is_busy};
+ghost use Rattle.monk_commands.specs.LogFound.{finding_status, is_busy, never_again};
 
 use monk_judge::{Holder, Report};
 use monk_logs::Crossed;
@@ -20,6 +20,10 @@ pub(crate) struct Finding {
     /// Whether its program has ended by itself.
     pub(crate) has_ended: bool,
 }
+
+/// How many threads have to be overtaken before it is said that none waits again. Under contention a `while` waits
+/// again now and then, and an `if` never does. With fewer it would often be said of a right program.
+const ENOUGH_OVERTAKEN: u64 = 8;
 
 /// Whether somebody holds the lock at the end of a program that didn't end by itself.
 fn is_busy(has_ended: bool, holder: Option<Holder>) -> bool
@@ -42,6 +46,30 @@ impl Finding {
             1
         } else {
             0
+        }
+    }
+
+    /// Whether of enough threads that were overtaken on their way back none waited again.
+    pub(crate) fn never_waits_again(&self) -> bool
+        ensures { result ≡ never_again self.now.report.tally.overtaken self.now.report.tally.again }
+    {
+        let tally = &self.report.tally;
+        tally.again == 0 && tally.overtaken >= ENOUGH_OVERTAKEN
+    }
+
+    /// The word for how the run of the lines that fit ends.
+    pub(crate) fn end_name(&self) -> &'static str {
+        let report = &self.report;
+        if report.holder.is_some() {
+            "busy"
+        } else if report.woken > 0 {
+            "owed"
+        } else if report.asleep == 0 {
+            "free"
+        } else if report.asleep == self.seats {
+            "dead"
+        } else {
+            "open"
         }
     }
 }

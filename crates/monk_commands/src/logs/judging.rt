@@ -6,7 +6,7 @@ ghost use Rattle.monk_judge.specs.Reports.{IsReport};
 ghost use Rattle.monk_judge.specs.Run.{setting};
 
 use crate::objects::{book, flags, shop};
-use monk_judge::{Report, WaitsFor, judge_log};
+use monk_judge::{Report, Run, WaitsFor, judge_log, run_of_log};
 use monk_logs::{LogHeader, LogLine};
 use monk_object::{Buffer, ObjectName};
 use std::alloc::{AllocError, Global};
@@ -32,5 +32,22 @@ pub(crate) fn report(
         ObjectName::Book => judge_log(alloc, seats, conds, book(size), lines, means),
         ObjectName::Shop => judge_log(alloc, seats, conds, shop(size), lines, means),
         ObjectName::Flags => judge_log(alloc, seats, conds, flags(size), lines, means),
+    }
+}
+
+/// The run that the log tells, up to the line that misfits.
+pub(crate) fn run(alloc: Global, header: &LogHeader, lines: &[LogLine]) -> Result<Run, AllocError>
+    requires few { length lines.now ≤ 2 ^ 25 }
+    requires size { header.now.size ≤ most header.now.object }
+{
+    let (seats, conds, size) = (header.seats(), header.conds(), header.size());
+    match header.object() {
+        ObjectName::Buffer => match Buffer::make(alloc, size) {
+            Ok(buffer) => run_of_log(alloc, seats, conds, buffer, lines),
+            Err(_) => Err(AllocError),
+        },
+        ObjectName::Book => run_of_log(alloc, seats, conds, book(size), lines),
+        ObjectName::Shop => run_of_log(alloc, seats, conds, shop(size), lines),
+        ObjectName::Flags => run_of_log(alloc, seats, conds, flags(size), lines),
     }
 }

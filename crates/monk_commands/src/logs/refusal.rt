@@ -89,7 +89,9 @@ impl LogRefusal {
             LogRefusal::TooBig => String::from_str(alloc, "object\n"),
             LogRefusal::OtherKind(kind) => {
                 let kind = kind.as_str();
-                let text = format!(in alloc; "refused, `monk complete --kind {kind}` judges a log by that kind\n")?;
+                let text = format!(in alloc;
+                    "refused, `monk complete --kind {kind}` judges a log by that kind\n"
+                )?;
                 Ok(text)
             }
             LogRefusal::NoActs => String::from_str(

@@ -9,10 +9,6 @@ use monk_judge::Tally;
 use monk_logs::Crossed;
 use std::alloc::{AllocError, Global};
 
-/// How many threads have to be overtaken before it is said that none waits again. Under contention a `while` waits
-/// again now and then, and an `if` never does. With fewer it would often be said of a right program.
-const ENOUGH_OVERTAKEN: u64 = 8;
-
 /// A number behind a word, if it isn't 0.
 fn counted(alloc: Global, word: &str, many: u64) -> Result<String, AllocError>
     ensures { IfOk result (λ text. string_bytes text ≡ found.counted word.now many) }
@@ -51,22 +47,19 @@ fn crossed_words(alloc: Global, crossed: Option<Crossed>) -> Result<String, Allo
 }
 
 /// That of the threads that were overtaken on their way back none waited again.
-fn never_words(
-    alloc: Global,
-    overtaken: u64,
-    again: u64,
-    first: Option<usize>,
-) -> Result<String, AllocError>
-    ensures { IfOk result (λ text. string_bytes text ≡ found.never_words overtaken again first) }
+fn never_words(alloc: Global, finding: &Finding) -> Result<String, AllocError>
+    ensures { IfOk result (λ text. string_bytes text ≡ found.never_words finding.now
+        finding.now.report.tally.first_not_again) }
 {
-    let Some(first) = first else {
-        return Ok(String::new(alloc));
-    };
-    if again == 0 && overtaken >= ENOUGH_OVERTAKEN {
-        let line = number(first);
-        Ok(format!(in alloc; "; never waits again (0 of {overtaken} overtaken), first at {line}")?)
-    } else {
-        Ok(String::new(alloc))
+    let overtaken = finding.report.tally.overtaken;
+    match finding.report.tally.first_not_again {
+        Some(first) if finding.never_waits_again() => {
+            let line = number(first);
+            Ok(format!(in alloc;
+                "; never waits again (0 of {overtaken} overtaken), first at {line}"
+            )?)
+        }
+        Some(_) | None => Ok(String::new(alloc)),
     }
 }
 
@@ -75,7 +68,7 @@ pub(crate) fn tally_words(alloc: Global, tally: &Tally) -> Result<String, AllocE
     ensures { IfOk result (λ text. string_bytes text ≡ found.tally_words tally.now) }
 {
     let served = counted(alloc, "; served ", tally.served)?;
-    let passed = counted(alloc, "; passed ", tally.passed)?;
+    let passed = counted(alloc, ", passed ", tally.passed)?;
     let unheard = counted(alloc, "; unheard ", tally.unheard)?;
     let last = placed(alloc, ", last at ", tally.last_unheard)?;
     Ok(format!(in alloc; "{served}{passed}{unheard}{last}")?)
@@ -85,9 +78,8 @@ pub(crate) fn tally_words(alloc: Global, tally: &Tally) -> Result<String, AllocE
 pub(crate) fn remark_words(alloc: Global, finding: &Finding) -> Result<String, AllocError>
     ensures { IfOk result (λ text. string_bytes text ≡ found.remark_words finding.now) }
 {
-    let (report, tally) = (&finding.report, &finding.report.tally);
-    let missed = placed(alloc, "; missed at ", report.missed)?;
+    let missed = placed(alloc, "; missed at ", finding.report.missed)?;
     let crossed = crossed_words(alloc, finding.crossed)?;
-    let never = never_words(alloc, tally.overtaken, tally.again, tally.first_not_again)?;
+    let never = never_words(alloc, finding)?;
     Ok(format!(in alloc; "{missed}{crossed}{never}")?)
 }

@@ -50,18 +50,16 @@ fn fitting_words(alloc: Global, many: u64, first: Option<usize>) -> Result<Strin
 }
 
 /// That a seat takes the lock which another holds.
-fn held_words(
-    alloc: Global,
-    seat: u8,
-    holder: Option<Holder>,
-) -> Result<String, AllocError>
+fn held_words(alloc: Global, seat: u8, holder: Option<Holder>) -> Result<String, AllocError>
     ensures { IfOk result (λ text. string_bytes text ≡ found.held_words seat holder) }
 {
     match holder {
         None => Ok(format!(in alloc; "seat {seat} takes the lock that another seat holds")?),
         Some(holder) => {
             let (other, line) = (holder.seat, number(holder.since));
-            Ok(format!(in alloc; "seat {seat} takes the lock, but seat {other} holds it since {line}")?)
+            Ok(format!(in alloc;
+                "seat {seat} takes the lock, but seat {other} holds it since {line}"
+            )?)
         }
     }
 }

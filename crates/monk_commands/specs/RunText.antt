@@ -1,0 +1,65 @@
+-- The text of a run that tells a log, and the answer to a log of which a run is asked for
+use Rattle.std.specs.Prelude.{◌≡◌, ◌^◌, ◌<◌, ◌≤◌, MatchOption, ℕ, List, ◌∷◌, [], ◌++◌, Option, Some, None, Result, Ok, Err, codes}
+use Rattle.std.specs.Fmt.{decimal}
+use Rattle.std.specs.List.{flat_map}
+use Rattle.monk_object.specs.Names.{meaning_named, most, object_word, opening_named}
+use Rattle.monk_history.specs.Text.Lines.{line}
+use Rattle.monk_history.specs.declared.text.fault.ReadFault.{ReadFault}
+use Rattle.monk_judge.specs.Blame.{blame_word}
+use Rattle.monk_judge.specs.Reports.{IsRunOf}
+use Rattle.monk_judge.specs.Run.{setting}
+use Rattle.monk_judge.specs.StepWords.{step_words}
+use Rattle.monk_judge.specs.declared.misfit.Misfit.{Misfit}
+use Rattle.monk_judge.specs.declared.run.Run.{Run}
+use Rattle.monk_judge.specs.declared.step.Step.{Step}
+use Rattle.monk_logs.specs.Log.{LogHeading}
+use Rattle.monk_logs.specs.Log.Reading.{Log, log_at}
+use Rattle.monk_logs.specs.declared.text.line.LogLine.{LogLine}
+use Rattle.monk_commands.specs.Answer.{too_big, unreadable}
+use Rattle.monk_commands.specs.LogFound.{number}
+
+-- ---- the text
+
+-- the first line
+abbrev pub run_heading : LogHeading → List ℕ
+run_heading h =
+    line (codes "run" ∷ codes "NPNB" ∷ decimal h.seats ∷ decimal h.conds ∷ object_word h.object ∷ decimal h.size ∷ [])
+
+-- the line of a step
+abbrev pub step_line : Step → List ℕ
+step_line step = step_words step ++ codes "\n"
+
+-- the text of a run
+abbrev pub run_text : LogHeading → List Step → List ℕ
+run_text h steps = run_heading h ++ flat_map step_line steps
+
+-- ---- the answer
+
+-- the line of a misfit
+abbrev pub misfit_line : Misfit → List ℕ
+misfit_line f = codes "misfit at " ++ (decimal (number f.line) ++ (codes ": " ++ (blame_word f.why ++ codes "\n")))
+
+-- of a run the text, if it tells all lines
+abbrev pub IsRunGiven : LogHeading → Run → ℕ → List ℕ → Type 0
+IsRunGiven h run status text = MatchOption run.misfit ((status ≡ 0) × (text ≡ run_text h run.steps.items))
+    (λ f. (status ≡ 1) × (text ≡ misfit_line f))
+
+-- a run of the log is given
+pub record IsSomeRun (h : LogHeading) (lines : List LogLine) (status : ℕ) (text : List ℕ) : Type 0 where
+  pub run : Run
+  pub is : IsRunOf (setting h.seats h.conds (meaning_named h.object)) (opening_named h.object h.size) lines run
+  pub given : IsRunGiven h run status text
+
+-- the answer to a log that was read
+pub record IsRunOrMisfit (h : LogHeading) (lines : List LogLine) (status : ℕ) (text : List ℕ) : Type 0 where
+  pub run : h.size ≤ most h.object → IsSomeRun h lines status text
+  pub too_big : most h.object < h.size → (status ≡ 2) × (text ≡ too_big.text)
+
+-- the answer to what was read as a log
+abbrev pub IsRunReading : Result Log ReadFault → ℕ → List ℕ → Type 0
+IsRunReading (Ok l) status text = IsRunOrMisfit l.0 l.1 status text
+IsRunReading (Err f) status text = (status ≡ 2) × (text ≡ (unreadable f).text)
+
+-- the answer to a text
+abbrev pub IsRunAnswer : List ℕ → ℕ → List ℕ → Type 0
+IsRunAnswer input status text = IsRunReading (log_at (2 ^ 25) input) status text

@@ -1,0 +1,12 @@
+//! How a finding is written.
+
+use crate::logs::view::LogView;
+
+/// How a finding of a log is written. Of a history lines for a reader are written, whatever is asked for.
+#[derive(Clone, Copy, Debug, PartialEq, Eq)]
+pub enum FitForm {
+    /// As a line for a reader.
+    Words,
+    /// As a line of JSON.
+    Json,
+}

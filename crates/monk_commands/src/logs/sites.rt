@@ -1,0 +1,51 @@
+//! Where the lines of a log stand in the source of its program.
+
+use std::alloc::{AllocError, Global};
+
+/// The places in the source that a recorder wrote into the file beside a log: `site K FILE:LINE` for each place, and a
+/// row `lines` with the number of the place of each line, 0 if it has none.
+#[derive(Clone, Copy)]
+pub(crate) struct Sites<'a> {
+    beside: &'a [u8],
+}
+
+impl<'a> Sites<'a> {
+    /// Those of that file.
+    pub(crate) fn in_file(beside: &'a [u8]) -> Sites<'a> {
+        Sites { beside }
+    }
+
+    /// Where the line with that index behind the header stands in the source; `None` if the file doesn't say.
+    pub(crate) fn of_line(&self, index: usize) -> Option<&'a [u8]> {
+        let numbers = row(self.beside, b"lines ")?;
+        let number = numbers.split(|byte| *byte == b' ').nth(index)?;
+        if number == b"0".as_slice() {
+            return None;
+        }
+        site(self.beside, number)
+    }
+}
+
+/// What stands behind that word in the first row that begins with it.
+fn row<'a>(beside: &'a [u8], word: &[u8]) -> Option<&'a [u8]> {
+    for row in beside.split(|byte| *byte == b'\n') {
+        if let Some(rest) = row.strip_prefix(word) {
+            return Some(rest);
+        }
+    }
+    None
+}
+
+/// The place with that number.
+fn site<'a>(beside: &'a [u8], number: &[u8]) -> Option<&'a [u8]> {
+    for row in beside.split(|byte| *byte == b'\n') {
+        if let Some(rest) = row.strip_prefix(b"site ".as_slice()) {
+            if let Some(rest) = rest.strip_prefix(number) {
+                if let Some(place) = rest.strip_prefix(b" ".as_slice()) {
+                    return Some(place);
+                }
+            }
+        }
+    }
+    None
+}

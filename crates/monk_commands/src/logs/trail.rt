@@ -1,0 +1,95 @@
+//! Where a thread of a log is, and how it came there.
+
+use monk_judge::Place;
+
+/// A signal that woke a thread.
+#[derive(Clone, Copy, Debug, PartialEq, Eq)]
+pub(crate) struct WokenBy {
+    /// Who sent it.
+    pub(crate) seat: u8,
+    /// The index of its line behind the header.
+    pub(crate) line: usize,
+}
+
+/// Where a thread is, and how it came there.
+#[derive(Clone, Copy, Debug, PartialEq, Eq)]
+pub(crate) struct Trail {
+    /// Where it is.
+    pub(crate) place: Place,
+    /// Since which line it is there, by its index behind the header; `None` if it has been there from the start.
+    pub(crate) since: Option<usize>,
+    /// The last signal that woke it; `None` if no signal did since its last wait.
+    pub(crate) woken: Option<WokenBy>,
+    /// The line with which it waited last.
+    pub(crate) waited: Option<usize>,
+    /// How many signals and broadcasts came to its condition since.
+    pub(crate) signals: usize,
+}
+
+impl Trail {
+    /// It is outside, and was nowhere else.
+    pub(crate) const START: Trail = Trail {
+        place: Place::Outside,
+        since: None,
+        woken: None,
+        waited: None,
+        signals: 0,
+    };
+
+    /// It is there since that line.
+    fn go(&mut self, place: Place, line: usize) {
+        self.place = place;
+        self.since = Some(line);
+    }
+
+    /// It takes the lock.
+    pub(crate) fn take(&mut self, line: usize) {
+        self.go(Place::Active, line);
+    }
+
+    /// It lets the lock go, and is outside.
+    pub(crate) fn leave(&mut self, line: usize) {
+        self.go(Place::Outside, line);
+        self.woken = None;
+        self.waited = None;
+    }
+
+    /// It waits on the condition.
+    pub(crate) fn wait(&mut self, cond: u8, line: usize) {
+        self.go(Place::Waiting(cond), line);
+        self.woken = None;
+        self.waited = Some(line);
+        self.signals = 0;
+    }
+
+    /// A signal or a broadcast comes to the condition.
+    pub(crate) fn hear(&mut self, cond: u8) {
+        if self.place == Place::Waiting(cond) {
+            self.signals = self.signals.saturating_add(1);
+        }
+    }
+
+    /// A signal to the condition wakes it.
+    pub(crate) fn wake(&mut self, cond: u8, by: WokenBy) {
+        self.go(Place::Woken(cond), by.line);
+        self.woken = Some(by);
+    }
+
+    /// A broadcast to the condition wakes it, if it waits there.
+    pub(crate) fn wake_on(&mut self, cond: u8, by: WokenBy) {
+        if self.place == Place::Waiting(cond) {
+            self.wake(cond, by);
+        }
+    }
+
+    /// Its wait ends though nobody sent a signal: it runs out, or the thread wakes unasked.
+    pub(crate) fn end_wait(&mut self, runs_out: bool) {
+        if let Place::Waiting(cond) = self.place {
+            self.place = if runs_out {
+                Place::RanOut(cond)
+            } else {
+                Place::Woken(cond)
+            };
+        }
+    }
+}

@@ -1,0 +1,107 @@
+//! Where the threads of a log are, step by step.
+
+use crate::logs::trail::{Trail, WokenBy};
+use monk_judge::Step;
+use monk_logs::LogLine;
+use std::alloc::{AllocError, Global};
+
+/// Where the threads of a log are after some steps of a run.
+#[derive(Drop)]
+pub(crate) struct Trails {
+    trails: Vec<Trail>,
+    /// How many lines the steps have told.
+    lines: usize,
+}
+
+impl Trails {
+    /// Before any step.
+    pub(crate) fn start(alloc: Global, seats: u8) -> Result<Trails, AllocError> {
+        Ok(Trails {
+            trails: vec![in alloc; Trail::START; usize::from(seats)]?,
+            lines: 0,
+        })
+    }
+
+    /// Behind the steps.
+    pub(crate) fn behind(alloc: Global, seats: u8, steps: &[Step]) -> Result<Trails, AllocError> {
+        let mut trails = Trails::start(alloc, seats)?;
+        for step in steps {
+            trails.follow(*step);
+        }
+        Ok(trails)
+    }
+
+    /// All of them, by their seats.
+    pub(crate) fn all(&self) -> &[Trail] {
+        &self.trails
+    }
+
+    /// That of the seat.
+    pub(crate) fn of(&self, seat: u8) -> Trail {
+        match self.trails.get(usize::from(seat)) {
+            Some(trail) => *trail,
+            None => Trail::START,
+        }
+    }
+
+    /// Goes on by a step.
+    pub(crate) fn follow(&mut self, step: Step) {
+        match step {
+            Step::Tells(line, woken) => self.tell(line, woken),
+            Step::RunsOut(seat) => self.end_wait(seat, true),
+            Step::WakesUnasked(seat) => self.end_wait(seat, false),
+        }
+    }
+
+    /// Goes on by a line, with whom its signal wakes.
+    fn tell(&mut self, line: LogLine, woken: Option<u8>) {
+        let index = self.lines;
+        self.lines = index.saturating_add(1);
+        match line {
+            LogLine::Signal(seat, cond) => self.signal(cond, WokenBy { seat, line: index }, woken),
+            LogLine::Broadcast(seat, cond) => self.broadcast(cond, WokenBy { seat, line: index }),
+            _ => self.move_by(line, index),
+        }
+    }
+
+    /// The thread of the line moves by it.
+    fn move_by(&mut self, line: LogLine, index: usize) {
+        let Some(trail) = self.trails.get_mut(usize::from(line.seat())) else {
+            return;
+        };
+        match line {
+            LogLine::Enter(_) | LogLine::Resume(_) | LogLine::Lapse(_) => trail.take(index),
+            LogLine::Leave(_) => trail.leave(index),
+            LogLine::Wait(_, cond) => trail.wait(cond, index),
+            LogLine::Signal(..) | LogLine::Broadcast(..) | LogLine::Until(..) | LogLine::Act(..) =>
+                {}
+        }
+    }
+
+    /// A signal comes to the condition, and wakes that thread.
+    fn signal(&mut self, cond: u8, by: WokenBy, woken: Option<u8>) {
+        for trail in self.trails.iter_mut() {
+            trail.hear(cond);
+        }
+        let Some(seat) = woken else {
+            return;
+        };
+        if let Some(trail) = self.trails.get_mut(usize::from(seat)) {
+            trail.wake(cond, by);
+        }
+    }
+
+    /// A broadcast comes to the condition.
+    fn broadcast(&mut self, cond: u8, by: WokenBy) {
+        for trail in self.trails.iter_mut() {
+            trail.wake_on(cond, by);
+        }
+    }
+
+    /// The wait of the thread ends though nobody sent a signal.
+    fn end_wait(&mut self, seat: u8, runs_out: bool) {
+        if let Some(trail) = self.trails.get_mut(usize::from(seat)) {
+            trail.end_wait(runs_out);
+        }
+    }
+}
