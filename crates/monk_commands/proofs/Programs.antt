@@ -1,10 +1,12 @@
 -- A program that is made of commands, and a command that is made of arguments
 use Rattle.std.proofs.Common.{◌≡◌, ◌∙◌, ap, ap₂, Result, Ok, Err, Bool, false}
-use Rattle.std.specs.Prelude.{◌||◌, IfOk, IsOkAnd}
+use Rattle.std.specs.Prelude.{◌||◌, IfOk, IsOkAnd, codes}
 use Rattle.clap.specs.declared.builder.arg.Arg.{Arg}
 use Rattle.clap.specs.declared.builder.command.Command.{Command}
-use Rattle.clap.specs.Words.{AddsArg, AddsSubcommand, App, Rule, app_of, rule_of, with_rule, with_subcommand}
-use Rattle.monk_commands.specs.Request.{IsFitCommand, IsOwnApp, IsSubcommand, KindNames, fit_app}
+use Rattle.clap.specs.declared.builder.value_parser.ValueParser.TheVariants.{Names}
+use Rattle.clap.specs.Words.{AddsArg, AddsSubcommand, App, Rule, Text, app_of, new_app, rule_of, with_rule, with_subcommand}
+use Rattle.monk_commands.specs.Request.{IsFitCommand, IsOwnApp, IsSubcommand, KindNames, chosen_rule, fit_app, judging_app}
+use Rattle.monk_commands.specs.Request.{repeated_rule}
 
 -- what was made, and what of it was made
 pub record Made (P Q : Command → Type 0) : Type 0 where
@@ -44,6 +46,18 @@ next_taken a made (Ok r) arg rule is ruled local adds =
     let both = made_and made (IsOwnApp a) _ is adds in
     takes_one a both.made r arg rule both.is ruled local both.then
 next_taken a made (Err e) arg rule is ruled local adds = tt
+
+-- the arguments of a command that judges: a kind or none, and what is waited for
+pub judging_taken : {E : Type 0} (name : Text) (n : KindNames) (old : Command) (one two : Result Command E)
+    (kind means : Arg)
+    → IsOwnApp (new_app name) old → rule_of kind ≡ chosen_rule (codes "kind") (Names n.kinds) → kind.global ≡ false
+    → IfOk one (λ r. AddsArg old kind r) → rule_of means ≡ repeated_rule (codes "means") → means.global ≡ false
+    → IfOk two (λ r. IsOkAnd one (λ c. AddsArg c means r)) → IfOk two (IsOwnApp (judging_app name n))
+judging_taken name n old one two kind means is kind_is kind_own kind_added means_is means_own means_added =
+    next_taken (with_rule (new_app name) (chosen_rule (codes "kind") (Names n.kinds))) one two means
+    (repeated_rule (codes "means"))
+    (first_taken (new_app name) old one kind (chosen_rule (codes "kind") (Names n.kinds)) is kind_is kind_own kind_added)
+    means_is means_own means_added
 
 -- ---- a program with one command more
 

@@ -1,9 +1,7 @@
 -- What clap's matches say of the command and its values.
 use Rattle.std.proofs.Common.{◌≡◌, ℕ, ◌+◌, ◌<◌, List, [], ◌∷◌, ◌++◌, length, get_or, take, map, Option, Some, None, Result, Ok, true}
-use Rattle.std.proofs.Common.{eqb, refl, sym, ap, subst, ◌∙◌, Bor}
-use Rattle.std.proofs.Math.Dec.{eqb-suc-zero}
-use Rattle.std.proofs.lemmas.Bool.{false≢true}
-use Rattle.std.proofs.lemmas.List.{length-map, map-append, take_more}
+use Rattle.std.proofs.Common.{refl, sym, ap, subst, ◌∙◌, Bor}
+use Rattle.std.proofs.lemmas.List.{map-append, take_more}
 use Rattle.std.specs.Str.Parse.{ParsesUnsigned}
 use Rattle.clap.specs.declared.parser.matches.Found.{Found}
 use Rattle.clap.proofs.WalkLemmas.{one_text-rows, raw_values-rows}
@@ -11,10 +9,8 @@ use Rattle.monk_commands.specs.declared.request.Line.{Line}
 use Rattle.std.specs.Prelude.{◌↔◌, IfSome, option_map}
 use Rattle.clap.specs.Words.{Row, Text, TriesOne, all_of, matched_of, one_text, raw_values, rows_of, is_simple}
 use Rattle.clap.proofs.OnLiterals.{clap_on_literals}
-use Rattle.monk_logs.specs.declared.counts.waits_for.WaitsFor.{WaitsFor}
-use Rattle.monk_logs.specs.declared.lapses.Lapses.{Lapses}
-use Rattle.monk_logs.specs.declared.lapses.Lapses.TheVariants.{Told}
-use Rattle.monk_commands.specs.Request.{AreLogValues, AreMeanings, RunChoices, HasNumber, IsAsked, IsMeaning, IsRead, KindNames}
+use Rattle.monk_judge.specs.declared.waits_for.WaitsFor.{WaitsFor}
+use Rattle.monk_commands.specs.Request.{AreMeanings, HasNumber, IsAsked, IsMeaning, IsRead, KindNames}
 use Rattle.monk_commands.specs.Request.{MayHaveNumber}
 use Rattle.monk_commands.specs.Request.{RunNames, monk_app, words_or_none}
 
@@ -64,10 +60,10 @@ number_tried E G bits o r name f only is none value = go (one_text f name) refl 
         let read = only t (Ok v) (subst (TriesOne G t) told (value t e)) in
         record { text = t; found = sym (one_text-rows f name) ∙ e; digits = read.0.0; number = read.1 }
 
-pub monk_is_simple : (fitted explained : KindNames) (drawn completed : RunChoices) (run recorded : RunNames)
-    (hasty : KindNames) → is_simple (monk_app fitted explained drawn completed run recorded hasty) ≡ true
+pub monk_is_simple : (fitted explained completed : KindNames) (run recorded : RunNames) (hasty : KindNames)
+    → is_simple (monk_app fitted explained completed run recorded hasty) ≡ true
 unfolding clap_on_literals
-monk_is_simple fitted explained drawn completed run recorded hasty = refl
+monk_is_simple fitted explained completed run recorded hasty = refl
 
 -- what a test that is exact says of what it has found
 pub found_exactly : (A : Type 0) (o : Option A) (F G : A → Type 0) → ((x : A) → (o ≡ Some x) ↔ F x)
@@ -100,12 +96,6 @@ meanings_more words i t ws new w within are is more =
     ∙ map-append (λ (x : Bor Text). x.now) (take i words) (get_or words i t ∷ [])))
     (words_more (texts (take i words)) ws (get_or words i t).now w are is))
 
--- no option for logs is given
-pub none_given : (lapses : Lapses) (means : List WaitsFor) (rows : List Row) → lapses ≡ Told
-    → eqb (length means) 0 ≡ true → AreLogValues lapses means rows → AreLogValues Told [] rows
-none_given lapses [] rows is empty values = subst (λ (x : Lapses). AreLogValues x [] rows) is values
-none_given lapses (w ∷ ws) rows is empty values = absurd (false≢true (sym (eqb-suc-zero (length ws)) ∙ empty))
-
 -- ---- words that are kept
 
 -- with one word more
@@ -124,9 +114,3 @@ kept_more S bytes words i t kept new s within so_far is more =
 pub found_words : (id : Text) (f : Found) (words : List Text) → Some words ≡ option_map raw_values (matched_of f id)
     → words ≡ words_or_none (all_of id (rows_of f))
 found_words id f words is = ap words_or_none (is ∙ raw_values-rows f id)
-
-pub found_count : (id : Text) (f : Found) (words : List (Bor Text))
-    → Some (texts words) ≡ option_map raw_values (matched_of f id)
-    → length words ≡ length (words_or_none (all_of id (rows_of f)))
-found_count id f words is =
-    sym (length-map words (λ (w : Bor Text). w.now)) ∙ ap length (found_words id f (texts words) is)

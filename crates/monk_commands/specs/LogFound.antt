@@ -31,11 +31,15 @@ wrong_seat (Some f) lines = seat_or_0 (option_map line_seat (slice_get lines f.l
     seat_or_0 None = 0
     seat_or_0 (Some s) = s
 
+-- the report tells of a log with that header what it is to tell
+abbrev pub IsReportOf : List WaitsFor → LogHeading → List LogLine → Report → Type 0
+IsReportOf means h lines r =
+    IsReport (setting h.seats h.conds (meaning_named h.object)) (opening_named h.object h.size) lines r
+
 -- it is found of the log of a program that has ended by itself or hasn't
 pub record IsFinding (means : List WaitsFor) (ended : Bool) (h : LogHeading) (lines : List LogLine)
     (f : Finding) : Type 0 where
-  pub report :
-      IsReport (setting h.seats h.conds (meaning_named h.object)) (opening_named h.object h.size) means lines f.report
+  pub report : IsReportOf means h lines f.report
   pub crossed : f.crossed ≡ crossed_of lines
   pub seats : f.seats ≡ h.seats
   pub wrong : f.wrong_seat ≡ wrong_seat f.report.misfit lines

@@ -183,11 +183,6 @@ pub record IsPlainMonk (c : Command) : Type 0 where
   pub fitted : KindNames
   pub is : app_of c ≡ plain_app fitted
 
--- the command has that name so far, and takes a kind or none, and what is waited for in a log
-pub record IsJudgingCommand (name : Text) (c : Command) : Type 0 where
-  pub names : KindNames
-  pub is : IsOwnApp (judging_app name names) c
-
 -- the command is `fit`
 pub record IsFitCommand (c : Command) : Type 0 where
   pub names : KindNames

@@ -16,6 +16,7 @@ use Rattle.monk_logs.specs.Log.{LogHeading}
 use Rattle.monk_logs.specs.Log.Reading.{Log, log_at}
 use Rattle.monk_logs.specs.declared.text.line.LogLine.{LogLine}
 use Rattle.monk_commands.specs.Answer.{too_big, unreadable}
+use Rattle.monk_commands.specs.FitAnswered.{IsOf}
 use Rattle.monk_commands.specs.LogFound.{number}
 
 -- ---- the text
@@ -35,6 +36,12 @@ run_text h steps = run_heading h ++ flat_map step_line steps
 
 -- ---- the answer
 
+-- it is a run of the lines of a log with that header, up to the one that misfits
+abbrev pub IsRunOfLog : LogHeading → List LogLine → Run → Type 0
+IsRunOfLog h lines run =
+    IsRunOf (setting h.seats h.conds (meaning_named h.object)) (opening_named h.object h.size) lines run.misfit
+    run.steps.items
+
 -- the line of a misfit
 abbrev pub misfit_line : Misfit → List ℕ
 misfit_line f = codes "misfit at " ++ (decimal (number f.line) ++ (codes ": " ++ (blame_word f.why ++ codes "\n")))
@@ -47,18 +54,18 @@ IsRunGiven h run status text = MatchOption run.misfit ((status ≡ 0) × (text �
 -- a run of the log is given
 pub record IsSomeRun (h : LogHeading) (lines : List LogLine) (status : ℕ) (text : List ℕ) : Type 0 where
   pub run : Run
-  pub is : IsRunOf (setting h.seats h.conds (meaning_named h.object)) (opening_named h.object h.size) lines run
+  pub is : IsRunOfLog h lines run
   pub given : IsRunGiven h run status text
 
 -- the answer to a log that was read
 pub record IsRunOrMisfit (h : LogHeading) (lines : List LogLine) (status : ℕ) (text : List ℕ) : Type 0 where
   pub run : h.size ≤ most h.object → IsSomeRun h lines status text
-  pub too_big : most h.object < h.size → (status ≡ 2) × (text ≡ too_big.text)
+  pub too_big : most h.object < h.size → IsOf too_big status text
 
 -- the answer to what was read as a log
 abbrev pub IsRunReading : Result Log ReadFault → ℕ → List ℕ → Type 0
 IsRunReading (Ok l) status text = IsRunOrMisfit l.0 l.1 status text
-IsRunReading (Err f) status text = (status ≡ 2) × (text ≡ (unreadable f).text)
+IsRunReading (Err f) status text = IsOf (unreadable f) status text
 
 -- the answer to a text
 abbrev pub IsRunAnswer : List ℕ → ℕ → List ℕ → Type 0

@@ -16,8 +16,10 @@ use Rattle.monk_draw.specs.Picture.{picture}
 use Rattle.monk_draw.specs.Window.{is_behind, showable}
 use Rattle.monk_draw.specs.declared.window.Window.{Window}
 use Rattle.monk_page.specs.Html.{page_text}
-use Rattle.monk_commands.specs.Answer.{LineAnswer, answer_of, too_big, unreadable, verdict_answer}
+use Rattle.monk_commands.specs.Answer.{LineAnswer, answer_of, behind, too_big, unreadable, verdict_answer}
 use Rattle.monk_commands.specs.Given.{IsGiven}
+use Rattle.monk_commands.specs.LogAnswered.{is_log_text}
+use Rattle.monk_commands.specs.LogDrawn.{IsLogDrawing}
 use Rattle.monk_commands.specs.declared.show.Show.{Show}
 use Rattle.monk_commands.specs.declared.show.Show.TheVariants.{Picture, Page}
 
@@ -25,10 +27,6 @@ use Rattle.monk_commands.specs.declared.show.Show.TheVariants.{Picture, Page}
 abbrev pub forbidden_step : Verdict → Option ℕ
 forbidden_step (Legal n) = None
 forbidden_step (Forbidden step reason) = Some step
-
--- the answer where the events that are asked for are behind the last that can be shown: which one that is
-abbrev pub behind : ℕ → LineAnswer
-behind last = record { status = 2; text = codes "window " ++ (decimal last ++ codes "\n") }
 
 -- whether they are, by a verdict
 abbrev pub asks_behind : Option Window → Verdict → List Event → Bool
@@ -64,6 +62,16 @@ IsShownOrRefused show w (Err f) status Puts = (status ≡ 2) × Puts (unreadable
 -- the answer to bytes
 abbrev pub IsShowingOf : Show → Option Window → List ℕ → ℕ → (List ℕ → Type 0) → Type 0
 IsShowingOf show w input status Puts = IsShownOrRefused show w (text_at (2 ^ 25) input) status Puts
+
+-- whether it is a log, and is drawn
+abbrev pub is_drawn_log : Show → List ℕ → Bool
+is_drawn_log Picture input = is_log_text input
+is_drawn_log Page input = false
+
+-- the answer to a text
+pub record IsShowAnswer (show : Show) (w : Option Window) (input : List ℕ) (status : ℕ) (text : List ℕ) : Type 0 where
+  pub log : is_drawn_log show input ≡ true → IsLogDrawing w input status text
+  pub history : is_drawn_log show input ≡ false → IsShowingOf show w input status (λ t. text ≡ t)
 
 -- the status is that of an audit, or where events are asked for 2
 abbrev pub HasAuditStatus : Option Window → List ℕ → ℕ → Type 0

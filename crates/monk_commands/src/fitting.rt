@@ -91,6 +91,7 @@ fn fit(alloc: Global, header: &Header, events: &[Event]) -> Result<LineAnswer, S
     requires few { length events.now ≤ 2 ^ 25 }
     ensures answer { IfOk result
         (λ a. answered.IsOf (fit_answer header.now events.now) a.status (string_bytes a.text)) }
+    ensures status { IfOk result (λ a. a.status ≤ 2) }
     ensures no_file { IsErrOf result StreamFault.File → ⊥ }
 {
     if header.size() > header.object().greatest_size() {
@@ -111,6 +112,7 @@ fn fit_under(
     requires few { length events.now ≤ 2 ^ 25 }
     ensures answer { IfOk result
         (λ a. answered.IsOf (answered.kind_fit_answer kind header.now events.now) a.status (string_bytes a.text)) }
+    ensures status { IfOk result (λ a. a.status ≤ 2) }
     ensures no_file { IsErrOf result StreamFault.File → ⊥ }
 {
     if header.size() > header.object().greatest_size() {
@@ -125,6 +127,7 @@ fn fit_under(
 /// The answer to the text of a history under each kind.
 fn answer_to_history(alloc: Global, bytes: &[u8]) -> Result<LineAnswer, StreamFault>
     ensures answer { IfOk result (λ a. answered.IsOf (fit_of bytes.now) a.status (string_bytes a.text)) }
+    ensures status { IfOk result (λ a. a.status ≤ 2) }
     ensures no_file { IsErrOf result StreamFault.File → ⊥ }
 {
     match read(alloc, bytes) {
@@ -137,6 +140,7 @@ fn answer_to_history(alloc: Global, bytes: &[u8]) -> Result<LineAnswer, StreamFa
 fn answer_under(alloc: Global, kind: KindName, bytes: &[u8]) -> Result<LineAnswer, StreamFault>
     ensures answer { IfOk result
         (λ a. answered.IsOf (answered.kind_fit_of kind bytes.now) a.status (string_bytes a.text)) }
+    ensures status { IfOk result (λ a. a.status ≤ 2) }
     ensures no_file { IsErrOf result StreamFault.File → ⊥ }
 {
     match read(alloc, bytes) {
@@ -147,7 +151,7 @@ fn answer_under(alloc: Global, kind: KindName, bytes: &[u8]) -> Result<LineAnswe
 
 /// The answer behind a name.
 fn named(alloc: Global, name: &str, answer: LineAnswer) -> Result<LineAnswer, AllocError>
-    ensures status { IfOk result (λ a. a.status ≡ answer.status) }
+    ensures same { IfOk result (λ a. a.status ≡ answer.status) }
     ensures text { IfOk result (λ a. string_bytes a.text ≡ answered.named_line name.now (string_bytes answer.text)) }
 {
     let (status, line) = (answer.status, answer.text);
@@ -163,6 +167,7 @@ fn fit_history(
 ) -> Result<LineAnswer, StreamFault>
     ensures answer { IfOk result
         (λ a. answered.IsHistoryFit question.kind question.name.now bytes.now a.status (string_bytes a.text)) }
+    ensures status { IfOk result (λ a. a.status ≤ 2) }
     ensures no_file { IsErrOf result StreamFault.File → ⊥ }
 {
     match question.kind {
@@ -179,6 +184,7 @@ fn fit_log(
     bytes: &[u8],
 ) -> Result<LineAnswer, StreamFault>
     ensures answer { IfOk result (λ a. answered.IsLogFit form question bytes.now a.status (string_bytes a.text)) }
+    ensures status { IfOk result (λ a. a.status ≤ 2) }
     ensures no_file { IsErrOf result StreamFault.File → ⊥ }
 {
     match form {
@@ -198,6 +204,7 @@ fn fit_text(
     bytes: &[u8],
 ) -> Result<LineAnswer, StreamFault>
     ensures answer { IfOk result (λ a. answered.IsFitAnswer form question bytes.now a.status (string_bytes a.text)) }
+    ensures status { IfOk result (λ a. a.status ≤ 2) }
     ensures no_file { IsErrOf result StreamFault.File → ⊥ }
 {
     if is_log(bytes) {

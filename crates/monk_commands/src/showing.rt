@@ -1,13 +1,12 @@
-//! The showing stream: the text of a history in, a picture of it or a page out.
+//! The showing stream: the text of a history or of a log in, a picture of it or a page out.
 
 ghost use Rattle.std.specs.Prelude.{◌≡◌, ◌≤◌, ◌^◌, false, length, IfOk, IfSome, IsErrOf, string_bytes};
-ghost use Rattle.std.specs.Io.KnownBytes.{Appends};
 ghost use Rattle.monk_object.specs.Names.{most};
 ghost use Rattle.monk_history.specs.Text.Device.{inner_of, has_failed};
-ghost use Rattle.monk_commands.specs.Answer.{verdict_answer};
-ghost use Rattle.monk_commands.specs.Shown.{HasAuditStatus, IsAnsweredBy, IsShowingOf, IsShown, IsShownBy, behind};
-ghost use Rattle.monk_commands.specs.Shown.{forbidden_step, shown_text};
-ghost use Rattle.monk_commands.specs.Streams.{IsStreamOutcome, IsWriting};
+ghost use Rattle.monk_commands.specs.Answer.{behind, verdict_answer};
+ghost use Rattle.monk_commands.specs.Shown.{HasAuditStatus, IsAnsweredBy, IsShowAnswer, IsShowingOf, IsShown};
+ghost use Rattle.monk_commands.specs.Shown.{IsShownBy, forbidden_step, is_drawn_log, shown_text};
+ghost use Rattle.monk_commands.specs.Streams.{HasAnswered, IsStreamOutcome};
 
 use crate::answer::{LineAnswer, put, too_big, unreadable};
 use crate::fault::StreamFault;
@@ -44,6 +43,7 @@ fn status_of(verdict: Verdict) -> u8
 /// The answer where events are asked for that are behind the last that can be shown.
 pub(crate) fn behind(alloc: Global, last: usize) -> Result<LineAnswer, StreamFault>
     ensures answer { IfOk result (λ a. (a.status ≡ (behind last).status) × (string_bytes a.text ≡ (behind last).text)) }
+    ensures status { IfOk result (λ a. a.status ≤ 2) }
     ensures no_file { IsErrOf result StreamFault.File → ⊥ }
 {
     let text = format!(in alloc; "window {last}\n")?;
@@ -77,104 +77,127 @@ fn shown_text(
     }
 }
 
-/// Writes it.
-fn put_shown<W: Write>(
+/// The answer that shows it.
+fn shown(
     alloc: Global,
     show: Show,
     header: &Header,
     events: &[Event],
     window: Option<Window>,
     verdict: Verdict,
-    writer: &mut Device<W>,
-) -> Result<u8, StreamFault>
-    requires works { has_failed writer.old ≡ false }
+) -> Result<LineAnswer, StreamFault>
     requires few { length events.now ≤ 2 ^ 25 }
     requires fits { header.now.size ≤ most header.now.object }
-    ensures answer { IfOk result
-        (λ status. IsShownBy show window verdict header.now events.now status
-        (Appends (W.contents (inner_of writer.old)) (W.contents (inner_of writer.new)))) }
-    ensures writing { IsWriting writer.old writer.new result }
+    ensures answer { IfOk result (λ a. IsShownBy show window verdict header.now events.now a.status
+        (λ t. string_bytes a.text ≡ t)) }
+    ensures status { IfOk result (λ a. a.status ≤ 2) }
+    ensures no_file { IsErrOf result StreamFault.File → ⊥ }
 {
     let text = shown_text(alloc, show, header, events, window, verdict)?;
-    match writer.write_all(text.as_bytes()) {
-        Ok(()) => Ok(status_of(verdict)),
-        Err(_) => Err(StreamFault::File),
-    }
+    Ok(LineAnswer {
+        status: status_of(verdict),
+        text,
+    })
 }
 
 /// The same, if the events that are asked for begin with one that can be shown.
-fn put_answer<W: Write>(
+fn shown_if_there(
     alloc: Global,
     show: Show,
     header: &Header,
     events: &[Event],
     window: Option<Window>,
     verdict: Verdict,
-    writer: &mut Device<W>,
-) -> Result<u8, StreamFault>
-    requires works { has_failed writer.old ≡ false }
+) -> Result<LineAnswer, StreamFault>
     requires few { length events.now ≤ 2 ^ 25 }
     requires fits { header.now.size ≤ most header.now.object }
-    ensures answer { IfOk result
-        (λ status. IsAnsweredBy show window verdict header.now events.now status
-        (Appends (W.contents (inner_of writer.old)) (W.contents (inner_of writer.new)))) }
-    ensures writing { IsWriting writer.old writer.new result }
+    ensures answer { IfOk result (λ a. IsAnsweredBy show window verdict header.now events.now a.status
+        (λ t. string_bytes a.text ≡ t)) }
+    ensures status { IfOk result (λ a. a.status ≤ 2) }
+    ensures no_file { IsErrOf result StreamFault.File → ⊥ }
 {
     let last = showable(forbidden_step(verdict), events.len());
     if is_behind(window, last) {
-        put(&behind(alloc, last)?, writer)
+        behind(alloc, last)
     } else {
-        put_shown(alloc, show, header, events, window, verdict, writer)
+        shown(alloc, show, header, events, window, verdict)
     }
 }
 
-/// Answers a history that was read.
-fn show_history<W: Write>(
+/// The answer to a history that was read.
+fn show_history(
     alloc: Global,
     show: Show,
     header: &Header,
     events: &[Event],
     window: Option<Window>,
-    writer: &mut Device<W>,
-) -> Result<u8, StreamFault>
-    requires works { has_failed writer.old ≡ false }
+) -> Result<LineAnswer, StreamFault>
     requires few { length events.now ≤ 2 ^ 25 }
     ensures answer { IfOk result
-        (λ status. IsShown show window header.now events.now status
-        (Appends (W.contents (inner_of writer.old)) (W.contents (inner_of writer.new)))) }
-    ensures writing { IsWriting writer.old writer.new result }
+        (λ a. IsShown show window header.now events.now a.status (λ t. string_bytes a.text ≡ t)) }
+    ensures status { IfOk result (λ a. a.status ≤ 2) }
+    ensures no_file { IsErrOf result StreamFault.File → ⊥ }
 {
     match audit(alloc, header, events) {
-        Ok(verdict) => put_answer(alloc, show, header, events, window, verdict, writer),
+        Ok(verdict) => shown_if_there(alloc, show, header, events, window, verdict),
         Err(AuditFault::Memory) => Err(StreamFault::Memory),
-        Err(AuditFault::Object) => put(&too_big(alloc)?, writer),
+        Err(AuditFault::Object) => too_big(alloc),
     }
 }
 
-/// Answers a text.
-fn show_text<W: Write>(
+/// The answer to the text of a history.
+fn show_history_text(
     alloc: Global,
     show: Show,
     bytes: &[u8],
     window: Option<Window>,
-    writer: &mut Device<W>,
-) -> Result<u8, StreamFault>
-    requires { has_failed writer.old ≡ false }
+) -> Result<LineAnswer, StreamFault>
     ensures answer { IfOk result
-        (λ status. IsShowingOf show window bytes.now status
-        (Appends (W.contents (inner_of writer.old)) (W.contents (inner_of writer.new)))) }
-    ensures writing { IsWriting writer.old writer.new result }
+        (λ a. IsShowingOf show window bytes.now a.status (λ t. string_bytes a.text ≡ t)) }
+    ensures status { IfOk result (λ a. a.status ≤ 2) }
+    ensures no_file { IsErrOf result StreamFault.File → ⊥ }
 {
-    if show == Show::Picture && is_log(bytes) {
-        return put(&draw_log(alloc, window, bytes)?, writer);
-    }
     match read(alloc, bytes) {
-        Ok((header, events)) => show_history(alloc, show, &header, &events, window, writer),
-        Err(fault) => put(&unreadable(alloc, fault)?, writer),
+        Ok((header, events)) => show_history(alloc, show, &header, &events, window),
+        Err(fault) => unreadable(alloc, fault),
     }
 }
 
-/// Reads all of the reader, and writes what shows its history. What comes behind the first
+/// Whether it is a log, and is drawn.
+fn is_drawn_log(show: Show, bytes: &[u8]) -> bool
+    ensures { result ≡ is_drawn_log show bytes.now }
+{
+    match show {
+        Show::Picture => is_log(bytes),
+        Show::Page => false,
+    }
+}
+
+/// The answer to a text.
+fn show_text(
+    alloc: Global,
+    show: Show,
+    bytes: &[u8],
+    window: Option<Window>,
+) -> Result<LineAnswer, StreamFault>
+    ensures answer { IfOk result (λ a. IsShowAnswer show window bytes.now a.status (string_bytes a.text)) }
+    ensures status { IfOk result (λ a. a.status ≤ 2) }
+    ensures no_file { IsErrOf result StreamFault.File → ⊥ }
+{
+    if is_drawn_log(show, bytes) {
+        draw_log(alloc, window, bytes)
+    } else {
+        show_history_text(alloc, show, bytes, window)
+    }
+}
+
+/// Reads all of the reader, and writes what shows it.
+///
+/// Of a log, whose first word is `log`, a picture shows the run that [`complete_run_stream`](crate::complete_run_stream)
+/// writes, with a column for each line of the log up to the one that misfits, which is framed, with the word for what is
+/// wrong and its number in the file. The status is 1 if the log misfits, else 0.
+///
+/// Of a history what comes behind the first
 /// forbidden event is not shown. Of the events up to it, or up to the end, those of the window are
 /// shown; without a window the last 200. The status is that of an audit: 0 where the history is
 /// legal, else 1.
@@ -204,17 +227,17 @@ pub fn show_stream<R: Read, W: Write>(
     requires writer_works { has_failed writer.old ≡ false }
 
     // What is written, and its status, are the answer to what the reader had: of a history its
-    // picture or its page, byte for byte.
+    // picture or its page, byte for byte; of a log the picture of a run.
     ensures answer { IfOk result
-        (λ status. IfSome (R.remaining (inner_of reader.old))
-        (λ input. IsShowingOf show window input status
-        (Appends (W.contents (inner_of writer.old)) (W.contents (inner_of writer.new))))) }
-    // The status is that of an audit, unless events are asked for that can't be shown.
+        (HasAnswered (IsShowAnswer show window) (R.remaining (inner_of reader.old)) (W.contents (inner_of writer.old))
+        (W.contents (inner_of writer.new))) }
+    // Of a history the status is that of an audit, unless events are asked for that can't be shown.
     ensures status { IfOk result
-        (λ status. IfSome (R.remaining (inner_of reader.old)) (λ input. HasAuditStatus window input status)) }
+        (λ status. IfSome (R.remaining (inner_of reader.old))
+        (λ input. is_drawn_log show input ≡ false → HasAuditStatus window input status)) }
     ensures statuses { IfOk result (λ status. status ≤ 2) }
     ensures outcome { IsStreamOutcome R.remaining reader.old reader.new writer.old writer.new result }
 {
     let bytes = read_all(alloc, reader)?;
-    show_text(alloc, show, &bytes, window, writer)
+    put(&show_text(alloc, show, &bytes, window)?, writer)
 }

@@ -6,7 +6,7 @@ ghost use Rattle.clap.specs.Words.{subcommand_rows_of};
 ghost use Rattle.clap.specs.declared.builder.value_parser.ValueParser.TheVariants.{Signed};
 ghost use Rattle.monk_commands.specs.Request.{IsAsked, IsCompleteCommand, IsHastyCommand};
 ghost use Rattle.monk_commands.specs.Request.{IsExplainCommand};
-ghost use Rattle.monk_commands.specs.Request.{IsFitCommand, IsJudgingCommand};
+ghost use Rattle.monk_commands.specs.Request.{IsFitCommand};
 ghost use Rattle.monk_commands.specs.Request.{IsMonk, IsOwnApp, IsPlainMonk, IsRead, IsRunCommand, IsSubcommand};
 ghost use Rattle.monk_commands.specs.Request.{bare_app, classify_app, file_app, priority, required_rule};
 ghost use Rattle.monk_commands.specs.Request.{window_app};
@@ -112,20 +112,13 @@ fn classify<'a>(alloc: Global) -> Result<Command<'a>, AllocError>
     taking(command, priority(alloc, "SIGNALLER"))
 }
 
-/// A command of that name that takes a kind or none, and what is waited for in a log.
-fn judging<'a>(alloc: Global, name: &'a str, help: &Help) -> Result<Command<'a>, AllocError>
-    ensures { IfOk result (IsJudgingCommand name.entry.now) }
-{
-    let kinds = ValueParser::Names(KINDS.as_slice());
-    let kind = chosen(alloc, "kind", ONE_KIND, "KIND", kinds);
-    let command = described(alloc, name, help).arg(kind);
-    taking(command, repeated(alloc, "means", MEANS, "COND=PRED"))
-}
-
 fn fitting<'a>(alloc: Global) -> Result<Command<'a>, AllocError>
     ensures { IfOk result IsFitCommand }
 {
-    let command = judging(alloc, "fit", &FIT);
+    let kinds = ValueParser::Names(KINDS.as_slice());
+    let kind = chosen(alloc, "kind", ONE_KIND, "KIND", kinds);
+    let command = described(alloc, "fit", &FIT).arg(kind);
+    let command = taking(command, repeated(alloc, "means", MEANS, "COND=PRED"));
     let command = taking(command, flag(alloc, "json", JSON));
     taking(command, files(alloc))
 }
@@ -133,7 +126,11 @@ fn fitting<'a>(alloc: Global) -> Result<Command<'a>, AllocError>
 fn explaining<'a>(alloc: Global) -> Result<Command<'a>, AllocError>
     ensures { IfOk result IsExplainCommand }
 {
-    taking(judging(alloc, "explain", &EXPLAIN), file(alloc))
+    let kinds = ValueParser::Names(KINDS.as_slice());
+    let kind = chosen(alloc, "kind", ONE_KIND, "KIND", kinds);
+    let command = described(alloc, "explain", &EXPLAIN).arg(kind);
+    let command = taking(command, repeated(alloc, "means", MEANS, "COND=PRED"));
+    taking(command, file(alloc))
 }
 
 /// A command that shows some events of a file, or of standard input where none is named.

@@ -4,5 +4,9 @@ pub mod Judged
 pub mod Ends
 pub mod Shown
 pub mod Counts
+pub mod Among
+pub mod Moments
+pub mod Holding
 pub mod Reports
 pub mod Blame
+pub mod StepWords

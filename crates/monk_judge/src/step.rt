@@ -16,6 +16,11 @@ pub enum Step {
 
 /// As in `signal 2 0 wakes 1`, `out 0` or `wake 1`.
 impl fmt::Display for Step {
+    ghost use Rattle.std.specs.Prelude.{Some};
+    ghost use Rattle.monk_judge.specs.StepWords.{step_words};
+
+    ghost output = { λ s. Some (step_words s) };
+
     fn fmt<W: fmt::Write>(&self, f: &mut fmt::Formatter<W>) -> fmt::Result {
         match *self {
             Step::Tells(line, None) => write!(f, "{}", LineWords(line)),
@@ -31,6 +36,11 @@ impl fmt::Display for Step {
 struct LineWords(LogLine);
 
 impl fmt::Display for LineWords {
+    ghost use Rattle.std.specs.Prelude.{Some};
+    ghost use Rattle.monk_judge.specs.StepWords.{line_words};
+
+    ghost output = { λ l. Some (line_words l.0) };
+
     fn fmt<W: fmt::Write>(&self, f: &mut fmt::Formatter<W>) -> fmt::Result {
         match self.0 {
             LogLine::Enter(seat) => write!(f, "enter {seat}"),

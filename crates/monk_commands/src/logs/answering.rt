@@ -105,8 +105,9 @@ fn judged(
 ) -> Result<LineAnswer, AllocError>
     requires few { length lines.now ≤ 2 ^ 25 }
     requires size { header.now.size ≤ most header.now.object }
-    ensures { IfOk result (λ a. answered.IsJudged view question.means.now (answered.has_ended question.beside.now)
+    ensures answer { IfOk result (λ a. answered.IsJudged view question.means.now (answered.has_ended question.beside.now)
         header.now lines.now a.status (string_bytes a.text)) }
+    ensures status { IfOk result (λ a. a.status ≤ 2) }
 {
     let has_ended = has_ended(question.beside);
     let finding = finding(alloc, question.means, has_ended, header, lines)?;
@@ -126,8 +127,9 @@ fn answer_to_read(
     lines: &[LogLine],
 ) -> Result<LineAnswer, AllocError>
     requires few { length lines.now ≤ 2 ^ 25 }
-    ensures { IfOk result (λ a. answered.IsLogAnswer view question.kind question.means.now
+    ensures answer { IfOk result (λ a. answered.IsLogAnswer view question.kind question.means.now
         (answered.has_ended question.beside.now) header.now lines.now a.status (string_bytes a.text)) }
+    ensures status { IfOk result (λ a. a.status ≤ 2) }
 {
     match LogRefusal::of(question.kind, question.means, header, lines) {
         Some(refusal) => {
@@ -147,6 +149,7 @@ fn answer_to_fault(
 ) -> Result<LineAnswer, StreamFault>
     ensures answer { IfOk result
         (λ a. (a.status ≡ 2) × answered.Says view (unreadable fault).text (string_bytes a.text)) }
+    ensures status { IfOk result (λ a. a.status ≤ 2) }
     ensures no_file { IsErrOf result StreamFault.File → ⊥ }
 {
     let answer = unreadable(alloc, fault)?;
@@ -163,6 +166,7 @@ pub(crate) fn answer_to_log(
 ) -> Result<LineAnswer, StreamFault>
     ensures answer { IfOk result
         (λ a. answered.IsAnswerToLog view question bytes.now a.status (string_bytes a.text)) }
+    ensures status { IfOk result (λ a. a.status ≤ 2) }
     ensures no_file { IsErrOf result StreamFault.File → ⊥ }
 {
     match read_log(alloc, bytes) {

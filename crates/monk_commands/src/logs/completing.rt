@@ -33,6 +33,7 @@ fn answer_to_log(
 ) -> Result<LineAnswer, StreamFault>
     requires few { length lines.now ≤ 2 ^ 25 }
     ensures answer { IfOk result (λ a. IsRunOrMisfit header.now lines.now a.status (string_bytes a.text)) }
+    ensures status { IfOk result (λ a. a.status ≤ 2) }
     ensures no_file { IsErrOf result StreamFault.File → ⊥ }
 {
     if header.size() > header.object().greatest_size() {
@@ -49,6 +50,7 @@ fn answer_to_log(
 /// The answer to a text.
 fn answer_to_text(alloc: Global, bytes: &[u8]) -> Result<LineAnswer, StreamFault>
     ensures answer { IfOk result (λ a. IsRunAnswer bytes.now a.status (string_bytes a.text)) }
+    ensures status { IfOk result (λ a. a.status ≤ 2) }
     ensures no_file { IsErrOf result StreamFault.File → ⊥ }
 {
     match read_log(alloc, bytes) {

@@ -1,5 +1,9 @@
 //! The picture of a log: of a run that tells it, up to the line that misfits.
 
+ghost use Rattle.std.specs.Prelude.{◌≡◌, ◌≤◌, ◌^◌, IfOk, IsErrOf, length, map, string_bytes};
+ghost use Rattle.std.specs.List.{flat_map};
+ghost use Rattle.monk_commands.specs.LogDrawn as drawn;
+
 use crate::answer::{LineAnswer, too_big, unreadable};
 use crate::completing::header_of;
 use crate::fault::StreamFault;
@@ -8,14 +12,16 @@ use crate::logs::verdict_words::number;
 use crate::showing::behind;
 use monk_draw::{Window, draw_run, is_behind};
 use monk_history::{Event, From3, Next, Via};
-use monk_judge::{Misfit, Step};
+use monk_judge::{Misfit, Run, Step};
 use monk_kinds::KindName;
 use monk_logs::{LogHeader, LogLine, read_log};
 use std::alloc::{AllocError, Global};
 
 /// A line of a log as an event of a history, by which it is drawn: one that lets the lock go as if the entry queue went
 /// on, and a signal as one whose caller stays.
-fn line_event(line: LogLine) -> Event {
+fn line_event(line: LogLine) -> Event
+    ensures { result ≡ drawn.line_event line }
+{
     match line {
         LogLine::Enter(seat) | LogLine::Lapse(seat) => Event::Enter(seat, Via::Free),
         LogLine::Resume(seat) => Event::Resume(seat, From3::Waiter),
@@ -29,15 +35,19 @@ fn line_event(line: LogLine) -> Event {
 }
 
 /// The lines that are drawn: those up to the one that misfits.
-fn drawn_lines(misfit: Option<Misfit>, lines: &[LogLine]) -> &[LogLine] {
+fn drawn_lines(misfit: Option<Misfit>, lines: &[LogLine]) -> &[LogLine]
+    ensures { result.now ≡ drawn.drawn_lines misfit lines.now }
+{
     match misfit {
         None => lines,
-        Some(misfit) => lines.get(..=misfit.line).unwrap_or(lines),
+        Some(misfit) => lines.get(..misfit.line.saturating_add(1)).unwrap_or(lines),
     }
 }
 
 /// The events by which these lines are drawn.
-fn drawn_events(alloc: Global, lines: &[LogLine]) -> Result<Vec<Event>, AllocError> {
+fn drawn_events(alloc: Global, lines: &[LogLine]) -> Result<Vec<Event>, AllocError>
+    ensures { IfOk result (λ events. events.items ≡ map drawn.line_event lines.now) }
+{
     let mut events = Vec::with_capacity(alloc, lines.len())?;
     for line in lines {
         events.push(line_event(*line))?;
@@ -46,7 +56,9 @@ fn drawn_events(alloc: Global, lines: &[LogLine]) -> Result<Vec<Event>, AllocErr
 }
 
 /// Whom each line of the run wakes.
-fn drawn_served(alloc: Global, steps: &[Step]) -> Result<Vec<Option<u8>>, AllocError> {
+fn drawn_served(alloc: Global, steps: &[Step]) -> Result<Vec<Option<u8>>, AllocError>
+    ensures { IfOk result (λ served. served.items ≡ flat_map drawn.wakes_of steps.now) }
+{
     let mut served = Vec::with_capacity(alloc, steps.len())?;
     for step in steps {
         if let Step::Tells(_, woken) = *step {
@@ -57,7 +69,9 @@ fn drawn_served(alloc: Global, steps: &[Step]) -> Result<Vec<Option<u8>>, AllocE
 }
 
 /// What the picture says of the line that misfits, if one does.
-fn reason(alloc: Global, misfit: Option<Misfit>) -> Result<String, AllocError> {
+fn reason(alloc: Global, misfit: Option<Misfit>) -> Result<String, AllocError>
+    ensures { IfOk result (λ text. string_bytes text ≡ drawn.reason_of misfit) }
+{
     match misfit {
         None => Ok(String::new(alloc)),
         Some(misfit) => {
@@ -68,39 +82,68 @@ fn reason(alloc: Global, misfit: Option<Misfit>) -> Result<String, AllocError> {
 }
 
 /// The event that is forbidden, of so many that are drawn: the last, if the log misfits.
-fn forbidden_step(misfit: Option<Misfit>, count: usize) -> Option<u32> {
+fn forbidden_step(misfit: Option<Misfit>, count: usize) -> Option<u32>
+    requires { count ≤ 2 ^ 25 }
+    ensures { result ≡ drawn.forbidden_of misfit count }
+{
     match misfit {
         None => None,
         Some(_) => Some(count as u32),
     }
 }
 
-/// The picture of a run up to that misfit, by the lines that are drawn.
+/// The picture of a run by the lines that are drawn.
 fn picture(
     alloc: Global,
     window: Option<Window>,
     header: &LogHeader,
-    misfit: Option<Misfit>,
+    run: &Run,
     lines: &[LogLine],
-    served: &[Option<u8>],
-) -> Result<LineAnswer, AllocError> {
+) -> Result<LineAnswer, AllocError>
+    requires few { length lines.now ≤ 2 ^ 25 }
+    ensures status { IfOk result (λ a. a.status ≡ drawn.status_of run.now.misfit) }
+    ensures text { IfOk result (λ a. string_bytes a.text ≡ drawn.run_drawn window header.now run.now lines.now) }
+{
     let events = drawn_events(alloc, lines)?;
+    let served = drawn_served(alloc, &run.steps)?;
     let header = header_of(KindName::Npnb, header);
-    let forbidden = forbidden_step(misfit, lines.len());
-    let reason = reason(alloc, misfit)?;
-    let text = draw_run(alloc, &header, &events, served, window, forbidden, &reason)?;
+    let forbidden = forbidden_step(run.misfit, lines.len());
+    let reason = reason(alloc, run.misfit)?;
+    let text = draw_run(alloc, &header, &events, &served, window, forbidden, &reason)?;
     Ok(LineAnswer {
-        status: status(misfit),
+        status: status(run.misfit),
         text,
     })
 }
 
 /// The exit status: 1 if the log misfits.
-fn status(misfit: Option<Misfit>) -> u8 {
+fn status(misfit: Option<Misfit>) -> u8
+    ensures { result ≡ drawn.status_of misfit }
+{
     match misfit {
         None => 0,
         Some(_) => 1,
     }
+}
+
+/// The picture of a run by the lines that are drawn, if those that are asked for begin with one of them.
+fn picture_if_there(
+    alloc: Global,
+    window: Option<Window>,
+    header: &LogHeader,
+    run: &Run,
+    lines: &[LogLine],
+) -> Result<LineAnswer, StreamFault>
+    requires few { length lines.now ≤ 2 ^ 25 }
+    ensures answer { IfOk result
+        (λ a. drawn.IsRunDrawn window header.now run.now lines.now a.status (string_bytes a.text)) }
+    ensures status { IfOk result (λ a. a.status ≤ 2) }
+    ensures no_file { IsErrOf result StreamFault.File → ⊥ }
+{
+    if is_behind(window, lines.len()) {
+        return behind(alloc, lines.len());
+    }
+    Ok(picture(alloc, window, header, run, lines)?)
 }
 
 /// The answer to a log that was read.
@@ -109,17 +152,19 @@ fn answer_to_read(
     window: Option<Window>,
     header: &LogHeader,
     lines: &[LogLine],
-) -> Result<LineAnswer, StreamFault> {
+) -> Result<LineAnswer, StreamFault>
+    requires few { length lines.now ≤ 2 ^ 25 }
+    ensures answer { IfOk result
+        (λ a. drawn.IsLogDrawn window header.now lines.now a.status (string_bytes a.text)) }
+    ensures status { IfOk result (λ a. a.status ≤ 2) }
+    ensures no_file { IsErrOf result StreamFault.File → ⊥ }
+{
     if header.size() > header.object().greatest_size() {
         return too_big(alloc);
     }
     let run = run(alloc, header, lines)?;
     let drawn = drawn_lines(run.misfit, lines);
-    if is_behind(window, drawn.len()) {
-        return behind(alloc, drawn.len());
-    }
-    let served = drawn_served(alloc, &run.steps)?;
-    Ok(picture(alloc, window, header, run.misfit, drawn, &served)?)
+    picture_if_there(alloc, window, header, &run, drawn)
 }
 
 /// The picture of a log, with one column for each line up to the one that misfits.
@@ -127,7 +172,12 @@ pub(crate) fn draw_log(
     alloc: Global,
     window: Option<Window>,
     bytes: &[u8],
-) -> Result<LineAnswer, StreamFault> {
+) -> Result<LineAnswer, StreamFault>
+    ensures answer { IfOk result
+        (λ a. drawn.IsLogDrawing window bytes.now a.status (string_bytes a.text)) }
+    ensures status { IfOk result (λ a. a.status ≤ 2) }
+    ensures no_file { IsErrOf result StreamFault.File → ⊥ }
+{
     match read_log(alloc, bytes) {
         Ok((header, lines)) => answer_to_read(alloc, window, &header, &lines),
         Err(fault) => unreadable(alloc, fault),

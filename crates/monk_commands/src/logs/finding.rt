@@ -1,6 +1,6 @@
 //! What is found of a log.
 
-ghost use Rattle.std.specs.Prelude.{◌≡◌};
+ghost use Rattle.std.specs.Prelude.{◌≡◌, ◌≤◌};
 ghost use Rattle.monk_commands.specs.LogFound.{finding_status, is_busy, never_again};
 
 use monk_judge::{Holder, Report};
@@ -36,7 +36,8 @@ impl Finding {
     /// The exit status: 1 if the log misfits, if a signal is missed, or if the program is busy at its end. A program
     /// that ends by itself isn't stuck, so its end is no fault.
     pub(crate) fn status(&self) -> u8
-        ensures { result ≡ finding_status self.now }
+        ensures status { result ≡ finding_status self.now }
+        ensures few { result ≤ 1 }
     {
         let report = &self.report;
         if report.misfit.is_some()

@@ -1,9 +1,9 @@
 //! A log, judged over the object that its header names.
 
 ghost use Rattle.std.specs.Prelude.{◌≡◌, ◌≤◌, ◌^◌, IfOk, length};
-ghost use Rattle.monk_object.specs.Names.{most, meaning_named, opening_named};
-ghost use Rattle.monk_judge.specs.Reports.{IsReport};
-ghost use Rattle.monk_judge.specs.Run.{setting};
+ghost use Rattle.monk_object.specs.Names.{most};
+ghost use Rattle.monk_commands.specs.LogFound.{IsReportOf};
+ghost use Rattle.monk_commands.specs.RunText.{IsRunOfLog};
 
 use crate::objects::{book, flags, shop};
 use monk_judge::{Report, Run, WaitsFor, judge_log, run_of_log};
@@ -20,8 +20,7 @@ pub(crate) fn report(
 ) -> Result<Report, AllocError>
     requires few { length lines.now ≤ 2 ^ 25 }
     requires size { header.now.size ≤ most header.now.object }
-    ensures { IfOk result (λ r. IsReport (setting header.now.seats header.now.conds (meaning_named header.now.object))
-        (opening_named header.now.object header.now.size) means.now lines.now r) }
+    ensures { IfOk result (λ r. IsReportOf means.now header.now lines.now r) }
 {
     let (seats, conds, size) = (header.seats(), header.conds(), header.size());
     match header.object() {
@@ -39,6 +38,7 @@ pub(crate) fn report(
 pub(crate) fn run(alloc: Global, header: &LogHeader, lines: &[LogLine]) -> Result<Run, AllocError>
     requires few { length lines.now ≤ 2 ^ 25 }
     requires size { header.now.size ≤ most header.now.object }
+    ensures { IfOk result (λ run. IsRunOfLog header.now lines.now run) }
 {
     let (seats, conds, size) = (header.seats(), header.conds(), header.size());
     match header.object() {
