@@ -24,6 +24,7 @@ use crate::window_words::window_of;
 use clap::builder::ValueParser;
 use clap::error::ErrorKind;
 use clap::{Arg, ArgMatches, Command, value_parser};
+use monk_kinds::KindName;
 use std::alloc::{AllocError, Global};
 
 static KINDS: [&str; 10] = [
@@ -203,14 +204,39 @@ fn with_file<'a>(alloc: Global, name: &'a str, help: &Help) -> Result<Command<'a
     described(alloc, name, help).arg(file(alloc))
 }
 
-fn fault_of(alloc: Global, error: &clap::Error) -> LineFault {
+fn fault_of(alloc: Global, words: &[&str], error: &clap::Error) -> LineFault {
     if error.kind() == ErrorKind::OutOfMemory {
         return LineFault::Memory;
     }
-    match error.to_string(alloc) {
+    match fault_text(alloc, words, error) {
         Ok(text) => LineFault::Words(text),
         Err(_) => LineFault::Memory,
     }
+}
+
+/// clap's text, and what to do in place of an option that is gone.
+fn fault_text(alloc: Global, words: &[&str], error: &clap::Error) -> Result<String, AllocError> {
+    let mut text = error.to_string(alloc)?;
+    if error.kind() == ErrorKind::UnknownArgument {
+        for word in words {
+            if let Some(advice) = advice_on(word) {
+                write!(text, "\n{advice}\n")?;
+                return Ok(text);
+            }
+        }
+    }
+    Ok(text)
+}
+
+/// What to do in place of an option that is gone, or of a kind where none stands any more.
+fn advice_on(word: &str) -> Option<&'static str> {
+    if word == "--lapses" {
+        return Some("spurious wake-ups are always allowed and counted: leave --lapses out");
+    }
+    if word.starts_with("--order") {
+        return Some("a log promises no order: leave --order out");
+    }
+    KindName::of_text(word.as_bytes()).and(Some("complete takes a kind by --kind"))
 }
 
 fn priorities_of(matches: &ArgMatches<'_>) -> Option<Line>
@@ -323,7 +349,7 @@ pub fn line(alloc: Global, words: &[&str]) -> Result<Line, LineFault>
 {
     let matches = match command(alloc)?.try_get_matches_from(words) {
         Ok(matches) => matches,
-        Err(error) => return Err(fault_of(alloc, &error)),
+        Err(error) => return Err(fault_of(alloc, words, &error)),
     };
     // clap lets no command through without its subcommand or a value that is required.
     match asked(alloc, &matches)? {

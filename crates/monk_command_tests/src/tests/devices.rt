@@ -2,10 +2,10 @@
 ghost use Rattle.std.specs.Prelude.{◌<◌};
 
 use super::jobs::{Expected, Job};
-use monk_commands::{StreamFault, Task, classify_stream, run_stream};
+use super::questions::{ASKED, EXPLAIN, FIT};
+use monk_commands::{FitForm, Question, StreamFault, Task, classify_stream, run_stream};
 use monk_history::Device;
 use monk_kinds::KindName;
-use monk_logs::{Lapses, RunOrder};
 use monk_samples::Sample;
 use std::alloc::Global;
 use std::io;
@@ -45,38 +45,45 @@ static JOBS: [Job<'static>; 14] = [
     },
     Job {
         name: "fitted",
-        task: Task::Fit(Lapses::Told, &[]),
+        task: FIT,
         input: b"monk 1 PB 1 0 buffer 1\nenter 0 free\nleave 0 entry\n",
         status: 0,
         answer: b"PB legal 2\nNPB legal 2\nPNB legal 2\nNPNB legal 2\nPQB legal 2\nNPQB legal 2\nPIR legal 2\nNPIR legal 2\nPIS legal 2\nNPIS legal 2\n",
     },
     Job {
         name: "fitted under a kind",
-        task: Task::FitKind(KindName::Pis, Lapses::Told, &[], "a.history"),
+        task: Task::Fit(
+            FitForm::Words,
+            Question {
+                kind: Some(KindName::Pis),
+                name: "a.history",
+                ..ASKED
+            },
+        ),
         input: b"monk 1 PB 1 0 buffer 1\nenter 0 free\nleave 0 entry\n",
         status: 0,
         answer: b"a.history: PIS legal 2\n",
     },
     Job {
-        name: "a log under a kind",
-        task: Task::FitKind(KindName::Npnb, Lapses::Told, &[], "-"),
+        name: "a log",
+        task: FIT,
         input: b"log 1 1 1 buffer 1\nenter 0\nwait 0 0\n",
         status: 0,
-        answer: b"-: NPNB fits fifo; served 0 passed 0 lapsed 0; left waiting 1 woken 0 inside 1; unheard none; crossed none; dead\n",
+        answer: b"a.log: fits; dead, all 1 sleep\n",
     },
     Job {
         name: "explained",
-        task: Task::Explain,
+        task: EXPLAIN,
         input: b"monk 1 PB 2 1 buffer 1\nenter 0 free\nwait 0 0 entry\nenter 0 free\n",
         status: 1,
         answer: b"forbidden 3 4 place\nline: 4\nevent: enter 0 free\nkind: PB blocking 1 3 2\nturn: open\ninside: 0\ndata: 1 (buffer of 1: empty)\ncondition 0: 0\nwaiter:\nsignaller:\nwhy: seat 0 is inside already\n",
     },
     Job {
         name: "a log explained",
-        task: Task::ExplainKind(KindName::Npnb, Lapses::Told, &[]),
+        task: EXPLAIN,
         input: b"log 1 1 1 buffer 1\nenter 0\nwait 0 0\n",
         status: 0,
-        answer: b"NPNB fits fifo\nserved 0 passed 0 lapsed 0\nleft waiting 1 woken 0 inside 1\nunheard none\ncrossed none\ndead\nseat 0: 2 wait 0 0\n",
+        answer: b"fits; dead, all 1 sleep\nseat 0: sleeps on condition 0 since line 3; no signal came there since\n",
     },
     Job {
         name: "not drawn",
@@ -94,21 +101,21 @@ static JOBS: [Job<'static>; 14] = [
     },
     Job {
         name: "completed",
-        task: Task::Complete(KindName::Npb),
+        task: Task::Complete(Some(KindName::Npb)),
         input: b"log 1 2 1 buffer 1\nenter 0\nwait 0 0\nenter 1\nsignal 1 0\nresume 0\nleave 0\nresume 1\n",
         status: 0,
         answer: b"monk 2 NPB 2 1 buffer 1\nenter 0 free\nwait 0 0 entry\nenter 1 handed\nsignal 1 0 waiter 0\nresume 0 waiter\nleave 0 signaller 1\nresume 1 signaller\n",
     },
     Job {
         name: "run completed",
-        task: Task::CompleteRun(KindName::Npnb, RunOrder::Any),
+        task: Task::Complete(None),
         input: b"log 1 2 1 buffer 1\nenter 0\nwait 0 0\nenter 1\nsignal 1 0\nleave 1\nresume 0\n",
         status: 0,
-        answer: b"run any NPNB 2 1 buffer 1\nenter 0 free\nwait 0 0 entry\nenter 1 handed\nsignal 1 0 stay serves 0\nleave 1 waiter 0\nresume 0 waiter\n",
+        answer: b"run NPNB 2 1 buffer 1\nenter 0\nwait 0 0\nenter 1\nsignal 1 0 wakes 0\nleave 1\nresume 0\n",
     },
     Job {
         name: "misfit",
-        task: Task::Complete(KindName::Npnb),
+        task: Task::Complete(Some(KindName::Npnb)),
         input: b"log 1 2 1 buffer 1\nenter 0\nwait 0 0\nresume 0\n",
         status: 1,
         answer: b"NPNB misfit 3 6 unserved\n",
@@ -261,10 +268,7 @@ static DRAWN: [(Task<'static>, &[u8]); 2] = [
         Task::Draw(None),
         b"monk 1 PB 1 0 buffer 1\nenter 0 free\nleave 0 entry\n",
     ),
-    (
-        Task::DrawRun(KindName::Npnb, RunOrder::Wake, None),
-        b"log 1 1 0 buffer 1\nenter 0\nleave 0\n",
-    ),
+    (Task::Draw(None), b"log 1 1 0 buffer 1\nenter 0\nleave 0\n"),
 ];
 
 /// Whether each read and write of this picture fails in turn.

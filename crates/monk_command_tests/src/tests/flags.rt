@@ -1,9 +1,9 @@
 //! Known texts that name flags, and what each command answers to them.
 
 use super::jobs::{Job, are_answered};
+use super::questions::{EXPLAIN, FIT};
 use monk_commands::Task;
 use monk_kinds::KindName;
-use monk_logs::{Lapses, WaitsFor};
 use std::test::Fail;
 
 /// Seat 0 waits until flag 1 is set, and seat 1 sets it.
@@ -105,28 +105,28 @@ fn histories_over_flags_are_judged(rt: HostRuntime) -> Result<(), Fail> {
 static TOLD: [Job<'static>; 4] = [
     Job {
         name: "what is legal",
-        task: Task::Explain,
+        task: EXPLAIN,
         input: SET_FOR_A_WAITER,
         status: 0,
         answer: b"legal 9\nkind: PIS automatic 1 2\nturn: open\ninside:\ndata: 2 1 (bits set: 0)\nuntil:\nready:\n",
     },
     Job {
         name: "a reply",
-        task: Task::Explain,
+        task: EXPLAIN,
         input: b"monk 3 PIS 2 0 flags 1\nenter 0 free\nact 0 0 1 1\nact 0 0 2 1\n",
         status: 1,
         answer: b"forbidden 3 5 reply\nline: 4\nevent: act 0 0 2 1\nkind: PIS automatic 1 2\nturn: of 0\ninside: 0\ndata: 1 1 (bits set: 0)\nuntil:\nready:\nreply: 0\nwhy: the object replies 0 and not 1\n",
     },
     Job {
         name: "a predicate that there is none of",
-        task: Task::Explain,
+        task: EXPLAIN,
         input: b"monk 3 PIS 2 0 flags 1\nenter 0 free\nuntil 0 32 entry\n",
         status: 1,
         answer: b"forbidden 2 1 range\nline: 3\nevent: until 0 32 entry\nkind: PIS automatic 1 2\nturn: of 0\ninside: 0\ndata: 1 0 (no bit set)\nuntil:\nready:\nwhy: the object has no predicate 32\n",
     },
     Job {
         name: "under each kind",
-        task: Task::Fit(Lapses::Told, &[]),
+        task: FIT,
         input: SET_FOR_A_WAITER,
         status: 0,
         answer: b"PB forbidden 3 2 call\nNPB forbidden 3 2 call\nPNB forbidden 3 2 call\nNPNB forbidden 3 2 call\nPQB forbidden 3 2 call\nNPQB forbidden 3 2 call\nPIR forbidden 3 2 call\nNPIR forbidden 3 2 call\nPIS legal 9\nNPIS legal 9\n",
@@ -217,35 +217,35 @@ const LOG: &[u8] =
 static LOGS: [Job<'static>; 5] = [
     Job {
         name: "a log of flags",
-        task: Task::Complete(KindName::Pis),
+        task: Task::Complete(Some(KindName::Pis)),
         input: LOG,
         status: 0,
         answer: b"monk 3 PIS 2 0 flags 2\nenter 0 free\nact 0 0 1 1\nuntil 0 1 entry\nenter 1 handed\nact 1 0 2 1\nleave 1 until 0\nresume 0 until\nact 0 0 1 1\nleave 0 entry\n",
     },
     Job {
-        name: "the kinds that it could be of",
-        task: Task::Fit(Lapses::Told, &[WaitsFor { cond: 0, pred: 1 }]),
+        name: "a log of another kind",
+        task: FIT,
         input: LOG,
-        status: 0,
-        answer: b"PB misfit 3 2 call\nNPB misfit 3 2 call\nPNB misfit 3 2 call\nNPNB misfit 3 2 call\nPQB misfit 3 2 call\nNPQB misfit 3 2 call\nPIR misfit 3 2 call\nNPIR misfit 3 2 call\nPIS fits fifo\nNPIS fits fifo\nserved 0 passed 0 lapsed 0\nleft waiting 0 woken 0 inside 1\nmissed none\n",
+        status: 1,
+        answer: b"a.log: misfit at 4: call, until is no call of a mutex\n",
     },
     Job {
         name: "flags in a log of version 1",
-        task: Task::Complete(KindName::Pis),
+        task: Task::Complete(Some(KindName::Pis)),
         input: b"log 1 2 0 flags 2\nenter 0\n",
         status: 2,
         answer: b"unreadable 1 1 header\n",
     },
     Job {
         name: "a buffer in a log of version 2",
-        task: Task::Complete(KindName::Pis),
+        task: Task::Complete(Some(KindName::Pis)),
         input: b"log 2 2 0 buffer 2\nenter 0\n",
         status: 2,
         answer: b"unreadable 1 1 header\n",
     },
     Job {
         name: "more flags than a log may have",
-        task: Task::Complete(KindName::Pis),
+        task: Task::Complete(Some(KindName::Pis)),
         input: b"log 2 2 0 flags 33\nenter 0\n",
         status: 2,
         answer: b"object\n",

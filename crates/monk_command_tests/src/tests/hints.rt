@@ -1,8 +1,9 @@
 //! Inputs that a command can't read, and what to do about them; and options that name what an input doesn't have.
 
-use monk_commands::{Task, hint_for, line_hint_for, option_hint_for};
+use super::questions::{ASKED, EXPLAIN, FIT};
+use monk_commands::{FitForm, Question, Task, hint_for, line_hint_for, option_hint_for};
+use monk_judge::WaitsFor;
 use monk_kinds::KindName;
-use monk_logs::{Lapses, RunOrder, WaitsFor};
 use std::alloc::Global;
 use std::fmt;
 use std::test::Fail;
@@ -27,7 +28,7 @@ static HINTS: [Row; 19] = [
         "the input is binary: a text has printable characters alone",
     ),
     (
-        Task::Explain,
+        EXPLAIN,
         b"monk 1 PB 2 0 buffer 1\r\n",
         "a line ends in CR LF: end each line in LF alone",
     ),
@@ -37,17 +38,17 @@ static HINTS: [Row; 19] = [
         "this is a play: give it to monk play or trace",
     ),
     (
-        Task::DrawRun(KindName::Pb, RunOrder::Any, None),
+        Task::Complete(None),
         b"monk 1 PB 2 0 buffer 1\n",
         "this is a history: give it to monk audit, explain, draw, page, fit or upgrade",
     ),
     (
         Task::Trace,
         b"log 1 2 0 buffer 1\n",
-        "this is a log: give it to monk fit, complete, explain --kind or draw --kind",
+        "this is a log: give it to monk fit, explain, draw or complete",
     ),
     (
-        Task::Complete(KindName::Pb),
+        Task::Complete(Some(KindName::Pb)),
         b"monk 1 PB 2 0 buffer 1\n",
         "this is a history: give it to monk audit, explain, draw, page, fit or upgrade",
     ),
@@ -62,7 +63,7 @@ static HINTS: [Row; 19] = [
         "there is no such kind: the kinds are PB, NPB, PNB, NPNB, PQB, NPQB, PIR, NPIR, PIS, NPIS",
     ),
     (
-        Task::Fit(Lapses::Told, &[]),
+        FIT,
         b"log 1 41 1 buffer 1\n",
         "the number of seats is out of range: 1 to 32",
     ),
@@ -72,7 +73,7 @@ static HINTS: [Row; 19] = [
         "the number of seats is out of range: 1 to 32",
     ),
     (
-        Task::Complete(KindName::Npnb),
+        Task::Complete(Some(KindName::Npnb)),
         b"log 1 3 9 buffer 1\n",
         "the number of conditions is out of range: 0 to 8",
     ),
@@ -117,7 +118,7 @@ static LINE_HINTS: [Row; 14] = [
         "line 2 should begin with enter, act, leave, wait, signal, signal-leave, until or resume",
     ),
     (
-        Task::Explain,
+        EXPLAIN,
         b"monk 3 PNB 2 1 flags 1\nstay 0\n",
         "line 2 should begin with enter, act, leave, wait, signal, signal-leave, until, resume, signal-all or signal-wait",
     ),
@@ -132,18 +133,18 @@ static LINE_HINTS: [Row; 14] = [
         "line 2 should be `leave SEAT (stay | entry | waiter SEAT | signaller SEAT | until SEAT)`",
     ),
     (
-        Task::Fit(Lapses::Told, &[]),
+        FIT,
         b"log 1 1 0 buffer 1\nenter 0\nstay 0\n",
         "line 3 should begin with enter, resume, lapse, leave, wait, signal, broadcast, until or act",
     ),
     // The first line that is at fault decides.
     (
-        Task::DrawRun(KindName::Npnb, RunOrder::Any, None),
+        Task::Draw(None),
         b"log 1 1 1 buffer 1\nenter 0\nwait 0\nstay 0\n",
         "line 3 should be `wait SEAT COND`",
     ),
     (
-        Task::Complete(KindName::Pb),
+        Task::Complete(Some(KindName::Pb)),
         b"log 1 1 1 buffer 1\nact 0 1 00 1\n",
         "line 2 should be `act SEAT CODE ARG REPLY`; SEAT, COND, PRED and CODE are 0 to 255, ARG is at most 4294967295, REPLY at most 18446744073709551615",
     ),
@@ -180,78 +181,138 @@ const FOR_31: WaitsFor = WaitsFor { cond: 0, pred: 31 };
 
 const FOR_32: WaitsFor = WaitsFor { cond: 0, pred: 32 };
 
-const AN_OPTION_OF_A_HISTORY: &str = "--means and --lapses are for logs, and this is a history";
+const AN_OPTION_OF_A_HISTORY: &str = "--means is for logs, and this is a history";
 
-static OPTION_HINTS: [Row; 16] = [
+static OPTION_HINTS: [Row; 14] = [
     (
-        Task::Fit(Lapses::Told, &[FOR_ONE]),
+        Task::Fit(
+            FitForm::Words,
+            Question {
+                means: &[FOR_ONE],
+                ..ASKED
+            },
+        ),
         b"log 1 3 2 buffer 4\n",
         "",
     ),
     (
-        Task::Fit(Lapses::Told, &[ON_TWO]),
+        Task::Fit(
+            FitForm::Words,
+            Question {
+                means: &[ON_TWO],
+                ..ASKED
+            },
+        ),
         b"log 1 3 2 buffer 4\n",
         "--means 2=1: the log has no condition 2; it has 2, counted from 0",
     ),
     (
-        Task::Fit(Lapses::Allowed, &[FOR_ONE, FOR_TWO, ON_NINE]),
+        Task::Fit(
+            FitForm::Words,
+            Question {
+                means: &[FOR_ONE, FOR_TWO, ON_NINE],
+                ..ASKED
+            },
+        ),
         b"log 1 3 2 buffer 4\nenter 0\n",
         "--means 0=2: a buffer has no predicate 2; it has 2, counted from 0",
     ),
     (
-        Task::FitKind(KindName::Pb, Lapses::Told, &[ON_NINE], "-"),
+        Task::Fit(
+            FitForm::Words,
+            Question {
+                means: &[ON_NINE],
+                ..ASKED
+            },
+        ),
         b"log 1 3 0 buffer 4\n",
         "--means 9=9: the log has no condition 9; it has none",
     ),
     (
-        Task::Fit(Lapses::Told, &[FOR_TWO]),
+        Task::Fit(
+            FitForm::Words,
+            Question {
+                means: &[FOR_TWO],
+                ..ASKED
+            },
+        ),
         b"log 1 3 1 book 4\n",
         "--means 0=2: a book has no predicate 2; it has 2, counted from 0",
     ),
     (
-        Task::Fit(Lapses::Told, &[FOR_TWO]),
+        Task::Fit(
+            FitForm::Words,
+            Question {
+                means: &[FOR_TWO],
+                ..ASKED
+            },
+        ),
         b"log 1 3 1 shop 4\n",
         "",
     ),
     (
-        Task::FitKind(KindName::Pis, Lapses::Told, &[FOR_TWO, FOR_THREE], "x.log"),
+        Task::Fit(
+            FitForm::Words,
+            Question {
+                means: &[FOR_TWO, FOR_THREE],
+                ..ASKED
+            },
+        ),
         b"log 1 3 1 shop 4\n",
         "--means 0=3: a shop has no predicate 3; it has 3, counted from 0",
     ),
     (
-        Task::Fit(Lapses::Told, &[FOR_31]),
+        Task::Fit(
+            FitForm::Words,
+            Question {
+                means: &[FOR_31],
+                ..ASKED
+            },
+        ),
         b"log 2 3 1 flags 4\n",
         "",
     ),
     (
-        Task::Fit(Lapses::Told, &[FOR_32]),
+        Task::Fit(
+            FitForm::Words,
+            Question {
+                means: &[FOR_32],
+                ..ASKED
+            },
+        ),
         b"log 2 3 1 flags 4\n",
         "--means 0=32: an object of flags has no predicate 32; it has 32, counted from 0",
     ),
-    (Task::Fit(Lapses::Allowed, &[]), b"log 1 3 2 buffer 4\n", ""),
     (
-        Task::Fit(Lapses::Allowed, &[]),
-        b"monk 1 PB 2 0 buffer 1\n",
-        AN_OPTION_OF_A_HISTORY,
-    ),
-    (
-        Task::FitKind(KindName::Npnb, Lapses::Told, &[FOR_ONE], "-"),
+        Task::Fit(
+            FitForm::Words,
+            Question {
+                means: &[FOR_ONE],
+                ..ASKED
+            },
+        ),
         b"monk 1 PB 2 2 buffer 1\n",
         AN_OPTION_OF_A_HISTORY,
     ),
+    (FIT, b"monk 1 PB 2 0 buffer 1\n", ""),
     (
-        Task::Fit(Lapses::Told, &[]),
-        b"monk 1 PB 2 0 buffer 1\n",
+        Task::Complete(Some(KindName::Pb)),
+        b"log 1 3 0 buffer 4\n",
         "",
     ),
-    (Task::Complete(KindName::Pb), b"log 1 3 0 buffer 4\n", ""),
     (
-        Task::ExplainKind(KindName::Npnb, Lapses::Told, &[FOR_ONE, ON_TWO]),
+        Task::Explain(Question {
+            means: &[FOR_ONE, ON_TWO],
+            ..ASKED
+        }),
         b"log 1 3 2 buffer 4\n",
         "--means 2=1: the log has no condition 2; it has 2, counted from 0",
     ),
     (
-        Task::ExplainKind(KindName::Npnb, Lapses::Allowed, &[]),
+        Task::Explain(Question {
+            means: &[FOR_ONE],
+            ..ASKED
+        }),
         b"monk 1 PB 2 0 buffer 1\n",
         AN_OPTION_OF_A_HISTORY,
     ),

@@ -1,11 +1,12 @@
 use crate::tests::jobs::{Expected, Job};
-use monk_commands::{StreamFault, Task};
+use crate::tests::questions::{ASKED, EXPLAIN, FIT};
+use monk_commands::{FitForm, Question, StreamFault, Task};
 use monk_history::Device;
+use monk_judge::WaitsFor;
 use monk_kinds::KindName;
-use monk_logs::{Lapses, RunOrder, WaitsFor};
 
 /// By the names that `checks/fail_alloc` knows them by.
-pub(super) static JOBS: [Job<'static>; 25] = [
+pub(super) static JOBS: [Job<'static>; 24] = [
     Job {
         name: "legal",
         task: Task::Audit,
@@ -66,64 +67,71 @@ pub(super) static JOBS: [Job<'static>; 25] = [
     },
     Job {
         name: "fitted",
-        task: Task::Fit(Lapses::Told, &[]),
+        task: FIT,
         input: b"monk 1 PB 1 0 buffer 1\nenter 0 free\nleave 0 entry\n",
         status: 0,
         answer: b"PB legal 2\nNPB legal 2\nPNB legal 2\nNPNB legal 2\nPQB legal 2\nNPQB legal 2\nPIR legal 2\nNPIR legal 2\nPIS legal 2\nNPIS legal 2\n",
     },
     Job {
-        name: "log_fitted",
-        task: Task::Fit(Lapses::Allowed, &[WaitsFor { cond: 0, pred: 1 }]),
-        input: b"log 1 2 1 buffer 1\nenter 0\nwait 0 0\nresume 0\n",
-        status: 0,
-        answer: b"PB fits fifo\nNPB fits fifo\nPNB fits fifo\nNPNB fits fifo\nPQB fits fifo\nNPQB fits fifo\nPIR fits fifo\nNPIR fits fifo\nPIS misfit 2 2 call\nNPIS misfit 2 2 call\nserved 0 passed 0 lapsed 1\nleft waiting 0 woken 0 inside 1\nmissed none\n",
-    },
-    Job {
-        name: "log_not_fitted",
-        task: Task::Fit(Lapses::Told, &[]),
-        input: b"log 1 1 0 buffer 1\nenter 0\nstay 0\n",
-        status: 2,
-        answer: b"unreadable 3 2 word\n",
-    },
-    Job {
         name: "kind_fitted",
-        task: Task::FitKind(KindName::Npir, Lapses::Told, &[], "a.history"),
+        task: Task::Fit(
+            FitForm::Words,
+            Question {
+                kind: Some(KindName::Npir),
+                name: "a.history",
+                ..ASKED
+            },
+        ),
         input: b"monk 1 PB 1 0 buffer 1\nenter 0 free\nleave 0 entry\n",
         status: 0,
         answer: b"a.history: NPIR legal 2\n",
     },
     Job {
-        name: "log_kind_fitted",
-        task: Task::FitKind(
-            KindName::Npnb,
-            Lapses::Allowed,
-            &[WaitsFor { cond: 0, pred: 1 }],
-            "a.log",
+        name: "log_fitted",
+        task: Task::Fit(
+            FitForm::Words,
+            Question {
+                means: &[WaitsFor { cond: 0, pred: 1 }],
+                ..ASKED
+            },
         ),
-        input: b"log 1 2 1 buffer 1\nenter 0\nwait 0 0\nresume 0\n",
+        input: b"log 1 2 1 buffer 1\nenter 0\nact 0 1 0 0\nwait 0 0\nresume 0\n",
         status: 1,
-        answer: b"a.log: NPNB fits fifo; served 0 passed 0 lapsed 1; left waiting 0 woken 0 inside 1; unheard none; crossed none; missed none; busy 0 3\n",
+        answer: b"a.log: fits with 1 spurious wake-up, first at 5; busy, seat 0 holds the lock since 5\n",
     },
     Job {
-        name: "log_kind_outside",
-        task: Task::FitKind(KindName::Npnb, Lapses::Told, &[], "a.log"),
-        input: b"log 1 2 1 buffer 1\nenter 0\nwait 0 0\nsignal 1 0\n",
+        name: "log_fitted_in_json",
+        task: Task::Fit(FitForm::Json, ASKED),
+        input: b"log 1 1 1 buffer 1\nenter 0\nwait 0 0\n",
         status: 0,
-        answer: b"a.log: NPNB fits fifo; served 1 passed 0 lapsed 0; left waiting 0 woken 1 inside 1; unheard none; crossed none; owed\n",
+        answer: b"{\"asleep\":1,\"crossed\":{\"count\":0,\"last\":null},\"end\":\"dead\",\"ended\":false,\"file\":\"a.log\",\"fits\":true,\"missed\":null,\"overtaken\":{\"again\":0,\"count\":0,\"first\":null},\"passed\":0,\"served\":0,\"spurious\":{\"count\":0,\"first\":null},\"unheard\":{\"count\":0,\"last\":null},\"woken\":0}\n",
     },
     Job {
-        name: "log_kind_misfit",
-        task: Task::FitKind(KindName::Npis, Lapses::Told, &[], "a.log"),
-        input: b"log 1 2 1 buffer 1\nenter 0\nwait 0 0\nresume 0\n",
+        name: "log_misfits",
+        task: FIT,
+        input: b"log 1 2 1 buffer 1\nenter 0\nenter 1\n",
         status: 1,
-        answer: b"a.log: NPIS misfit 2 2 call; served 0 passed 0 lapsed 0; left waiting 0 woken 0 inside 1; unheard none; crossed none; busy 0 1\n",
+        answer: b"a.log: misfit at 3: held, seat 1 takes the lock, but seat 0 holds it since 2\n",
     },
     Job {
-        name: "log_not_kind_fitted",
-        task: Task::FitKind(KindName::Npnb, Lapses::Told, &[], "a.log"),
+        name: "log_not_fitted",
+        task: FIT,
         input: b"log 1 1 0 buffer 1\nenter 0\nstay 0\n",
         status: 2,
         answer: b"a.log: unreadable 3 2 word\n",
+    },
+    Job {
+        name: "log_refused",
+        task: Task::Fit(
+            FitForm::Words,
+            Question {
+                kind: Some(KindName::Npir),
+                ..ASKED
+            },
+        ),
+        input: b"log 1 1 0 buffer 1\nenter 0\n",
+        status: 2,
+        answer: b"a.log: refused, `monk complete --kind NPIR` judges a log by that kind\n",
     },
     Job {
         name: "traced",
@@ -134,21 +142,21 @@ pub(super) static JOBS: [Job<'static>; 25] = [
     },
     Job {
         name: "explained",
-        task: Task::Explain,
+        task: EXPLAIN,
         input: b"monk 1 PNB 2 1 buffer 1\nenter 0 free\nwait 0 0 entry\nenter 1 free\nsignal 1 0 waiter 0\n",
         status: 1,
         answer: b"forbidden 4 6 choice\nline: 5\nevent: signal 1 0 waiter 0\nkind: PNB non-blocking 1 2 3\nturn: of 1\ninside: 0 1\ndata: 1 (buffer of 1: empty)\ncondition 0: 0\nwaiter:\nsignaller:\nfronts: waiter 0, signaller 1\nmay: stay\nwhy: seat 1 has to stay active, since PNB puts signallers above waiters\n",
     },
     Job {
         name: "log_explained",
-        task: Task::ExplainKind(KindName::Npnb, Lapses::Told, &[]),
-        input: b"log 1 2 1 buffer 1\nenter 0\nwait 0 0\nresume 0\n",
+        task: EXPLAIN,
+        input: b"log 1 2 1 buffer 1\nenter 0\nwait 0 0\nresume 0\nact 0 1 0 5\n",
         status: 1,
-        answer: b"NPNB misfit 3 6 unserved\nserved 0 passed 0 lapsed 1\nleft waiting 0 woken 0 inside 1\nunheard none\ncrossed none\nbusy 0 3\nline: 4\nevent: resume 0\nwhy: this seat goes on, but no signal can have served it, or its predicate doesn't hold\nseat 0: 2 wait 0 0\n",
+        answer: b"misfit at 5: reply, seat 0 relied on what no longer held; 1 spurious wake-up, first at 4\nline 5: act 0 1 0 5: the object replies otherwise: the seat relied on what no longer held\nline 4: resume 0: the seat came back here though nobody sent a signal; it has to test again\nseat 0: holds the lock since line 4\nseat 1: outside\n",
     },
     Job {
         name: "not_explained",
-        task: Task::Explain,
+        task: EXPLAIN,
         input: b"monk 1 PB 1 0 buffer 1\nenter 0 free\nstay 0\n",
         status: 2,
         answer: b"unreadable 3 2 word\n",
@@ -162,28 +170,28 @@ pub(super) static JOBS: [Job<'static>; 25] = [
     },
     Job {
         name: "completed",
-        task: Task::Complete(KindName::Pb),
+        task: Task::Complete(Some(KindName::Pb)),
         input: b"log 1 2 1 buffer 1\nenter 0\nwait 0 0\nenter 1\nsignal 1 0\nresume 0\nleave 0\nresume 1\n",
         status: 0,
         answer: b"monk 2 PB 2 1 buffer 1\nenter 0 free\nwait 0 0 entry\nenter 1 handed\nsignal 1 0 waiter 0\nresume 0 waiter\nleave 0 signaller 1\nresume 1 signaller\n",
     },
     Job {
         name: "run_completed",
-        task: Task::CompleteRun(KindName::Npnb, RunOrder::Any),
+        task: Task::Complete(None),
         input: b"log 1 2 1 buffer 1\nenter 0\nwait 0 0\nenter 1\nsignal 1 0\nleave 1\nresume 0\n",
         status: 0,
-        answer: b"run any NPNB 2 1 buffer 1\nenter 0 free\nwait 0 0 entry\nenter 1 handed\nsignal 1 0 stay serves 0\nleave 1 waiter 0\nresume 0 waiter\n",
+        answer: b"run NPNB 2 1 buffer 1\nenter 0\nwait 0 0\nenter 1\nsignal 1 0 wakes 0\nleave 1\nresume 0\n",
     },
     Job {
         name: "misfit",
-        task: Task::Complete(KindName::Pnb),
+        task: Task::Complete(Some(KindName::Pnb)),
         input: b"log 1 2 1 buffer 1\nenter 0\nwait 0 0\nenter 1\nsignal 1 0\nresume 0\n",
         status: 1,
         answer: b"PNB misfit 5 9 choice\n",
     },
     Job {
         name: "not_completed",
-        task: Task::Complete(KindName::Pb),
+        task: Task::Complete(Some(KindName::Pb)),
         input: b"log 1 1 0 buffer 1\nenter 0\nstay 0\n",
         status: 2,
         answer: b"unreadable 3 2 word\n",
@@ -208,13 +216,13 @@ pub(super) static PICTURES: [Picture<'static>; 3] = [
     },
     Picture {
         name: "run_drawn",
-        task: Task::DrawRun(KindName::Npnb, RunOrder::Any, None),
+        task: Task::Draw(None),
         input: b"log 1 2 1 buffer 1\nenter 0\nwait 0 0\nenter 1\nsignal 1 0\nleave 1\nresume 0\n",
         status: 0,
     },
     Picture {
         name: "run_drawn_misfit",
-        task: Task::DrawRun(KindName::Npnb, RunOrder::Any, None),
+        task: Task::Draw(None),
         input: b"log 1 2 1 buffer 1\nenter 0\nwait 0 0\nsignal 1 0\nenter 0\n",
         status: 1,
     },
