@@ -7,7 +7,9 @@ use Rattle.monk_logs.specs.Expiry.{line_seat}
 use Rattle.monk_logs.specs.declared.text.line.LogLine.{LogLine}
 use Rattle.monk_judge.specs.declared.place.Place.TheVariants.{Waiting}
 use Rattle.monk_judge.specs.Counts.{one, waits_on}
-use Rattle.monk_judge.specs.Run.{Setting, State, Step, Tells, RunsOut, WakesUnasked, May, after, IsRun, lines_of, opening, run_out, woken_unasked}
+use Rattle.monk_judge.specs.Run.{Setting, State, May, after, IsRun, lines_of, opening, run_out, woken_unasked}
+use Rattle.monk_judge.specs.declared.step.Step.{Step}
+use Rattle.monk_judge.specs.declared.step.Step.TheVariants.{Tells, RunsOut, WakesUnasked}
 use Rattle.monk_judge.specs.Judged.{CanStand, IsRight, after_all, steps_at}
 use Rattle.monk_judge.specs.Ends.{lapses_next, resumes_within}
 use Rattle.monk_judge.specs.Explains.{IsExplainable}

@@ -8,5 +8,8 @@ pub mod Least
 pub mod LeastLaw
 pub mod Sleepers
 pub mod Totals
+pub mod Among
+pub mod Moments
+pub mod Holding
 pub mod Taking
 pub mod Naming

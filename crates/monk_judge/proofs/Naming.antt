@@ -4,7 +4,8 @@ use Rattle.monk_logs.specs.declared.text.line.LogLine.TheVariants.{Broadcast, Wa
 use Rattle.monk_judge.specs.declared.told.Told.TheVariants as told
 use Rattle.monk_judge.specs.Counts.{Names, one, sleepers_on}
 use Rattle.monk_judge.specs.Judged.{running_out}
-use Rattle.monk_judge.specs.Run.{Setting, State, Tells}
+use Rattle.monk_judge.specs.Run.{Setting, State}
+use Rattle.monk_judge.specs.declared.step.Step.TheVariants.{Tells}
 
 pub wait_names : (m : Setting) (x : State) (s c : ℕ) (b : Bool)
     → Names m x (Tells (Wait s c) None ∷ running_out s b) told.Plain

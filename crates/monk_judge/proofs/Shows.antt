@@ -7,7 +7,8 @@ use Rattle.monk_object.specs.Object.{Object}
 use Rattle.monk_judge.specs.declared.place.Place.{Place}
 use Rattle.monk_judge.specs.declared.place.Place.TheVariants.{Outside, Waiting, RanOut}
 use Rattle.monk_judge.specs.declared.wait_end.WaitEnd.{WaitEnd}
-use Rattle.monk_judge.specs.Run.{State, Tells, run_out, with_place}
+use Rattle.monk_judge.specs.Run.{State, run_out, with_place}
+use Rattle.monk_judge.specs.declared.step.Step.TheVariants.{Tells}
 use Rattle.monk_judge.specs.Judged.{after_all, running_out}
 use Rattle.monk_logs.specs.declared.text.line.LogLine.TheVariants.{Wait}
 use Rattle.monk_judge.specs.Shown.{Shown, setting_of, shown, state_of}

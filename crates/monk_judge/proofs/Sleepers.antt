@@ -9,7 +9,8 @@ use Rattle.monk_judge.specs.declared.place.Place.{Place}
 use Rattle.monk_judge.specs.declared.place.Place.TheVariants.{Outside, Active, Waiting, Woken, RanOut}
 use Rattle.monk_judge.specs.declared.wait_end.WaitEnd.{WaitEnd}
 use Rattle.monk_judge.specs.declared.wait_end.WaitEnd.TheVariants.{Resumes}
-use Rattle.monk_judge.specs.Run.{Setting, State, Tells, MaySignal, WakesRightly, run_out, signalled, woken, woken_unasked, with_place}
+use Rattle.monk_judge.specs.Run.{Setting, State, MaySignal, WakesRightly, run_out, signalled, woken, woken_unasked, with_place}
+use Rattle.monk_judge.specs.declared.step.Step.TheVariants.{Tells}
 use Rattle.monk_judge.specs.Judged.{CanStand, IsRight, after_all, running_out, steps_at, waking}
 use Rattle.monk_judge.specs.Ends.{IsEnd, ends_after, resumes_within, runs_out}
 use Rattle.monk_judge.specs.Shown.{IsEarliest, Shown, WakesEarliest, state_of}

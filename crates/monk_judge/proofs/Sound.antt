@@ -5,7 +5,9 @@ use Rattle.monk_logs.specs.declared.text.line.LogLine.{LogLine}
 use Rattle.monk_logs.specs.declared.text.line.LogLine.TheVariants.{Enter, Resume, Lapse, Leave, Wait, Signal, Broadcast, Until, Act}
 use Rattle.monk_judge.specs.declared.place.Place.{Place}
 use Rattle.monk_judge.specs.declared.place.Place.TheVariants.{Outside, Active, Waiting, Woken, RanOut}
-use Rattle.monk_judge.specs.Run.{Setting, State, Step, Tells, RunsOut, WakesUnasked, May, Sleeps, IsWoken, after, IsRun, lines_of, woken_unasked, with_place}
+use Rattle.monk_judge.specs.Run.{Setting, State, May, Sleeps, IsWoken, after, IsRun, lines_of, woken_unasked, with_place}
+use Rattle.monk_judge.specs.declared.step.Step.{Step}
+use Rattle.monk_judge.specs.declared.step.Step.TheVariants.{Tells, RunsOut, WakesUnasked}
 use Rattle.monk_judge.specs.Judged.{CanResume, CanStand, IsRight, after_all, running_out, steps_at, waking}
 
 -- one run behind another

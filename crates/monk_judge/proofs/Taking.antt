@@ -1,28 +1,36 @@
 -- What holds while a judge takes the lines of a log
 use Rattle.std.proofs.Common.{◌≡◌, ℕ, ◌<◌, ◌≤◌, ◌+◌, ◌*◌, List, [], ◌∷◌, ◌++◌, Option, Some, None, length, get_or, take, drop, refl, sym, ap, subst, arith, ◌∙◌}
 use Rattle.std.proofs.Math.ListN.{length-set}
-use Rattle.std.proofs.lemmas.List.{take_all}
+use Rattle.std.proofs.lemmas.List.{length-take-le, take_all}
 use Rattle.monk_object.specs.Object.{Object}
 use Rattle.monk_logs.specs.declared.text.line.LogLine.{LogLine}
 use Rattle.monk_logs.specs.declared.text.line.LogLine.TheVariants.{Enter, Resume, Lapse, Leave, Wait, Signal, Broadcast, Until, Act}
-use Rattle.monk_judge.specs.declared.blame.Blame.{Blame}
 use Rattle.monk_judge.specs.declared.misfit.Misfit.{Misfit}
 use Rattle.monk_judge.specs.declared.place.Place.{Place}
 use Rattle.monk_judge.specs.declared.place.Place.TheVariants.{Outside}
+use Rattle.monk_judge.specs.declared.report.Report.{Report}
 use Rattle.monk_judge.specs.declared.tally.Tally.{Tally}
+use Rattle.monk_judge.specs.Among.{NamesLast}
 use Rattle.monk_judge.specs.declared.told.Told.{Told}
 use Rattle.monk_judge.specs.declared.told.Told.TheVariants as told
 use Rattle.monk_judge.specs.declared.wait_end.WaitEnd.{WaitEnd}
 use Rattle.monk_judge.specs.declared.wait_end.WaitEnd.TheVariants.{Resumes}
-use Rattle.monk_judge.specs.Counts.{count, finds_nobody, first_after, is_asleep, is_woken, passed_in, passes, sleepers, spurious_in, total, unheard_in, wakes, wakes_in, woken_ones}
+use Rattle.monk_judge.specs.Counts.{count, finds_nobody, first_after, is_asleep, is_woken, last_after, passed_in, passes, sleepers, spurious_in, total, unheard_in, wakes, wakes_in, woken_ones}
 use Rattle.monk_judge.specs.Ends.{AreEnds, ends_after, runs_out}
 use Rattle.monk_judge.specs.Explains.{IsExplainable}
 use Rattle.monk_judge.specs.Judged.{CanStand, after_all}
-use Rattle.monk_judge.specs.Reports.{Counts, IsCounted, IsReport, IsTaken, NamesFirstNeed, fitting}
-use Rattle.monk_judge.specs.Run.{Setting, State, Step, Tells, RunsOut, WakesUnasked, IsRun, after, lines_of, opening, unasked}
+use Rattle.monk_judge.specs.Holding.{NamesLastTaking, holder_by}
+use Rattle.monk_judge.specs.Moments.{Moment, moment, moments}
+use Rattle.monk_judge.specs.Reports.{IsCounted, IsReport, IsRunOf, IsTaken, IsUnheard, NamesFirstNeed, NamesLastUnheard, fitting}
+use Rattle.monk_judge.specs.Run.{Setting, State, IsRun, after, lines_of, opening, unasked}
+use Rattle.monk_judge.specs.declared.step.Step.{Step}
+use Rattle.monk_judge.specs.declared.step.Step.TheVariants.{Tells, RunsOut, WakesUnasked}
 use Rattle.monk_judge.specs.Shown.{Refuses, Shown, Takes, own_steps, setting_of, state_of, whom}
 use Rattle.monk_judge.proofs.Covers.{CoversAt, covers_explains, covers_next, covers_opening, covers_stop, rest_is}
 use Rattle.monk_judge.proofs.Sleepers.{EndsAt, ends_next, goes_first, outside_not}
+use Rattle.monk_judge.proofs.Among.{last_here, last_skip}
+use Rattle.monk_judge.proofs.Holding.{holder_is}
+use Rattle.monk_judge.proofs.Moments.{Meets, line_meets, moment_kept, moment_last, moments_many, moments_on}
 use Rattle.monk_judge.proofs.Totals.{fewest}
 
 -- ---- counts of two parts of a run
@@ -38,27 +46,14 @@ unasked_both (Tells l w ∷ a) b = unasked_both a b
 unasked_both (RunsOut s ∷ a) b = unasked_both a b
 unasked_both (WakesUnasked s ∷ a) b = let more = unasked_both a b in omega arith
 
--- ---- the lines so far
+-- ---- a run of the lines so far
 
-pub record Taken (o : Object) (m : Setting) (d : List ℕ) (lines : List LogLine) (i : ℕ) (v : Shown)
-    (t : Tally) : Type 0 where
+pub record Reached (o : Object) (m : Setting) (d : List ℕ) (lines : List LogLine) (i : ℕ) (v : Shown)
+    (steps : List Step) : Type 0 where
   pub same : setting_of v o ≡ m
   pub many : length v.ends ≡ length v.places
-  pub steps : List Step
   pub covers : CoversAt m d lines i steps (state_of v)
   pub ends : EndsAt v i (drop i lines)
-  pub counts : Counts m d steps t
-  pub first : NamesFirstNeed m d lines t.first_spurious (unasked steps)
-  pub room : t.served + t.passed + t.spurious + t.unheard ≤ 255 * i
-
--- behind one line more
-pub record CountsMore (i : ℕ) (t u : Tally) (what : Told) : Type 0 where
-  pub served : u.served ≡ t.served + wakes_in what
-  pub passed : u.passed ≡ t.passed + passed_in what
-  pub spurious : u.spurious ≡ t.spurious + spurious_in what
-  pub unheard : u.unheard ≡ t.unheard + unheard_in what
-  pub first : u.first_spurious ≡ first_after t.first_spurious i what
-  pub room : u.served + u.passed + u.spurious + u.unheard ≤ t.served + t.passed + t.spurious + t.unheard + 255
 
 many_after : (ends : List WaitEnd) (l : LogLine) (e : WaitEnd) → length (ends_after ends l e) ≡ length ends
 many_after ends (Enter s) e = refl
@@ -71,19 +66,129 @@ many_after ends (Broadcast s c) e = refl
 many_after ends (Until s p) e = refl
 many_after ends (Act s op r) e = refl
 
-pub taken_opening : (o : Object) (m : Setting) (d : List ℕ) (lines : List LogLine) (v : Shown) (t : Tally)
-    → setting_of v o ≡ m
-    → length v.ends ≡ length v.places → state_of v ≡ opening d
-    → t.served ≡ 0 → t.passed ≡ 0 → t.spurious ≡ 0 → t.unheard ≡ 0 → t.first_spurious ≡ None → Taken o m d lines 0 v t
-taken_opening o m d lines v t same many fresh served passed spurious unheard first = record {
+pub reached_opening : (o : Object) (m : Setting) (d : List ℕ) (lines : List LogLine) (v : Shown) → setting_of v o ≡ m
+    → length v.ends ≡ length v.places → state_of v ≡ opening d → Reached o m d lines 0 v []
+reached_opening o m d lines v same many fresh = record {
   same = same;
   many = many;
-  steps = [];
   covers = covers_opening m d lines (state_of v) fresh;
   ends = λ j c h. absurd (outside_not c (sym (ap (λ (x : State). x.place j) fresh) ∙ h));
-  counts = record { spurious = spurious; served = served; passed = passed; unheard = unheard };
-  first = subst (λ k. NamesFirstNeed m d lines k 0) (sym first) refl;
-  room = omega arith;
+}
+
+pub stands_there : (o : Object) (m : Setting) (d : List ℕ) (lines : List LogLine) (i : ℕ) (v new : Shown)
+    (steps : List Step) (l : LogLine) (e : WaitEnd) (what : Told)
+    → Reached o m d lines i v steps → Takes o v new l e what → CanStand m (state_of v) l
+stands_there o m d lines i v new steps l e what was does = subst (λ k. CanStand k (state_of v) l) was.same does.stands
+
+pub reached_next : (o : Object) (m : Setting) (d : List ℕ) (lines : List LogLine) (ends : List WaitEnd) (i : ℕ)
+    (v new : Shown) (steps : List Step) (what : Told)
+    → i < length lines → AreEnds ends lines → Reached o m d lines i v steps
+    → Takes o v new (get_or lines i (Enter 0)) (get_or ends i (Resumes 0)) what
+    → Reached o m d lines (i + 1) new
+    (steps ++ own_steps v (get_or lines i (Enter 0)) (get_or ends i (Resumes 0)) what)
+reached_next o m d lines ends i v new steps what lt are was does =
+    let x = state_of v in
+    let l = get_or lines i (Enter 0) in
+    let e = get_or ends i (Resumes 0) in
+    let rest = drop (i + 1) lines in
+    let end = are.each i lt in
+    let acts = (was.covers.follows steps was.covers.run was.covers.told).holder in
+    let seats : m.seats ≡ length v.places = sym (ap (λ (k : Setting). k.seats) was.same) in
+    let stands = stands_there o m d lines i v new steps l e what was does in
+    let leads = does.leads ∙ ap (λ k. after_all k x (own_steps v l e what)) was.same in
+    let ends_here : EndsAt v i (l ∷ rest) = subst (λ k. EndsAt v i k) (rest_is lines i lt) was.ends in
+    record {
+      same = does.setting ∙ was.same;
+      many = ap length does.ends ∙ many_after v.ends l e ∙ was.many ∙ sym (ap (λ (k : Setting). k.seats) does.setting);
+      covers = covers_next m d lines i steps x (state_of new) (whom what) (runs_out e) lt was.covers stands
+          does.right
+          (goes_first m v l (whom what) i rest seats acts stands does.right does.earliest ends_here) leads end.lapses;
+      ends = ends_next m v new l (whom what) e i rest (seats ∙ sym was.many) acts stands ends_here end leads does.ends;
+    }
+
+-- ---- it ends
+
+least_of : (o : Object) (m : Setting) (d : List ℕ) (lines : List LogLine) (i : ℕ) (v : Shown) (steps : List Step)
+    → Reached o m d lines i v steps → (others : List Step) → IsRun m (opening d) others
+    → lines_of others ≡ take i lines → unasked steps ≤ unasked others
+least_of o m d lines i v steps was others run told =
+    fewest m d steps others was.covers.run run (λ c. (was.covers.least others run told c).cost)
+
+pub run_all : (o : Object) (m : Setting) (d : List ℕ) (lines : List LogLine) (i : ℕ) (v : Shown) (steps : List Step)
+    → length lines ≤ i → Reached o m d lines i v steps → IsRunOf m d lines None steps
+run_all o m d lines i v steps all was =
+    let is : take i lines ≡ lines = take_all i lines all in
+    record {
+      misfit = subst (λ k. IsExplainable m (opening d) k) is
+          (covers_explains m d (take i lines) (drop i lines) steps (state_of v) was.covers);
+      run = was.covers.run;
+      told = was.covers.told ∙ is;
+      least = λ others run told. least_of o m d lines i v steps was others run (told ∙ was.covers.told);
+    }
+
+pub run_stop : (o : Object) (m : Setting) (d : List ℕ) (lines : List LogLine) (i : ℕ) (v new : Shown)
+    (steps : List Step) (f : Misfit)
+    → i < length lines → Reached o m d lines i v steps → Refuses o v new (get_or lines i (Enter 0)) → f.line ≡ i
+    → IsRunOf m d lines (Some f) steps
+run_stop o m d lines i v new steps f lt was refused at =
+    let no = λ (can : CanStand m (state_of v) (get_or lines i (Enter 0))).
+    refused.not_there (subst (λ k. CanStand k (state_of v) (get_or lines i (Enter 0))) (sym was.same) can) in
+    record {
+      misfit = (
+        subst (λ k. k < length lines) (sym at) lt,
+        subst (λ k. IsExplainable m (opening d) (take k lines)) (sym at)
+            (covers_explains m d (take i lines) (drop i lines) steps (state_of v) was.covers),
+        subst (λ k. IsExplainable m (opening d) (take (k + 1) lines) → ⊥) (sym at)
+            (covers_stop m d lines i steps (state_of v) lt was.covers no),
+      );
+      run = was.covers.run;
+      told = was.covers.told ∙ ap (λ k. take k lines) (sym at);
+      least = λ others run told. least_of o m d lines i v steps was others run (told ∙ was.covers.told);
+    }
+
+-- ---- the counts so far
+
+pub record Taken (o : Object) (m : Setting) (d : List ℕ) (lines : List LogLine) (i : ℕ) (v : Shown)
+    (t : Tally) : Type 0 where
+  pub steps : List Step
+  pub reached : Reached o m d lines i v steps
+  pub counted : IsCounted m d lines steps t
+  pub room : t.served + t.passed + t.spurious + t.unheard ≤ 255 * i
+
+-- behind one line more
+pub record CountsMore (i : ℕ) (t u : Tally) (what : Told) : Type 0 where
+  pub served : u.served ≡ t.served + wakes_in what
+  pub passed : u.passed ≡ t.passed + passed_in what
+  pub spurious : u.spurious ≡ t.spurious + spurious_in what
+  pub unheard : u.unheard ≡ t.unheard + unheard_in what
+  pub first : u.first_spurious ≡ first_after t.first_spurious i what
+  pub last : u.last_unheard ≡ last_after t.last_unheard i what
+  pub room : u.served + u.passed + u.spurious + u.unheard ≤ t.served + t.passed + t.spurious + t.unheard + 255
+
+-- nothing is counted yet
+pub record IsNothing (t : Tally) : Type 0 where
+  pub served : t.served ≡ 0
+  pub passed : t.passed ≡ 0
+  pub spurious : t.spurious ≡ 0
+  pub unheard : t.unheard ≡ 0
+  pub first : t.first_spurious ≡ None
+  pub last : t.last_unheard ≡ None
+
+pub taken_opening : (o : Object) (m : Setting) (d : List ℕ) (lines : List LogLine) (v : Shown) (t : Tally)
+    → setting_of v o ≡ m
+    → length v.ends ≡ length v.places → state_of v ≡ opening d → IsNothing t → Taken o m d lines 0 v t
+taken_opening o m d lines v t same many fresh none = record {
+  steps = [];
+  reached = reached_opening o m d lines v same many fresh;
+  counted = record {
+    spurious = none.spurious;
+    served = none.served;
+    passed = none.passed;
+    unheard = none.unheard;
+    first = subst (λ k. NamesFirstNeed m d lines k t.spurious) (sym none.first) none.spurious;
+    last = subst (λ k. NamesLastUnheard m.seats [] k) (sym none.last) (λ k lt. absurd (omega arith));
+  };
+  room = let a = none.served in let b = none.passed in let c = none.spurious in let e = none.unheard in omega arith;
 }
 
 -- sums
@@ -96,23 +201,6 @@ counts_by : (m : Setting) (d : List ℕ) (steps own : List Step) (x : State) (w 
 counts_by m d steps own x w new old told leads h k l =
     both new old told (total w m (opening d) steps) (total w m x own) h k l
     ∙ ap (λ y. total w m (opening d) steps + total w m y own) leads ∙ sym (total_on w m (opening d) steps own)
-
-counts_next : (m : Setting) (d : List ℕ) (i : ℕ) (steps own : List Step) (x : State) (t u : Tally) (what : Told)
-    → x ≡ after_all m (opening d) steps
-    → Counts m d steps t → CountsMore i t u what → unasked own ≡ spurious_in what
-    → total (wakes m.seats) m x own ≡ wakes_in what
-    → total (passes m.seats) m x own ≡ passed_in what → total (finds_nobody m.seats) m x own ≡ unheard_in what
-    → Counts m d (steps ++ own) u
-counts_next m d i steps own x t u what leads was more spurious served passed unheard = record {
-  spurious = both u.spurious t.spurious (spurious_in what) (unasked steps) (unasked own) more.spurious was.spurious
-      spurious ∙ sym (unasked_both steps own);
-  served = counts_by m d steps own x (wakes m.seats) u.served t.served (wakes_in what) leads more.served was.served
-      served;
-  passed = counts_by m d steps own x (passes m.seats) u.passed t.passed (passed_in what) leads more.passed was.passed
-      passed;
-  unheard = counts_by m d steps own x (finds_nobody m.seats) u.unheard t.unheard (unheard_in what) leads more.unheard
-      was.unheard unheard;
-}
 
 -- the first line that needs a wake-up that nobody sent
 first_of : (m : Setting) (d : List ℕ) (lines : List LogLine) (i : ℕ) (steps own : List Step) (what : Told)
@@ -145,107 +233,178 @@ first_by m d lines i steps own (Some k) what run told least spurious h = h
 first_by m d lines i steps own None what run told least spurious h = first_of m d lines i steps own what run told
     least (let a = unasked_both steps own in omega arith) h
 
+-- the last signal that finds nobody
+unheard_not : (n a : ℕ) → a ≡ 0 → a ≡ 1 → ⊥
+unheard_not n a none one = absurd (omega arith)
+
+last_with : (n i : ℕ) (all : List Moment) (t : Moment) (found : Option ℕ) → length all ≡ i → NamesLastUnheard n all found
+    → finds_nobody n t.before (Tells t.line t.whom) ≡ 0
+    → NamesLast (λ k. IsUnheard n (moment (all ++ t ∷ []) k)) (i + 1) found
+last_with n i all t found many h none =
+    last_skip (λ k. IsUnheard n (moment all k)) (λ k. IsUnheard n (moment (all ++ t ∷ []) k)) i found
+    (λ k lt. let same = moment_kept all t k (subst (λ j. k < j) (sym many) lt) in
+    (subst (λ z. IsUnheard n z) (sym same), subst (λ z. IsUnheard n z) same))
+    (λ is. unheard_not n _ none
+    (subst (λ z. IsUnheard n z) (ap (λ j. moment (all ++ t ∷ []) j) (sym many) ∙ moment_last all t) is))
+    (subst (λ j. NamesLast (λ k. IsUnheard n (moment all k)) j found) many h)
+
+last_by : (n i : ℕ) (all : List Moment) (t : Moment) (found : Option ℕ) (what : Told) → length all ≡ i
+    → NamesLastUnheard n all found → finds_nobody n t.before (Tells t.line t.whom) ≡ unheard_in what
+    → NamesLast (λ k. IsUnheard n (moment (all ++ t ∷ []) k)) (i + 1) (last_after found i what)
+last_by n i all t found told.Plain many h is = last_with n i all t found many h is
+last_by n i all t found told.Passed many h is = last_with n i all t found many h is
+last_by n i all t found told.Unheard many h is =
+    last_here (λ k. IsUnheard n (moment (all ++ t ∷ []) k)) i
+    (subst (λ z. IsUnheard n z) (sym (ap (λ j. moment (all ++ t ∷ []) j) (sym many) ∙ moment_last all t)) is)
+last_by n i all t found (told.Woke s) many h is = last_with n i all t found many h is
+last_by n i all t found (told.WokeAll c) many h is = last_with n i all t found many h is
+last_by n i all t found told.Spurious many h is = last_with n i all t found many h is
+
+-- the moments of one line more
+pub many_moments : (o : Object) (m : Setting) (d : List ℕ) (lines : List LogLine) (i : ℕ) (v : Shown)
+    (steps : List Step) → i ≤ length lines → Reached o m d lines i v steps → length (moments m (opening d) steps) ≡ i
+many_moments o m d lines i v steps le was = moments_many m (opening d) steps ∙ ap length was.covers.told
+    ∙ length-take-le i lines le
+
+pub moments_next : (o : Object) (m : Setting) (d : List ℕ) (lines : List LogLine) (i : ℕ) (v : Shown)
+    (steps own : List Step) (l : LogLine) → Reached o m d lines i v steps → (meets : Meets m (state_of v) l own)
+    → moments m (opening d) (steps ++ own) ≡ moments m (opening d) steps ++ meets.t ∷ []
+moments_next o m d lines i v steps own l was meets = moments_on m (opening d) steps own meets.none_out
+    ∙ ap (λ k. moments m (opening d) steps ++ k) (ap (λ k. moments m k own) (sym was.covers.leads) ∙ meets.is)
+
+last_next : (o : Object) (m : Setting) (d : List ℕ) (lines : List LogLine) (i : ℕ) (v : Shown) (steps own : List Step)
+    (l : LogLine) (found : Option ℕ) (what : Told)
+    → i < length lines → Reached o m d lines i v steps → (meets : Meets m (state_of v) l own)
+    → NamesLastUnheard m.seats (moments m (opening d) steps) found
+    → finds_nobody m.seats meets.t.before (Tells meets.t.line meets.t.whom) ≡ unheard_in what
+    → NamesLastUnheard m.seats (moments m (opening d) (steps ++ own)) (last_after found i what)
+last_next o m d lines i v steps own l found what lt was meets h is =
+    let all = moments m (opening d) steps in
+    let many = many_moments o m d lines i v steps (omega arith) was in
+    subst (λ k. NamesLastUnheard m.seats k (last_after found i what))
+    (sym (moments_next o m d lines i v steps own l was meets))
+    (subst (λ n. NamesLast (λ k. IsUnheard m.seats (moment (all ++ meets.t ∷ []) k)) n (last_after found i what))
+    (let e : i + 1 ≡ length (all ++ meets.t ∷ []) = grind (arith, many) in e)
+    (last_by m.seats i all meets.t found what many h is))
+
+counted_next : (o : Object) (m : Setting) (d : List ℕ) (lines : List LogLine) (i : ℕ) (v new : Shown)
+    (steps : List Step) (e : WaitEnd) (t u : Tally) (what : Told)
+    → i < length lines → Reached o m d lines i v steps → IsCounted m d lines steps t
+    → Takes o v new (get_or lines i (Enter 0)) e what → CountsMore i t u what
+    → ((others : List Step) → IsRun m (opening d) others → lines_of others ≡ take (i + 1) lines
+    → unasked (steps ++ own_steps v (get_or lines i (Enter 0)) e what) ≤ unasked others)
+    → IsCounted m d lines (steps ++ own_steps v (get_or lines i (Enter 0)) e what) u
+counted_next o m d lines i v new steps e t u what lt was counted does more least =
+    let x = state_of v in
+    let l = get_or lines i (Enter 0) in
+    let own = own_steps v l e what in
+    let sums = λ (w : ℕ → State → Step → ℕ) (new old told : ℕ) (a : new ≡ old + told)
+    (b : old ≡ total (w m.seats) m (opening d) steps)
+    (c : total (w (length v.places)) (setting_of v o) x own ≡ told).
+    counts_by m d steps own x (w m.seats) new old told was.covers.leads a b
+    (subst (λ (k : Setting). total (w k.seats) k x own ≡ told) was.same c) in
+    let spurious : u.spurious ≡ unasked (steps ++ own) = both u.spurious t.spurious (spurious_in what)
+    (unasked steps) (unasked own) more.spurious counted.spurious does.names.spurious
+    ∙ sym (unasked_both steps own) in
+    let meets = line_meets m x l (whom what) (runs_out e) (stands_there o m d lines i v new steps l e what was does) in
+    record {
+      spurious = spurious;
+      served = sums wakes u.served t.served (wakes_in what) more.served counted.served does.names.served;
+      passed = sums passes u.passed t.passed (passed_in what) more.passed counted.passed does.names.passed;
+      unheard = sums finds_nobody u.unheard t.unheard (unheard_in what) more.unheard counted.unheard
+          does.names.unheard;
+      first = subst (λ k. NamesFirstNeed m d lines k u.spurious) (sym more.first)
+          (subst (λ k. NamesFirstNeed m d lines (first_after t.first_spurious i what) k) (sym spurious)
+          (first_by m d lines i steps own t.first_spurious what was.covers.run was.covers.told least
+          does.names.spurious
+          (subst (λ k. NamesFirstNeed m d lines t.first_spurious k) counted.spurious counted.first)));
+      last = subst (λ k. NamesLastUnheard m.seats (moments m (opening d) (steps ++ own)) k) (sym more.last)
+          (last_next o m d lines i v steps own l t.last_unheard what lt was meets counted.last
+          (meets.nobody
+          ∙ subst (λ (k : Setting). total (finds_nobody k.seats) k x own ≡ unheard_in what) was.same
+          does.names.unheard));
+    }
+
 pub taken_next : (o : Object) (m : Setting) (d : List ℕ) (lines : List LogLine) (ends : List WaitEnd) (i : ℕ)
     (v new : Shown) (t u : Tally)
     (what : Told) → i < length lines → AreEnds ends lines → Taken o m d lines i v t
     → Takes o v new (get_or lines i (Enter 0)) (get_or ends i (Resumes 0)) what → CountsMore i t u what
     → Taken o m d lines (i + 1) new u
 taken_next o m d lines ends i v new t u what lt are was does more =
-    let x = state_of v in
-    let l = get_or lines i (Enter 0) in
     let e = get_or ends i (Resumes 0) in
-    let rest = drop (i + 1) lines in
-    let own = own_steps v l e what in
-    let end = are.each i lt in
-    let acts = (was.covers.follows was.steps was.covers.run was.covers.told).holder in
-    let seats : m.seats ≡ length v.places = sym (ap (λ (k : Setting). k.seats) was.same) in
-    let stands = subst (λ k. CanStand k x l) was.same does.stands in
-    let leads = does.leads ∙ ap (λ k. after_all k x own) was.same in
-    let ends_here : EndsAt v i (l ∷ rest) = subst (λ k. EndsAt v i k) (rest_is lines i lt) was.ends in
-    let names = does.names in
-    let covers = covers_next m d lines i was.steps x (state_of new) (whom what) (runs_out e) lt was.covers stands
-    does.right
-    (goes_first m v l (whom what) i rest seats acts stands does.right does.earliest ends_here) leads end.lapses in
+    let own = own_steps v (get_or lines i (Enter 0)) e what in
+    let next = reached_next o m d lines ends i v new was.steps what lt are was.reached does in
     record {
-      same = does.setting ∙ was.same;
-      many = ap length does.ends ∙ many_after v.ends l e ∙ was.many ∙ sym (ap (λ (k : Setting). k.seats) does.setting);
       steps = was.steps ++ own;
-      covers = covers;
-      ends = ends_next m v new l (whom what) e i rest (seats ∙ sym was.many) acts stands ends_here end leads does.ends;
-      counts = counts_next m d i was.steps own x t u what was.covers.leads was.counts more names.spurious
-          (subst (λ k. total (wakes k.seats) k x own ≡ wakes_in what) was.same names.served)
-          (subst (λ k. total (passes k.seats) k x own ≡ passed_in what) was.same names.passed)
-          (subst (λ k. total (finds_nobody k.seats) k x own ≡ unheard_in what) was.same names.unheard);
-      first = subst (λ k. NamesFirstNeed m d lines k (unasked (was.steps ++ own))) (sym more.first)
-          (first_by m d lines i was.steps own t.first_spurious what was.covers.run was.covers.told
-          (λ others run told. fewest m d (was.steps ++ own) others covers.run run
-          (λ c. (covers.least others run told c).cost))
-          names.spurious was.first);
+      reached = next;
+      counted = counted_next o m d lines i v new was.steps e t u what lt was.reached was.counted does more
+          (least_of o m d lines (i + 1) new (was.steps ++ own) next);
       room = let a = was.room in let b = more.room in omega arith;
     }
 
 -- ---- the end
 
-counted : (o : Object) (m : Setting) (d : List ℕ) (lines : List LogLine) (i : ℕ) (v : Shown) (t : Tally)
-    (misfit : Option Misfit)
-    → (was : Taken o m d lines i v t) → take i lines ≡ fitting misfit lines → IsCounted m d lines misfit t was.steps
-counted o m d lines i v t misfit was is = record {
-  run = was.covers.run;
-  told = was.covers.told ∙ is;
-  least = λ others run told. fewest m d was.steps others was.covers.run run
-      (λ c. (was.covers.least others run (told ∙ was.covers.told) c).cost);
-  counts = was.counts;
-  first = subst (λ k. NamesFirstNeed m d lines t.first_spurious k) (sym was.counts.spurious) was.first;
-}
-
 pub taken_all : (o : Object) (m : Setting) (d : List ℕ) (lines : List LogLine) (i : ℕ) (v : Shown) (t : Tally)
     → length lines ≤ i
     → Taken o m d lines i v t → IsTaken m d lines None t v
-taken_all o m d lines i v t all was =
-    let is : take i lines ≡ lines = take_all i lines all in
-    record {
-      misfit = subst (λ k. IsExplainable m (opening d) k) is
-          (covers_explains m d (take i lines) (drop i lines) was.steps (state_of v) was.covers);
-      steps = was.steps;
-      counted = counted o m d lines i v t None was is;
-      holder = ap (λ (x : State). x.lock) was.covers.leads;
-      places = ap (λ (x : State). x.place) was.covers.leads;
-      seats = ap (λ (k : Setting). k.seats) was.same;
-    }
+taken_all o m d lines i v t all was = record {
+  steps = was.steps;
+  run = run_all o m d lines i v was.steps all was.reached;
+  counted = was.counted;
+  holder = ap (λ (x : State). x.lock) was.reached.covers.leads;
+  places = ap (λ (x : State). x.place) was.reached.covers.leads;
+  seats = ap (λ (k : Setting). k.seats) was.reached.same;
+}
 
 pub taken_stop : (o : Object) (m : Setting) (d : List ℕ) (lines : List LogLine) (i : ℕ) (v new : Shown) (t : Tally)
-    (why : Blame) (f : Misfit)
+    (f : Misfit)
     → i < length lines → Taken o m d lines i v t → Refuses o v new (get_or lines i (Enter 0)) → f.line ≡ i
     → IsTaken m d lines (Some f) t new
-taken_stop o m d lines i v new t why f lt was refused at =
-    let no = λ (can : CanStand m (state_of v) (get_or lines i (Enter 0))).
-    refused.not_there (subst (λ k. CanStand k (state_of v) (get_or lines i (Enter 0))) (sym was.same) can) in
-    record {
-      misfit = (
-        subst (λ k. k < length lines) (sym at) lt,
-        subst (λ k. IsExplainable m (opening d) (take k lines)) (sym at)
-            (covers_explains m d (take i lines) (drop i lines) was.steps (state_of v) was.covers),
-        subst (λ k. IsExplainable m (opening d) (take (k + 1) lines) → ⊥) (sym at)
-            (covers_stop m d lines i was.steps (state_of v) lt was.covers no),
-      );
-      steps = was.steps;
-      counted = counted o m d lines i v t (Some f) was (ap (λ k. take k lines) (sym at));
-      holder = refused.lock ∙ ap (λ (x : State). x.lock) was.covers.leads;
-      places = ap (λ k. λ j. get_or k j Outside) refused.places ∙ ap (λ (x : State). x.place) was.covers.leads;
-      seats = ap length refused.places ∙ ap (λ (k : Setting). k.seats) was.same;
-    }
+taken_stop o m d lines i v new t f lt was refused at = record {
+  steps = was.steps;
+  run = run_stop o m d lines i v new was.steps f lt was.reached refused at;
+  counted = was.counted;
+  holder = refused.lock ∙ ap (λ (x : State). x.lock) was.reached.covers.leads;
+  places = ap (λ k. λ j. get_or k j Outside) refused.places
+      ∙ ap (λ (x : State). x.place) was.reached.covers.leads;
+  seats = ap length refused.places ∙ ap (λ (k : Setting). k.seats) was.reached.same;
+}
 
 -- as a report
-pub report_is : (m : Setting) (d : List ℕ) (lines : List LogLine) (found : Option Misfit) (t : Tally) (v : Shown)
-    (lock : Option ℕ) (asleep woken : ℕ)
-    → IsTaken m d lines found t v → lock ≡ v.lock → asleep ≡ sleepers (length v.places) (state_of v)
-    → woken ≡ woken_ones (length v.places) (state_of v)
-    → IsReport m d lines (record { misfit = found; tally = t; holder = lock; asleep = asleep; woken = woken })
-report_is m d lines found t v lock asleep woken h holds sleep wake = record {
-  misfit = h.misfit;
+pub report_is : (m : Setting) (d : List ℕ) (lines : List LogLine) (v : Shown) (misfit : Option Misfit) (t : Tally)
+    (lock found : Option ℕ) (asleep woken overtaken again : ℕ) (first missed : Option ℕ)
+    → IsTaken m d lines misfit t v → NamesLastTaking (fitting misfit lines) found
+    → lock ≡ v.lock → asleep ≡ sleepers (length v.places) (state_of v) → woken ≡ woken_ones (length v.places) (state_of v)
+    → IsReport m d lines (record {
+      misfit = misfit;
+      tally = record {
+        served = t.served;
+        passed = t.passed;
+        spurious = t.spurious;
+        first_spurious = t.first_spurious;
+        unheard = t.unheard;
+        last_unheard = t.last_unheard;
+        overtaken = overtaken;
+        again = again;
+        first_not_again = first;
+      };
+      holder = holder_by lock found;
+      asleep = asleep;
+      woken = woken;
+      missed = missed;
+    })
+report_is m d lines v misfit t lock found asleep woken overtaken again first missed h named holds sleep wake = record {
   steps = h.steps;
-  counted = h.counted;
-  holder = holds ∙ h.holder;
+  run = h.run;
+  counted = record {
+    spurious = h.counted.spurious;
+    served = h.counted.served;
+    passed = h.counted.passed;
+    unheard = h.counted.unheard;
+    first = h.counted.first;
+    last = h.counted.last;
+  };
+  holder = holder_is m d h.steps (fitting misfit lines) lock found h.run.told (holds ∙ h.holder) named;
   asleep = sleep ∙ ap (λ n. sleepers n (state_of v)) h.seats
       ∙ ap (λ (f : ℕ → Place). count (λ j. is_asleep (f j)) m.seats) h.places;
   woken = wake ∙ ap (λ n. woken_ones n (state_of v)) h.seats

@@ -5,7 +5,9 @@ use Rattle.monk_logs.specs.declared.text.line.LogLine.TheVariants.{Enter, Resume
 use Rattle.monk_judge.specs.declared.place.Place.{Place}
 use Rattle.monk_judge.specs.declared.place.Place.TheVariants.{Outside, Active, Waiting, Woken, RanOut}
 use Rattle.monk_judge.specs.Counts.{one, waits_on}
-use Rattle.monk_judge.specs.Run.{Setting, State, Step, Tells, RunsOut, WakesUnasked, May, Sleeps, IsRun, after, opening, run_out, unasked, woken_unasked}
+use Rattle.monk_judge.specs.Run.{Setting, State, May, Sleeps, IsRun, after, opening, run_out, unasked, woken_unasked}
+use Rattle.monk_judge.specs.declared.step.Step.{Step}
+use Rattle.monk_judge.specs.declared.step.Step.TheVariants.{Tells, RunsOut, WakesUnasked}
 use Rattle.monk_judge.proofs.LeastLaw.{unasked_on}
 use Rattle.monk_judge.proofs.Sleepers.{active_not, outside_not, placed_sleeps, run_out_not, signalled_back, unasked_not, woken_back}
 

@@ -5,7 +5,9 @@ use Rattle.monk_judge.specs.declared.place.Place.{Place}
 use Rattle.monk_judge.specs.declared.place.Place.TheVariants.{Outside, Active, Waiting, Woken, RanOut}
 use Rattle.monk_judge.specs.declared.told.Told.{Told}
 use Rattle.monk_judge.specs.declared.told.Told.TheVariants as told
-use Rattle.monk_judge.specs.Run.{Setting, State, Step, Tells, RunsOut, WakesUnasked, after, unasked}
+use Rattle.monk_judge.specs.Run.{Setting, State, after, unasked}
+use Rattle.monk_judge.specs.declared.step.Step.{Step}
+use Rattle.monk_judge.specs.declared.step.Step.TheVariants.{Tells, RunsOut, WakesUnasked}
 
 -- 1 for what holds, and else 0
 abbrev pub one : Bool → ℕ
@@ -156,6 +158,15 @@ first_after None i told.Unheard = None
 first_after None i (told.Woke s) = None
 first_after None i (told.WokeAll n) = None
 first_after None i told.Spurious = Some i
+
+-- the last of the lines that told a signal that found nobody, behind the line with that index
+abbrev pub last_after : Option ℕ → ℕ → Told → Option ℕ
+last_after found i told.Plain = found
+last_after found i told.Passed = found
+last_after found i told.Unheard = Some i
+last_after found i (told.Woke s) = found
+last_after found i (told.WokeAll n) = found
+last_after found i told.Spurious = found
 
 -- it names what the steps of one line count
 pub record Names (m : Setting) (x : State) (own : List Step) (what : Told) : Type 0 where

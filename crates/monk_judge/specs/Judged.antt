@@ -5,7 +5,9 @@ use Rattle.monk_logs.specs.declared.text.line.LogLine.{LogLine}
 use Rattle.monk_logs.specs.declared.text.line.LogLine.TheVariants.{Enter, Resume, Lapse, Leave, Wait, Signal, Broadcast, Until, Act}
 use Rattle.monk_judge.specs.declared.place.Place.{Place}
 use Rattle.monk_judge.specs.declared.place.Place.TheVariants.{Outside, Active, Waiting, Woken, RanOut}
-use Rattle.monk_judge.specs.Run.{Setting, State, Step, Tells, RunsOut, WakesUnasked, May, MaySignal, WakesRightly, after}
+use Rattle.monk_judge.specs.Run.{Setting, State, May, MaySignal, WakesRightly, after}
+use Rattle.monk_judge.specs.declared.step.Step.{Step}
+use Rattle.monk_judge.specs.declared.step.Step.TheVariants.{Tells, RunsOut, WakesUnasked}
 
 -- whether a thread there can come back by a `resume`
 abbrev pub CanResume : Place → Type 0

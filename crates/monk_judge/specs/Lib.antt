@@ -4,4 +4,7 @@ pub mod Judged
 pub mod Ends
 pub mod Shown
 pub mod Counts
+pub mod Among
+pub mod Moments
+pub mod Holding
 pub mod Reports

@@ -5,6 +5,8 @@ use Rattle.monk_logs.specs.declared.text.line.LogLine.{LogLine}
 use Rattle.monk_logs.specs.declared.text.line.LogLine.TheVariants.{Enter, Resume, Lapse, Leave, Wait, Signal, Broadcast, Until, Act}
 use Rattle.monk_judge.specs.declared.place.Place.{Place}
 use Rattle.monk_judge.specs.declared.place.Place.TheVariants.{Outside, Active, Waiting, Woken, RanOut}
+use Rattle.monk_judge.specs.declared.step.Step.{Step}
+use Rattle.monk_judge.specs.declared.step.Step.TheVariants.{Tells, RunsOut, WakesUnasked}
 
 -- how many threads and conditions there are, and what the lock guards
 pub record Setting : Type 0 where
@@ -27,13 +29,6 @@ abbrev pub opening : List ℕ → State
 opening d = record { lock = None; place = λ s. Outside; data_now = d }
 
 -- ---- steps
-
--- a line, with the thread that a signal wakes; or something that no line tells: a wait runs out, or a thread wakes
--- unasked
-pub data Step : Type 0 where
-  Tells : LogLine → Option ℕ → Step
-  RunsOut : ℕ → Step
-  WakesUnasked : ℕ → Step
 
 -- a signal may be sent by the holder of the lock and by a thread outside
 pub record MaySignal (m : Setting) (x : State) (s c : ℕ) : Type 0 where

@@ -13,7 +13,8 @@ use Rattle.monk_judge.specs.declared.wait_end.WaitEnd.TheVariants.{Resumes}
 use Rattle.monk_judge.specs.Counts.{Names}
 use Rattle.monk_judge.specs.Ends.{ResumesBy, ends_after, runs_out}
 use Rattle.monk_judge.specs.Judged.{CanStand, IsRight, after_all, steps_at}
-use Rattle.monk_judge.specs.Run.{Setting, State, Step}
+use Rattle.monk_judge.specs.Run.{Setting, State}
+use Rattle.monk_judge.specs.declared.step.Step.{Step}
 
 -- what a judge holds: `ends` has of each thread that waits how its wait ends
 pub record Shown : Type 0 where

@@ -1,5 +1,8 @@
 //! Who has the lock.
 
+ghost use Rattle.std.specs.Prelude.{◌≡◌};
+ghost use Rattle.monk_judge.specs.Holding.{NamesLastTaking, takes_lock};
+
 use monk_logs::LogLine;
 
 /// Who has the lock, and since when.
@@ -12,7 +15,9 @@ pub struct Holder {
 }
 
 /// Whether a thread takes the lock with that line.
-pub(crate) fn takes_lock(line: LogLine) -> bool {
+pub(crate) fn takes_lock(line: LogLine) -> bool
+    ensures { result ≡ takes_lock line }
+{
     match line {
         LogLine::Enter(_) | LogLine::Resume(_) | LogLine::Lapse(_) => true,
         LogLine::Leave(_)
@@ -24,14 +29,16 @@ pub(crate) fn takes_lock(line: LogLine) -> bool {
     }
 }
 
-/// The last of the lines with which a thread takes the lock; 0 if none does.
-pub(crate) fn last_taking(lines: &[LogLine]) -> usize {
+/// The last of the lines with which a thread takes the lock.
+pub(crate) fn last_taking(lines: &[LogLine]) -> Option<usize>
+    ensures { NamesLastTaking lines.now result }
+{
     let mut index = lines.len();
     while index > 0 {
         index -= 1;
         if takes_lock(lines[index]) {
-            return index;
+            return Some(index);
         }
     }
-    0
+    None
 }

@@ -1,9 +1,10 @@
 //! A whole log, judged.
 
-ghost use Rattle.std.specs.Prelude.{◌≡◌, ◌≤◌, IfOk, length};
+ghost use Rattle.std.specs.Prelude.{◌≡◌, ◌≤◌, IfOk, OnSome, length};
 ghost use Rattle.monk_history.specs.Limits.{most_lines};
 ghost use Rattle.monk_judge.specs.Ends.{AreEnds};
-ghost use Rattle.monk_judge.specs.Reports.{IsReport, IsTaken};
+ghost use Rattle.monk_judge.specs.Holding.{holder_by};
+ghost use Rattle.monk_judge.specs.Reports.{IsReport, IsTaken, fitting};
 ghost use Rattle.monk_judge.specs.Run.{opening, setting};
 ghost use Rattle.monk_judge.specs.Shown.{setting_of, state_of};
 
@@ -48,12 +49,16 @@ pub fn judge_log<T: Guarded>(
 {
     let ends = look_ahead(alloc, lines)?;
     let mut judge = Judge::opening(alloc, seats, conds, object)?;
-    let mut seen = Seen::nothing();
-    let misfit = take_lines(&mut judge, lines, &ends, means, &mut seen);
+    let (seen, misfit) = take_lines(&mut judge, lines, &ends, means);
     Ok(Report {
         misfit,
-        tally: seen.tally(),
-        holder: holder_of(&judge, lines, misfit),
+        tally: Tally {
+            overtaken: seen.overtaking.many(),
+            again: seen.overtaking.again(),
+            first_not_again: seen.overtaking.first_not_again(),
+            ..seen.tally
+        },
+        holder: holder(judge.lock(), last_taking(fitting(misfit, lines))),
         asleep: judge.asleep(),
         woken: judge.woken(),
         missed: seen.missed.line,
@@ -68,67 +73,53 @@ struct Seen {
     overtaking: Overtaking,
 }
 
-impl Seen {
-    /// Of no lines.
-    fn nothing() -> Seen {
-        Seen {
-            tally: Tally::NOTHING,
-            missed: Missed::NOTHING,
-            overtaking: Overtaking::nothing(),
-        }
-    }
-
-    /// What was counted.
-    fn tally(&self) -> Tally {
-        Tally {
-            overtaken: self.overtaking.many(),
-            again: self.overtaking.again(),
-            first_not_again: self.overtaking.first_not_again(),
-            ..self.tally
-        }
-    }
-}
-
 /// Takes the lines, up to the first that can't stand. `ends` says how a wait in each line would end.
 fn take_lines<T: Guarded>(
     judge: &mut Judge<T>,
     lines: &[LogLine],
     ends: &[WaitEnd],
     means: &[WaitsFor],
-    seen: &mut Seen,
-) -> Option<Misfit>
+) -> (Seen, Option<Misfit>)
     requires opening { state_of judge.old ≡ opening judge.old.data_now }
     requires seats { length judge.old.ends ≡ length judge.old.places }
     requires ends { AreEnds ends.now lines.now }
     requires few { length lines.now ≤ most_lines }
+    ensures { IsTaken (setting_of judge.old T.meaning) judge.old.data_now lines.now result.1 result.0.tally judge.new }
 {
+    let mut seen = Seen {
+        tally: Tally::NOTHING,
+        missed: Missed::NOTHING,
+        overtaking: Overtaking::nothing(),
+    };
     for (index, line) in lines.iter().enumerate() {
         let was = judge.place(line.seat());
         match judge.line(*line, ends[index]) {
             Ok(told) => seen.tally.line(index, told),
-            Err(why) => return Some(Misfit { line: index, why }),
+            Err(why) => return (seen, Some(Misfit { line: index, why })),
         }
         seen.missed.line(judge, means, index, *line);
         seen.overtaking.line(judge, index, *line, was);
     }
-    None
+    (seen, None)
 }
 
-/// Who has the lock behind the lines before the misfit.
-fn holder_of<T: Guarded>(
-    judge: &Judge<T>,
-    lines: &[LogLine],
-    misfit: Option<Misfit>,
-) -> Option<Holder> {
-    let fitting = match misfit {
+/// The lines before the misfit.
+fn fitting(misfit: Option<Misfit>, lines: &[LogLine]) -> &[LogLine]
+    requires { OnSome misfit (λ f. f.line ≤ length lines.now) }
+    ensures { result.now ≡ fitting misfit lines.now }
+{
+    match misfit {
         Some(found) => &lines[..found.line],
         None => lines,
-    };
-    match judge.lock() {
-        Some(seat) => Some(Holder {
-            seat,
-            since: last_taking(fitting),
-        }),
-        None => None,
+    }
+}
+
+/// Who has the lock, if a thread took it last in that line.
+fn holder(lock: Option<u8>, since: Option<usize>) -> Option<Holder>
+    ensures { result ≡ holder_by lock since }
+{
+    match (lock, since) {
+        (Some(seat), Some(since)) => Some(Holder { seat, since }),
+        (_, _) => None,
     }
 }

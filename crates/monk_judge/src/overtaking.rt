@@ -50,12 +50,9 @@ impl Overtaking {
         self.again
     }
 
-    /// The line of the first of them that didn't.
+    /// The line of the first of them that didn't, or hasn't yet.
     pub(crate) fn first_not_again(&self) -> Option<usize> {
-        match self.back {
-            Some(back) => self.first_not_again.or(Some(back.line)),
-            None => self.first_not_again,
-        }
+        self.first_not_again
     }
 
     /// Looks at the line with that index, which the judge has taken. Its seat was there before.
@@ -86,8 +83,9 @@ impl Overtaking {
         self.back = None;
         if line == LogLine::Wait(back.seat, back.cond) {
             self.again = self.again.saturating_add(1);
-        } else {
-            self.first_not_again = self.first_not_again.or(Some(back.line));
+            if self.first_not_again == Some(back.line) {
+                self.first_not_again = None;
+            }
         }
     }
 
@@ -96,6 +94,7 @@ impl Overtaking {
         if self.overtaken[usize::from(seat)] {
             self.overtaken[usize::from(seat)] = false;
             self.many = self.many.saturating_add(1);
+            self.first_not_again = self.first_not_again.or(Some(line));
             self.back = Some(Back { seat, cond, line });
         }
     }

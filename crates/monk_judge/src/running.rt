@@ -1,7 +1,12 @@
 //! The run that a log tells.
 
-ghost use Rattle.std.specs.Prelude.{◌≤◌, length};
+ghost use Rattle.std.specs.Prelude.{◌≡◌, ◌≤◌, ◌++◌, [], IfOk, OnOk, length};
+ghost use Rattle.monk_object.specs.Object.{Object};
 ghost use Rattle.monk_history.specs.Limits.{most_lines};
+ghost use Rattle.monk_judge.specs.Ends.{AreEnds};
+ghost use Rattle.monk_judge.specs.Reports.{IsRunOf};
+ghost use Rattle.monk_judge.specs.Run.{opening, setting};
+ghost use Rattle.monk_judge.specs.Shown.{Shown, Takes, own_steps, setting_of, state_of};
 
 use crate::ahead::look_ahead;
 use crate::judge::Judge;
@@ -28,6 +33,10 @@ pub fn run_of_log<T: Guarded>(
     lines: &[LogLine],
 ) -> Result<Run, AllocError>
     requires { length lines.now ≤ most_lines }
+    // It tells the misfit exactly, and its steps are a run of the lines before, with as few wake-ups
+    // that nobody sent as any run of them has.
+    ensures { IfOk result
+        (λ r. IsRunOf (setting seats conds T.meaning) (T.state object) lines.now r.misfit r.steps.items) }
 {
     let ends = look_ahead(alloc, lines)?;
     let mut judge = Judge::opening(alloc, seats, conds, object)?;
@@ -43,7 +52,12 @@ fn take_steps<T: Guarded>(
     ends: &[WaitEnd],
     steps: &mut Vec<Step>,
 ) -> Result<Option<Misfit>, AllocError>
-    requires { length ends.now ≡ length lines.now }
+    requires opening { state_of judge.old ≡ opening judge.old.data_now }
+    requires seats { length judge.old.ends ≡ length judge.old.places }
+    requires ends { AreEnds ends.now lines.now }
+    requires nothing { steps.old.items ≡ [] }
+    ensures { IfOk result
+        (λ r. IsRunOf (setting_of judge.old T.meaning) judge.old.data_now lines.now r steps.new.items) }
 {
     for (index, line) in lines.iter().enumerate() {
         match judge.line(*line, ends[index]) {
@@ -60,15 +74,30 @@ fn push_steps(
     line: LogLine,
     end: WaitEnd,
     told: Told,
-) -> Result<(), AllocError> {
-    if told == Told::Spurious {
-        steps.push(Step::WakesUnasked(line.seat()))?;
-    }
-    steps.push(Step::Tells(line, told.whom()))?;
-    if let LogLine::Wait(seat, _) = line {
-        if end == WaitEnd::RunsOut {
-            steps.push(Step::RunsOut(seat))?;
+) -> Result<(), AllocError>
+    ensures { OnOk result ((o : Object) (v new : Shown) → Takes o v new line end told
+        → steps.new.items ≡ steps.old.items ++ own_steps v line end told) }
+{
+    match line {
+        LogLine::Resume(seat) => {
+            if told == Told::Spurious {
+                steps.push(Step::WakesUnasked(seat))?;
+            }
+            steps.push(Step::Tells(line, None))
         }
+        LogLine::Wait(seat, _) => {
+            steps.push(Step::Tells(line, None))?;
+            if end == WaitEnd::RunsOut {
+                steps.push(Step::RunsOut(seat))?;
+            }
+            Ok(())
+        }
+        LogLine::Signal(..) => steps.push(Step::Tells(line, told.whom())),
+        LogLine::Enter(_)
+        | LogLine::Lapse(_)
+        | LogLine::Leave(_)
+        | LogLine::Broadcast(..)
+        | LogLine::Until(..)
+        | LogLine::Act(..) => steps.push(Step::Tells(line, None)),
     }
-    Ok(())
 }

@@ -1,7 +1,7 @@
 //! What is counted over the lines of a log.
 
 ghost use Rattle.std.specs.Prelude.{◌≡◌, ◌+◌, ◌<◌, ◌≤◌, ◌^◌};
-ghost use Rattle.monk_judge.specs.Counts.{first_after, passed_in, spurious_in, unheard_in, wakes_in};
+ghost use Rattle.monk_judge.specs.Counts.{first_after, last_after, passed_in, spurious_in, unheard_in, wakes_in};
 
 use crate::told::Told;
 
@@ -50,6 +50,7 @@ impl Tally {
         ensures passed { self.new.passed ≡ self.old.passed + passed_in told }
         ensures spurious { self.new.spurious ≡ self.old.spurious + spurious_in told }
         ensures first { self.new.first_spurious ≡ first_after self.old.first_spurious index told }
+        ensures last { self.new.last_unheard ≡ last_after self.old.last_unheard index told }
         ensures room { self.new.served + self.new.passed + self.new.spurious + self.new.unheard
             ≤ self.old.served + self.old.passed + self.old.spurious + self.old.unheard + 255 }
         ensures unheard { self.new.unheard ≡ self.old.unheard + unheard_in told }

@@ -7,8 +7,8 @@ pub loop-index-init : goal.loop-index-init
 loop-index-init g c =
     let v = c.args.judge.now in
     let o = g.T.Guarded.meaning in
-    taken_opening o (setting_of v o) v.data_now c.args.lines.now v _ refl c.requires.seats c.requires.opening refl
-    refl refl refl refl
+    taken_opening o (setting_of v o) v.data_now c.args.lines.now v _ refl c.requires.seats c.requires.opening
+    (record { served = refl; passed = refl; spurious = refl; unheard = refl; first = refl; last = refl })
 
 pub loop-index-preserved : goal.loop-index-preserved
 loop-index-preserved g c =
@@ -18,7 +18,7 @@ loop-index-preserved g c =
     let more = c.line-in-Ok.ensures in
     taken_next o (setting_of v o) v.data_now c.args.lines.now c.args.ends.now c.loop-index.index c.loop-index.judge
     c.line.new.self
-    c.loop-index.tally c.line-in-Ok.new.self c.in-Ok.told lt c.requires.ends c.loop-index.invariant
+    c.loop-index.seen.tally c.line-in-Ok.new.self c.in-Ok.told lt c.requires.ends c.loop-index.invariant
     (c.in-Ok.ensures {u = tt})
     (record {
       served = more.served;
@@ -26,6 +26,7 @@ loop-index-preserved g c =
       spurious = more.spurious;
       unheard = more.unheard;
       first = more.first;
+      last = more.last;
       room = more.room;
     })
 
@@ -35,13 +36,13 @@ returns-in-Err g c =
     let o = g.T.Guarded.meaning in
     let lt : c.loop-index.index < length c.args.lines.now = omega arith in
     taken_stop o (setting_of v o) v.data_now c.args.lines.now c.loop-index.index c.loop-index.judge c.line.new.self
-    c.loop-index.tally
-    c.in-Err.why _ lt c.loop-index.invariant (c.in-Err.ensures {u = tt}) refl
+    c.loop-index.seen.tally
+    _ lt c.loop-index.invariant (c.in-Err.ensures {u = tt}) refl
 
 pub returns : goal.returns
 returns g c =
     let v = c.args.judge.now in
     let o = g.T.Guarded.meaning in
     let all : length c.args.lines.now ≤ c.loop-index.index = omega arith in
-    taken_all o (setting_of v o) v.data_now c.args.lines.now c.loop-index.index c.loop-index.judge c.loop-index.tally
-    all c.loop-index.invariant
+    taken_all o (setting_of v o) v.data_now c.args.lines.now c.loop-index.index c.loop-index.judge
+    c.loop-index.seen.tally all c.loop-index.invariant

@@ -1,7 +1,7 @@
 use Rattle.std.proofs.Common.{◌∙◌, ◌∷◌, None, sym, ap, arith}
 use Rattle.std.proofs.Math.ListN.{set}
 use Rattle.monk_logs.specs.declared.text.line.LogLine.TheVariants as lines
-use Rattle.monk_judge.specs.Run.{Tells}
+use Rattle.monk_judge.specs.declared.step.Step.TheVariants.{Tells}
 use Rattle.monk_judge.specs.Judged.{after_all, running_out}
 use Rattle.monk_judge.specs.Ends.{runs_out}
 use Rattle.monk_judge.specs.Shown.{setting_of, state_of}

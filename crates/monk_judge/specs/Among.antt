@@ -1,0 +1,12 @@
+-- Which of the first numbers have a property, and how many
+use Rattle.std.specs.Prelude.{ℕ, ◌<◌, Option, MatchOption}
+
+-- it names the first of so many that has the property; nothing, if none has
+abbrev pub NamesFirst : (ℕ → Type 0) → ℕ → Option ℕ → Type 0
+NamesFirst P n found = MatchOption found ((k : ℕ) → k < n → P k → ⊥)
+    (λ k. (k < n) × P k × ((j : ℕ) → j < k → P j → ⊥))
+
+-- it names the last of so many that has it
+abbrev pub NamesLast : (ℕ → Type 0) → ℕ → Option ℕ → Type 0
+NamesLast P n found = MatchOption found ((k : ℕ) → k < n → P k → ⊥)
+    (λ k. (k < n) × P k × ((j : ℕ) → k < j → j < n → P j → ⊥))
