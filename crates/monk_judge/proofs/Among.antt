@@ -1,5 +1,5 @@
 -- The first and the last number that has a property, one number on
-use Rattle.std.proofs.Common.{◌≡◌, ℕ, ◌+◌, ◌<◌, ◌⊎◌, inl, inr, Option, Some, None, sym, subst, arith}
+use Rattle.std.proofs.Common.{◌≡◌, ℕ, ◌+◌, ◌<◌, ◌⊎◌, inl, inr, Option, Some, None, refl, subst, arith}
 use Rattle.monk_judge.specs.Among.{NamesFirst, NamesLast}
 
 pub here_or_below : (k n : ℕ) → k < n + 1 → (k ≡ n) ⊎ (k < n)
@@ -26,3 +26,16 @@ last_skip P Q n (Some f) same no h = (
 
 pub last_here : (Q : ℕ → Type 0) (n : ℕ) → Q n → NamesLast Q (n + 1) (Some n)
 last_here Q n q = (omega arith, q, λ j gt lt k. absurd (omega arith))
+
+pub first_skip : (P Q : ℕ → Type 0) (n : ℕ) (found : Option ℕ) → SameBelow P Q n → (found ≡ None → Q n → ⊥)
+    → NamesFirst P n found → NamesFirst Q (n + 1) found
+first_skip P Q n None same no h = λ j lt q. none_next P Q n same (no refl) j lt q (λ k less p is. h k less p)
+first_skip P Q n (Some f) same no h = (
+  omega (arith, h.0),
+  (same f h.0).0 h.1,
+  λ j less q. let lt : j < n = omega (arith, h.0) in h.2 j less ((same j lt).1 q),
+)
+
+pub first_here : (P Q : ℕ → Type 0) (n : ℕ) → SameBelow P Q n → Q n → NamesFirst P n None
+    → NamesFirst Q (n + 1) (Some n)
+first_here P Q n same q h = (omega arith, q, λ j less k. h j less ((same j less).1 k))
