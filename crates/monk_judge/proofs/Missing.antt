@@ -1,5 +1,6 @@
 -- The first missed signal, one line on
 use Rattle.std.proofs.Common.{◌≡◌, ℕ, ◌+◌, ◌<◌, ◌||◌, ◌⊎◌, inl, inr, Bool, true, false, List, [], ◌∷◌, ◌++◌, Option, Some, None, length, refl, sym, ap, subst, arith, ◌∙◌}
+use Rattle.std.proofs.lemmas.List.{length-append}
 use Rattle.std.proofs.lemmas.Bool.{cases_Bool, false≢true}
 use Rattle.monk_object.specs.Object.{Object}
 use Rattle.monk_logs.specs.declared.text.line.LogLine.{LogLine}
@@ -12,14 +13,14 @@ use Rattle.monk_judge.specs.Run.{State}
 use Rattle.monk_judge.proofs.Among.{first_here, first_skip, here_or_below}
 use Rattle.monk_judge.proofs.Moments.{moment_kept, moment_last}
 
-abbrev is_out : List Moment → ℕ → Bool
+abbrev pub is_out : List Moment → ℕ → Bool
 is_out all j = is_from_outside (moment all j).before.lock (moment all j).line
 
 -- a signal came from outside
-record Came (all : List Moment) : Type 0 where
-  at : ℕ
-  within : at < length all
-  out : is_out all at ≡ true
+pub record Came (all : List Moment) : Type 0 where
+  pub at : ℕ
+  pub within : at < length all
+  pub out : is_out all at ≡ true
 
 -- what is known of these lines
 pub record Known (o : Object) (means : List WaitsFor) (all : List Moment) (s : Missed) : Type 0 where
@@ -35,8 +36,8 @@ known_opening o means s line out = record {
   some = λ h. absurd (false≢true (sym out ∙ h));
 }
 
-more_many : (all : List Moment) (t : Moment) → length (all ++ t ∷ []) ≡ length all + 1
-more_many all t = grind arith
+pub more_many : (all : List Moment) (t : Moment) → length (all ++ t ∷ []) ≡ length all + 1
+more_many all t = length-append all (t ∷ [])
 
 or_false : (a b : Bool) → (a || b) ≡ false → (a ≡ false) × (b ≡ false)
 or_false true b h = absurd (false≢true (sym h))
@@ -136,17 +137,17 @@ known_next o means all t l x s new was is leads lock looks =
       line = subst (λ n. NamesFirst (λ k. IsMissedAt o means (all ++ t ∷ []) k) n new.line) (sym (more_many all t))
           (elim looks.line as
           (λ z. NamesFirst (λ k. IsMissedAt o means (all ++ t ∷ []) k) (length all + 1) new.line) [
-            | inl no ↦ subst (λ k. NamesFirst (λ k. IsMissedAt o means (all ++ t ∷ []) k) (length all + 1) k)
-                (sym no.0)
-                (line_by o means all t s s.line refl was (λ none inside h. no.1 none inside (lacks h)))
-            | inr yes ↦ subst (λ k. NamesFirst (λ k. IsMissedAt o means (all ++ t ∷ []) k) (length all + 1) k)
-                (sym yes.3)
+            | inl not_it ↦ subst (λ k. NamesFirst (λ k. IsMissedAt o means (all ++ t ∷ []) k) (length all + 1) k)
+                (sym not_it.0)
+                (line_by o means all t s s.line refl was (λ none inside h. not_it.1 none inside (lacks h)))
+            | inr it ↦ subst (λ k. NamesFirst (λ k. IsMissedAt o means (all ++ t ∷ []) k) (length all + 1) k)
+                (sym it.3)
                 (first_here (λ k. IsMissedAt o means all k) (λ k. IsMissedAt o means (all ++ t ∷ []) k) (length all)
                 (missed_kept o means all t)
                 (missed_last o means all t
                 (subst (λ k. LacksBehind o means t.line k) (sym leads)
-                (subst (λ k. LacksBehind o means k x) (sym is) yes.2)) (was.none yes.1))
-                (subst (λ k. NamesFirstMissed o means all k) yes.0 was.line))
+                (subst (λ k. LacksBehind o means k x) (sym is) it.2)) (was.none it.1))
+                (subst (λ k. NamesFirstMissed o means all k) it.0 was.line))
           ]);
       none = λ h.
           let parts = or_false s.from_outside (is_from_outside t.before.lock t.line) (sym out ∙ h) in

@@ -1,10 +1,12 @@
 -- What holds while a judge takes the lines of a log
 use Rattle.std.proofs.Common.{◌≡◌, Bool, false, ℕ, ◌<◌, ◌≤◌, ◌+◌, ◌*◌, List, [], ◌∷◌, ◌++◌, Option, Some, None, length, get_or, take, drop, refl, sym, ap, subst, arith, ◌∙◌}
+use Rattle.std.specs.Prelude.{IfSome}
 use Rattle.std.proofs.Math.ListN.{length-set}
 use Rattle.std.proofs.lemmas.List.{length-take-le, take_all}
 use Rattle.monk_object.specs.Object.{Object}
 use Rattle.monk_logs.specs.declared.text.line.LogLine.{LogLine}
 use Rattle.monk_logs.specs.declared.text.line.LogLine.TheVariants.{Enter, Resume, Lapse, Leave, Wait, Signal, Broadcast, Until, Act}
+use Rattle.monk_judge.specs.declared.holder.Holder.{Holder}
 use Rattle.monk_judge.specs.declared.misfit.Misfit.{Misfit}
 use Rattle.monk_judge.specs.declared.missed.Missed.{Missed}
 use Rattle.monk_judge.specs.declared.place.Place.{Place}
@@ -19,10 +21,10 @@ use Rattle.monk_judge.specs.declared.waits_for.WaitsFor.{WaitsFor}
 use Rattle.monk_judge.specs.declared.wait_end.WaitEnd.TheVariants.{Resumes}
 use Rattle.monk_judge.specs.Counts.{count, finds_nobody, first_after, is_asleep, is_woken, last_after, passed_in, passes, sleepers, spurious_in, total, unheard_in, wakes, wakes_in, woken_ones}
 use Rattle.monk_judge.specs.Ends.{AreEnds, ends_after, runs_out}
-use Rattle.monk_judge.specs.Explains.{IsExplainable}
+use Rattle.monk_judge.specs.Explains.{IsExplainable, IsMisfit}
 use Rattle.monk_judge.specs.Judged.{CanStand, after_all, steps_at}
 use Rattle.monk_judge.specs.Missed.{LooksAt, is_from_outside}
-use Rattle.monk_judge.specs.Holding.{NamesLastTaking, holder_by}
+use Rattle.monk_judge.specs.Holding.{IsHolder, NamesLastTaking, holder_by}
 use Rattle.monk_judge.specs.Moments.{Moment, moment, moments}
 use Rattle.monk_judge.specs.Reports.{IsCounted, IsReport, IsRunOf, IsTaken, IsUnheard, NamesFirstNeed, NamesLastUnheard, fitting}
 use Rattle.monk_judge.specs.Run.{Setting, State, IsRun, after, lines_of, opening, unasked}
@@ -32,7 +34,7 @@ use Rattle.monk_judge.specs.Shown.{Refuses, Shown, Takes, own_steps, setting_of,
 use Rattle.monk_judge.proofs.Covers.{CoversAt, covers_explains, covers_next, covers_opening, covers_stop, rest_is}
 use Rattle.monk_judge.proofs.Sleepers.{EndsAt, ends_next, goes_first, outside_not}
 use Rattle.monk_judge.proofs.Among.{last_here, last_skip}
-use Rattle.monk_judge.proofs.Missing.{Known, known_next, known_opening}
+use Rattle.monk_judge.proofs.Missing.{Known, known_next, known_opening, more_many}
 use Rattle.monk_judge.proofs.Holding.{holder_is}
 use Rattle.monk_judge.proofs.Moments.{Meets, line_meets, moment_kept, moment_last, moments_many, moments_on}
 use Rattle.monk_judge.proofs.Totals.{fewest}
@@ -292,7 +294,7 @@ last_next o m d lines i v steps own l found what lt was meets h is =
     subst (λ k. NamesLastUnheard m.seats k (last_after found i what))
     (sym (moments_next o m d lines i v steps own l was meets))
     (subst (λ n. NamesLast (λ k. IsUnheard m.seats (moment (all ++ meets.t ∷ []) k)) n (last_after found i what))
-    (let e : i + 1 ≡ length (all ++ meets.t ∷ []) = grind (arith, many) in e)
+    (ap (λ k. k + 1) (sym many) ∙ sym (more_many all meets.t))
     (last_by m.seats i all meets.t found what many h is))
 
 counted_next : (o : Object) (m : Setting) (d : List ℕ) (lines : List LogLine) (i : ℕ) (v new : Shown)
@@ -420,9 +422,9 @@ taken_stop o m d lines means i v new t s f lt was refused at = record {
 -- as a report
 pub report_is : (m : Setting) (d : List ℕ) (lines : List LogLine) (means : List WaitsFor) (v : Shown)
     (misfit : Option Misfit) (t : Tally)
-    (lock found : Option ℕ) (asleep woken overtaken again : ℕ) (first missed : Option ℕ)
+    (lock found : Option ℕ) (holder : Option Holder) (asleep woken overtaken again : ℕ) (first missed : Option ℕ)
     → IsTaken m d lines means misfit t missed v → NamesLastTaking (fitting misfit lines) found
-    → lock ≡ v.lock → asleep ≡ sleepers (length v.places) (state_of v) → woken ≡ woken_ones (length v.places) (state_of v)
+    → lock ≡ v.lock → holder ≡ holder_by lock found → asleep ≡ sleepers (length v.places) (state_of v) → woken ≡ woken_ones (length v.places) (state_of v)
     → IsReport m d lines means (record {
       misfit = misfit;
       tally = record {
@@ -436,12 +438,12 @@ pub report_is : (m : Setting) (d : List ℕ) (lines : List LogLine) (means : Lis
         again = again;
         first_not_again = first;
       };
-      holder = holder_by lock found;
+      holder = holder;
       asleep = asleep;
       woken = woken;
       missed = missed;
     })
-report_is m d lines means v misfit t lock found asleep woken overtaken again first missed h named holds sleep wake = record {
+report_is m d lines means v misfit t lock found holder asleep woken overtaken again first missed h named holds by sleep wake = record {
   steps = h.steps;
   run = h.run;
   counted = record {
@@ -452,10 +454,17 @@ report_is m d lines means v misfit t lock found asleep woken overtaken again fir
     first = h.counted.first;
     last = h.counted.last;
   };
-  holder = holder_is m d h.steps (fitting misfit lines) lock found h.run.told (holds ∙ h.holder) named;
+  holder = subst (λ k. IsHolder (fitting misfit lines) (after_all m (opening d) h.steps).lock k) (sym by)
+      (holder_is m d h.steps (fitting misfit lines) lock found h.run.told (holds ∙ h.holder) named);
   asleep = sleep ∙ ap (λ n. sleepers n (state_of v)) h.seats
       ∙ ap (λ (f : ℕ → Place). count (λ j. is_asleep (f j)) m.seats) h.places;
   woken = wake ∙ ap (λ n. woken_ones n (state_of v)) h.seats
       ∙ ap (λ (f : ℕ → Place). count (λ j. is_woken (f j)) m.seats) h.places;
   missed = h.missed;
 }
+
+-- the misfit is one of the lines
+pub misfit_within : (m : Setting) (d : List ℕ) (lines : List LogLine) (found : Option Misfit) → IsMisfit m d lines found
+    → IfSome found (λ f. f.line ≤ length lines)
+misfit_within m d lines None h = tt
+misfit_within m d lines (Some f) h = let le : f.line ≤ length lines = omega (arith, h.0) in le

@@ -24,11 +24,11 @@ fitting (Some f) lines = take f.line lines
 
 -- that is the misfit, and these steps are a run of the lines before it; no run of them has fewer wake-ups that nobody
 -- sent
-pub record IsRunOf (m : Setting) (d : List ℕ) (lines : List LogLine) (misfit : Option Misfit)
+pub record IsRunOf (m : Setting) (d : List ℕ) (lines : List LogLine) (found : Option Misfit)
     (steps : List Step) : Type 0 where
-  pub misfit : IsMisfit m d lines misfit
+  pub misfit : IsMisfit m d lines found
   pub run : IsRun m (opening d) steps
-  pub told : lines_of steps ≡ fitting misfit lines
+  pub told : lines_of steps ≡ fitting found lines
   pub least : IsLeast m d steps
 
 -- it names the first line that needs a wake-up that nobody sent, if so many are needed
@@ -64,11 +64,11 @@ pub record IsReport (m : Setting) (d : List ℕ) (lines : List LogLine) (means :
 
 -- a judge has taken the lines up to that misfit
 pub record IsTaken (m : Setting) (d : List ℕ) (lines : List LogLine) (means : List WaitsFor) (found : Option Misfit)
-    (t : Tally) (missed : Option ℕ) (v : Shown) : Type 0 where
+    (t : Tally) (lacking : Option ℕ) (v : Shown) : Type 0 where
   pub steps : List Step
   pub run : IsRunOf m d lines found steps
   pub counted : IsCounted m d lines steps t
-  pub missed : NamesFirstMissed m.object means (moments m (opening d) steps) missed
+  pub missed : NamesFirstMissed m.object means (moments m (opening d) steps) lacking
   pub holder : v.lock ≡ (after_all m (opening d) steps).lock
   pub places : (state_of v).place ≡ (after_all m (opening d) steps).place
   pub seats : length v.places ≡ m.seats

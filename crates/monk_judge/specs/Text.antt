@@ -1,5 +1,6 @@
 -- The text of a run
 use Rattle.std.specs.Prelude.{ℕ, List, ◌++◌, Some, None, codes}
+use Rattle.std.specs.List.{join_with_byte}
 use Rattle.std.specs.Fmt.{decimal}
 use Rattle.monk_logs.specs.Log.{log_words}
 use Rattle.monk_logs.specs.declared.text.line.LogLine.{LogLine}

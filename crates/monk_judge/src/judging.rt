@@ -1,6 +1,6 @@
 //! A whole log, judged.
 
-ghost use Rattle.std.specs.Prelude.{◌≡◌, ◌≤◌, IfOk, OnSome, length};
+ghost use Rattle.std.specs.Prelude.{◌≡◌, ◌≤◌, IfOk, IfSome, length};
 ghost use Rattle.monk_history.specs.Limits.{most_lines};
 ghost use Rattle.monk_judge.specs.Ends.{AreEnds};
 ghost use Rattle.monk_judge.specs.Holding.{holder_by};
@@ -106,7 +106,7 @@ fn take_lines<T: Guarded>(
 
 /// The lines before the misfit.
 fn fitting(misfit: Option<Misfit>, lines: &[LogLine]) -> &[LogLine]
-    requires { OnSome misfit (λ f. f.line ≤ length lines.now) }
+    requires { IfSome misfit (λ f. f.line ≤ length lines.now) }
     ensures { result.now ≡ fitting misfit lines.now }
 {
     match misfit {
