@@ -10,6 +10,7 @@ pub mod Sleepers
 pub mod Totals
 pub mod Among
 pub mod Moments
+pub mod Missing
 pub mod Holding
 pub mod Taking
 pub mod Naming

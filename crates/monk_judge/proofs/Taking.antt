@@ -1,11 +1,14 @@
 -- What holds while a judge takes the lines of a log
-use Rattle.std.proofs.Common.{◌≡◌, ℕ, ◌<◌, ◌≤◌, ◌+◌, ◌*◌, List, [], ◌∷◌, ◌++◌, Option, Some, None, length, get_or, take, drop, refl, sym, ap, subst, arith, ◌∙◌}
+use Rattle.std.proofs.Common.{◌≡◌, Bool, false, ℕ, ◌<◌, ◌≤◌, ◌+◌, ◌*◌, List, [], ◌∷◌, ◌++◌, Option, Some, None, length, get_or, take, drop, refl, sym, ap, subst, arith, ◌∙◌}
+use Rattle.std.specs.Prelude.{IfSome}
 use Rattle.std.proofs.Math.ListN.{length-set}
 use Rattle.std.proofs.lemmas.List.{length-take-le, take_all}
 use Rattle.monk_object.specs.Object.{Object}
 use Rattle.monk_logs.specs.declared.text.line.LogLine.{LogLine}
 use Rattle.monk_logs.specs.declared.text.line.LogLine.TheVariants.{Enter, Resume, Lapse, Leave, Wait, Signal, Broadcast, Until, Act}
+use Rattle.monk_judge.specs.declared.holder.Holder.{Holder}
 use Rattle.monk_judge.specs.declared.misfit.Misfit.{Misfit}
+use Rattle.monk_judge.specs.declared.missed.Missed.{Missed}
 use Rattle.monk_judge.specs.declared.place.Place.{Place}
 use Rattle.monk_judge.specs.declared.place.Place.TheVariants.{Outside}
 use Rattle.monk_judge.specs.declared.report.Report.{Report}
@@ -14,12 +17,14 @@ use Rattle.monk_judge.specs.Among.{NamesLast}
 use Rattle.monk_judge.specs.declared.told.Told.{Told}
 use Rattle.monk_judge.specs.declared.told.Told.TheVariants as told
 use Rattle.monk_judge.specs.declared.wait_end.WaitEnd.{WaitEnd}
+use Rattle.monk_judge.specs.declared.waits_for.WaitsFor.{WaitsFor}
 use Rattle.monk_judge.specs.declared.wait_end.WaitEnd.TheVariants.{Resumes}
 use Rattle.monk_judge.specs.Counts.{count, finds_nobody, first_after, is_asleep, is_woken, last_after, passed_in, passes, sleepers, spurious_in, total, unheard_in, wakes, wakes_in, woken_ones}
 use Rattle.monk_judge.specs.Ends.{AreEnds, ends_after, runs_out}
-use Rattle.monk_judge.specs.Explains.{IsExplainable}
-use Rattle.monk_judge.specs.Judged.{CanStand, after_all}
-use Rattle.monk_judge.specs.Holding.{NamesLastTaking, holder_by}
+use Rattle.monk_judge.specs.Explains.{IsExplainable, IsMisfit}
+use Rattle.monk_judge.specs.Judged.{CanStand, after_all, steps_at}
+use Rattle.monk_judge.specs.Missed.{LooksAt, is_from_outside}
+use Rattle.monk_judge.specs.Holding.{IsHolder, NamesLastTaking, holder_by}
 use Rattle.monk_judge.specs.Moments.{Moment, moment, moments}
 use Rattle.monk_judge.specs.Reports.{IsCounted, IsReport, IsRunOf, IsTaken, IsUnheard, NamesFirstNeed, NamesLastUnheard, fitting}
 use Rattle.monk_judge.specs.Run.{Setting, State, IsRun, after, lines_of, opening, unasked}
@@ -29,6 +34,7 @@ use Rattle.monk_judge.specs.Shown.{Refuses, Shown, Takes, own_steps, setting_of,
 use Rattle.monk_judge.proofs.Covers.{CoversAt, covers_explains, covers_next, covers_opening, covers_stop, rest_is}
 use Rattle.monk_judge.proofs.Sleepers.{EndsAt, ends_next, goes_first, outside_not}
 use Rattle.monk_judge.proofs.Among.{last_here, last_skip}
+use Rattle.monk_judge.proofs.Missing.{Known, known_next, known_opening, more_many}
 use Rattle.monk_judge.proofs.Holding.{holder_is}
 use Rattle.monk_judge.proofs.Moments.{Meets, line_meets, moment_kept, moment_last, moments_many, moments_on}
 use Rattle.monk_judge.proofs.Totals.{fewest}
@@ -148,11 +154,12 @@ run_stop o m d lines i v new steps f lt was refused at =
 
 -- ---- the counts so far
 
-pub record Taken (o : Object) (m : Setting) (d : List ℕ) (lines : List LogLine) (i : ℕ) (v : Shown)
-    (t : Tally) : Type 0 where
+pub record Taken (o : Object) (m : Setting) (d : List ℕ) (lines : List LogLine) (means : List WaitsFor) (i : ℕ)
+    (v : Shown) (t : Tally) (s : Missed) : Type 0 where
   pub steps : List Step
   pub reached : Reached o m d lines i v steps
   pub counted : IsCounted m d lines steps t
+  pub missed : Known m.object means (moments m (opening d) steps) s
   pub room : t.served + t.passed + t.spurious + t.unheard ≤ 255 * i
 
 -- behind one line more
@@ -174,10 +181,12 @@ pub record IsNothing (t : Tally) : Type 0 where
   pub first : t.first_spurious ≡ None
   pub last : t.last_unheard ≡ None
 
-pub taken_opening : (o : Object) (m : Setting) (d : List ℕ) (lines : List LogLine) (v : Shown) (t : Tally)
+pub taken_opening : (o : Object) (m : Setting) (d : List ℕ) (lines : List LogLine) (means : List WaitsFor) (v : Shown)
+    (t : Tally) (s : Missed)
     → setting_of v o ≡ m
-    → length v.ends ≡ length v.places → state_of v ≡ opening d → IsNothing t → Taken o m d lines 0 v t
-taken_opening o m d lines v t same many fresh none = record {
+    → length v.ends ≡ length v.places → state_of v ≡ opening d → IsNothing t → s.line ≡ None → s.from_outside ≡ false
+    → Taken o m d lines means 0 v t s
+taken_opening o m d lines means v t s same many fresh none line inside = record {
   steps = [];
   reached = reached_opening o m d lines v same many fresh;
   counted = record {
@@ -188,6 +197,7 @@ taken_opening o m d lines v t same many fresh none = record {
     first = subst (λ k. NamesFirstNeed m d lines k t.spurious) (sym none.first) none.spurious;
     last = subst (λ k. NamesLastUnheard m.seats [] k) (sym none.last) (λ k lt. absurd (omega arith));
   };
+  missed = known_opening m.object means s line inside;
   room = let a = none.served in let b = none.passed in let c = none.spurious in let e = none.unheard in omega arith;
 }
 
@@ -284,7 +294,7 @@ last_next o m d lines i v steps own l found what lt was meets h is =
     subst (λ k. NamesLastUnheard m.seats k (last_after found i what))
     (sym (moments_next o m d lines i v steps own l was meets))
     (subst (λ n. NamesLast (λ k. IsUnheard m.seats (moment (all ++ meets.t ∷ []) k)) n (last_after found i what))
-    (let e : i + 1 ≡ length (all ++ meets.t ∷ []) = grind (arith, many) in e)
+    (ap (λ k. k + 1) (sym many) ∙ sym (more_many all meets.t))
     (last_by m.seats i all meets.t found what many h is))
 
 counted_next : (o : Object) (m : Setting) (d : List ℕ) (lines : List LogLine) (i : ℕ) (v new : Shown)
@@ -325,12 +335,47 @@ counted_next o m d lines i v new steps e t u what lt was counted does more least
           does.names.unheard));
     }
 
-pub taken_next : (o : Object) (m : Setting) (d : List ℕ) (lines : List LogLine) (ends : List WaitEnd) (i : ℕ)
-    (v new : Shown) (t u : Tally)
-    (what : Told) → i < length lines → AreEnds ends lines → Taken o m d lines i v t
+-- a signal leaves the lock
+outside_same : (m : Setting) (x : State) (l : LogLine) (w : Option ℕ) (b : Bool)
+    → is_from_outside (after_all m x (steps_at x l w b)).lock l ≡ is_from_outside x.lock l
+outside_same m x (Enter s) w b = refl
+outside_same m x (Resume s) w b = refl
+outside_same m x (Lapse s) w b = refl
+outside_same m x (Leave s) w b = refl
+outside_same m x (Wait s c) w b = refl
+outside_same m x (Signal s c) w b = refl
+outside_same m x (Broadcast s c) w b = refl
+outside_same m x (Until s p) w b = refl
+outside_same m x (Act s op r) w b = refl
+
+missed_next : (o : Object) (m : Setting) (d : List ℕ) (lines : List LogLine) (means : List WaitsFor) (i : ℕ)
+    (v new : Shown) (steps : List Step) (e : WaitEnd) (what : Told) (s u : Missed)
+    → i < length lines → Reached o m d lines i v steps → Known m.object means (moments m (opening d) steps) s
+    → Takes o v new (get_or lines i (Enter 0)) e what → LooksAt o means (get_or lines i (Enter 0)) (state_of new) i s u
+    → Known m.object means (moments m (opening d) (steps ++ own_steps v (get_or lines i (Enter 0)) e what)) u
+missed_next o m d lines means i v new steps e what s u lt was known does looks =
+    let x = state_of v in
+    let l = get_or lines i (Enter 0) in
+    let own = own_steps v l e what in
+    let meets = line_meets m x l (whom what) (runs_out e) (stands_there o m d lines i v new steps l e what was does) in
+    let leads = does.leads ∙ ap (λ k. after_all k x own) was.same in
+    subst (λ k. Known m.object means k u) (sym (moments_next o m d lines i v steps own l was meets))
+    (known_next m.object means (moments m (opening d) steps) meets.t l (state_of new) s u known meets.line
+    (meets.behind ∙ sym leads)
+    (ap (λ y. is_from_outside y.lock l) leads ∙ outside_same m x l (whom what) (runs_out e)
+    ∙ ap (λ k. is_from_outside k l) (sym meets.lock))
+    (subst (λ k. LooksAt k means l (state_of new) (length (moments m (opening d) steps)) s u)
+    (ap (λ (k : Setting). k.object) was.same)
+    (subst (λ k. LooksAt o means l (state_of new) k s u)
+    (sym (many_moments o m d lines i v steps (omega arith) was)) looks)))
+
+pub taken_next : (o : Object) (m : Setting) (d : List ℕ) (lines : List LogLine) (means : List WaitsFor)
+    (ends : List WaitEnd) (i : ℕ) (v new : Shown) (t u : Tally) (s z : Missed)
+    (what : Told) → i < length lines → AreEnds ends lines → Taken o m d lines means i v t s
     → Takes o v new (get_or lines i (Enter 0)) (get_or ends i (Resumes 0)) what → CountsMore i t u what
-    → Taken o m d lines (i + 1) new u
-taken_next o m d lines ends i v new t u what lt are was does more =
+    → LooksAt o means (get_or lines i (Enter 0)) (state_of new) i s z
+    → Taken o m d lines means (i + 1) new u z
+taken_next o m d lines means ends i v new t u s z what lt are was does more looks =
     let e = get_or ends i (Resumes 0) in
     let own = own_steps v (get_or lines i (Enter 0)) e what in
     let next = reached_next o m d lines ends i v new was.steps what lt are was.reached does in
@@ -339,31 +384,35 @@ taken_next o m d lines ends i v new t u what lt are was does more =
       reached = next;
       counted = counted_next o m d lines i v new was.steps e t u what lt was.reached was.counted does more
           (least_of o m d lines (i + 1) new (was.steps ++ own) next);
+      missed = missed_next o m d lines means i v new was.steps e what s z lt was.reached was.missed does looks;
       room = let a = was.room in let b = more.room in omega arith;
     }
 
 -- ---- the end
 
-pub taken_all : (o : Object) (m : Setting) (d : List ℕ) (lines : List LogLine) (i : ℕ) (v : Shown) (t : Tally)
+pub taken_all : (o : Object) (m : Setting) (d : List ℕ) (lines : List LogLine) (means : List WaitsFor) (i : ℕ)
+    (v : Shown) (t : Tally) (s : Missed)
     → length lines ≤ i
-    → Taken o m d lines i v t → IsTaken m d lines None t v
-taken_all o m d lines i v t all was = record {
+    → Taken o m d lines means i v t s → IsTaken m d lines means None t s.line v
+taken_all o m d lines means i v t s all was = record {
   steps = was.steps;
   run = run_all o m d lines i v was.steps all was.reached;
   counted = was.counted;
+  missed = was.missed.line;
   holder = ap (λ (x : State). x.lock) was.reached.covers.leads;
   places = ap (λ (x : State). x.place) was.reached.covers.leads;
   seats = ap (λ (k : Setting). k.seats) was.reached.same;
 }
 
-pub taken_stop : (o : Object) (m : Setting) (d : List ℕ) (lines : List LogLine) (i : ℕ) (v new : Shown) (t : Tally)
-    (f : Misfit)
-    → i < length lines → Taken o m d lines i v t → Refuses o v new (get_or lines i (Enter 0)) → f.line ≡ i
-    → IsTaken m d lines (Some f) t new
-taken_stop o m d lines i v new t f lt was refused at = record {
+pub taken_stop : (o : Object) (m : Setting) (d : List ℕ) (lines : List LogLine) (means : List WaitsFor) (i : ℕ)
+    (v new : Shown) (t : Tally) (s : Missed) (f : Misfit)
+    → i < length lines → Taken o m d lines means i v t s → Refuses o v new (get_or lines i (Enter 0)) → f.line ≡ i
+    → IsTaken m d lines means (Some f) t s.line new
+taken_stop o m d lines means i v new t s f lt was refused at = record {
   steps = was.steps;
   run = run_stop o m d lines i v new was.steps f lt was.reached refused at;
   counted = was.counted;
+  missed = was.missed.line;
   holder = refused.lock ∙ ap (λ (x : State). x.lock) was.reached.covers.leads;
   places = ap (λ k. λ j. get_or k j Outside) refused.places
       ∙ ap (λ (x : State). x.place) was.reached.covers.leads;
@@ -371,11 +420,12 @@ taken_stop o m d lines i v new t f lt was refused at = record {
 }
 
 -- as a report
-pub report_is : (m : Setting) (d : List ℕ) (lines : List LogLine) (v : Shown) (misfit : Option Misfit) (t : Tally)
-    (lock found : Option ℕ) (asleep woken overtaken again : ℕ) (first missed : Option ℕ)
-    → IsTaken m d lines misfit t v → NamesLastTaking (fitting misfit lines) found
-    → lock ≡ v.lock → asleep ≡ sleepers (length v.places) (state_of v) → woken ≡ woken_ones (length v.places) (state_of v)
-    → IsReport m d lines (record {
+pub report_is : (m : Setting) (d : List ℕ) (lines : List LogLine) (means : List WaitsFor) (v : Shown)
+    (misfit : Option Misfit) (t : Tally)
+    (lock found : Option ℕ) (holder : Option Holder) (asleep woken overtaken again : ℕ) (first missed : Option ℕ)
+    → IsTaken m d lines means misfit t missed v → NamesLastTaking (fitting misfit lines) found
+    → lock ≡ v.lock → holder ≡ holder_by lock found → asleep ≡ sleepers (length v.places) (state_of v) → woken ≡ woken_ones (length v.places) (state_of v)
+    → IsReport m d lines means (record {
       misfit = misfit;
       tally = record {
         served = t.served;
@@ -388,12 +438,12 @@ pub report_is : (m : Setting) (d : List ℕ) (lines : List LogLine) (v : Shown) 
         again = again;
         first_not_again = first;
       };
-      holder = holder_by lock found;
+      holder = holder;
       asleep = asleep;
       woken = woken;
       missed = missed;
     })
-report_is m d lines v misfit t lock found asleep woken overtaken again first missed h named holds sleep wake = record {
+report_is m d lines means v misfit t lock found holder asleep woken overtaken again first missed h named holds by sleep wake = record {
   steps = h.steps;
   run = h.run;
   counted = record {
@@ -404,9 +454,17 @@ report_is m d lines v misfit t lock found asleep woken overtaken again first mis
     first = h.counted.first;
     last = h.counted.last;
   };
-  holder = holder_is m d h.steps (fitting misfit lines) lock found h.run.told (holds ∙ h.holder) named;
+  holder = subst (λ k. IsHolder (fitting misfit lines) (after_all m (opening d) h.steps).lock k) (sym by)
+      (holder_is m d h.steps (fitting misfit lines) lock found h.run.told (holds ∙ h.holder) named);
   asleep = sleep ∙ ap (λ n. sleepers n (state_of v)) h.seats
       ∙ ap (λ (f : ℕ → Place). count (λ j. is_asleep (f j)) m.seats) h.places;
   woken = wake ∙ ap (λ n. woken_ones n (state_of v)) h.seats
       ∙ ap (λ (f : ℕ → Place). count (λ j. is_woken (f j)) m.seats) h.places;
+  missed = h.missed;
 }
+
+-- the misfit is one of the lines
+pub misfit_within : (m : Setting) (d : List ℕ) (lines : List LogLine) (found : Option Misfit) → IsMisfit m d lines found
+    → IfSome found (λ f. f.line ≤ length lines)
+misfit_within m d lines None h = tt
+misfit_within m d lines (Some f) h = let le : f.line ≤ length lines = omega (arith, h.0) in le

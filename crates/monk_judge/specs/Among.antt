@@ -1,5 +1,5 @@
 -- Which of the first numbers have a property, and how many
-use Rattle.std.specs.Prelude.{ℕ, ◌<◌, Option, MatchOption}
+use Rattle.std.specs.Prelude.{ℕ, ◌<◌, Bool, true, false, Option, MatchOption}
 
 -- it names the first of so many that has the property; nothing, if none has
 abbrev pub NamesFirst : (ℕ → Type 0) → ℕ → Option ℕ → Type 0
@@ -10,3 +10,8 @@ NamesFirst P n found = MatchOption found ((k : ℕ) → k < n → P k → ⊥)
 abbrev pub NamesLast : (ℕ → Type 0) → ℕ → Option ℕ → Type 0
 NamesLast P n found = MatchOption found ((k : ℕ) → k < n → P k → ⊥)
     (λ k. (k < n) × P k × ((j : ℕ) → k < j → j < n → P j → ⊥))
+
+-- the answer says whether it is so
+abbrev pub Decides : Bool → Type 0 → Type 0
+Decides true A = A
+Decides false A = A → ⊥

@@ -6,7 +6,10 @@ pub mod Shown
 pub mod Counts
 pub mod Among
 pub mod Moments
+pub mod Missed
 pub mod Holding
+pub mod Steps
+pub mod Text
 pub mod Reports
 pub mod Blame
 pub mod StepWords

@@ -6,11 +6,13 @@ use Rattle.monk_judge.specs.declared.report.Report.{Report}
 use Rattle.monk_judge.specs.declared.step.Step.{Step}
 use Rattle.monk_judge.specs.declared.step.Step.TheVariants.{Tells}
 use Rattle.monk_judge.specs.declared.tally.Tally.{Tally}
+use Rattle.monk_judge.specs.declared.waits_for.WaitsFor.{WaitsFor}
 use Rattle.monk_judge.specs.Among.{NamesLast}
 use Rattle.monk_judge.specs.Counts.{finds_nobody, passes, sleepers, total, wakes, woken_ones}
 use Rattle.monk_judge.specs.Explains.{IsFirstNeed, IsLeast, IsMisfit}
 use Rattle.monk_judge.specs.Holding.{IsHolder}
 use Rattle.monk_judge.specs.Judged.{after_all}
+use Rattle.monk_judge.specs.Missed.{NamesFirstMissed}
 use Rattle.monk_judge.specs.Moments.{Moment, moment, moments}
 use Rattle.monk_judge.specs.Run.{Setting, IsRun, lines_of, opening, unasked}
 use Rattle.monk_judge.specs.Shown.{Shown, state_of}
@@ -22,11 +24,11 @@ fitting (Some f) lines = take f.line lines
 
 -- that is the misfit, and these steps are a run of the lines before it; no run of them has fewer wake-ups that nobody
 -- sent
-pub record IsRunOf (m : Setting) (d : List ℕ) (lines : List LogLine) (misfit : Option Misfit)
+pub record IsRunOf (m : Setting) (d : List ℕ) (lines : List LogLine) (found : Option Misfit)
     (steps : List Step) : Type 0 where
-  pub misfit : IsMisfit m d lines misfit
+  pub misfit : IsMisfit m d lines found
   pub run : IsRun m (opening d) steps
-  pub told : lines_of steps ≡ fitting misfit lines
+  pub told : lines_of steps ≡ fitting found lines
   pub least : IsLeast m d steps
 
 -- it names the first line that needs a wake-up that nobody sent, if so many are needed
@@ -51,20 +53,22 @@ pub record IsCounted (m : Setting) (d : List ℕ) (lines : List LogLine) (steps 
   pub last : NamesLastUnheard m.seats (moments m (opening d) steps) t.last_unheard
 
 -- it tells the misfit, and what is counted and where threads are at the end of such a run
-pub record IsReport (m : Setting) (d : List ℕ) (lines : List LogLine) (r : Report) : Type 0 where
+pub record IsReport (m : Setting) (d : List ℕ) (lines : List LogLine) (means : List WaitsFor) (r : Report) : Type 0 where
   pub steps : List Step
   pub run : IsRunOf m d lines r.misfit steps
   pub counted : IsCounted m d lines steps r.tally
   pub holder : IsHolder (fitting r.misfit lines) (after_all m (opening d) steps).lock r.holder
   pub asleep : r.asleep ≡ sleepers m.seats (after_all m (opening d) steps)
   pub woken : r.woken ≡ woken_ones m.seats (after_all m (opening d) steps)
+  pub missed : NamesFirstMissed m.object means (moments m (opening d) steps) r.missed
 
 -- a judge has taken the lines up to that misfit
-pub record IsTaken (m : Setting) (d : List ℕ) (lines : List LogLine) (found : Option Misfit) (t : Tally)
-    (v : Shown) : Type 0 where
+pub record IsTaken (m : Setting) (d : List ℕ) (lines : List LogLine) (means : List WaitsFor) (found : Option Misfit)
+    (t : Tally) (lacking : Option ℕ) (v : Shown) : Type 0 where
   pub steps : List Step
   pub run : IsRunOf m d lines found steps
   pub counted : IsCounted m d lines steps t
+  pub missed : NamesFirstMissed m.object means (moments m (opening d) steps) lacking
   pub holder : v.lock ≡ (after_all m (opening d) steps).lock
   pub places : (state_of v).place ≡ (after_all m (opening d) steps).place
   pub seats : length v.places ≡ m.seats

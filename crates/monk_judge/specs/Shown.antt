@@ -1,5 +1,5 @@
 -- The state that a judge shows
-use Rattle.std.specs.Prelude.{◌≡◌, ℕ, List, Option, Result, MatchResult, slice_index_or, length, Some, None}
+use Rattle.std.specs.Prelude.{◌≡◌, ℕ, ◌<◌, List, Option, Result, MatchResult, slice_index_or, length, Some, None}
 use Rattle.monk_object.specs.Object.{Object}
 use Rattle.monk_logs.specs.declared.text.line.LogLine.{LogLine}
 use Rattle.monk_logs.specs.declared.text.line.LogLine.TheVariants.{Enter, Resume, Lapse, Leave, Wait, Signal, Broadcast, Until, Act}
@@ -35,6 +35,12 @@ state_of v = record { lock = v.lock; place = λ s. slice_index_or v.places s Out
 -- its setting over that object
 abbrev pub setting_of : Shown → Object → Setting
 setting_of v o = record { seats = length v.places; conds = v.conds; object = o }
+
+-- a thread is at that place
+pub record IsThere (places : List Place) (p : Place) : Type 0 where
+  pub seat : ℕ
+  pub within : seat < length places
+  pub there : slice_index_or places seat Outside ≡ p
 
 -- whom a signal woke
 abbrev pub whom : Told → Option ℕ

@@ -9,6 +9,8 @@ ghost use Rattle.monk_judge.specs.Shown.{Does, IsEarliest, ResumesNoLater, setti
 ghost use Rattle.monk_judge.specs.declared.place.Place.TheVariants.{Outside, Active, Waiting};
 ghost use Rattle.monk_judge.specs.declared.wait_end.WaitEnd.{WaitEnd};
 
+mod lacking;
+
 use crate::blame::Blame;
 use crate::place::{Place, mark_woken};
 use crate::told::Told;
@@ -111,26 +113,16 @@ impl<T: Guarded> Judge<T> {
     }
 
     /// Where the seat is; `None` if there is no such seat.
-    pub fn place(&self, seat: u8) -> Option<Place> {
-        self.places.get(usize::from(seat)).copied()
-    }
-
-    /// Whether somebody sleeps on the condition, and nobody is woken there.
-    pub(crate) fn is_unsignalled(&self, cond: u8) -> bool {
-        let mut sleeps = false;
-        for place in &self.places {
-            match *place {
-                Place::Woken(on) if on == cond => return false,
-                Place::Waiting(on) if on == cond => sleeps = true,
-                _ => {}
-            }
+    pub fn place(&self, seat: u8) -> Option<Place>
+        ensures { MatchOption result (length self.now.places ≤ seat)
+            (λ p. (seat < length self.now.places) × (p ≡ slice_index_or self.now.places seat Outside)) }
+    {
+        let seat = usize::from(seat);
+        if seat < self.places.len() {
+            Some(self.places[seat])
+        } else {
+            None
         }
-        sleeps
-    }
-
-    /// Whether the object has the predicate, and it holds.
-    pub(crate) fn object_holds(&self, pred: u8) -> bool {
-        pred < T::PREDICATES && self.object.holds(pred)
     }
 
     /// Where a seat of the header is.
@@ -139,12 +131,7 @@ impl<T: Guarded> Judge<T> {
             × (p ≡ slice_index_or self.now.places seat Outside))
             (λ e. length self.now.places ≤ seat) }
     {
-        let seat = usize::from(seat);
-        if seat < self.places.len() {
-            Ok(self.places[seat])
-        } else {
-            Err(Blame::Range)
-        }
+        self.place(seat).ok_or(Blame::Range)
     }
 
     /// Puts the seat there.

@@ -1,6 +1,6 @@
 //! A whole log, judged.
 
-ghost use Rattle.std.specs.Prelude.{◌≡◌, ◌≤◌, IfOk, OnSome, length};
+ghost use Rattle.std.specs.Prelude.{◌≡◌, ◌≤◌, IfOk, IfSome, length};
 ghost use Rattle.monk_history.specs.Limits.{most_lines};
 ghost use Rattle.monk_judge.specs.Ends.{AreEnds};
 ghost use Rattle.monk_judge.specs.Holding.{holder_by};
@@ -45,7 +45,7 @@ pub fn judge_log<T: Guarded>(
     requires { length lines.now ≤ most_lines }
     // It tells the misfit exactly. It counts in a run of the lines before, with as few wake-ups that
     // nobody sent as any run of them has.
-    ensures { IfOk result (λ r. IsReport (setting seats conds T.meaning) (T.state object) lines.now r) }
+    ensures { IfOk result (λ r. IsReport (setting seats conds T.meaning) (T.state object) lines.now means.now r) }
 {
     let ends = look_ahead(alloc, lines)?;
     let mut judge = Judge::opening(alloc, seats, conds, object)?;
@@ -84,7 +84,8 @@ fn take_lines<T: Guarded>(
     requires seats { length judge.old.ends ≡ length judge.old.places }
     requires ends { AreEnds ends.now lines.now }
     requires few { length lines.now ≤ most_lines }
-    ensures { IsTaken (setting_of judge.old T.meaning) judge.old.data_now lines.now result.1 result.0.tally judge.new }
+    ensures { IsTaken (setting_of judge.old T.meaning) judge.old.data_now lines.now means.now result.1 result.0.tally
+        result.0.missed.line judge.new }
 {
     let mut seen = Seen {
         tally: Tally::NOTHING,
@@ -97,7 +98,7 @@ fn take_lines<T: Guarded>(
             Ok(told) => seen.tally.line(index, told),
             Err(why) => return (seen, Some(Misfit { line: index, why })),
         }
-        seen.missed.line(judge, means, index, *line);
+        seen.missed.look_at(judge, means, index, *line);
         seen.overtaking.line(judge, index, *line, was);
     }
     (seen, None)
@@ -105,7 +106,7 @@ fn take_lines<T: Guarded>(
 
 /// The lines before the misfit.
 fn fitting(misfit: Option<Misfit>, lines: &[LogLine]) -> &[LogLine]
-    requires { OnSome misfit (λ f. f.line ≤ length lines.now) }
+    requires { IfSome misfit (λ f. f.line ≤ length lines.now) }
     ensures { result.now ≡ fitting misfit lines.now }
 {
     match misfit {

@@ -1,12 +1,17 @@
 //! Signals that nobody sent though somebody should have.
 
+ghost use Rattle.std.specs.Prelude.{◌≡◌};
+ghost use Rattle.monk_judge.specs.Among.{Decides};
+ghost use Rattle.monk_judge.specs.Missed.{AllHold, LacksBehind, LacksSignal, LooksAt, frees_lock, is_from_outside};
+ghost use Rattle.monk_judge.specs.Shown.{state_of};
+
 use crate::judge::Judge;
 use crate::waits_for::WaitsFor;
 use monk_logs::LogLine;
 use monk_object::Guarded;
 
-/// The first line that lets the lock go without a signal that is needed there.
-#[derive(Clone, Copy, Debug, PartialEq, Eq)]
+/// The first line that lets the lock go where a signal is lacking.
+#[derive(Clone, Copy)]
 pub(crate) struct Missed {
     /// That line, counted from 0 behind the header.
     pub(crate) line: Option<usize>,
@@ -22,35 +27,58 @@ impl Missed {
     };
 
     /// Looks at the line with that index, which the judge has taken.
-    pub(crate) fn line<T: Guarded>(
+    pub(crate) fn look_at<T: Guarded>(
         &mut self,
         judge: &Judge<T>,
         means: &[WaitsFor],
         index: usize,
         line: LogLine,
-    ) {
-        match line {
-            LogLine::Signal(seat, _) | LogLine::Broadcast(seat, _) => {
-                if judge.lock() != Some(seat) {
-                    self.from_outside = true;
-                }
-            }
-            LogLine::Leave(_) | LogLine::Wait(..) => {
-                if self.line.is_none() && !self.from_outside && lacks_signal(judge, means) {
-                    self.line = Some(index);
-                }
-            }
-            LogLine::Enter(_)
-            | LogLine::Resume(_)
-            | LogLine::Lapse(_)
-            | LogLine::Until(..)
-            | LogLine::Act(..) => {}
+    )
+        ensures { LooksAt T.meaning means.now line (state_of judge.now) index self.old self.new }
+    {
+        if self.line.is_none() && !self.from_outside && lacks_behind(judge, means, line) {
+            self.line = Some(index);
         }
+        self.from_outside = self.from_outside || is_from_outside(judge.lock(), line);
+    }
+}
+
+/// Whether that line is a signal of a thread that hasn't the lock.
+fn is_from_outside(lock: Option<u8>, line: LogLine) -> bool
+    ensures { result ≡ is_from_outside lock line }
+{
+    match line {
+        LogLine::Signal(seat, _) | LogLine::Broadcast(seat, _) => lock != Some(seat),
+        LogLine::Enter(_)
+        | LogLine::Resume(_)
+        | LogLine::Lapse(_)
+        | LogLine::Leave(_)
+        | LogLine::Wait(..)
+        | LogLine::Until(..)
+        | LogLine::Act(..) => false,
+    }
+}
+
+/// Whether a thread let the lock go with that line, and a signal is lacking now.
+fn lacks_behind<T: Guarded>(judge: &Judge<T>, means: &[WaitsFor], line: LogLine) -> bool
+    ensures { Decides result (LacksBehind T.meaning means.now line (state_of judge.now)) }
+{
+    match line {
+        LogLine::Leave(_) | LogLine::Wait(..) => lacks_signal(judge, means),
+        LogLine::Enter(_)
+        | LogLine::Resume(_)
+        | LogLine::Lapse(_)
+        | LogLine::Signal(..)
+        | LogLine::Broadcast(..)
+        | LogLine::Until(..)
+        | LogLine::Act(..) => false,
     }
 }
 
 /// Whether some condition lacks a signal.
-fn lacks_signal<T: Guarded>(judge: &Judge<T>, means: &[WaitsFor]) -> bool {
+fn lacks_signal<T: Guarded>(judge: &Judge<T>, means: &[WaitsFor]) -> bool
+    ensures { Decides result (LacksSignal T.meaning means.now (state_of judge.now)) }
+{
     for waits in means {
         if judge.is_unsignalled(waits.cond) && all_hold(judge, means, waits.cond) {
             return true;
@@ -59,8 +87,10 @@ fn lacks_signal<T: Guarded>(judge: &Judge<T>, means: &[WaitsFor]) -> bool {
     false
 }
 
-/// Whether each predicate holds that is told of the condition.
-fn all_hold<T: Guarded>(judge: &Judge<T>, means: &[WaitsFor], cond: u8) -> bool {
+/// Whether all holds that is told of the condition.
+fn all_hold<T: Guarded>(judge: &Judge<T>, means: &[WaitsFor], cond: u8) -> bool
+    ensures { Decides result (AllHold T.meaning means.now judge.now.data_now cond) }
+{
     for waits in means {
         if waits.cond == cond && !judge.object_holds(waits.pred) {
             return false;

@@ -1,11 +1,15 @@
 //! The run that a log tells.
 
-ghost use Rattle.std.specs.Prelude.{◌≡◌, ◌≤◌, ◌++◌, [], IfOk, OnOk, length};
+ghost use Rattle.std.specs.Prelude.{◌≡◌, ◌≤◌, ◌++◌, ◌∷◌, [], None, IfOk, OnOk, length};
 ghost use Rattle.monk_object.specs.Object.{Object};
 ghost use Rattle.monk_history.specs.Limits.{most_lines};
-ghost use Rattle.monk_judge.specs.Ends.{AreEnds};
+ghost use Rattle.monk_logs.specs.declared.text.line.LogLine.TheVariants.{Wait};
+ghost use Rattle.monk_judge.specs.Ends.{AreEnds, runs_out};
+ghost use Rattle.monk_judge.specs.Judged.{running_out};
 ghost use Rattle.monk_judge.specs.Reports.{IsRunOf};
 ghost use Rattle.monk_judge.specs.Run.{opening, setting};
+ghost use Rattle.monk_judge.specs.declared.step.Step.TheVariants.{Tells};
+ghost use Rattle.monk_judge.specs.Steps.{resume_steps, woken_by};
 ghost use Rattle.monk_judge.specs.Shown.{Shown, Takes, own_steps, setting_of, state_of};
 
 use crate::ahead::look_ahead;
@@ -78,33 +82,51 @@ fn push_steps(
     ensures { OnOk result ((o : Object) (v new : Shown) → Takes o v new line end told
         → steps.new.items ≡ steps.old.items ++ own_steps v line end told) }
 {
+    if let LogLine::Resume(seat) = line {
+        return push_resume(steps, seat, told);
+    }
+    if let LogLine::Wait(seat, cond) = line {
+        return push_wait(steps, seat, cond, end);
+    }
+    steps.push(Step::Tells(line, woken_by(line, told)))?;
+    Ok(())
+}
+
+/// Whom the line woke, if it is a signal that told that.
+fn woken_by(line: LogLine, told: Told) -> Option<u8>
+    ensures { result ≡ woken_by line told }
+{
     match line {
-        LogLine::Resume(seat) => {
-            if told == Told::Spurious {
-                steps.push(Step::WakesUnasked(seat))?;
-            }
-            steps.push(Step::Tells(line, None))?;
-            Ok(())
-        }
-        LogLine::Wait(seat, _) => {
-            steps.push(Step::Tells(line, None))?;
-            if end == WaitEnd::RunsOut {
-                steps.push(Step::RunsOut(seat))?;
-            }
-            Ok(())
-        }
-        LogLine::Signal(..) => {
-            steps.push(Step::Tells(line, told.whom()))?;
-            Ok(())
-        }
+        LogLine::Signal(..) => told.whom(),
         LogLine::Enter(_)
+        | LogLine::Resume(_)
         | LogLine::Lapse(_)
         | LogLine::Leave(_)
+        | LogLine::Wait(..)
         | LogLine::Broadcast(..)
         | LogLine::Until(..)
-        | LogLine::Act(..) => {
-            steps.push(Step::Tells(line, None))?;
-            Ok(())
-        }
+        | LogLine::Act(..) => None,
+    }
+}
+
+/// Writes down the steps of a thread that comes back.
+fn push_resume(steps: &mut Vec<Step>, seat: u8, told: Told) -> Result<(), AllocError>
+    ensures { OnOk result (steps.new.items ≡ steps.old.items ++ resume_steps seat told) }
+{
+    if told == Told::Spurious {
+        steps.push(Step::WakesUnasked(seat))?;
+    }
+    steps.push(Step::Tells(LogLine::Resume(seat), None))?;
+    Ok(())
+}
+
+/// Writes down the steps of a wait that ends so.
+fn push_wait(steps: &mut Vec<Step>, seat: u8, cond: u8, end: WaitEnd) -> Result<(), AllocError>
+    ensures { OnOk result (steps.new.items ≡ steps.old.items
+        ++ Tells (Wait seat cond) None ∷ running_out seat (runs_out end)) }
+{
+    steps.push(Step::Tells(LogLine::Wait(seat, cond), None))?;
+    if end == WaitEnd::RunsOut {
+        steps.push(Step::RunsOut(seat))?;
     }
 }

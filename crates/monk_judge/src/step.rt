@@ -17,14 +17,14 @@ pub enum Step {
 /// As in `signal 2 0 wakes 1`, `out 0` or `wake 1`.
 impl fmt::Display for Step {
     ghost use Rattle.std.specs.Prelude.{Some};
-    ghost use Rattle.monk_judge.specs.StepWords.{step_words};
+    ghost use Rattle.monk_judge.specs.Text.{step_text};
 
-    ghost output = { λ s. Some (step_words s) };
+    ghost output = { λ s. Some (step_text s) };
 
     fn fmt<W: fmt::Write>(&self, f: &mut fmt::Formatter<W>) -> fmt::Result {
         match *self {
-            Step::Tells(line, None) => write!(f, "{}", LineWords(line)),
-            Step::Tells(line, Some(seat)) => write!(f, "{} wakes {seat}", LineWords(line)),
+            Step::Tells(line, None) => write!(f, "{}", LineWords { line }),
+            Step::Tells(line, Some(seat)) => write!(f, "{} wakes {seat}", LineWords { line }),
             Step::RunsOut(seat) => write!(f, "out {seat}"),
             Step::WakesUnasked(seat) => write!(f, "wake {seat}"),
         }
@@ -33,16 +33,18 @@ impl fmt::Display for Step {
 
 /// The words of a line of a log.
 #[derive(Clone, Copy)]
-struct LineWords(LogLine);
+struct LineWords {
+    line: LogLine,
+}
 
 impl fmt::Display for LineWords {
     ghost use Rattle.std.specs.Prelude.{Some};
-    ghost use Rattle.monk_judge.specs.StepWords.{line_words};
+    ghost use Rattle.monk_judge.specs.Text.{line_text};
 
-    ghost output = { λ l. Some (line_words l.0) };
+    ghost output = { λ w. Some (line_text w.line) };
 
     fn fmt<W: fmt::Write>(&self, f: &mut fmt::Formatter<W>) -> fmt::Result {
-        match self.0 {
+        match self.line {
             LogLine::Enter(seat) => write!(f, "enter {seat}"),
             LogLine::Resume(seat) => write!(f, "resume {seat}"),
             LogLine::Lapse(seat) => write!(f, "lapse {seat}"),

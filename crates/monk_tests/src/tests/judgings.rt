@@ -1,5 +1,8 @@
-use monk_judge::{Blame, Misfit, Report, Tally, judge_log};
-use monk_logs::read_log;
+use monk_judge::{
+    Blame, Holder, Judge, Misfit, Place, Report, Run, Tally, WaitsFor, judge_log, look_ahead,
+    run_of_log,
+};
+use monk_logs::{LogLine, read_log};
 use monk_object::Buffer;
 use std::test::Fail;
 
@@ -10,25 +13,28 @@ struct Row {
     /// How many were served, passed others, woke unasked; and how many signals found nobody.
     counts: [u64; 4],
     first_spurious: Option<usize>,
-    /// Who has the lock at the end, how many sleep, and how many were woken.
-    end: (Option<u8>, u8, u8),
+    last_unheard: Option<usize>,
+    /// Who has the lock at the end since when, how many sleep, and how many were woken.
+    end: (Option<Holder>, u8, u8),
 }
 
-/// What a judge tells of a log.
-fn judged(rt: &HostRuntime, lines: &[u8]) -> Result<Report, Fail> {
+/// The lines behind the header of such a log.
+fn lines_of(rt: &HostRuntime, lines: &[u8]) -> Result<Vec<LogLine>, Fail> {
     let mut text = Vec::new(rt.alloc());
     text.extend_from_slice(b"log 1 3 1 buffer 1\n")?;
     text.extend_from_slice(lines)?;
-    let (header, lines) = read_log(rt.alloc(), text.as_slice())?;
-    let buffer = Buffer::make(rt.alloc(), header.size())?;
-    Ok(judge_log(
-        rt.alloc(),
-        header.seats(),
-        header.conds(),
-        buffer,
-        lines.as_slice(),
-        &[],
-    )?)
+    let (_header, lines) = read_log(rt.alloc(), text.as_slice())?;
+    Ok(lines)
+}
+
+/// What those wait for who wait on the condition: that the buffer isn't empty.
+static MEANS: [WaitsFor; 1] = [WaitsFor { cond: 0, pred: 1 }];
+
+/// What a judge tells of a log.
+fn judged(rt: &HostRuntime, lines: &[u8]) -> Result<Report, Fail> {
+    let lines = lines_of(rt, lines)?;
+    let buffer = Buffer::make(rt.alloc(), 1)?;
+    Ok(judge_log(rt.alloc(), 3, 1, buffer, &lines, &MEANS)?)
 }
 
 fn is_row(report: &Report, row: &Row) -> bool {
@@ -39,15 +45,16 @@ fn is_row(report: &Report, row: &Row) -> bool {
         spurious,
         first_spurious: row.first_spurious,
         unheard,
+        last_unheard: row.last_unheard,
         ..report.tally
     };
     let misfit = row.misfit.map(|(line, why)| Misfit { line, why });
     report.misfit == misfit
         && report.tally == tally
-        && (report.holder.map(|holder| holder.seat), report.asleep, report.woken) == row.end
+        && (report.holder, report.asleep, report.woken) == row.end
 }
 
-const FREE: (Option<u8>, u8, u8) = (None, 0, 0);
+const FREE: (Option<Holder>, u8, u8) = (None, 0, 0);
 
 static ROWS: [Row; 12] = [
     // A waiter is served, and comes back behind the signaller.
@@ -56,6 +63,7 @@ static ROWS: [Row; 12] = [
         misfit: None,
         counts: [1, 0, 0, 0],
         first_spurious: None,
+        last_unheard: None,
         end: FREE,
     },
     // A thread comes in before a woken one is back.
@@ -64,6 +72,7 @@ static ROWS: [Row; 12] = [
         misfit: None,
         counts: [1, 1, 0, 0],
         first_spurious: None,
+        last_unheard: None,
         end: FREE,
     },
     // A waiter who tests by `if` takes from a buffer that another has emptied.
@@ -72,7 +81,8 @@ static ROWS: [Row; 12] = [
         misfit: Some((10, Blame::Reply)),
         counts: [1, 1, 0, 0],
         first_spurious: None,
-        end: (Some(0), 0, 0),
+        last_unheard: None,
+        end: (Some(Holder { seat: 0, since: 9 }), 0, 0),
     },
     // One signal, and two come back: one of them woke unasked.
     Row {
@@ -80,6 +90,7 @@ static ROWS: [Row; 12] = [
         misfit: None,
         counts: [1, 0, 1, 0],
         first_spurious: Some(9),
+        last_unheard: None,
         end: FREE,
     },
     // A signal from outside wakes the one that comes back.
@@ -88,6 +99,7 @@ static ROWS: [Row; 12] = [
         misfit: None,
         counts: [1, 0, 0, 0],
         first_spurious: None,
+        last_unheard: None,
         end: (None, 1, 0),
     },
     // A broadcast wakes two; one isn't back.
@@ -96,6 +108,7 @@ static ROWS: [Row; 12] = [
         misfit: None,
         counts: [2, 0, 0, 0],
         first_spurious: None,
+        last_unheard: None,
         end: (None, 0, 1),
     },
     // A wait that ran out before the signal, so that it finds nobody.
@@ -104,6 +117,7 @@ static ROWS: [Row; 12] = [
         misfit: None,
         counts: [0, 0, 0, 1],
         first_spurious: None,
+        last_unheard: Some(3),
         end: FREE,
     },
     // Two have the lock.
@@ -112,7 +126,8 @@ static ROWS: [Row; 12] = [
         misfit: Some((1, Blame::Held)),
         counts: [0, 0, 0, 0],
         first_spurious: None,
-        end: (Some(0), 0, 0),
+        last_unheard: None,
+        end: (Some(Holder { seat: 0, since: 0 }), 0, 0),
     },
     // A thread does without the lock what needs it.
     Row {
@@ -120,6 +135,7 @@ static ROWS: [Row; 12] = [
         misfit: Some((2, Blame::NoLock)),
         counts: [0, 0, 0, 0],
         first_spurious: None,
+        last_unheard: None,
         end: (None, 1, 0),
     },
     // A thread comes in that sleeps, and one comes back that doesn't.
@@ -128,6 +144,7 @@ static ROWS: [Row; 12] = [
         misfit: Some((2, Blame::Asleep)),
         counts: [0, 0, 0, 0],
         first_spurious: None,
+        last_unheard: None,
         end: (None, 1, 0),
     },
     Row {
@@ -135,6 +152,7 @@ static ROWS: [Row; 12] = [
         misfit: Some((0, Blame::Awake)),
         counts: [0, 0, 0, 0],
         first_spurious: None,
+        last_unheard: None,
         end: FREE,
     },
     Row {
@@ -142,6 +160,7 @@ static ROWS: [Row; 12] = [
         misfit: Some((0, Blame::Range)),
         counts: [0, 0, 0, 0],
         first_spurious: None,
+        last_unheard: None,
         end: FREE,
     },
 ];
@@ -151,5 +170,121 @@ fn logs_are_judged(rt: HostRuntime) -> Result<(), Fail> {
     for row in ROWS.iter() {
         assert!(rt; is_row(&judged(&rt, row.lines)?, row));
     }
+    Ok(())
+}
+
+/// Logs, and the first line of each behind which a thread sleeps though the buffer isn't empty.
+static MISSED: [(&[u8], Option<usize>); 4] = [
+    // A thread puts an item and sends no signal.
+    (
+        b"enter 0\nwait 0 0\nenter 1\nact 1 0 7 1\nleave 1\n",
+        Some(4),
+    ),
+    (
+        b"enter 0\nwait 0 0\nenter 1\nact 1 0 7 1\nsignal 1 0\nleave 1\n",
+        None,
+    ),
+    // A thread sleeps though an item is there.
+    (b"enter 0\nact 0 0 7 1\nwait 0 0\n", Some(2)),
+    // A signal from outside can be on its way to who sleeps.
+    (
+        b"enter 0\nsignal 1 0\nwait 0 0\nenter 1\nact 1 0 7 1\nleave 1\n",
+        None,
+    ),
+];
+
+#[test]
+fn missed_signals_are_named(rt: HostRuntime) -> Result<(), Fail> {
+    for (lines, missed) in MISSED.iter() {
+        assert!(rt; judged(&rt, lines)?.missed == *missed);
+    }
+    Ok(())
+}
+
+/// Logs in each of which a woken thread comes back behind another: how many do, how many of these wait
+/// again at once, and the first that doesn't.
+static OVERTAKEN: [(&[u8], u64, u64, Option<usize>); 3] = [
+    (
+        b"enter 0\nwait 0 0\nenter 1\nsignal 1 0\nleave 1\nenter 2\nleave 2\nresume 0\nleave 0\n",
+        1,
+        0,
+        Some(7),
+    ),
+    (
+        b"enter 0\nwait 0 0\nenter 1\nsignal 1 0\nleave 1\nenter 2\nleave 2\nresume 0\nsignal 2 0\nwait 0 0\n",
+        1,
+        1,
+        None,
+    ),
+    // Nobody takes the lock between the signal and the thread that comes back.
+    (
+        b"enter 0\nwait 0 0\nenter 1\nsignal 1 0\nleave 1\nresume 0\nleave 0\n",
+        0,
+        0,
+        None,
+    ),
+];
+
+#[test]
+fn overtaken_threads_are_counted(rt: HostRuntime) -> Result<(), Fail> {
+    for (lines, overtaken, again, first) in OVERTAKEN.iter() {
+        let tally = judged(&rt, lines)?.tally;
+        assert!(rt;
+            (tally.overtaken, tally.again, tally.first_not_again) == (*overtaken, *again, *first)
+        );
+    }
+    Ok(())
+}
+
+/// The run that a log tells.
+fn run(rt: &HostRuntime, lines: &[u8]) -> Result<Run, Fail> {
+    let lines = lines_of(rt, lines)?;
+    let buffer = Buffer::make(rt.alloc(), 1)?;
+    Ok(run_of_log(rt.alloc(), 3, 1, buffer, &lines)?)
+}
+
+/// The lines of its steps.
+fn text_of(rt: &HostRuntime, lines: &[u8]) -> Result<String, Fail> {
+    let run = run(rt, lines)?;
+    let mut text = String::new(rt.alloc());
+    for step in &run.steps {
+        text.push_str(format!(in rt.alloc(); "{step}\n")?.as_str())?;
+    }
+    Ok(text)
+}
+
+/// A log in which a signal wakes one of two, a wait runs out, and a thread wakes unasked; and its run.
+static LOG: &[u8] =
+    b"enter 0\nwait 0 0\nenter 1\nwait 1 0\nsignal 2 0\nresume 1\nact 1 0 7 1\nbroadcast 1 0\nleave 1\nenter 2\nwait 2 0\nlapse 2\nwait 2 0\nresume 2\nleave 1\n";
+
+static RUN: &str =
+    "enter 0\nwait 0 0\nenter 1\nwait 1 0\nsignal 2 0 wakes 1\nresume 1\nact 1 0 7 1\nbroadcast 1 0\nleave 1\nenter 2\nwait 2 0\nout 2\nlapse 2\nwait 2 0\nwake 2\nresume 2\n";
+
+#[test]
+fn runs_are_found(rt: HostRuntime) -> Result<(), Fail> {
+    assert!(rt; text_of(&rt, LOG)?.as_str() == RUN);
+    Ok(())
+}
+
+/// Where the seat is behind the lines.
+fn place_behind(rt: &HostRuntime, lines: &[u8], seat: u8) -> Result<Option<Place>, Fail> {
+    let lines = lines_of(rt, lines)?;
+    let ends = look_ahead(rt.alloc(), &lines)?;
+    let buffer = Buffer::make(rt.alloc(), 1)?;
+    let mut judge = Judge::opening(rt.alloc(), 3, 1, buffer)?;
+    for (index, line) in lines.iter().enumerate() {
+        if index < ends.len() {
+            let _told = judge.line(*line, ends[index]);
+        }
+    }
+    Ok(judge.place(seat))
+}
+
+#[test]
+fn places_are_told(rt: HostRuntime) -> Result<(), Fail> {
+    let lines = b"enter 0\nwait 0 0\nenter 1\n".as_slice();
+    assert!(rt; place_behind(&rt, lines, 0)? == Some(Place::Waiting(0)));
+    assert!(rt; place_behind(&rt, lines, 1)? == Some(Place::Active));
+    assert!(rt; place_behind(&rt, lines, 3)? == None);
     Ok(())
 }

@@ -1,9 +1,10 @@
 use Rattle.std.proofs.Common.{◌≡◌, subst}
 use Rattle.monk_judge.specs.declared.report.Report.{Report}
+use Rattle.monk_judge.specs.Holding.{NamesLastTaking}
 use Rattle.monk_judge.specs.Reports.{IsReport}
 use Rattle.monk_judge.specs.Run.{setting}
 use Rattle.monk_judge.specs.Shown.{setting_of}
-use Rattle.monk_judge.proofs.Taking.{report_is}
+use Rattle.monk_judge.proofs.Taking.{misfit_within, report_is}
 use Rattle.monk_judge.proofs.judging.judge_log.Goals as goal
 
 pub returns : goal.returns
@@ -13,16 +14,31 @@ returns g c =
     let v = c.in_ok-judge.judge in
     let same : setting_of v o ≡ setting c.args.seats c.args.conds o
     = λ i. record { seats = opened.many.0 i; conds = opened.many.1 i; object = o } in
+    let taken = c.take_lines-misfit in
+    let seen = taken.result.0 in
+    let named = subst (λ k. NamesLastTaking k c.last_taking.result) c.fitting.ensures c.last_taking.ensures in
     let r : Report = record {
-      misfit = c.take_lines-misfit.result.1;
-      tally = c.take_lines-misfit.result.0;
-      holder = c.lock.result;
+      misfit = taken.result.1;
+      tally = record {
+        served = seen.tally.served;
+        passed = seen.tally.passed;
+        spurious = seen.tally.spurious;
+        first_spurious = seen.tally.first_spurious;
+        unheard = seen.tally.unheard;
+        last_unheard = seen.tally.last_unheard;
+        overtaken = c.many.result;
+        again = c.again.result;
+        first_not_again = c.first_not_again.result;
+      };
+      holder = c.holder.result;
       asleep = c.asleep.result;
       woken = c.woken.result;
+      missed = seen.missed.line;
     } in
-    let report : IsReport (setting_of v o) v.data_now c.args.lines.now r = report_is (setting_of v o) v.data_now
-    c.args.lines.now c.take_lines-misfit.result.1 c.take_lines-misfit.result.0
-    c.take_lines-misfit.new.judge c.lock.result c.asleep.result c.woken.result c.take_lines-misfit.ensures
-    c.lock.ensures c.asleep.ensures c.woken.ensures in
-    subst (λ m. IsReport m (g.T.Guarded.state c.args.object) c.args.lines.now r) same
-    (subst (λ d. IsReport (setting_of v o) d c.args.lines.now r) opened.many.3 report)
+    let report : IsReport (setting_of v o) v.data_now c.args.lines.now c.args.means.now r = report_is (setting_of v o)
+    v.data_now c.args.lines.now c.args.means.now taken.new.judge taken.result.1
+    seen.tally c.lock.result c.last_taking.result c.holder.result c.asleep.result c.woken.result c.many.result
+    c.again.result c.first_not_again.result seen.missed.line taken.ensures named c.lock.ensures c.holder.ensures
+    c.asleep.ensures c.woken.ensures in
+    subst (λ m. IsReport m (g.T.Guarded.state c.args.object) c.args.lines.now c.args.means.now r) same
+    (subst (λ d. IsReport (setting_of v o) d c.args.lines.now c.args.means.now r) opened.many.3 report)

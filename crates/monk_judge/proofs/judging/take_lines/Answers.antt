@@ -7,8 +7,8 @@ pub loop-index-init : goal.loop-index-init
 loop-index-init g c =
     let v = c.args.judge.now in
     let o = g.T.Guarded.meaning in
-    taken_opening o (setting_of v o) v.data_now c.args.lines.now v _ refl c.requires.seats c.requires.opening
-    (record { served = refl; passed = refl; spurious = refl; unheard = refl; first = refl; last = refl })
+    taken_opening o (setting_of v o) v.data_now c.args.lines.now c.args.means.now v _ _ refl c.requires.seats c.requires.opening
+    (record { served = refl; passed = refl; spurious = refl; unheard = refl; first = refl; last = refl }) refl refl
 
 pub loop-index-preserved : goal.loop-index-preserved
 loop-index-preserved g c =
@@ -16,9 +16,9 @@ loop-index-preserved g c =
     let o = g.T.Guarded.meaning in
     let lt : c.loop-index.index < length c.args.lines.now = omega arith in
     let more = c.line-in-Ok.ensures in
-    taken_next o (setting_of v o) v.data_now c.args.lines.now c.args.ends.now c.loop-index.index c.loop-index.judge
+    taken_next o (setting_of v o) v.data_now c.args.lines.now c.args.means.now c.args.ends.now c.loop-index.index c.loop-index.judge
     c.line.new.self
-    c.loop-index.seen.tally c.line-in-Ok.new.self c.in-Ok.told lt c.requires.ends c.loop-index.invariant
+    c.loop-index.seen.tally c.line-in-Ok.new.self c.loop-index.seen.missed c.look_at.new.self c.in-Ok.told lt c.requires.ends c.loop-index.invariant
     (c.in-Ok.ensures {u = tt})
     (record {
       served = more.served;
@@ -29,14 +29,15 @@ loop-index-preserved g c =
       last = more.last;
       room = more.room;
     })
+    c.look_at.ensures
 
 pub returns-in-Err : goal.returns-in-Err
 returns-in-Err g c =
     let v = c.args.judge.now in
     let o = g.T.Guarded.meaning in
     let lt : c.loop-index.index < length c.args.lines.now = omega arith in
-    taken_stop o (setting_of v o) v.data_now c.args.lines.now c.loop-index.index c.loop-index.judge c.line.new.self
-    c.loop-index.seen.tally
+    taken_stop o (setting_of v o) v.data_now c.args.lines.now c.args.means.now c.loop-index.index c.loop-index.judge c.line.new.self
+    c.loop-index.seen.tally c.loop-index.seen.missed
     _ lt c.loop-index.invariant (c.in-Err.ensures {u = tt}) refl
 
 pub returns : goal.returns
@@ -44,5 +45,5 @@ returns g c =
     let v = c.args.judge.now in
     let o = g.T.Guarded.meaning in
     let all : length c.args.lines.now ≤ c.loop-index.index = omega arith in
-    taken_all o (setting_of v o) v.data_now c.args.lines.now c.loop-index.index c.loop-index.judge
-    c.loop-index.seen.tally all c.loop-index.invariant
+    taken_all o (setting_of v o) v.data_now c.args.lines.now c.args.means.now c.loop-index.index c.loop-index.judge
+    c.loop-index.seen.tally c.loop-index.seen.missed all c.loop-index.invariant

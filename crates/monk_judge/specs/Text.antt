@@ -1,0 +1,19 @@
+-- The text of a run
+use Rattle.std.specs.Prelude.{ℕ, List, ◌++◌, Some, None, codes}
+use Rattle.std.specs.List.{join_with_byte}
+use Rattle.std.specs.Fmt.{decimal}
+use Rattle.monk_logs.specs.Log.{log_words}
+use Rattle.monk_logs.specs.declared.text.line.LogLine.{LogLine}
+use Rattle.monk_judge.specs.declared.step.Step.{Step}
+use Rattle.monk_judge.specs.declared.step.Step.TheVariants.{Tells, RunsOut, WakesUnasked}
+
+-- a line as in its log, without its end
+abbrev pub line_text : LogLine → List ℕ
+line_text l = join_with_byte 32 (log_words l)
+
+-- the line of a step, without its end
+abbrev pub step_text : Step → List ℕ
+step_text (Tells l None) = line_text l
+step_text (Tells l (Some s)) = line_text l ++ codes " wakes " ++ decimal s
+step_text (RunsOut s) = codes "out " ++ decimal s
+step_text (WakesUnasked s) = codes "wake " ++ decimal s
