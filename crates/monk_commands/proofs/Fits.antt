@@ -24,6 +24,11 @@ use Rattle.monk_audit.specs.declared.verdict.Verdict.TheVariants.{Legal, Forbidd
 use Rattle.monk_commands.specs.Answer.{too_big}
 use Rattle.monk_commands.specs.Fitted.{IsFitText, fit_line, fit_lines, fit_of, fit_reading, fits_some, is_fit, verdict_under}
 use Rattle.monk_audit.specs.Under.{under}
+use Rattle.monk_commands.specs.FitAnswered.{IsFitAnswer, IsHistoryFit}
+use Rattle.monk_commands.specs.LogAnswered.{is_log_text}
+use Rattle.monk_commands.specs.declared.fit_form.FitForm.{FitForm}
+use Rattle.monk_commands.specs.declared.question.Question.{Question}
+use Rattle.std.specs.Prelude.{IfSome, ◌↔◌, Option, Some, None}
 use Rattle.monk_commands.specs.Legal.{IsTextOf}
 
 -- one of a list that passes the test
@@ -157,3 +162,16 @@ status_most (Err f) = omega arith
 
 pub statuses : (status : ℕ) (bytes : List ℕ) → status ≡ (fit_of bytes).status → status ≤ 2
 statuses status bytes h = subst (λ n. n ≤ 2) (sym h) (status_most (text_at (2 ^ 25) bytes))
+
+-- of all that a reader had, if it is a history and no kind is named
+pub fits_known : (form : FitForm) (q : Question) (known : Option (List ℕ)) (bytes : List ℕ) (given status : ℕ)
+    (text : List ℕ)
+    → IfSome known (λ input. bytes ≡ input) → IsFitAnswer form q bytes given text → status ≡ given
+    → IfSome known (λ input. is_log_text input ≡ false → q.kind ≡ None → (status ≡ 0) ↔ IsFitText input)
+fits_known form q None bytes given status text same answer is = tt
+fits_known form q (Some input) bytes given status text same answer is =
+    subst (λ (b : List ℕ). is_log_text b ≡ false → q.kind ≡ None → (status ≡ 0) ↔ IsFitText b) same
+    (λ history none.
+    let told : status ≡ (fit_of bytes).status = is ∙ (subst
+    (λ (k : Option KindName). IsHistoryFit k q.name.now bytes given text) none (answer.history history)).0 in
+    (λ zero. history_read bytes (sym told ∙ zero), λ fits. told ∙ history_again bytes fits))

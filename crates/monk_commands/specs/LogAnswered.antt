@@ -1,9 +1,7 @@
 -- The answer to a log
 use Rattle.std.specs.Prelude.{◌≡◌, ◌==◌, ◌^◌, ℕ, Bool, List, ◌++◌, Option, MatchOption, Result, Ok, Err, codes}
-use Rattle.std.specs.List.{list_any, starts_with}
-use Rattle.std.specs.Str.{bytes_eq}
+use Rattle.std.specs.List.{starts_with}
 use Rattle.monk_kinds.specs.declared.name.KindName.{KindName}
-use Rattle.monk_history.specs.Text.Lines.{lines_of}
 use Rattle.monk_history.specs.declared.text.fault.ReadFault.{ReadFault}
 use Rattle.monk_judge.specs.declared.waits_for.WaitsFor.{WaitsFor}
 use Rattle.monk_logs.specs.Log.{LogHeading}
@@ -21,10 +19,6 @@ use Rattle.monk_commands.specs.declared.question.Question.{Question}
 -- a text whose first word is that of a log
 abbrev pub is_log_text : List ℕ → Bool
 is_log_text input = starts_with (λ (a b : ℕ). a == b) input (codes "log ")
-
--- whether a line of the file beside a log says that its program ended by itself
-abbrev pub has_ended : List ℕ → Bool
-has_ended beside = list_any (λ l. bytes_eq l (codes "ended by itself")) (lines_of beside)
 
 -- a text begins with that one
 pub record BeginsWith (front text : List ℕ) : Type 0 where
@@ -65,7 +59,7 @@ IsLogAnswer view k means ended h lines status text =
 -- the answer to what was read as a log
 abbrev pub IsLogReading : LogView → Question → Result Log ReadFault → ℕ → List ℕ → Type 0
 IsLogReading view q (Ok l) status text =
-    IsLogAnswer view q.kind q.means.now (has_ended q.beside.now) l.0 l.1 status text
+    IsLogAnswer view q.kind q.means.now q.has_ended l.0 l.1 status text
 IsLogReading view q (Err f) status text = (status ≡ 2) × Says view (unreadable f).text text
 
 -- the answer to the text of a log

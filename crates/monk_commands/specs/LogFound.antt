@@ -34,7 +34,7 @@ wrong_seat (Some f) lines = seat_or_0 (option_map line_seat (slice_get lines f.l
 -- the report tells of a log with that header what it is to tell
 abbrev pub IsReportOf : List WaitsFor → LogHeading → List LogLine → Report → Type 0
 IsReportOf means h lines r =
-    IsReport (setting h.seats h.conds (meaning_named h.object)) (opening_named h.object h.size) lines r
+    IsReport (setting h.seats h.conds (meaning_named h.object)) (opening_named h.object h.size) lines means r
 
 -- it is found of the log of a program that has ended by itself or hasn't
 pub record IsFinding (means : List WaitsFor) (ended : Bool) (h : LogHeading) (lines : List LogLine)
@@ -43,7 +43,7 @@ pub record IsFinding (means : List WaitsFor) (ended : Bool) (h : LogHeading) (li
   pub crossed : f.crossed ≡ crossed_of lines
   pub seats : f.seats ≡ h.seats
   pub wrong : f.wrong_seat ≡ wrong_seat f.report.misfit lines
-  pub ended : f.has_ended ≡ ended
+  pub is_ended : f.has_ended ≡ ended
 
 -- ---- the status
 
@@ -168,13 +168,20 @@ enough_overtaken = 8
 abbrev pub never_again : ℕ → ℕ → Bool
 never_again overtaken again = again == 0 && nat_le enough_overtaken overtaken
 
--- that of the threads that were overtaken on their way back none waited again
+-- that none of so many threads that were overtaken waited again
+abbrev pub overtaken_words : ℕ → List ℕ
+overtaken_words n = codes "; never waits again (0 of " ++ (decimal n ++ codes " overtaken)")
+
+-- these words, with the line of the first
+abbrev pub with_first : List ℕ → ℕ → List ℕ
+with_first words k = words ++ (codes ", first at " ++ decimal (number k))
+
+-- the same, if there are enough of them, and none waited again
 abbrev pub never_words : Finding → Option ℕ → List ℕ
 never_words f None = []
 never_words f (Some k) =
     if never_again f.report.tally.overtaken f.report.tally.again
-    then codes "; never waits again (0 of " ++ (decimal f.report.tally.overtaken ++ (codes " overtaken), first at "
-    ++ decimal (number k)))
+    then with_first (overtaken_words f.report.tally.overtaken) k
     else []
 
 -- what is counted of signals

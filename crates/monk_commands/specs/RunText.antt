@@ -8,7 +8,7 @@ use Rattle.monk_history.specs.declared.text.fault.ReadFault.{ReadFault}
 use Rattle.monk_judge.specs.Blame.{blame_word}
 use Rattle.monk_judge.specs.Reports.{IsRunOf}
 use Rattle.monk_judge.specs.Run.{setting}
-use Rattle.monk_judge.specs.StepWords.{step_words}
+use Rattle.monk_judge.specs.Text.{step_text}
 use Rattle.monk_judge.specs.declared.misfit.Misfit.{Misfit}
 use Rattle.monk_judge.specs.declared.run.Run.{Run}
 use Rattle.monk_judge.specs.declared.step.Step.{Step}
@@ -28,7 +28,7 @@ run_heading h =
 
 -- the line of a step
 abbrev pub step_line : Step → List ℕ
-step_line step = step_words step ++ codes "\n"
+step_line step = step_text step ++ codes "\n"
 
 -- the text of a run
 abbrev pub run_text : LogHeading → List Step → List ℕ

@@ -84,7 +84,7 @@ fn answer_to_text(
     question: Question<'_>,
     bytes: &[u8],
 ) -> Result<LineAnswer, StreamFault>
-    ensures answer { IfOk result (λ a. IsExplainAnswer question bytes.now a.status (string_bytes a.text)) }
+    ensures answer { IfOk result (λ a. IsExplainAnswer question.entry bytes.now a.status (string_bytes a.text)) }
     ensures status { IfOk result (λ a. a.status ≤ 2) }
     ensures no_file { IsErrOf result StreamFault.File → ⊥ }
 {
@@ -131,7 +131,7 @@ pub fn explain_stream<R: Read, W: Write>(
 
     // What is written, and its status, are the explanation of what the reader had.
     ensures answer { IfOk result
-        (HasAnswered (IsExplainAnswer question) (R.remaining (inner_of reader.old)) (W.contents (inner_of writer.old))
+        (HasAnswered (IsExplainAnswer question.entry) (R.remaining (inner_of reader.old)) (W.contents (inner_of writer.old))
         (W.contents (inner_of writer.new))) }
     ensures statuses { IfOk result (λ status. status ≤ 2) }
     ensures outcome { IsStreamOutcome R.remaining reader.old reader.new writer.old writer.new result }

@@ -166,7 +166,7 @@ fn fit_history(
     bytes: &[u8],
 ) -> Result<LineAnswer, StreamFault>
     ensures answer { IfOk result
-        (λ a. answered.IsHistoryFit question.kind question.name.now bytes.now a.status (string_bytes a.text)) }
+        (λ a. answered.IsHistoryFit question.entry.kind question.entry.name.now bytes.now a.status (string_bytes a.text)) }
     ensures status { IfOk result (λ a. a.status ≤ 2) }
     ensures no_file { IsErrOf result StreamFault.File → ⊥ }
 {
@@ -183,7 +183,7 @@ fn fit_log(
     question: Question<'_>,
     bytes: &[u8],
 ) -> Result<LineAnswer, StreamFault>
-    ensures answer { IfOk result (λ a. answered.IsLogFit form question bytes.now a.status (string_bytes a.text)) }
+    ensures answer { IfOk result (λ a. answered.IsLogFit form question.entry bytes.now a.status (string_bytes a.text)) }
     ensures status { IfOk result (λ a. a.status ≤ 2) }
     ensures no_file { IsErrOf result StreamFault.File → ⊥ }
 {
@@ -203,7 +203,7 @@ fn fit_text(
     question: Question<'_>,
     bytes: &[u8],
 ) -> Result<LineAnswer, StreamFault>
-    ensures answer { IfOk result (λ a. answered.IsFitAnswer form question bytes.now a.status (string_bytes a.text)) }
+    ensures answer { IfOk result (λ a. answered.IsFitAnswer form question.entry bytes.now a.status (string_bytes a.text)) }
     ensures status { IfOk result (λ a. a.status ≤ 2) }
     ensures no_file { IsErrOf result StreamFault.File → ⊥ }
 {
@@ -252,12 +252,12 @@ pub fn fit_stream<R: Read, W: Write>(
 
     // What is written, and its status, are the answer to what the reader had.
     ensures answer { IfOk result
-        (HasAnswered (answered.IsFitAnswer form question) (R.remaining (inner_of reader.old))
+        (HasAnswered (answered.IsFitAnswer form question.entry) (R.remaining (inner_of reader.old))
         (W.contents (inner_of writer.old)) (W.contents (inner_of writer.new))) }
     // Of a history the status is 0 exactly where it is legal under one of the kinds, if none is named.
     ensures fits { IfOk result
         (λ status. IfSome (R.remaining (inner_of reader.old))
-        (λ input. is_log_text input ≡ false → question.kind ≡ None → (status ≡ 0) ↔ IsFitText input)) }
+        (λ input. is_log_text input ≡ false → question.entry.kind ≡ None → (status ≡ 0) ↔ IsFitText input)) }
     ensures statuses { IfOk result (λ status. status ≤ 2) }
     ensures outcome { IsStreamOutcome R.remaining reader.old reader.new writer.old writer.new result }
 {

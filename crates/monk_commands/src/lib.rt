@@ -57,6 +57,7 @@ pub use hasty_running::hasty_stream;
 pub use hint::{Hint, hint_for};
 pub use line_form::LineSet;
 pub use line_hint::{LineHint, line_hint_for};
+pub use logs::beside::ended_by_itself;
 pub use logs::completing::complete_run_stream;
 pub use option_hint::{OptionHint, option_hint_for};
 pub use playing::play_stream;

@@ -15,4 +15,7 @@ pub struct Question<'a> {
     pub name: &'a str,
     /// What stands in the file beside a log that its recorder wrote; empty if there is none.
     pub beside: &'a [u8],
+    /// Whether the program of the log ended by itself ([`ended_by_itself`](crate::ended_by_itself)). Then it isn't
+    /// stuck, so a thread that holds the lock at its end is no fault.
+    pub has_ended: bool,
 }

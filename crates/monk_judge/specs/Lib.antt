@@ -12,4 +12,3 @@ pub mod Steps
 pub mod Text
 pub mod Reports
 pub mod Blame
-pub mod StepWords

@@ -2,7 +2,7 @@
 
 use super::jobs::{Job, are_answered};
 use super::questions::{ASKED, FIT};
-use monk_commands::{FitForm, Question, Task};
+use monk_commands::{FitForm, Question, Task, ended_by_itself};
 use monk_judge::WaitsFor;
 use monk_kinds::KindName;
 use std::test::Fail;
@@ -20,7 +20,7 @@ const FOR_AN_ITEM: Task<'static> = Task::Fit(
 const OF_AN_ENDED_PROGRAM: Task<'static> = Task::Fit(
     FitForm::Words,
     Question {
-        beside: b"seat 0 main\nended by itself\n",
+        has_ended: true,
         ..ASKED
     },
 );
@@ -131,6 +131,13 @@ static FITS: [Job<'static>; 13] = [
         answer: b"a.log: fits; free; served 8, passed 8; never waits again (0 of 8 overtaken), first at 9\n",
     },
 ];
+
+#[test]
+fn programs_that_end_by_themselves(rt: HostRuntime) {
+    assert!(rt; ended_by_itself(b"seat 0 main\nended by itself\nsite 1 buffer.c:29\n"));
+    assert!(rt; !ended_by_itself(b"seat 0 main\nended by a signal\n"));
+    assert!(rt; !ended_by_itself(b""));
+}
 
 #[test]
 fn logs_fit(rt: HostRuntime) -> Result<(), Fail> {

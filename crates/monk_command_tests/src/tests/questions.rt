@@ -8,6 +8,7 @@ pub(crate) const ASKED: Question<'static> = Question {
     means: &[],
     name: "a.log",
     beside: &[],
+    has_ended: false,
 };
 
 /// A finding of it in words.

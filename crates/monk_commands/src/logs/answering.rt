@@ -1,6 +1,7 @@
 //! The answer to a log.
 
-ghost use Rattle.std.specs.Prelude.{◌≡◌, ◌≤◌, ◌^◌, IfOk, IsErrOf, length, string_bytes};
+ghost use Rattle.std.specs.Prelude.{◌≡◌, ◌≢◌, ◌≤◌, ◌^◌, IfOk, IsErrOf, length, string_bytes};
+ghost use Rattle.monk_history.specs.Text.Faults.{memory};
 ghost use Rattle.monk_object.specs.Names.{most};
 ghost use Rattle.monk_commands.specs.Answer.{unreadable};
 ghost use Rattle.monk_commands.specs.LogAnswered as answered;
@@ -9,7 +10,6 @@ ghost use Rattle.monk_commands.specs.LogFound.{IsFinding};
 
 use crate::answer::{LineAnswer, unreadable};
 use crate::fault::StreamFault;
-use crate::logs::beside::has_ended;
 use crate::logs::explanation::explanation;
 use crate::logs::finding::Finding;
 use crate::logs::finding_json::{fault_json, finding_json};
@@ -105,12 +105,11 @@ fn judged(
 ) -> Result<LineAnswer, AllocError>
     requires few { length lines.now ≤ 2 ^ 25 }
     requires size { header.now.size ≤ most header.now.object }
-    ensures answer { IfOk result (λ a. answered.IsJudged view question.means.now (answered.has_ended question.beside.now)
+    ensures answer { IfOk result (λ a. answered.IsJudged view question.entry.means.now question.entry.has_ended
         header.now lines.now a.status (string_bytes a.text)) }
     ensures status { IfOk result (λ a. a.status ≤ 2) }
 {
-    let has_ended = has_ended(question.beside);
-    let finding = finding(alloc, question.means, has_ended, header, lines)?;
+    let finding = finding(alloc, question.means, question.has_ended, header, lines)?;
     let text = told(alloc, view, question, header, lines, &finding)?;
     Ok(LineAnswer {
         status: finding.status(),
@@ -127,8 +126,8 @@ fn answer_to_read(
     lines: &[LogLine],
 ) -> Result<LineAnswer, AllocError>
     requires few { length lines.now ≤ 2 ^ 25 }
-    ensures answer { IfOk result (λ a. answered.IsLogAnswer view question.kind question.means.now
-        (answered.has_ended question.beside.now) header.now lines.now a.status (string_bytes a.text)) }
+    ensures answer { IfOk result (λ a. answered.IsLogAnswer view question.entry.kind question.entry.means.now
+        question.entry.has_ended header.now lines.now a.status (string_bytes a.text)) }
     ensures status { IfOk result (λ a. a.status ≤ 2) }
 {
     match LogRefusal::of(question.kind, question.means, header, lines) {
@@ -148,7 +147,7 @@ fn answer_to_fault(
     fault: ReadFault,
 ) -> Result<LineAnswer, StreamFault>
     ensures answer { IfOk result
-        (λ a. (a.status ≡ 2) × answered.Says view (unreadable fault).text (string_bytes a.text)) }
+        (λ a. (fault ≢ memory) × (a.status ≡ 2) × answered.Says view (unreadable fault).text (string_bytes a.text)) }
     ensures status { IfOk result (λ a. a.status ≤ 2) }
     ensures no_file { IsErrOf result StreamFault.File → ⊥ }
 {
@@ -165,7 +164,7 @@ pub(crate) fn answer_to_log(
     bytes: &[u8],
 ) -> Result<LineAnswer, StreamFault>
     ensures answer { IfOk result
-        (λ a. answered.IsAnswerToLog view question bytes.now a.status (string_bytes a.text)) }
+        (λ a. answered.IsAnswerToLog view question.entry bytes.now a.status (string_bytes a.text)) }
     ensures status { IfOk result (λ a. a.status ≤ 2) }
     ensures no_file { IsErrOf result StreamFault.File → ⊥ }
 {

@@ -1,21 +1,15 @@
 //! What stands in the file beside a log.
 
-ghost use Rattle.std.specs.Prelude.{◌≡◌, codes};
-ghost use Rattle.std.specs.List.{list_any};
-ghost use Rattle.std.specs.Str.{bytes_eq};
-ghost use Rattle.monk_history.specs.Text.Lines.{lines_of};
-
-/// The line with which a recorder says that the program ended by itself.
+/// The row with which a recorder says that the program ended by itself.
 const ENDED: &[u8] = b"ended by itself";
 
-/// Whether the program ended by itself: a line of the file says so.
-pub(crate) fn has_ended(beside: &[u8]) -> bool
-    ensures { result ≡ list_any (λ l. bytes_eq l (codes "ended by itself")) (lines_of beside.now) }
-{
-    for line in beside.split(|byte| *byte == b'\n') {
-        if line == ENDED {
-            return true;
-        }
-    }
-    false
+/// Whether the program of a log ended by itself: a row of the file beside the log says so.
+///
+/// # Cost
+///
+/// One pass over the file.
+pub fn ended_by_itself(beside: &[u8]) -> bool {
+    beside
+        .split(|byte| *byte == b'\n')
+        .any(|row| row == ENDED)
 }

@@ -2,7 +2,7 @@
 
 ghost use Rattle.std.specs.Prelude.{◌≡◌, ◌≤◌, ◌^◌, false, length, IfOk, IsErrOf, string_bytes};
 ghost use Rattle.monk_history.specs.Text.Device.{inner_of, has_failed};
-ghost use Rattle.monk_commands.specs.RunText.{IsRunAnswer, IsRunOrMisfit, misfit_line};
+ghost use Rattle.monk_commands.specs.RunText.{IsRunAnswer, IsRunGiven, IsRunOrMisfit, misfit_line};
 ghost use Rattle.monk_commands.specs.Streams.{HasAnswered, IsStreamOutcome};
 
 use crate::answer::{LineAnswer, put, too_big, unreadable};
@@ -12,7 +12,7 @@ use crate::logs::judging::run;
 use crate::logs::run_text::run_text;
 use crate::logs::verdict_words::number;
 use monk_history::Device;
-use monk_judge::Misfit;
+use monk_judge::{Misfit, Run};
 use monk_logs::{LogHeader, LogLine, read_log};
 use std::alloc::{AllocError, Global};
 use std::io::{Read, Write};
@@ -23,6 +23,23 @@ fn misfit_line(alloc: Global, misfit: Misfit) -> Result<String, AllocError>
 {
     let (line, word) = (number(misfit.line), misfit.why.text());
     Ok(format!(in alloc; "misfit at {line}: {word}\n")?)
+}
+
+/// The text of the run, or the line of its misfit.
+fn given(alloc: Global, header: &LogHeader, run: &Run) -> Result<LineAnswer, AllocError>
+    ensures answer { IfOk result (λ a. IsRunGiven header.now run.now a.status (string_bytes a.text)) }
+    ensures status { IfOk result (λ a. a.status ≤ 2) }
+{
+    match run.misfit {
+        None => Ok(LineAnswer {
+            status: 0,
+            text: run_text(alloc, header, &run.steps)?,
+        }),
+        Some(misfit) => Ok(LineAnswer {
+            status: 1,
+            text: misfit_line(alloc, misfit)?,
+        }),
+    }
 }
 
 /// The answer to a log that was read.
@@ -40,11 +57,7 @@ fn answer_to_log(
         return too_big(alloc);
     }
     let run = run(alloc, header, lines)?;
-    let (status, text) = match run.misfit {
-        None => (0, run_text(alloc, header, &run.steps)?),
-        Some(misfit) => (1, misfit_line(alloc, misfit)?),
-    };
-    Ok(LineAnswer { status, text })
+    Ok(given(alloc, header, &run)?)
 }
 
 /// The answer to a text.

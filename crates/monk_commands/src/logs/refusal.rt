@@ -31,12 +31,7 @@ fn is_act(line: LogLine) -> bool
 fn has_act(lines: &[LogLine]) -> bool
     ensures { result ≡ list_any refused.is_act lines.now }
 {
-    for line in lines {
-        if is_act(*line) {
-            return true;
-        }
-    }
-    false
+    lines.iter().any(|line| is_act(*line))
 }
 
 /// The kind that is named, if it is another than NPNB.

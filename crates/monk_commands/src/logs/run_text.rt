@@ -17,12 +17,20 @@ fn heading(alloc: Global, header: &LogHeader) -> Result<String, AllocError>
     Ok(format!(in alloc; "run NPNB {seats} {conds} {object} {size}\n")?)
 }
 
+/// Puts the line of a step behind the page.
+fn put_step(page: &mut String, step: Step) -> Result<(), AllocError>
+    ensures { OnOk result (string_bytes page.new ≡ string_bytes page.old ++ step_line step) }
+{
+    write!(page, "{step}\n")?;
+    Ok(())
+}
+
 /// Puts the lines of the steps behind the page.
 fn put_steps(page: &mut String, steps: &[Step]) -> Result<(), AllocError>
     ensures { OnOk result (string_bytes page.new ≡ string_bytes page.old ++ flat_map step_line steps.now) }
 {
     for step in steps {
-        write!(page, "{step}\n")?;
+        put_step(page, *step)?;
     }
     Ok(())
 }

@@ -46,20 +46,33 @@ fn crossed_words(alloc: Global, crossed: Option<Crossed>) -> Result<String, Allo
     }
 }
 
-/// That of the threads that were overtaken on their way back none waited again.
-fn never_words(alloc: Global, finding: &Finding) -> Result<String, AllocError>
-    ensures { IfOk result (λ text. string_bytes text ≡ found.never_words finding.now
-        finding.now.report.tally.first_not_again) }
+/// That none of so many threads that were overtaken on their way back waited again.
+fn overtaken_words(alloc: Global, overtaken: u64) -> Result<String, AllocError>
+    ensures { IfOk result (λ text. string_bytes text ≡ found.overtaken_words overtaken) }
 {
-    let overtaken = finding.report.tally.overtaken;
-    match finding.report.tally.first_not_again {
-        Some(first) if finding.never_waits_again() => {
-            let line = number(first);
-            Ok(format!(in alloc;
-                "; never waits again (0 of {overtaken} overtaken), first at {line}"
-            )?)
-        }
-        Some(_) | None => Ok(String::new(alloc)),
+    Ok(format!(in alloc; "; never waits again (0 of {overtaken} overtaken)")?)
+}
+
+/// These words, with the line of the first.
+fn with_first(alloc: Global, words: &str, first: usize) -> Result<String, AllocError>
+    ensures { IfOk result (λ text. string_bytes text ≡ found.with_first words.now first) }
+{
+    let line = number(first);
+    Ok(format!(in alloc; "{words}, first at {line}")?)
+}
+
+/// The same, if there are enough of them, and none waited again.
+fn never_words(alloc: Global, finding: &Finding, first: Option<usize>) -> Result<String, AllocError>
+    ensures { IfOk result (λ text. string_bytes text ≡ found.never_words finding.now first) }
+{
+    let Some(first) = first else {
+        return Ok(String::new(alloc));
+    };
+    if finding.never_waits_again() {
+        let words = overtaken_words(alloc, finding.report.tally.overtaken)?;
+        with_first(alloc, words.as_str(), first)
+    } else {
+        Ok(String::new(alloc))
     }
 }
 
@@ -80,6 +93,6 @@ pub(crate) fn remark_words(alloc: Global, finding: &Finding) -> Result<String, A
 {
     let missed = placed(alloc, "; missed at ", finding.report.missed)?;
     let crossed = crossed_words(alloc, finding.crossed)?;
-    let never = never_words(alloc, finding)?;
+    let never = never_words(alloc, finding, finding.report.tally.first_not_again)?;
     Ok(format!(in alloc; "{missed}{crossed}{never}")?)
 }
