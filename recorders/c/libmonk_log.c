@@ -375,7 +375,6 @@ static void shake_by(const char *text) {
 
 __attribute__((constructor)) static void start(void) {
     const char *seconds = getenv("MONK_SECONDS");
-    pthread_t thread;
     init();
     process = 1;
     this_process = getpid();
@@ -386,7 +385,7 @@ __attribute__((constructor)) static void start(void) {
     watch_signals();
     shake_by(getenv("MONK_SHAKE"));
     if (seconds)
-        pthread_create(&thread, 0, watch_time, (void *)(long)(atof(seconds) * 1000));
+        end_after(atof(seconds));
 }
 
 __attribute__((destructor)) static void ended(void) { finish(); }

@@ -21,6 +21,7 @@ enum {
     PAGE = 1 << 14,
     LONGEST = 8192,         /* line that is written */
     MILLISECOND = 1000000,  /* in nanoseconds */
+    SECOND = 1000 * MILLISECOND,
     TO_SETTLE = 10,         /* milliseconds for lines that are being written when the program ends */
     HIGH_FILE = 200         /* the number of a file that no program asks for */
 };

@@ -22,6 +22,7 @@ from __future__ import annotations
 import itertools
 import os
 import random
+import signal
 import sys
 import threading
 import time
@@ -67,6 +68,13 @@ def _be_still(is_woken: bool = False) -> None:
 shake: Callable[..., None] = _be_still
 if SEED:
     shake = Shaker(SEED)
+
+
+def start_watch(watch: Callable[..., None], *words: object) -> None:
+    """In a thread that takes no signal: each is meant for a thread of the program's."""
+    before = signal.pthread_sigmask(signal.SIG_BLOCK, signal.valid_signals())
+    threading.Thread(target=watch, args=words, daemon=True).start()
+    signal.pthread_sigmask(signal.SIG_SETMASK, before)
 
 
 class Recorder:
@@ -115,7 +123,7 @@ class Recorder:
 
     def end_after(self, seconds: float, path: str, thing: str = "buffer 1") -> None:
         """For a program that hangs: after so many seconds its log is written into a new file, and it ends with status 124."""
-        threading.Thread(target=self._end_late, args=(seconds, path, thing), daemon=True).start()
+        start_watch(self._end_late, seconds, path, thing)
 
     def _end_late(self, seconds: float, path: str, thing: str) -> None:
         time.sleep(seconds)

@@ -12,7 +12,7 @@ import types
 from typing import Any, Callable
 
 import monk_log
-from monk_log import SEED, STATUS_LATE, Condition, Lock, Recorder, threading_lock, threading_rlock
+from monk_log import SEED, STATUS_LATE, Condition, Lock, Recorder, start_watch, threading_lock, threading_rlock
 
 exit_at_once = os._exit
 
@@ -177,7 +177,7 @@ def run_program(path: str) -> None:
     if signal.getsignal(signal.SIGTERM) == signal.SIG_DFL:
         signal.signal(signal.SIGTERM, end_by_signal(program))
     if seconds := os.environ.get("MONK_SECONDS"):
-        threading.Thread(target=end_late, args=(program, float(seconds)), daemon=True).start()
+        start_watch(end_late, program, float(seconds))
     program.stand_in()
     with open(path, "rb") as file:
         code = compile(file.read(), path, "exec")
