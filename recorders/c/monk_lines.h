@@ -6,18 +6,23 @@
 #include <sys/prctl.h>
 #include <unistd.h>
 
-#include "monk_memory.h"
+#include "monk_sites.h"
 
 enum {
     SEATS = 32, /* threads of one mutex, and its conditions: what the text of a log allows */
     CONDS = 8,
     WORDS = 1 << 22, /* of one log */
     WORDS_AT_FIRST = 64,
-    WORDS_OF_ACT = 4,
+    WORDS_OF_ACT = 5,
     HELD = 64, /* mutexes that a thread holds at once, to know which it locked last */
     NAME_OF_THREAD = 16,
-    VERB_BITS = 8
+    /* the parts of the word of a line, the lowest first: the verb, the seat, the number of a condition, and the place */
+    SEAT_AT = 3,
+    NUMBER_AT = SEAT_AT + 5,
+    SITE_AT = NUMBER_AT + 8,
+    BITS = 32
 };
+_Static_assert(SITE_AT + SITE_BITS <= BITS, "a line is one word");
 
 enum verb { ENTER, RESUME, LAPSE, LEAVE, WAIT, SIGNAL, BROADCAST, ACT };
 
@@ -48,17 +53,18 @@ struct condition {
 struct outside {
     struct thread *thread;
     uint32_t place;
-    uint16_t verb, number;
+    uint8_t verb, number;
+    uint16_t site;
 };
 
 /* The lines of a mutex. Changed by the thread that holds the mutex, but for what is atomic, and what has a lock. A line is one
-   word: verb, seat and condition, each of 8 bits. An act has its code there, and three words more. */
+   word. An act has four words more: its code, what it was given, and what it replied. */
 struct log {
     struct known known;
     struct log *next;
     uint32_t *words;
     atomic_size_t length;
-    size_t room;
+    size_t room, end; /* where the lines end that are written */
     struct thread *seats[SEATS];
     int nconds, nseats, latest, latest_cond; /* the seat and the condition that were asked for last */
     int waits, waiting;            /* how many there were, and are */
@@ -76,6 +82,7 @@ struct monitor {
     _Atomic(struct thread *) owner;
     _Atomic(struct log *) log;
     int times;           /* how often its owner has locked it */
+    unsigned entered_at; /* and where it did so first */
     atomic_int process;  /* the one that it was last locked in */
     atomic_int lost_one; /* a condition of it was destroyed */
 };
@@ -176,34 +183,34 @@ static struct known *replace(place *at, void *old, void *made, struct pool *pool
     return old;
 }
 
-SELDOM static struct monitor *meet_mutex(place *at, void *old, const void *mutex, const void *caller) {
-    struct known *it = replace(at, old, take(&monitors, mutex, caller), &monitors);
+SELDOM static struct monitor *meet_mutex(place *at, void *old, const void *mutex, unsigned site) {
+    struct known *it = replace(at, old, take(&monitors, mutex, site), &monitors);
     return it && it->address == mutex ? (struct monitor *)it : 0;
 }
 
 /* Null where there is no memory. */
-static inline struct monitor *monitor_of(const void *mutex, const void *caller) {
+static inline struct monitor *monitor_of(const void *mutex, unsigned site) {
     place *at = place_of(mutex);
     if (!at)
         return 0;
     struct known *there = atomic_load_explicit(at, memory_order_acquire);
-    return there && there->address == mutex ? (struct monitor *)there : meet_mutex(at, there, mutex, caller);
+    return there && there->address == mutex ? (struct monitor *)there : meet_mutex(at, there, mutex, site);
 }
 
-SELDOM static struct condition *meet_condition(place *at, void *old, const void *cond, const void *caller) {
-    struct condition *made = take(&conditions, cond, caller);
+SELDOM static struct condition *meet_condition(place *at, void *old, const void *cond, unsigned site) {
+    struct condition *made = take(&conditions, cond, site);
     if (made)
         made->uses = 1;
     struct known *it = replace(at, old, made, &conditions);
     return it && it->address == cond ? (struct condition *)it : 0;
 }
 
-static inline struct condition *condition_of(const void *cond, const void *caller) {
+static inline struct condition *condition_of(const void *cond, unsigned site) {
     place *at = place_of(cond);
     if (!at)
         return 0;
     struct known *there = atomic_load_explicit(at, memory_order_acquire);
-    return there && there->address == cond ? (struct condition *)there : meet_condition(at, there, cond, caller);
+    return there && there->address == cond ? (struct condition *)there : meet_condition(at, there, cond, site);
 }
 
 /* A mutex that is made or destroyed: what was known of it is of another one. */
@@ -324,24 +331,31 @@ SELDOM static int grow(struct log *log) {
 static inline int has_room(struct log *log, size_t more) { return length_of(log) + more <= log->room || grow(log); }
 
 /* What stands before a line that isn't written is a log too. */
-static inline void put(struct log *log, struct thread *thread, enum verb verb, unsigned number) {
+static inline void put(struct log *log, struct thread *thread, enum verb verb, unsigned number, unsigned site) {
     if (!log || is_stopped(log) || is_closed())
         return;
-    int seat = seat_of(log, thread);
+    unsigned seat = (unsigned)seat_of(log, thread);
     if (!is_stopped(log) && has_room(log, 1))
-        append(log, verb | (unsigned)seat << VERB_BITS | number << 2 * VERB_BITS);
+        append(log, verb | seat << SEAT_AT | number << NUMBER_AT | site << SITE_AT);
 }
 
-static void put_act(struct log *log, struct thread *thread, unsigned code, unsigned arg, unsigned long reply) {
+/* An operation on what a mutex guards, as it is told. */
+struct act {
+    unsigned code, arg, site;
+    unsigned long reply;
+};
+
+static void put_act(struct log *log, struct thread *thread, struct act it) {
     if (!log || is_stopped(log) || !has_room(log, WORDS_OF_ACT))
         return;
     size_t before = length_of(log);
-    put(log, thread, ACT, code);
+    put(log, thread, ACT, 0, it.site);
     if (length_of(log) == before)
         return;
-    append(log, arg);
-    append(log, (uint32_t)reply);
-    append(log, (uint32_t)(reply >> 32));
+    append(log, it.code);
+    append(log, it.arg);
+    append(log, (uint32_t)it.reply);
+    append(log, (uint32_t)(it.reply >> 32));
 }
 
 SELDOM static struct log *new_log(const struct monitor *m) {
@@ -354,7 +368,7 @@ SELDOM static struct log *new_log(const struct monitor *m) {
         *idle = m->known;
         return (struct log *)idle;
     }
-    struct log *log = take(&logs, m->known.address, m->known.caller);
+    struct log *log = take(&logs, m->known.address, m->known.site);
     if (!log)
         return 0;
     log->next = atomic_load(&all_logs);
@@ -392,7 +406,7 @@ SELDOM static struct log *begin_log(struct monitor *m, struct thread *thread) {
         return 0;
     atomic_store(&m->log, log);
     if (atomic_load(&m->owner) == thread)
-        put(log, thread, ENTER, 0);
+        put(log, thread, ENTER, 0, m->entered_at);
     return log;
 }
 

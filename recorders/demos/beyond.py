@@ -50,12 +50,12 @@ def wait_for_signal() -> None:
 
 
 def main(style: str) -> None:
+    if style == "sigwait":
+        wait_for_signal()
     if style == "conds":
         wait_on_each()
     else:
         pass_on(THREADS if style == "threads" else 3)
-    if style == "sigwait":
-        wait_for_signal()
     if style == "hangs":
         queue.Queue[int]().get()
     if style == "lost":
