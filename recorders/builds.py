@@ -122,8 +122,10 @@ UNMODIFIED = {
 
 
 def run(language, style, folder, times):
-    """Runs a demonstration some times; its logs, and what was said on standard error."""
+    """Runs a demonstration some times; its logs, and what was said on standard error. What it wrote before goes."""
     prefix, said = os.path.join(folder, f"{style.replace(' ', '_')}.log"), ""
+    for path in glob.glob(f"{prefix}.*"):
+        os.remove(path)
     if language in WRITERS:
         env = {**os.environ, **shaking(style, 1)}
         subprocess.run([*WRITERS[language](folder, style), prefix, str(times), style], env=env, check=True)

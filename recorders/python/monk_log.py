@@ -4,7 +4,7 @@
     lock = recorder.lock()                  # in place of threading.Lock(); recorder.rlock() of threading.RLock()
     not_full = recorder.condition(lock)     # in place of threading.Condition(lock)
     recorder.act(code, arg, reply)          # while the lock is held, behind an operation on what it guards, if that is to be judged
-    recorder.text("buffer 4")               # the log; the words are the object and its size
+    recorder.write("run", "buffer 4")       # the log, into a new file, and beside it run.names; the words are the object and its size
     recorder.summary()                      # what was seen, in words
 
 `record_queue(queue.Queue(4))` puts a recorder into a queue of the standard library. Each line is written by the thread that holds
@@ -26,7 +26,8 @@ import signal
 import sys
 import threading
 import time
-from typing import Any, Callable
+import types
+from typing import Any, Callable, Iterator
 
 SEATS, CONDITIONS = 32, 8  # of a log
 STATUS_LATE = 124
@@ -70,6 +71,22 @@ if SEED:
     shake = Shaker(SEED)
 
 
+HERE = os.path.dirname(os.path.abspath(__file__))
+# What stands between a program and a line of its log.
+BETWEEN = {__file__, threading.__file__, *(os.path.join(HERE, name) for name in ("monk_log.py", "monk_program.py"))}
+
+
+Site = tuple[str, int]  # a file, and a line of it
+
+
+def site(depth: int = 1) -> Site:
+    """The file and line of the program that is being run. (Where so many frames are passed at once, it takes less time.)"""
+    frame: types.FrameType | None = sys._getframe(depth)
+    while frame and frame.f_code.co_filename in BETWEEN:
+        frame = frame.f_back
+    return (frame.f_code.co_filename, frame.f_lineno) if frame else ("?", 0)
+
+
 def start_watch(watch: Callable[..., None], *words: object) -> None:
     """In a thread that takes no signal: each is meant for a thread of the program's."""
     before = signal.pthread_sigmask(signal.SIG_BLOCK, signal.valid_signals())
@@ -81,11 +98,11 @@ class Recorder:
     """The lines of one monitor."""
 
     def __init__(self) -> None:
-        self._lines: list[tuple[object, ...]] = []
+        self._lines: list[tuple[Site, tuple[object, ...]]] = []  # each with the place from which it comes
         self._seats: dict[int, int] = {}
         self._conditions, self._is_used = 0, False
         self.waits, self.strays, self.stopped = 0, 0, ""
-        self.sites: list[str] = []  # where the lock and its conditions were made
+        self.made_at: list[Site] = []  # the lock and its conditions
         self.names: list[str] = []  # of threads
 
     def lock(self) -> Lock:
@@ -107,8 +124,30 @@ class Recorder:
 
     def text(self, thing: str = "buffer 1") -> str:
         """The log so far. No thread may be active."""
-        first = f"log 1 {len(self._seats)} {min(self._conditions, CONDITIONS)} {thing}"
-        return "".join(" ".join(map(str, line)) + "\n" for line in [(first,), *self._lines])
+        return "".join(f"{row}\n" for row in self._rows(self._lines, thing))
+
+    def _rows(self, lines: list[tuple[Site, tuple[object, ...]]], thing: str) -> Iterator[str]:
+        yield f"log 1 {len(self._seats)} {min(self._conditions, CONDITIONS)} {thing}"
+        yield from (" ".join(map(str, line)) for _, line in lines)
+
+    def _names(self, sites: list[Site], how_it_ended: str) -> Iterator[str]:
+        """What stands beside the log: where the lock and its conditions were made, the threads' names, and the lines' places."""
+        whats = ["lock", *(f"condition {number}" for number in range(len(self.made_at) - 1))]
+        yield from (f"{what} made at {path}:{line}" for what, (path, line) in zip(whats, self.made_at))
+        yield from (f"seat {seat} {name}" for seat, name in enumerate(self.names))
+        yield from [f"ended {how_it_ended}"] * bool(how_it_ended)
+        places = [f"{os.path.basename(path)}:{line}" for path, line in sites]
+        numbers = {place: number for number, place in enumerate(dict.fromkeys(places), 1)}
+        yield from (f"site {number} {place}" for place, number in numbers.items())
+        yield " ".join(["lines", *(str(numbers[place]) for place in places)])
+
+    def write(self, path: str, thing: str = "buffer 1", how_it_ended: str = "") -> None:
+        """The log so far, into a new file, and PATH.names beside it. No thread may be active."""
+        lines = list(self._lines)
+        with open(path, "x") as file:
+            file.writelines(f"{row}\n" for row in self._rows(lines, thing))
+        with open(f"{path}.names", "x", errors="replace") as file:
+            file.writelines(f"{row}\n" for row in self._names([it for it, _ in lines], how_it_ended))
 
     def summary(self) -> str:
         """What was seen, in words."""
@@ -128,8 +167,7 @@ class Recorder:
     def _end_late(self, seconds: float, path: str, thing: str) -> None:
         time.sleep(seconds)
         try:
-            with open(path, "x") as file:
-                file.write(self.text(thing))
+            self.write(path, thing, "after MONK_SECONDS")
             said = self.summary()
         except OSError as fault:
             said = f"no log, since {fault}"
@@ -153,7 +191,7 @@ class Recorder:
             self._seats[thread] = len(self._seats)
             # (current_thread() would make a new one of a thread that is only beginning)
             self.names.append(getattr(threading._active.get(thread), "name", "?"))  # type: ignore[attr-defined]
-        self._lines.append((verb, self._seats[thread], *numbers))
+        self._lines.append((site(3), (verb, self._seats[thread], *numbers)))
         self.waits += verb == "wait"
         self._is_used |= verb not in ("enter", "leave")
         # who came and left before tells nothing, and most locks have no conditions
