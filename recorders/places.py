@@ -2,20 +2,21 @@
 from __future__ import annotations
 
 import os
+import re
 import subprocess
 import sys
 
 import builds
 
-# What stands in the line of a demonstration from which a line of its log comes. A `leave` has no place in Rust. In C it may have that
+# A pattern of the line of a demonstration from which a line of its log comes. A `leave` has no place in Rust. In C it may have that
 # of its function's caller, since an unlock that comes last is jumped to.
 CALLS = {
-    "c": {"enter": "pthread_mutex_lock(", "wait": "pthread_cond_wait(", "signal": "pthread_cond_signal(", "act": "MONK_ACT("},
-    "c++": {"enter": " lock(mutex)", "leave": "}", "wait": "condition.wait(", "signal": "notify_one(", "act": "MONK_ACT("},
-    "python": {"enter": "self.lock", "leave": "self.lock", "wait": "condition.wait(", "signal": ".notify(", "act": "recorder.act("},
-    "java": {"enter": "lock.lock(", "leave": "lock.unlock(", "wait": "condition.await(", "signal": ".signal(", "act": "log.act("},
-    "go": {"enter": "monitor.Lock(", "leave": "monitor.Unlock(", "wait": "cond.Wait(", "signal": "cond.Signal(", "act": "monitor.Act("},
-    "rust": {"enter": "buffer.enter(", "wait": "inside.wait(", "signal": ".notify_one(", "act": "inside.act("},
+    "c": {"enter": "pthread_mutex_lock", "wait": "pthread_cond_wait", "signal": "pthread_cond_signal", "act": "MONK_ACT"},
+    "c++": {"enter": "lock.mutex", "leave": "}|lock.unlock", "wait": "condition.wait", "signal": "notify_one", "act": "MONK_ACT"},
+    "python": {"enter": "self.lock", "leave": "self.lock", "wait": "condition.wait", "signal": "notify", "act": "recorder.act"},
+    "java": {"enter": "lock.lock", "leave": "lock.unlock", "wait": "condition.await", "signal": "[.]signal", "act": "log.act"},
+    "go": {"enter": "monitor.Lock", "leave": "monitor.Unlock", "wait": "cond.Wait", "signal": "cond.Signal", "act": "monitor.Act"},
+    "rust": {"enter": "buffer.enter", "wait": "inside.wait", "signal": "notify_one", "act": "inside.act"},
 }
 SOURCES = {"c": "buffer.c", "c++": "buffer.cc", "python": "buffer.py", "java": "Buffer.java", "go": "buffer.go", "rust": "buffer.rs"}
 
@@ -46,7 +47,7 @@ def misplaced(language: str, path: str) -> str:
         verb = line.split()[0]
         call = calls.get("wait" if verb in ("resume", "lapse") else verb, "")
         name, _, number = place.rpartition(":")
-        if call and (name != source or call not in texts.get(int(number), "")):
+        if call and (name != source or not re.search(call, texts.get(int(number), ""))):
             return f"{path}: {line}: {place}"
     return ""
 
