@@ -70,10 +70,11 @@ static int begins_with(const char *name, const char *beginning) { return !strncm
 
 /* Behind the beginnings of names in C++'s library, and the namespaces within it: what locks, as compilers write it. (Into other functions
    of the headers, as that by which a thread begins, the program's own may have been put.) */
-static const char *const beginnings[] = {"_ZNSt", "_ZNKSt", "3__1", "3_V2"};
+static const char *const beginnings[] = {"_ZNSt", "_ZNKSt", "_ZZNSt", "_ZSt", "3__1", "3_V2", "8__detail"};
 static const char *const lockers[] = {"5mutex", "12__mutex_base", "9__condvar", "11unique_lock", "10lock_guard", "11scoped_lock",
                                       "11timed_mutex", "15recursive_mutex", "21recursive_timed_mutex", "18__timed_mutex_impl",
-                                      "18condition_variable", "22condition_variable_any"};
+                                      "18condition_variable", "22condition_variable_any", "4lock", "8try_lock", "11__lock_impl",
+                                      "15__try_lock_impl"};
 
 static int is_of_headers(const char *name) {
     if (begins_with(name, "_ZL"))
@@ -114,20 +115,22 @@ static void add_headers(const struct image *it) {
     }
 }
 
-/* What the program itself has of C++'s headers, as far as its symbols tell. */
-static void read_program(uintptr_t bias) {
+/* What the program and its own libraries have of C++'s headers, as far as their symbols tell. */
+static int read_object(struct dl_phdr_info *object, size_t unused, void *no_more) {
     struct stat is;
-    int file = open("/proc/self/exe", O_RDONLY | O_CLOEXEC);
+    int file = open(*object->dlpi_name ? object->dlpi_name : "/proc/self/exe", O_RDONLY | O_CLOEXEC);
+    (void)unused, (void)no_more;
     if (file < 0)
-        return;
+        return 0;
     if (!fstat(file, &is)) {
         void *bytes = mmap(0, (size_t)is.st_size, PROT_READ, MAP_PRIVATE, file, 0);
         if (bytes != MAP_FAILED) {
-            add_headers(&(struct image){bytes, (size_t)is.st_size, bias});
+            add_headers(&(struct image){bytes, (size_t)is.st_size, object->dlpi_addr});
             munmap(bytes, (size_t)is.st_size);
         }
     }
     close(file);
+    return 0;
 }
 
 static int look_for_library(struct dl_phdr_info *object, size_t unused, void *no_more) {
@@ -144,20 +147,13 @@ static int look_for_library(struct dl_phdr_info *object, size_t unused, void *no
     return 0;
 }
 
-/* The program itself is the first of all. */
-static int look_at_program(struct dl_phdr_info *object, size_t unused, void *no_more) {
-    (void)unused, (void)no_more;
-    read_program(object->dlpi_addr);
-    return 1;
-}
-
 /* Where the loader can't tell of a frame without a lock, or where a frame isn't laid out so, no caller is asked for. */
 static void look_for_cpp(void) {
 #ifdef __x86_64__
     dl_iterate_phdr(look_for_library, 0);
     if (!is_cpp)
         return;
-    dl_iterate_phdr(look_at_program, 0);
+    dl_iterate_phdr(read_object, 0);
     *(void **)&unwind.backtrace = dlsym(RTLD_DEFAULT, "_Unwind_Backtrace");
     *(void **)&unwind.address = dlsym(RTLD_DEFAULT, "_Unwind_GetIP");
     *(void **)&unwind.end = dlsym(RTLD_DEFAULT, "_Unwind_GetCFA");
