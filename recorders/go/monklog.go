@@ -10,6 +10,7 @@ import (
 	"os"
 	"path/filepath"
 	"runtime"
+	"strconv"
 	"strings"
 	"sync"
 	"sync/atomic"
@@ -23,8 +24,8 @@ const (
 	statusLate = 124
 	// in place of a count
 	ended = -1
-	// between a program and a line of its log
-	frames = 8
+	// which may be the recorder's, and the program's last; those that always are the recorder's
+	frames, callersOfRecorder = 4, 3
 )
 
 func min(one, other int) int {
@@ -47,9 +48,13 @@ type Monitor struct {
 	leftOut int
 }
 
-// line is one of the log, and the place from which it comes.
+// stack is the nearest callers of a function, of which the first that isn't the recorder's is meant.
+type stack [frames]uintptr
+
+// line is one of the log, and from where it comes.
 type line struct {
-	text, site string
+	text    string
+	callers stack
 }
 
 // signal is one by a seat that hadn't the mutex, and how many lines there are before it.
@@ -65,22 +70,27 @@ type Cond struct {
 	number  int
 }
 
+// newLine is a line that comes from where the program runs.
+func newLine(verb string, numbers ...uint64) line {
+	text := []byte(verb)
+	for _, number := range numbers {
+		text = strconv.AppendUint(append(text, ' '), number, 10)
+	}
+	it := line{text: string(text)}
+	runtime.Callers(callersOfRecorder, it.callers[:])
+	return it
+}
+
 var _, own, _, _ = runtime.Caller(0)
 
-// newLine is a line that comes from the program's nearest place.
-func newLine(verb string, numbers ...uint64) line {
-	var text strings.Builder
-	text.WriteString(verb)
-	for _, number := range numbers {
-		fmt.Fprintf(&text, " %d", number)
-	}
-	var callers [frames]uintptr
-	stack := runtime.CallersFrames(callers[:runtime.Callers(1, callers[:])])
-	frame, more := stack.Next()
+// place is FILE:LINE of the nearest caller that is none of the recorder's.
+func (s stack) place() string {
+	callers := runtime.CallersFrames(s[:])
+	frame, more := callers.Next()
 	for frame.File == own && more {
-		frame, more = stack.Next()
+		frame, more = callers.Next()
 	}
-	return line{text.String(), fmt.Sprintf("%s:%d", filepath.Base(frame.File), frame.Line)}
+	return fmt.Sprintf("%s:%d", filepath.Base(frame.File), frame.Line)
 }
 
 // put writes a line: a verb, and the seat and what else belongs to it. What stands before a line that isn't written is a log too.
@@ -258,13 +268,18 @@ func (m *Monitor) Text(count int, object string) string {
 // names is what stands beside the log: the places from which its lines come.
 func names(lines []line) string {
 	var sites, numbers strings.Builder
-	of := map[string]int{}
+	places, of := map[stack]string{}, map[string]int{}
 	for _, it := range lines {
-		if of[it.site] == 0 {
-			of[it.site] = len(of) + 1
-			fmt.Fprintf(&sites, "site %d %s\n", of[it.site], it.site)
+		place, isKnown := places[it.callers]
+		if !isKnown {
+			place = it.callers.place()
+			places[it.callers] = place
 		}
-		fmt.Fprintf(&numbers, " %d", of[it.site])
+		if of[place] == 0 {
+			of[place] = len(of) + 1
+			fmt.Fprintf(&sites, "site %d %s\n", of[place], place)
+		}
+		fmt.Fprintf(&numbers, " %d", of[place])
 	}
 	return sites.String() + "lines" + numbers.String() + "\n"
 }

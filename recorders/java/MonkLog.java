@@ -7,6 +7,7 @@ import java.util.Date;
 import java.util.LinkedHashMap;
 import java.util.List;
 import java.util.Map;
+import java.util.Set;
 import java.util.concurrent.TimeUnit;
 import java.util.concurrent.atomic.AtomicInteger;
 import java.util.concurrent.locks.Condition;
@@ -30,16 +31,23 @@ public final class MonkLog {
 
     private static final int STATUS_LATE = 124;
 
-    private static final StackWalker STACK = StackWalker.getInstance();
+    /** How many frames are looked at first: mostly those of the recorder, and the program's last. */
+    private static final int FRAMES = 6;
 
-    /** A line, and the place from which it comes. */
+    private static final StackWalker STACK = StackWalker.getInstance(Set.of(), FRAMES);
+
+    /** A line, and the frame from which it comes. (Its file and number are only asked for when the log is written.) */
     private static final class Line {
         private final String text;
-        private final String site;
+        private final StackWalker.StackFrame frame;
 
-        private Line(String text, String site) {
+        private Line(String text) {
             this.text = text;
-            this.site = site;
+            frame = STACK.walk(frames -> frames.filter(MonkLog::isOfProgram).findFirst()).orElse(null);
+        }
+
+        private String site() {
+            return frame == null ? "?:0" : frame.getFileName() + ":" + frame.getLineNumber();
         }
     }
 
@@ -52,12 +60,6 @@ public final class MonkLog {
     private static boolean isOfProgram(StackWalker.StackFrame frame) {
         String name = frame.getClassName(), own = MonkLog.class.getName();
         return !name.equals(own) && !name.startsWith(own + "$");
-    }
-
-    /** The file and line of the program that is being run. */
-    private static String site() {
-        return STACK.walk(frames -> frames.filter(MonkLog::isOfProgram).findFirst())
-                .map(frame -> frame.getFileName() + ":" + frame.getLineNumber()).orElse("?");
     }
 
     /** What stands before a line that isn't written is a log too. */
@@ -73,7 +75,7 @@ public final class MonkLog {
             seat = seats.size();
             seats.put(Thread.currentThread(), seat);
         }
-        lines.add(new Line(verb + " " + seat + numbers, site()));
+        lines.add(new Line(verb + " " + seat + numbers));
     }
 
     private void put(String verb, int condition) {
@@ -118,7 +120,7 @@ public final class MonkLog {
         text.append(ended);
         Map<String, Integer> places = new LinkedHashMap<>();
         for (Line line : all) {
-            numbers.append(" " + places.computeIfAbsent(line.site, unused -> places.size() + 1));
+            numbers.append(" " + places.computeIfAbsent(line.site(), unused -> places.size() + 1));
         }
         places.forEach((place, number) -> text.append("site " + number + " " + place + "\n"));
         return text + numbers.toString() + "\n";
