@@ -76,15 +76,23 @@ HERE = os.path.dirname(os.path.abspath(__file__))
 BETWEEN = {__file__, threading.__file__, *(os.path.join(HERE, name) for name in ("monk_log.py", "monk_program.py"))}
 
 
-Site = tuple[str, int]  # a file, and a line of it
+# A line of a log: from where it comes, as code and how far in, and its words. (To ask at once for the line of the source takes longer
+# than all else.)
+Line = tuple[Any, ...]
+WORDS = 2  # where they begin
 
 
-def site(depth: int = 1) -> Site:
-    """The file and line of the program that is being run. (Where so many frames are passed at once, it takes less time.)"""
-    frame: types.FrameType | None = sys._getframe(depth)
-    while frame and frame.f_code.co_filename in BETWEEN:
+def caller(depth: int) -> types.FrameType:
+    """What of the program is being run, so many frames above or more."""
+    frame = sys._getframe(depth)
+    while frame.f_code.co_filename in BETWEEN and frame.f_back:
         frame = frame.f_back
-    return (frame.f_code.co_filename, frame.f_lineno) if frame else ("?", 0)
+    return frame
+
+
+def place_of(code: types.CodeType, offset: int) -> str:
+    numbers = (line for begin, end, line in code.co_lines() if begin <= offset < end)
+    return f"{os.path.basename(code.co_filename)}:{next(numbers, 0) or 0}"
 
 
 def start_watch(watch: Callable[..., None], *words: object) -> None:
@@ -98,11 +106,11 @@ class Recorder:
     """The lines of one monitor."""
 
     def __init__(self) -> None:
-        self._lines: list[tuple[Site, tuple[object, ...]]] = []  # each with the place from which it comes
+        self._lines: list[Line] = []
         self._seats: dict[int, int] = {}
         self._conditions, self._is_used = 0, False
         self.waits, self.strays, self.stopped = 0, 0, ""
-        self.made_at: list[Site] = []  # the lock and its conditions
+        self.made_at: list[str] = []  # the lock and its conditions
         self.names: list[str] = []  # of threads
 
     def lock(self) -> Lock:
@@ -126,20 +134,20 @@ class Recorder:
         """The log so far. No thread may be active."""
         return "".join(f"{row}\n" for row in self._rows(self._lines, thing))
 
-    def _rows(self, lines: list[tuple[Site, tuple[object, ...]]], thing: str) -> Iterator[str]:
+    def _rows(self, lines: list[Line], thing: str) -> Iterator[str]:
         yield f"log 1 {len(self._seats)} {min(self._conditions, CONDITIONS)} {thing}"
-        yield from (" ".join(map(str, line)) for _, line in lines)
+        yield from (" ".join(map(str, line[WORDS:])) for line in lines)
 
-    def _names(self, sites: list[Site], how_it_ended: str) -> Iterator[str]:
+    def _names(self, lines: list[Line], how_it_ended: str) -> Iterator[str]:
         """What stands beside the log: where the lock and its conditions were made, the threads' names, and the lines' places."""
         whats = ["lock", *(f"condition {number}" for number in range(len(self.made_at) - 1))]
-        yield from (f"{what} made at {path}:{line}" for what, (path, line) in zip(whats, self.made_at))
+        yield from (f"{what} made at {where}" for what, where in zip(whats, self.made_at))
         yield from (f"seat {seat} {name}" for seat, name in enumerate(self.names))
         yield from [f"ended {how_it_ended}"] * bool(how_it_ended)
-        places = [f"{os.path.basename(path)}:{line}" for path, line in sites]
-        numbers = {place: number for number, place in enumerate(dict.fromkeys(places), 1)}
+        places = {site: place_of(*site) for site in dict.fromkeys(line[:WORDS] for line in lines)}
+        numbers = {place: number for number, place in enumerate(dict.fromkeys(places.values()), 1)}
         yield from (f"site {number} {place}" for place, number in numbers.items())
-        yield " ".join(["lines", *(str(numbers[place]) for place in places)])
+        yield " ".join(["lines", *(str(numbers[places[line[:WORDS]]]) for line in lines)])
 
     def write(self, path: str, thing: str = "buffer 1", how_it_ended: str = "") -> None:
         """The log so far, into a new file, and PATH.names beside it. No thread may be active."""
@@ -147,7 +155,7 @@ class Recorder:
         with open(path, "x") as file:
             file.writelines(f"{row}\n" for row in self._rows(lines, thing))
         with open(f"{path}.names", "x", errors="replace") as file:
-            file.writelines(f"{row}\n" for row in self._names([it for it, _ in lines], how_it_ended))
+            file.writelines(f"{row}\n" for row in self._names(lines, how_it_ended))
 
     def summary(self) -> str:
         """What was seen, in words."""
@@ -191,7 +199,8 @@ class Recorder:
             self._seats[thread] = len(self._seats)
             # (current_thread() would make a new one of a thread that is only beginning)
             self.names.append(getattr(threading._active.get(thread), "name", "?"))  # type: ignore[attr-defined]
-        self._lines.append((site(3), (verb, self._seats[thread], *numbers)))
+        frame = caller(4)
+        self._lines.append((frame.f_code, frame.f_lasti, verb, self._seats[thread], *numbers))
         self.waits += verb == "wait"
         self._is_used |= verb not in ("enter", "leave")
         # who came and left before tells nothing, and most locks have no conditions

@@ -11,7 +11,7 @@ import time
 import types
 from typing import Any, Callable
 
-from monk_log import SEED, STATUS_LATE, Condition, Lock, Recorder, site, start_watch, threading_lock, threading_rlock
+from monk_log import SEED, STATUS_LATE, Condition, Lock, Recorder, caller, start_watch, threading_lock, threading_rlock
 
 exit_at_once = os._exit
 
@@ -33,7 +33,7 @@ class Program:
                 return None
             frame = frame.f_back
         made = Recorder()
-        made.made_at.append(site())
+        made.made_at.append(where())
         self.recorders.append(made)
         return made
 
@@ -54,7 +54,7 @@ class Program:
                 lock = lock or program.rlock()
                 recorder = lock.recorder if isinstance(lock, Lock) else None
                 if recorder:
-                    recorder.made_at.append(site())
+                    recorder.made_at.append(where())
                 super().__init__(recorder, recorder.next_number() if recorder else 0, lock)
 
         setattr(threading, "Lock", self.lock)
@@ -116,6 +116,11 @@ class Program:
                 say(f"{name}: it ends early, since {recorder.stopped}")
             return name
         return ""
+
+
+def where() -> str:
+    frame = caller(1)
+    return f"{frame.f_code.co_filename}:{frame.f_lineno}"
 
 
 def say(text: str) -> None:
