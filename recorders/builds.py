@@ -34,7 +34,7 @@ def make(*words, folder):
 
 def build_library(folder):
     source = os.path.join(HERE, "c", "libmonk_log.c")
-    make("gcc", "-O2", "-shared", "-fPIC", "-o", "libmonk_log.so", source, "-ldl", "-lpthread", folder=folder)
+    make("gcc", "-O2", "-Wall", "-Wextra", "-Werror", "-shared", "-fPIC", "-o", "libmonk_log.so", source, "-ldl", "-lpthread", folder=folder)
 
 
 def build_c(folder):

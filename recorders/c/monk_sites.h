@@ -17,8 +17,8 @@
 #include "monk_memory.h"
 
 enum {
-    SITE_BITS = 15,
-    SITES = 1 << SITE_BITS, /* more than any program has; later ones have no number */
+    SITE_BITS = 13,
+    SITES = 1 << SITE_BITS, /* more than most programs have; later ones have no number */
     PROBES = 64,
     LAST = 1,               /* in place of a step: the caller isn't asked for */
     MOST_FRAMES = 16,
