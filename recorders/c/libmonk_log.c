@@ -11,9 +11,10 @@
    MONK_SECONDS the logs are written and the program is ended with status 124, for programs that hang. With MONK_SHAKE=SEED
    threads let others go first at random.
 
-   The parts: monk_order.h, locks; monk_memory.h, what is known of an address; monk_sites.h, where in the program a call stands; monk_lines.h, the lines; monk_outside.h, signals
-   by threads that don't hold the mutex; monk_files.h and monk_ends.h, how all are written at the end; monk_real.h, the
-   functions behind these; monk_shake.h. What the recorder can't see is told in recorders/README.md. */
+   The parts: monk_order.h, locks; monk_memory.h, what is known of an address; monk_sites.h, where in the program a call stands;
+   monk_known.h, threads, mutexes and conditions; monk_lines.h, the lines; monk_outside.h, signals by threads that don't hold
+   the mutex; monk_files.h and monk_ends.h, how all are written at the end; monk_real.h, the functions behind these;
+   monk_shake.h. What the recorder can't see is told in recorders/README.md. */
 #define _GNU_SOURCE
 #include "monk_ends.h"
 

@@ -143,32 +143,6 @@ static void read_name(struct thread *thread) {
 /* How the program ended. */
 static const char *how_it_ended = "by itself";
 
-static void print_sites(struct page *page, struct log *log);
-
-static void write_names(struct log *log, const char *name) {
-    static struct page page;
-    char beside[NAME + 8];
-    snprintf(beside, sizeof beside, "%s.names", name);
-    page = (struct page){.file = open(beside, O_WRONLY | O_CREAT | O_EXCL | O_CLOEXEC, 0666)};
-    if (page.file < 0) {
-        say("monk: %s: %s\n", beside, strerror(errno));
-        return;
-    }
-    print_known(&page, "mutex", &log->known);
-    for (int i = 0; i < log->nconds; i++) {
-        char what[32];
-        snprintf(what, sizeof what, "condition %d", i);
-        print_known(&page, what, &log->conds[i]->known);
-    }
-    for (int i = 0; i < log->nseats; i++) {
-        read_name(log->seats[i]);
-        print(&page, "seat %d thread %d %s\n", i, log->seats[i]->id, log->seats[i]->name);
-    }
-    print(&page, "ended %s\n", how_it_ended);
-    print_sites(&page, log);
-    close_page(&page, beside);
-}
-
 /* ---- the logs */
 
 static struct {
@@ -298,6 +272,30 @@ static void print_sites(struct page *page, struct log *log) {
     print(page, "lines");
     visit_lines(page, log, print_number);
     print(page, "\n");
+}
+
+static void write_names(struct log *log, const char *name) {
+    static struct page page;
+    char beside[NAME + 8];
+    snprintf(beside, sizeof beside, "%s.names", name);
+    page = (struct page){.file = open(beside, O_WRONLY | O_CREAT | O_EXCL | O_CLOEXEC, 0666)};
+    if (page.file < 0) {
+        say("monk: %s: %s\n", beside, strerror(errno));
+        return;
+    }
+    print_known(&page, "mutex", &log->known);
+    for (int i = 0; i < log->nconds; i++) {
+        char what[32];
+        snprintf(what, sizeof what, "condition %d", i);
+        print_known(&page, what, &log->conds[i]->known);
+    }
+    for (int i = 0; i < log->nseats; i++) {
+        read_name(log->seats[i]);
+        print(&page, "seat %d thread %d %s\n", i, log->seats[i]->id, log->seats[i]->name);
+    }
+    print(&page, "ended %s\n", how_it_ended);
+    print_sites(&page, log);
+    close_page(&page, beside);
 }
 
 static void write_log(struct log *log, const char *prefix) {
