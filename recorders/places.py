@@ -1,4 +1,4 @@
-"""Whether the file beside a log names the lines of the source from which its lines come; for recorders/check."""
+"""Whether the file beside a log names the lines of the source from which its lines come; for recorders/check and hostile."""
 from __future__ import annotations
 
 import os
@@ -33,16 +33,23 @@ def places_of(path: str) -> list[str]:
     return [places[number] for number in numbers]
 
 
+def lines_of(path: str) -> list[str]:
+    with open(path) as file:
+        return file.read().splitlines()[1:]
+
+
+def miscounted(path: str) -> str:
+    """Whether the row of numbers isn't as long as the log."""
+    places, lines = len(places_of(path)), len(lines_of(path))
+    return "" if places == lines else f"{path}.names: {places} places of {lines} lines"
+
+
 def misplaced(language: str, path: str) -> str:
     """The first line of a log whose place isn't that of such a call, or nothing."""
     source, calls = SOURCES[language], CALLS[language]
     with open(builds.demo(source)) as file:
         texts = dict(enumerate(file.read().splitlines(), 1))
-    with open(path) as file:
-        lines = file.read().splitlines()[1:]
-    places = places_of(path)
-    if len(places) != len(lines):
-        return f"{path}.names: {len(places)} places of {len(lines)} lines"
+    lines, places = lines_of(path), places_of(path)
     for line, place in zip(lines, places):
         verb = line.split()[0]
         call = calls.get("wait" if verb in ("resume", "lapse") else verb, "")
@@ -57,4 +64,4 @@ def first_misplaced(language: str, paths: list[str]) -> str:
     if language in ("c", "c++"):
         tool = os.path.join(builds.HERE, "c", "sites")
         subprocess.run([sys.executable, tool, *(f"{path}.names" for path in paths)], check=True)
-    return next(filter(None, (misplaced(language, path) for path in paths)), "")
+    return next(filter(None, (miscounted(path) or misplaced(language, path) for path in paths)), "")
