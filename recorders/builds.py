@@ -34,19 +34,20 @@ def make(*words, folder):
 
 def build_library(folder):
     source = os.path.join(HERE, "c", "libmonk_log.c")
-    make("gcc", "-O2", "-shared", "-fPIC", "-o", "libmonk_log.so", source, "-ldl", "-lpthread", folder=folder)
+    make("gcc", "-O2", "-Wall", "-Wextra", "-Werror", "-shared", "-fPIC", "-o", "libmonk_log.so", source, "-ldl", "-lpthread", folder=folder)
 
 
 def build_c(folder):
     build_library(folder)
     make("gcc", "-O2", "-shared", "-fPIC", "-o", "libdrop.so", demo("drop.c"), "-ldl", folder=folder)
     for name in ("buffer", "hoare"):
-        make("gcc", "-O2", "-o", name, demo(f"{name}.c"), "-lpthread", folder=folder)
+        make("gcc", "-g", "-O2", "-o", name, demo(f"{name}.c"), "-lpthread", folder=folder)
 
 
 def build_cpp(folder):
     build_library(folder)
-    make("g++", "-O2", "-o", "buffer", demo("buffer.cc"), "-lpthread", folder=folder)
+    for name, level in (("buffer", "-O2"), ("unoptimized", "-O0")):
+        make("g++", "-g", level, "-o", name, demo("buffer.cc"), "-lpthread", folder=folder)
 
 
 def build_java(folder):
@@ -56,7 +57,7 @@ def build_java(folder):
 def build_go(folder):
     os.makedirs(os.path.join(folder, "monklog"))
     shutil.copy(os.path.join(HERE, "go", "monklog.go"), os.path.join(folder, "monklog"))
-    shutil.copy(demo("buffer.go"), os.path.join(folder, "main.go"))
+    shutil.copy(demo("buffer.go"), folder)
     with open(os.path.join(folder, "go.mod"), "w") as file:
         file.write("module demo\n\ngo 1.18\n")
     make("go", "build", "-o", "buffer", ".", folder=folder)
@@ -89,7 +90,7 @@ def seconds_of(style):
 
 def run_recorded(folder, style, prefix, seed):
     """Runs a program with the recorder loaded; what it says on standard error."""
-    drops, program = style == "drop", os.path.join(folder, "buffer")
+    drops, program = style == "drop", os.path.join(folder, style if style == "unoptimized" else "buffer")
     words = [*UNMODIFIED[style], input_of(folder)] if style in UNMODIFIED else [program, "pair" if drops else style]
     env = {
         **os.environ,
@@ -122,8 +123,10 @@ UNMODIFIED = {
 
 
 def run(language, style, folder, times):
-    """Runs a demonstration some times; its logs, and what was said on standard error."""
+    """Runs a demonstration some times; its logs, and what was said on standard error. What it wrote before goes."""
     prefix, said = os.path.join(folder, f"{style.replace(' ', '_')}.log"), ""
+    for path in glob.glob(f"{prefix}.*"):
+        os.remove(path)
     if language in WRITERS:
         env = {**os.environ, **shaking(style, 1)}
         subprocess.run([*WRITERS[language](folder, style), prefix, str(times), style], env=env, check=True)

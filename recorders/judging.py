@@ -29,9 +29,16 @@ class Said:
                 words = words[words[0] == "left":]
                 self.counts.update(zip(words[::2], map(int, words[1::2])))
 
-    def fits(self, kind, order="any"):
+    def fits(self, kind="NPNB", order="any"):
         found = self.kinds[kind]
         return found in ORDERS and ORDERS.index(found) <= ORDERS.index(order)
+
+    def reason(self):
+        """Why it misfits NPNB, in one word; none if it fits."""
+        return "" if self.fits() else self.kinds["NPNB"]
+
+    def reason_alone(self):
+        return "" if self.fits_alone() else self.alone[0].rpartition(" ")[2]
 
     def fits_alone(self):
         """Whether it fits NPNB where waits run out at once, and signals may come from outside."""

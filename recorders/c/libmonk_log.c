@@ -11,13 +11,12 @@
    MONK_SECONDS the logs are written and the program is ended with status 124, for programs that hang. With MONK_SHAKE=SEED
    threads let others go first at random.
 
-   The parts: monk_order.h, locks; monk_memory.h, what is known of an address; monk_lines.h, the lines; monk_outside.h, signals
-   by threads that don't hold the mutex; monk_files.h and monk_ends.h, how all are written at the end; monk_real.h, the
-   functions behind these; monk_shake.h. What the recorder can't see is told in recorders/README.md. */
+   The parts: monk_order.h, locks; monk_memory.h, what is known of an address; monk_sites.h, where in the program a call stands;
+   monk_known.h, threads, mutexes and conditions; monk_lines.h, the lines; monk_outside.h, signals by threads that don't hold
+   the mutex; monk_files.h and monk_ends.h, how all are written at the end; monk_real.h, the functions behind these;
+   monk_shake.h. What the recorder can't see is told in recorders/README.md. */
 #define _GNU_SOURCE
 #include "monk_ends.h"
-
-#define CALLER __builtin_return_address(0)
 
 /* ---- who holds what */
 
@@ -48,10 +47,10 @@ static inline int holds(struct thread *thread, struct monitor *m) {
 }
 
 /* A mutex that its thread has locked already is entered but once. */
-static inline int entered(const void *mutex, int result, const void *caller) {
+static inline int entered(const void *mutex, int result, unsigned site) {
     if (result && result != EOWNERDEAD)
         return result;
-    struct monitor *m = monitor_of(mutex, caller);
+    struct monitor *m = monitor_of(mutex, site);
     struct thread *thread = self();
     if (!m || !thread)
         return result;
@@ -63,37 +62,39 @@ static inline int entered(const void *mutex, int result, const void *caller) {
     if (atomic_load_explicit(&m->lost_one, memory_order_relaxed))
         renew(m);
     hold(m, thread, 1);
-    put(present_log(m), thread, ENTER, 0);
+    m->entered_at = site;
+    put(present_log(m), thread, ENTER, 0, site);
     return result;
 }
 
 /* Mostly it is the one that was locked last, which need not be looked for. */
-static inline void leave(const void *mutex, const void *caller) {
+static inline void leave(const void *mutex, unsigned site) {
     struct thread *thread = me;
     struct monitor *m = thread && thread->depth ? thread->held[thread->depth - 1] : 0;
     if (!holds(thread, m) || m->known.address != mutex)
-        m = monitor_of(mutex, caller);
+        m = monitor_of(mutex, site);
     if (!holds(thread, m) || --m->times > 0)
         return;
-    put(present_log(m), thread, LEAVE, 0);
+    put(present_log(m), thread, LEAVE, 0, site);
     let_go(m, thread);
 }
 
 /* ---- acts, which the program tells (monk_log.h) */
 
-static void tell_act(struct monitor *m, unsigned code, unsigned arg, unsigned long reply) {
+static void tell_act(struct monitor *m, struct act it) {
     if (holds(me, m))
-        put_act(log_of(m, me), me, code, arg, reply);
+        put_act(log_of(m, me), me, it);
     else
         atomic_fetch_add(&seen.stray_acts, 1);
 }
 
 void monk_log_act(unsigned code, unsigned arg, unsigned long reply) {
-    tell_act(me ? last_held(me) : 0, code, arg, reply);
+    tell_act(me ? last_held(me) : 0, (struct act){code, arg, CALLER, reply});
 }
 
 void monk_log_act_of(const void *mutex, unsigned code, unsigned arg, unsigned long reply) {
-    tell_act(monitor_of(mutex, CALLER), code, arg, reply);
+    unsigned site = CALLER;
+    tell_act(monitor_of(mutex, site), (struct act){code, arg, site, reply});
 }
 
 /* ---- what stands in place of the functions of pthreads and C11 for mutexes */
@@ -161,7 +162,7 @@ void mtx_destroy(mtx_t *mutex) {
 struct wait {
     enum { PLAIN, TIMED, CLOCK, OF_C11, TIMED_OF_C11 } form;
     void *cond, *mutex;
-    const void *caller;
+    unsigned site;
     const struct timespec *until;
     clockid_t clock;
     struct monitor *monitor;
@@ -202,8 +203,8 @@ static void end_line(struct condition *c, int has_order) {
 
 /* The line comes last, right before the wait itself: a signal of another thread that comes between them finds nobody. */
 static void begin_wait(struct wait *it) {
-    struct monitor *m = it->monitor = monitor_of(it->mutex, it->caller);
-    struct condition *c = condition_of(it->cond, it->caller);
+    struct monitor *m = it->monitor = monitor_of(it->mutex, it->site);
+    struct condition *c = condition_of(it->cond, it->site);
     struct thread *thread = it->thread = self();
     if (!m || !c || !thread)
         return;
@@ -221,7 +222,7 @@ static void begin_wait(struct wait *it) {
         log->waits++;
         log->waiting++;
         it->before = length_of(log);
-        put(log, thread, WAIT, number);
+        put(log, thread, WAIT, number, it->site);
     }
     end_line(c, has_order);
 }
@@ -240,7 +241,7 @@ static void end_wait(struct wait *it, enum verb verb, int was_refused) {
         return;
     }
     int has_order = begin_line(c, log);
-    put(log, it->thread, verb, 0);
+    put(log, it->thread, verb, 0, it->site);
     end_line(c, has_order);
 }
 
@@ -262,23 +263,23 @@ static int wait_by(struct wait it) {
 }
 
 int pthread_cond_wait(pthread_cond_t *cond, pthread_mutex_t *mutex) {
-    return wait_by((struct wait){.form = PLAIN, .cond = cond, .mutex = mutex, .caller = CALLER});
+    return wait_by((struct wait){.form = PLAIN, .cond = cond, .mutex = mutex, .site = CALLER});
 }
 
 int pthread_cond_timedwait(pthread_cond_t *cond, pthread_mutex_t *mutex, const struct timespec *until) {
-    return wait_by((struct wait){.form = TIMED, .cond = cond, .mutex = mutex, .until = until, .caller = CALLER});
+    return wait_by((struct wait){.form = TIMED, .cond = cond, .mutex = mutex, .until = until, .site = CALLER});
 }
 
 int pthread_cond_clockwait(pthread_cond_t *cond, pthread_mutex_t *mutex, clockid_t clock, const struct timespec *until) {
-    return wait_by((struct wait){.form = CLOCK, .cond = cond, .mutex = mutex, .clock = clock, .until = until, .caller = CALLER});
+    return wait_by((struct wait){.form = CLOCK, .cond = cond, .mutex = mutex, .clock = clock, .until = until, .site = CALLER});
 }
 
 int cnd_wait(cnd_t *cond, mtx_t *mutex) {
-    return wait_by((struct wait){.form = OF_C11, .cond = cond, .mutex = mutex, .caller = CALLER});
+    return wait_by((struct wait){.form = OF_C11, .cond = cond, .mutex = mutex, .site = CALLER});
 }
 
 int cnd_timedwait(cnd_t *cond, mtx_t *mutex, const struct timespec *until) {
-    return wait_by((struct wait){.form = TIMED_OF_C11, .cond = cond, .mutex = mutex, .until = until, .caller = CALLER});
+    return wait_by((struct wait){.form = TIMED_OF_C11, .cond = cond, .mutex = mutex, .until = until, .site = CALLER});
 }
 
 /* The mutex with which a condition was last waited on, or null. */
@@ -290,7 +291,7 @@ static inline struct monitor *waited_with(struct condition *c) {
 /* A signal by a thread that doesn't hold the mutex, or of a condition on which nobody has waited yet. Then the mutex isn't known:
    it is taken for the one that the thread locked last. Gives the condition, whose order is held until the signal is sent; or
    null. */
-SELDOM static struct condition *tell_in_order(struct condition *c, struct thread *thread, enum verb verb) {
+SELDOM static struct condition *tell_in_order(struct condition *c, struct thread *thread, enum verb verb, unsigned site) {
     if (is_closed())
         return 0;
     if (!take_order(&c->order)) {
@@ -300,30 +301,30 @@ SELDOM static struct condition *tell_in_order(struct condition *c, struct thread
     struct monitor *m = waited_with(c), *last = m ? 0 : last_held(thread);
     struct log *log = last ? log_of(last, thread) : 0;
     if (log)
-        put(log, thread, verb, number_of(log, c));
+        put(log, thread, verb, number_of(log, c), site);
     else
-        note(m, c, thread, verb);
+        note(m, c, thread, (struct signal){verb, site});
     return c;
 }
 
 /* Gives a condition whose order is to be let go when the signal is sent, or null. */
-static struct condition *tell(enum verb verb, const void *cond, const void *caller) {
+static struct condition *tell(enum verb verb, const void *cond, unsigned site) {
     init();
     shake();
     if (busy) {
         atomic_fetch_add(&seen.left_out, 1);
         return 0;
     }
-    struct condition *c = condition_of(cond, caller);
+    struct condition *c = condition_of(cond, site);
     struct thread *thread = self();
     if (!c || !thread)
         return 0;
     struct monitor *m = waited_with(c);
     if (!holds(thread, m))
-        return tell_in_order(c, thread, verb);
+        return tell_in_order(c, thread, verb, site);
     struct log *log = log_of(m, thread);
     if (log)
-        put(log, thread, verb, number_of(log, c));
+        put(log, thread, verb, number_of(log, c), site);
     return 0;
 }
 
@@ -375,8 +376,8 @@ static void shake_by(const char *text) {
 
 __attribute__((constructor)) static void start(void) {
     const char *seconds = getenv("MONK_SECONDS");
-    pthread_t thread;
     init();
+    look_for_cpp();
     process = 1;
     this_process = getpid();
     make_key();
@@ -386,7 +387,7 @@ __attribute__((constructor)) static void start(void) {
     watch_signals();
     shake_by(getenv("MONK_SHAKE"));
     if (seconds)
-        pthread_create(&thread, 0, watch_time, (void *)(long)(atof(seconds) * 1000));
+        end_after(atof(seconds));
 }
 
 __attribute__((destructor)) static void ended(void) { finish(); }

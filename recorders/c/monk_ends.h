@@ -204,12 +204,27 @@ pid_t setsid(void) {
     return real.setsid();
 }
 
-static void *watch_time(void *milliseconds) {
-    long left = (long)milliseconds;
-    struct timespec time = {left / 1000, left % 1000 * MILLISECOND};
-    nanosleep(&time, 0);
+/* Sleeps again where it is woken early, as all threads are by setgid. */
+static void *watch_time(void *end) {
+    while (clock_nanosleep(CLOCK_MONOTONIC, TIMER_ABSTIME, end, 0) == EINTR)
+        ;
     how_it_ended = "after MONK_SECONDS";
     _exit(STATUS_LATE);
+}
+
+/* The thread for this takes no signal: each is meant for a thread of the program's. */
+static void end_after(double seconds) {
+    static struct timespec end;
+    sigset_t all, before;
+    pthread_t thread;
+    clock_gettime(CLOCK_MONOTONIC, &end);
+    double last = end.tv_nsec + (seconds - (time_t)seconds) * SECOND;
+    end.tv_sec += (time_t)seconds + (last >= SECOND);
+    end.tv_nsec = (long)last % SECOND;
+    sigfillset(&all);
+    pthread_sigmask(SIG_SETMASK, &all, &before);
+    pthread_create(&thread, 0, watch_time, &end);
+    pthread_sigmask(SIG_SETMASK, &before, 0);
 }
 
 /* The child goes on with the mutexes that its one thread holds, and begins logs of its own. */

@@ -21,6 +21,7 @@ enum {
     PAGE = 1 << 14,
     LONGEST = 8192,         /* line that is written */
     MILLISECOND = 1000000,  /* in nanoseconds */
+    SECOND = 1000 * MILLISECOND,
     TO_SETTLE = 10,         /* milliseconds for lines that are being written when the program ends */
     HIGH_FILE = 200         /* the number of a file that no program asks for */
 };
@@ -123,7 +124,7 @@ static void print_known(struct page *page, const char *what, const struct known 
     print(page, "%s ", what);
     print_place(page, it->address);
     print(page, ", first used at ");
-    print_place(page, it->caller);
+    print_place(page, (const void *)sites[it->site].address);
     print(page, "\n");
 }
 
@@ -141,29 +142,6 @@ static void read_name(struct thread *thread) {
 
 /* How the program ended. */
 static const char *how_it_ended = "by itself";
-
-static void write_names(const struct log *log, const char *name) {
-    static struct page page;
-    char beside[NAME + 8];
-    snprintf(beside, sizeof beside, "%s.names", name);
-    page = (struct page){.file = open(beside, O_WRONLY | O_CREAT | O_EXCL | O_CLOEXEC, 0666)};
-    if (page.file < 0) {
-        say("monk: %s: %s\n", beside, strerror(errno));
-        return;
-    }
-    print_known(&page, "mutex", &log->known);
-    for (int i = 0; i < log->nconds; i++) {
-        char what[32];
-        snprintf(what, sizeof what, "condition %d", i);
-        print_known(&page, what, &log->conds[i]->known);
-    }
-    for (int i = 0; i < log->nseats; i++) {
-        read_name(log->seats[i]);
-        print(&page, "seat %d thread %d %s\n", i, log->seats[i]->id, log->seats[i]->name);
-    }
-    print(&page, "ended %s\n", how_it_ended);
-    close_page(&page, beside);
-}
 
 /* ---- the logs */
 
@@ -201,41 +179,123 @@ static void put_number(struct page *page, unsigned long number) {
         page->text[page->length++] = digits[--count];
 }
 
-/* Gives how many words the line has. (There may be a million of them, for which printf takes too long.) */
-static size_t print_line(struct page *page, const uint32_t *at) {
-    enum verb verb = *at & 0xff;
-    if (page->length + LONGEST > PAGE)
-        flush(page);
+/* A part of the word of a line, between two places of bits. */
+static unsigned part_of(uint32_t word, int from, int to) { return word << (BITS - to) >> (BITS - to + from); }
+
+static enum verb verb_of(uint32_t word) { return part_of(word, 0, SEAT_AT); }
+
+/* What is done with a line, given its words. */
+typedef void visit(struct page *page, const uint32_t *at);
+
+/* (There may be a million of them, for which printf takes too long.) */
+static void print_line(struct page *page, const uint32_t *at) {
+    enum verb verb = verb_of(*at);
     put_text(page, verbs[verb]);
-    put_number(page, *at >> VERB_BITS & 0xff);
-    if (verb >= WAIT)
-        put_number(page, *at >> 2 * VERB_BITS);
+    put_number(page, part_of(*at, SEAT_AT, NUMBER_AT));
     if (verb == ACT) {
         put_number(page, at[1]);
-        put_number(page, at[2] | (unsigned long)at[3] << 32);
+        put_number(page, at[2]);
+        put_number(page, at[3] | (unsigned long)at[4] << BITS);
+    } else if (verb >= WAIT) {
+        put_number(page, part_of(*at, NUMBER_AT, SITE_AT));
     }
     page->text[page->length++] = '\n';
-    return verb == ACT ? WORDS_OF_ACT : 1;
 }
 
-/* The signals from outside from the given one on that have their place at that of a line; gives how many are written by then. */
-static size_t print_outside(struct page *page, struct log *log, size_t from, size_t place) {
+static void visit_line(struct page *page, const uint32_t *at, visit *one) {
+    if (page->length + LONGEST > PAGE)
+        flush(page);
+    one(page, at);
+}
+
+/* The signals from outside from the given one on that have their place at that of a line; gives how many there are by then. */
+static size_t visit_outside(struct page *page, struct log *log, size_t from, size_t place, visit *one) {
     for (; from < log->noted && log->outside[from].place <= place; from++) {
         struct outside it = log->outside[from];
         uint32_t seat = (uint32_t)seat_at_the_end(log, it.thread);
-        uint32_t word = it.verb | seat << VERB_BITS | (uint32_t)it.number << 2 * VERB_BITS;
-        print_line(page, &word);
+        uint32_t word = it.verb | seat << SEAT_AT | (uint32_t)it.number << NUMBER_AT | (uint32_t)it.site << SITE_AT;
+        visit_line(page, &word, one);
     }
     return from;
 }
 
-static void print_lines(struct page *page, struct log *log) {
-    size_t length = log->length, outside = 0;
-    for (size_t at = 0; at < length && !page->error;) {
-        outside = print_outside(page, log, outside, at);
-        at += print_line(page, log->words + at);
+static void visit_lines(struct page *page, struct log *log, visit *one) {
+    size_t outside = 0;
+    for (size_t at = 0; at < log->end && !page->error;) {
+        outside = visit_outside(page, log, outside, at, one);
+        visit_line(page, log->words + at, one);
+        at += verb_of(log->words[at]) == ACT ? WORDS_OF_ACT : 1;
     }
-    print_outside(page, log, outside, WORDS);
+    visit_outside(page, log, outside, WORDS, one);
+}
+
+/* ---- where in the program the lines come from */
+
+/* The numbers that places have beside a log: in the order in which its lines come from there first. */
+static struct {
+    unsigned count;
+    uint16_t of[SITES];
+} numbers;
+
+/* The file in which the call stands, and how far in, as addr2line counts. */
+static void print_call(struct page *page, uintptr_t call) {
+    static char program[PREFIX];
+    Dl_info info;
+    struct link_map *object;
+    if (!dladdr1((const void *)call, &info, (void **)&object, RTLD_DL_LINKMAP)) {
+        print(page, "0x%zx\n", (size_t)call);
+        return;
+    }
+    ssize_t length = *object->l_name ? 0 : readlink("/proc/self/exe", program, sizeof program - 1);
+    program[length > 0 ? length : 0] = 0;
+    const char *name = *object->l_name ? object->l_name : *program ? program : info.dli_fname;
+    print(page, "%s+0x%zx\n", name, (size_t)(call - object->l_addr));
+}
+
+/* Of a place that has none yet. (The address to which a call returns may be that of the next line.) */
+static void number_site(struct page *page, const uint32_t *at) {
+    unsigned site = part_of(*at, SITE_AT, BITS);
+    if (!site || numbers.of[site])
+        return;
+    numbers.of[site] = (uint16_t)++numbers.count;
+    print(page, "site %u ", numbers.count);
+    print_call(page, sites[site].address - 1);
+}
+
+static void print_number(struct page *page, const uint32_t *at) {
+    put_number(page, numbers.of[part_of(*at, SITE_AT, BITS)]);
+}
+
+static void print_sites(struct page *page, struct log *log) {
+    memset(&numbers, 0, sizeof numbers);
+    visit_lines(page, log, number_site);
+    print(page, "lines");
+    visit_lines(page, log, print_number);
+    print(page, "\n");
+}
+
+static void write_names(struct log *log, const char *name) {
+    static struct page page;
+    char beside[NAME + 8];
+    snprintf(beside, sizeof beside, "%s.names", name);
+    page = (struct page){.file = open(beside, O_WRONLY | O_CREAT | O_EXCL | O_CLOEXEC, 0666)};
+    if (page.file < 0) {
+        say("monk: %s: %s\n", beside, strerror(errno));
+        return;
+    }
+    print_known(&page, "mutex", &log->known);
+    for (int i = 0; i < log->nconds; i++) {
+        char what[32];
+        snprintf(what, sizeof what, "condition %d", i);
+        print_known(&page, what, &log->conds[i]->known);
+    }
+    for (int i = 0; i < log->nseats; i++) {
+        read_name(log->seats[i]);
+        print(&page, "seat %d thread %d %s\n", i, log->seats[i]->id, log->seats[i]->name);
+    }
+    print(&page, "ended %s\n", how_it_ended);
+    print_sites(&page, log);
+    close_page(&page, beside);
 }
 
 static void write_log(struct log *log, const char *prefix) {
@@ -250,7 +310,8 @@ static void write_log(struct log *log, const char *prefix) {
         return;
     }
     print(&page, "log 1 %d %d %s\n", log->nseats, log->nconds, object ? object : "buffer 1");
-    print_lines(&page, log);
+    log->end = log->length;
+    visit_lines(&page, log, print_line);
     close_page(&page, name);
     if (page.error)
         told.error = page.error;

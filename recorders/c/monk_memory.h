@@ -30,7 +30,7 @@ enum {
    it while another thread gives it back. */
 struct known {
     const void *address;
-    const void *caller; /* who told of it first */
+    unsigned site; /* where it was first told of (monk_sites.h) */
     void *next_free;
     unsigned long serial; /* of all that were ever known: another one at its address has another */
 };
@@ -128,7 +128,7 @@ static void *grow_block(void *block, size_t used, size_t size, size_t larger) {
 }
 
 /* One of a pool's, all zero but for what is given and its serial. Null where there is no memory. */
-static void *take(struct pool *pool, const void *address, const void *caller) {
+static void *take(struct pool *pool, const void *address, unsigned site) {
     lock_memory();
     struct known *it = pool->free;
     if (it)
@@ -139,7 +139,7 @@ static void *take(struct pool *pool, const void *address, const void *caller) {
     unlock_memory();
     if (it) {
         memset(it, 0, pool->size);
-        *it = (struct known){address, caller, 0, serial};
+        *it = (struct known){address, site, 0, serial};
     }
     return it;
 }

@@ -39,14 +39,21 @@ static int known_number(const struct log *log, const struct condition *c) {
     return -1;
 }
 
+/* A signal to one or to all, and from where. */
+struct signal {
+    enum verb verb;
+    unsigned site;
+};
+
 /* While the log's order is held; the log may be another mutex's by then. */
-static void note_in(struct log *log, struct monitor *m, struct condition *c, struct thread *thread, enum verb verb) {
+static void note_in(struct log *log, struct monitor *m, struct condition *c, struct thread *thread, struct signal it) {
     int number = present_log(m) == log ? known_number(log, c) : -1;
     if (number < 0 || is_stopped(log) || !has_outside_room(log)) {
         atomic_fetch_add(&seen.left_out, 1);
         return;
     }
-    log->outside[log->noted++] = (struct outside){thread, (uint32_t)length_of(log), verb, (uint16_t)number};
+    struct outside *noted = &log->outside[log->noted++];
+    *noted = (struct outside){thread, (uint32_t)length_of(log), (uint8_t)it.verb, (uint8_t)number, (uint16_t)it.site};
 }
 
 /* The log of a mutex that isn't held, or null. (What a mutex has from before a fork is not of this process.) */
@@ -63,7 +70,7 @@ static void give_up(struct log *log) {
 
 /* While the condition's order is held; m is the mutex with which somebody has waited on it last, or null. A thread that waits
    with that mutex is inside: only its signal handler can come here. */
-static void note(struct monitor *m, struct condition *c, struct thread *thread, enum verb verb) {
+static void note(struct monitor *m, struct condition *c, struct thread *thread, struct signal it) {
     struct log *log = log_beside(m);
     if (!log)
         atomic_fetch_add(&seen.left_out, 1);
@@ -72,7 +79,7 @@ static void note(struct monitor *m, struct condition *c, struct thread *thread, 
     else if (!take_order(&log->order))
         give_up(log);
     else {
-        note_in(log, m, c, thread, verb);
+        note_in(log, m, c, thread, it);
         end_order(&log->order);
     }
 }

@@ -1,4 +1,3 @@
-import java.nio.file.Files;
 import java.nio.file.Path;
 import java.util.ArrayDeque;
 import java.util.ArrayList;
@@ -139,7 +138,7 @@ public final class Buffer {
         return thread;
     }
 
-    private String run() throws InterruptedException {
+    private MonkLog run() throws InterruptedException {
         boolean isLock = !style.equals("synchronized");
         Step put = isLock ? this::putLocked : this::putSynchronized;
         Step take = isLock ? this::takeLocked : this::takeSynchronized;
@@ -152,13 +151,13 @@ public final class Buffer {
         for (Thread thread : threads) {
             thread.join(Math.max(1, end - System.currentTimeMillis()));
         }
-        return log.text("buffer " + SIZE);
+        return log;
     }
 
     public static void main(String[] words) throws Exception {
         int runs = Integer.parseInt(words[1]);
         for (int number = 0; number < runs; number++) {
-            Files.writeString(Path.of(words[0] + "." + number), new Buffer(words[2]).run());
+            new Buffer(words[2]).run().write(Path.of(words[0] + "." + number), "buffer " + SIZE);
         }
         System.exit(0);
     }

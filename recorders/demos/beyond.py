@@ -5,10 +5,14 @@ hangs      somebody takes from a queue that stays empty
 threads    40 threads take from a queue
 conds      ten conditions of one lock
 lost       a notify without the lock, which is refused
+sigwait    a signal that its one thread blocks, and waits for
 fails      ends with an exception"""
+import os
 import queue
+import signal
 import sys
 import threading
+import time
 
 THREADS, CONDITIONS, STATUS = 40, 10, 7
 
@@ -38,7 +42,16 @@ def wait_on_each() -> None:
             condition.wait(0.001)
 
 
+def wait_for_signal() -> None:
+    signal.pthread_sigmask(signal.SIG_BLOCK, (signal.SIGUSR1,))
+    os.kill(os.getpid(), signal.SIGUSR1)
+    time.sleep(0.1)
+    print(signal.sigwait((signal.SIGUSR1,)).name)
+
+
 def main(style: str) -> None:
+    if style == "sigwait":
+        wait_for_signal()
     if style == "conds":
         wait_on_each()
     else:

@@ -108,8 +108,8 @@ func (b *buffer) work(seat uint64) {
 	}
 }
 
-// run gives the log of one run, also where goroutines hang.
-func run(style string) string {
+// run writes the log of one run, also where goroutines hang.
+func run(style, path string) error {
 	b := newBuffer(style)
 	var all sync.WaitGroup
 	for seat := uint64(0); seat < putters+takers; seat++ {
@@ -132,14 +132,14 @@ func run(style string) string {
 	case <-done:
 	case <-time.After(limit):
 	}
-	return b.monitor.Text(putters+takers, fmt.Sprintf("buffer %d", size))
+	return b.monitor.Write(path, putters+takers, fmt.Sprintf("buffer %d", size))
 }
 
 func main() {
 	rand.Seed(time.Now().UnixNano())
 	runs, err := strconv.Atoi(os.Args[2])
 	for number := 0; err == nil && number < runs; number++ {
-		err = os.WriteFile(fmt.Sprintf("%s.%d", os.Args[1], number), []byte(run(os.Args[3])), 0o644)
+		err = run(os.Args[3], fmt.Sprintf("%s.%d", os.Args[1], number))
 	}
 	if err != nil {
 		fmt.Fprintln(os.Stderr, err)

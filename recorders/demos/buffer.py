@@ -128,8 +128,8 @@ def seconds_of(style: str) -> float:
     return LONG_IF_SHAKEN if monk_log.SEED else LONG_IF_HANGING
 
 
-def run(style: str) -> str:
-    """The log of one run."""
+def run(style: str) -> monk_log.Recorder:
+    """The recorder of one run."""
     buffer: queue.Queue[int] | Buffer
     if style == "queue":
         buffer = queue.Queue(SIZE)
@@ -145,7 +145,7 @@ def run(style: str) -> str:
     end = time.monotonic() + seconds_of(style)
     for thread in threads:
         thread.join(max(0, end - time.monotonic()))
-    return recorder.text(f"buffer {SIZE_IF_SMALL if style in SMALL else SIZE}")
+    return recorder
 
 
 def main() -> None:
@@ -156,8 +156,7 @@ def main() -> None:
         # what the recorder stands on is now the library with the fault
         monk_log.Condition.__bases__ = (Dropping,)
     for number in range(runs):
-        with open(f"{prefix}.{number}", "w") as file:
-            file.write(run(style))
+        run(style).write(f"{prefix}.{number}", f"buffer {SIZE_IF_SMALL if style in SMALL else SIZE}")
     sys.stdout.flush()
     os._exit(0)  # (threads may hang)
 

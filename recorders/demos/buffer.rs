@@ -15,6 +15,7 @@ use std::thread;
 use std::time::{Duration, Instant};
 
 #[path = "../rust/monk_log.rs"]
+#[allow(dead_code)]
 mod monk_log;
 
 const PUTTERS: usize = 3;
@@ -96,8 +97,8 @@ impl Style {
     }
 }
 
-/// The log of one run, also where threads hang.
-fn run(style: Style) -> String {
+/// Writes the log of one run, also where threads hang.
+fn run(style: Style, path: String) -> std::io::Result<()> {
     let buffer = Arc::new(Buffer::new(VecDeque::new()));
     let threads: Vec<_> = (0..PUTTERS + TAKERS)
         .map(|seat| {
@@ -118,13 +119,13 @@ fn run(style: Style) -> String {
     while Instant::now() < end && !threads.iter().all(|thread| thread.is_finished()) {
         thread::sleep(PAUSE);
     }
-    buffer.text(PUTTERS + TAKERS, &format!("buffer {SIZE}"))
+    buffer.write(path.as_ref(), PUTTERS + TAKERS, &format!("buffer {SIZE}"))
 }
 
 fn main() {
     let words: Vec<String> = std::env::args().collect();
     let runs: usize = words[2].parse().unwrap();
     for number in 0..runs {
-        std::fs::write(format!("{}.{number}", words[1]), run(Style::named(&words[3]))).unwrap();
+        run(Style::named(&words[3]), format!("{}.{number}", words[1])).unwrap();
     }
 }

@@ -70,7 +70,7 @@ def run():
     end = time.monotonic() + 2 * LONG
     for thread in threads:
         thread.join(max(0, end - time.monotonic()))
-    return recorder.text("buffer 1")
+    return recorder
 
 
 def main():
@@ -78,8 +78,7 @@ def main():
     if style == "passed on":
         monk_log.Condition.__bases__ = (Mended,)
     for number in range(runs):
-        with open(f"{prefix}.{number}", "w") as file:
-            file.write(run())
+        run().write(f"{prefix}.{number}")
     os._exit(0)  # (a thread may sleep on)
 
 

@@ -1,6 +1,6 @@
 // Package monklog records one monitor of a sync.Mutex and its sync.Conds. Each line is written by the goroutine that
 // holds the mutex, but for signals by seats that are outside: they are noted with their place. A goroutine has no name,
-// so each says the seat that it was given, from 0.
+// so each says the seat that it was given, from 0. Write writes the log, and beside it where in the source its lines come from.
 //
 // What a recorder can't see is told in recorders/README.md.
 package monklog
@@ -8,6 +8,9 @@ package monklog
 import (
 	"fmt"
 	"os"
+	"path/filepath"
+	"runtime"
+	"strconv"
 	"strings"
 	"sync"
 	"sync/atomic"
@@ -19,8 +22,10 @@ const (
 	seats      = 32
 	conditions = 8
 	statusLate = 124
-	// in place of a length
+	// in place of a count
 	ended = -1
+	// which may be the recorder's, and the program's last; those that always are the recorder's
+	frames, callersOfRecorder = 4, 3
 )
 
 func min(one, other int) int {
@@ -33,21 +38,29 @@ func min(one, other int) int {
 // Monitor stands in place of a sync.Mutex.
 type Monitor struct {
 	mutex   sync.Mutex
-	lines   strings.Builder
-	count   int
+	lines   []line
 	conds   int
 	stopped string
 	active  atomic.Uint64 // the seat that has the mutex, from 1
-	length  atomic.Int64  // how long the lines are, or ended
+	count   atomic.Int64  // of the lines, or ended
 	order   sync.Mutex    // held for each line of a wait, and for a signal from outside together with its call
 	outside []signal
 	leftOut int
 }
 
-// signal is one by a seat that hadn't the mutex: a line, and how long the lines before it are.
+// stack is the nearest callers of a function, of which the first that isn't the recorder's is meant.
+type stack [frames]uintptr
+
+// line is one of the log, and from where it comes.
+type line struct {
+	text    string
+	callers stack
+}
+
+// signal is one by a seat that hadn't the mutex, and how many lines there are before it.
 type signal struct {
 	place int64
-	line  string
+	line  line
 }
 
 // Cond stands in place of a sync.Cond.
@@ -57,22 +70,40 @@ type Cond struct {
 	number  int
 }
 
+// newLine is a line that comes from where the program runs.
+func newLine(verb string, numbers ...uint64) line {
+	text := []byte(verb)
+	for _, number := range numbers {
+		text = strconv.AppendUint(append(text, ' '), number, 10)
+	}
+	it := line{text: string(text)}
+	runtime.Callers(callersOfRecorder, it.callers[:])
+	return it
+}
+
+var _, own, _, _ = runtime.Caller(0)
+
+// place is FILE:LINE of the nearest caller that is none of the recorder's.
+func (s stack) place() string {
+	callers := runtime.CallersFrames(s[:])
+	frame, more := callers.Next()
+	for frame.File == own && more {
+		frame, more = callers.Next()
+	}
+	return fmt.Sprintf("%s:%d", filepath.Base(frame.File), frame.Line)
+}
+
 // put writes a line: a verb, and the seat and what else belongs to it. What stands before a line that isn't written is a log too.
 func (m *Monitor) put(verb string, numbers ...uint64) {
 	if m.stopped == "" && numbers[0] >= seats {
 		m.stopped = fmt.Sprintf("there are more than %d threads, and a log has no more seats", seats)
 	}
 	if m.stopped != "" {
-		m.length.Store(ended)
+		m.count.Store(ended)
 		return
 	}
-	m.count++
-	m.lines.WriteString(verb)
-	for _, number := range numbers {
-		fmt.Fprintf(&m.lines, " %d", number)
-	}
-	m.lines.WriteByte('\n')
-	m.length.Store(int64(m.lines.Len()))
+	m.lines = append(m.lines, newLine(verb, numbers...))
+	m.count.Store(int64(len(m.lines)))
 }
 
 // gate is the monitor's mutex as a sync.Cond uses it: Wait lets it go once its caller is among those that wait.
@@ -127,11 +158,11 @@ func (c *Cond) tell(verb string, seat uint64, call func()) {
 	}
 	m.order.Lock()
 	defer m.order.Unlock()
-	place := m.length.Load()
+	place := m.count.Load()
 	if seat >= seats || c.number >= conditions || place == ended {
 		m.leftOut++
 	} else {
-		m.outside = append(m.outside, signal{place, fmt.Sprintf("%s %d %d\n", verb, seat, c.number)})
+		m.outside = append(m.outside, signal{place, newLine(verb, seat, uint64(c.number))})
 	}
 	call()
 }
@@ -163,7 +194,7 @@ func (m *Monitor) Summary() string {
 	m.order.Lock()
 	defer m.order.Unlock()
 	noted := len(m.outside)
-	said := fmt.Sprintf("%d lines, %d conditions", m.count+noted, m.conds)
+	said := fmt.Sprintf("%d lines, %d conditions", len(m.lines)+noted, m.conds)
 	if m.stopped != "" {
 		said += "; it ends early, since " + m.stopped
 	}
@@ -195,11 +226,7 @@ func (m *Monitor) EndAfter(long time.Duration, path string, seats int, object st
 			fmt.Fprintf(os.Stderr, "monk: %s: no log, since a thread keeps the mutex\n", path)
 			os.Exit(statusLate)
 		}
-		file, err := os.OpenFile(path, os.O_WRONLY|os.O_CREATE|os.O_EXCL, 0o666)
-		if err == nil {
-			_, err = file.WriteString(m.Text(seats, object))
-		}
-		if err == nil {
+		if err := m.write(path, seats, object, "ended after MONK_SECONDS\n"); err == nil {
 			fmt.Fprintf(os.Stderr, "monk: %s: %s\n", path, m.Summary())
 		} else {
 			fmt.Fprintf(os.Stderr, "monk: %s: no log, since %v\n", path, err)
@@ -208,23 +235,74 @@ func (m *Monitor) EndAfter(long time.Duration, path string, seats int, object st
 	})
 }
 
-// Text is the log so far, of so many seats; the words are the object and its size, as "buffer 4".
-func (m *Monitor) Text(count int, object string) string {
+// merged is the lines with the signals from outside at their places.
+func (m *Monitor) merged() []line {
 	m.mutex.Lock()
 	defer m.mutex.Unlock()
 	m.order.Lock()
 	defer m.order.Unlock()
-	return fmt.Sprintf("log 1 %d %d %s\n", min(count, seats), min(m.conds, conditions), object) + m.merged()
-}
-
-// merged is the lines with the signals from outside at their places.
-func (m *Monitor) merged() string {
-	var text strings.Builder
-	lines, written := m.lines.String(), int64(0)
+	var all []line
+	written := int64(0)
 	for _, it := range m.outside {
-		text.WriteString(lines[written:it.place])
-		text.WriteString(it.line)
+		all = append(all, m.lines[written:it.place]...)
+		all = append(all, it.line)
 		written = it.place
 	}
-	return text.String() + lines[written:]
+	return append(all, m.lines[written:]...)
+}
+
+func (m *Monitor) text(lines []line, count int, object string) string {
+	var text strings.Builder
+	fmt.Fprintf(&text, "log 1 %d %d %s\n", min(count, seats), min(m.conds, conditions), object)
+	for _, it := range lines {
+		text.WriteString(it.text + "\n")
+	}
+	return text.String()
+}
+
+// Text is the log so far, of so many seats; the words are the object and its size, as "buffer 4".
+func (m *Monitor) Text(count int, object string) string {
+	return m.text(m.merged(), count, object)
+}
+
+// names is what stands beside the log: the places from which its lines come.
+func names(lines []line) string {
+	var sites, numbers strings.Builder
+	places, of := map[stack]string{}, map[string]int{}
+	for _, it := range lines {
+		place, isKnown := places[it.callers]
+		if !isKnown {
+			place = it.callers.place()
+			places[it.callers] = place
+		}
+		if of[place] == 0 {
+			of[place] = len(of) + 1
+			fmt.Fprintf(&sites, "site %d %s\n", of[place], place)
+		}
+		fmt.Fprintf(&numbers, " %d", of[place])
+	}
+	return sites.String() + "lines" + numbers.String() + "\n"
+}
+
+func writeNew(path, text string) error {
+	file, err := os.OpenFile(path, os.O_WRONLY|os.O_CREATE|os.O_EXCL, 0o666)
+	if err != nil {
+		return err
+	}
+	defer file.Close()
+	_, err = file.WriteString(text)
+	return err
+}
+
+func (m *Monitor) write(path string, count int, object, end string) error {
+	lines := m.merged()
+	if err := writeNew(path, m.text(lines, count, object)); err != nil {
+		return err
+	}
+	return writeNew(path+".names", end+names(lines))
+}
+
+// Write writes the log so far into a new file, and beside it path.names.
+func (m *Monitor) Write(path string, count int, object string) error {
+	return m.write(path, count, object, "")
 }

@@ -4,9 +4,10 @@ import java.nio.file.Path;
 import java.nio.file.StandardOpenOption;
 import java.util.ArrayList;
 import java.util.Date;
-import java.util.HashMap;
+import java.util.LinkedHashMap;
 import java.util.List;
 import java.util.Map;
+import java.util.Set;
 import java.util.concurrent.TimeUnit;
 import java.util.concurrent.atomic.AtomicInteger;
 import java.util.concurrent.locks.Condition;
@@ -20,6 +21,8 @@ import java.util.concurrent.locks.ReentrantLock;
  * <p>Of {@code synchronized (object)}: {@link #enter} first and {@link #leave} last in each block, and {@link #await},
  * {@link #signal} and {@link #signalAll} in place of {@code wait}, {@code notify} and {@code notifyAll}.
  *
+ * <p>{@link #write} writes the log, and beside it the threads' names and where in the source its lines come from.
+ *
  * <p>What a recorder can't see is told in recorders/README.md.
  */
 public final class MonkLog {
@@ -28,11 +31,36 @@ public final class MonkLog {
 
     private static final int STATUS_LATE = 124;
 
-    private final List<String> lines = new ArrayList<>();
-    private final Map<Thread, Integer> seats = new HashMap<>();
+    /** How many frames are looked at first: mostly those of the recorder, and the program's last. */
+    private static final int FRAMES = 6;
+
+    private static final StackWalker STACK = StackWalker.getInstance(Set.of(), FRAMES);
+
+    /** A line, and the frame from which it comes. (Its file and number are only asked for when the log is written.) */
+    private static final class Line {
+        private final String text;
+        private final StackWalker.StackFrame frame;
+
+        private Line(String text) {
+            this.text = text;
+            frame = STACK.walk(frames -> frames.filter(MonkLog::isOfProgram).findFirst()).orElse(null);
+        }
+
+        private String site() {
+            return frame == null ? "?:0" : frame.getFileName() + ":" + frame.getLineNumber();
+        }
+    }
+
+    private final List<Line> lines = new ArrayList<>();
+    private final Map<Thread, Integer> seats = new LinkedHashMap<>();
     private final AtomicInteger strays = new AtomicInteger();
     private int conditions;
     private String stopped = "";
+
+    private static boolean isOfProgram(StackWalker.StackFrame frame) {
+        String name = frame.getClassName(), own = MonkLog.class.getName();
+        return !name.equals(own) && !name.startsWith(own + "$");
+    }
 
     /** What stands before a line that isn't written is a log too. */
     private void put(String verb, String numbers) {
@@ -47,7 +75,7 @@ public final class MonkLog {
             seat = seats.size();
             seats.put(Thread.currentThread(), seat);
         }
-        lines.add(verb + " " + seat + numbers);
+        lines.add(new Line(verb + " " + seat + numbers));
     }
 
     private void put(String verb, int condition) {
@@ -75,8 +103,38 @@ public final class MonkLog {
 
     /** The log so far; the words are the object and its size, as {@code buffer 4}. No thread may be active. */
     public String text(String object) {
-        String first = "log 1 " + seats.size() + " " + Math.min(conditions, CONDITIONS) + " " + object + "\n";
-        return first + String.join("\n", lines) + (lines.isEmpty() ? "" : "\n");
+        return text(lines, object);
+    }
+
+    private String text(List<Line> all, String object) {
+        StringBuilder text = new StringBuilder();
+        text.append("log 1 " + seats.size() + " " + Math.min(conditions, CONDITIONS) + " " + object + "\n");
+        all.forEach(line -> text.append(line.text).append('\n'));
+        return text.toString();
+    }
+
+    /** What stands beside the log: the threads' names, how the program ended if that is known, and the lines' places. */
+    private String names(List<Line> all, String ended) {
+        StringBuilder text = new StringBuilder(), numbers = new StringBuilder("lines");
+        seats.forEach((thread, seat) -> text.append("seat " + seat + " " + thread.getName() + "\n"));
+        text.append(ended);
+        Map<String, Integer> places = new LinkedHashMap<>();
+        for (Line line : all) {
+            numbers.append(" " + places.computeIfAbsent(line.site(), unused -> places.size() + 1));
+        }
+        places.forEach((place, number) -> text.append("site " + number + " " + place + "\n"));
+        return text + numbers.toString() + "\n";
+    }
+
+    private void write(Path file, String object, String ended) throws IOException {
+        List<Line> all = new ArrayList<>(lines);
+        Files.writeString(file, text(all, object), StandardOpenOption.CREATE_NEW);
+        Files.writeString(Path.of(file + ".names"), names(all, ended), StandardOpenOption.CREATE_NEW);
+    }
+
+    /** The log so far, into a new file, and beside it the file of names. No thread may be active. */
+    public void write(Path file, String object) throws IOException {
+        write(file, object, "");
     }
 
     /** What was seen, in words. */
@@ -91,7 +149,7 @@ public final class MonkLog {
         Thread watch = new Thread(() -> {
             try {
                 Thread.sleep(milliseconds);
-                Files.writeString(file, text(object), StandardOpenOption.CREATE_NEW);
+                write(file, object, "ended after MONK_SECONDS\n");
                 System.err.println("monk: " + file + ": " + summary());
             } catch (InterruptedException | IOException error) {
                 System.err.println("monk: " + file + ": no log, since " + error);

@@ -4,7 +4,7 @@
     lock = recorder.lock()                  # in place of threading.Lock(); recorder.rlock() of threading.RLock()
     not_full = recorder.condition(lock)     # in place of threading.Condition(lock)
     recorder.act(code, arg, reply)          # while the lock is held, behind an operation on what it guards, if that is to be judged
-    recorder.text("buffer 4")               # the log; the words are the object and its size
+    recorder.write("run", "buffer 4")       # the log, into a new file, and beside it run.names; the words are the object and its size
     recorder.summary()                      # what was seen, in words
 
 `record_queue(queue.Queue(4))` puts a recorder into a queue of the standard library. Each line is written by the thread that holds
@@ -22,10 +22,12 @@ from __future__ import annotations
 import itertools
 import os
 import random
+import signal
 import sys
 import threading
 import time
-from typing import Any, Callable
+import types
+from typing import Any, Callable, Iterator
 
 SEATS, CONDITIONS = 32, 8  # of a log
 STATUS_LATE = 124
@@ -69,15 +71,46 @@ if SEED:
     shake = Shaker(SEED)
 
 
+HERE = os.path.dirname(os.path.abspath(__file__))
+# What stands between a program and a line of its log.
+BETWEEN = {__file__, threading.__file__, *(os.path.join(HERE, name) for name in ("monk_log.py", "monk_program.py"))}
+
+
+# A line of a log: from where it comes, as code and how far in, and its words. (To ask at once for the line of the source takes longer
+# than all else.)
+Line = tuple[Any, ...]
+WORDS = 2  # where they begin
+
+
+def caller(depth: int) -> types.FrameType:
+    """What of the program is being run, so many frames above or more."""
+    frame = sys._getframe(depth)
+    while frame.f_code.co_filename in BETWEEN and frame.f_back:
+        frame = frame.f_back
+    return frame
+
+
+def place_of(code: types.CodeType, offset: int) -> str:
+    numbers = (line for begin, end, line in code.co_lines() if begin <= offset < end)
+    return f"{os.path.basename(code.co_filename)}:{next(numbers, 0) or 0}"
+
+
+def start_watch(watch: Callable[..., None], *words: object) -> None:
+    """In a thread that takes no signal: each is meant for a thread of the program's."""
+    before = signal.pthread_sigmask(signal.SIG_BLOCK, signal.valid_signals())
+    threading.Thread(target=watch, args=words, daemon=True).start()
+    signal.pthread_sigmask(signal.SIG_SETMASK, before)
+
+
 class Recorder:
     """The lines of one monitor."""
 
     def __init__(self) -> None:
-        self._lines: list[tuple[object, ...]] = []
+        self._lines: list[Line] = []
         self._seats: dict[int, int] = {}
         self._conditions, self._is_used = 0, False
         self.waits, self.strays, self.stopped = 0, 0, ""
-        self.sites: list[str] = []  # where the lock and its conditions were made
+        self.made_at: list[str] = []  # the lock and its conditions
         self.names: list[str] = []  # of threads
 
     def lock(self) -> Lock:
@@ -99,8 +132,30 @@ class Recorder:
 
     def text(self, thing: str = "buffer 1") -> str:
         """The log so far. No thread may be active."""
-        first = f"log 1 {len(self._seats)} {min(self._conditions, CONDITIONS)} {thing}"
-        return "".join(" ".join(map(str, line)) + "\n" for line in [(first,), *self._lines])
+        return "".join(f"{row}\n" for row in self._rows(self._lines, thing))
+
+    def _rows(self, lines: list[Line], thing: str) -> Iterator[str]:
+        yield f"log 1 {len(self._seats)} {min(self._conditions, CONDITIONS)} {thing}"
+        yield from (" ".join(map(str, line[WORDS:])) for line in lines)
+
+    def _names(self, lines: list[Line], how_it_ended: str) -> Iterator[str]:
+        """What stands beside the log: where the lock and its conditions were made, the threads' names, and the lines' places."""
+        whats = ["lock", *(f"condition {number}" for number in range(len(self.made_at) - 1))]
+        yield from (f"{what} made at {where}" for what, where in zip(whats, self.made_at))
+        yield from (f"seat {seat} {name}" for seat, name in enumerate(self.names))
+        yield from [f"ended {how_it_ended}"] * bool(how_it_ended)
+        places = {site: place_of(*site) for site in dict.fromkeys(line[:WORDS] for line in lines)}
+        numbers = {place: number for number, place in enumerate(dict.fromkeys(places.values()), 1)}
+        yield from (f"site {number} {place}" for place, number in numbers.items())
+        yield " ".join(["lines", *(str(numbers[places[line[:WORDS]]]) for line in lines)])
+
+    def write(self, path: str, thing: str = "buffer 1", how_it_ended: str = "") -> None:
+        """The log so far, into a new file, and PATH.names beside it. No thread may be active."""
+        lines = list(self._lines)
+        with open(path, "x") as file:
+            file.writelines(f"{row}\n" for row in self._rows(lines, thing))
+        with open(f"{path}.names", "x", errors="replace") as file:
+            file.writelines(f"{row}\n" for row in self._names(lines, how_it_ended))
 
     def summary(self) -> str:
         """What was seen, in words."""
@@ -115,13 +170,12 @@ class Recorder:
 
     def end_after(self, seconds: float, path: str, thing: str = "buffer 1") -> None:
         """For a program that hangs: after so many seconds its log is written into a new file, and it ends with status 124."""
-        threading.Thread(target=self._end_late, args=(seconds, path, thing), daemon=True).start()
+        start_watch(self._end_late, seconds, path, thing)
 
     def _end_late(self, seconds: float, path: str, thing: str) -> None:
         time.sleep(seconds)
         try:
-            with open(path, "x") as file:
-                file.write(self.text(thing))
+            self.write(path, thing, "after MONK_SECONDS")
             said = self.summary()
         except OSError as fault:
             said = f"no log, since {fault}"
@@ -145,7 +199,8 @@ class Recorder:
             self._seats[thread] = len(self._seats)
             # (current_thread() would make a new one of a thread that is only beginning)
             self.names.append(getattr(threading._active.get(thread), "name", "?"))  # type: ignore[attr-defined]
-        self._lines.append((verb, self._seats[thread], *numbers))
+        frame = caller(4)
+        self._lines.append((frame.f_code, frame.f_lasti, verb, self._seats[thread], *numbers))
         self.waits += verb == "wait"
         self._is_used |= verb not in ("enter", "leave")
         # who came and left before tells nothing, and most locks have no conditions

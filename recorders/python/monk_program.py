@@ -11,8 +11,7 @@ import time
 import types
 from typing import Any, Callable
 
-import monk_log
-from monk_log import SEED, STATUS_LATE, Condition, Lock, Recorder, threading_lock, threading_rlock
+from monk_log import SEED, STATUS_LATE, Condition, Lock, Recorder, caller, start_watch, threading_lock, threading_rlock
 
 exit_at_once = os._exit
 
@@ -34,7 +33,7 @@ class Program:
                 return None
             frame = frame.f_back
         made = Recorder()
-        made.sites.append(site())
+        made.made_at.append(where())
         self.recorders.append(made)
         return made
 
@@ -55,7 +54,7 @@ class Program:
                 lock = lock or program.rlock()
                 recorder = lock.recorder if isinstance(lock, Lock) else None
                 if recorder:
-                    recorder.sites.append(site())
+                    recorder.made_at.append(where())
                 super().__init__(recorder, recorder.next_number() if recorder else 0, lock)
 
         setattr(threading, "Lock", self.lock)
@@ -104,10 +103,7 @@ class Program:
         for number in itertools.count(1):
             name = f"{self.prefix}.{number}"
             try:
-                with open(name, "x") as file:
-                    file.write(recorder.text(os.environ.get("MONK_OBJECT", "buffer 1")))
-                with open(f"{name}.names", "x") as file:
-                    file.writelines([*names_of(recorder), f"ended {self.how_it_ended}\n"])
+                recorder.write(name, os.environ.get("MONK_OBJECT", "buffer 1"), self.how_it_ended)
             except FileExistsError:
                 continue
             except OSError as error:
@@ -122,6 +118,11 @@ class Program:
         return ""
 
 
+def where() -> str:
+    frame = caller(1)
+    return f"{frame.f_code.co_filename}:{frame.f_lineno}"
+
+
 def say(text: str) -> None:
     try:
         os.write(2, f"monk: {text}\n".encode())
@@ -134,20 +135,6 @@ def remove(name: str) -> None:
         os.unlink(name)
     except OSError:
         pass
-
-
-def site() -> str:
-    """The file and line outside this module and `threading` that is being run."""
-    frame: types.FrameType | None = sys._getframe(1)
-    while frame and frame.f_code.co_filename in (__file__, monk_log.__file__, threading.__file__):
-        frame = frame.f_back
-    return f"{frame.f_code.co_filename}:{frame.f_lineno}" if frame else "?"
-
-
-def names_of(recorder: Recorder) -> list[str]:
-    whats = ["lock", *(f"condition {number}" for number in range(len(recorder.sites) - 1))]
-    made = [f"{what} made at {where}\n" for what, where in zip(whats, recorder.sites)]
-    return made + [f"seat {seat} {name}\n" for seat, name in enumerate(recorder.names)]
 
 
 def end_late(program: Program, seconds: float) -> None:
@@ -177,7 +164,7 @@ def run_program(path: str) -> None:
     if signal.getsignal(signal.SIGTERM) == signal.SIG_DFL:
         signal.signal(signal.SIGTERM, end_by_signal(program))
     if seconds := os.environ.get("MONK_SECONDS"):
-        threading.Thread(target=end_late, args=(program, float(seconds)), daemon=True).start()
+        start_watch(end_late, program, float(seconds))
     program.stand_in()
     with open(path, "rb") as file:
         code = compile(file.read(), path, "exec")

@@ -1,0 +1,67 @@
+"""Whether the file beside a log names the lines of the source from which its lines come; for recorders/check and hostile."""
+from __future__ import annotations
+
+import os
+import re
+import subprocess
+import sys
+
+import builds
+
+# A pattern of the line of a demonstration from which a line of its log comes. A `leave` has no place in Rust. In C it may have that
+# of its function's caller, since an unlock that comes last is jumped to.
+CALLS = {
+    "c": {"enter": "pthread_mutex_lock", "wait": "pthread_cond_wait", "signal": "pthread_cond_signal", "act": "MONK_ACT"},
+    "c++": {"enter": "lock.mutex", "leave": "}|lock.unlock", "wait": "condition.wait", "signal": "notify_one", "act": "MONK_ACT"},
+    "python": {"enter": "self.lock", "leave": "self.lock", "wait": "condition.wait", "signal": "notify", "act": "recorder.act"},
+    "java": {"enter": "lock.lock", "leave": "lock.unlock", "wait": "condition.await", "signal": "[.]signal", "act": "log.act"},
+    "go": {"enter": "monitor.Lock", "leave": "monitor.Unlock", "wait": "cond.Wait", "signal": "cond.Signal", "act": "monitor.Act"},
+    "rust": {"enter": "buffer.enter", "wait": "inside.wait", "signal": "notify_one", "act": "inside.act"},
+}
+SOURCES = {"c": "buffer.c", "c++": "buffer.cc", "python": "buffer.py", "java": "Buffer.java", "go": "buffer.go", "rust": "buffer.rs"}
+
+
+def places_of(path: str) -> list[str]:
+    """By line of a log, FILE:LINE or nothing."""
+    places, numbers = [""], list[int]()
+    with open(f"{path}.names") as file:
+        for word, _, rest in (row.rstrip("\n").partition(" ") for row in file):
+            if word == "site":
+                places.append(rest.split(" ", 1)[1])
+            if word == "lines":
+                numbers = list(map(int, rest.split()))
+    return [places[number] for number in numbers]
+
+
+def lines_of(path: str) -> list[str]:
+    with open(path) as file:
+        return file.read().splitlines()[1:]
+
+
+def miscounted(path: str) -> str:
+    """Whether the row of numbers isn't as long as the log."""
+    places, lines = len(places_of(path)), len(lines_of(path))
+    return "" if places == lines else f"{path}.names: {places} places of {lines} lines"
+
+
+def misplaced(language: str, path: str) -> str:
+    """The first line of a log whose place isn't that of such a call, or nothing."""
+    source, calls = SOURCES[language], CALLS[language]
+    with open(builds.demo(source)) as file:
+        texts = dict(enumerate(file.read().splitlines(), 1))
+    lines, places = lines_of(path), places_of(path)
+    for line, place in zip(lines, places):
+        verb = line.split()[0]
+        call = calls.get("wait" if verb in ("resume", "lapse") else verb, "")
+        name, _, number = place.rpartition(":")
+        if call and (name != source or not re.search(call, texts.get(int(number), ""))):
+            return f"{path}: {line}: {place}"
+    return ""
+
+
+def first_misplaced(language: str, paths: list[str]) -> str:
+    """The same of some logs. In C and C++ their places are told by the tool first."""
+    if language in ("c", "c++"):
+        tool = os.path.join(builds.HERE, "c", "sites")
+        subprocess.run([sys.executable, tool, *(f"{path}.names" for path in paths)], check=True)
+    return next(filter(None, (miscounted(path) or misplaced(language, path) for path in paths)), "")
