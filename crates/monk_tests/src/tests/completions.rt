@@ -3,7 +3,8 @@
 use monk_audit::{Verdict, audit};
 use monk_history::{Event, From3, Header, Next, Via};
 use monk_kinds::KindName;
-use monk_logs::{Blame, Completion, LogHeader, complete, read_log};
+use monk_completion::{Blame, Completion, complete};
+use monk_logs::{LogHeader, read_log};
 use monk_object::Op;
 use std::test::Fail;
 
