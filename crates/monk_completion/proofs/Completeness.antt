@@ -284,15 +284,13 @@ history_leads m h = history_induction (λ x. IsLegal m x → Leads m (opening_st
     }) h
 
 -- a log at whose line something is to blame doesn't begin what a legal history tells
-stopped : (m : Monitor) (r : Result Stand Blame) (why : Blame) (more : List LogLine) (to : Stand) → r ≡ Err why
-    → lead m r more ≡ Ok to → ⊥
-stopped m r why more to is h =
-    let wrong : Err {Stand} {Blame} why ≡ Ok to =
-    sym (lead_err m why more) ∙ ap (λ (x : Result Stand Blame). lead m x more) (sym is) ∙ h in absurd cc
+not_both : (r : Result Stand Blame) (why : Blame) (to : Stand) → r ≡ Err why → r ≡ Ok to → ⊥
+not_both r why to h k = cc
 
 pub open_judged : (m : Monitor) (log : List LogLine) (why : Blame) → IsOpen m log → lead_all m log ≡ Err why → ⊥
 open_judged m log why o is =
     let w = history_leads m o.history o.legal in
-    stopped m (lead_all m log) why o.more w.to is
+    not_both (lead m (lead_all m log) o.more) why w.to
+    (ap (λ (r : Result Stand Blame). lead m r o.more) is ∙ lead_err m why o.more)
     (sym (lead-append m (Ok (opening_stand m)) log o.more)
     ∙ ap (lead m (Ok (opening_stand m))) (sym o.erases) ∙ w.judged)

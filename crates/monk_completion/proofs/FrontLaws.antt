@@ -15,6 +15,7 @@ use Rattle.monk_audit.specs.Replay.{is_front_in}
 use Rattle.monk_audit.specs.Settled.{permits}
 use Rattle.monk_logs.specs.declared.text.line.LogLine.{LogLine}
 use Rattle.monk_logs.specs.declared.text.line.LogLine.TheVariants.{Enter, Resume, Lapse, Leave, Wait, Signal, Broadcast, Until as UntilLine, Act}
+use Rattle.monk_completion.specs.Blame.{stay_blame}
 use Rattle.monk_completion.specs.Fronts.{fronts_of}
 use Rattle.monk_completion.specs.Told.{told_next}
 
@@ -106,3 +107,6 @@ lists_same false first ws (r ∷ rs) (j ∷ ss) s = refl
 pub unwished_same : (k : Rules) (q : Queues) (s : ℕ) → unwished_choice k (fronts_of q) s ≡ unwished_choice k q s
 unwished_same k q s =
     lists_same (has_conditions k.mode) (nat_le k.signaller k.waiter) q.waiters q.ready q.signallers s
+
+pub stay_blame_same : (k : Rules) (q : Queues) (s : ℕ) → stay_blame k (fronts_of q) s ≡ stay_blame k q s
+stay_blame_same k q s = rw (front_same s q.signallers) refl

@@ -9,6 +9,7 @@ use Rattle.monk_history.specs.declared.event.Event.{Event}
 use Rattle.monk_history.specs.declared.event.Event.TheVariants.{SignalLeave}
 use Rattle.monk_history.specs.declared.event.Next.TheVariants.{Stay}
 use Rattle.monk_history.specs.Meaning.Monitor.{Monitor, monitor}
+use Rattle.monk_history.specs.Meaning.Reasons.{reason_in}
 use Rattle.monk_history.specs.Meaning.Release.{MayCallIn}
 use Rattle.monk_history.specs.Meaning.Situation.{Situation, situation}
 use Rattle.monk_history.specs.Meaning.Step.{opening_situation}

@@ -1,5 +1,5 @@
 -- The release with which a log ends, whose choice no line tells
-use Rattle.std.specs.Prelude.{List, [], ◌∷◌, Option, Some, None}
+use Rattle.std.specs.Prelude.{false, List, [], ◌∷◌, Option, Some, None}
 use Rattle.std.specs.Option.{option_map_or}
 use Rattle.monk_kinds.specs.declared.mode.Pick.TheVariants.{Entry as WishEntry}
 use Rattle.monk_kinds.specs.declared.mode.Rules.{Rules}

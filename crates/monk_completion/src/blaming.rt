@@ -1,9 +1,10 @@
 //! What is to blame where a line can't stand behind a release, or behind a signal that is half told.
 
-ghost use Rattle.std.specs.Prelude.{◌≡◌, ◌||◌, [], Some, IfOk, is_some, slice_get, if◌then◌else◌};
+ghost use Rattle.std.specs.Prelude.{◌≡◌, ◌||◌, [], true, Some, IfOk, is_some, if◌then◌else◌};
 ghost use Rattle.monk_history.specs.declared.event.Next.{Next};
-ghost use Rattle.monk_history.specs.Meaning.Choice.{Queues, queues_at};
+ghost use Rattle.monk_history.specs.Meaning.Choice.{queues_at};
 ghost use Rattle.monk_history.specs.Meaning.Events.{awaited_predicate, next_of, returns_at_once, steps_back, waits_on};
+ghost use Rattle.monk_history.specs.Meaning.Reasons.{fits_object};
 ghost use Rattle.monk_history.specs.Meaning.Release.{MayCallIn};
 ghost use Rattle.monk_history.specs.Meaning.Turn.{is_exit_of};
 ghost use Rattle.monk_audit.specs.Replay.{IsReplayOf, replay_situation, stands_in};
@@ -16,7 +17,7 @@ use crate::fronts::{Fronts, first_served, stepping_back};
 use crate::setting::MonitorSetting;
 use monk_audit::{Replay, replies};
 use monk_history::{Event, From3, Next, Via};
-use monk_kinds::{Mode, Rules};
+use monk_kinds::Mode;
 use monk_logs::LogLine;
 use monk_object::Guarded;
 use std::alloc::AllocError;
@@ -219,17 +220,6 @@ fn resume_blame<T: Guarded>(
     }
 }
 
-/// What is to blame where the caller goes on at once, though it may not have stayed.
-fn stay_blame(rules: Rules, signaller: Option<u8>, seat: u8) -> Blame
-    ensures { (q : Queues) → slice_get q.signallers 0 ≡ signaller → result ≡ blames.stay_blame rules q seat }
-{
-    if rules.signaller < rules.waiter || signaller == Some(seat) {
-        Blame::Choice
-    } else {
-        Blame::Order
-    }
-}
-
 /// What is to blame where the release may not have chosen what the line tells.
 fn choice_blame<T: Guarded>(
     setting: MonitorSetting,
@@ -253,9 +243,38 @@ fn choice_blame<T: Guarded>(
         | LogLine::Broadcast(seat, _)
         | LogLine::Until(seat, _)
         | LogLine::Act(seat, ..) => {
-            let signaller = Fronts::at(replay, object, event).signaller;
-            Ok(stay_blame(setting.rules, signaller, seat))
+            let fronts = Fronts::at(replay, object, event);
+            Ok(fronts.stay_blame(setting.rules, seat))
         }
+    }
+}
+
+/// The first of the tests of the turn and behind it that the line fails. The object is of no further use.
+fn late_blame<T: Guarded>(
+    setting: MonitorSetting,
+    replay: &Replay,
+    object: &mut T,
+    event: Event,
+    line: LogLine,
+) -> Result<Blame, AllocError>
+    requires sound { IsReplayOf setting.seats setting.conds T.PREDICATES replay.now }
+    requires called { MayCallIn (monitor_in setting T.meaning)
+        (replay_situation replay.now (T.state object.old)) event }
+    requires release { next_of event ≡ Some Next.Stay }
+    requires line { fits_object T.CODES T.PREDICATES (blames.line_event setting.rules.mode line) ≡ true }
+    ensures { IfOk result (λ why. why ≡ blames.late_blame (monitor_in setting T.meaning)
+        (replay_situation replay.now (T.state object.old)) event line) }
+{
+    let last = choice_blame(setting, replay, object, event, line)?;
+    let stays = replay.must_stay(object, event);
+    if !may_be_its_turn(stays, replay, event, line) {
+        Ok(Blame::Turn)
+    } else if !is_in_place(replay, event, line) {
+        Ok(Blame::Place)
+    } else if !replies(object, line_event(setting.rules.mode, line)) {
+        Ok(Blame::Reply)
+    } else {
+        Ok(last)
     }
 }
 
@@ -276,18 +295,8 @@ pub(crate) fn release_blame<T: Guarded>(
         (replay_situation replay.now (T.state object.old)) event line) }
 {
     let told = line_event(setting.rules.mode, line);
-    if let Some(early) = early_blame(setting, replay, object, told) {
-        return Ok(early);
-    }
-    let last = choice_blame(setting, replay, object, event, line)?;
-    let stays = replay.must_stay(object, event);
-    if !may_be_its_turn(stays, replay, event, line) {
-        Ok(Blame::Turn)
-    } else if !is_in_place(replay, event, line) {
-        Ok(Blame::Place)
-    } else if !replies(object, told) {
-        Ok(Blame::Reply)
-    } else {
-        Ok(last)
+    match early_blame(setting, replay, object, told) {
+        Some(early) => Ok(early),
+        None => late_blame(setting, replay, object, event, line),
     }
 }

@@ -10,9 +10,11 @@ ghost use Rattle.monk_history.specs.Meaning.Waiters.{serves};
 ghost use Rattle.monk_history.specs.Meaning.Wish.{unwished_choice};
 ghost use Rattle.monk_audit.specs.Replay.{is_front_in, replay_situation};
 ghost use Rattle.monk_audit.specs.Settled as settled;
+ghost use Rattle.monk_completion.specs.Blame as blames;
 ghost use Rattle.monk_completion.specs.Fronts.{fronts_of, shown};
 ghost use Rattle.monk_completion.specs.Told as told;
 
+use crate::blame::Blame;
 use monk_audit::Replay;
 use monk_history::{Event, Next};
 use monk_kinds::{Mode, Rules};
@@ -83,6 +85,17 @@ impl Fronts {
         self.waiter == Some(seat) || self.signaller == Some(seat) || self.ready == Some(seat)
     }
 
+    /// What is to blame where the caller goes on at once, though it may not have stayed.
+    pub(crate) fn stay_blame(self, rules: Rules, seat: u8) -> Blame
+        ensures { result ≡ blames.stay_blame rules (shown self) seat }
+    {
+        if rules.signaller < rules.waiter || self.signaller == Some(seat) {
+            Blame::Choice
+        } else {
+            Blame::Order
+        }
+    }
+
     /// What the line tells of the choice.
     pub(crate) fn told_next(self, line: LogLine) -> Next
         ensures { result ≡ told.told_next (shown self) line }
@@ -123,7 +136,7 @@ impl Fronts {
         ensures { result ≡ settled.permits rules (shown self) stays event }
     {
         match event.choice() {
-            None => true,
+            None => !stays,
             Some(next) if stays => next == Next::Stay,
             Some(Next::Stay) => self.permits_stay(rules, event),
             Some(next) => self.permits_next(rules, event.seat(), next),

@@ -57,7 +57,7 @@ fn due_from(replay: &Replay) -> From3
 {
     match replay.turn() {
         Turn::Due(_, queue) => queue,
-        _ => From3::Waiter,
+        Turn::Open | Turn::Owned(_) => From3::Waiter,
     }
 }
 
