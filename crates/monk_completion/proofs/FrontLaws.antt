@@ -1,15 +1,17 @@
 -- A choice in order of arrival depends on the fronts of the queues alone
 use Rattle.std.proofs.Common.{◌≡◌, ℕ, Bool, true, false, cond, not, ◌&&◌, ◌||◌, List, [], ◌∷◌, ◌++◌, take, Option, Some, None, refl, ap, ◌∙◌}
-use Rattle.std.specs.Option.{option_map_or}
+use Rattle.std.specs.Option.{option_map_or, option_or}
 use Rattle.std.specs.Prelude.{◌==◌, is_some, nat_le, slice_get}
 use Rattle.monk_kinds.specs.declared.mode.Rules.{Rules}
 use Rattle.monk_history.specs.Just.{just}
 use Rattle.monk_history.specs.declared.event.Event.{Event}
+use Rattle.monk_history.specs.declared.event.Event.TheVariants as event
 use Rattle.monk_history.specs.declared.event.Next.{Next}
 use Rattle.monk_history.specs.declared.event.Next.TheVariants.{Stay, Entry, Waiter, Signaller, Until}
 use Rattle.monk_history.specs.Meaning.Choice.{Queues, is_front, may_choose, may_signal}
 use Rattle.monk_history.specs.Meaning.Events.{has_conditions, is_stay, next_of, seat_of, steps_back}
-use Rattle.monk_history.specs.Meaning.Signallers.{is_empty}
+use Rattle.monk_history.specs.Meaning.Signallers.{is_empty, signals}
+use Rattle.monk_history.specs.Meaning.Waiters.{serves}
 use Rattle.monk_history.specs.Meaning.Wish.{front, unwished_choice}
 use Rattle.monk_audit.specs.Replay.{is_front_in}
 use Rattle.monk_audit.specs.Settled.{permits}
@@ -27,16 +29,55 @@ empty_same : (xs : List ℕ) → is_empty (take 1 xs) ≡ is_empty xs
 empty_same [] = refl
 empty_same (x ∷ xs) = refl
 
-pub first_same : (xs : List ℕ) → slice_get (take 1 xs) 0 ≡ slice_get xs 0
-first_same [] = refl
-first_same (x ∷ xs) = refl
+just_first : (xs : List ℕ) → just (slice_get (take 1 xs) 0) ≡ take 1 xs
+just_first [] = refl
+just_first (x ∷ xs) = refl
 
 -- the first of two queues, one behind the other
-pub first_of_both : (xs ys : List ℕ) (o : Option ℕ) → o ≡ cond (is_some (slice_get xs 0)) (slice_get xs 0) (slice_get ys 0)
-    → just o ≡ take 1 (xs ++ ys)
-first_of_both [] [] o is = ap just is
-first_of_both [] (y ∷ ys) o is = ap just is
-first_of_both (x ∷ xs) ys o is = ap just is
+pub first_of_both : (xs ys : List ℕ) (o p : Option ℕ) → o ≡ slice_get xs 0 → p ≡ slice_get ys 0
+    → just (option_or o p) ≡ take 1 (xs ++ ys)
+first_of_both [] [] o p is so = rw (is, so) refl
+first_of_both [] (y ∷ ys) o p is so = rw (is, so) refl
+first_of_both (x ∷ xs) ys o p is so = rw is refl
+
+pub first_alone : (xs : List ℕ) (o : Option ℕ) → o ≡ slice_get xs 0 → just o ≡ take 1 xs
+first_alone [] o is = ap just is
+first_alone (x ∷ xs) o is = ap just is
+
+abbrev queues : List ℕ → List ℕ → List ℕ → Queues
+queues ws ss rs = record { waiters = ws; signallers = ss; ready = rs }
+
+pub same_fronts : (ws ss rs xs ys zs : List ℕ) → ws ≡ xs → ss ≡ ys → rs ≡ zs → queues ws ss rs ≡ queues xs ys zs
+same_fronts ws ss rs xs ys zs h k l = cc
+
+-- a release serves one at most, and one at most steps back
+pub one_served : (queue : ℕ → List ℕ) (e : Event) → next_of e ≡ Some Stay → just (slice_get (serves queue e) 0) ≡ serves queue e
+one_served queue (event.Enter s via) h = refl
+one_served queue (event.Act s op r) h = refl
+one_served queue (event.Leave s x) h = refl
+one_served queue (event.Wait s c x) h = refl
+one_served queue (event.Signal s c x) h = just_first (queue c)
+one_served queue (event.SignalLeave s c x) h = just_first (queue c)
+one_served queue (event.Until s p x) h = refl
+one_served queue (event.Resume s q) h = refl
+one_served queue (event.SignalAll s c) h = absurd cc
+one_served queue (event.SignalWait s c d x) h = just_first (queue c)
+
+just_stepping : (s : ℕ) (b : Bool) → just (slice_get (cond b [] (s ∷ [])) 0) ≡ cond b [] (s ∷ [])
+just_stepping s true = refl
+just_stepping s false = refl
+
+pub one_steps_back : (queue : ℕ → List ℕ) (e : Event) → just (slice_get (signals queue e) 0) ≡ signals queue e
+one_steps_back queue (event.Enter s via) = refl
+one_steps_back queue (event.Act s op r) = refl
+one_steps_back queue (event.Leave s x) = refl
+one_steps_back queue (event.Wait s c x) = refl
+one_steps_back queue (event.Signal s c x) = just_stepping s (is_empty (queue c))
+one_steps_back queue (event.SignalLeave s c x) = refl
+one_steps_back queue (event.Until s p x) = refl
+one_steps_back queue (event.Resume s q) = refl
+one_steps_back queue (event.SignalAll s c) = refl
+one_steps_back queue (event.SignalWait s c d x) = refl
 
 pub told_same : (q : Queues) (l : LogLine) → told_next (fronts_of q) l ≡ told_next q l
 told_same q (Enter s) = refl

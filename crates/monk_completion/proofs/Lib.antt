@@ -10,5 +10,6 @@ mod Exactly
 mod Halves
 mod Endings
 mod FrontLaws
+mod ToldLaws
 mod Lines
 mod MadeLaws

@@ -1,5 +1,5 @@
 -- The lines that have been judged so far, with the events that they told
-use Rattle.std.proofs.Common.{◌≡◌, ℕ, ◌+◌, ◌<◌, ◌≤◌, true, false, cond, List, [], length, get_or, take, drop, ◌++◌, ◌∷◌, refl, sym, ap, subst, ◌∙◌}
+use Rattle.std.proofs.Common.{◌≡◌, ℕ, ◌+◌, ◌<◌, ◌≤◌, cond, not, ◌&&◌, List, [], length, get_or, take, drop, ◌++◌, ◌∷◌, refl, sym, ap, subst, ◌∙◌}
 use Rattle.std.proofs.lemmas.List.{at_drop_all, at_drop_more, take_all, take_more}
 use Rattle.std.specs.Prelude.{◌==◌, Result, Ok, Err}
 use Rattle.monk_kinds.specs.Kind.{IsKind}
@@ -12,14 +12,16 @@ use Rattle.monk_history.specs.Meaning.Monitor.{Monitor, monitor}
 use Rattle.monk_history.specs.Meaning.Reasons.{reason_in}
 use Rattle.monk_history.specs.Meaning.Release.{MayCallIn}
 use Rattle.monk_history.specs.Meaning.Situation.{Situation, situation}
-use Rattle.monk_history.specs.Meaning.Step.{opening_situation}
+use Rattle.monk_history.specs.Meaning.Step.{after, opening_situation}
 use Rattle.monk_logs.specs.declared.text.line.LogLine.{LogLine}
 use Rattle.monk_logs.specs.declared.text.line.LogLine.TheVariants.{Enter, Resume, Lapse, Leave, Wait, Signal, Broadcast, Until, Act}
+use Rattle.monk_completion.specs.Blame.{release_blame}
 use Rattle.monk_completion.specs.Completion.{Completes}
 use Rattle.monk_completion.specs.Ending.{last_events}
 use Rattle.monk_completion.specs.Events.{told_events}
 use Rattle.monk_completion.specs.Stand.{IsHeldOver, Stand, line_behind, line_half, line_over, line_settled, line_told, opening_stand}
 use Rattle.monk_completion.specs.Stand.{settle, stand, stand_or, stand_settled, verdict_from, verdict_on}
+use Rattle.monk_completion.specs.Told.{is_lapse, told_release}
 use Rattle.monk_completion.specs.declared.blame.Blame.{Blame}
 use Rattle.monk_completion.specs.declared.pending.Pending.{Pending}
 use Rattle.monk_completion.specs.declared.pending.Pending.TheVariants.{Settled, Half, Release}
@@ -64,7 +66,11 @@ module _ (k : Rules) (seats conds : ℕ) (o : Object) (d : List ℕ) where
       → line_told (monitor k seats conds o []) t e l ≡ line_told (monitor k seats conds o d) t e l
   unfolding reason_in
   told_apart t e l =
-      ap (λ (r : Result Stand Blame). cond _ r _) (settled_apart _ l)
+      let f = told_release o t e l in
+      ap (λ (r : Result Stand Blame).
+      cond (not (is_lapse l) && (reason_in (monitor k seats conds o []) t f == 0)) r
+      (Err (release_blame (monitor k seats conds o []) t e l)))
+      (settled_apart (after o t f) l)
 
   line_apart : (t : Situation) (p : Pending) (l : LogLine)
       → line_behind (monitor k seats conds o []) t p l ≡ line_behind (monitor k seats conds o d) t p l

@@ -1,20 +1,23 @@
 -- The tests of an event, read from the reason and back; and which tests a call has passed
-use Rattle.std.proofs.Common.{◌≡◌, ℕ, Bool, true, false, cond, not, ◌&&◌, Some, refl, arith}
+use Rattle.std.proofs.Common.{◌≡◌, ℕ, Bool, true, false, cond, not, ◌&&◌, Option, Some, None, refl, sym, ap, subst, ◌∙◌, arith}
 use Rattle.std.proofs.lemmas.Bool.{eqb-true, false≢true}
 use Rattle.std.specs.Prelude.{◌==◌, nat_lt, Result, Ok, Err}
 use Rattle.std.specs.List.{list_all}
+use Rattle.std.specs.Option.{option_map_or}
+use Rattle.monk_object.specs.Runs.{Answered}
 use Rattle.monk_history.specs.declared.event.Next.{Next}
 use Rattle.monk_history.specs.declared.event.Next.TheVariants.{Stay}
-use Rattle.monk_history.specs.Meaning.Events.{named_seat}
+use Rattle.monk_history.specs.Meaning.Events.{answered_act, named_seat}
 use Rattle.monk_history.specs.declared.event.Event.{Event}
 use Rattle.monk_history.specs.declared.event.Event.TheVariants.{Enter, Act, Leave, Wait, Signal, SignalLeave, Until, Resume}
 use Rattle.monk_history.specs.declared.event.Event.TheVariants.{SignalAll, SignalWait}
 use Rattle.monk_history.specs.Meaning.Monitor.{Monitor}
 use Rattle.monk_history.specs.Meaning.Choice.{is_permitted}
 use Rattle.monk_history.specs.Meaning.Reasons.{IsAllowedIn, reason_before, reason_in, is_in_range, is_offered, is_in_turn, is_in_place}
-use Rattle.monk_history.specs.Meaning.Reasons.{is_right_reply}
+use Rattle.monk_history.specs.Meaning.Reasons.{fits_object, is_right_reply}
 use Rattle.monk_history.specs.Meaning.Release.{MayCallIn, as_called, with_next}
 use Rattle.monk_history.specs.Meaning.Situation.{Situation}
+use Rattle.monk_history.proofs.PublicLaws.Meaning.{and_right}
 
 -- ---- what was added where a test passed
 
@@ -71,6 +74,49 @@ reason_from_allowed m t e a =
     none_of_six (is_in_range m.seats m.conds m.object.codes m.object.predicates e) (is_offered m.kind e)
     (is_in_turn t e) (is_in_place m.object t e) (is_right_reply m.object t.state e)
     (is_permitted m.kind m.object t e) a.in_range a.offered a.in_turn a.in_place a.right_reply a.permitted
+
+-- ---- a release, whose reply is not asked for
+
+early_fails : (a b c d e f : Bool) → (first_of_four a b c d ≡ 0 → ⊥) → (first_of_six a b c d e f == 0) ≡ false
+early_fails true true true true e f h = absurd (h refl)
+early_fails true true true false e f h = refl
+early_fails true true false d e f h = refl
+early_fails true false c d e f h = refl
+early_fails false b c d e f h = refl
+
+last_decides : (a b c d e f : Bool) → first_of_four a b c d ≡ 0 → e ≡ true → (first_of_six a b c d e f == 0) ≡ f
+last_decides true true true true true true h k = refl
+last_decides true true true true true false h k = refl
+last_decides true true true true false f h k = absurd cc
+last_decides true true true false e f h k = absurd (omega arith)
+last_decides true true false d e f h k = absurd (omega arith)
+last_decides true false c d e f h k = absurd (omega arith)
+last_decides false b c d e f h k = absurd (omega arith)
+
+pub early_refused : (m : Monitor) (t : Situation) (e : Event) (n : ℕ) → n ≡ reason_before 0 m t e → (n ≡ 0 → ⊥)
+    → (reason_in m t e == 0) ≡ false
+unfolding reason_in
+early_refused m t e n is h =
+    early_fails (is_in_range m.seats m.conds m.object.codes m.object.predicates e) (is_offered m.kind e)
+    (is_in_turn t e) (is_in_place m.object t e) (is_right_reply m.object t.state e)
+    (is_permitted m.kind m.object t e) (λ z. h (is ∙ z))
+
+pub permitted_only : (m : Monitor) (t : Situation) (e : Event) → 0 ≡ reason_before 0 m t e → answered_act e ≡ None
+    → (reason_in m t e == 0) ≡ is_permitted m.kind m.object t e
+unfolding reason_in
+permitted_only m t e is none =
+    last_decides (is_in_range m.seats m.conds m.object.codes m.object.predicates e) (is_offered m.kind e)
+    (is_in_turn t e) (is_in_place m.object t e) (is_right_reply m.object t.state e)
+    (is_permitted m.kind m.object t e) (sym is)
+    (ap (λ (a : Option Answered). option_map_or (λ act. act.reply == m.object.reply t.state act.op) a true) none)
+
+-- what may be called asks for what the object has
+pub called_fits : (m : Monitor) (t : Situation) (e : Event) (codes predicates : ℕ) → MayCallIn m t e
+    → m.object.codes ≡ codes → m.object.predicates ≡ predicates → fits_object codes predicates e ≡ true
+called_fits m t e codes predicates may few fewer =
+    subst (λ (n : ℕ). fits_object codes n e ≡ true) fewer
+    (subst (λ (n : ℕ). fits_object n m.object.predicates e ≡ true) few
+    (and_right _ (fits_object m.object.codes m.object.predicates e) may.in_range))
 
 -- ---- what may be called or is allowed may be called with another choice
 

@@ -1,13 +1,14 @@
 //! What is to blame where a line can't stand behind a release, or behind a signal that is half told.
 
-ghost use Rattle.std.specs.Prelude.{◌≡◌, ◌||◌, [], true, Some, IfOk, is_some, if◌then◌else◌};
+ghost use Rattle.std.specs.Prelude.{◌≡◌, ◌||◌, ◌++◌, [], true, Some, IfOk, is_some, if◌then◌else◌};
+ghost use Rattle.monk_history.specs.Just.{just};
 ghost use Rattle.monk_history.specs.declared.event.Next.{Next};
 ghost use Rattle.monk_history.specs.Meaning.Choice.{queues_at};
 ghost use Rattle.monk_history.specs.Meaning.Events.{awaited_predicate, next_of, returns_at_once, steps_back, waits_on};
 ghost use Rattle.monk_history.specs.Meaning.Reasons.{fits_object};
 ghost use Rattle.monk_history.specs.Meaning.Release.{MayCallIn};
 ghost use Rattle.monk_history.specs.Meaning.Turn.{is_exit_of};
-ghost use Rattle.monk_audit.specs.Replay.{IsReplayOf, replay_situation, stands_in};
+ghost use Rattle.monk_audit.specs.Replay.{IsReplayOf, has, replay_situation, stands_in};
 ghost use Rattle.monk_completion.specs.Blame as blames;
 ghost use Rattle.monk_completion.specs.Blame.{early_blame};
 ghost use Rattle.monk_completion.specs.Stand.{monitor_in};
@@ -176,6 +177,13 @@ pub(crate) fn lapse_blame(seats: u8, seat: u8) -> Blame
     }
 }
 
+/// Whether the seat is in the queue, behind which one more may stand.
+fn is_among(queue: &[u8], last: Option<u8>, seat: u8) -> bool
+    ensures { result ≡ has seat (queue.now ++ just last) }
+{
+    queue.contains(&seat) || last == Some(seat)
+}
+
 /// Whether the seat stands in one of the queues from which the release chooses.
 fn stands_in<T: Guarded>(
     setting: MonitorSetting,
@@ -190,12 +198,14 @@ fn stands_in<T: Guarded>(
         ≡ stands_in (queues_at T.meaning (replay_situation replay.now (T.state object.now)) event) seat) }
 {
     let waiters = replay.waiters(setting.alloc)?;
+    if is_among(&waiters, first_served(replay, event), seat) {
+        return Ok(true);
+    }
     let signallers = replay.signallers(setting.alloc)?;
-    Ok(waiters.contains(&seat)
-        || first_served(replay, event) == Some(seat)
-        || signallers.contains(&seat)
-        || stepping_back(replay, event) == Some(seat)
-        || replay.is_ready(object, seat))
+    if is_among(&signallers, stepping_back(replay, event), seat) {
+        return Ok(true);
+    }
+    Ok(replay.is_ready(object, seat))
 }
 
 /// What is to blame where a seat goes on that the release may not have chosen.
@@ -220,6 +230,21 @@ fn resume_blame<T: Guarded>(
     }
 }
 
+/// What is to blame where the caller goes on at once, though it may not have stayed.
+fn stay_blame<T: Guarded>(
+    setting: MonitorSetting,
+    replay: &Replay,
+    object: &T,
+    event: Event,
+    seat: u8,
+) -> Blame
+    requires sound { IsReplayOf setting.seats setting.conds T.PREDICATES replay.now }
+    ensures { result ≡ blames.stay_blame setting.rules
+        (queues_at T.meaning (replay_situation replay.now (T.state object.now)) event) seat }
+{
+    Fronts::at(replay, object, event).stay_blame(setting.rules, seat)
+}
+
 /// What is to blame where the release may not have chosen what the line tells.
 fn choice_blame<T: Guarded>(
     setting: MonitorSetting,
@@ -242,10 +267,7 @@ fn choice_blame<T: Guarded>(
         | LogLine::Signal(seat, _)
         | LogLine::Broadcast(seat, _)
         | LogLine::Until(seat, _)
-        | LogLine::Act(seat, ..) => {
-            let fronts = Fronts::at(replay, object, event);
-            Ok(fronts.stay_blame(setting.rules, seat))
-        }
+        | LogLine::Act(seat, ..) => Ok(stay_blame(setting, replay, object, event, seat)),
     }
 }
 

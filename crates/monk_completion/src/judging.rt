@@ -57,7 +57,8 @@ fn due_from(replay: &Replay) -> From3
 {
     match replay.turn() {
         Turn::Due(_, queue) => queue,
-        Turn::Open | Turn::Owned(_) => From3::Waiter,
+        Turn::Open => From3::Waiter,
+        Turn::Owned(_) => From3::Waiter,
     }
 }
 
@@ -217,6 +218,13 @@ fn line_half<T: Guarded>(
     }
 }
 
+/// Whether the line tells that a timed wait ran out.
+fn is_lapse(line: LogLine) -> bool
+    ensures { result ≡ told.is_lapse line }
+{
+    matches!(line, LogLine::Lapse(_))
+}
+
 /// The release, with the choice that the line tells.
 fn told_release<T: Guarded>(replay: &Replay, object: &T, event: Event, line: LogLine) -> Event
     requires { All (λ w. w.1 < T.PREDICATES) (replay_situation replay.now []).untils }
@@ -262,7 +270,7 @@ fn line_told<T: Guarded>(
         (replay_situation replay.old (T.state object.old)) (Pending.Release event) line)) }
 {
     let told = told_release(replay, object, event, line);
-    if matches!(line, LogLine::Lapse(_)) || refuses(setting, replay, object, told) {
+    if is_lapse(line) || refuses(setting, replay, object, told) {
         let blame = release_blame(setting, replay, object, event, line)?;
         return Ok(Err(blame));
     }
