@@ -26,7 +26,7 @@ use Rattle.monk_logs.specs.declared.text.line.LogLine.TheVariants.{Enter, Resume
 use Rattle.monk_completion.specs.Blame.{blame_of, half_blame, release_blame}
 use Rattle.monk_completion.specs.Erasure.{erasure_of, erasure}
 use Rattle.monk_completion.specs.Fits.{IsOpen}
-use Rattle.monk_completion.specs.Stand.{Stand, due_from, hold_over, line_behind, line_half, line_over, line_settled, line_told}
+use Rattle.monk_completion.specs.Stand.{Stand, hold_over, line_half, line_over, line_settled, line_told}
 use Rattle.monk_completion.specs.Stand.{opening_stand, release_over, settle, stand, stand_settled, via_now}
 use Rattle.monk_completion.specs.Told.{is_lapse, told_next, told_release}
 use Rattle.monk_completion.specs.declared.blame.Blame.{Blame}

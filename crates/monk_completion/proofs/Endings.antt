@@ -1,10 +1,7 @@
 -- With the choice of its last release what a log tells completes it
-use Rattle.std.proofs.Common.{◌≡◌, ℕ, ◌≤◌, ◌&&◌, Bool, true, false, List, [], ◌∷◌, ◌++◌, length, Option, Some, None}
+use Rattle.std.proofs.Common.{◌≡◌, ℕ, ◌≤◌, false, List, [], ◌∷◌, ◌++◌, length, Some, None}
 use Rattle.std.proofs.Common.{refl, sym, ap, subst, ◌∙◌, arith}
 use Rattle.std.proofs.lemmas.List.{append-nil, append_assoc, length-append, same_from_push}
-use Rattle.std.specs.List.{list_all}
-use Rattle.std.specs.Option.{option_map_or}
-use Rattle.std.specs.Prelude.{nat_lt}
 use Rattle.monk_kinds.specs.Kind.{IsKind}
 use Rattle.monk_kinds.specs.declared.mode.Pick.TheVariants.{Entry as WishEntry}
 use Rattle.monk_kinds.specs.declared.mode.Rules.{Rules}
@@ -13,13 +10,13 @@ use Rattle.monk_history.specs.declared.event.Event.{Event}
 use Rattle.monk_history.specs.declared.event.Event.TheVariants as event
 use Rattle.monk_history.specs.declared.event.Next.{Next}
 use Rattle.monk_history.specs.declared.event.Next.TheVariants.{Stay}
-use Rattle.monk_history.specs.Meaning.Events.{named_seat, next_of, seat_of, signals_on, waits_on}
+use Rattle.monk_history.specs.Meaning.Events.{next_of}
 use Rattle.monk_history.specs.Meaning.Legal.{IsLegal}
 use Rattle.monk_history.specs.Meaning.Monitor.{Monitor}
-use Rattle.monk_history.specs.Meaning.Reasons.{IsAllowed, fits_object, is_condition}
+use Rattle.monk_history.specs.Meaning.Reasons.{IsAllowed}
 use Rattle.monk_history.specs.Meaning.Release.{MayCall, with_next}
 use Rattle.monk_history.specs.Meaning.Situation.{Situation, situation}
-use Rattle.monk_history.proofs.PublicLaws.Meaning.{and_right, chosen_allowed, history_induction, legal-push, legal_last, legal_order}
+use Rattle.monk_history.proofs.PublicLaws.Meaning.{chosen_allowed, history_induction, legal-push, legal_last, legal_order}
 use Rattle.monk_completion.specs.Completion.{AreHandedOver, Completes, other_half}
 use Rattle.monk_completion.specs.Ending.{last_events, unwished_next}
 use Rattle.monk_completion.specs.Erasure.{erasure_of, erasure}

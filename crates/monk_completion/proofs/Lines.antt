@@ -1,7 +1,7 @@
 -- The lines that have been judged so far, with the events that they told
 use Rattle.std.proofs.Common.{◌≡◌, ℕ, ◌+◌, ◌<◌, ◌≤◌, cond, not, ◌&&◌, List, [], length, get_or, take, drop, ◌++◌, ◌∷◌, refl, sym, ap, subst, ◌∙◌}
 use Rattle.std.proofs.lemmas.List.{at_drop_all, at_drop_more, take_all, take_more}
-use Rattle.std.specs.Prelude.{◌==◌, Result, Ok, Err}
+use Rattle.std.specs.Prelude.{◌==◌, Result, Ok, Err, OnOk}
 use Rattle.monk_kinds.specs.Kind.{IsKind}
 use Rattle.monk_kinds.specs.declared.mode.Rules.{Rules}
 use Rattle.monk_object.specs.Object.{Object}
@@ -11,7 +11,7 @@ use Rattle.monk_history.specs.declared.event.Next.TheVariants.{Stay}
 use Rattle.monk_history.specs.Meaning.Monitor.{Monitor, monitor}
 use Rattle.monk_history.specs.Meaning.Reasons.{reason_in}
 use Rattle.monk_history.specs.Meaning.Release.{MayCallIn}
-use Rattle.monk_history.specs.Meaning.Situation.{Situation, situation}
+use Rattle.monk_history.specs.Meaning.Situation.{Situation}
 use Rattle.monk_history.specs.Meaning.Step.{after, opening_situation}
 use Rattle.monk_logs.specs.declared.text.line.LogLine.{LogLine}
 use Rattle.monk_logs.specs.declared.text.line.LogLine.TheVariants.{Enter, Resume, Lapse, Leave, Wait, Signal, Broadcast, Until, Act}
@@ -19,13 +19,12 @@ use Rattle.monk_completion.specs.Blame.{release_blame}
 use Rattle.monk_completion.specs.Completion.{Completes}
 use Rattle.monk_completion.specs.Ending.{last_events}
 use Rattle.monk_completion.specs.Events.{told_events}
-use Rattle.monk_completion.specs.Stand.{IsHeldOver, Stand, line_behind, line_half, line_over, line_settled, line_told, opening_stand}
-use Rattle.monk_completion.specs.Stand.{settle, stand, stand_or, stand_settled, verdict_from, verdict_on}
+use Rattle.monk_completion.specs.Stand.{IsHeldOver, Stand, line_behind, line_half, line_over, line_settled, line_told}
+use Rattle.monk_completion.specs.Stand.{settle, stand, stand_or, verdict_from, verdict_on}
 use Rattle.monk_completion.specs.Told.{is_lapse, told_release}
 use Rattle.monk_completion.specs.declared.blame.Blame.{Blame}
 use Rattle.monk_completion.specs.declared.pending.Pending.{Pending}
 use Rattle.monk_completion.specs.declared.pending.Pending.TheVariants.{Settled, Half, Release}
-use Rattle.monk_completion.specs.declared.verdict.LogVerdict.{LogVerdict}
 use Rattle.monk_completion.specs.declared.verdict.LogVerdict.TheVariants.{Fits, Misfit}
 use Rattle.monk_completion.proofs.Endings.{tells_completes}
 use Rattle.monk_completion.proofs.Soundness.{TellsAt, tells_nothing, tells_on}
@@ -95,10 +94,11 @@ module _ (k : Rules) (seats conds : ℕ) (o : Object) (d : List ℕ) where
       called_apart t (SignalLeave s c Stay)
       (subst (λ (u : Situation). MayCallIn (monitor k seats conds o d) u (SignalLeave s c Stay)) at.stands
       at.tells.still)
-  still_held log past t (Release e) at =
-      (called_apart t e
-      (subst (λ (u : Situation). MayCallIn (monitor k seats conds o d) u e) at.stands at.tells.still.0),
-      at.tells.still.1)
+  still_held log past t (Release e) at = (
+    called_apart t e
+        (subst (λ (u : Situation). MayCallIn (monitor k seats conds o d) u e) at.stands at.tells.still.0),
+    at.tells.still.1,
+  )
 
 -- ---- line by line
 
@@ -147,7 +147,7 @@ module _ (k : Rules) (seats conds : ℕ) (o : Object) (d : List ℕ) (lines : Li
             ∙ sym (at_drop_more (verdict_from m i (Ok (stand t p))) lines i l within) ∙ c.so_far
 
         pub goes : (q : Pending) (new : List Event) → r ≡ Ok q
-            → new ≡ past ++ told_events o t p (get_or lines i l)
+            → OnOk r (new ≡ past ++ told_events o t p (get_or lines i l))
             → Follows (monitor k seats conds o d) lines (i + 1) u q new
         goes q new is told =
             let m = monitor k seats conds o d in
@@ -158,7 +158,8 @@ module _ (k : Rules) (seats conds : ℕ) (o : Object) (d : List ℕ) (lines : Li
                   ≡ verdict_on m lines) is goes_on;
               at =
                   subst (λ (front : List LogLine). TellsAt m front new (stand u q)) (sym (take_more lines i l within))
-                  (subst (λ (x : List Event). TellsAt m (take i lines ++ n ∷ []) x (stand u q)) (sym told)
+                  (subst (λ (x : List Event). TellsAt m (take i lines ++ n ∷ []) x (stand u q))
+                  (sym (subst (λ (x : Result Pending Blame). OnOk x (new ≡ past ++ told_events o t p n)) is told))
                   (tells_on m (take i lines) past (stand t p) n (stand u q) c.at
                   (sym leads_to ∙ ap (stand_or u) is)));
             }

@@ -1,7 +1,7 @@
 -- The tests of an event, read from the reason and back; and which tests a call has passed
 use Rattle.std.proofs.Common.{◌≡◌, ℕ, Bool, true, false, cond, not, ◌&&◌, Option, Some, None, refl, sym, ap, subst, ◌∙◌, arith}
 use Rattle.std.proofs.lemmas.Bool.{eqb-true, false≢true}
-use Rattle.std.specs.Prelude.{◌==◌, nat_lt, Result, Ok, Err}
+use Rattle.std.specs.Prelude.{◌==◌, nat_lt, Ok, Err}
 use Rattle.std.specs.List.{list_all}
 use Rattle.std.specs.Option.{option_map_or}
 use Rattle.monk_object.specs.Runs.{Answered}

@@ -70,10 +70,11 @@ pub ok_same : {A E X : Type 0} (r : Result A E) (f : A → X) (a b : X) → a �
     → IfOk r (λ p. f p ≡ b)
 ok_same r f a b h k = IfOk-weaker r (λ p. f p ≡ a) (λ p. f p ≡ b) (λ p is. is ∙ h) k
 
+on_same : {B C X : Type 0} (p : Result B C) (x a b : X) → a ≡ b → OnOk p (x ≡ a) → OnOk p (x ≡ b)
+on_same (Ok y) x a b h is = is ∙ h
+on_same (Err y) x a b h is = is
+
 pub ok_on_same : {B C E X : Type 0} (r : Result (Result B C) E) (x a b : X) → a ≡ b → IfOk r (λ p. OnOk p (x ≡ a))
     → IfOk r (λ p. OnOk p (x ≡ b))
-ok_on_same r x a b h k = IfOk-weaker r (λ p. OnOk p (x ≡ a)) (λ p. OnOk p (x ≡ b)) (λ p is. inner p is) k
-  where
-    inner : (p : Result B C) → OnOk p (x ≡ a) → OnOk p (x ≡ b)
-    inner (Ok y) is = is ∙ h
-    inner (Err y) is = is
+ok_on_same r x a b h k =
+    IfOk-weaker r (λ p. OnOk p (x ≡ a)) (λ p. OnOk p (x ≡ b)) (λ p is. on_same p x a b h is) k

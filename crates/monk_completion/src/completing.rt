@@ -37,7 +37,14 @@ fn follow<T: Guarded>(
     let mut events = Vec::new(setting.alloc);
     let mut pending = Pending::Settled;
     for (i, line) in lines.iter().enumerate() {
-        match judge_line(setting, &mut replay, &mut object, &mut events, pending, *line)? {
+        match judge_line(
+            setting,
+            &mut replay,
+            &mut object,
+            &mut events,
+            pending,
+            *line,
+        )? {
             Ok(left) => pending = left,
             Err(blame) => {
                 let line = i as u32 + 1;

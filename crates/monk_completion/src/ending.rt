@@ -16,12 +16,7 @@ use monk_object::Guarded;
 use std::alloc::AllocError;
 
 /// What the release chooses where nobody wishes for anything.
-fn unwished<T: Guarded>(
-    setting: MonitorSetting,
-    replay: &Replay,
-    object: &T,
-    event: Event,
-) -> Next
+fn unwished<T: Guarded>(setting: MonitorSetting, replay: &Replay, object: &T, event: Event) -> Next
     requires sound { IsReplayOf setting.seats setting.conds T.PREDICATES replay.now }
     requires called { MayCallIn (monitor_in setting T.meaning)
         (replay_situation replay.now (T.state object.now)) event }

@@ -1,4 +1,4 @@
-use Rattle.std.proofs.Common.{◌≡◌, ◌∙◌, ℕ, Bool, not, [], Some, refl, sym, ap}
+use Rattle.std.proofs.Common.{◌∙◌, ℕ, Bool, not, [], Some, refl, sym, ap}
 use Rattle.monk_history.specs.Meaning.Choice.{Queues, queues_at}
 use Rattle.monk_history.specs.Meaning.Monitor.{monitor}
 use Rattle.monk_history.specs.Meaning.Reasons.{reason_before}
