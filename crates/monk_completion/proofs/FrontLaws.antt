@@ -13,7 +13,6 @@ use Rattle.monk_history.specs.Meaning.Events.{has_conditions, is_stay, next_of, 
 use Rattle.monk_history.specs.Meaning.Signallers.{is_empty, signals}
 use Rattle.monk_history.specs.Meaning.Waiters.{serves}
 use Rattle.monk_history.specs.Meaning.Wish.{front, unwished_choice}
-use Rattle.monk_audit.specs.Replay.{is_front_in}
 use Rattle.monk_audit.specs.Settled.{permits}
 use Rattle.monk_logs.specs.declared.text.line.LogLine.{LogLine}
 use Rattle.monk_logs.specs.declared.text.line.LogLine.TheVariants.{Enter, Resume, Lapse, Leave, Wait, Signal, Broadcast, Until as UntilLine, Act}
@@ -89,9 +88,6 @@ told_same q (Signal s c) = refl
 told_same q (Broadcast s c) = refl
 told_same q (UntilLine s p) = refl
 told_same q (Act s op r) = refl
-
-pub front_in_same : (q : Queues) (s : ℕ) → is_front_in (fronts_of q) s ≡ is_front_in q s
-front_in_same q s = rw (front_same s q.waiters, front_same s q.signallers, front_same s q.ready) refl
 
 -- ---- what is permitted
 

@@ -12,4 +12,3 @@ mod Endings
 mod FrontLaws
 mod ToldLaws
 mod Lines
-mod MadeLaws

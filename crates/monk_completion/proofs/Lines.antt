@@ -6,11 +6,8 @@ use Rattle.monk_kinds.specs.Kind.{IsKind}
 use Rattle.monk_kinds.specs.declared.mode.Rules.{Rules}
 use Rattle.monk_object.specs.Object.{Object}
 use Rattle.monk_history.specs.declared.event.Event.{Event}
-use Rattle.monk_history.specs.declared.event.Event.TheVariants.{SignalLeave}
-use Rattle.monk_history.specs.declared.event.Next.TheVariants.{Stay}
 use Rattle.monk_history.specs.Meaning.Monitor.{Monitor, monitor}
 use Rattle.monk_history.specs.Meaning.Reasons.{reason_in}
-use Rattle.monk_history.specs.Meaning.Release.{MayCallIn}
 use Rattle.monk_history.specs.Meaning.Situation.{Situation}
 use Rattle.monk_history.specs.Meaning.Step.{after, opening_situation}
 use Rattle.monk_logs.specs.declared.text.line.LogLine.{LogLine}
@@ -19,7 +16,7 @@ use Rattle.monk_completion.specs.Blame.{release_blame}
 use Rattle.monk_completion.specs.Completion.{Completes}
 use Rattle.monk_completion.specs.Ending.{last_events}
 use Rattle.monk_completion.specs.Events.{told_events}
-use Rattle.monk_completion.specs.Stand.{IsHeldOver, Stand, line_behind, line_half, line_over, line_settled, line_told}
+use Rattle.monk_completion.specs.Stand.{Stand, line_behind, line_half, line_over, line_settled, line_told}
 use Rattle.monk_completion.specs.Stand.{settle, stand, stand_or, verdict_from, verdict_on}
 use Rattle.monk_completion.specs.Told.{is_lapse, told_release}
 use Rattle.monk_completion.specs.declared.blame.Blame.{Blame}
@@ -76,29 +73,6 @@ module _ (k : Rules) (seats conds : ℕ) (o : Object) (d : List ℕ) where
   line_apart t Settled l = settled_apart t l
   line_apart t (Half s c) l = half_apart t s c l
   line_apart t (Release e) l = told_apart t e l
-
-  called_apart : (t : Situation) (e : Event) → MayCallIn (monitor k seats conds o d) t e
-      → MayCallIn (monitor k seats conds o []) t e
-  called_apart t e may = record {
-    in_range = may.in_range;
-    offered = may.offered;
-    in_turn = may.in_turn;
-    in_place = may.in_place;
-  }
-
-  -- what is still to be known may be called there
-  pub still_held : (log : List LogLine) (past : List Event) (t : Situation) (p : Pending)
-      → TellsAt (monitor k seats conds o d) log past (stand t p) → IsHeldOver (monitor k seats conds o []) t p
-  still_held log past t Settled at = tt
-  still_held log past t (Half s c) at =
-      called_apart t (SignalLeave s c Stay)
-      (subst (λ (u : Situation). MayCallIn (monitor k seats conds o d) u (SignalLeave s c Stay)) at.stands
-      at.tells.still)
-  still_held log past t (Release e) at = (
-    called_apart t e
-        (subst (λ (u : Situation). MayCallIn (monitor k seats conds o d) u e) at.stands at.tells.still.0),
-    at.tells.still.1,
-  )
 
 -- ---- line by line
 
