@@ -230,7 +230,8 @@ told_line m t held e f told a =
 
 release_lines : (m : Monitor) (t : Situation) (held e f : Event)
     → told_release m.object t held (first_line f) ≡ e → IsAllowedIn m t e
-    → lead m (Ok (stand t (Release held))) (erasure_of f) ≡ lead m (Ok (stand_settled (after m.object t e))) (erasure_of f)
+    → lead m (Ok (stand t (Release held))) (erasure_of f)
+    ≡ lead m (Ok (stand_settled (after m.object t e))) (erasure_of f)
 release_lines m t held e f told a =
     ap (lead m (Ok (stand t (Release held)))) (erased_lines f)
     ∙ lead_more m (stand t (Release held)) (first_line f) (later_lines f)

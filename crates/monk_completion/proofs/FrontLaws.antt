@@ -50,7 +50,8 @@ pub same_fronts : (ws ss rs xs ys zs : List ℕ) → ws ≡ xs → ss ≡ ys →
 same_fronts ws ss rs xs ys zs h k l = cc
 
 -- a release serves one at most, and one at most steps back
-pub one_served : (queue : ℕ → List ℕ) (e : Event) → next_of e ≡ Some Stay → just (slice_get (serves queue e) 0) ≡ serves queue e
+pub one_served : (queue : ℕ → List ℕ) (e : Event) → next_of e ≡ Some Stay
+    → just (slice_get (serves queue e) 0) ≡ serves queue e
 one_served queue (event.Enter s via) h = refl
 one_served queue (event.Act s op r) h = refl
 one_served queue (event.Leave s x) h = refl
@@ -120,7 +121,8 @@ well_same k q s b (Some x) = either_same k q s b x
 pub permits_same : (k : Rules) (q : Queues) (stays : Bool) (e : Event)
     → permits k (fronts_of q) stays e ≡ permits k q stays e
 permits_same k q stays e =
-    ap (λ (b : Bool). cond stays (is_stay (next_of e)) b) (well_same k q (seat_of e) (is_some (steps_back e)) (next_of e))
+    ap (λ (b : Bool). cond stays (is_stay (next_of e)) b)
+    (well_same k q (seat_of e) (is_some (steps_back e)) (next_of e))
 
 -- ---- the choice without a wish
 

@@ -331,5 +331,8 @@ tells_open m log past (Release e) kind t =
 pub judged_open : (m : Monitor) (log : List LogLine) (d : Stand) → IsKind m.kind → lead_all m log ≡ Ok d → IsOpen m log
 judged_open m log d kind h =
     let some = judged_tells m [] log (Ok (opening_stand m)) d h
-    (λ s is. ([], subst (TellsAt m [] []) (same_ok (Ok (opening_stand m)) (opening_stand m) s refl is) (tells_nothing m))) in
+    (λ s is. (
+      [],
+      subst (TellsAt m [] []) (same_ok (Ok (opening_stand m)) (opening_stand m) s refl is) (tells_nothing m),
+    )) in
     tells_open m log some.0 d.pending kind some.1.tells

@@ -1,5 +1,5 @@
--- What the line behind a release tells of its choice. A history says from which queue a seat goes on; a log doesn't, and
--- needn't: a seat that may go on stands in one queue alone
+-- What the line behind a release tells of its choice. A log doesn't say from which queue a seat goes on, and needn't: a
+-- seat that may go on stands in one queue alone
 use Rattle.std.specs.Prelude.{ℕ, Bool, true, false, if◌then◌else◌}
 use Rattle.monk_object.specs.Object.{Object}
 use Rattle.monk_history.specs.declared.event.Event.{Event}

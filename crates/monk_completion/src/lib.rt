@@ -15,5 +15,4 @@ mod verdict;
 pub use blame::Blame;
 pub use completing::complete;
 pub use completion::Completion;
-pub use pending::Pending;
 pub use verdict::LogVerdict;

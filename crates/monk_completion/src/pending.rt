@@ -3,8 +3,8 @@
 use monk_history::Event;
 
 /// What is still to be known of the last event of a log.
-#[derive(Clone, Copy, Debug, PartialEq, Eq)]
-pub enum Pending {
+#[derive(Clone, Copy)]
+pub(crate) enum Pending {
     /// Nothing: each event is known.
     Settled,
     /// A signal by which its caller leaves or waits, whose second line is to come: its seat and its condition.

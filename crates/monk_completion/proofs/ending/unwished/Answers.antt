@@ -19,7 +19,8 @@ pub returns : goal.returns
 returns g c =
     let k = c.args.setting.rules in
     let e = c.args.event in
-    let q = queues_at g.T.Guarded.meaning (replay_situation c.args.replay.now (g.T.Guarded.state c.args.object.now)) e in
+    let t = replay_situation c.args.replay.now (g.T.Guarded.state c.args.object.now) in
+    let q = queues_at g.T.Guarded.meaning t e in
     c.unwished.ensures
     ∙ ap (λ (s : ℕ). unwished_choice k (shown c.at.result) s) c.seat.ensures
     ∙ ap (λ (x : Queues). unwished_choice k x (seat_of e)) c.at.ensures
