@@ -1,6 +1,6 @@
 -- What a legal history tells is judged well, line by line
-use Rattle.std.proofs.Common.{◌≡◌, ℕ, Bool, true, false, cond, ◌&&◌, not, List, [], ◌∷◌, ◌++◌, Some, refl, sym, ap, subst, ◌∙◌}
-use Rattle.std.proofs.lemmas.Bool.{and_from, and_parts, eq-eqb, false≢true}
+use Rattle.std.proofs.Common.{arith, ◌≡◌, ℕ, Bool, true, cond, ◌&&◌, not, List, [], ◌∷◌, ◌++◌, Some, refl, sym, ap, subst, ◌∙◌}
+use Rattle.std.proofs.lemmas.Bool.{and_from, eq-eqb}
 use Rattle.std.specs.Prelude.{◌==◌, Result, Ok, Err}
 use Rattle.monk_history.specs.declared.event.Event.{Event}
 use Rattle.monk_history.specs.declared.event.Event.TheVariants as event
@@ -9,12 +9,11 @@ use Rattle.monk_history.specs.declared.event.Next.{Next}
 use Rattle.monk_history.specs.declared.event.Next.TheVariants.{Stay}
 use Rattle.monk_history.specs.declared.event.Turn.{Turn}
 use Rattle.monk_history.specs.declared.event.Via.{Via}
-use Rattle.monk_history.specs.declared.event.Via.TheVariants.{Free, Handed}
 use Rattle.monk_history.specs.Meaning.Choice.{queues_at}
 use Rattle.monk_history.specs.Meaning.Events.{next_of, seat_of, has_signaller_queue, returns_at_once}
 use Rattle.monk_history.specs.Meaning.Legal.{IsLegal}
 use Rattle.monk_history.specs.Meaning.Monitor.{Monitor}
-use Rattle.monk_history.specs.Meaning.Reasons.{IsAllowed, IsAllowedIn, fits_turn, may_enter, reason_before, reason_in}
+use Rattle.monk_history.specs.Meaning.Reasons.{IsAllowed, IsAllowedIn, fits_turn, reason_before, reason_in}
 use Rattle.monk_history.specs.Meaning.Release.{MayCallIn, as_called, with_next}
 use Rattle.monk_history.specs.Meaning.Situation.{Situation, situation}
 use Rattle.monk_history.specs.Meaning.Step.{after}
@@ -32,7 +31,7 @@ use Rattle.monk_completion.specs.Told.{is_lapse, told_next, told_release}
 use Rattle.monk_completion.specs.declared.blame.Blame.{Blame}
 use Rattle.monk_completion.specs.declared.pending.Pending.{Pending}
 use Rattle.monk_completion.specs.declared.pending.Pending.TheVariants.{Settled, Half, Release}
-use Rattle.monk_completion.proofs.Calls.{called_queues, due_queue, half_called, named_again, not_at_once}
+use Rattle.monk_completion.proofs.Calls.{called_queues, due_queue, half_called, named_again}
 use Rattle.monk_completion.proofs.Events.{erasure-push}
 use Rattle.monk_completion.proofs.Lead.{lead, lead-append, lead_all, lead_err, lead_more, lead_none}
 use Rattle.monk_completion.proofs.Tests.{allowed_called, passes, reason_from_allowed, tests_from_called}
@@ -126,26 +125,9 @@ half_leads m h t s c f x n same returns may allowed chose line = record {
 
 -- ---- the ways in
 
-may_come : (m : Monitor) (t : Situation) (via : Via) (begun : Bool) → t.begun ≡ begun → may_enter m.object t via ≡ true
-    → may_enter m.object t (cond begun Handed Free) ≡ true
-may_come m t via true is h = is
-may_come m t Free false is h = h
-may_come m t Handed false is h = absurd (false≢true (sym is ∙ h))
-
 enter_allowed : (m : Monitor) (t : Situation) (s : ℕ) (via : Via) → IsAllowedIn m t (event.Enter s via)
     → IsAllowedIn m t (event.Enter s (via_now t))
-enter_allowed m t s via a =
-    let place = and_parts (not (t.inside s)) (may_enter m.object t via) a.in_place in
-    record {
-      in_range = a.in_range;
-      offered = refl;
-      in_turn = a.in_turn;
-      in_place =
-          and_from (not (t.inside s)) (may_enter m.object t (via_now t)) place.0
-          (may_come m t via t.begun refl place.1);
-      right_reply = refl;
-      permitted = refl;
-    }
+enter_allowed m t s via h = grind arith
 
 resume_line : (m : Monitor) (t : Situation) (s : ℕ) (q : From3) → IsAllowedIn m t (event.Resume s q)
     → line_settled m t (Resume s) ≡ settle m t (event.Resume s q)
@@ -153,9 +135,7 @@ resume_line m t s q a = ap (λ (r : From3). settle m t (event.Resume s r)) (due_
 
 signal_line : (m : Monitor) (t : Situation) (s c : ℕ) → has_signaller_queue m.kind.mode ≡ true
     → line_settled m t (Signal s c) ≡ release_over m t (event.Signal s c Stay)
-signal_line m t s c has =
-    ap (λ (b : Bool). cond b (hold_over m t (event.SignalLeave s c Stay) (Half s c))
-    (release_over m t (event.Signal s c Stay))) (not_at_once m.kind.mode has)
+signal_line m t s c h = grind arith
 
 same_seat : (s : ℕ) (r : Result Stand Blame) (why : Blame) → cond (s == s) r (Err why) ≡ r
 same_seat s r why = ap (λ (b : Bool). cond b r (Err why)) (eq-eqb s s refl)
@@ -205,16 +185,7 @@ release_told m g t e f x chose legal allowed same =
     ∙ ap (λ (y : Next). with_next y (as_called e)) told ∙ named_again e x chose
 
 no_lapse : (f : Event) → not (is_lapse (first_line f)) ≡ true
-no_lapse (event.Enter s via) = refl
-no_lapse (event.Act s op r) = refl
-no_lapse (event.Leave s x) = refl
-no_lapse (event.Wait s c x) = refl
-no_lapse (event.Signal s c x) = refl
-no_lapse (event.SignalLeave s c x) = refl
-no_lapse (event.Until s p x) = refl
-no_lapse (event.Resume s q) = refl
-no_lapse (event.SignalAll s c) = refl
-no_lapse (event.SignalWait s c d x) = refl
+no_lapse f = grind arith
 
 -- then the line is judged as one behind events that are known
 told_line : (m : Monitor) (t : Situation) (held e f : Event) → told_release m.object t held (first_line f) ≡ e

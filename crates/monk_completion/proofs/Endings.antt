@@ -31,16 +31,7 @@ use Rattle.monk_completion.proofs.Soundness.{Tells, release_right}
 -- ---- how many events there are
 
 some_line : (e : Event) → 1 ≤ length (erasure_of e)
-some_line (event.Enter s via) = omega arith
-some_line (event.Act s op r) = omega arith
-some_line (event.Leave s x) = omega arith
-some_line (event.Wait s c x) = omega arith
-some_line (event.Signal s c x) = omega arith
-some_line (event.SignalLeave s c x) = omega arith
-some_line (event.Until s p x) = omega arith
-some_line (event.Resume s q) = omega arith
-some_line (event.SignalAll s c) = omega arith
-some_line (event.SignalWait s c d x) = omega arith
+some_line e = grind arith
 
 few_events : (h : List Event) → length h ≤ length (erasure h)
 few_events [] = omega arith
@@ -55,16 +46,7 @@ one_more past e rest log told some =
 
 unwished_again : (k : Rules) (o : Object) (t : Situation) (x : Next) (e : Event)
     → unwished_next k o t (with_next x e) ≡ unwished_next k o t e
-unwished_again k o t x (event.Enter s via) = refl
-unwished_again k o t x (event.Act s op r) = refl
-unwished_again k o t x (event.Leave s y) = refl
-unwished_again k o t x (event.Wait s c y) = refl
-unwished_again k o t x (event.Signal s c y) = refl
-unwished_again k o t x (event.SignalLeave s c y) = refl
-unwished_again k o t x (event.Until s p y) = refl
-unwished_again k o t x (event.Resume s q) = refl
-unwished_again k o t x (event.SignalAll s c) = refl
-unwished_again k o t x (event.SignalWait s c d y) = refl
+unwished_again k o t x e = grind arith
 
 chosen_is : (x y : Next) (e : Event) → next_of e ≡ Some Stay → next_of (with_next x e) ≡ Some y → y ≡ x
 chosen_is x y e h k = let same : Some y ≡ Some x = sym k ∙ next_with x e h in cc

@@ -1,5 +1,5 @@
 -- What recorders write down of one event more, and how seats enter
-use Rattle.std.proofs.Common.{◌≡◌, ℕ, Bool, true, false, not, cond, List, [], ◌∷◌, ◌++◌, Some, None, refl, sym, ap, ◌∙◌}
+use Rattle.std.proofs.Common.{arith, ◌≡◌, ℕ, Bool, true, false, not, cond, List, [], ◌∷◌, ◌++◌, Some, None, refl, sym, ap, ◌∙◌}
 use Rattle.std.specs.List.{AllByRecursion}
 use Rattle.std.proofs.lemmas.Grind.{flat_map-append}
 use Rattle.std.proofs.lemmas.List.{append-nil}
@@ -20,29 +20,11 @@ erasure-push h e = flat_map-append erasure_of h (e ∷ [])
     ∙ ap (λ (x : List LogLine). erasure h ++ x) (append-nil (erasure_of e))
 
 pub erased_with_next : (x : Next) (e : Event) → erasure_of (with_next x e) ≡ erasure_of e
-erased_with_next x (event.Enter s via) = refl
-erased_with_next x (event.Act s op r) = refl
-erased_with_next x (event.Leave s y) = refl
-erased_with_next x (event.Wait s c y) = refl
-erased_with_next x (event.Signal s c y) = refl
-erased_with_next x (event.SignalLeave s c y) = refl
-erased_with_next x (event.Until s p y) = refl
-erased_with_next x (event.Resume s q) = refl
-erased_with_next x (event.SignalAll s c) = refl
-erased_with_next x (event.SignalWait s c d y) = refl
+erased_with_next x e = grind arith
 
 -- and its choice is that
 pub next_with : (x : Next) (e : Event) → next_of e ≡ Some Stay → next_of (with_next x e) ≡ Some x
-next_with x (event.Enter s via) h = absurd cc
-next_with x (event.Act s op r) h = absurd cc
-next_with x (event.Leave s y) h = refl
-next_with x (event.Wait s c y) h = refl
-next_with x (event.Signal s c y) h = refl
-next_with x (event.SignalLeave s c y) h = refl
-next_with x (event.Until s p y) h = refl
-next_with x (event.Resume s q) h = absurd cc
-next_with x (event.SignalAll s c) h = absurd cc
-next_with x (event.SignalWait s c d y) h = refl
+next_with x e h = grind arith
 
 -- ---- who enters behind the first event is handed the monitor
 
@@ -60,16 +42,7 @@ pub no_enter : (e : Event) → via_of e ≡ None → IsNoFreeEnter e
 no_enter e none free = let wrong : None ≡ Some Free = sym none ∙ free in absurd cc
 
 pub release_is_no_enter : (x : Next) (e : Event) → next_of e ≡ Some Stay → via_of (with_next x e) ≡ None
-release_is_no_enter x (event.Enter s via) h = absurd cc
-release_is_no_enter x (event.Act s op r) h = refl
-release_is_no_enter x (event.Leave s y) h = refl
-release_is_no_enter x (event.Wait s c y) h = refl
-release_is_no_enter x (event.Signal s c y) h = refl
-release_is_no_enter x (event.SignalLeave s c y) h = refl
-release_is_no_enter x (event.Until s p y) h = refl
-release_is_no_enter x (event.Resume s q) h = refl
-release_is_no_enter x (event.SignalAll s c) h = refl
-release_is_no_enter x (event.SignalWait s c d y) h = refl
+release_is_no_enter x e h = grind arith
 
 pub handed_enter : (s : ℕ) (b : Bool) → b ≡ false → IsNoFreeEnter (event.Enter s (cond (not b) Handed Free))
 handed_enter s true h free = absurd cc

@@ -5,7 +5,6 @@ use Rattle.std.specs.Prelude.{Result, Ok, Err}
 use Rattle.monk_kinds.specs.Kind.{IsKind}
 use Rattle.monk_kinds.specs.Names.{rules_named}
 use Rattle.monk_kinds.specs.declared.name.KindName.{KindName}
-use Rattle.monk_kinds.specs.declared.name.KindName.TheVariants.{Pb, Npb, Pnb, Npnb, Pqb, Npqb, Pir, Npir, Pis, Npis}
 use Rattle.monk_history.specs.Meaning.Monitor.{Monitor}
 use Rattle.monk_logs.specs.Log.{LogHeading}
 use Rattle.monk_logs.specs.declared.text.line.LogLine.{LogLine}
@@ -106,16 +105,7 @@ module _ (m : Monitor) (log : List LogLine) where
 -- ---- of a log of a kind
 
 each_is_kind : (k : KindName) → IsKind (rules_named k)
-each_is_kind Pb = record { entry_waiter = omega arith; entry_signaller = omega arith; fits_mode = omega arith }
-each_is_kind Npb = record { entry_waiter = omega arith; entry_signaller = omega arith; fits_mode = omega arith }
-each_is_kind Pnb = record { entry_waiter = omega arith; entry_signaller = omega arith; fits_mode = omega arith }
-each_is_kind Npnb = record { entry_waiter = omega arith; entry_signaller = omega arith; fits_mode = omega arith }
-each_is_kind Pqb = record { entry_waiter = omega arith; entry_signaller = omega arith; fits_mode = refl }
-each_is_kind Npqb = record { entry_waiter = omega arith; entry_signaller = omega arith; fits_mode = refl }
-each_is_kind Pir = record { entry_waiter = omega arith; entry_signaller = omega arith; fits_mode = refl }
-each_is_kind Npir = record { entry_waiter = omega arith; entry_signaller = omega arith; fits_mode = refl }
-each_is_kind Pis = record { entry_waiter = omega arith; entry_signaller = omega arith; fits_mode = refl }
-each_is_kind Npis = record { entry_waiter = omega arith; entry_signaller = omega arith; fits_mode = refl }
+each_is_kind k = grind arith
 
 pub kind_fits : (k : KindName) (h : LogHeading) (log : List LogLine)
     → FitsExactly (log_monitor k h) log (verdict_on (log_monitor k h) log)

@@ -1,11 +1,9 @@
 -- A log ends with half a signal exactly where one is still to be told
-use Rattle.std.proofs.Common.{◌≡◌, ℕ, Bool, true, false, cond, List, [], ◌∷◌, ◌++◌, Option, Some, None, refl, ap, ◌∙◌}
+use Rattle.std.proofs.Common.{arith, ◌≡◌, ℕ, Bool, true, false, cond, List, [], ◌∷◌, ◌++◌, Option, Some, None, refl, ap, ◌∙◌}
 use Rattle.std.specs.List.{last_or}
 use Rattle.monk_kinds.specs.declared.mode.Mode.{Mode}
-use Rattle.monk_kinds.specs.declared.mode.Mode.TheVariants as mode
 use Rattle.monk_history.specs.declared.event.Event.{Event}
-use Rattle.monk_history.specs.declared.event.Event.TheVariants as event
-use Rattle.monk_history.specs.Meaning.Events.{has_signaller_queue, is_call_of, returns_at_once}
+use Rattle.monk_history.specs.Meaning.Events.{is_call_of, returns_at_once}
 use Rattle.monk_completion.specs.Completion.{leaving, other_half}
 use Rattle.monk_completion.specs.Erasure.{erasure_of}
 use Rattle.monk_logs.specs.declared.text.line.LogLine.{LogLine}
@@ -26,25 +24,9 @@ alike false xs = refl
 pub never : (k : Mode) → other_half k [] ≡ []
 never k = alike (returns_at_once k) []
 
-no_half : (k : Mode) (s : ℕ) → has_signaller_queue k ≡ true → cond (returns_at_once k) (Leave s ∷ []) [] ≡ []
-no_half mode.Blocking s h = refl
-no_half mode.NonBlocking s h = refl
-no_half mode.QuasiBlocking s h = refl
-no_half mode.ImmediateReturn s h = absurd cc
-no_half mode.Automatic s h = absurd cc
-
 whole_event : (k : Mode) (o : Option LogLine) (e : Event) → is_call_of k e ≡ true
     → cond (returns_at_once k) (leaving (last_or o (erasure_of e))) [] ≡ []
-whole_event k o (event.Enter s via) h = alike (returns_at_once k) []
-whole_event k o (event.Act s op r) h = alike (returns_at_once k) []
-whole_event k o (event.Leave s x) h = alike (returns_at_once k) []
-whole_event k o (event.Wait s c x) h = alike (returns_at_once k) []
-whole_event k o (event.Signal s c x) h = no_half k s h
-whole_event k o (event.SignalLeave s c x) h = alike (returns_at_once k) []
-whole_event k o (event.Until s p x) h = alike (returns_at_once k) []
-whole_event k o (event.Resume s q) h = alike (returns_at_once k) []
-whole_event k o (event.SignalAll s c) h = alike (returns_at_once k) []
-whole_event k o (event.SignalWait s c d x) h = alike (returns_at_once k) []
+whole_event k o e h = grind arith
 
 -- behind an event that the mode has nothing is half told
 pub event_whole : (k : Mode) (front : List LogLine) (e : Event) → is_call_of k e ≡ true

@@ -1,7 +1,7 @@
 -- The lines that have been judged so far, with the events that they told
-use Rattle.std.proofs.Common.{◌≡◌, ℕ, ◌+◌, ◌<◌, ◌≤◌, cond, not, ◌&&◌, List, [], length, get_or, take, drop, ◌++◌, ◌∷◌, refl, sym, ap, subst, ◌∙◌}
+use Rattle.std.proofs.Common.{arith, ◌≡◌, ℕ, ◌+◌, ◌<◌, ◌≤◌, List, [], length, get_or, take, drop, ◌++◌, ◌∷◌, refl, sym, ap, subst, ◌∙◌}
 use Rattle.std.proofs.lemmas.List.{at_drop_all, at_drop_more, take_all, take_more}
-use Rattle.std.specs.Prelude.{◌==◌, Result, Ok, Err, OnOk}
+use Rattle.std.specs.Prelude.{Result, Ok, Err, OnOk}
 use Rattle.monk_kinds.specs.Kind.{IsKind}
 use Rattle.monk_kinds.specs.declared.mode.Rules.{Rules}
 use Rattle.monk_object.specs.Object.{Object}
@@ -9,16 +9,14 @@ use Rattle.monk_history.specs.declared.event.Event.{Event}
 use Rattle.monk_history.specs.Meaning.Monitor.{Monitor, monitor}
 use Rattle.monk_history.specs.Meaning.Reasons.{reason_in}
 use Rattle.monk_history.specs.Meaning.Situation.{Situation}
-use Rattle.monk_history.specs.Meaning.Step.{after, opening_situation}
+use Rattle.monk_history.specs.Meaning.Step.{opening_situation}
 use Rattle.monk_logs.specs.declared.text.line.LogLine.{LogLine}
 use Rattle.monk_logs.specs.declared.text.line.LogLine.TheVariants.{Enter, Resume, Lapse, Leave, Wait, Signal, Broadcast, Until, Act}
-use Rattle.monk_completion.specs.Blame.{release_blame}
 use Rattle.monk_completion.specs.Completion.{Completes}
 use Rattle.monk_completion.specs.Ending.{last_events}
 use Rattle.monk_completion.specs.Events.{told_events}
 use Rattle.monk_completion.specs.Stand.{Stand, line_behind, line_half, line_over, line_settled, line_told}
 use Rattle.monk_completion.specs.Stand.{settle, stand, stand_or, verdict_from, verdict_on}
-use Rattle.monk_completion.specs.Told.{is_lapse, told_release}
 use Rattle.monk_completion.specs.declared.blame.Blame.{Blame}
 use Rattle.monk_completion.specs.declared.pending.Pending.{Pending}
 use Rattle.monk_completion.specs.declared.pending.Pending.TheVariants.{Settled, Half, Release}
@@ -48,25 +46,12 @@ module _ (k : Rules) (seats conds : ℕ) (o : Object) (d : List ℕ) where
 
   half_apart : (t : Situation) (s c : ℕ) (l : LogLine)
       → line_half (monitor k seats conds o []) t s c l ≡ line_half (monitor k seats conds o d) t s c l
-  half_apart t s c (Enter j) = refl
-  half_apart t s c (Resume j) = refl
-  half_apart t s c (Lapse j) = refl
-  half_apart t s c (Leave j) = refl
-  half_apart t s c (Wait j x) = refl
-  half_apart t s c (Signal j x) = refl
-  half_apart t s c (Broadcast j x) = refl
-  half_apart t s c (Until j p) = refl
-  half_apart t s c (Act j op r) = refl
+  half_apart t s c l = grind arith
 
   told_apart : (t : Situation) (e : Event) (l : LogLine)
       → line_told (monitor k seats conds o []) t e l ≡ line_told (monitor k seats conds o d) t e l
   unfolding reason_in
-  told_apart t e l =
-      let f = told_release o t e l in
-      ap (λ (r : Result Stand Blame).
-      cond (not (is_lapse l) && (reason_in (monitor k seats conds o []) t f == 0)) r
-      (Err (release_blame (monitor k seats conds o []) t e l)))
-      (settled_apart (after o t f) l)
+  told_apart t e l = grind arith
 
   line_apart : (t : Situation) (p : Pending) (l : LogLine)
       → line_behind (monitor k seats conds o []) t p l ≡ line_behind (monitor k seats conds o d) t p l

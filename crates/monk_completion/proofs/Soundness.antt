@@ -1,5 +1,5 @@
 -- A log that is judged well is open: what was taken for its events is a legal history that tells it
-use Rattle.std.proofs.Common.{◌≡◌, ℕ, Bool, true, false, cond, ◌&&◌, not, List, [], ◌∷◌, ◌++◌, Some, None, refl, sym, ap, subst, ◌∙◌}
+use Rattle.std.proofs.Common.{arith, ◌≡◌, ℕ, Bool, true, false, cond, ◌&&◌, not, List, [], ◌∷◌, ◌++◌, Some, None, refl, sym, ap, subst, ◌∙◌}
 use Rattle.std.proofs.lemmas.Bool.{eqb-true}
 use Rattle.std.proofs.lemmas.List.{append-nil, append_assoc, same_from_push}
 use Rattle.std.specs.Prelude.{◌==◌, Result, Ok, Err}
@@ -275,16 +275,7 @@ judged_tells m log (l ∷ more) (Ok s) d h tells =
 
 pub release_right : (m : Monitor) (past : List Event) (e : Event) → next_of e ≡ Some Stay
     → is_right_reply m.object (situation m past).state e ≡ true
-release_right m past (event.Enter s via) h = refl
-release_right m past (event.Act s op r) h = absurd cc
-release_right m past (event.Leave s y) h = refl
-release_right m past (event.Wait s c y) h = refl
-release_right m past (event.Signal s c y) h = refl
-release_right m past (event.SignalLeave s c y) h = refl
-release_right m past (event.Until s p y) h = refl
-release_right m past (event.Resume s q) h = refl
-release_right m past (event.SignalAll s c) h = refl
-release_right m past (event.SignalWait s c d y) h = refl
+release_right m past e h = grind arith
 
 -- a release that may be called has a choice with which it is allowed
 release_open : (m : Monitor) (past : List Event) (e : Event) → IsKind m.kind → IsLegal m past → MayCall m past e

@@ -1,7 +1,7 @@
 -- In a legal history the line of the event behind a release tells what the release chose
 use Rattle.std.proofs.Common.{◌≡◌, ℕ, ◌+◌, ◌≤◌, Bool, true, false, cond, ◌&&◌, ◌||◌, not, List, [], ◌∷◌, ◌++◌, drop, Option, Some, refl, ap}
 use Rattle.std.proofs.Common.{subst, ◌∙◌, arith}
-use Rattle.std.proofs.lemmas.Bool.{eqb-true, eq-eqb}
+use Rattle.std.proofs.lemmas.Bool.{eq-eqb}
 use Rattle.std.specs.Option.{option_map_or}
 use Rattle.std.specs.Prelude.{◌==◌, is_some}
 use Rattle.monk_kinds.specs.declared.mode.Rules.{Rules}
@@ -17,7 +17,7 @@ use Rattle.monk_history.specs.Meaning.Choice.{Queues, queues_at, is_front, may_c
 use Rattle.monk_history.specs.Meaning.Events.{next_of, seat_of, steps_back, is_signaller, is_stay, is_waiter}
 use Rattle.monk_history.specs.Meaning.Legal.{IsLegal}
 use Rattle.monk_history.specs.Meaning.Monitor.{Monitor}
-use Rattle.monk_history.specs.Meaning.Reasons.{fits_turn, is_due, is_open, is_owned_by}
+use Rattle.monk_history.specs.Meaning.Reasons.{fits_turn}
 use Rattle.monk_history.specs.Meaning.Signallers.{is_empty, signals, takes_signaller}
 use Rattle.monk_history.specs.Meaning.Situation.{Situation, situation}
 use Rattle.monk_history.specs.Meaning.Standing.{has_turn, in_queues, standing, times}
@@ -43,45 +43,14 @@ first_line (event.Resume s q) = Resume s
 first_line (event.SignalAll s c) = Broadcast s c
 first_line (event.SignalWait s c d x) = Signal s c
 
+-- and those behind it
 abbrev pub later_lines : Event → List LogLine
-later_lines (event.Enter s via) = []
-later_lines (event.Act s op r) = []
-later_lines (event.Leave s x) = []
-later_lines (event.Wait s c x) = []
-later_lines (event.Signal s c x) = []
-later_lines (event.SignalLeave s c x) = Leave s ∷ []
-later_lines (event.Until s p x) = []
-later_lines (event.Resume s q) = []
-later_lines (event.SignalAll s c) = []
-later_lines (event.SignalWait s c d x) = Wait s d ∷ []
+later_lines e = drop 1 (erasure_of e)
 
 pub erased_lines : (e : Event) → erasure_of e ≡ first_line e ∷ later_lines e
-erased_lines (event.Enter s via) = refl
-erased_lines (event.Act s op r) = refl
-erased_lines (event.Leave s x) = refl
-erased_lines (event.Wait s c x) = refl
-erased_lines (event.Signal s c x) = refl
-erased_lines (event.SignalLeave s c x) = refl
-erased_lines (event.Until s p x) = refl
-erased_lines (event.Resume s q) = refl
-erased_lines (event.SignalAll s c) = refl
-erased_lines (event.SignalWait s c d x) = refl
+erased_lines e = grind arith
 
 -- ---- what the turn says of the choice
-
-entry_is : (s : ℕ) (x : Next) → is_open (turn_by s (Some x)) ≡ true → next.Entry ≡ x
-entry_is s next.Stay h = absurd cc
-entry_is s next.Entry h = refl
-entry_is s (next.Waiter j) h = absurd cc
-entry_is s (next.Signaller j) h = absurd cc
-entry_is s (next.Until j) h = absurd cc
-
-stay_is : (s r : ℕ) (x : Next) → is_owned_by r (turn_by s (Some x)) ≡ true → next.Stay ≡ x
-stay_is s r next.Stay h = refl
-stay_is s r next.Entry h = absurd cc
-stay_is s r (next.Waiter j) h = absurd cc
-stay_is s r (next.Signaller j) h = absurd cc
-stay_is s r (next.Until j) h = absurd cc
 
 -- the queues tell from which of them the seat was chosen
 abbrev pub IsChosen : Queues → Next → Type 0
@@ -91,33 +60,10 @@ IsChosen q (next.Waiter j) = chosen_from q j ≡ next.Waiter j
 IsChosen q (next.Signaller j) = chosen_from q j ≡ next.Signaller j
 IsChosen q (next.Until j) = chosen_from q j ≡ next.Until j
 
-due_seat : (j r : ℕ) (b : Bool) → ((j == r) && b) ≡ true → j ≡ r
-due_seat j r b h = eqb-true j r (and_left (j == r) b h)
-
-due_is : (q : Queues) (s r : ℕ) (from : From3) (x : Next) → is_due r from (turn_by s (Some x)) ≡ true → IsChosen q x
-    → chosen_from q r ≡ x
-due_is q s r from next.Stay h is = absurd cc
-due_is q s r from next.Entry h is = absurd cc
-due_is q s r from (next.Waiter j) h is =
-    subst (λ (k : ℕ). chosen_from q k ≡ next.Waiter j) (due_seat j r _ h) is
-due_is q s r from (next.Signaller j) h is =
-    subst (λ (k : ℕ). chosen_from q k ≡ next.Signaller j) (due_seat j r _ h) is
-due_is q s r from (next.Until j) h is =
-    subst (λ (k : ℕ). chosen_from q k ≡ next.Until j) (due_seat j r _ h) is
-
 -- whoever has an event then, its line tells what the release of seat s chose
 pub line_tells : (q : Queues) (s : ℕ) (x : Next) (f : Event) → fits_turn (turn_by s (Some x)) f ≡ true → IsChosen q x
     → told_next q (first_line f) ≡ x
-line_tells q s x (event.Enter r via) h is = entry_is s x h
-line_tells q s x (event.Act r op y) h is = stay_is s r x h
-line_tells q s x (event.Leave r y) h is = stay_is s r x h
-line_tells q s x (event.Wait r c y) h is = stay_is s r x h
-line_tells q s x (event.Signal r c y) h is = stay_is s r x h
-line_tells q s x (event.SignalLeave r c y) h is = stay_is s r x h
-line_tells q s x (event.Until r p y) h is = stay_is s r x h
-line_tells q s x (event.Resume r from) h is = due_is q s r from x h is
-line_tells q s x (event.SignalAll r c) h is = stay_is s r x h
-line_tells q s x (event.SignalWait r c d y) h is = stay_is s r x h
+line_tells q s x f h h2 = grind arith
 
 -- ---- who was chosen is the front of its queue, and of no other
 
@@ -131,9 +77,7 @@ permits k o t e n =
     n true)
 
 both_ways : (b c d : Bool) → cond b false (cond c d d) ≡ true → d ≡ true
-both_ways true c d h = absurd cc
-both_ways false true d h = h
-both_ways false false d h = h
+both_ways b c d h = grind arith
 
 waiter_front : (k : Rules) (o : Object) (t : Situation) (e : Event) (j : ℕ)
     → permits k o t e (Some (next.Waiter j)) ≡ true
@@ -143,9 +87,7 @@ waiter_front k o t e j h =
 
 signaller_front : (k : Rules) (o : Object) (t : Situation) (e : Event) (j : ℕ)
     → permits k o t e (Some (next.Signaller j)) ≡ true → is_front j (queues_at o t e).signallers ≡ true
-signaller_front k o t e j h =
-    and_left (is_front j (queues_at o t e).signallers) _
-    (and_left _ (not (j == seat_of e)) (both_ways (must_stay o t e) (is_some (steps_back e)) _ h))
+signaller_front k o t e j h = grind arith
 
 none_counted : (b : Bool) (n : ℕ) → cond b 1 0 + n ≡ 0 → b ≡ false
 none_counted true n h = absurd (omega arith)

@@ -1,5 +1,5 @@
 -- Behind a release that is settled with the choice that a line tells, the line leads where it leads by that choice
-use Rattle.std.proofs.Common.{◌≡◌, ◌∙◌, Bool, true, false, cond, not, ◌&&◌, List, [], ◌∷◌, ◌++◌, refl, sym, ap, append_assoc}
+use Rattle.std.proofs.Common.{arith, ◌≡◌, ◌∙◌, Bool, true, false, cond, not, List, [], ◌∷◌, ◌++◌, ap, append_assoc}
 use Rattle.std.proofs.lemmas.Result.{IfOk-weaker}
 use Rattle.std.specs.Prelude.{◌==◌, Result, Ok, Err, IfOk, OnOk}
 use Rattle.monk_history.specs.declared.event.Event.{Event}
@@ -8,9 +8,9 @@ use Rattle.monk_history.specs.Meaning.Reasons.{reason_in}
 use Rattle.monk_history.specs.Meaning.Situation.{Situation}
 use Rattle.monk_history.specs.Meaning.Step.{after}
 use Rattle.monk_logs.specs.declared.text.line.LogLine.{LogLine}
-use Rattle.monk_completion.specs.Blame.{blame_of, release_blame}
+use Rattle.monk_completion.specs.Blame.{blame_of}
 use Rattle.monk_completion.specs.Events.{line_events, told_events}
-use Rattle.monk_completion.specs.Stand.{Stand, line_settled, line_told, settle, stand, stand_or, stand_settled}
+use Rattle.monk_completion.specs.Stand.{line_settled, line_told, settle, stand_or, stand_settled}
 use Rattle.monk_completion.specs.Told.{is_lapse, told_release}
 use Rattle.monk_completion.specs.declared.blame.Blame.{Blame}
 use Rattle.monk_completion.specs.declared.pending.Pending.{Pending}
@@ -18,12 +18,7 @@ use Rattle.monk_completion.specs.declared.pending.Pending.TheVariants.{Settled, 
 
 settled_if : (u v : Situation) (r : Result Pending Blame) (why : Blame) (b : Bool)
     → stand_or u r ≡ cond b (Ok (stand_settled v)) (Err why) → b ≡ true → (u ≡ v) × (r ≡ Ok Settled)
-settled_if u v (Ok p) why true is h =
-    let same : stand u p ≡ stand_settled v = cc in
-    (ap (λ (s : Stand). s.now) same, ap (λ (s : Stand). Ok s.pending) same)
-settled_if u v (Ok p) why false is h = absurd cc
-settled_if u v (Err x) why true is h = absurd cc
-settled_if u v (Err x) why false is h = absurd cc
+settled_if u v r why b h h2 = grind arith
 
 module _ (m : Monitor) (t u : Situation) (e told : Event) (l : LogLine) (r : Result Pending Blame)
     (refused : Bool)
@@ -31,26 +26,14 @@ module _ (m : Monitor) (t u : Situation) (e told : Event) (l : LogLine) (r : Res
     (tested : refused ≡ not (reason_in m t told == 0)) (passed : refused ≡ false)
   where
     allowed : (reason_in m t told == 0) ≡ true
-    allowed = not_false (reason_in m t told == 0) (sym tested ∙ passed)
-      where
-        not_false : (b : Bool) → not b ≡ false → b ≡ true
-        not_false true h = refl
-        not_false false h = absurd cc
+    allowed = grind arith
 
     pub there : (u ≡ after m.object t told) × (r ≡ Ok Settled)
     there =
         settled_if u (after m.object t told) r (blame_of (reason_in m t told)) (reason_in m t told == 0) settled allowed
 
     pub told_goes : is_lapse l ≡ false → line_settled m u l ≡ line_told m t e l
-    told_goes none =
-        ap (λ (v : Situation). line_settled m v l) there.0
-        ∙ ap (λ (b : Bool). cond b (line_settled m (after m.object t told) l) (Err (release_blame m t e l)))
-        (sym (both_true (not (is_lapse l)) (reason_in m t told == 0) (ap not none) allowed))
-        ∙ ap (λ (f : Event). cond (not (is_lapse l) && (reason_in m t f == 0)) (line_settled m (after m.object t f) l)
-        (Err (release_blame m t e l))) is
-      where
-        both_true : (a b : Bool) → a ≡ true → b ≡ true → (a && b) ≡ true
-        both_true a b h k = rw (h, k) refl
+    told_goes h = grind arith
 
     -- the line's events stand behind the release
     pub told_more : (past known : List Event) → OnOk r (known ≡ past ++ told ∷ [])
