@@ -1,6 +1,6 @@
 //! What others see of a replay: how a monitor stands after legal events.
 
-ghost use Rattle.std.specs.Prelude.{◌≡◌, ◌<◌, ℕ, List, IfOk, All};
+ghost use Rattle.std.specs.Prelude.{◌≡◌, ◌<◌, ℕ, List, [], IfOk, All, slice_get};
 ghost use Rattle.monk_history.specs.Meaning.Legal.{IsLegal};
 ghost use Rattle.monk_history.specs.Meaning.Monitor.{monitor};
 ghost use Rattle.monk_history.specs.Meaning.Situation.{situation};
@@ -70,6 +70,31 @@ impl Replay {
         ensures { IfOk result (λ v. (state : List ℕ) → v.items ≡ (replay_situation self.now state).waiters) }
     {
         self.waiters.to_vec(alloc)
+    }
+
+    /// The first of the waiter queue.
+    pub fn first_waiter(&self) -> Option<u8>
+        ensures { result ≡ slice_get (replay_situation self.now []).waiters 0 }
+    {
+        self.waiters.first().copied()
+    }
+
+    /// The first of the signaller queue.
+    pub fn first_signaller(&self) -> Option<u8>
+        ensures { result ≡ slice_get (replay_situation self.now []).signallers 0 }
+    {
+        self.signallers.first().copied()
+    }
+
+    /// The first that waits on the condition; none where there is no such condition.
+    #[tactic(auto, using(crate::proofs::QueueLaws::queue_past))]
+    pub fn first_at(&self, cond: u8) -> Option<u8>
+        ensures { result ≡ slice_get ((replay_situation self.now []).condition cond) 0 }
+    {
+        if cond as usize >= self.conditions.len() {
+            return None;
+        }
+        self.conditions[cond as usize].first().copied()
     }
 
     /// The signaller queue, in order.

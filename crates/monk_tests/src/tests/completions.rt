@@ -1,9 +1,10 @@
 //! Logs that are completed, and those that misfit.
 
 use monk_audit::{Verdict, audit};
+use monk_completion::{Blame, Completion, complete};
 use monk_history::{Event, From3, Header, Next, Via};
 use monk_kinds::KindName;
-use monk_logs::{Blame, Completion, LogHeader, complete, read_log};
+use monk_logs::{LogHeader, read_log};
 use monk_object::Op;
 use std::test::Fail;
 

@@ -1,0 +1,89 @@
+-- The tests of an event, read from the reason and back; and which tests a call has passed
+use Rattle.std.proofs.Common.{◌≡◌, ℕ, Bool, true, false, cond, not, Option, None, refl, sym, ap, ◌∙◌, arith}
+use Rattle.std.proofs.lemmas.Bool.{eqb-true}
+use Rattle.std.specs.Prelude.{◌==◌, Ok, Err}
+use Rattle.std.specs.Option.{option_map_or}
+use Rattle.monk_object.specs.Runs.{Answered}
+use Rattle.monk_history.specs.Meaning.Events.{answered_act}
+use Rattle.monk_history.specs.declared.event.Event.{Event}
+use Rattle.monk_history.specs.Meaning.Monitor.{Monitor}
+use Rattle.monk_history.specs.Meaning.Choice.{is_permitted}
+use Rattle.monk_history.specs.Meaning.Reasons.{IsAllowedIn, reason_before, reason_in, is_in_range, is_offered, is_in_turn, is_in_place}
+use Rattle.monk_history.specs.Meaning.Reasons.{fits_object, is_right_reply}
+use Rattle.monk_history.specs.Meaning.Release.{MayCallIn, as_called}
+use Rattle.monk_history.specs.Meaning.Situation.{Situation}
+
+-- ---- what was added where a test passed
+
+ok_if : {X E : Type 0} (b : Bool) (x y : X) (why : E) → cond b (Ok x) (Err why) ≡ Ok y → (b ≡ true) × (x ≡ y)
+ok_if true x y why h = (refl, cc)
+ok_if false x y why h = absurd cc
+
+pub passed : {X E : Type 0} (n : ℕ) (x y : X) (why : E) → cond (n == 0) (Ok x) (Err why) ≡ Ok y → (n ≡ 0) × (x ≡ y)
+passed n x y why h = let p = ok_if (n == 0) x y why h in (eqb-true n 0 p.0, p.1)
+
+pub passes : {X E : Type 0} (n : ℕ) (x : X) (why : E) → n ≡ 0 → cond (n == 0) (Ok x) (Err why) ≡ Ok x
+passes n x why h = rw h refl
+
+-- ---- the tests 1 to 4
+
+abbrev first_of_four : Bool → Bool → Bool → Bool → ℕ
+first_of_four a b c d = cond (not a) 1 (cond (not b) 2 (cond (not c) 3 (cond (not d) 4 0)))
+
+four_passed : (a b c d : Bool) → first_of_four a b c d ≡ 0 → (a ≡ true) × (b ≡ true) × (c ≡ true) × (d ≡ true)
+four_passed a b c d h = grind arith
+
+pub called_from_tests : (m : Monitor) (t : Situation) (e : Event) → reason_before 0 m t e ≡ 0 → MayCallIn m t e
+called_from_tests m t e h =
+    let p = four_passed (is_in_range m.seats m.conds m.object.codes m.object.predicates e) (is_offered m.kind e)
+    (is_in_turn t e) (is_in_place m.object t e) h in
+    record { in_range = p.0; offered = p.1; in_turn = p.2; in_place = p.3 }
+
+pub tests_from_called : (m : Monitor) (t : Situation) (e : Event) → MayCallIn m t e → reason_before 0 m t e ≡ 0
+tests_from_called m t e h = grind arith
+
+-- ---- all six
+
+abbrev first_of_six : Bool → Bool → Bool → Bool → Bool → Bool → ℕ
+first_of_six a b c d e f =
+    cond (not a) 1 (cond (not b) 2 (cond (not c) 3 (cond (not d) 4 (cond (not e) 5 (cond (not f) 6 0)))))
+
+pub reason_from_allowed : (m : Monitor) (t : Situation) (e : Event) → IsAllowedIn m t e → reason_in m t e ≡ 0
+unfolding reason_in
+reason_from_allowed m t e h = grind arith
+
+-- ---- a release, whose reply is not asked for
+
+early_fails : (a b c d e f : Bool) → (first_of_four a b c d ≡ 0 → ⊥) → (first_of_six a b c d e f == 0) ≡ false
+early_fails a b c d e f h = grind arith
+
+last_decides : (a b c d e f : Bool) → first_of_four a b c d ≡ 0 → e ≡ true → (first_of_six a b c d e f == 0) ≡ f
+last_decides a b c d e f h h2 = grind arith
+
+pub early_refused : (m : Monitor) (t : Situation) (e : Event) (n : ℕ) → n ≡ reason_before 0 m t e → (n ≡ 0 → ⊥)
+    → (reason_in m t e == 0) ≡ false
+unfolding reason_in
+early_refused m t e n is h =
+    early_fails (is_in_range m.seats m.conds m.object.codes m.object.predicates e) (is_offered m.kind e)
+    (is_in_turn t e) (is_in_place m.object t e) (is_right_reply m.object t.state e)
+    (is_permitted m.kind m.object t e) (λ z. h (is ∙ z))
+
+pub permitted_only : (m : Monitor) (t : Situation) (e : Event) → 0 ≡ reason_before 0 m t e → answered_act e ≡ None
+    → (reason_in m t e == 0) ≡ is_permitted m.kind m.object t e
+unfolding reason_in
+permitted_only m t e is none =
+    last_decides (is_in_range m.seats m.conds m.object.codes m.object.predicates e) (is_offered m.kind e)
+    (is_in_turn t e) (is_in_place m.object t e) (is_right_reply m.object t.state e)
+    (is_permitted m.kind m.object t e) (sym is)
+    (ap (λ (a : Option Answered). option_map_or (λ act. act.reply == m.object.reply t.state act.op) a true) none)
+
+-- what may be called asks for what the object has
+pub called_fits : (m : Monitor) (t : Situation) (e : Event) (codes predicates : ℕ) → MayCallIn m t e
+    → m.object.codes ≡ codes → m.object.predicates ≡ predicates → fits_object codes predicates e ≡ true
+called_fits m t e codes predicates h h2 h3 = grind arith
+
+-- ---- what is allowed may be called, as a caller knows it
+
+module _ (m : Monitor) (t : Situation) where
+  pub allowed_called : (e : Event) → IsAllowedIn m t e → MayCallIn m t (as_called e)
+  allowed_called e h = grind arith

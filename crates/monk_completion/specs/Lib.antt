@@ -1,0 +1,11 @@
+pub mod Erasure
+pub mod Fits
+pub mod Told
+pub mod Blame
+pub mod Stand
+pub mod Verdict
+pub mod Made
+pub mod Ending
+pub mod Completion
+pub mod Fronts
+pub mod Events
