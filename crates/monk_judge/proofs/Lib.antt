@@ -11,6 +11,9 @@ pub mod Totals
 pub mod Among
 pub mod Moments
 pub mod Missing
+pub mod Moves
+pub mod Passing
+pub mod Hinting
 pub mod Holding
 pub mod Taking
 pub mod Naming

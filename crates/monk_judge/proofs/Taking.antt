@@ -4,11 +4,13 @@ use Rattle.std.specs.Prelude.{IfSome}
 use Rattle.std.proofs.Math.ListN.{length-set}
 use Rattle.std.proofs.lemmas.List.{length-take-le, take_all}
 use Rattle.monk_object.specs.Object.{Object}
+use Rattle.monk_logs.specs.Expiry.{line_seat}
 use Rattle.monk_logs.specs.declared.text.line.LogLine.{LogLine}
 use Rattle.monk_logs.specs.declared.text.line.LogLine.TheVariants.{Enter, Resume, Lapse, Leave, Wait, Signal, Broadcast, Until, Act}
 use Rattle.monk_judge.specs.declared.holder.Holder.{Holder}
 use Rattle.monk_judge.specs.declared.misfit.Misfit.{Misfit}
 use Rattle.monk_judge.specs.declared.missed.Missed.{Missed}
+use Rattle.monk_judge.specs.declared.overtaking.Hints.{Hints}
 use Rattle.monk_judge.specs.declared.place.Place.{Place}
 use Rattle.monk_judge.specs.declared.place.Place.TheVariants.{Outside}
 use Rattle.monk_judge.specs.declared.report.Report.{Report}
@@ -24,6 +26,7 @@ use Rattle.monk_judge.specs.Ends.{AreEnds, ends_after, runs_out}
 use Rattle.monk_judge.specs.Explains.{IsExplainable, IsMisfit}
 use Rattle.monk_judge.specs.Judged.{CanStand, after_all, steps_at}
 use Rattle.monk_judge.specs.Missed.{LooksAt, is_from_outside}
+use Rattle.monk_judge.specs.Hints.{ComesBack, GoesBack}
 use Rattle.monk_judge.specs.Holding.{IsHolder, NamesLastTaking, holder_by}
 use Rattle.monk_judge.specs.Moments.{Moment, moment, moments}
 use Rattle.monk_judge.specs.Reports.{IsCounted, IsReport, IsRunOf, IsTaken, IsUnheard, NamesFirstNeed, NamesLastUnheard, fitting}
@@ -36,6 +39,9 @@ use Rattle.monk_judge.proofs.Sleepers.{EndsAt, ends_next, goes_first, outside_no
 use Rattle.monk_judge.proofs.Among.{last_here, last_skip}
 use Rattle.monk_judge.proofs.Missing.{Known, known_next, known_opening, more_many}
 use Rattle.monk_judge.proofs.Holding.{holder_is}
+use Rattle.monk_judge.proofs.Moves.{Moves, line_moves}
+use Rattle.monk_judge.proofs.Passing.{Marks, MarksMore, marks_next, told_of}
+use Rattle.monk_judge.proofs.Hinting.{Hinted, hinted_few, hinted_next}
 use Rattle.monk_judge.proofs.Moments.{Meets, line_meets, moment_kept, moment_last, moments_many, moments_on}
 use Rattle.monk_judge.proofs.Totals.{fewest}
 
@@ -155,11 +161,13 @@ run_stop o m d lines i v new steps f lt was refused at =
 -- ---- the counts so far
 
 pub record Taken (o : Object) (m : Setting) (d : List ℕ) (lines : List LogLine) (means : List WaitsFor) (i : ℕ)
-    (v : Shown) (t : Tally) (s : Missed) : Type 0 where
+    (v : Shown) (t : Tally) (s : Missed) (seats : List (Option ℕ)) (h : Hints) : Type 0 where
   pub steps : List Step
   pub reached : Reached o m d lines i v steps
   pub counted : IsCounted m d lines steps t
   pub missed : Known m.object means (moments m (opening d) steps) s
+  pub marks : Marks (moments m (opening d) steps) (state_of v) seats
+  pub hinted : Hinted (moments m (opening d) steps) (state_of v) h
   pub room : t.served + t.passed + t.spurious + t.unheard ≤ 255 * i
 
 -- behind one line more
@@ -182,11 +190,11 @@ pub record IsNothing (t : Tally) : Type 0 where
   pub last : t.last_unheard ≡ None
 
 pub taken_opening : (o : Object) (m : Setting) (d : List ℕ) (lines : List LogLine) (means : List WaitsFor) (v : Shown)
-    (t : Tally) (s : Missed)
+    (t : Tally) (s : Missed) (seats : List (Option ℕ)) (h : Hints)
     → setting_of v o ≡ m
     → length v.ends ≡ length v.places → state_of v ≡ opening d → IsNothing t → s.line ≡ None → s.from_outside ≡ false
-    → Taken o m d lines means 0 v t s
-taken_opening o m d lines means v t s same many fresh none line inside = record {
+    → Marks [] (state_of v) seats → Hinted [] (state_of v) h → Taken o m d lines means 0 v t s seats h
+taken_opening o m d lines means v t s seats h same many fresh none line inside marks hinted = record {
   steps = [];
   reached = reached_opening o m d lines v same many fresh;
   counted = record {
@@ -198,6 +206,8 @@ taken_opening o m d lines means v t s same many fresh none line inside = record 
     last = subst (λ k. NamesLastUnheard m.seats [] k) (sym none.last) (λ k lt. absurd (omega arith));
   };
   missed = known_opening m.object means s line inside;
+  marks = marks;
+  hinted = hinted;
   room = let a = none.served in let b = none.passed in let c = none.spurious in let e = none.unheard in omega arith;
 }
 
@@ -369,50 +379,119 @@ missed_next o m d lines means i v new steps e what s u lt was known does looks =
     (subst (λ k. LooksAt o means l (state_of new) k s u)
     (sym (many_moments o m d lines i v steps (omega arith) was)) looks)))
 
+-- what the program does with a line
+pub record Looks (i : ℕ) (l : LogLine) (y : State) (seats new : List (Option ℕ)) (h u : Hints) : Type 0 where
+  pub marks : MarksMore l y seats new
+  pub on : Option ℕ
+  pub told : on ≡ told_of l seats
+  pub mid : Hints
+  pub goes : GoesBack l h mid
+  pub comes : ComesBack l i on mid u
+
+line_within : (m : Setting) (x : State) (l : LogLine) → CanStand m x l → line_seat l < m.seats
+line_within m x (Enter s) can = can.0
+line_within m x (Resume s) can = can.0
+line_within m x (Lapse s) can = can.0
+line_within m x (Leave s) can = can.0
+line_within m x (Wait s c) can = can.0
+line_within m x (Signal s c) can = can.seat
+line_within m x (Broadcast s c) can = can.seat
+line_within m x (Until s p) can = absurd can
+line_within m x (Act s op r) can = can.0
+
+record Beside (all : List Moment) (y : State) (seats : List (Option ℕ)) (h : Hints) : Type 0 where
+  marks : Marks all y seats
+  hinted : Hinted all y h
+
+beside_next : (o : Object) (m : Setting) (d : List ℕ) (lines : List LogLine) (i : ℕ)
+    (v new : Shown) (steps : List Step) (e : WaitEnd) (what : Told) (seats next : List (Option ℕ)) (h u : Hints)
+    → i < length lines → m.seats < 256 → Reached o m d lines i v steps
+    → Marks (moments m (opening d) steps) (state_of v) seats → Hinted (moments m (opening d) steps) (state_of v) h
+    → Takes o v new (get_or lines i (Enter 0)) e what
+    → Looks i (get_or lines i (Enter 0)) (state_of new) seats next h u
+    → Beside (moments m (opening d) (steps ++ own_steps v (get_or lines i (Enter 0)) e what)) (state_of new) next u
+beside_next o m d lines i v new steps e what seats next h u lt few was marks hinted does looks =
+    let x = state_of v in
+    let l = get_or lines i (Enter 0) in
+    let own = own_steps v l e what in
+    let all = moments m (opening d) steps in
+    let can = stands_there o m d lines i v new steps l e what was does in
+    let meets = line_meets m x l (whom what) (runs_out e) can in
+    let leads = does.leads ∙ ap (λ k. after_all k x own) was.same in
+    let acts = (was.covers.follows steps was.covers.run was.covers.told).holder in
+    let moves : Moves x l (state_of new) = subst (λ y. Moves x l y) (sym leads)
+    (line_moves m x l (whom what) (runs_out e) acts can does.right) in
+    let behind = meets.behind ∙ sym leads in
+    let within : line_seat l < 256 = let a = line_within m x l can in omega arith in
+    let many = many_moments o m d lines i v steps (omega arith) was in
+    subst (λ k. Beside k (state_of new) next u) (sym (moments_next o m d lines i v steps own l was meets))
+    (record {
+      marks = marks_next all meets.t l x (state_of new) seats next meets.line behind moves marks looks.marks;
+      hinted = hinted_next all meets.t l x (state_of new) h looks.mid u looks.on seats looks.told meets.line moves
+          marks within hinted looks.goes
+          (subst (λ k. ComesBack l k looks.on looks.mid u) (sym many) looks.comes);
+    })
+
 pub taken_next : (o : Object) (m : Setting) (d : List ℕ) (lines : List LogLine) (means : List WaitsFor)
-    (ends : List WaitEnd) (i : ℕ) (v new : Shown) (t u : Tally) (s z : Missed)
-    (what : Told) → i < length lines → AreEnds ends lines → Taken o m d lines means i v t s
+    (ends : List WaitEnd) (i : ℕ) (v new : Shown) (t u : Tally) (s z : Missed) (seats next : List (Option ℕ))
+    (h g : Hints)
+    (what : Told) → i < length lines → m.seats < 256 → AreEnds ends lines → Taken o m d lines means i v t s seats h
     → Takes o v new (get_or lines i (Enter 0)) (get_or ends i (Resumes 0)) what → CountsMore i t u what
     → LooksAt o means (get_or lines i (Enter 0)) (state_of new) i s z
-    → Taken o m d lines means (i + 1) new u z
-taken_next o m d lines means ends i v new t u s z what lt are was does more looks =
+    → Looks i (get_or lines i (Enter 0)) (state_of new) seats next h g
+    → Taken o m d lines means (i + 1) new u z next g
+taken_next o m d lines means ends i v new t u s z seats next h g what lt few are was does more looks hints =
     let e = get_or ends i (Resumes 0) in
     let own = own_steps v (get_or lines i (Enter 0)) e what in
-    let next = reached_next o m d lines ends i v new was.steps what lt are was.reached does in
+    let then = reached_next o m d lines ends i v new was.steps what lt are was.reached does in
+    let beside = beside_next o m d lines i v new was.steps e what seats next h g lt few was.reached was.marks
+    was.hinted does hints in
     record {
       steps = was.steps ++ own;
-      reached = next;
+      reached = then;
       counted = counted_next o m d lines i v new was.steps e t u what lt was.reached was.counted does more
-          (least_of o m d lines (i + 1) new (was.steps ++ own) next);
+          (least_of o m d lines (i + 1) new (was.steps ++ own) then);
       missed = missed_next o m d lines means i v new was.steps e what s z lt was.reached was.missed does looks;
+      marks = beside.marks;
+      hinted = beside.hinted;
       room = let a = was.room in let b = more.room in omega arith;
     }
+
+-- no more are counted than there are lines
+pub hints_few : (o : Object) (m : Setting) (d : List ℕ) (lines : List LogLine) (means : List WaitsFor) (i : ℕ)
+    (v : Shown) (t : Tally) (s : Missed) (seats : List (Option ℕ)) (h : Hints) → i ≤ length lines
+    → Taken o m d lines means i v t s seats h → (h.many ≤ i) × (h.again ≤ i)
+hints_few o m d lines means i v t s seats h le was =
+    subst (λ n. (h.many ≤ n) × (h.again ≤ n)) (many_moments o m d lines i v was.steps le was.reached)
+    (hinted_few (moments m (opening d) was.steps) (state_of v) h was.hinted)
 
 -- ---- the end
 
 pub taken_all : (o : Object) (m : Setting) (d : List ℕ) (lines : List LogLine) (means : List WaitsFor) (i : ℕ)
-    (v : Shown) (t : Tally) (s : Missed)
+    (v : Shown) (t : Tally) (s : Missed) (seats : List (Option ℕ)) (h : Hints)
     → length lines ≤ i
-    → Taken o m d lines means i v t s → IsTaken m d lines means None t s.line v
-taken_all o m d lines means i v t s all was = record {
+    → Taken o m d lines means i v t s seats h → IsTaken m d lines means None t s.line h v
+taken_all o m d lines means i v t s seats h all was = record {
   steps = was.steps;
   run = run_all o m d lines i v was.steps all was.reached;
   counted = was.counted;
   missed = was.missed.line;
+  overtaken = was.hinted.counts;
   holder = ap (λ (x : State). x.lock) was.reached.covers.leads;
   places = ap (λ (x : State). x.place) was.reached.covers.leads;
   seats = ap (λ (k : Setting). k.seats) was.reached.same;
 }
 
 pub taken_stop : (o : Object) (m : Setting) (d : List ℕ) (lines : List LogLine) (means : List WaitsFor) (i : ℕ)
-    (v new : Shown) (t : Tally) (s : Missed) (f : Misfit)
-    → i < length lines → Taken o m d lines means i v t s → Refuses o v new (get_or lines i (Enter 0)) → f.line ≡ i
-    → IsTaken m d lines means (Some f) t s.line new
-taken_stop o m d lines means i v new t s f lt was refused at = record {
+    (v new : Shown) (t : Tally) (s : Missed) (seats : List (Option ℕ)) (h : Hints) (f : Misfit)
+    → i < length lines → Taken o m d lines means i v t s seats h → Refuses o v new (get_or lines i (Enter 0)) → f.line ≡ i
+    → IsTaken m d lines means (Some f) t s.line h new
+taken_stop o m d lines means i v new t s seats h f lt was refused at = record {
   steps = was.steps;
   run = run_stop o m d lines i v new was.steps f lt was.reached refused at;
   counted = was.counted;
   missed = was.missed.line;
+  overtaken = was.hinted.counts;
   holder = refused.lock ∙ ap (λ (x : State). x.lock) was.reached.covers.leads;
   places = ap (λ k. λ j. get_or k j Outside) refused.places
       ∙ ap (λ (x : State). x.place) was.reached.covers.leads;
@@ -422,8 +501,8 @@ taken_stop o m d lines means i v new t s f lt was refused at = record {
 -- as a report
 pub report_is : (m : Setting) (d : List ℕ) (lines : List LogLine) (means : List WaitsFor) (v : Shown)
     (misfit : Option Misfit) (t : Tally)
-    (lock found : Option ℕ) (holder : Option Holder) (asleep woken overtaken again : ℕ) (first missed : Option ℕ)
-    → IsTaken m d lines means misfit t missed v → NamesLastTaking (fitting misfit lines) found
+    (lock found : Option ℕ) (holder : Option Holder) (asleep woken : ℕ) (missed : Option ℕ) (g : Hints)
+    → IsTaken m d lines means misfit t missed g v → NamesLastTaking (fitting misfit lines) found
     → lock ≡ v.lock → holder ≡ holder_by lock found → asleep ≡ sleepers (length v.places) (state_of v) → woken ≡ woken_ones (length v.places) (state_of v)
     → IsReport m d lines means (record {
       misfit = misfit;
@@ -434,16 +513,16 @@ pub report_is : (m : Setting) (d : List ℕ) (lines : List LogLine) (means : Lis
         first_spurious = t.first_spurious;
         unheard = t.unheard;
         last_unheard = t.last_unheard;
-        overtaken = overtaken;
-        again = again;
-        first_not_again = first;
+        overtaken = g.many;
+        again = g.again;
+        first_not_again = g.first_not_again;
       };
       holder = holder;
       asleep = asleep;
       woken = woken;
       missed = missed;
     })
-report_is m d lines means v misfit t lock found holder asleep woken overtaken again first missed h named holds by sleep wake = record {
+report_is m d lines means v misfit t lock found holder asleep woken missed g h named holds by sleep wake = record {
   steps = h.steps;
   run = h.run;
   counted = record {
@@ -461,6 +540,7 @@ report_is m d lines means v misfit t lock found holder asleep woken overtaken ag
   woken = wake ∙ ap (λ n. woken_ones n (state_of v)) h.seats
       ∙ ap (λ (f : ℕ → Place). count (λ j. is_woken (f j)) m.seats) h.places;
   missed = h.missed;
+  overtaken = h.overtaken;
 }
 
 -- the misfit is one of the lines
