@@ -534,9 +534,6 @@ hinted_few all x h was = (
   many_within (λ k. WaitsAgain all k) (length all) h.again was.counts.again,
 )
 
-pub goes_few : (all : List Moment) (t : Moment) (y : State) (h : Hints) → Half all t y h → h.many ≤ length all
-goes_few all t y h half = many_within (λ k. IsOvertaken (all ++ t ∷ []) k) (length all) h.many half.counts.many
-
 suc_many : (all : List Moment) (t : Moment) → suc (length all) ≡ length (all ++ t ∷ [])
 suc_many all t = let m = more_many all t in omega arith
 

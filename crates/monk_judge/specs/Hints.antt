@@ -43,6 +43,7 @@ GoesBackBy l None old new = new ≡ old
 GoesBackBy l (Some b) old new = ((line_seat l ≡ b.seat) × Answers l b old new)
     ⊎ ((line_seat l ≡ b.seat → ⊥) × (new ≡ old))
 
+-- whoever came back last goes on, if the line is its own
 abbrev pub GoesBack : LogLine → Hints → Hints → Type 0
 GoesBack l old new = GoesBackBy l old.back old new
 
