@@ -1,5 +1,5 @@
 -- What a line that the judge takes does to the lock and to woken threads
-use Rattle.std.proofs.Common.{◌≡◌, ℕ, ◌<◌, Bool, true, false, ◌∷◌, [], ◌++◌, Option, Some, None, inl, inr, refl, sym, ap, subst, ◌∙◌}
+use Rattle.std.proofs.Common.{◌≡◌, ℕ, Bool, true, false, ◌∷◌, [], ◌++◌, Option, Some, None, refl, sym, ap, subst, ◌∙◌}
 use Rattle.std.proofs.lemmas.Bool.{false≢true}
 use Rattle.monk_logs.specs.Expiry.{line_seat}
 use Rattle.monk_logs.specs.declared.text.line.LogLine.{LogLine}
@@ -9,7 +9,7 @@ use Rattle.monk_judge.specs.declared.place.Place.TheVariants.{Outside, Active, W
 use Rattle.monk_judge.specs.declared.step.Step.TheVariants.{Tells}
 use Rattle.monk_judge.specs.Ends.{is_resume}
 use Rattle.monk_judge.specs.Holding.{takes_lock}
-use Rattle.monk_judge.specs.Judged.{CanResume, CanStand, IsRight, after_all, running_out, steps_at, waking}
+use Rattle.monk_judge.specs.Judged.{CanStand, IsRight, after_all, running_out, steps_at, waking}
 use Rattle.monk_judge.specs.Run.{HasRunOut, Setting, State, WakesRightly, run_out, signalled, with_place, woken, woken_unasked}
 use Rattle.monk_judge.proofs.Least.{elsewhere, here}
 use Rattle.monk_judge.proofs.Sleepers.{HoldersAct}

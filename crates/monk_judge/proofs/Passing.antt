@@ -7,7 +7,7 @@ use Rattle.monk_logs.specs.declared.text.line.LogLine.TheVariants.{Enter, Resume
 use Rattle.monk_judge.specs.declared.place.Place.{Place}
 use Rattle.monk_judge.specs.declared.place.Place.TheVariants.{Outside, Active, Waiting, Woken, RanOut}
 use Rattle.monk_judge.specs.Ends.{is_resume}
-use Rattle.monk_judge.specs.Hints.{marked, unmarked}
+use Rattle.monk_judge.specs.Hints.{marked, passed_of, unmarked}
 use Rattle.monk_judge.specs.Holding.{takes_lock}
 use Rattle.monk_judge.specs.Moments.{Moment, moment}
 use Rattle.monk_judge.specs.Overtaken.{IsOvertaken, IsOvertakenOn, IsPassed, seat_at}
@@ -76,7 +76,8 @@ passed_back all t y s c leads h = (
       ∙ h.woken (length all) (omega (arith, h.before)) (omega arith),
   elim (here_or_below h.by (length all) h.before) as
       (λ z. (takes_lock t.line ≡ true) ⊎ IsPassed all (length all) s c) [
-        | inl last ↦ inl (sym (ap (λ k. takes_lock k.line) (ap (λ k. moment (all ++ t ∷ []) k) last ∙ moment_last all t))
+        | inl last ↦ inl
+            (sym (ap (λ k. takes_lock k.line) (ap (λ k. moment (all ++ t ∷ []) k) last ∙ moment_last all t))
             ∙ h.takes)
         | inr less ↦ inr ((passed_kept all t (length all) s c (omega arith)).1 (record {
           by = h.by;
@@ -205,15 +206,11 @@ marks_opening x seats many nobody = record {
 
 -- ---- who comes back
 
--- what the program says of the line's thread
-abbrev pub told_of : LogLine → List (Option ℕ) → Option ℕ
-told_of l seats = if takes_lock l then get_or seats (line_seat l) None else None
-
 seat_last : (all : List Moment) (t : Moment) (l : LogLine) → t.line ≡ l
     → seat_at (all ++ t ∷ []) (length all) ≡ line_seat l
 seat_last all t l is = ap (λ k. line_seat k.line) (moment_last all t) ∙ ap line_seat is
 
-pub told_by : (l : LogLine) (seats : List (Option ℕ)) (c : ℕ) (b : Bool) → takes_lock l ≡ b → told_of l seats ≡ Some c
+pub told_by : (l : LogLine) (seats : List (Option ℕ)) (c : ℕ) (b : Bool) → takes_lock l ≡ b → passed_of l seats ≡ Some c
     → (takes_lock l ≡ true) × (get_or seats (line_seat l) None ≡ Some c)
 told_by l seats c true e h =
     (e, sym (ap (λ b. if b then get_or seats (line_seat l) None else None) e) ∙ h)
@@ -221,7 +218,7 @@ told_by l seats c false e h =
     absurd (some_none c ⊥ (sym h ∙ ap (λ b. if b then get_or seats (line_seat l) None else None) e))
 
 pub comes_overtaken : (all : List Moment) (t : Moment) (l : LogLine) (x y : State) (seats : List (Option ℕ)) (c : ℕ)
-    → t.line ≡ l → Moves x l y → Marks all x seats → line_seat l < 256 → told_of l seats ≡ Some c
+    → t.line ≡ l → Moves x l y → Marks all x seats → line_seat l < 256 → passed_of l seats ≡ Some c
     → IsOvertakenOn (all ++ t ∷ []) c (length all)
 comes_overtaken all t l x y seats c is moves was lt h =
     let parts = told_by l seats c (takes_lock l) refl h in
@@ -245,7 +242,7 @@ resume_takes (Until s p) h = h
 resume_takes (Act s op r) h = h
 
 pub comes_otherwise : (all : List Moment) (t : Moment) (l : LogLine) (x : State) (seats : List (Option ℕ))
-    → t.line ≡ l → Marks all x seats → line_seat l < 256 → told_of l seats ≡ None
+    → t.line ≡ l → Marks all x seats → line_seat l < 256 → passed_of l seats ≡ None
     → IsOvertaken (all ++ t ∷ []) (length all) → ⊥
 comes_otherwise all t l x seats is was lt h over =
     let back : is_resume l ≡ true = sym (ap (λ k. is_resume k.line) (moment_last all t) ∙ ap is_resume is)

@@ -1,5 +1,5 @@
 -- How what is known of overtaken threads changes with a line
-use Rattle.std.specs.Prelude.{◌≡◌, ℕ, ◌+◌, ◌==◌, ◌⊎◌, Bool, true, false, Option, Some, None, if◌then◌else◌}
+use Rattle.std.specs.Prelude.{◌≡◌, ℕ, ◌+◌, ◌==◌, ◌⊎◌, List, Option, Some, None, slice_index_or, if◌then◌else◌}
 use Rattle.monk_logs.specs.Expiry.{line_seat}
 use Rattle.monk_logs.specs.declared.text.line.LogLine.{LogLine}
 use Rattle.monk_logs.specs.declared.text.line.LogLine.TheVariants.{Wait}
@@ -7,6 +7,7 @@ use Rattle.monk_judge.specs.declared.overtaking.Back.{Back}
 use Rattle.monk_judge.specs.declared.overtaking.Hints.{Hints}
 use Rattle.monk_judge.specs.declared.place.Place.{Place}
 use Rattle.monk_judge.specs.declared.place.Place.TheVariants.{Outside, Active, Waiting, Woken, RanOut}
+use Rattle.monk_judge.specs.Holding.{takes_lock}
 
 -- what is kept of a seat that is there while a thread takes the lock
 abbrev pub marked : Place → Option ℕ → Option ℕ
@@ -19,6 +20,10 @@ marked (RanOut c) was = was
 -- what is kept of seat j once seat s is back
 abbrev pub unmarked : ℕ → ℕ → Option ℕ → Option ℕ
 unmarked s j was = if j == s then None else was
+
+-- the condition that is kept of the line's seat, if it takes the lock
+abbrev pub passed_of : LogLine → List (Option ℕ) → Option ℕ
+passed_of l seats = if takes_lock l then slice_index_or seats (line_seat l) None else None
 
 -- the line that is named, unless it is that one
 abbrev pub without : Option ℕ → ℕ → Option ℕ

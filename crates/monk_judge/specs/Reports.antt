@@ -55,7 +55,8 @@ pub record IsCounted (m : Setting) (d : List ℕ) (lines : List LogLine) (steps 
   pub last : NamesLastUnheard m.seats (moments m (opening d) steps) t.last_unheard
 
 -- it tells the misfit, and what is counted and where threads are at the end of such a run
-pub record IsReport (m : Setting) (d : List ℕ) (lines : List LogLine) (means : List WaitsFor) (r : Report) : Type 0 where
+pub record IsReport (m : Setting) (d : List ℕ) (lines : List LogLine) (means : List WaitsFor)
+    (r : Report) : Type 0 where
   pub steps : List Step
   pub run : IsRunOf m d lines r.misfit steps
   pub counted : IsCounted m d lines steps r.tally

@@ -1,8 +1,8 @@
 //! Threads that were overtaken on their way back.
 
-ghost use Rattle.std.specs.Prelude.{◌≡◌, ◌<◌, ◌≤◌, ◌^◌, true, false, None, ℕ, length, if◌then◌else◌, slice_index_or};
+ghost use Rattle.std.specs.Prelude.{◌≡◌, ◌<◌, ◌^◌, true, false, None, ℕ, length, slice_index_or};
 ghost use Rattle.monk_logs.specs.Expiry.{line_seat};
-ghost use Rattle.monk_judge.specs.Hints.{ComesBack, GoesBack, marked, unmarked, without};
+ghost use Rattle.monk_judge.specs.Hints.{ComesBack, GoesBack, marked, passed_of, unmarked, without};
 ghost use Rattle.monk_judge.specs.Holding.{takes_lock};
 ghost use Rattle.monk_judge.specs.declared.place.Place.TheVariants.{Outside};
 
@@ -38,9 +38,10 @@ impl Passed {
     pub(crate) fn look_at<T: Guarded>(&mut self, judge: &Judge<T>, line: LogLine) -> Option<u8>
         requires { length self.old.seats ≡ 256 }
         ensures many { length self.new.seats ≡ 256 }
-        ensures result { result ≡ (if takes_lock line then slice_index_or self.old.seats (line_seat line) None else None) }
+        ensures result { result ≡ passed_of line self.old.seats }
         ensures taken { takes_lock line ≡ true → (j : ℕ) → j < 256 → slice_index_or self.new.seats j None
-            ≡ marked (slice_index_or judge.now.places j Outside) (unmarked (line_seat line) j (slice_index_or self.old.seats j None)) }
+            ≡ marked (slice_index_or judge.now.places j Outside)
+            (unmarked (line_seat line) j (slice_index_or self.old.seats j None)) }
         ensures kept { takes_lock line ≡ false → self.new ≡ self.old }
     {
         if !takes_lock(line) {

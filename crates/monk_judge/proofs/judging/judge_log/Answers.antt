@@ -4,7 +4,7 @@ use Rattle.monk_judge.specs.Holding.{NamesLastTaking}
 use Rattle.monk_judge.specs.Reports.{IsReport}
 use Rattle.monk_judge.specs.Run.{setting}
 use Rattle.monk_judge.specs.Shown.{setting_of}
-use Rattle.monk_judge.proofs.Taking.{misfit_within, report_is}
+use Rattle.monk_judge.proofs.Taking.{report_is}
 use Rattle.monk_judge.proofs.judging.judge_log.Goals as goal
 
 pub returns : goal.returns

@@ -1,6 +1,6 @@
 use Rattle.std.proofs.Common.{◌<◌, ◌≤◌, length, refl, ap, arith}
 use Rattle.monk_judge.specs.Shown.{setting_of}
-use Rattle.monk_judge.proofs.Hinting.{hinted_opening}
+use Rattle.monk_judge.proofs.Returning.{hinted_opening}
 use Rattle.monk_judge.proofs.Passing.{marks_opening}
 use Rattle.monk_judge.proofs.Taking.{hints_few, taken_all, taken_next, taken_opening, taken_stop}
 use Rattle.monk_judge.proofs.judging.take_lines.Goals as goal
@@ -20,7 +20,8 @@ loop-index-preserved g c =
     let o = g.T.Guarded.meaning in
     let lt : c.loop-index.index < length c.args.lines.now = omega arith in
     let more = c.line-in-Ok.ensures in
-    taken_next o (setting_of v o) v.data_now c.args.lines.now c.args.means.now c.args.ends.now c.loop-index.index c.loop-index.judge
+    taken_next o (setting_of v o) v.data_now c.args.lines.now c.args.means.now c.args.ends.now
+    c.loop-index.index c.loop-index.judge
     c.line.new.self
     c.loop-index.seen.tally c.line-in-Ok.new.self c.loop-index.seen.missed c.look_at.new.self
     c.loop-index.seen.passed.seats c.look_at-on.new.self.seats c.loop-index.seen.hints c.come_back-seen.result
@@ -54,7 +55,8 @@ returns-in-Err g c =
     let v = c.args.judge.now in
     let o = g.T.Guarded.meaning in
     let lt : c.loop-index.index < length c.args.lines.now = omega arith in
-    taken_stop o (setting_of v o) v.data_now c.args.lines.now c.args.means.now c.loop-index.index c.loop-index.judge c.line.new.self
+    taken_stop o (setting_of v o) v.data_now c.args.lines.now c.args.means.now c.loop-index.index
+    c.loop-index.judge c.line.new.self
     c.loop-index.seen.tally c.loop-index.seen.missed c.loop-index.seen.passed.seats c.loop-index.seen.hints
     _ lt c.loop-index.invariant (c.in-Err.ensures {u = tt}) refl
 
@@ -64,7 +66,8 @@ returns g c =
     let o = g.T.Guarded.meaning in
     let all : length c.args.lines.now ≤ c.loop-index.index = omega arith in
     taken_all o (setting_of v o) v.data_now c.args.lines.now c.args.means.now c.loop-index.index c.loop-index.judge
-    c.loop-index.seen.tally c.loop-index.seen.missed c.loop-index.seen.passed.seats c.loop-index.seen.hints all c.loop-index.invariant
+    c.loop-index.seen.tally c.loop-index.seen.missed c.loop-index.seen.passed.seats c.loop-index.seen.hints
+    all c.loop-index.invariant
 
 pub go_on-requires : goal.go_on-requires
 go_on-requires g c =
