@@ -11,6 +11,14 @@ pub mod Totals
 pub mod Among
 pub mod Moments
 pub mod Missing
+pub mod Moves
+pub mod Passing
+pub mod Many
+pub mod Nexts
+pub mod Returning
+pub mod Hinting
 pub mod Holding
+pub mod Reaching
+pub mod Tallies
 pub mod Taking
 pub mod Naming

@@ -1,5 +1,5 @@
 -- Which of the first numbers have a property, and how many
-use Rattle.std.specs.Prelude.{ℕ, ◌<◌, Bool, true, false, Option, MatchOption}
+use Rattle.std.specs.Prelude.{◌≡◌, ℕ, zero, suc, ◌<◌, ◌⊎◌, Bool, true, false, Option, MatchOption}
 
 -- it names the first of so many that has the property; nothing, if none has
 abbrev pub NamesFirst : (ℕ → Type 0) → ℕ → Option ℕ → Type 0
@@ -15,3 +15,9 @@ NamesLast P n found = MatchOption found ((k : ℕ) → k < n → P k → ⊥)
 abbrev pub Decides : Bool → Type 0 → Type 0
 Decides true A = A
 Decides false A = A → ⊥
+
+-- of the first so many, as many have it
+abbrev pub AreMany : (ℕ → Type 0) → ℕ → ℕ → Type 0
+AreMany P zero many = many ≡ 0
+AreMany P (suc n) zero = (P n → ⊥) × AreMany P n 0
+AreMany P (suc n) (suc many) = (P n × AreMany P n many) ⊎ ((P n → ⊥) × AreMany P n (suc many))

@@ -9,6 +9,8 @@ pub mod Moments
 pub mod Missed
 pub mod Holding
 pub mod Steps
+pub mod Overtaken
+pub mod Hints
 pub mod Text
 pub mod Reports
 pub mod Blame

@@ -72,7 +72,8 @@ abbrev pub NamesFirstMissed : Object → List WaitsFor → List Moment → Optio
 NamesFirstMissed o means all found = NamesFirst (λ k. IsMissedAt o means all k) (length all) found
 
 -- what is known of the lines so far once one more, with this index and this state behind it, is looked at
-pub record LooksAt (o : Object) (means : List WaitsFor) (l : LogLine) (x : State) (i : ℕ) (old new : Missed) : Type 0 where
+pub record LooksAt (o : Object) (means : List WaitsFor) (l : LogLine) (x : State) (i : ℕ)
+    (old new : Missed) : Type 0 where
   pub line : ((new.line ≡ old.line) × (old.line ≡ None → old.from_outside ≡ false → LacksBehind o means l x → ⊥))
       ⊎ ((old.line ≡ None) × (old.from_outside ≡ false) × LacksBehind o means l x × (new.line ≡ Some i))
   pub from_outside : new.from_outside ≡ (old.from_outside || is_from_outside x.lock l)

@@ -2,6 +2,7 @@
 use Rattle.std.specs.Prelude.{◌≡◌, ℕ, List, Option, Some, None, MatchOption, length, take}
 use Rattle.monk_logs.specs.declared.text.line.LogLine.{LogLine}
 use Rattle.monk_judge.specs.declared.misfit.Misfit.{Misfit}
+use Rattle.monk_judge.specs.declared.overtaking.Hints.{Hints}
 use Rattle.monk_judge.specs.declared.report.Report.{Report}
 use Rattle.monk_judge.specs.declared.step.Step.{Step}
 use Rattle.monk_judge.specs.declared.step.Step.TheVariants.{Tells}
@@ -14,6 +15,7 @@ use Rattle.monk_judge.specs.Holding.{IsHolder}
 use Rattle.monk_judge.specs.Judged.{after_all}
 use Rattle.monk_judge.specs.Missed.{NamesFirstMissed}
 use Rattle.monk_judge.specs.Moments.{Moment, moment, moments}
+use Rattle.monk_judge.specs.Overtaken.{CountsOvertaken}
 use Rattle.monk_judge.specs.Run.{Setting, IsRun, lines_of, opening, unasked}
 use Rattle.monk_judge.specs.Shown.{Shown, state_of}
 
@@ -53,7 +55,8 @@ pub record IsCounted (m : Setting) (d : List ℕ) (lines : List LogLine) (steps 
   pub last : NamesLastUnheard m.seats (moments m (opening d) steps) t.last_unheard
 
 -- it tells the misfit, and what is counted and where threads are at the end of such a run
-pub record IsReport (m : Setting) (d : List ℕ) (lines : List LogLine) (means : List WaitsFor) (r : Report) : Type 0 where
+pub record IsReport (m : Setting) (d : List ℕ) (lines : List LogLine) (means : List WaitsFor)
+    (r : Report) : Type 0 where
   pub steps : List Step
   pub run : IsRunOf m d lines r.misfit steps
   pub counted : IsCounted m d lines steps r.tally
@@ -61,14 +64,17 @@ pub record IsReport (m : Setting) (d : List ℕ) (lines : List LogLine) (means :
   pub asleep : r.asleep ≡ sleepers m.seats (after_all m (opening d) steps)
   pub woken : r.woken ≡ woken_ones m.seats (after_all m (opening d) steps)
   pub missed : NamesFirstMissed m.object means (moments m (opening d) steps) r.missed
+  pub overtaken : CountsOvertaken (moments m (opening d) steps) r.tally.overtaken r.tally.again
+      r.tally.first_not_again
 
 -- a judge has taken the lines up to that misfit
 pub record IsTaken (m : Setting) (d : List ℕ) (lines : List LogLine) (means : List WaitsFor) (found : Option Misfit)
-    (t : Tally) (lacking : Option ℕ) (v : Shown) : Type 0 where
+    (t : Tally) (lacking : Option ℕ) (h : Hints) (v : Shown) : Type 0 where
   pub steps : List Step
   pub run : IsRunOf m d lines found steps
   pub counted : IsCounted m d lines steps t
   pub missed : NamesFirstMissed m.object means (moments m (opening d) steps) lacking
+  pub overtaken : CountsOvertaken (moments m (opening d) steps) h.many h.again h.first_not_again
   pub holder : v.lock ≡ (after_all m (opening d) steps).lock
   pub places : (state_of v).place ≡ (after_all m (opening d) steps).place
   pub seats : length v.places ≡ m.seats

@@ -125,6 +125,14 @@ impl<T: Guarded> Judge<T> {
         }
     }
 
+    /// Where each seat is.
+    pub(crate) fn places(&self) -> &[Place]
+        ensures places { result.now ≡ self.now.places }
+        ensures few { length result.now < 256 }
+    {
+        &self.places
+    }
+
     /// Where a seat of the header is.
     fn at(&self, seat: u8) -> Result<Place, Blame>
         ensures { MatchResult result (λ p. (seat < length self.now.places)

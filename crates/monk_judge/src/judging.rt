@@ -1,6 +1,6 @@
 //! A whole log, judged.
 
-ghost use Rattle.std.specs.Prelude.{◌≡◌, ◌≤◌, IfOk, IfSome, length};
+ghost use Rattle.std.specs.Prelude.{◌≡◌, ◌<◌, ◌≤◌, IfOk, IfSome, length};
 ghost use Rattle.monk_history.specs.Limits.{most_lines};
 ghost use Rattle.monk_judge.specs.Ends.{AreEnds};
 ghost use Rattle.monk_judge.specs.Holding.{holder_by};
@@ -13,7 +13,7 @@ use crate::holder::{Holder, last_taking};
 use crate::judge::Judge;
 use crate::misfit::Misfit;
 use crate::missed::Missed;
-use crate::overtaking::Overtaking;
+use crate::overtaking::{Hints, Passed};
 use crate::report::Report;
 use crate::tally::Tally;
 use crate::wait_end::WaitEnd;
@@ -53,9 +53,9 @@ pub fn judge_log<T: Guarded>(
     Ok(Report {
         misfit,
         tally: Tally {
-            overtaken: seen.overtaking.many(),
-            again: seen.overtaking.again(),
-            first_not_again: seen.overtaking.first_not_again(),
+            overtaken: seen.hints.many,
+            again: seen.hints.again,
+            first_not_again: seen.hints.first_not_again,
             ..seen.tally
         },
         holder: holder(judge.lock(), last_taking(fitting(misfit, lines))),
@@ -70,7 +70,8 @@ pub fn judge_log<T: Guarded>(
 struct Seen {
     tally: Tally,
     missed: Missed,
-    overtaking: Overtaking,
+    passed: Passed,
+    hints: Hints,
 }
 
 /// Takes the lines, up to the first that can't stand. `ends` says how a wait in each line would end.
@@ -84,22 +85,24 @@ fn take_lines<T: Guarded>(
     requires seats { length judge.old.ends ≡ length judge.old.places }
     requires ends { AreEnds ends.now lines.now }
     requires few { length lines.now ≤ most_lines }
+    requires few_seats { length judge.old.places < 256 }
     ensures { IsTaken (setting_of judge.old T.meaning) judge.old.data_now lines.now means.now result.1 result.0.tally
-        result.0.missed.line judge.new }
+        result.0.missed.line result.0.hints judge.new }
 {
     let mut seen = Seen {
         tally: Tally::NOTHING,
         missed: Missed::NOTHING,
-        overtaking: Overtaking::nothing(),
+        passed: Passed::nobody(),
+        hints: Hints::NONE,
     };
     for (index, line) in lines.iter().enumerate() {
-        let was = judge.place(line.seat());
         match judge.line(*line, ends[index]) {
             Ok(told) => seen.tally.line(index, told),
             Err(why) => return (seen, Some(Misfit { line: index, why })),
         }
         seen.missed.look_at(judge, means, index, *line);
-        seen.overtaking.line(judge, index, *line, was);
+        let on = seen.passed.look_at(judge, *line);
+        seen.hints = seen.hints.go_on(*line).come_back(*line, index, on);
     }
     (seen, None)
 }

@@ -2,7 +2,7 @@
 
 ghost use Rattle.std.specs.Prelude.{◌≡◌};
 ghost use Rattle.monk_judge.specs.Among.{Decides};
-ghost use Rattle.monk_judge.specs.Missed.{AllHold, LacksBehind, LacksSignal, LooksAt, frees_lock, is_from_outside};
+ghost use Rattle.monk_judge.specs.Missed.{AllHold, LacksBehind, LacksSignal, LooksAt, is_from_outside};
 ghost use Rattle.monk_judge.specs.Shown.{state_of};
 
 use crate::judge::Judge;

@@ -1,5 +1,11 @@
 //! Threads that were overtaken on their way back.
 
+ghost use Rattle.std.specs.Prelude.{◌≡◌, ◌<◌, ◌^◌, true, false, None, ℕ, length, slice_index_or};
+ghost use Rattle.monk_logs.specs.Expiry.{line_seat};
+ghost use Rattle.monk_judge.specs.Hints.{ComesBack, GoesBack, marked, passed_of, unmarked, without};
+ghost use Rattle.monk_judge.specs.Holding.{takes_lock};
+ghost use Rattle.monk_judge.specs.declared.place.Place.TheVariants.{Outside};
+
 use crate::holder::takes_lock;
 use crate::judge::Judge;
 use crate::place::Place;
@@ -9,102 +15,138 @@ use monk_object::Guarded;
 /// How many seats a line can name.
 const SEATS: usize = 256;
 
-/// A thread that came back overtaken, and has told no line since.
-#[derive(Clone, Copy)]
-struct Back {
-    seat: u8,
-    cond: u8,
-    line: usize,
-}
-
-/// Woken threads that came back behind others: whether they wait again.
+/// Which woken threads were overtaken: of each seat, on which condition it was woken before another
+/// thread took the lock, if it was so and isn't back.
 #[derive(Drop)]
-pub(crate) struct Overtaking {
-    /// Of each seat that is woken, whether a thread took the lock since.
-    overtaken: [bool; SEATS],
-    back: Option<Back>,
-    many: u64,
-    again: u64,
-    first_not_again: Option<usize>,
+pub(crate) struct Passed {
+    seats: [Option<u8>; SEATS],
 }
 
-impl Overtaking {
+impl Passed {
     /// Of no lines.
-    pub(crate) fn nothing() -> Overtaking {
-        Overtaking {
-            overtaken: [false; SEATS],
-            back: None,
-            many: 0,
-            again: 0,
-            first_not_again: None,
+    pub(crate) fn nobody() -> Passed
+        ensures many { length result.seats ≡ 256 }
+        ensures nobody { (j : ℕ) → j < 256 → slice_index_or result.seats j None ≡ None }
+    {
+        Passed {
+            seats: [None; SEATS],
         }
     }
 
-    /// How many came back overtaken.
-    pub(crate) fn many(&self) -> u64 {
-        self.many
-    }
-
-    /// How many of these waited again at once.
-    pub(crate) fn again(&self) -> u64 {
-        self.again
-    }
-
-    /// The line of the first of them that didn't, or hasn't yet.
-    pub(crate) fn first_not_again(&self) -> Option<usize> {
-        self.first_not_again
-    }
-
-    /// Looks at the line with that index, which the judge has taken. Its seat was there before.
-    pub(crate) fn line<T: Guarded>(
-        &mut self,
-        judge: &Judge<T>,
-        index: usize,
-        line: LogLine,
-        was: Option<Place>,
-    ) {
-        self.go_on(line);
-        if takes_lock(line) {
-            if let Some(Place::Woken(cond)) = was {
-                self.come_back(line.seat(), cond, index);
-            }
-            self.overtake(judge);
+    /// Looks at a line that the judge has taken. Says on which condition its thread was woken, if it
+    /// comes back overtaken.
+    pub(crate) fn look_at<T: Guarded>(&mut self, judge: &Judge<T>, line: LogLine) -> Option<u8>
+        requires { length self.old.seats ≡ 256 }
+        ensures many { length self.new.seats ≡ 256 }
+        ensures result { result ≡ passed_of line self.old.seats }
+        ensures taken { takes_lock line ≡ true → (j : ℕ) → j < 256 → slice_index_or self.new.seats j None
+            ≡ marked (slice_index_or judge.now.places j Outside)
+            (unmarked (line_seat line) j (slice_index_or self.old.seats j None)) }
+        ensures kept { takes_lock line ≡ false → self.new ≡ self.old }
+    {
+        if !takes_lock(line) {
+            return None;
         }
-    }
-
-    /// What a thread does that came back overtaken.
-    fn go_on(&mut self, line: LogLine) {
-        let Some(back) = self.back else {
-            return;
-        };
-        if line.seat() != back.seat {
-            return;
-        }
-        self.back = None;
-        if line == LogLine::Wait(back.seat, back.cond) {
-            self.again = self.again.saturating_add(1);
-            if self.first_not_again == Some(back.line) {
-                self.first_not_again = None;
-            }
-        }
-    }
-
-    /// A woken thread comes back.
-    fn come_back(&mut self, seat: u8, cond: u8, line: usize) {
-        if self.overtaken[usize::from(seat)] {
-            self.overtaken[usize::from(seat)] = false;
-            self.many = self.many.saturating_add(1);
-            self.first_not_again = self.first_not_again.or(Some(line));
-            self.back = Some(Back { seat, cond, line });
-        }
+        let seat = usize::from(line.seat());
+        let was = self.seats[seat];
+        self.seats[seat] = None;
+        self.mark(judge);
+        was
     }
 
     /// A thread takes the lock: those who are woken are overtaken.
-    fn overtake<T: Guarded>(&mut self, judge: &Judge<T>) {
-        for seat in 0..=u8::MAX {
-            if let Some(Place::Woken(_)) = judge.place(seat) {
-                self.overtaken[usize::from(seat)] = true;
+    fn mark<T: Guarded>(&mut self, judge: &Judge<T>)
+        requires { length self.old.seats ≡ 256 }
+        ensures many { length self.new.seats ≡ 256 }
+        ensures marked { (j : ℕ) → j < 256 → slice_index_or self.new.seats j None
+            ≡ marked (slice_index_or judge.now.places j Outside) (slice_index_or self.old.seats j None) }
+    {
+        for (seat, place) in judge.places().iter().enumerate() {
+            if let Place::Woken(cond) = *place {
+                self.seats[seat] = Some(cond);
             }
         }
+    }
+}
+
+/// A thread that came back overtaken, and has told no line since.
+#[derive(Clone, Copy, Debug, PartialEq, Eq)]
+pub(crate) struct Back {
+    pub(crate) seat: u8,
+    pub(crate) cond: u8,
+    /// The line with which it came back, counted from 0 behind the header.
+    pub(crate) line: usize,
+}
+
+/// How many threads came back overtaken, and what they did next.
+#[derive(Clone, Copy, Debug, PartialEq, Eq)]
+pub(crate) struct Hints {
+    /// The last of them, if it has told no line since.
+    pub(crate) back: Option<Back>,
+    pub(crate) many: u64,
+    /// How many waited again.
+    pub(crate) again: u64,
+    /// The line with which the first came back that didn't.
+    pub(crate) first_not_again: Option<usize>,
+}
+
+impl Hints {
+    /// Of no lines.
+    pub(crate) const NONE: Hints = Hints {
+        back: None,
+        many: 0,
+        again: 0,
+        first_not_again: None,
+    };
+
+    /// Whoever came back overtaken and tells this line goes on with it.
+    pub(crate) fn go_on(self, line: LogLine) -> Hints
+        requires { self.again < 2 ^ 63 }
+        ensures goes { GoesBack line self result }
+        ensures many { result.many ≡ self.many }
+    {
+        let Some(back) = self.back else {
+            return self;
+        };
+        if line.seat() != back.seat {
+            return self;
+        }
+        if line != LogLine::Wait(back.seat, back.cond) {
+            return Hints { back: None, ..self };
+        }
+        Hints {
+            back: None,
+            many: self.many,
+            again: self.again + 1,
+            first_not_again: without(self.first_not_again, back.line),
+        }
+    }
+
+    /// The thread of the line with that index comes back, overtaken if a condition is named.
+    pub(crate) fn come_back(self, line: LogLine, index: usize, on: Option<u8>) -> Hints
+        requires { self.many < 2 ^ 63 }
+        ensures { ComesBack line index on self result }
+    {
+        let Some(cond) = on else {
+            return self;
+        };
+        let seat = line.seat();
+        let line = index;
+        Hints {
+            back: Some(Back { seat, cond, line }),
+            many: self.many + 1,
+            again: self.again,
+            first_not_again: self.first_not_again.or(Some(line)),
+        }
+    }
+}
+
+/// The line that is named, unless it is that one.
+fn without(named: Option<usize>, line: usize) -> Option<usize>
+    ensures { result ≡ without named line }
+{
+    match named {
+        Some(first) if first != line => Some(first),
+        Some(_) | None => None,
     }
 }

@@ -1,6 +1,5 @@
 //! What a signal is lacking for.
 
-ghost use Rattle.std.specs.Prelude.{◌≡◌};
 ghost use Rattle.monk_judge.specs.Among.{Decides};
 ghost use Rattle.monk_judge.specs.Missed.{Holds, IsUnsignalled};
 ghost use Rattle.monk_judge.specs.Shown.{IsThere, state_of};

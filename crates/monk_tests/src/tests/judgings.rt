@@ -1,3 +1,6 @@
+ghost use Rattle.std.specs.Prelude.{◌≤◌, IfOk, length};
+ghost use Rattle.monk_history.specs.Limits.{most_lines};
+
 use monk_judge::{
     Blame, Holder, Judge, Misfit, Place, Report, Run, Tally, WaitsFor, judge_log, look_ahead,
     run_of_log,
@@ -19,7 +22,9 @@ struct Row {
 }
 
 /// The lines behind the header of such a log.
-fn lines_of(rt: &HostRuntime, lines: &[u8]) -> Result<Vec<LogLine>, Fail> {
+fn lines_of(rt: &HostRuntime, lines: &[u8]) -> Result<Vec<LogLine>, Fail>
+    ensures { IfOk result (λ v. length v.items ≤ most_lines) }
+{
     let mut text = Vec::new(rt.alloc());
     text.extend_from_slice(b"log 1 3 1 buffer 1\n")?;
     text.extend_from_slice(lines)?;

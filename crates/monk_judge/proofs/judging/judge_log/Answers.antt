@@ -4,7 +4,7 @@ use Rattle.monk_judge.specs.Holding.{NamesLastTaking}
 use Rattle.monk_judge.specs.Reports.{IsReport}
 use Rattle.monk_judge.specs.Run.{setting}
 use Rattle.monk_judge.specs.Shown.{setting_of}
-use Rattle.monk_judge.proofs.Taking.{misfit_within, report_is}
+use Rattle.monk_judge.proofs.Taking.{report_is}
 use Rattle.monk_judge.proofs.judging.judge_log.Goals as goal
 
 pub returns : goal.returns
@@ -26,9 +26,9 @@ returns g c =
         first_spurious = seen.tally.first_spurious;
         unheard = seen.tally.unheard;
         last_unheard = seen.tally.last_unheard;
-        overtaken = c.many.result;
-        again = c.again.result;
-        first_not_again = c.first_not_again.result;
+        overtaken = seen.hints.many;
+        again = seen.hints.again;
+        first_not_again = seen.hints.first_not_again;
       };
       holder = c.holder.result;
       asleep = c.asleep.result;
@@ -36,9 +36,8 @@ returns g c =
       missed = seen.missed.line;
     } in
     let report : IsReport (setting_of v o) v.data_now c.args.lines.now c.args.means.now r = report_is (setting_of v o)
-    v.data_now c.args.lines.now c.args.means.now taken.new.judge taken.result.1
-    seen.tally c.lock.result c.last_taking.result c.holder.result c.asleep.result c.woken.result c.many.result
-    c.again.result c.first_not_again.result seen.missed.line taken.ensures named c.lock.ensures c.holder.ensures
-    c.asleep.ensures c.woken.ensures in
+    v.data_now c.args.lines.now c.args.means.now taken.new.judge taken.result.1 seen.tally c.lock.result
+    c.last_taking.result c.holder.result c.asleep.result c.woken.result seen.missed.line seen.hints taken.ensures
+    named c.lock.ensures c.holder.ensures c.asleep.ensures c.woken.ensures in
     subst (λ m. IsReport m (g.T.Guarded.state c.args.object) c.args.lines.now c.args.means.now r) same
     (subst (λ d. IsReport (setting_of v o) d c.args.lines.now c.args.means.now r) opened.many.3 report)

@@ -1,14 +1,18 @@
-use Rattle.std.proofs.Common.{◌<◌, ◌≤◌, length, refl, arith}
+use Rattle.std.proofs.Common.{◌<◌, ◌≤◌, length, refl, ap, arith}
 use Rattle.monk_judge.specs.Shown.{setting_of}
-use Rattle.monk_judge.proofs.Taking.{taken_all, taken_next, taken_opening, taken_stop}
+use Rattle.monk_judge.proofs.Returning.{hinted_opening}
+use Rattle.monk_judge.proofs.Passing.{marks_opening}
+use Rattle.monk_judge.proofs.Taking.{hints_few, taken_all, taken_next, taken_opening, taken_stop}
 use Rattle.monk_judge.proofs.judging.take_lines.Goals as goal
 
 pub loop-index-init : goal.loop-index-init
 loop-index-init g c =
     let v = c.args.judge.now in
     let o = g.T.Guarded.meaning in
-    taken_opening o (setting_of v o) v.data_now c.args.lines.now c.args.means.now v _ _ refl c.requires.seats c.requires.opening
+    taken_opening o (setting_of v o) v.data_now c.args.lines.now c.args.means.now v _ _ _ _ refl c.requires.seats
+    c.requires.opening
     (record { served = refl; passed = refl; spurious = refl; unheard = refl; first = refl; last = refl }) refl refl
+    (marks_opening _ _ c.nobody.ensures.many c.nobody.ensures.nobody) (hinted_opening _ _ refl refl refl refl)
 
 pub loop-index-preserved : goal.loop-index-preserved
 loop-index-preserved g c =
@@ -16,9 +20,12 @@ loop-index-preserved g c =
     let o = g.T.Guarded.meaning in
     let lt : c.loop-index.index < length c.args.lines.now = omega arith in
     let more = c.line-in-Ok.ensures in
-    taken_next o (setting_of v o) v.data_now c.args.lines.now c.args.means.now c.args.ends.now c.loop-index.index c.loop-index.judge
+    taken_next o (setting_of v o) v.data_now c.args.lines.now c.args.means.now c.args.ends.now
+    c.loop-index.index c.loop-index.judge
     c.line.new.self
-    c.loop-index.seen.tally c.line-in-Ok.new.self c.loop-index.seen.missed c.look_at.new.self c.in-Ok.told lt c.requires.ends c.loop-index.invariant
+    c.loop-index.seen.tally c.line-in-Ok.new.self c.loop-index.seen.missed c.look_at.new.self
+    c.loop-index.seen.passed.seats c.look_at-on.new.self.seats c.loop-index.seen.hints c.come_back-seen.result
+    c.in-Ok.told lt c.requires.few_seats c.requires.ends c.loop-index.invariant
     (c.in-Ok.ensures {u = tt})
     (record {
       served = more.served;
@@ -30,14 +37,27 @@ loop-index-preserved g c =
       room = more.room;
     })
     c.look_at.ensures
+    (record {
+      marks = record {
+        many = c.look_at-on.ensures.many;
+        taken = c.look_at-on.ensures.taken;
+        kept = λ h. ap (λ k. k.seats) (c.look_at-on.ensures.kept h);
+      };
+      on = c.look_at-on.result;
+      told = c.look_at-on.ensures.result;
+      mid = c.go_on.result;
+      goes = c.go_on.ensures.goes;
+      comes = c.come_back-seen.ensures;
+    })
 
 pub returns-in-Err : goal.returns-in-Err
 returns-in-Err g c =
     let v = c.args.judge.now in
     let o = g.T.Guarded.meaning in
     let lt : c.loop-index.index < length c.args.lines.now = omega arith in
-    taken_stop o (setting_of v o) v.data_now c.args.lines.now c.args.means.now c.loop-index.index c.loop-index.judge c.line.new.self
-    c.loop-index.seen.tally c.loop-index.seen.missed
+    taken_stop o (setting_of v o) v.data_now c.args.lines.now c.args.means.now c.loop-index.index
+    c.loop-index.judge c.line.new.self
+    c.loop-index.seen.tally c.loop-index.seen.missed c.loop-index.seen.passed.seats c.loop-index.seen.hints
     _ lt c.loop-index.invariant (c.in-Err.ensures {u = tt}) refl
 
 pub returns : goal.returns
@@ -46,4 +66,25 @@ returns g c =
     let o = g.T.Guarded.meaning in
     let all : length c.args.lines.now ≤ c.loop-index.index = omega arith in
     taken_all o (setting_of v o) v.data_now c.args.lines.now c.args.means.now c.loop-index.index c.loop-index.judge
-    c.loop-index.seen.tally c.loop-index.seen.missed all c.loop-index.invariant
+    c.loop-index.seen.tally c.loop-index.seen.missed c.loop-index.seen.passed.seats c.loop-index.seen.hints
+    all c.loop-index.invariant
+
+pub go_on-requires : goal.go_on-requires
+go_on-requires g c =
+    let v = c.args.judge.now in
+    let o = g.T.Guarded.meaning in
+    let le : c.loop-index.index ≤ length c.args.lines.now = omega arith in
+    let few = hints_few o (setting_of v o) v.data_now c.args.lines.now c.args.means.now c.loop-index.index
+    c.loop-index.judge c.loop-index.seen.tally c.loop-index.seen.missed c.loop-index.seen.passed.seats
+    c.loop-index.seen.hints le c.loop-index.invariant in
+    omega (arith, few.1, c.requires.few)
+
+pub come_back-seen-requires : goal.come_back-seen-requires
+come_back-seen-requires g c =
+    let v = c.args.judge.now in
+    let o = g.T.Guarded.meaning in
+    let le : c.loop-index.index ≤ length c.args.lines.now = omega arith in
+    let few = hints_few o (setting_of v o) v.data_now c.args.lines.now c.args.means.now c.loop-index.index
+    c.loop-index.judge c.loop-index.seen.tally c.loop-index.seen.missed c.loop-index.seen.passed.seats
+    c.loop-index.seen.hints le c.loop-index.invariant in
+    omega (arith, few.0, c.requires.few, c.go_on.ensures.many)

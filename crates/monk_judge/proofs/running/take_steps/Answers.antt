@@ -1,6 +1,6 @@
 use Rattle.std.proofs.Common.{◌+◌, ◌<◌, ◌≤◌, length, refl, sym, subst, arith}
 use Rattle.monk_judge.specs.Shown.{setting_of}
-use Rattle.monk_judge.proofs.Taking.{Reached, reached_next, reached_opening, run_all, run_stop}
+use Rattle.monk_judge.proofs.Reaching.{Reached, reached_next, reached_opening, run_all, run_stop}
 use Rattle.monk_judge.proofs.running.take_steps.Goals as goal
 
 pub loop-index-init : goal.loop-index-init

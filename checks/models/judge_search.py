@@ -1,0 +1,114 @@
+"""A search over all runs of a mutex with condition variables that tell a log. It branches where a log doesn't tell: whom a signal wakes,
+when a wait runs out, and when a thread wakes though nobody sent a signal. It shares nothing with monk."""
+from typing import NamedTuple
+
+from monitor import CODES, Thing
+
+# A step is a line of a log in words and numbers, or `out SEAT` or `wake SEAT`, which no line tells.
+Step = tuple[str | int, ...]
+Place = tuple[str, int]
+OUTSIDE, ACTIVE = ("outside", 0), ("active", 0)
+# Where a thread is before a line with which it takes the lock, and behind a step that no line tells.
+TAKES, SILENT = {"enter": "outside", "resume": "woken", "lapse": "ran out"}, {"out": "ran out", "wake": "woken"}
+
+
+class Setting(NamedTuple):
+    seats: int
+    conds: int
+    object: str
+    size: int
+
+
+class State(NamedTuple):
+    lock: int | None
+    places: tuple[Place, ...]
+    data: tuple[int, ...]
+
+
+class Answer(NamedTuple):
+    """The misfit's line in the file, how many woke unasked, the first line that needs it, and who holds the lock since which line."""
+
+    misfit: int | None
+    unasked: int
+    first: int | None
+    holder: tuple[int, int] | None
+
+
+def opening(setting: Setting) -> State:
+    return State(None, (OUTSIDE,) * setting.seats, tuple(Thing.opening(setting.object, setting.size)))
+
+
+def moved(x: State, lock: int | None, there: dict[int, Place]) -> State:
+    return State(lock, tuple(there.get(seat, place) for seat, place in enumerate(x.places)), x.data)
+
+
+def after(setting: Setting, x: State, step: Step, whom: int | None = None) -> State | None:
+    """The state behind the step, whose signal wakes that thread; None if it may not happen."""
+    verb, seat, *rest = step
+    if seat >= setting.seats or verb in ("wait", "signal", "broadcast") and rest[0] >= setting.conds or whom is not None and verb != "signal":
+        return None
+    place, asleep = x.places[seat], [other for other, there in enumerate(x.places) if there == ("waiting", rest[0] if rest else -1)]
+    if verb in TAKES:
+        return moved(x, seat, {seat: ACTIVE}) if x.lock is None and place[0] == TAKES[verb] else None
+    if verb in SILENT:
+        return moved(x, x.lock, {seat: (SILENT[verb], place[1])}) if place[0] == "waiting" else None
+    if verb in ("signal", "broadcast"):
+        woken = asleep if verb == "broadcast" else [other for other in asleep if other == whom]
+        may = (x.lock == seat or place == OUTSIDE) and (bool(woken) if asleep else whom is None)
+        return moved(x, x.lock, {other: ("woken", rest[0]) for other in woken}) if may else None
+    if x.lock != seat or verb == "until" or verb == "act" and rest[0] >= CODES[setting.object]:
+        return None
+    if verb == "act":
+        reply, thing = Thing(setting.object, list(x.data)).act(*rest[:2])
+        return x._replace(data=tuple(thing.state)) if reply == rest[2] else None
+    return moved(x, None, {seat: OUTSIDE if verb == "leave" else ("waiting", rest[0])})
+
+
+def behind(setting: Setting, runs: dict[State, int], line: Step) -> dict[State, int]:
+    """Where runs may be behind the line, each with the fewest that woke unasked, by where they may be before it."""
+    silent, left, found = dict(runs), list(runs), {}
+    while left:
+        x = left.pop()
+        for step in ((verb, seat) for verb in SILENT for seat in range(setting.seats)):
+            y, cost = after(setting, x, step), silent[x] + (step[0] == "wake")
+            if y is not None and cost < silent.get(y, cost + 1):
+                silent[y] = cost
+                left.append(y)
+    for x, cost in silent.items():
+        for y in (after(setting, x, line, whom) for whom in (None, *range(setting.seats))):
+            if y is not None:
+                found[y] = min(cost, found.get(y, cost))
+    return found
+
+
+def judged(setting: Setting, log: list[Step]) -> Answer:
+    runs, first, since, misfit = {opening(setting): 0}, None, 0, None
+    for number, line in enumerate(log, 2):
+        then = behind(setting, runs, line)
+        if not then:
+            misfit = number
+            break
+        runs, since = then, number if line[0] in TAKES else since
+        first = number if first is None and min(runs.values()) else first
+    (lock,) = {x.lock for x in runs}
+    return Answer(misfit, min(runs.values()), first, None if lock is None else (lock, since))
+
+
+def wrong_with(text: str, setting: Setting, log: list[Step], unasked: int) -> str | None:
+    """What is wrong with the text of a run that is to tell these lines, and in which so many are to wake unasked."""
+    head, *steps = text.splitlines()
+    x, lines = opening(setting), []
+    if head != f"run NPNB {setting.seats} {setting.conds} {setting.object} {setting.size}":
+        return f"its first line is {head}"
+    for number, words in enumerate(steps, 2):
+        told, _, whom = words.partition(" wakes ")
+        step = step_of(told)
+        y = after(setting, x, step, int(whom) if whom else None)
+        if y is None:
+            return f"line {number} may not stand there: {words}"
+        x, lines, unasked = y, lines if step[0] in SILENT else [*lines, step], unasked - (step[0] == "wake")
+    return "its lines are not the log's" if lines != log else "another number wakes unasked" if unasked else None
+
+
+def step_of(words: str) -> Step:
+    return tuple(word if word.isalpha() else int(word) for word in words.split())
