@@ -6,15 +6,16 @@ use Rattle.monk_kinds.specs.declared.name.KindName.{KindName}
 use Rattle.monk_object.specs.Names.{most}
 use Rattle.monk_history.specs.declared.text.fault.ReadFault.{ReadFault}
 use Rattle.monk_history.specs.Text.{text}
-use Rattle.monk_logs.specs.Fits.{IsOpen}
+use Rattle.monk_completion.specs.Fits.{IsOpen}
 use Rattle.monk_logs.specs.Log.{LogHeading}
 use Rattle.monk_logs.specs.Log.Reading.{Log, log, log_at}
-use Rattle.monk_logs.specs.Stand.{verdict_on}
-use Rattle.monk_logs.specs.Verdict.{FitsExactly, IsMisfit, MisfitsExactly, log_monitor}
+use Rattle.monk_completion.specs.Stand.{verdict_on}
+use Rattle.monk_completion.specs.Verdict.{FitsExactly, IsMisfit, MisfitsExactly, log_monitor}
 use Rattle.monk_logs.specs.declared.text.line.LogLine.{LogLine}
-use Rattle.monk_logs.specs.declared.verdict.LogVerdict.{LogVerdict}
-use Rattle.monk_logs.specs.declared.verdict.LogVerdict.TheVariants.{Fits, Misfit}
-use Rattle.monk_logs.proofs.PublicLaws.{kind_fits, kind_misfits, log_again, log_read}
+use Rattle.monk_completion.specs.declared.verdict.LogVerdict.{LogVerdict}
+use Rattle.monk_completion.specs.declared.verdict.LogVerdict.TheVariants.{Fits, Misfit}
+use Rattle.monk_completion.proofs.PublicLaws.{kind_fits, kind_misfits}
+use Rattle.monk_logs.proofs.PublicLaws.{log_again, log_read}
 use Rattle.monk_commands.specs.Completed.{IsAnswerToLog, IsLogAnswer, IsLogOf, IsMisfitText, IsOpenText, IsReadingAnswer, IsVerdictAnswer}
 use Rattle.monk_commands.specs.Completed.{completed_heading}
 use Rattle.monk_commands.specs.Played.{IsFoundLegal}

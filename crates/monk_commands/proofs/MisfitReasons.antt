@@ -1,29 +1,28 @@
 -- What a picture says of a line that misfits stands in it as it is.
-use Rattle.std.proofs.Common.{◌≡◌, ◌++◌, true, refl}
+use Rattle.std.proofs.Common.{◌≡◌, ◌++◌, true, refl, Option, Some, None}
 use Rattle.std.specs.Fmt.{decimal}
 use Rattle.std.specs.Prelude.{codes}
 use Rattle.monk_draw.specs.Frame.{is_plain_text}
 use Rattle.monk_draw.proofs.PublicLaws.{plain-append, plain-decimal}
-use Rattle.monk_logs.specs.Blame.{blame_word}
-use Rattle.monk_logs.specs.declared.blame.Blame.{Blame}
-use Rattle.monk_logs.specs.declared.blame.Blame.TheVariants.{Range, Call, Turn, Place, Reply, Unserved, Served, Order, Choice}
-use Rattle.monk_logs.specs.declared.verdict.LogVerdict.{LogVerdict}
-use Rattle.monk_logs.specs.declared.verdict.LogVerdict.TheVariants.{Fits, Misfit}
-use Rattle.monk_commands.specs.RunDrawn.{reason_of}
+use Rattle.monk_judge.specs.Blame.{blame_word}
+use Rattle.monk_judge.specs.declared.blame.Blame.{Blame}
+use Rattle.monk_judge.specs.declared.blame.Blame.TheVariants.{Range, Call, Held, NoLock, Asleep, Awake, Reply}
+use Rattle.monk_judge.specs.declared.misfit.Misfit.{Misfit}
+use Rattle.monk_commands.specs.LogDrawn.{reason_of}
+use Rattle.monk_commands.specs.LogFound.{number}
 
 blame_plain : (why : Blame) → is_plain_text (blame_word why) ≡ true
 blame_plain Range = refl
 blame_plain Call = refl
-blame_plain Turn = refl
-blame_plain Place = refl
+blame_plain Held = refl
+blame_plain NoLock = refl
+blame_plain Asleep = refl
+blame_plain Awake = refl
 blame_plain Reply = refl
-blame_plain Unserved = refl
-blame_plain Served = refl
-blame_plain Order = refl
-blame_plain Choice = refl
 
-pub misfit_plain : (v : LogVerdict) → is_plain_text (reason_of v) ≡ true
-misfit_plain Fits = refl
-misfit_plain (Misfit n why) =
-    plain-append (blame_word why) (codes ", line " ++ (decimal n ++ codes " of the log")) (blame_plain why)
-    (plain-append (decimal n) (codes " of the log") (plain-decimal n) refl)
+pub misfit_plain : (f : Option Misfit) → is_plain_text (reason_of f) ≡ true
+misfit_plain None = refl
+misfit_plain (Some f) =
+    plain-append (blame_word f.why) (codes ", line " ++ (decimal (number f.line) ++ codes " of the file"))
+    (blame_plain f.why)
+    (plain-append (decimal (number f.line)) (codes " of the file") (plain-decimal (number f.line)) refl)

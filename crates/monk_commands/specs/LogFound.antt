@@ -4,7 +4,7 @@ use Rattle.std.specs.Prelude.{Option, Some, None, is_some, nat_lt, nat_le, optio
 use Rattle.std.specs.Fmt.{decimal}
 use Rattle.monk_object.specs.Names.{meaning_named, opening_named}
 use Rattle.monk_logs.specs.Crossed.{crossed_of}
-use Rattle.monk_logs.specs.Expiry.{line_seat}
+use Rattle.monk_logs.specs.Log.{line_seat}
 use Rattle.monk_logs.specs.Log.{LogHeading}
 use Rattle.monk_logs.specs.declared.crossed.Crossed.{Crossed}
 use Rattle.monk_logs.specs.declared.text.line.LogLine.{LogLine}

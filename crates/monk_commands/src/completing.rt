@@ -18,7 +18,8 @@ use crate::input::read_all;
 use monk_audit::AuditFault;
 use monk_history::{Device, Event, Header, write};
 use monk_kinds::KindName;
-use monk_logs::{Blame, Completion, LogHeader, LogLine, complete, read_log};
+use monk_completion::{Blame, Completion, complete};
+use monk_logs::{LogHeader, LogLine, read_log};
 use std::alloc::Global;
 use std::io::{Read, Write};
 

@@ -3,7 +3,7 @@ use Rattle.std.proofs.Common.{◌≡◌, ℕ, suc, ◌<◌, Bool, true, List, []
 use Rattle.std.proofs.Math.Seq.{drop-cons}
 use Rattle.std.proofs.lemmas.Grind.{common_steps}
 use Rattle.monk_logs.specs.declared.text.line.LogLine.TheVariants.{Enter, Signal}
-use Rattle.monk_logs.specs.Expiry.{line_seat}
+use Rattle.monk_logs.specs.Log.{line_seat}
 use Rattle.monk_logs.specs.declared.text.line.LogLine.{LogLine}
 use Rattle.monk_judge.specs.declared.place.Place.TheVariants.{Waiting}
 use Rattle.monk_judge.specs.Counts.{one, waits_on}

@@ -1,7 +1,7 @@
 -- A line more: no run wakes fewer threads unasked on a condition than the judge's
 use Rattle.std.proofs.Common.{◌≡◌, ℕ, suc, ◌+◌, ◌<◌, ◌≤◌, ◌==◌, ◌&&◌, ◌⊎◌, inl, inr, Bool, true, false, List, [], ◌∷◌, ◌++◌, Option, Some, None, refl, sym, ap, subst, arith, ◌∙◌}
 use Rattle.std.proofs.lemmas.Bool.{cases_Bool}
-use Rattle.monk_logs.specs.Expiry.{line_seat}
+use Rattle.monk_logs.specs.Log.{line_seat}
 use Rattle.monk_logs.specs.declared.text.line.LogLine.{LogLine}
 use Rattle.monk_logs.specs.declared.text.line.LogLine.TheVariants.{Enter, Resume, Lapse, Leave, Wait, Signal, Broadcast, Until, Act}
 use Rattle.monk_judge.specs.declared.place.Place.{Place}

@@ -1,6 +1,6 @@
 -- How what is known of overtaken threads changes with a line
 use Rattle.std.specs.Prelude.{◌≡◌, ℕ, ◌+◌, ◌==◌, ◌⊎◌, List, Option, Some, None, slice_index_or, if◌then◌else◌}
-use Rattle.monk_logs.specs.Expiry.{line_seat}
+use Rattle.monk_logs.specs.Log.{line_seat}
 use Rattle.monk_logs.specs.declared.text.line.LogLine.{LogLine}
 use Rattle.monk_logs.specs.declared.text.line.LogLine.TheVariants.{Wait}
 use Rattle.monk_judge.specs.declared.overtaking.Back.{Back}

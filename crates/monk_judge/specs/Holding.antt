@@ -1,6 +1,6 @@
 -- Who has the lock, and since which line
 use Rattle.std.specs.Prelude.{◌≡◌, ℕ, Bool, true, false, List, Option, Some, None, length, slice_index_or}
-use Rattle.monk_logs.specs.Expiry.{line_seat}
+use Rattle.monk_logs.specs.Log.{line_seat}
 use Rattle.monk_logs.specs.declared.text.line.LogLine.{LogLine}
 use Rattle.monk_logs.specs.declared.text.line.LogLine.TheVariants.{Enter, Resume, Lapse, Leave, Wait, Signal, Broadcast, Until, Act}
 use Rattle.monk_judge.specs.declared.holder.Holder.{Holder}

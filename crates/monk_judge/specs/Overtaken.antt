@@ -1,6 +1,6 @@
 -- Woken threads that come back behind others, and what they do next
 use Rattle.std.specs.Prelude.{◌≡◌, ℕ, ◌<◌, ◌≤◌, true, List, Option, length}
-use Rattle.monk_logs.specs.Expiry.{line_seat}
+use Rattle.monk_logs.specs.Log.{line_seat}
 use Rattle.monk_logs.specs.declared.text.line.LogLine.TheVariants.{Wait}
 use Rattle.monk_judge.specs.declared.place.Place.TheVariants.{Woken}
 use Rattle.monk_judge.specs.Among.{AreMany, NamesFirst}

@@ -2,7 +2,7 @@
 
 ghost use Rattle.std.specs.Prelude.{◌≡◌, ◌≤◌, ℕ, true, false};
 ghost use Rattle.monk_judge.specs.Ends.{ResumesBy, is_resume, runs_out};
-ghost use Rattle.monk_logs.specs.FitsIn.{is_lapse};
+ghost use Rattle.monk_logs.specs.Log.{is_lapse};
 
 use monk_logs::LogLine;
 

@@ -5,16 +5,20 @@ use Rattle.std.proofs.Common.{refl, sym, ap, arith, subst, length-take, take_all
 use Rattle.std.specs.Prelude.{IfSome, if◌then◌else◌, slice_range}
 use Rattle.std.specs.Option.{option_or}
 use Rattle.std.proofs.lemmas.Bool.{cases_eq, eq-eqb, ne_eqb}
-use Rattle.std.proofs.lemmas.List.{length-reverse, reverse-append}
+use Rattle.std.proofs.lemmas.List.{length-reverse, reverse-append, take_more}
 use Rattle.monk_logs.specs.Crossed.{begins, crossed_below, crosses, crossing, crossing_at, crossing_in, with_seat}
 use Rattle.monk_logs.specs.declared.crossed.Crossed.{Crossed}
-use Rattle.monk_logs.specs.Expiry.{line_seat}
+use Rattle.monk_logs.specs.Log.{line_seat}
 use Rattle.monk_logs.specs.LastLine.{has, last_behind, last_line}
 use Rattle.monk_logs.specs.declared.subject.Subject.TheVariants.{Seat}
 use Rattle.monk_logs.specs.declared.text.line.LogLine.{LogLine}
 use Rattle.monk_logs.specs.declared.text.line.LogLine.TheVariants.{Enter, Resume, Lapse, Leave, Wait, Signal, Broadcast, Until, Act}
-use Rattle.monk_logs.proofs.ExpiryLaws.{before_more}
 use Rattle.monk_logs.proofs.LastLineLaws.{last_more}
+
+-- the lines before one, with that one
+before_more : (log : List LogLine) (i : ℕ) (l : LogLine) → i < length log
+    → reverse (take (i + 1) log) ≡ get_or log i l ∷ reverse (take i log)
+before_more log i l lt = ap reverse (take_more log i l lt) ∙ reverse-append (take i log) (get_or log i l ∷ [])
 
 -- ---- the number of each seat's last line
 

@@ -1,27 +1,4 @@
 pub mod PublicLaws
 mod LogLaws
-mod CourseLaws
-mod VerdictLaws
-mod MadeLaws
-mod CompletionLaws
-mod StepLaws
-mod OrderLaws
-mod RunLaws
-mod BoardLaws
-mod ItemLaws
-mod ShownLaws
-mod MoveLaws
-mod ToldLaws
-mod FifoLaws
-mod CountLaws
-mod LapseLaws
-mod ExpiryLaws
-mod OutsideLaws
 mod LastLineLaws
 mod CrossedLaws
-mod FitLaws
-mod NeedLaws
-mod WaiterLaws
-mod GoingLaws
-mod DeadLaws
-mod TimedLaws

@@ -2,7 +2,7 @@
 -- since the seat came in or went on, another seat signalled to the condition. So the signal came too early for the wait
 use Rattle.std.specs.Prelude.{ℕ, zero, suc, ◌+◌, ◌^◌, ◌==◌, ◌&&◌, not, max, Bool, false, if◌then◌else◌}
 use Rattle.std.specs.Prelude.{List, [], ◌∷◌, length, reverse, Option, Some, None}
-use Rattle.monk_logs.specs.Expiry.{line_seat}
+use Rattle.monk_logs.specs.Log.{line_seat}
 use Rattle.monk_logs.specs.LastLine.{signals_to}
 use Rattle.monk_logs.specs.declared.crossed.Crossed.{Crossed}
 use Rattle.monk_logs.specs.declared.text.line.LogLine.{LogLine}

@@ -1,7 +1,7 @@
 -- The last line of a log about a seat or a condition
 use Rattle.std.specs.Prelude.{ℕ, suc, ◌==◌, Bool, false, List, [], ◌∷◌, Option, Some, None, if◌then◌else◌}
 use Rattle.std.specs.Option.{option_or}
-use Rattle.monk_logs.specs.Expiry.{line_seat}
+use Rattle.monk_logs.specs.Log.{line_seat}
 use Rattle.monk_logs.specs.declared.subject.Subject.{Subject}
 use Rattle.monk_logs.specs.declared.subject.Subject.TheVariants.{Seat, Condition}
 use Rattle.monk_logs.specs.declared.text.line.LogLine.{LogLine}

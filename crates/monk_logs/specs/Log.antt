@@ -1,7 +1,7 @@
 -- The text of a log: a line for its header, and a line for each thing that a thread wrote down.
 pub mod Reading
 pub mod Laws
-use Rattle.std.specs.Prelude.{◌-◌, ℕ, ◌≤◌, ◌^◌, List, [], ◌∷◌, ◌++◌, codes}
+use Rattle.std.specs.Prelude.{◌-◌, ℕ, ◌≤◌, ◌^◌, Bool, true, false, List, [], ◌∷◌, ◌++◌, codes}
 use Rattle.std.specs.List.{flat_map, AllByRecursion}
 use Rattle.std.specs.Fmt.{decimal}
 use Rattle.monk_object.specs.declared.name.ObjectName.{ObjectName}
@@ -83,3 +83,29 @@ LineFits (Act s op reply) = (s ≤ 255) × (op.code ≤ 255) × (op.arg ≤ 2 ^ 
 pub record HasLogText (h : LogHeading) (lines : List LogLine) : Type 0 where
   pub header_fits : IsLogHeading h
   pub lines_fit : AllByRecursion LineFits lines
+
+-- ---- of a line
+
+-- the seat that wrote the line
+abbrev pub line_seat : LogLine → ℕ
+line_seat (Enter s) = s
+line_seat (Resume s) = s
+line_seat (Lapse s) = s
+line_seat (Leave s) = s
+line_seat (Wait s c) = s
+line_seat (Signal s c) = s
+line_seat (Broadcast s c) = s
+line_seat (Until s p) = s
+line_seat (Act s op r) = s
+
+-- whether it tells of a wait that ran out
+abbrev pub is_lapse : LogLine → Bool
+is_lapse (Enter s) = false
+is_lapse (Resume s) = false
+is_lapse (Lapse s) = true
+is_lapse (Leave s) = false
+is_lapse (Wait s c) = false
+is_lapse (Signal s c) = false
+is_lapse (Broadcast s c) = false
+is_lapse (Until s p) = false
+is_lapse (Act s op r) = false

@@ -5,9 +5,11 @@ ghost use Rattle.monk_logs.specs.Crossed as crossings;
 ghost use Rattle.monk_logs.specs.LastLine.{last_line};
 ghost use Rattle.monk_logs.specs.declared.subject.Subject.TheVariants.{Seat};
 
-use crate::expiry::SEATS;
 use crate::subject::Subject;
 use crate::text::line::LogLine;
+
+/// How many seats a line can name.
+const SEATS: usize = 256;
 
 /// Seats that a signal crossed on their way to sleep.
 #[derive(Clone, Copy, Debug, PartialEq, Eq)]

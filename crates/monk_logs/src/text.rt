@@ -1,10 +1,8 @@
 //! The text of a log: its header and its lines, read and written.
 
 pub mod header;
-pub mod kept_lines;
 pub mod line;
 pub mod line_reading;
-pub mod line_source;
 pub mod log_front;
 pub mod log_lines;
 pub mod reading;

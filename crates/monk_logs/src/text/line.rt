@@ -1,7 +1,7 @@
 //! A line of a log.
 
 ghost use Rattle.std.specs.Prelude.{◌≡◌};
-ghost use Rattle.monk_logs.specs.Expiry.{line_seat};
+ghost use Rattle.monk_logs.specs.Log.{line_seat};
 
 use monk_object::Op;
 

@@ -1,29 +1,15 @@
 //! The lines of a log's text, one after the other.
 
-ghost use Rattle.std.specs.Prelude.{◌≡◌, ◌≤◌, ◌<◌, ◌∷◌, [], List, length, IfOk, OnOk, IsErrOf, MatchOption, None, Ok};
-ghost use Rattle.monk_object.specs.Names.{most};
+ghost use Rattle.std.specs.Prelude.{◌≡◌, ◌≤◌, ◌∷◌, [], List, length, IfOk, MatchOption, None, Ok};
 ghost use Rattle.monk_history.specs.Limits.{most_lines};
-ghost use Rattle.monk_logs.specs.Counts.{counts_of};
-ghost use Rattle.monk_logs.specs.Fit.{fit_of};
 ghost use Rattle.monk_logs.specs.Log.{LogHeading, HasLogText, log_text};
 ghost use Rattle.monk_logs.specs.Log.Reading.{log, log_at};
-ghost use Rattle.monk_logs.specs.Verdict.{log_monitor};
 ghost use Rattle.monk_logs.specs.declared.text.line.LogLine.{LogLine};
 
-use crate::counts::Counts;
-use crate::counts::counting::count_source;
-use crate::counts::waits_for::WaitsFor;
-use crate::fitting::found_fit;
-use crate::kind_fit::Fit;
-use crate::lapses::Lapses;
 use crate::text::header::LogHeader;
 use crate::text::line::LogLine;
-use crate::text::line_source::LineSource;
 use crate::text::reading::MOST_LOG_LINES;
-use monk_audit::AuditFault;
 use monk_history::lines::{CheckedLines, ReadFault};
-use monk_kinds::KindName;
-use std::alloc::Global;
 use std::marker::Model;
 
 /// A log's text without a fault: its header, and the lines that are not yet read. Contracts see both as a log.
@@ -91,75 +77,5 @@ impl<'a> LogLines<'a> {
         LogLines {
             lines: self.lines.again(),
         }
-    }
-
-    /// What [`fit`](crate::fit) says of the log whose lines are left.
-    ///
-    /// # Errors
-    ///
-    /// Those of [`fit`](crate::fit).
-    ///
-    /// # Cost
-    ///
-    /// In each order that is tried a pass over the text that is left, up to the first misfit there.
-    /// Memory for the queues and the object alone.
-    pub(crate) fn fit(
-        &self,
-        alloc: Global,
-        kind: KindName,
-        lapses: Lapses,
-    ) -> Result<Fit, AuditFault>
-        ensures found { IfOk result (λ f. f ≡ fit_of lapses (log_monitor kind self.now.0) self.now.1) }
-        // The size is refused exactly where it is above the object's greatest.
-        ensures made { OnOk result (self.now.0.size ≤ most self.now.0.object) }
-        ensures object { IsErrOf result AuditFault.Object → most self.now.0.object < self.now.0.size }
-        ensures too_big { most self.now.0.object < self.now.0.size → IsErrOf result AuditFault.Object }
-    {
-        let _ = &self.lines; // from here on it is known that there are few
-        found_fit(alloc, &self.header(), self, kind, lapses)
-    }
-
-    /// What [`count`](crate::count) counts in the log whose lines are left.
-    ///
-    /// # Errors
-    ///
-    /// Those of [`count`](crate::count).
-    ///
-    /// # Cost
-    ///
-    /// That of [`count`](crate::count), and the reading of the lines.
-    pub fn count(
-        &self,
-        alloc: Global,
-        kind: KindName,
-        means: &[WaitsFor],
-    ) -> Result<Counts, AuditFault>
-        // What is counted is as it is defined line by line.
-        ensures counted { IfOk result (λ c. c ≡ counts_of (log_monitor kind self.now.0) means.now self.now.1) }
-        // The size is refused exactly where it is above the object's greatest.
-        ensures made { OnOk result (self.now.0.size ≤ most self.now.0.object) }
-        ensures object { IsErrOf result AuditFault.Object → most self.now.0.object < self.now.0.size }
-        ensures too_big { most self.now.0.object < self.now.0.size → IsErrOf result AuditFault.Object }
-    {
-        count_source(alloc, &self.header(), self.again(), kind, means)
-    }
-}
-
-impl<'a> LineSource for LogLines<'a> {
-    ghost use Rattle.std.specs.Prelude.{◌≡◌, ◌∷◌, [], MatchOption};
-
-    ghost left = { λ l. l.1 };
-
-    #[inline(always)]
-    fn next(&mut self) -> Option<LogLine>
-        ensures { MatchOption result (self.old.1 ≡ []) (λ l. self.old.1 ≡ l ∷ self.new.1) }
-    {
-        LogLines::next(self)
-    }
-
-    fn again(&self) -> LogLines<'a>
-        ensures { result.1 ≡ self.now.1 }
-    {
-        LogLines::again(self)
     }
 }

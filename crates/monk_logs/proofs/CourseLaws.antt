@@ -1,6 +1,0 @@
-pub mod Tests
-pub mod Lists
-pub mod Events
-pub mod Soundness
-pub mod ToldInHistories
-pub mod Calls

@@ -1,3 +1,0 @@
--- In which orders a log is open
-pub mod Strictest
-pub mod Kinds

@@ -1,5 +1,0 @@
-use Rattle.std.proofs.Common.{[]}
-use Rattle.monk_logs.proofs.blaming.is_inside.Goals as goal
-
-pub returns : goal.returns
-returns c = c.is_inside.ensures []

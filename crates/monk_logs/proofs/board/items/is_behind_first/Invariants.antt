@@ -1,9 +1,0 @@
-use Rattle.std.proofs.Common.{◌≡◌, drop}
-use Rattle.monk_logs.specs.Items.{line, seats_in}
-use Rattle.monk_logs.specs.Order.{is_among}
-use Rattle.monk_logs.proofs.board.items.is_behind_first.Given as goal
-
-abbrev pub invariant-loop-item : goal.invariant-loop-item
-invariant-loop-item l =
-    is_among l.seat (drop l.left (seats_in (line l.cond (drop l.item-index l.items))))
-    ≡ is_among l.seat (drop l.many (seats_in (line l.cond l.items)))
