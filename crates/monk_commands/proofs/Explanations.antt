@@ -1,7 +1,7 @@
 -- What an explanation is, step by step, and that it begins as the answer of an audit
 use Rattle.std.proofs.Common.{◌≡◌, ℕ, ◌<◌, ◌≤◌, ◌^◌, Bool, true, false, cond, ltb, List, [], ◌++◌, Option, Some, None, Result, Ok, Err}
 use Rattle.std.proofs.Common.{refl, sym, ap, subst, ◌∙◌}
-use Rattle.std.specs.Prelude.{IfSome}
+use Rattle.std.specs.Prelude.{IfSome, ◌↔◌}
 use Rattle.std.specs.Io.KnownBytes.{Appends}
 use Rattle.std.proofs.lemmas.Bool.{le-ltb, lt-ltb}
 use Rattle.std.proofs.lemmas.List.{append-nil}
@@ -19,8 +19,13 @@ use Rattle.monk_audit.specs.declared.verdict.Verdict.{Verdict}
 use Rattle.monk_audit.specs.declared.verdict.Verdict.TheVariants.{Legal, Forbidden}
 use Rattle.monk_tell.specs.Told.{Account, account, account_by}
 use Rattle.monk_tell.specs.Words.{telling_text}
-use Rattle.monk_commands.specs.Answer.{LineAnswer, answer_of, reading_answer, too_big, unreadable, verdict_answer}
-use Rattle.monk_commands.specs.Explained.{BeginsAsAudit, IsExplained, IsExplanationOf, explain_reading, told_answer}
+use Rattle.monk_commands.specs.Answer.{LineAnswer, reading_answer, too_big, unreadable, verdict_answer}
+use Rattle.monk_commands.specs.Explained.{BeginsAsAudit, IsExplainAnswer, IsExplained, IsExplanationOf, IsExplanationUnder}
+use Rattle.monk_commands.specs.Explained.{IsHistoryExplained, explain_reading, explain_under, told_answer}
+use Rattle.monk_commands.specs.Legal.{IsForbiddenText, IsLegalText}
+use Rattle.monk_commands.specs.LogAnswered.{is_log_text}
+use Rattle.monk_commands.specs.declared.question.Question.{Question}
+use Rattle.monk_commands.proofs.Exact.{one_exactly, zero_exactly}
 
 -- the verdict that is told is that of the audit
 pub verdict_told : (k : KindName) (o : ObjectName) (m : Monitor) (es : List Event) (v : Verdict)
@@ -81,21 +86,35 @@ pub refused_explained : (bytes : List ℕ) (f : ReadFault) (status : ℕ) (Puts 
 refused_explained bytes f status Puts read same put =
     subst (λ (r : Result History ReadFault). IsExplained r status Puts) (sym read) (same, put)
 
--- what answers a text is written
-pub put_explained : (bytes : List ℕ) (given status : ℕ) (text : List ℕ) (Puts : List ℕ → Type 0) → status ≡ given
-    → IsExplanationOf bytes given (λ t. text ≡ t) → Puts text → IsExplanationOf bytes status Puts
-put_explained bytes given status text Puts same told put = (same ∙ told.0, subst Puts told.1 put)
+-- of no history, under a kind
+pub refused_under : (k : KindName) (bytes : List ℕ) (f : ReadFault) (status : ℕ) (Puts : List ℕ → Type 0)
+    → text_at (2 ^ 25) bytes ≡ Err f → status ≡ (unreadable f).status → Puts (unreadable f).text
+    → IsExplanationUnder k bytes status Puts
+refused_under k bytes f status Puts read same put =
+    subst (λ (r : Result History ReadFault). (status ≡ (explain_under k r).status) × Puts (explain_under k r).text)
+    (sym read) (same, put)
 
-pub begins_known : (known before after : Option (List ℕ)) (bytes : List ℕ) (status : ℕ)
-    → IfSome known (λ input. bytes ≡ input)
-    → IsExplanationOf bytes status (Appends before after) → BeginsAsAudit known before after status
-begins_known None before after bytes status same told = tt
-begins_known (Some input) before after bytes status same told =
+pub begins_known : (q : Question) (known before after : Option (List ℕ)) (bytes : List ℕ) (given status : ℕ)
+    (text : List ℕ)
+    → IfSome known (λ input. bytes ≡ input) → IsExplainAnswer q bytes given text → status ≡ given
+    → Appends before after text → BeginsAsAudit q known before after status
+begins_known q None before after bytes given status text same answer is put = tt
+begins_known q (Some input) before after bytes given status text same answer is put =
+    subst (λ (x : List ℕ). BeginsAsAudit q (Some x) before after status) same (λ history none.
+    let told = subst (λ (k : Option KindName). IsHistoryExplained k bytes given text) none (answer.history history) in
     let begins = begins_read (text_at (2 ^ 25) bytes) in
-    subst (λ (x : List ℕ). BeginsAsAudit (Some x) before after status) same
-    (told.0 ∙ begins.0, (begins.1.0, subst (Appends before after) begins.1.1 told.1))
+    (is ∙ told.0 ∙ begins.0, (begins.1.0, subst (Appends before after) (told.1 ∙ begins.1.1) put)))
 
-pub audited_known : (known before after : Option (List ℕ)) (status : ℕ) → BeginsAsAudit known before after status
-    → IfSome known (λ input. status ≡ (answer_of input).status)
-audited_known None before after status begins = tt
-audited_known (Some input) before after status begins = begins.0
+pub legal_known : (q : Question) (known before after : Option (List ℕ)) (status : ℕ)
+    → BeginsAsAudit q known before after status
+    → IfSome known (λ input. is_log_text input ≡ false → q.kind ≡ None → (status ≡ 0) ↔ IsLegalText input)
+legal_known q None before after status begins = tt
+legal_known q (Some input) before after status begins =
+    λ history none. zero_exactly (Some input) status (begins history none).0
+
+pub forbidden_known : (q : Question) (known before after : Option (List ℕ)) (status : ℕ)
+    → BeginsAsAudit q known before after status
+    → IfSome known (λ input. is_log_text input ≡ false → q.kind ≡ None → (status ≡ 1) ↔ IsForbiddenText input)
+forbidden_known q None before after status begins = tt
+forbidden_known q (Some input) before after status begins =
+    λ history none. one_exactly (Some input) status (begins history none).0

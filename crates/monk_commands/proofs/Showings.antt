@@ -15,7 +15,8 @@ use Rattle.monk_audit.specs.declared.verdict.Verdict.TheVariants.{Legal, Forbidd
 use Rattle.monk_draw.specs.Window.{is_behind}
 use Rattle.monk_draw.specs.declared.window.Window.{Window}
 use Rattle.monk_commands.specs.Answer.{audit_answer, reading_answer, too_big, unreadable, verdict_answer}
-use Rattle.monk_commands.specs.Shown.{HasAuditStatus, IsShowingOf, IsShown, IsAnsweredBy, IsShownOrRefused}
+use Rattle.monk_commands.specs.Shown.{HasAuditStatus, IsShowAnswer, IsShowingOf, IsShown, IsAnsweredBy, IsShownOrRefused}
+use Rattle.monk_commands.specs.Shown.{is_drawn_log}
 use Rattle.monk_commands.specs.declared.show.Show.{Show}
 
 -- an answer by the verdict of the audit
@@ -76,44 +77,13 @@ of_reading : (s : Show) (w : Option Window) (r : Result History ReadFault) (stat
 of_reading s w (Ok h) status Puts a = of_history s w h status Puts a
 of_reading s w (Err f) status Puts a = inl a.0
 
--- it is 0, 1 or 2
-few_of_verdict : (v : Verdict) → (verdict_answer v).status ≤ 2
-few_of_verdict (Legal n) = omega arith
-few_of_verdict (Forbidden step reason) = omega arith
-
-few_answered : (s : Show) (w : Option Window) (v : Verdict) (h : Heading) (es : List Event) (status : ℕ)
-    (Puts : List ℕ → Type 0)
-    → IsAnsweredBy s w v h es status Puts → status ≤ 2
-few_answered s w v h es status Puts (inl a) = subst (λ n. n ≤ 2) (sym a.1.0) (few_of_verdict v)
-few_answered s w v h es status Puts (inr a) = let two : status ≡ 2 = a.1.0 in omega (arith, two)
-
-few_of_history : (s : Show) (w : Option Window) (h : History) (status : ℕ) (Puts : List ℕ → Type 0)
-    → IsShown s w h.0 h.1 status Puts → status ≤ 2
-few_of_history s w h status Puts (inl a) = few_answered s w _ h.0 h.1 status Puts a.1
-few_of_history s w h status Puts (inr a) = let two = a.1.0 in omega (arith, two)
-
-few_of_reading : (s : Show) (w : Option Window) (r : Result History ReadFault) (status : ℕ) (Puts : List ℕ → Type 0)
-    → IsShownOrRefused s w r status Puts → status ≤ 2
-few_of_reading s w (Ok h) status Puts a = few_of_history s w h status Puts a
-few_of_reading s w (Err f) status Puts a = let two = a.0 in omega (arith, two)
-
-pub few_statuses : (s : Show) (w : Option Window) (bytes : List ℕ) (status : ℕ) (Puts : List ℕ → Type 0)
-    → IsShowingOf s w bytes status Puts
-    → status ≤ 2
-few_statuses s w bytes status Puts a = few_of_reading s w (text_at (2 ^ 25) bytes) status Puts a
-
 -- of what the reader had, where that is known
-pub shown_known : (s : Show) (w : Option Window) (known : Option (List ℕ)) (bytes : List ℕ) (status : ℕ)
-    (Puts : List ℕ → Type 0)
-    → IfSome known (λ input. bytes ≡ input) → IsShowingOf s w bytes status Puts
-    → IfSome known (λ input. IsShowingOf s w input status Puts)
-shown_known s w None bytes status Puts same a = tt
-shown_known s w (Some input) bytes status Puts same a = subst (λ (x : List ℕ). IsShowingOf s w x status Puts) same a
-
-pub status_known : (s : Show) (w : Option Window) (known : Option (List ℕ)) (bytes : List ℕ) (status : ℕ)
-    (Puts : List ℕ → Type 0)
-    → IfSome known (λ input. bytes ≡ input) → IsShowingOf s w bytes status Puts
-    → IfSome known (λ input. HasAuditStatus w input status)
-status_known s w None bytes status Puts same a = tt
-status_known s w (Some input) bytes status Puts same a =
-    subst (λ (x : List ℕ). HasAuditStatus w x status) same (of_reading s w (text_at (2 ^ 25) bytes) status Puts a)
+pub status_known : (s : Show) (w : Option Window) (known : Option (List ℕ)) (bytes : List ℕ) (given status : ℕ)
+    (text : List ℕ)
+    → IfSome known (λ input. bytes ≡ input) → IsShowAnswer s w bytes given text → status ≡ given
+    → IfSome known (λ input. is_drawn_log s input ≡ false → HasAuditStatus w input status)
+status_known s w None bytes given status text same answer is = tt
+status_known s w (Some input) bytes given status text same answer is =
+    subst (λ (x : List ℕ). is_drawn_log s x ≡ false → HasAuditStatus w x status) same (λ history.
+    subst (HasAuditStatus w bytes) (sym is)
+    (of_reading s w (text_at (2 ^ 25) bytes) given (λ t. text ≡ t) (answer.history history)))

@@ -1,5 +1,6 @@
 -- The answer to a text whose verdict is explained
-use Rattle.std.specs.Prelude.{◌≡◌, ℕ, List, ◌++◌, ◌^◌, true, false, Option, Some, None, Result, Ok, Err, nat_lt, if◌then◌else◌}
+use Rattle.std.specs.Prelude.{◌≡◌, ℕ, List, ◌++◌, ◌^◌, true, false, Option, Some, None, IfSome, Result, Ok, Err, nat_lt, if◌then◌else◌}
+use Rattle.std.specs.Io.KnownBytes.{Appends}
 use Rattle.monk_kinds.specs.declared.name.KindName.{KindName}
 use Rattle.monk_object.specs.Names.{most}
 use Rattle.monk_history.specs.declared.event.Event.{Event}
@@ -9,7 +10,7 @@ use Rattle.monk_history.specs.Text.Reading.{History, text_at}
 use Rattle.monk_tell.specs.Told.{Account, account}
 use Rattle.monk_tell.specs.Words.{telling_text}
 use Rattle.monk_audit.specs.Under.{under}
-use Rattle.monk_commands.specs.Answer.{LineAnswer, too_big, unreadable, verdict_answer}
+use Rattle.monk_commands.specs.Answer.{LineAnswer, answer_of, too_big, unreadable, verdict_answer}
 use Rattle.monk_commands.specs.LogAnswered.{IsAnswerToLog, is_log_text}
 use Rattle.monk_commands.specs.declared.logs.view.LogView.TheVariants.{Explanation}
 use Rattle.monk_commands.specs.declared.question.Question.{Question}
@@ -57,3 +58,9 @@ IsHistoryExplained (Some k) input status text = IsExplanationUnder k input statu
 pub record IsExplainAnswer (q : Question) (input : List ℕ) (status : ℕ) (text : List ℕ) : Type 0 where
   pub log : is_log_text input ≡ true → IsAnswerToLog Explanation q input status text
   pub history : is_log_text input ≡ false → IsHistoryExplained q.kind input status text
+
+-- of a history under its own kind the status is that of an audit, and the line of an audit comes first
+abbrev pub BeginsAsAudit : Question → Option (List ℕ) → Option (List ℕ) → Option (List ℕ) → ℕ → Type 0
+BeginsAsAudit q input before after status =
+    IfSome input (λ bytes. is_log_text bytes ≡ false → q.kind ≡ None → (status ≡ (answer_of bytes).status)
+    × ((rest : List ℕ) × Appends before after ((answer_of bytes).text ++ rest)))

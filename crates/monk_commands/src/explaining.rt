@@ -1,11 +1,13 @@
 //! The explaining stream: the text of a history or of a log in, its verdict, how things stand and what is wrong out.
 
-ghost use Rattle.std.specs.Prelude.{◌≡◌, ◌≤◌, ◌^◌, false, length, IfOk, IsErrOf, Ok, string_bytes};
+ghost use Rattle.std.specs.Prelude.{◌≡◌, ◌≤◌, ◌^◌, ◌↔◌, false, None, length, IfOk, IfSome, IsErrOf, Ok, string_bytes};
 ghost use Rattle.monk_history.specs.Text.Device.{inner_of, has_failed};
 ghost use Rattle.monk_history.specs.Text.Reading.{history};
 ghost use Rattle.monk_tell.specs.Told.{telling_of};
 ghost use Rattle.monk_commands.specs.Explained.{IsExplainAnswer, IsExplained, IsExplanationOf, IsExplanationUnder};
-ghost use Rattle.monk_commands.specs.Explained.{told_answer};
+ghost use Rattle.monk_commands.specs.Explained.{BeginsAsAudit, told_answer};
+ghost use Rattle.monk_commands.specs.Legal.{IsForbiddenText, IsLegalText};
+ghost use Rattle.monk_commands.specs.LogAnswered.{is_log_text};
 ghost use Rattle.monk_commands.specs.Streams.{HasAnswered, IsStreamOutcome};
 
 use crate::answer::{LineAnswer, put, too_big, unreadable, verdict_answer};
@@ -133,6 +135,14 @@ pub fn explain_stream<R: Read, W: Write>(
     ensures answer { IfOk result
         (HasAnswered (IsExplainAnswer question.entry) (R.remaining (inner_of reader.old)) (W.contents (inner_of writer.old))
         (W.contents (inner_of writer.new))) }
+    // Of a history under its own kind, the line of an audit comes first, and the status is that of an audit.
+    ensures audit { IfOk result
+        (BeginsAsAudit question.entry (R.remaining (inner_of reader.old)) (W.contents (inner_of writer.old))
+        (W.contents (inner_of writer.new))) }
+    ensures legal { IfOk result (λ status. IfSome (R.remaining (inner_of reader.old))
+        (λ input. is_log_text input ≡ false → question.entry.kind ≡ None → (status ≡ 0) ↔ IsLegalText input)) }
+    ensures forbidden { IfOk result (λ status. IfSome (R.remaining (inner_of reader.old))
+        (λ input. is_log_text input ≡ false → question.entry.kind ≡ None → (status ≡ 1) ↔ IsForbiddenText input)) }
     ensures statuses { IfOk result (λ status. status ≤ 2) }
     ensures outcome { IsStreamOutcome R.remaining reader.old reader.new writer.old writer.new result }
 {
