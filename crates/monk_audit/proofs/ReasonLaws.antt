@@ -34,11 +34,6 @@ number_found r reason n v a is b = b ∙ (sym (ap number_or_0 is) ∙ a)
 pub number_there : (reason : Reason) (n : ℕ) → n ≡ number_of reason → n ≢ 0
 number_there reason n b = λ z. some_number reason (sym b ∙ z)
 
--- where there is no reason, the number is 0, and else it isn't
-pub none_is_0 : (r : Option Reason) → is_some r ≡ false → number_or_0 r ≡ 0
-none_is_0 None z = refl
-none_is_0 (Some r) z = absurd (false≢true (sym z))
-
 pub some_is_not_0 : (r : Option Reason) → is_some r ≡ true → number_or_0 r ≢ 0
 some_is_not_0 None z = absurd (false≢true z)
 some_is_not_0 (Some r) z = some_number r

@@ -151,18 +151,6 @@ history_read input e = fit_read input (text_at (2 ^ 25) input) refl e
 pub history_again : (input : List ℕ) → IsFitText input → (fit_of input).status ≡ 0
 history_again input t = fit_again input t.0 t.1.0 t.1.1.1.0 t.1.1.0 t.1.1.1.1
 
-status_most : (r : Result History ReadFault) → (fit_reading r).status ≤ 2
-status_most (Ok x) = go (ltb (most x.0.object) x.0.size) (fits_some x.0 x.1 kinds)
-  where
-    go : (b f : Bool) → (cond b too_big (record { status = cond f 0 1; text = fit_lines x.0 x.1 kinds })).status ≤ 2
-    go true f = omega arith
-    go false true = omega arith
-    go false false = omega arith
-status_most (Err f) = omega arith
-
-pub statuses : (status : ℕ) (bytes : List ℕ) → status ≡ (fit_of bytes).status → status ≤ 2
-statuses status bytes h = subst (λ n. n ≤ 2) (sym h) (status_most (text_at (2 ^ 25) bytes))
-
 -- of all that a reader had, if it is a history and no kind is named
 pub fits_known : (form : FitForm) (q : Question) (known : Option (List ℕ)) (bytes : List ℕ) (given status : ℕ)
     (text : List ℕ)

@@ -56,7 +56,8 @@ pub judging_taken : {E : Type 0} (name : Text) (n : KindNames) (old : Command) (
 judging_taken name n old one two kind means is kind_is kind_own kind_added means_is means_own means_added =
     next_taken (with_rule (new_app name) (chosen_rule (codes "kind") (Names n.kinds))) one two means
     (repeated_rule (codes "means"))
-    (first_taken (new_app name) old one kind (chosen_rule (codes "kind") (Names n.kinds)) is kind_is kind_own kind_added)
+    (first_taken (new_app name) old one kind (chosen_rule (codes "kind") (Names n.kinds)) is kind_is kind_own
+    kind_added)
     means_is means_own means_added
 
 -- ---- a program with one command more

@@ -1,6 +1,6 @@
 -- What shows a history, step by step, and that it has the status of an audit
 use Rattle.std.proofs.Common.{◌≡◌, ◌≢◌, ℕ, ◌≤◌, ◌^◌, ◌⊎◌, inl, inr, true, false, cond, ltb, List, Option, Some, None}
-use Rattle.std.proofs.Common.{Result, Ok, Err, sym, ap, subst, arith, ◌∙◌}
+use Rattle.std.proofs.Common.{Result, Ok, Err, sym, ap, subst, ◌∙◌}
 use Rattle.std.specs.Prelude.{IfSome}
 use Rattle.std.proofs.lemmas.Bool.{le-ltb, lt-ltb}
 use Rattle.monk_object.specs.Names.{most}
@@ -11,7 +11,6 @@ use Rattle.monk_history.specs.Meaning.Named.{named_monitor}
 use Rattle.monk_history.specs.Text.Reading.{History, history, text_at}
 use Rattle.monk_audit.specs.Verdict.{verdict_of}
 use Rattle.monk_audit.specs.declared.verdict.Verdict.{Verdict}
-use Rattle.monk_audit.specs.declared.verdict.Verdict.TheVariants.{Legal, Forbidden}
 use Rattle.monk_draw.specs.Window.{is_behind}
 use Rattle.monk_draw.specs.declared.window.Window.{Window}
 use Rattle.monk_commands.specs.Answer.{audit_answer, reading_answer, too_big, unreadable, verdict_answer}

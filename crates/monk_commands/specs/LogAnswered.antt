@@ -25,7 +25,8 @@ pub record BeginsWith (front text : List ℕ) : Type 0 where
   pub rest : List ℕ
   pub is : text ≡ front ++ rest
 
--- the text tells the finding: as its line, or as sentences behind its line; of the form for other programs nothing is said
+-- the text tells the finding: as its line, or as sentences behind its line; of the form for other programs nothing is
+-- said
 abbrev pub Tells : LogView → Finding → List ℕ → Type 0
 Tells Line f text = text ≡ finding_line f
 Tells Json f text = Unit {0}

@@ -1,5 +1,5 @@
 -- What is said of a judged log, in one line
-use Rattle.std.specs.Prelude.{◌≡◌, ℕ, ◌+◌, ◌==◌, ◌&&◌, ◌||◌, Bool, true, false, not, List, [], ◌++◌, codes, slice_get, if◌then◌else◌}
+use Rattle.std.specs.Prelude.{◌≡◌, ℕ, ◌+◌, ◌==◌, ◌&&◌, ◌||◌, Bool, not, List, [], ◌++◌, codes, slice_get, if◌then◌else◌}
 use Rattle.std.specs.Prelude.{Option, Some, None, is_some, nat_lt, nat_le, option_map, min, ◌^◌, ◌-◌}
 use Rattle.std.specs.Fmt.{decimal}
 use Rattle.monk_object.specs.Names.{meaning_named, opening_named}
@@ -154,7 +154,8 @@ abbrev pub placed : List ℕ → Option ℕ → List ℕ
 placed word None = []
 placed word (Some k) = word ++ decimal (number k)
 
--- the seats that a signal crossed on their way to sleep, and the last of these signals, which counts from 1 behind the header
+-- the seats that a signal crossed on their way to sleep, and the last of these signals, which counts from 1 behind the
+-- header
 abbrev pub crossed_words : Option Crossed → List ℕ
 crossed_words None = []
 crossed_words (Some c) =

@@ -1,5 +1,5 @@
 -- Why a log isn't judged
-use Rattle.std.specs.Prelude.{ℕ, Bool, true, false, not, ◌&&◌, List, [], ◌++◌, Option, Some, None, codes, nat_lt}
+use Rattle.std.specs.Prelude.{ℕ, Bool, true, false, not, ◌&&◌, ◌++◌, List, Option, Some, None, codes, nat_lt}
 use Rattle.std.specs.Prelude.{if◌then◌else◌, length, ◌==◌}
 use Rattle.std.specs.List.{list_any}
 use Rattle.monk_kinds.specs.Names.{kind_word}
@@ -61,5 +61,5 @@ refusal_of k means h lines =
 abbrev pub refusal_line : LogRefusal → List ℕ
 refusal_line TooBig = codes "object\n"
 refusal_line (OtherKind k) =
-    codes "refused, `monk complete --kind " ++ (kind_word k ++ codes "` judges a log by that kind\n")
+    codes "refused, monk complete --kind " ++ (kind_word k ++ codes " judges a log by that kind\n")
 refusal_line NoActs = codes "refused, --means asks what the object holds, but the log tells no act on it\n"

@@ -1,5 +1,5 @@
 -- The text of a run that tells a log, and the answer to a log of which a run is asked for
-use Rattle.std.specs.Prelude.{◌≡◌, ◌^◌, ◌<◌, ◌≤◌, MatchOption, ℕ, List, ◌∷◌, [], ◌++◌, Option, Some, None, Result, Ok, Err, codes}
+use Rattle.std.specs.Prelude.{◌≡◌, ◌^◌, ◌<◌, ◌≤◌, MatchOption, ℕ, List, ◌∷◌, [], ◌++◌, Result, Ok, Err, codes}
 use Rattle.std.specs.Fmt.{decimal}
 use Rattle.std.specs.List.{flat_map}
 use Rattle.monk_object.specs.Names.{meaning_named, most, object_word, opening_named}

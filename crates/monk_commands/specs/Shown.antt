@@ -1,7 +1,6 @@
 -- The answer to a history that is shown, by a picture or by a page: with the status of its audit
-use Rattle.std.specs.Prelude.{◌≡◌, ◌≢◌, ℕ, ◌<◌, ◌≤◌, ◌^◌, ◌⊎◌, Bool, false, true, List, ◌++◌, length}
-use Rattle.std.specs.Prelude.{Option, Some, None, Result, Ok, Err, codes}
-use Rattle.std.specs.Fmt.{decimal}
+use Rattle.std.specs.Prelude.{◌≡◌, ◌≢◌, ℕ, ◌<◌, ◌≤◌, ◌^◌, ◌⊎◌, Bool, false, true, List, length}
+use Rattle.std.specs.Prelude.{Option, Some, None, Result, Ok, Err}
 use Rattle.monk_object.specs.Names.{most}
 use Rattle.monk_history.specs.declared.event.Event.{Event}
 use Rattle.monk_history.specs.declared.text.fault.ReadFault.{ReadFault}
@@ -16,7 +15,7 @@ use Rattle.monk_draw.specs.Picture.{picture}
 use Rattle.monk_draw.specs.Window.{is_behind, showable}
 use Rattle.monk_draw.specs.declared.window.Window.{Window}
 use Rattle.monk_page.specs.Html.{page_text}
-use Rattle.monk_commands.specs.Answer.{LineAnswer, answer_of, behind, too_big, unreadable, verdict_answer}
+use Rattle.monk_commands.specs.Answer.{answer_of, behind, too_big, unreadable, verdict_answer}
 use Rattle.monk_commands.specs.Given.{IsGiven}
 use Rattle.monk_commands.specs.LogAnswered.{is_log_text}
 use Rattle.monk_commands.specs.LogDrawn.{IsLogDrawing}

@@ -6,7 +6,7 @@ ghost use Rattle.monk_history.specs.Text.Device.{inner_of, has_failed};
 ghost use Rattle.monk_history.specs.Text.Faults.{memory};
 ghost use Rattle.monk_history.specs.Text.Lines.{Gives};
 ghost use Rattle.monk_audit.specs.Reading.{same, text_verdict};
-ghost use Rattle.monk_commands.specs.Answer.{answer_of, verdict_answer, fault_word, too_big, unreadable};
+ghost use Rattle.monk_commands.specs.Answer.{answer_of, behind, verdict_answer, fault_word, too_big, unreadable};
 
 use crate::fault::StreamFault;
 use monk_audit::{TextVerdict, Verdict};
@@ -103,4 +103,14 @@ pub(crate) fn verdict_answer(alloc: Global, verdict: Verdict) -> Result<LineAnsw
         Verdict::Forbidden { .. } => 1,
     };
     Ok(LineAnswer { status, text })
+}
+
+/// The answer where events are asked for that are behind the last that can be shown.
+pub(crate) fn behind(alloc: Global, last: usize) -> Result<LineAnswer, StreamFault>
+    ensures answer { IfOk result (λ a. (a.status ≡ (behind last).status) × (string_bytes a.text ≡ (behind last).text)) }
+    ensures status { IfOk result (λ a. a.status ≤ 2) }
+    ensures no_file { IsErrOf result StreamFault.File → ⊥ }
+{
+    let text = format!(in alloc; "window {last}\n")?;
+    Ok(LineAnswer { status: 2, text })
 }

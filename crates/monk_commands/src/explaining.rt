@@ -107,10 +107,10 @@ fn answer_to_text(
 /// on with the event that is not allowed, the situation before it, the object's own reply or what
 /// might have been chosen, and a sentence that says why. docs/TEXT.md has the lines.
 ///
-/// Of a log it writes the line that [`fit_stream`](crate::fit_stream) writes behind its name, with its status. Then come
-/// the lines to look at, each with where it stands in the source if the recorder wrote that down, and a sentence: of a
-/// misfit that line and those that led to it, else what is wrong at the end. Last it tells where each seat is, and since
-/// which line.
+/// Of a log it writes the line that [`fit_stream`](crate::fit_stream) writes behind its name, with its
+/// status. Then come the lines to look at, each with where it stands in the source if the recorder wrote
+/// that down, and a sentence: of a misfit that line and those that led to it, else what is wrong at the
+/// end. Last it tells where each seat is, and since which line.
 ///
 /// # Errors
 ///
@@ -133,8 +133,8 @@ pub fn explain_stream<R: Read, W: Write>(
 
     // What is written, and its status, are the explanation of what the reader had.
     ensures answer { IfOk result
-        (HasAnswered (IsExplainAnswer question.entry) (R.remaining (inner_of reader.old)) (W.contents (inner_of writer.old))
-        (W.contents (inner_of writer.new))) }
+        (HasAnswered (IsExplainAnswer question.entry) (R.remaining (inner_of reader.old))
+        (W.contents (inner_of writer.old)) (W.contents (inner_of writer.new))) }
     // Of a history under its own kind, the line of an audit comes first, and the status is that of an audit.
     ensures audit { IfOk result
         (BeginsAsAudit question.entry (R.remaining (inner_of reader.old)) (W.contents (inner_of writer.old))

@@ -165,8 +165,8 @@ fn fit_history(
     question: Question<'_>,
     bytes: &[u8],
 ) -> Result<LineAnswer, StreamFault>
-    ensures answer { IfOk result
-        (λ a. answered.IsHistoryFit question.entry.kind question.entry.name.now bytes.now a.status (string_bytes a.text)) }
+    ensures answer { IfOk result (λ a. answered.IsHistoryFit question.entry.kind question.entry.name.now bytes.now
+        a.status (string_bytes a.text)) }
     ensures status { IfOk result (λ a. a.status ≤ 2) }
     ensures no_file { IsErrOf result StreamFault.File → ⊥ }
 {
@@ -203,7 +203,8 @@ fn fit_text(
     question: Question<'_>,
     bytes: &[u8],
 ) -> Result<LineAnswer, StreamFault>
-    ensures answer { IfOk result (λ a. answered.IsFitAnswer form question.entry bytes.now a.status (string_bytes a.text)) }
+    ensures answer { IfOk result
+        (λ a. answered.IsFitAnswer form question.entry bytes.now a.status (string_bytes a.text)) }
     ensures status { IfOk result (λ a. a.status ≤ 2) }
     ensures no_file { IsErrOf result StreamFault.File → ⊥ }
 {
@@ -216,11 +217,12 @@ fn fit_text(
 
 /// Reads all of the reader, judges it, and writes what it is.
 ///
-/// Of a log, whose first word is `log`, it writes one line behind `NAME: `, or one line of JSON: whether it fits, how
-/// its program ends, and what is counted and found beside ([`judge_log`](monk_judge::judge_log)). docs/LOGS.md has the
-/// words. Lines are counted as in the file. The status is 1 if the log misfits, misses a signal or ends busy, though its
-/// program didn't end by itself; else 0. A log with another kind than NPNB, or with `means` but without acts, is refused
-/// by a line with status 2.
+/// Of a log, whose first word is `log`, it writes one line behind `NAME: `, or one line of JSON: whether
+/// it fits, how its program ends, and what is counted and found beside
+/// ([`judge_log`](monk_judge::judge_log)). docs/LOGS.md has the words. Lines are counted as in the file.
+/// The status is 1 if the log misfits, misses a signal or ends busy, though its program didn't end by
+/// itself; else 0. A log with another kind than NPNB, or with `means` but without acts, is refused by a
+/// line with status 2.
 ///
 /// Of a history, whatever kind its header names, it writes ten lines, in the order of [`KindName::ALL`]: `KIND legal N`
 /// or `KIND forbidden STEP REASON WORD`, where the rest is what an audit says under that kind. The status is 0 where
@@ -238,8 +240,9 @@ fn fit_text(
 ///
 /// # Cost
 ///
-/// Of a log one pass over the text and two over its lines; memory for the text and some 32 bytes for each line. Of a
-/// history one pass over the text and one over the events for each kind; memory for the text, the events and the queues.
+/// Of a log one pass over the text and two over its lines; memory for the text and some 32 bytes for each
+/// line. Of a history one pass over the text and one over the events for each kind; memory for the text,
+/// the events and the queues.
 pub fn fit_stream<R: Read, W: Write>(
     alloc: Global,
     form: FitForm,

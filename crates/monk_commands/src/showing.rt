@@ -3,12 +3,12 @@
 ghost use Rattle.std.specs.Prelude.{◌≡◌, ◌≤◌, ◌^◌, false, length, IfOk, IfSome, IsErrOf, string_bytes};
 ghost use Rattle.monk_object.specs.Names.{most};
 ghost use Rattle.monk_history.specs.Text.Device.{inner_of, has_failed};
-ghost use Rattle.monk_commands.specs.Answer.{behind, verdict_answer};
+ghost use Rattle.monk_commands.specs.Answer.{verdict_answer};
 ghost use Rattle.monk_commands.specs.Shown.{HasAuditStatus, IsAnsweredBy, IsShowAnswer, IsShowingOf, IsShown};
 ghost use Rattle.monk_commands.specs.Shown.{IsShownBy, forbidden_step, is_drawn_log, shown_text};
 ghost use Rattle.monk_commands.specs.Streams.{HasAnswered, IsStreamOutcome};
 
-use crate::answer::{LineAnswer, put, too_big, unreadable};
+use crate::answer::{LineAnswer, behind, put, too_big, unreadable};
 use crate::fault::StreamFault;
 use crate::input::read_all;
 use crate::logs::answering::is_log;
@@ -38,16 +38,6 @@ fn status_of(verdict: Verdict) -> u8
         Verdict::Legal(_) => 0,
         Verdict::Forbidden { .. } => 1,
     }
-}
-
-/// The answer where events are asked for that are behind the last that can be shown.
-pub(crate) fn behind(alloc: Global, last: usize) -> Result<LineAnswer, StreamFault>
-    ensures answer { IfOk result (λ a. (a.status ≡ (behind last).status) × (string_bytes a.text ≡ (behind last).text)) }
-    ensures status { IfOk result (λ a. a.status ≤ 2) }
-    ensures no_file { IsErrOf result StreamFault.File → ⊥ }
-{
-    let text = format!(in alloc; "window {last}\n")?;
-    Ok(LineAnswer { status: 2, text })
 }
 
 /// The picture or the page of a history on which there is this verdict.
@@ -193,9 +183,10 @@ fn show_text(
 
 /// Reads all of the reader, and writes what shows it.
 ///
-/// Of a log, whose first word is `log`, a picture shows the run that [`complete_run_stream`](crate::complete_run_stream)
-/// writes, with a column for each line of the log up to the one that misfits, which is framed, with the word for what is
-/// wrong and its number in the file. The status is 1 if the log misfits, else 0.
+/// Of a log, whose first word is `log`, a picture shows the run that
+/// [`complete_run_stream`](crate::complete_run_stream) writes, with a column for each line of the log up to
+/// the one that misfits, which is framed, with the word for what is wrong and its number in the file. The
+/// status is 1 if the log misfits, else 0.
 ///
 /// Of a history what comes behind the first
 /// forbidden event is not shown. Of the events up to it, or up to the end, those of the window are

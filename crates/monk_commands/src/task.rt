@@ -42,8 +42,8 @@ pub enum Task<'a> {
     Draw(Option<Window>),
     /// The page of a history, by [`show_stream`]: of the events that are asked for.
     Page(Option<Window>),
-    /// A legal history of a monitor of the kind that tells a log, by [`complete_stream`]; with no kind, a run of a mutex
-    /// with condition variables, by [`complete_run_stream`].
+    /// A legal history of a monitor of the kind that tells a log, by [`complete_stream`]; with no kind, a run
+    /// of a mutex with condition variables, by [`complete_run_stream`].
     Complete(Option<KindName>),
 }
 

@@ -235,7 +235,7 @@ static REFUSED: [Job<'static>; 6] = [
         ),
         input: b"log 1 2 0 shop 4\nenter 0\n",
         status: 2,
-        answer: b"a.log: refused, `monk complete --kind PB` judges a log by that kind\n",
+        answer: b"a.log: refused, monk complete --kind PB judges a log by that kind\n",
     },
     Job {
         name: "what is waited for, without acts",

@@ -9,7 +9,5 @@ const ENDED: &[u8] = b"ended by itself";
 ///
 /// One pass over the file.
 pub fn ended_by_itself(beside: &[u8]) -> bool {
-    beside
-        .split(|byte| *byte == b'\n')
-        .any(|row| row == ENDED)
+    beside.split(|byte| *byte == b'\n').any(|row| row == ENDED)
 }

@@ -72,10 +72,11 @@ fn answer_to_text(alloc: Global, bytes: &[u8]) -> Result<LineAnswer, StreamFault
     }
 }
 
-/// Reads all of the reader, the text of a log, and writes a run of a mutex with condition variables that tells it, with
-/// status 0: the line `run NPNB SEATS CONDS OBJECT SIZE`, and a line for each step. A step is a line of the log, behind
-/// a signal that woke a thread with ` wakes SEAT`; or `out SEAT`, where the thread's time ran out; or `wake SEAT`, where
-/// it woke though nobody sent a signal. No run that tells the log has fewer of these.
+/// Reads all of the reader, the text of a log, and writes a run of a mutex with condition variables that
+/// tells it, with status 0: the line `run NPNB SEATS CONDS OBJECT SIZE`, and a line for each step. A step
+/// is a line of the log, with ` wakes SEAT` behind a signal that woke a thread; or `out SEAT`, where the
+/// thread's time ran out; or `wake SEAT`, where it woke though nobody sent a signal. No run that tells the
+/// log has fewer of these.
 ///
 /// If no run tells the log, `misfit at LINE: WORD` is written with status 1: the first line of the file with which none
 /// does, and the word for why. Where the reader has no text of a log, the line `unreadable LINE NUMBER WORD` is written

@@ -4,12 +4,11 @@ ghost use Rattle.std.specs.Prelude.{◌≡◌, ◌≤◌, ◌^◌, IfOk, IsErrOf
 ghost use Rattle.std.specs.List.{flat_map};
 ghost use Rattle.monk_commands.specs.LogDrawn as drawn;
 
-use crate::answer::{LineAnswer, too_big, unreadable};
+use crate::answer::{LineAnswer, behind, too_big, unreadable};
 use crate::completing::header_of;
 use crate::fault::StreamFault;
 use crate::logs::judging::run;
 use crate::logs::verdict_words::number;
-use crate::showing::behind;
 use monk_draw::{Window, draw_run, is_behind};
 use monk_history::{Event, From3, Next, Via};
 use monk_judge::{Misfit, Run, Step};

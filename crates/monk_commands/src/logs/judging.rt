@@ -1,6 +1,6 @@
 //! A log, judged over the object that its header names.
 
-ghost use Rattle.std.specs.Prelude.{◌≡◌, ◌≤◌, ◌^◌, IfOk, length};
+ghost use Rattle.std.specs.Prelude.{◌≤◌, ◌^◌, IfOk, length};
 ghost use Rattle.monk_object.specs.Names.{most};
 ghost use Rattle.monk_commands.specs.LogFound.{IsReportOf};
 ghost use Rattle.monk_commands.specs.RunText.{IsRunOfLog};

@@ -85,7 +85,7 @@ impl LogRefusal {
             LogRefusal::OtherKind(kind) => {
                 let kind = kind.as_str();
                 let text = format!(in alloc;
-                    "refused, `monk complete --kind {kind}` judges a log by that kind\n"
+                    "refused, monk complete --kind {kind} judges a log by that kind\n"
                 )?;
                 Ok(text)
             }

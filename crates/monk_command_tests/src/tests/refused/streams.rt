@@ -131,7 +131,7 @@ pub(super) static JOBS: [Job<'static>; 24] = [
         ),
         input: b"log 1 1 0 buffer 1\nenter 0\n",
         status: 2,
-        answer: b"a.log: refused, `monk complete --kind NPIR` judges a log by that kind\n",
+        answer: b"a.log: refused, monk complete --kind NPIR judges a log by that kind\n",
     },
     Job {
         name: "traced",
