@@ -9,4 +9,4 @@ pub use Rattle.monk_audit.proofs.AuditLaws.{stands_more}
 -- The verdict that every history has
 pub use Rattle.monk_audit.proofs.VerdictLaws.{is_verdict}
 -- The reason of a first fault, by its number; and the number where there is a reason, or none
-pub use Rattle.monk_audit.proofs.ReasonLaws.{fault_again, none_by_number, some_is_not_0}
+pub use Rattle.monk_audit.proofs.ReasonLaws.{fault_again, none_by_number}

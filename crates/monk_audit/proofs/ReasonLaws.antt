@@ -34,10 +34,6 @@ number_found r reason n v a is b = b ∙ (sym (ap number_or_0 is) ∙ a)
 pub number_there : (reason : Reason) (n : ℕ) → n ≡ number_of reason → n ≢ 0
 number_there reason n b = λ z. some_number reason (sym b ∙ z)
 
-pub some_is_not_0 : (r : Option Reason) → is_some r ≡ true → number_or_0 r ≢ 0
-some_is_not_0 None z = absurd (false≢true z)
-some_is_not_0 (Some r) z = some_number r
-
 -- the number of the first of six tests that fails, or 0
 abbrev first_failed : Bool → Bool → Bool → Bool → Bool → Bool → ℕ
 first_failed a b c d e f =

@@ -27,12 +27,6 @@ first_of_both (x ∷ xs) ys o p is so = rw is refl
 pub first_alone : (xs : List ℕ) (o : Option ℕ) → o ≡ slice_get xs 0 → just o ≡ take 1 xs
 first_alone xs o h = grind arith
 
-abbrev queues : List ℕ → List ℕ → List ℕ → Queues
-queues ws ss rs = record { waiters = ws; signallers = ss; ready = rs }
-
-pub same_fronts : (ws ss rs xs ys zs : List ℕ) → ws ≡ xs → ss ≡ ys → rs ≡ zs → queues ws ss rs ≡ queues xs ys zs
-same_fronts ws ss rs xs ys zs h h2 h3 = grind arith
-
 -- a release serves one at most, and one at most steps back
 pub one_served : (queue : ℕ → List ℕ) (e : Event) → next_of e ≡ Some Stay
     → just (slice_get (serves queue e) 0) ≡ serves queue e

@@ -59,17 +59,16 @@ pub record Tells (m : Monitor) (log : List LogLine) (past : List Event) (pending
   pub still : IsStill m past pending
   pub handed : AreHandedOver past
 
--- the same at that stand, with these events behind those of before
-pub record Adds (m : Monitor) (log : List LogLine) (past more : List Event) (s : Stand) : Type 0 where
-  pub tells : Tells m log (past ++ more) s.pending
-  pub is : situation m (past ++ more) ≡ s.now
+-- the lines led there, and told these events
+pub record TellsAt (m : Monitor) (log : List LogLine) (past : List Event) (s : Stand) : Type 0 where
+  pub tells : Tells m log past s.pending
+  pub stands : situation m past ≡ s.now
 
-adds_none : (m : Monitor) (log : List LogLine) (past : List Event) (s : Stand) → Tells m log past s.pending
-    → situation m past ≡ s.now → Adds m log past [] s
-adds_none m log past s t is =
-    let both = subst (λ (x : List Event). Tells m log x s.pending × (situation m x ≡ s.now)) (sym (append-nil past))
-    (t, is) in
-    record { tells = both.0; is = both.1 }
+-- and no more
+none_more : (m : Monitor) (log : List LogLine) (past : List Event) (s : Stand) → Tells m log past s.pending
+    → situation m past ≡ s.now → TellsAt m log (past ++ []) s
+none_more m log past s t is =
+    subst (λ (x : List Event). TellsAt m log x s) (sym (append-nil past)) (record { tells = t; stands = is })
 
 -- ---- what is added
 
@@ -78,11 +77,11 @@ ends_with past e none = λ before x k. ap next_of (sym (same_from_push past befo
 
 settled_tells : (m : Monitor) (past : List Event) (e : Event) (log : List LogLine) (s : Stand)
     → settle m (situation m past) e ≡ Ok s → next_of e ≡ None → (is_empty past ≡ false → IsNoFreeEnter e)
-    → IsLegal m past → AreHandedOver past → erasure past ≡ log → Adds m (log ++ erasure_of e) past (e ∷ []) s
+    → IsLegal m past → AreHandedOver past → erasure past ≡ log → TellsAt m (log ++ erasure_of e) (past ++ e ∷ []) s
 settled_tells m past e log s h none one legal all told =
     let t = situation m past in
     let p = passed (reason_in m t e) (stand_settled (after m.object t e)) s (blame_of (reason_in m t e)) h in
-    subst (Adds m (log ++ erasure_of e) past (e ∷ [])) p.1 (record {
+    subst (TellsAt m (log ++ erasure_of e) (past ++ e ∷ [])) p.1 (record {
       tells = record {
         legal = legal-push m past e legal (allowed_from_reason m t e p.0);
         told = append-nil (erasure (past ++ e ∷ [])) ∙ erasure-push past e
@@ -90,7 +89,7 @@ settled_tells m past e log s h none one legal all told =
         still = ends_with past e none;
         handed = handed-push past e all one;
       };
-      is = legal_situation-push m past e legal;
+      stands = legal_situation-push m past e legal;
     })
 
 held_tells : (m : Monitor) (past : List Event) (e : Event) (p : Pending) (s : Stand)
@@ -102,11 +101,11 @@ held_tells m past e p s h =
 
 release_tells : (m : Monitor) (past : List Event) (e : Event) (log : List LogLine) (s : Stand)
     → release_over m (situation m past) e ≡ Ok s → next_of e ≡ Some Stay → IsLegal m past → AreHandedOver past
-    → erasure past ≡ log → Adds m (log ++ erasure_of e) past [] s
+    → erasure past ≡ log → TellsAt m (log ++ erasure_of e) (past ++ []) s
 release_tells m past e log s h stays legal all told =
     let p = held_tells m past e (Release e) s h in
-    subst (Adds m (log ++ erasure_of e) past []) p.1
-    (adds_none m (log ++ erasure_of e) past (stand (situation m past) (Release e)) (record {
+    subst (TellsAt m (log ++ erasure_of e) (past ++ [])) p.1
+    (none_more m (log ++ erasure_of e) past (stand (situation m past) (Release e)) (record {
       legal = legal;
       told = ap (λ (x : List LogLine). x ++ erasure_of e) told;
       still = (p.0, stays);
@@ -118,11 +117,11 @@ release_tells m past e log s h stays legal all told =
 signal_tells : (m : Monitor) (past : List Event) (s c : ℕ) (log : List LogLine) (d : Stand) (b : Bool)
     → cond b (hold_over m (situation m past) (event.SignalLeave s c Stay) (Half s c))
     (release_over m (situation m past) (event.Signal s c Stay)) ≡ Ok d
-    → IsLegal m past → AreHandedOver past → erasure past ≡ log → Adds m (log ++ Signal s c ∷ []) past [] d
+    → IsLegal m past → AreHandedOver past → erasure past ≡ log → TellsAt m (log ++ Signal s c ∷ []) (past ++ []) d
 signal_tells m past s c log d true h legal all told =
     let p = held_tells m past (event.SignalLeave s c Stay) (Half s c) d h in
-    subst (Adds m (log ++ Signal s c ∷ []) past []) p.1
-    (adds_none m (log ++ Signal s c ∷ []) past (stand (situation m past) (Half s c)) (record {
+    subst (TellsAt m (log ++ Signal s c ∷ []) (past ++ [])) p.1
+    (none_more m (log ++ Signal s c ∷ []) past (stand (situation m past) (Half s c)) (record {
       legal = legal;
       told = ap (λ (x : List LogLine). x ++ Signal s c ∷ []) told;
       still = p.0;
@@ -133,7 +132,7 @@ signal_tells m past s c log d false h legal all told =
 
 settled_line_tells : (m : Monitor) (past : List Event) (log : List LogLine) (l : LogLine) (d : Stand)
     → line_settled m (situation m past) l ≡ Ok d → IsLegal m past → AreHandedOver past → erasure past ≡ log
-    → Adds m (log ++ l ∷ []) past (line_events (situation m past) l) d
+    → TellsAt m (log ++ l ∷ []) (past ++ line_events (situation m past) l) d
 settled_line_tells m past log (Enter s) d h legal all told =
     settled_tells m past _ log d h refl (handed_enter s (is_empty past)) legal all told
 settled_line_tells m past log (Resume s) d h legal all told =
@@ -159,7 +158,7 @@ if_ok b r why y h = grind arith
 
 half_line_tells : (m : Monitor) (past : List Event) (s c : ℕ) (l : LogLine) (d : Stand)
     → line_half m (situation m past) s c l ≡ Ok d → IsLegal m past → AreHandedOver past
-    → Adds m (erasure past ++ Signal s c ∷ l ∷ []) past [] d
+    → TellsAt m (erasure past ++ Signal s c ∷ l ∷ []) (past ++ []) d
 half_line_tells m past s c (Enter j) d h legal all = absurd cc
 half_line_tells m past s c (Resume j) d h legal all = absurd cc
 half_line_tells m past s c (Lapse j) d h legal all = absurd cc
@@ -170,27 +169,18 @@ half_line_tells m past s c (Act j op r) d h legal all = absurd cc
 half_line_tells m past s c (Leave j) d h legal all =
     let p = if_ok (j == s) (release_over m (situation m past) (event.SignalLeave s c Stay)) (half_blame m (Leave j)) d
     h in
-    subst (λ (k : ℕ). Adds m (erasure past ++ Signal s c ∷ Leave k ∷ []) past [] d) (sym (eqb-true j s p.0))
+    subst (λ (k : ℕ). TellsAt m (erasure past ++ Signal s c ∷ Leave k ∷ []) (past ++ []) d) (sym (eqb-true j s p.0))
     (release_tells m past (event.SignalLeave s c Stay) (erasure past) d p.1 refl legal all refl)
 half_line_tells m past s c (Wait j x) d h legal all =
     let p = if_ok (j == s) (release_over m (situation m past) (event.SignalWait s c x Stay)) (half_blame m (Wait j x))
     d h in
-    subst (λ (k : ℕ). Adds m (erasure past ++ Signal s c ∷ Wait k x ∷ []) past [] d) (sym (eqb-true j s p.0))
+    subst (λ (k : ℕ). TellsAt m (erasure past ++ Signal s c ∷ Wait k x ∷ []) (past ++ []) d) (sym (eqb-true j s p.0))
     (release_tells m past (event.SignalWait s c x Stay) (erasure past) d p.1 refl legal all refl)
-
-regroup : (m : Monitor) (log : List LogLine) (past : List Event) (f : Event) (more : List Event) (d : Stand)
-    → Adds m log (past ++ f ∷ []) more d → Adds m log past (f ∷ more) d
-regroup m log past f more d a =
-    let same = append_assoc past (f ∷ []) more in
-    record {
-      tells = subst (λ (x : List Event). Tells m log x d.pending) same a.tells;
-      is = subst (λ (x : List Event). situation m x ≡ d.now) same a.is;
-    }
 
 release_line_tells : (m : Monitor) (past : List Event) (e : Event) (log : List LogLine) (l : LogLine) (d : Stand)
     → line_told m (situation m past) e l ≡ Ok d → next_of e ≡ Some Stay
     → IsLegal m past → AreHandedOver past → erasure past ++ erasure_of e ≡ log
-    → Adds m (log ++ l ∷ []) past (told_events m.object (situation m past) (Release e) l) d
+    → TellsAt m (log ++ l ∷ []) (past ++ told_events m.object (situation m past) (Release e) l) d
 release_line_tells m past e log l d h stays legal all told =
     let t = situation m past in
     let x = told_next (queues_at m.object t e) l in
@@ -204,17 +194,18 @@ release_line_tells m past e log l d h stays legal all told =
     (legal-push m past f legal (allowed_from_reason m t f zero))
     (handed-push past f all (λ some. no_enter f (release_is_no_enter x e stays)))
     (erasure-push past f ∙ ap (λ (y : List LogLine). erasure past ++ y) (erased_with_next x e) ∙ told) in
-    regroup m (log ++ l ∷ []) past f (line_events (after m.object t f) l) d
-    (subst (λ (u : Situation). Adds m (log ++ l ∷ []) (past ++ f ∷ []) (line_events u l) d) lands adds)
+    subst (λ (x : List Event). TellsAt m (log ++ l ∷ []) x d)
+    (append_assoc past (f ∷ []) (line_events (after m.object t f) l))
+    (subst (λ (u : Situation). TellsAt m (log ++ l ∷ []) ((past ++ f ∷ []) ++ line_events u l) d) lands adds)
 
 -- the line's events are added
 pub line_tells : (m : Monitor) (log : List LogLine) (past : List Event) (pending : Pending) (l : LogLine) (d : Stand)
     → Tells m log past pending → line_behind m (situation m past) pending l ≡ Ok d
-    → Adds m (log ++ l ∷ []) past (told_events m.object (situation m past) pending l) d
+    → TellsAt m (log ++ l ∷ []) (past ++ told_events m.object (situation m past) pending l) d
 line_tells m log past Settled l d t h =
     settled_line_tells m past log l d h t.legal t.handed (sym (append-nil (erasure past)) ∙ t.told)
 line_tells m log past (Half s c) l d t h =
-    subst (λ (x : List LogLine). Adds m x past [] d)
+    subst (λ (x : List LogLine). TellsAt m x (past ++ []) d)
     (sym (append_assoc (erasure past) (Signal s c ∷ []) (l ∷ [])) ∙ ap (λ (x : List LogLine). x ++ l ∷ []) t.told)
     (half_line_tells m past s c l d h t.legal t.handed)
 line_tells m log past (Release e) l d t h =
@@ -222,19 +213,13 @@ line_tells m log past (Release e) l d t h =
 
 -- ---- a log
 
--- the lines led there, and told these events
-pub record TellsAt (m : Monitor) (log : List LogLine) (past : List Event) (s : Stand) : Type 0 where
-  pub tells : Tells m log past s.pending
-  pub stands : situation m past ≡ s.now
-
 pub tells_on : (m : Monitor) (log : List LogLine) (past : List Event) (s : Stand) (l : LogLine) (d : Stand)
     → TellsAt m log past s → line_over m s l ≡ Ok d
     → TellsAt m (log ++ l ∷ []) (past ++ told_events m.object s.now s.pending l) d
 tells_on m log past s l d at h =
-    let adds = line_tells m log past s.pending l d at.tells
-    (ap (λ (t : Situation). line_behind m t s.pending l) at.stands ∙ h) in
     subst (λ (t : Situation). TellsAt m (log ++ l ∷ []) (past ++ told_events m.object t s.pending l) d) at.stands
-    (record { tells = adds.tells; stands = adds.is })
+    (line_tells m log past s.pending l d at.tells
+    (ap (λ (t : Situation). line_behind m t s.pending l) at.stands ∙ h))
 
 nothing_before : (before : List Event) (e : Event) → [] ≡ before ++ e ∷ [] → next_of e ≡ None
 nothing_before [] e h = absurd cc

@@ -1,6 +1,6 @@
 -- Behind a release that is settled with the choice that a line tells, the line leads where it leads by that choice
 use Rattle.std.proofs.Common.{arith, ◌≡◌, ◌∙◌, Bool, true, false, not, List, [], ◌∷◌, ◌++◌, ap, append_assoc}
-use Rattle.std.specs.Prelude.{◌==◌, Result, Ok, Err, IfOk, OnOk}
+use Rattle.std.specs.Prelude.{◌==◌, Result, Ok, Err, OnOk}
 use Rattle.monk_history.specs.declared.event.Event.{Event}
 use Rattle.monk_history.specs.Meaning.Monitor.{Monitor}
 use Rattle.monk_history.specs.Meaning.Reasons.{reason_in}
@@ -40,12 +40,3 @@ module _ (m : Monitor) (t u : Situation) (e told : Event) (l : LogLine) (r : Res
         on_ok : (s : Result Pending Blame) (P : Type 0) → s ≡ Ok Settled → OnOk s P → P
         on_ok (Ok p) P k x = x
         on_ok (Err why) P k x = absurd cc
-
--- what is the same as something else is the same as what that is
-pub ok_same : {A E X : Type 0} (r : Result A E) (f : A → X) (a b : X) → a ≡ b → IfOk r (λ p. f p ≡ a)
-    → IfOk r (λ p. f p ≡ b)
-ok_same r f a b h h2 = grind arith
-
-pub ok_on_same : {B C E X : Type 0} (r : Result (Result B C) E) (x a b : X) → a ≡ b → IfOk r (λ p. OnOk p (x ≡ a))
-    → IfOk r (λ p. OnOk p (x ≡ b))
-ok_on_same r x a b h h2 = grind arith

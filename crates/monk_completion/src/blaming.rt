@@ -231,6 +231,7 @@ fn resume_blame<T: Guarded>(
 }
 
 /// What is to blame where the caller goes on at once, though it may not have stayed.
+#[tactic(auto, using(crate::proofs::FrontLaws::stay_blame_same))]
 fn stay_blame<T: Guarded>(
     setting: MonitorSetting,
     replay: &Replay,

@@ -66,6 +66,7 @@ fn own_or(front: u8, caller: u8) -> Next
 
 impl Fronts {
     /// Those at an event, which joins and serves before it chooses.
+    #[tactic(auto, using(crate::proofs::FrontLaws::first_of_both, crate::proofs::FrontLaws::first_alone))]
     pub(crate) fn at<T: Guarded>(replay: &Replay, object: &T, event: Event) -> Fronts
         requires { All (λ w. w.1 < T.PREDICATES) (replay_situation replay.now []).untils }
         ensures { shown result

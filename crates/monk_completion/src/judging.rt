@@ -234,6 +234,7 @@ fn told_release<T: Guarded>(replay: &Replay, object: &T, event: Event, line: Log
 }
 
 /// Whether a test is against the release.
+#[tactic(auto, using(crate::proofs::Tests::early_refused))]
 fn refuses<T: Guarded>(setting: MonitorSetting, replay: &Replay, object: &T, event: Event) -> bool
     requires sound { IsReplayOf setting.seats setting.conds T.PREDICATES replay.now }
     requires no_act { answered_act event ≡ None }
@@ -250,6 +251,7 @@ fn refuses<T: Guarded>(setting: MonitorSetting, replay: &Replay, object: &T, eve
 }
 
 /// The line behind a release, whose choice it tells.
+#[tactic(auto, using(crate::proofs::ToldLaws::told_goes, crate::proofs::ToldLaws::told_more))]
 fn line_told<T: Guarded>(
     setting: MonitorSetting,
     replay: &mut Replay,

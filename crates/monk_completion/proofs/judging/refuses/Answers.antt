@@ -1,25 +1,13 @@
-use Rattle.std.proofs.Common.{◌∙◌, ℕ, Bool, not, [], Some, refl, sym, ap}
+use Rattle.std.proofs.Common.{◌∙◌, ℕ, Bool, not, [], sym, ap}
 use Rattle.monk_history.specs.Meaning.Choice.{Queues, queues_at}
 use Rattle.monk_history.specs.Meaning.Monitor.{monitor}
 use Rattle.monk_history.specs.Meaning.Reasons.{reason_before}
-use Rattle.monk_audit.specs.Reasons.{number_of}
 use Rattle.monk_audit.specs.Replay.{replay_situation}
 use Rattle.monk_audit.specs.Settled.{permits}
-use Rattle.monk_audit.proofs.PublicLaws.{some_is_not_0}
 use Rattle.monk_completion.specs.Stand.{monitor_in}
 use Rattle.monk_completion.proofs.FrontLaws.{permits_same}
-use Rattle.monk_completion.proofs.Tests.{early_refused, permitted_only}
+use Rattle.monk_completion.proofs.Tests.{permitted_only}
 use Rattle.monk_completion.proofs.judging.refuses.Goals as goal
-
-pub returns-in-Some : goal.returns-in-Some
-returns-in-Some g c =
-    let k = c.args.setting in
-    let o = g.T.Guarded.meaning in
-    let t = replay_situation c.args.replay.now (g.T.Guarded.state c.args.object.now) in
-    sym (ap not (early_refused (monitor_in k o) t c.args.event (number_of c.in-Some.field-0)
-    (c.in-Some.ensures
-    ∙ ap (λ (n : ℕ). reason_before 0 (monitor k.rules n k.conds o []) t c.args.event) c.requires.sound.has_seats)
-    (some_is_not_0 (Some c.in-Some.field-0) refl)))
 
 pub returns-in-None : goal.returns-in-None
 returns-in-None g c =
