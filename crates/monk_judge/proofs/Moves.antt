@@ -11,7 +11,7 @@ use Rattle.monk_judge.specs.Ends.{is_resume}
 use Rattle.monk_judge.specs.Holding.{takes_lock}
 use Rattle.monk_judge.specs.Judged.{CanStand, IsRight, after_all, running_out, steps_at, waking}
 use Rattle.monk_judge.specs.Run.{HasRunOut, Setting, State, after, takes, WakesRightly, run_out, signalled, with_place, woken, woken_unasked}
-use Rattle.monk_judge.proofs.Least.{elsewhere, here}
+use Rattle.monk_judge.proofs.Least.{elsewhere}
 use Rattle.monk_judge.proofs.Sleepers.{HoldersAct}
 
 pub record Moves (x : State) (l : LogLine) (y : State) : Type 0 where
