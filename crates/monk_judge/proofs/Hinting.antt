@@ -6,7 +6,7 @@ use Rattle.monk_logs.specs.declared.text.line.LogLine.{LogLine}
 use Rattle.monk_judge.specs.declared.overtaking.Back.{Back}
 use Rattle.monk_judge.specs.declared.overtaking.Hints.{Hints}
 use Rattle.monk_judge.specs.Among.{AreMany, NamesFirst}
-use Rattle.monk_judge.specs.Hints.{Answers, ComesBack, GoesBack, GoesBackBy, first_of, passed_of}
+use Rattle.monk_judge.specs.Hints.{Answers, ComesBack, AnswersOwn, AnswersBy, first_of, passed_of}
 use Rattle.monk_judge.specs.Holding.{takes_lock}
 use Rattle.monk_judge.specs.Moments.{Moment}
 use Rattle.monk_judge.specs.Overtaken.{GoesOn, IsOvertaken, IsOvertakenOn, WaitsAgain, seat_at}
@@ -129,7 +129,7 @@ half_own all t l x y h new b back is was own answers =
     }
 
 half_by : (all : List Moment) (t : Moment) (l : LogLine) (x y : State) (h mid : Hints) (found : Option Back)
-    → h.back ≡ found → t.line ≡ l → Moves x l y → Hinted all x h → GoesBackBy l found h mid → Half all t y mid
+    → h.back ≡ found → t.line ≡ l → Moves x l y → Hinted all x h → AnswersBy l found h mid → Half all t y mid
 half_by all t l x y h mid None back is moves was goes =
     subst (λ k. Half all t y k) (sym goes) (half_none all t x y h back was)
 half_by all t l x y h mid (Some b) back is moves was goes =
@@ -231,19 +231,19 @@ comes all t l x y mid new c is moves takes half none on does =
 
 -- while nobody has the lock, nobody is back
 free_back : (all : List Moment) (x : State) (l : LogLine) (h mid : Hints) (found : Option Back) → h.back ≡ found
-    → x.lock ≡ None → Hinted all x h → GoesBackBy l found h mid → mid.back ≡ None
+    → x.lock ≡ None → Hinted all x h → AnswersBy l found h mid → mid.back ≡ None
 free_back all x l h mid None back free was goes = ap (λ k. k.back) goes ∙ back
 free_back all x l h mid (Some b) back free was goes =
     let at : BackAt all x b = subst (λ o. IsBack all x o) back was.back in
     none_some b.seat _ (sym free ∙ at.lock)
 
 pub hinted_half : (all : List Moment) (t : Moment) (l : LogLine) (x y : State) (h mid : Hints)
-    → t.line ≡ l → Moves x l y → Hinted all x h → GoesBack l h mid → Half all t y mid
+    → t.line ≡ l → Moves x l y → Hinted all x h → AnswersOwn l h mid → Half all t y mid
 hinted_half all t l x y h mid is moves was goes = half_by all t l x y h mid h.back refl is moves was goes
 
 hinted_by : (all : List Moment) (t : Moment) (l : LogLine) (x y : State) (h mid new : Hints) (on : Option ℕ)
     (seats : List (Option ℕ)) → passed_of l seats ≡ on
-    → t.line ≡ l → Moves x l y → Marks all x seats → line_seat l < 256 → Hinted all x h → GoesBack l h mid
+    → t.line ≡ l → Moves x l y → Marks all x seats → line_seat l < 256 → Hinted all x h → AnswersOwn l h mid
     → ComesBack l (length all) on mid new → Hinted (all ++ t ∷ []) y new
 hinted_by all t l x y h mid new None seats told is moves marks lt was goes comes =
     subst (λ k. Hinted (all ++ t ∷ []) y k) (sym comes)
@@ -257,7 +257,7 @@ hinted_by all t l x y h mid new (Some c) seats told is moves marks lt was goes d
 
 pub hinted_next : (all : List Moment) (t : Moment) (l : LogLine) (x y : State) (h mid new : Hints) (on : Option ℕ)
     (seats : List (Option ℕ)) → on ≡ passed_of l seats
-    → t.line ≡ l → Moves x l y → Marks all x seats → line_seat l < 256 → Hinted all x h → GoesBack l h mid
+    → t.line ≡ l → Moves x l y → Marks all x seats → line_seat l < 256 → Hinted all x h → AnswersOwn l h mid
     → ComesBack l (length all) on mid new → Hinted (all ++ t ∷ []) y new
 hinted_next all t l x y h mid new on seats told is moves marks lt was goes does =
     hinted_by all t l x y h mid new on seats (sym told) is moves marks lt was goes does

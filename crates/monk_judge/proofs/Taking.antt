@@ -19,7 +19,7 @@ use Rattle.monk_judge.specs.Counts.{count, is_asleep, is_woken, sleepers, woken_
 use Rattle.monk_judge.specs.Ends.{AreEnds, runs_out}
 use Rattle.monk_judge.specs.Judged.{CanStand, after_all, steps_at}
 use Rattle.monk_judge.specs.Missed.{LooksAt, is_from_outside}
-use Rattle.monk_judge.specs.Hints.{ComesBack, GoesBack, passed_of}
+use Rattle.monk_judge.specs.Hints.{ComesBack, AnswersOwn, passed_of}
 use Rattle.monk_judge.specs.Holding.{IsHolder, NamesLastTaking, holder_by}
 use Rattle.monk_judge.specs.Moments.{Moment, moments}
 use Rattle.monk_judge.specs.Reports.{IsCounted, IsReport, IsTaken, NamesFirstNeed, NamesLastUnheard, fitting}
@@ -110,7 +110,7 @@ pub record Looks (i : ℕ) (l : LogLine) (y : State) (seats new : List (Option �
   pub on : Option ℕ
   pub told : on ≡ passed_of l seats
   pub mid : Hints
-  pub goes : GoesBack l h mid
+  pub goes : AnswersOwn l h mid
   pub comes : ComesBack l i on mid u
 
 line_within : (m : Setting) (x : State) (l : LogLine) → CanStand m x l → line_seat l < m.seats

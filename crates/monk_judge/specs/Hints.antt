@@ -42,15 +42,15 @@ Answers l b old new = (new.back ≡ None) × (new.many ≡ old.many)
     × (new.first_not_again ≡ without old.first_not_again b.line))
     ⊎ ((l ≡ Wait b.seat b.cond → ⊥) × (new.again ≡ old.again) × (new.first_not_again ≡ old.first_not_again)))
 
--- if the line is its own
-abbrev pub GoesBackBy : LogLine → Option Back → Hints → Hints → Type 0
-GoesBackBy l None old new = new ≡ old
-GoesBackBy l (Some b) old new = ((line_seat l ≡ b.seat) × Answers l b old new)
+-- it answers, if the line is its own
+abbrev pub AnswersBy : LogLine → Option Back → Hints → Hints → Type 0
+AnswersBy l None old new = new ≡ old
+AnswersBy l (Some b) old new = ((line_seat l ≡ b.seat) × Answers l b old new)
     ⊎ ((line_seat l ≡ b.seat → ⊥) × (new ≡ old))
 
--- whoever came back last goes on, if the line is its own
-abbrev pub GoesBack : LogLine → Hints → Hints → Type 0
-GoesBack l old new = GoesBackBy l old.back old new
+-- whoever came back last answers, if the line is its own
+abbrev pub AnswersOwn : LogLine → Hints → Hints → Type 0
+AnswersOwn l old new = AnswersBy l old.back old new
 
 -- the line's thread comes back, overtaken if a condition is named
 abbrev pub ComesBack : LogLine → ℕ → Option ℕ → Hints → Hints → Type 0

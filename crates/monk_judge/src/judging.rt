@@ -45,7 +45,8 @@ pub fn judge_log<T: Guarded>(
     requires { length lines.now ≤ most_lines }
     // It tells the misfit exactly. It counts in a run of the lines before, with as few wake-ups that
     // nobody sent as any run of them has.
-    ensures { IfOk result (λ r. IsReport (setting seats conds T.meaning) (T.state object) lines.now means.now r) }
+    ensures { IfOk result
+        (λ r. IsReport (setting seats conds T.meaning) (T.state object) lines.now means.now r) }
 {
     let ends = look_ahead(alloc, lines)?;
     let mut judge = Judge::opening(alloc, seats, conds, object)?;
@@ -86,8 +87,8 @@ fn take_lines<T: Guarded>(
     requires ends { AreEnds ends.now lines.now }
     requires few { length lines.now ≤ most_lines }
     requires few_seats { length judge.old.places < 256 }
-    ensures { IsTaken (setting_of judge.old T.meaning) judge.old.data_now lines.now means.now result.1 result.0.tally
-        result.0.missed.line result.0.hints judge.new }
+    ensures { IsTaken (setting_of judge.old T.meaning) judge.old.data_now lines.now means.now
+        result.1 result.0.tally result.0.missed.line result.0.hints judge.new }
 {
     let mut seen = Seen {
         tally: Tally::NOTHING,

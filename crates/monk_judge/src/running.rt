@@ -40,7 +40,8 @@ pub fn run_of_log<T: Guarded>(
     // It tells the misfit exactly, and its steps are a run of the lines before, with as few wake-ups
     // that nobody sent as any run of them has.
     ensures { IfOk result
-        (λ r. IsRunOf (setting seats conds T.meaning) (T.state object) lines.now r.misfit r.steps.items) }
+        (λ r. IsRunOf (setting seats conds T.meaning) (T.state object) lines.now
+        r.misfit r.steps.items) }
 {
     let ends = look_ahead(alloc, lines)?;
     let mut judge = Judge::opening(alloc, seats, conds, object)?;
@@ -61,7 +62,8 @@ fn take_steps<T: Guarded>(
     requires ends { AreEnds ends.now lines.now }
     requires nothing { steps.old.items ≡ [] }
     ensures { IfOk result
-        (λ r. IsRunOf (setting_of judge.old T.meaning) judge.old.data_now lines.now r steps.new.items) }
+        (λ r. IsRunOf (setting_of judge.old T.meaning) judge.old.data_now lines.now
+        r steps.new.items) }
 {
     for (index, line) in lines.iter().enumerate() {
         match judge.line(*line, ends[index]) {
