@@ -1,7 +1,5 @@
 -- Reasons and their numbers
 use Rattle.std.proofs.Common.{◌≡◌, ◌≢◌, ◌∙◌, ℕ, Bool, true, false, not, cond, List, take, Option, Some, None, ap, sym, subst, refl, arith}
-use Rattle.std.specs.Option.{is_some}
-use Rattle.std.proofs.lemmas.Bool.{false≢true}
 use Rattle.monk_audit.specs.declared.reason.Reason.{Reason}
 use Rattle.monk_audit.specs.declared.reason.Reason.TheVariants.{Range, Call, Turn, Place, Reply, Choice}
 use Rattle.monk_audit.specs.Reasons.{number_of, number_or_0, numbered}
