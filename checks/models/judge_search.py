@@ -4,12 +4,18 @@ from typing import NamedTuple
 
 from monitor import CODES, Thing
 
-# A step is a line of a log in words and numbers, or `out SEAT` or `wake SEAT`, which no line tells.
-Step = tuple[str | int, ...]
 Place = tuple[str, int]
 OUTSIDE, ACTIVE = ("outside", 0), ("active", 0)
 # Where a thread is before a line with which it takes the lock, and behind a step that no line tells.
 TAKES, SILENT = {"enter": "outside", "resume": "woken", "lapse": "ran out"}, {"out": "ran out", "wake": "woken"}
+
+
+class Step(NamedTuple):
+    """A line of a log, or `out SEAT` or `wake SEAT`, which no line tells."""
+
+    verb: str
+    seat: int
+    numbers: tuple[int, ...] = ()
 
 
 class Setting(NamedTuple):
@@ -44,7 +50,7 @@ def moved(x: State, lock: int | None, there: dict[int, Place]) -> State:
 
 def after(setting: Setting, x: State, step: Step, whom: int | None = None) -> State | None:
     """The state behind the step, whose signal wakes that thread; None if it may not happen."""
-    verb, seat, *rest = step
+    verb, seat, rest = step
     if seat >= setting.seats or verb in ("wait", "signal", "broadcast") and rest[0] >= setting.conds or whom is not None and verb != "signal":
         return None
     place, asleep = x.places[seat], [other for other, there in enumerate(x.places) if there == ("waiting", rest[0] if rest else -1)]
@@ -66,11 +72,12 @@ def after(setting: Setting, x: State, step: Step, whom: int | None = None) -> St
 
 def behind(setting: Setting, runs: dict[State, int], line: Step) -> dict[State, int]:
     """Where runs may be behind the line, each with the fewest that woke unasked, by where they may be before it."""
-    silent, left, found = dict(runs), list(runs), {}
+    silent, left = dict(runs), list(runs)
+    found: dict[State, int] = {}
     while left:
         x = left.pop()
-        for step in ((verb, seat) for verb in SILENT for seat in range(setting.seats)):
-            y, cost = after(setting, x, step), silent[x] + (step[0] == "wake")
+        for step in (Step(verb, seat) for verb in SILENT for seat in range(setting.seats)):
+            y, cost = after(setting, x, step), silent[x] + (step.verb == "wake")
             if y is not None and cost < silent.get(y, cost + 1):
                 silent[y] = cost
                 left.append(y)
@@ -82,22 +89,25 @@ def behind(setting: Setting, runs: dict[State, int], line: Step) -> dict[State, 
 
 
 def judged(setting: Setting, log: list[Step]) -> Answer:
-    runs, first, since, misfit = {opening(setting): 0}, None, 0, None
+    runs, misfit = {opening(setting): 0}, None
+    first: int | None = None
+    since = 0
     for number, line in enumerate(log, 2):
         then = behind(setting, runs, line)
         if not then:
             misfit = number
             break
-        runs, since = then, number if line[0] in TAKES else since
+        runs, since = then, number if line.verb in TAKES else since
         first = number if first is None and min(runs.values()) else first
-    (lock,) = {x.lock for x in runs}
+    lock = next(iter(runs)).lock
     return Answer(misfit, min(runs.values()), first, None if lock is None else (lock, since))
 
 
 def wrong_with(text: str, setting: Setting, log: list[Step], unasked: int) -> str | None:
     """What is wrong with the text of a run that is to tell these lines, and in which so many are to wake unasked."""
     head, *steps = text.splitlines()
-    x, lines = opening(setting), []
+    x = opening(setting)
+    lines: list[Step] = []
     if head != f"run NPNB {setting.seats} {setting.conds} {setting.object} {setting.size}":
         return f"its first line is {head}"
     for number, words in enumerate(steps, 2):
@@ -106,9 +116,10 @@ def wrong_with(text: str, setting: Setting, log: list[Step], unasked: int) -> st
         y = after(setting, x, step, int(whom) if whom else None)
         if y is None:
             return f"line {number} may not stand there: {words}"
-        x, lines, unasked = y, lines if step[0] in SILENT else [*lines, step], unasked - (step[0] == "wake")
+        x, lines, unasked = y, lines if step.verb in SILENT else [*lines, step], unasked - (step.verb == "wake")
     return "its lines are not the log's" if lines != log else "another number wakes unasked" if unasked else None
 
 
 def step_of(words: str) -> Step:
-    return tuple(word if word.isalpha() else int(word) for word in words.split())
+    verb, seat, *numbers = words.split()
+    return Step(verb, int(seat), tuple(map(int, numbers)))

@@ -1,22 +1,15 @@
 -- From which queue a turn is due, and what may be called where an event may
-use Rattle.std.proofs.Common.{arith, ◌≡◌, ℕ, true, Some}
+use Rattle.std.proofs.Common.{arith, ◌≡◌, ℕ, Some}
 use Rattle.monk_history.specs.declared.event.Event.{Event}
 use Rattle.monk_history.specs.declared.event.Event.TheVariants as event
-use Rattle.monk_history.specs.declared.event.From3.{From3}
 use Rattle.monk_history.specs.declared.event.Next.{Next}
 use Rattle.monk_history.specs.declared.event.Next.TheVariants.{Stay}
-use Rattle.monk_history.specs.declared.event.Turn.{Turn}
 use Rattle.monk_object.specs.Object.{Object}
 use Rattle.monk_history.specs.Meaning.Choice.{queues_at}
 use Rattle.monk_history.specs.Meaning.Events.{next_of}
 use Rattle.monk_history.specs.Meaning.Monitor.{Monitor}
-use Rattle.monk_history.specs.Meaning.Reasons.{is_due}
 use Rattle.monk_history.specs.Meaning.Release.{MayCallIn, as_called, with_next}
 use Rattle.monk_history.specs.Meaning.Situation.{Situation}
-use Rattle.monk_completion.specs.Stand.{due_from}
-
-pub due_queue : (t : Turn) (s : ℕ) (q : From3) → is_due s q t ≡ true → due_from t ≡ q
-due_queue t s q h = grind arith
 
 pub half_called : (m : Monitor) (t : Situation) (s c d : ℕ) → MayCallIn m t (event.SignalWait s c d Stay)
     → MayCallIn m t (event.SignalLeave s c Stay)

@@ -13,7 +13,7 @@ use Rattle.monk_history.specs.Meaning.Choice.{queues_at}
 use Rattle.monk_history.specs.Meaning.Events.{next_of, seat_of, has_signaller_queue, returns_at_once}
 use Rattle.monk_history.specs.Meaning.Legal.{IsLegal}
 use Rattle.monk_history.specs.Meaning.Monitor.{Monitor}
-use Rattle.monk_history.specs.Meaning.Reasons.{IsAllowed, IsAllowedIn, fits_turn, reason_before, reason_in}
+use Rattle.monk_history.specs.Meaning.Reasons.{IsAllowed, IsAllowedIn, fits_turn, reason_in}
 use Rattle.monk_history.specs.Meaning.Release.{MayCallIn, as_called, with_next}
 use Rattle.monk_history.specs.Meaning.Situation.{Situation, situation}
 use Rattle.monk_history.specs.Meaning.Step.{after}
@@ -31,10 +31,10 @@ use Rattle.monk_completion.specs.Told.{is_lapse, told_next, told_release}
 use Rattle.monk_completion.specs.declared.blame.Blame.{Blame}
 use Rattle.monk_completion.specs.declared.pending.Pending.{Pending}
 use Rattle.monk_completion.specs.declared.pending.Pending.TheVariants.{Settled, Half, Release}
-use Rattle.monk_completion.proofs.Calls.{called_queues, due_queue, half_called, named_again}
+use Rattle.monk_completion.proofs.Calls.{called_queues, half_called, named_again}
 use Rattle.monk_completion.proofs.Events.{erasure-push}
 use Rattle.monk_completion.proofs.Lead.{lead, lead-append, lead_all, lead_err, lead_more, lead_none}
-use Rattle.monk_completion.proofs.Tests.{allowed_called, passes, reason_from_allowed, tests_from_called}
+use Rattle.monk_completion.proofs.Tests.{allowed_called, passes, reason_from_allowed}
 use Rattle.monk_completion.proofs.ToldInHistories.{chosen, erased_lines, first_line, later_lines, line_tells}
 
 -- ---- how far the judging of a legal history comes
@@ -69,8 +69,7 @@ settle_ok m t e a =
     (reason_from_allowed m t e a)
 
 hold_ok : (m : Monitor) (t : Situation) (e : Event) (p : Pending) → MayCallIn m t e → hold_over m t e p ≡ Ok (stand t p)
-hold_ok m t e p c =
-    passes (reason_before 0 m t e) (stand t p) (blame_of (reason_before 0 m t e)) (tests_from_called m t e c)
+hold_ok m t e p h = grind arith
 
 one_line : (m : Monitor) (s : Stand) (l : LogLine) (d : Stand) → line_over m s l ≡ Ok d → lead m (Ok s) (l ∷ []) ≡ Ok d
 one_line m s l d h =
@@ -131,14 +130,14 @@ enter_allowed m t s via h = grind arith
 
 resume_line : (m : Monitor) (t : Situation) (s : ℕ) (q : From3) → IsAllowedIn m t (event.Resume s q)
     → line_settled m t (Resume s) ≡ settle m t (event.Resume s q)
-resume_line m t s q a = ap (λ (r : From3). settle m t (event.Resume s r)) (due_queue t.turn s q a.in_turn)
+resume_line m t s q h = grind arith
 
 signal_line : (m : Monitor) (t : Situation) (s c : ℕ) → has_signaller_queue m.kind.mode ≡ true
     → line_settled m t (Signal s c) ≡ release_over m t (event.Signal s c Stay)
 signal_line m t s c h = grind arith
 
 same_seat : (s : ℕ) (r : Result Stand Blame) (why : Blame) → cond (s == s) r (Err why) ≡ r
-same_seat s r why = ap (λ (b : Bool). cond b r (Err why)) (eq-eqb s s refl)
+same_seat s r why = grind arith
 
 -- ---- each event behind events that are known
 
@@ -257,7 +256,7 @@ history_leads m h = history_induction (λ x. IsLegal m x → Leads m (opening_st
 
 -- a log at whose line something is to blame doesn't begin what a legal history tells
 not_both : (r : Result Stand Blame) (why : Blame) (to : Stand) → r ≡ Err why → r ≡ Ok to → ⊥
-not_both r why to h k = cc
+not_both r why to h h2 = grind arith
 
 pub open_judged : (m : Monitor) (log : List LogLine) (why : Blame) → IsOpen m log → lead_all m log ≡ Err why → ⊥
 open_judged m log why o is =

@@ -25,7 +25,7 @@ use Rattle.monk_logs.specs.declared.text.line.LogLine.TheVariants.{Leave, Signal
 use Rattle.monk_completion.specs.declared.pending.Pending.{Pending}
 use Rattle.monk_completion.specs.declared.pending.Pending.TheVariants.{Settled, Half, Release}
 use Rattle.monk_completion.proofs.Halves.{event_whole, never, signal_half}
-use Rattle.monk_completion.proofs.Events.{erased_with_next, erasure-push, handed-push, next_with, no_enter, release_is_no_enter}
+use Rattle.monk_completion.proofs.Events.{erased_with_next, erasure-push, handed-push, no_enter, release_is_no_enter}
 use Rattle.monk_completion.proofs.Soundness.{Tells, release_right}
 
 -- ---- how many events there are
@@ -49,7 +49,7 @@ unwished_again : (k : Rules) (o : Object) (t : Situation) (x : Next) (e : Event)
 unwished_again k o t x e = grind arith
 
 chosen_is : (x y : Next) (e : Event) → next_of e ≡ Some Stay → next_of (with_next x e) ≡ Some y → y ≡ x
-chosen_is x y e h k = let same : Some y ≡ Some x = sym k ∙ next_with x e h in cc
+chosen_is x y e h h2 = grind arith
 
 last_chosen : (m : Monitor) (past before : List Event) (e last : Event) (y : Next) → next_of e ≡ Some Stay
     → past ++ with_next (unwished_next m.kind m.object (situation m past) e) e ∷ [] ≡ before ++ last ∷ []
@@ -85,7 +85,7 @@ release_completes m past e log kind legal may stays told few all =
 
 with_half : (m : Monitor) (log more : List LogLine) → other_half m.kind.mode log ≡ more
     → log ++ more ≡ log ++ other_half m.kind.mode log
-with_half m log more h = ap (λ (x : List LogLine). log ++ x) (sym h)
+with_half m log more h = grind arith
 
 whole : (m : Monitor) (log : List LogLine) → other_half m.kind.mode log ≡ [] → log ≡ log ++ other_half m.kind.mode log
 whole m log h = sym (append-nil log) ∙ with_half m log [] h

@@ -1,5 +1,5 @@
 -- What recorders write down of one event more, and how seats enter
-use Rattle.std.proofs.Common.{arith, ◌≡◌, ℕ, Bool, true, false, not, cond, List, [], ◌∷◌, ◌++◌, Some, None, refl, sym, ap, ◌∙◌}
+use Rattle.std.proofs.Common.{arith, ◌≡◌, ℕ, Bool, false, not, cond, List, [], ◌∷◌, ◌++◌, Some, None, refl, ap, ◌∙◌}
 use Rattle.std.specs.List.{AllByRecursion}
 use Rattle.std.proofs.lemmas.Grind.{flat_map-append}
 use Rattle.std.proofs.lemmas.List.{append-nil}
@@ -22,10 +22,6 @@ erasure-push h e = flat_map-append erasure_of h (e ∷ [])
 pub erased_with_next : (x : Next) (e : Event) → erasure_of (with_next x e) ≡ erasure_of e
 erased_with_next x e = grind arith
 
--- and its choice is that
-pub next_with : (x : Next) (e : Event) → next_of e ≡ Some Stay → next_of (with_next x e) ≡ Some x
-next_with x e h = grind arith
-
 -- ---- who enters behind the first event is handed the monitor
 
 all_push : (P : Event → Type 0) (es : List Event) (e : Event) → AllByRecursion P es → P e
@@ -39,11 +35,10 @@ handed-push [] e all one = tt
 handed-push (x ∷ xs) e all one = all_push IsNoFreeEnter xs e all (one refl)
 
 pub no_enter : (e : Event) → via_of e ≡ None → IsNoFreeEnter e
-no_enter e none free = let wrong : None ≡ Some Free = sym none ∙ free in absurd cc
+no_enter e h k0 = grind arith
 
 pub release_is_no_enter : (x : Next) (e : Event) → next_of e ≡ Some Stay → via_of (with_next x e) ≡ None
 release_is_no_enter x e h = grind arith
 
 pub handed_enter : (s : ℕ) (b : Bool) → b ≡ false → IsNoFreeEnter (event.Enter s (cond (not b) Handed Free))
-handed_enter s true h free = absurd cc
-handed_enter s false h free = absurd cc
+handed_enter s b h k0 = grind arith

@@ -86,16 +86,14 @@ module _ (m : Monitor) (log : List LogLine) where
   not_before k n f g l = f.not_open (open_less k (n - 1) (omega arith) g.open_before)
 
   fits_open : (v : LogVerdict) → IsVerdictOn m log v → v ≡ Fits → IsOpen m log
-  fits_open Fits w is = w
-  fits_open (Misfit n why) w is = absurd cc
+  fits_open v h h2 = grind arith
 
   open_fits : (v : LogVerdict) → IsVerdictOn m log v → IsOpen m log → v ≡ Fits
   open_fits Fits w o = refl
   open_fits (Misfit n why) w o = absurd (w.not_open (open_take n o))
 
   misfit_is : (v : LogVerdict) (n : ℕ) → IsVerdictOn m log v → misfit_at v ≡ Some n → IsMisfit m log n
-  misfit_is Fits n w is = absurd cc
-  misfit_is (Misfit k why) n w is = let same : k ≡ n = cc in subst (IsMisfit m log) same w
+  misfit_is v n h h2 = grind arith
 
   is_misfit : (v : LogVerdict) (n : ℕ) → IsVerdictOn m log v → IsMisfit m log n → misfit_at v ≡ Some n
   is_misfit Fits n w f = absurd (f.not_open (open_take n w))

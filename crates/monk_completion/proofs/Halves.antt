@@ -1,5 +1,5 @@
 -- A log ends with half a signal exactly where one is still to be told
-use Rattle.std.proofs.Common.{arith, ◌≡◌, ℕ, Bool, true, false, cond, List, [], ◌∷◌, ◌++◌, Option, Some, None, refl, ap, ◌∙◌}
+use Rattle.std.proofs.Common.{arith, ◌≡◌, ℕ, Bool, true, cond, List, [], ◌∷◌, ◌++◌, Option, Some, None, refl, ap, ◌∙◌}
 use Rattle.std.specs.List.{last_or}
 use Rattle.monk_kinds.specs.declared.mode.Mode.{Mode}
 use Rattle.monk_history.specs.declared.event.Event.{Event}
@@ -17,12 +17,8 @@ half_after : (k : Mode) (front ls : List LogLine)
     → other_half k (front ++ ls) ≡ cond (returns_at_once k) (leaving (last_or (last_or None front) ls)) []
 half_after k front ls = ap (λ (o : Option LogLine). cond (returns_at_once k) (leaving o) []) (last_append None front ls)
 
-alike : (b : Bool) (xs : List LogLine) → cond b xs xs ≡ xs
-alike true xs = refl
-alike false xs = refl
-
 pub never : (k : Mode) → other_half k [] ≡ []
-never k = alike (returns_at_once k) []
+never k = grind arith
 
 whole_event : (k : Mode) (o : Option LogLine) (e : Event) → is_call_of k e ≡ true
     → cond (returns_at_once k) (leaving (last_or o (erasure_of e))) [] ≡ []

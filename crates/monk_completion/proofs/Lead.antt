@@ -1,5 +1,5 @@
 -- Where lines lead
-use Rattle.std.proofs.Common.{◌≡◌, List, [], ◌∷◌, ◌++◌, refl, ap, ◌∙◌}
+use Rattle.std.proofs.Common.{arith, ◌≡◌, List, [], ◌∷◌, ◌++◌, refl, ap, ◌∙◌}
 use Rattle.std.specs.Prelude.{Result, Ok, Err}
 use Rattle.monk_history.specs.Meaning.Monitor.{Monitor}
 use Rattle.monk_logs.specs.declared.text.line.LogLine.{LogLine}
@@ -18,8 +18,7 @@ lead_all m log = lead m (Ok (opening_stand m)) log
 
 pub lead_none : (m : Monitor) (r : Result Stand Blame) → lead m r [] ≡ r
 unfolding lead
-lead_none m (Err why) = refl
-lead_none m (Ok s) = refl
+lead_none m r = grind arith
 
 pub lead_err : (m : Monitor) (why : Blame) (log : List LogLine) → lead m (Err why) log ≡ Err why
 unfolding lead

@@ -155,8 +155,7 @@ settled_line_tells m past log (Act s op r) d h legal all told =
 
 if_ok : (b : Bool) (r : Result Stand Blame) (why : Blame) (y : Stand) → cond b r (Err why) ≡ Ok y
     → (b ≡ true) × (r ≡ Ok y)
-if_ok true r why y h = (refl, h)
-if_ok false r why y h = absurd cc
+if_ok b r why y h = grind arith
 
 half_line_tells : (m : Monitor) (past : List Event) (s c : ℕ) (l : LogLine) (d : Stand)
     → line_half m (situation m past) s c l ≡ Ok d → IsLegal m past → AreHandedOver past
@@ -253,7 +252,7 @@ tells_nothing m = record {
 }
 
 same_ok : (r : Result Stand Blame) (s d : Stand) → r ≡ Ok s → r ≡ Ok d → s ≡ d
-same_ok r s d h k = cc
+same_ok r s d h h2 = grind arith
 
 -- some events have been told so
 abbrev TellsSome : Monitor → List LogLine → Stand → Type 0

@@ -1,6 +1,5 @@
 -- The tests of an event, read from the reason and back; and which tests a call has passed
-use Rattle.std.proofs.Common.{◌≡◌, ℕ, Bool, true, false, cond, not, Option, None, refl, sym, ap, ◌∙◌, arith}
-use Rattle.std.proofs.lemmas.Bool.{eqb-true}
+use Rattle.std.proofs.Common.{◌≡◌, ℕ, Bool, true, false, cond, not, Option, None, sym, ap, ◌∙◌, arith}
 use Rattle.std.specs.Prelude.{◌==◌, Ok, Err}
 use Rattle.std.specs.Option.{option_map_or}
 use Rattle.monk_object.specs.Runs.{Answered}
@@ -15,15 +14,11 @@ use Rattle.monk_history.specs.Meaning.Situation.{Situation}
 
 -- ---- what was added where a test passed
 
-ok_if : {X E : Type 0} (b : Bool) (x y : X) (why : E) → cond b (Ok x) (Err why) ≡ Ok y → (b ≡ true) × (x ≡ y)
-ok_if true x y why h = (refl, cc)
-ok_if false x y why h = absurd cc
-
 pub passed : {X E : Type 0} (n : ℕ) (x y : X) (why : E) → cond (n == 0) (Ok x) (Err why) ≡ Ok y → (n ≡ 0) × (x ≡ y)
-passed n x y why h = let p = ok_if (n == 0) x y why h in (eqb-true n 0 p.0, p.1)
+passed n x y why h = grind arith
 
 pub passes : {X E : Type 0} (n : ℕ) (x : X) (why : E) → n ≡ 0 → cond (n == 0) (Ok x) (Err why) ≡ Ok x
-passes n x why h = rw h refl
+passes n x why h = grind arith
 
 -- ---- the tests 1 to 4
 
@@ -38,9 +33,6 @@ called_from_tests m t e h =
     let p = four_passed (is_in_range m.seats m.conds m.object.codes m.object.predicates e) (is_offered m.kind e)
     (is_in_turn t e) (is_in_place m.object t e) h in
     record { in_range = p.0; offered = p.1; in_turn = p.2; in_place = p.3 }
-
-pub tests_from_called : (m : Monitor) (t : Situation) (e : Event) → MayCallIn m t e → reason_before 0 m t e ≡ 0
-tests_from_called m t e h = grind arith
 
 -- ---- all six
 

@@ -1,9 +1,8 @@
 -- In a legal history the line of the event behind a release tells what the release chose
-use Rattle.std.proofs.Common.{◌≡◌, ℕ, ◌+◌, ◌≤◌, Bool, true, false, cond, ◌&&◌, ◌||◌, not, List, [], ◌∷◌, ◌++◌, drop, Option, Some, refl, ap}
+use Rattle.std.proofs.Common.{◌≡◌, ℕ, ◌≤◌, Bool, true, false, cond, List, [], ◌∷◌, ◌++◌, drop, Option, Some, refl, ap}
 use Rattle.std.proofs.Common.{subst, ◌∙◌, arith}
-use Rattle.std.proofs.lemmas.Bool.{eq-eqb}
 use Rattle.std.specs.Option.{option_map_or}
-use Rattle.std.specs.Prelude.{◌==◌, is_some}
+use Rattle.std.specs.Prelude.{is_some}
 use Rattle.monk_kinds.specs.declared.mode.Rules.{Rules}
 use Rattle.monk_object.specs.Object.{Object}
 use Rattle.monk_history.specs.declared.event.Event.{Event}
@@ -14,16 +13,16 @@ use Rattle.monk_history.specs.declared.event.Next.{Next}
 use Rattle.monk_history.specs.declared.event.Next.TheVariants as next
 use Rattle.monk_history.specs.declared.event.Turn.TheVariants.{Due}
 use Rattle.monk_history.specs.Meaning.Choice.{Queues, queues_at, is_front, may_choose, may_signal, must_stay}
-use Rattle.monk_history.specs.Meaning.Events.{next_of, seat_of, steps_back, is_signaller, is_stay, is_waiter}
+use Rattle.monk_history.specs.Meaning.Events.{next_of, seat_of, steps_back, is_stay, is_waiter}
 use Rattle.monk_history.specs.Meaning.Legal.{IsLegal}
 use Rattle.monk_history.specs.Meaning.Monitor.{Monitor}
 use Rattle.monk_history.specs.Meaning.Reasons.{fits_turn}
-use Rattle.monk_history.specs.Meaning.Signallers.{is_empty, signals, takes_signaller}
+use Rattle.monk_history.specs.Meaning.Signallers.{takes_signaller}
 use Rattle.monk_history.specs.Meaning.Situation.{Situation, situation}
 use Rattle.monk_history.specs.Meaning.Standing.{has_turn, in_queues, standing, times}
 use Rattle.monk_history.specs.Meaning.Step.{after}
 use Rattle.monk_history.specs.Meaning.Turn.{turn_by}
-use Rattle.monk_history.proofs.PublicLaws.Meaning.{and_left, legal_front, legal_last, legal_placed, legal_situation-push}
+use Rattle.monk_history.proofs.PublicLaws.Meaning.{legal_front, legal_last, legal_placed, legal_situation-push}
 use Rattle.monk_completion.specs.Told.{chosen_from, told_next}
 use Rattle.monk_completion.specs.Erasure.{erasure_of}
 use Rattle.monk_logs.specs.declared.text.line.LogLine.{LogLine}
@@ -76,33 +75,23 @@ permits k o t e n =
     (may_choose k (queues_at o t e) (seat_of e) x))
     n true)
 
-both_ways : (b c d : Bool) → cond b false (cond c d d) ≡ true → d ≡ true
-both_ways b c d h = grind arith
-
 waiter_front : (k : Rules) (o : Object) (t : Situation) (e : Event) (j : ℕ)
     → permits k o t e (Some (next.Waiter j)) ≡ true
     → is_front j (queues_at o t e).waiters ≡ true
-waiter_front k o t e j h =
-    and_left (is_front j (queues_at o t e).waiters) _ (both_ways (must_stay o t e) (is_some (steps_back e)) _ h)
+waiter_front k o t e j h = grind arith
 
 signaller_front : (k : Rules) (o : Object) (t : Situation) (e : Event) (j : ℕ)
     → permits k o t e (Some (next.Signaller j)) ≡ true → is_front j (queues_at o t e).signallers ≡ true
 signaller_front k o t e j h = grind arith
 
-none_counted : (b : Bool) (n : ℕ) → cond b 1 0 + n ≡ 0 → b ≡ false
-none_counted true n h = absurd (omega arith)
-none_counted false n h = refl
-
 no_front : (j : ℕ) (xs : List ℕ) → times j xs ≡ 0 → is_front j xs ≡ false
-no_front j [] h = refl
-no_front j (x ∷ xs) h = none_counted (x == j) (times j xs) h
+no_front j xs h = grind arith
 
 at_most_one : (b : Bool) (n : ℕ) → n ≡ cond b 1 0 → n ≤ 1
-at_most_one true n h = omega arith
-at_most_one false n h = omega arith
+at_most_one b n h = grind arith
 
 turn_counts : (j : ℕ) (from : From3) → has_turn j (Due j from) ≡ 1
-turn_counts j from = ap (λ (b : Bool). cond b 1 0) (eq-eqb j j refl)
+turn_counts j from = grind arith
 
 -- the seat to which the turn is due stands in no queue
 due_is_nowhere : (m : Monitor) (g : List Event) (e : Event) (j : ℕ) (from : From3) → IsLegal m (g ++ e ∷ [])
@@ -118,8 +107,7 @@ due_is_nowhere m g e j from legal is =
 
 no_signaller : (t : Situation) (e : Event) (j : ℕ) → next_of e ≡ Some (next.Until j)
     → takes_signaller t.condition e ≡ false
-no_signaller t e j is =
-    ap (λ (n : Option Next). is_signaller n || (is_stay n && not (is_empty (signals t.condition e)))) is
+no_signaller t e j h = grind arith
 
 pub chosen : (m : Monitor) (g : List Event) (e : Event) (x : Next) → next_of e ≡ Some x → IsLegal m (g ++ e ∷ [])
     → IsChosen (queues_at m.object (situation m g) e) x

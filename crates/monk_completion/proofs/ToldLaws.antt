@@ -1,6 +1,5 @@
 -- Behind a release that is settled with the choice that a line tells, the line leads where it leads by that choice
-use Rattle.std.proofs.Common.{arith, ◌≡◌, ◌∙◌, Bool, true, false, cond, not, List, [], ◌∷◌, ◌++◌, ap, append_assoc}
-use Rattle.std.proofs.lemmas.Result.{IfOk-weaker}
+use Rattle.std.proofs.Common.{arith, ◌≡◌, ◌∙◌, Bool, true, false, not, List, [], ◌∷◌, ◌++◌, ap, append_assoc}
 use Rattle.std.specs.Prelude.{◌==◌, Result, Ok, Err, IfOk, OnOk}
 use Rattle.monk_history.specs.declared.event.Event.{Event}
 use Rattle.monk_history.specs.Meaning.Monitor.{Monitor}
@@ -8,17 +7,12 @@ use Rattle.monk_history.specs.Meaning.Reasons.{reason_in}
 use Rattle.monk_history.specs.Meaning.Situation.{Situation}
 use Rattle.monk_history.specs.Meaning.Step.{after}
 use Rattle.monk_logs.specs.declared.text.line.LogLine.{LogLine}
-use Rattle.monk_completion.specs.Blame.{blame_of}
 use Rattle.monk_completion.specs.Events.{line_events, told_events}
-use Rattle.monk_completion.specs.Stand.{line_settled, line_told, settle, stand_or, stand_settled}
+use Rattle.monk_completion.specs.Stand.{line_settled, line_told, settle, stand_or}
 use Rattle.monk_completion.specs.Told.{is_lapse, told_release}
 use Rattle.monk_completion.specs.declared.blame.Blame.{Blame}
 use Rattle.monk_completion.specs.declared.pending.Pending.{Pending}
 use Rattle.monk_completion.specs.declared.pending.Pending.TheVariants.{Settled, Release}
-
-settled_if : (u v : Situation) (r : Result Pending Blame) (why : Blame) (b : Bool)
-    → stand_or u r ≡ cond b (Ok (stand_settled v)) (Err why) → b ≡ true → (u ≡ v) × (r ≡ Ok Settled)
-settled_if u v r why b h h2 = grind arith
 
 module _ (m : Monitor) (t u : Situation) (e told : Event) (l : LogLine) (r : Result Pending Blame)
     (refused : Bool)
@@ -29,8 +23,7 @@ module _ (m : Monitor) (t u : Situation) (e told : Event) (l : LogLine) (r : Res
     allowed = grind arith
 
     pub there : (u ≡ after m.object t told) × (r ≡ Ok Settled)
-    there =
-        settled_if u (after m.object t told) r (blame_of (reason_in m t told)) (reason_in m t told == 0) settled allowed
+    there = grind arith
 
     pub told_goes : is_lapse l ≡ false → line_settled m u l ≡ line_told m t e l
     told_goes h = grind arith
@@ -51,13 +44,8 @@ module _ (m : Monitor) (t u : Situation) (e told : Event) (l : LogLine) (r : Res
 -- what is the same as something else is the same as what that is
 pub ok_same : {A E X : Type 0} (r : Result A E) (f : A → X) (a b : X) → a ≡ b → IfOk r (λ p. f p ≡ a)
     → IfOk r (λ p. f p ≡ b)
-ok_same r f a b h k = IfOk-weaker r (λ p. f p ≡ a) (λ p. f p ≡ b) (λ p is. is ∙ h) k
-
-on_same : {B C X : Type 0} (p : Result B C) (x a b : X) → a ≡ b → OnOk p (x ≡ a) → OnOk p (x ≡ b)
-on_same (Ok y) x a b h is = is ∙ h
-on_same (Err y) x a b h is = is
+ok_same r f a b h h2 = grind arith
 
 pub ok_on_same : {B C E X : Type 0} (r : Result (Result B C) E) (x a b : X) → a ≡ b → IfOk r (λ p. OnOk p (x ≡ a))
     → IfOk r (λ p. OnOk p (x ≡ b))
-ok_on_same r x a b h k =
-    IfOk-weaker r (λ p. OnOk p (x ≡ a)) (λ p. OnOk p (x ≡ b)) (λ p is. on_same p x a b h is) k
+ok_on_same r x a b h h2 = grind arith

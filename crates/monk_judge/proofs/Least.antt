@@ -1,8 +1,7 @@
 -- No run has fewer wake-ups that nobody sent than the judge's
 use Rattle.std.proofs.Common.{◌≡◌, ℕ, zero, suc, ◌+◌, ◌<◌, ◌≤◌, ◌==◌, ◌&&◌, inl, inr, Bool, true, false, List, [], ◌∷◌, refl, sym, ap, arith, ◌∙◌, if◌then◌else◌}
 use Rattle.std.proofs.lemmas.Bool.{cases_Bool, eq-eqb, eqb-true, false≢true, ne_eqb}
-use Rattle.monk_logs.specs.Log.{line_seat}
-use Rattle.monk_logs.specs.Log.{is_lapse}
+use Rattle.monk_logs.specs.Log.{is_lapse, line_seat}
 use Rattle.monk_logs.specs.declared.text.line.LogLine.{LogLine}
 use Rattle.monk_logs.specs.declared.text.line.LogLine.TheVariants.{Enter, Resume, Lapse, Leave, Wait, Signal, Broadcast, Until, Act}
 use Rattle.monk_judge.specs.declared.place.Place.{Place}

@@ -1,7 +1,6 @@
 -- How waits end, from the lines behind them
 use Rattle.std.specs.Prelude.{◌≡◌, ℕ, zero, suc, ◌+◌, ◌<◌, ◌≤◌, ◌==◌, Bool, true, false, List, [], ◌∷◌, slice_index_or, slice_set, length, drop, if◌then◌else◌}
-use Rattle.monk_logs.specs.Log.{line_seat}
-use Rattle.monk_logs.specs.Log.{is_lapse}
+use Rattle.monk_logs.specs.Log.{is_lapse, line_seat}
 use Rattle.monk_logs.specs.declared.text.line.LogLine.{LogLine}
 use Rattle.monk_logs.specs.declared.text.line.LogLine.TheVariants.{Enter, Resume, Lapse, Leave, Wait, Signal, Broadcast, Until, Act}
 use Rattle.monk_judge.specs.declared.wait_end.WaitEnd.{WaitEnd}

@@ -129,4 +129,5 @@ fn push_wait(steps: &mut Vec<Step>, seat: u8, cond: u8, end: WaitEnd) -> Result<
     if end == WaitEnd::RunsOut {
         steps.push(Step::RunsOut(seat))?;
     }
+    Ok(())
 }

@@ -1,6 +1,7 @@
 use monk_audit::AuditFault;
+use monk_completion::{Blame, Completion, complete};
 use monk_kinds::KindName;
-use monk_logs::{Blame, LogHeader, LogLine, LogLines, LogVerdict, judge, one_log_each, read_log};
+use monk_logs::{LogHeader, LogLine, LogLines, one_log_each, read_log};
 use monk_object::{ObjectName, Op};
 use std::test::Fail;
 
@@ -208,9 +209,9 @@ static JUDGED: [Judged; 16] = [
 fn is_found(rt: &HostRuntime, row: &Judged) -> Result<bool, Fail> {
     let (_, kind, text, misfit) = *row;
     let (header, lines) = read_log(rt.alloc(), text)?;
-    match judge(rt.alloc(), &header, &lines, kind)? {
-        LogVerdict::Misfit { line, blame } => Ok(misfit == Some((line, blame))),
-        LogVerdict::Fits => Ok(misfit.is_none()),
+    match complete(rt.alloc(), &header, &lines, kind)? {
+        Completion::Misfit { line, blame } => Ok(misfit == Some((line, blame))),
+        Completion::History(_) => Ok(misfit.is_none()),
     }
 }
 
@@ -307,9 +308,11 @@ static BLAMED: [(KindName, &[u8], Blame); 16] = [
 /// Whether the last line misfits for that reason.
 fn is_to_blame(rt: &HostRuntime, kind: KindName, text: &[u8], blame: Blame) -> Result<bool, Fail> {
     let (header, lines) = read_log(rt.alloc(), text)?;
-    let line = u32::try_from(lines.len()).unwrap_or(0);
-    let verdict = judge(rt.alloc(), &header, &lines, kind)?;
-    Ok(verdict == LogVerdict::Misfit { line, blame })
+    let last = u32::try_from(lines.len()).unwrap_or(0);
+    match complete(rt.alloc(), &header, &lines, kind)? {
+        Completion::Misfit { line, blame: found } => Ok(line == last && found == blame),
+        Completion::History(_) => Ok(false),
+    }
 }
 
 #[test]
@@ -344,7 +347,7 @@ fn reasons_are_numbered(rt: HostRuntime) {
 #[test]
 fn too_great_an_object_of_a_log(rt: HostRuntime) -> Result<(), Fail> {
     let (header, lines) = read_log(rt.alloc(), b"log 1 2 1 book 33\n")?;
-    let verdict = judge(rt.alloc(), &header, &[], KindName::Pb);
-    assert!(rt; lines.is_empty() && matches!(verdict, Err(AuditFault::Object)));
+    let found = complete(rt.alloc(), &header, &[], KindName::Pb);
+    assert!(rt; lines.is_empty() && matches!(found, Err(AuditFault::Object)));
     Ok(())
 }

@@ -23,10 +23,8 @@ fn each_call(rt: HostRuntime) -> Result<(), Fail> {
     assert!(rt; texts::are_read(&rt)?);
     assert!(rt; plays::are_read(&rt)?);
     assert!(rt; logs::log(&rt)?);
-    assert!(rt; logs::is_expired(&rt)?);
-    assert!(rt; logs::is_sent_inside(&rt)?);
     assert!(rt; logs::are_judged(&rt)?);
-    assert!(rt; logs::are_counted(&rt)?);
+    assert!(rt; logs::are_completed(&rt)?);
     assert!(rt; audits::are_audited(&rt)?);
     Ok(())
 }

@@ -1,10 +1,9 @@
 use super::begins;
+use monk_completion::{Completion, complete};
+use monk_judge::{WaitsFor, judge_log, run_of_log};
 use monk_kinds::KindName;
-use monk_logs::{
-    Completion, Counts, Fit, Lapses, LogHeader, LogLine, LogVerdict, Order, WaitsFor, complete,
-    count, expire_at_once, fit, judge, judge_in, read_log, send_inside,
-};
-use monk_object::ObjectName;
+use monk_logs::{LogHeader, LogLine, read_log};
+use monk_object::{Buffer, ObjectName};
 use std::test::Fail;
 
 /// Seventeen lines, so that the list of them grows several times.
@@ -16,26 +15,6 @@ pub(super) fn log(rt: &HostRuntime) -> Result<bool, Fail> {
     let (header, lines) = read_log(rt.alloc(), LONG)?;
     let is_whole = lines.len() == 17 && lines.last() == Some(&LogLine::Enter(0));
     Ok(header.seats() == 2 && is_whole)
-}
-
-/// A wait that runs out does so at once.
-pub(super) fn is_expired(rt: &HostRuntime) -> Result<bool, Fail> {
-    begins(rt, "expired")?;
-    let mut lines = [LogLine::Enter(0), LogLine::Wait(0, 0), LogLine::Lapse(0)];
-    expire_at_once(rt.alloc(), 1, &mut lines)?;
-    Ok(lines.as_slice() == [LogLine::Enter(0), LogLine::Leave(0), LogLine::Enter(0)].as_slice())
-}
-
-/// A signal from outside is sent from inside.
-pub(super) fn is_sent_inside(rt: &HostRuntime) -> Result<bool, Fail> {
-    begins(rt, "sent_inside")?;
-    let lines = [
-        LogLine::Enter(0),
-        LogLine::Wait(0, 0),
-        LogLine::Signal(1, 0),
-    ];
-    let read = send_inside(rt.alloc(), 2, &lines)?;
-    Ok(read.len() == 5 && read.last() == Some(&LogLine::Leave(1)))
 }
 
 /// Two seats wait on two conditions, and a third signals both and goes out.
@@ -60,42 +39,23 @@ fn header() -> Result<LogHeader, Fail> {
     }
 }
 
-/// In order of arrival, where a signal may serve any seat, and in the strictest order in which they fit.
+/// Both who were signalled are counted, and no item is there for those who wait on condition 1.
 pub(super) fn are_judged(rt: &HostRuntime) -> Result<bool, Fail> {
-    let (header, kind) = (header()?, KindName::Npnb);
     begins(rt, "judged")?;
-    let told = judge(rt.alloc(), &header, &LINES, kind)?;
-    begins(rt, "judged_in_any_order")?;
-    let (any, allowed) = (Order::Any, Lapses::Allowed);
-    let served = judge_in(rt.alloc(), &header, &LINES, kind, any, allowed)?;
-    begins(rt, "fitted")?;
-    let found = fit(rt.alloc(), &header, &LINES, kind, Lapses::Told)?;
-    let both_fit = told == LogVerdict::Fits && served == LogVerdict::Fits;
-    Ok(both_fit && found == Fit::In(Order::Fifo))
+    let means = [WaitsFor { cond: 1, pred: 1 }];
+    let buffer = Buffer::make(rt.alloc(), 1)?;
+    let report = judge_log(rt.alloc(), 3, 2, buffer, &LINES, &means)?;
+    begins(rt, "run")?;
+    let buffer = Buffer::make(rt.alloc(), 1)?;
+    let run = run_of_log(rt.alloc(), 3, 2, buffer, &LINES)?;
+    let is_run = run.misfit.is_none() && run.steps.len() == LINES.len();
+    Ok(report.misfit.is_none() && report.tally.served == 2 && report.woken == 1 && is_run)
 }
 
-/// Two were served, one of whom is back; no item is there for those who wait on condition 1.
-const COUNTS: Counts = Counts {
-    served: 2,
-    passed: 0,
-    lapsed: 0,
-    waiting: 0,
-    woken: 1,
-    inside: 1,
-    can_go_on: true,
-    held: None,
-    missed: None,
-    unheard: None,
-};
-
-/// They are counted, and completed to as many events.
-pub(super) fn are_counted(rt: &HostRuntime) -> Result<bool, Fail> {
-    let (header, kind) = (header()?, KindName::Npnb);
-    begins(rt, "counted")?;
-    let means = [WaitsFor { cond: 1, pred: 1 }];
-    let counts = count(rt.alloc(), &header, &LINES, kind, &means)?;
+/// They are completed to as many events.
+pub(super) fn are_completed(rt: &HostRuntime) -> Result<bool, Fail> {
+    let header = header()?;
     begins(rt, "completed")?;
-    let found = complete(rt.alloc(), &header, &LINES, kind)?;
-    let is_completed = matches!(&found, Completion::History(events) if events.len() == 10);
-    Ok(counts == COUNTS && is_completed)
+    let found = complete(rt.alloc(), &header, &LINES, KindName::Npnb)?;
+    Ok(matches!(&found, Completion::History(events) if events.len() == 10))
 }
