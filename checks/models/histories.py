@@ -2,6 +2,18 @@
 from monitor import CODES, KINDS, NEXTS, PREDICATES, REASONS, RELEASES, VERSIONS, Monitor
 
 
+def erased(e):
+    """The lines that a recorder writes of an event."""
+    name, seat, at = e[0], e[1], RELEASES.get(e[0])
+    if name == "signal-leave":
+        return (("signal", seat, e[2]), ("leave", seat))
+    if name == "signal-wait":
+        return (("signal", seat, e[2]), ("wait", seat, e[3]))
+    if name in ("enter", "resume"):
+        return ((name, seat),)
+    return (("broadcast" if name == "signal-all" else name, *e[1:at]),)
+
+
 def any_predicate(chance, name, wrong=0.1):
     """A predicate of the object, of many most often one of the first; seldom one that it hasn't."""
     most = 3 if name == "flags" and chance.random() < 0.8 else PREDICATES[name]

@@ -1,5 +1,6 @@
 """A search over all runs of a mutex with condition variables that tell a log. It branches where a log doesn't tell: whom a signal wakes,
 when a wait runs out, and when a thread wakes though nobody sent a signal. It shares nothing with monk."""
+from functools import lru_cache
 from typing import NamedTuple
 
 from monitor import CODES, Thing
@@ -72,7 +73,13 @@ def after(setting: Setting, x: State, step: Step, whom: int | None = None) -> St
 
 def behind(setting: Setting, runs: dict[State, int], line: Step) -> dict[State, int]:
     """Where runs may be behind the line, each with the fewest that woke unasked, by where they may be before it."""
-    silent, left = dict(runs), list(runs)
+    return found_behind(setting, frozenset(runs.items()), line)
+
+
+@lru_cache(maxsize=1 << 16)
+def found_behind(setting: Setting, runs: frozenset[tuple[State, int]], line: Step) -> dict[State, int]:
+    silent = dict(runs)
+    left = list(silent)
     found: dict[State, int] = {}
     while left:
         x = left.pop()

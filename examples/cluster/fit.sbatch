@@ -1,13 +1,14 @@
 #!/bin/sh
 #SBATCH --job-name=monk-fit
 #SBATCH --output=fit.%a.out
-# Judges the files that a list names, one in each line, under one kind, as an array job of Slurm:
+# Judges the logs that a list names, one in each line, as an array job of Slurm; what stands behind the list are options of `fit`:
 #
-#     sbatch --array=0-15 fit.sbatch NPNB list.txt
+#     sbatch --array=0-15 fit.sbatch list.txt --means 0=1
 #
 # Each task takes its share of the lines: of 16 tasks every sixteenth. What it finds goes to fit.TASK.out, and it ends with 0 only
 # if each of its files fits. MONK names the program; without it `monk` has to be in PATH.
 set -eu
-kind=$1 list=$2
+list=$1
+shift
 awk -v task="$SLURM_ARRAY_TASK_ID" -v tasks="$SLURM_ARRAY_TASK_COUNT" '(NR - 1) % tasks == task % tasks' "$list" |
-    xargs -r -d '\n' "${MONK:-monk}" fit --kind "$kind"
+    xargs -r -d '\n' "${MONK:-monk}" fit "$@"
