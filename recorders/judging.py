@@ -1,87 +1,68 @@
-"""What is said of a log, by monk or by the model of checks; for recorders/check and recorders/hostile."""
+"""What monk says of a log; for recorders/check and recorders/hostile."""
 import os
+import re
 import subprocess
-import sys
 
 TOP = os.path.dirname(os.path.dirname(os.path.abspath(__file__)))
-sys.path[:0] = [os.path.join(TOP, "checks", "models")]
-from logs_board import ORDERS
-from logs_model import counted, fitted, fitted_alone, read
-
-SMALLEST_LOG = "log 1 1 0 buffer 1\n"
+COUNTS = ("served", "passed", "unheard", "crossed")
 
 
 class Said:
-    """What is said of a log: of each kind the strictest order in which it fits, or the reason why it doesn't; and the counts.
-    And what `fit --kind NPNB` says of it."""
+    """What `monk fit` says of a log."""
 
-    def __init__(self, lines, alone):
-        self.alone = alone.split("; ")
-        self.kinds, self.counts, self.missed, self.woke = {}, {}, False, False
-        for words in map(str.split, lines):
-            if words[1:2] == ["fits"]:
-                self.kinds[words[0]] = words[2]
-            elif words[1:2] == ["misfit"]:
-                self.kinds[words[0]] = words[4]
-            elif words[0] == "missed":
-                self.missed = words[1] != "none"
-            else:
-                words = words[words[0] == "left":]
-                self.counts.update(zip(words[::2], map(int, words[1::2])))
+    def __init__(self, line):
+        self.line = line
+        verdict, *parts = line.split("; ")
+        misfit = re.match(r"misfit at (\d+): (\w+)", verdict)
+        self.at, self.word = (int(misfit[1]), misfit[2]) if misfit else (None, "")
+        if not misfit and not verdict.startswith("fits"):
+            raise SystemExit(f"recorders: no answer: {line}")
+        # The end is told behind a verdict that fits.
+        self.ending = "" if misfit else parts[0].split(",")[0]
+        counts = {word: self.number(rf"\b{word} (\d+)") for word in COUNTS}
+        self.counts = counts | {"spurious": self.number(r"(\d+) spurious"), "overtaken": self.number(r"of (\d+) overtaken")}
 
-    def fits(self, kind="NPNB", order="any"):
-        found = self.kinds[kind]
-        return found in ORDERS and ORDERS.index(found) <= ORDERS.index(order)
+    def number(self, pattern):
+        found = re.search(pattern, self.line)
+        return int(found[1]) if found else 0
+
+    def fits(self):
+        return self.at is None
 
     def reason(self):
-        """Why it misfits NPNB, in one word; none if it fits."""
-        return "" if self.fits() else self.kinds["NPNB"]
+        """Why it misfits, in one word; none if it fits."""
+        return self.word
 
-    def reason_alone(self):
-        return "" if self.fits_alone() else self.alone[0].rpartition(" ")[2]
-
-    def fits_alone(self):
-        """Whether it fits NPNB where waits run out at once, and signals may come from outside."""
-        return self.alone[0].startswith("NPNB fits ")
-
-    def misses_alone(self):
-        """Whether a signal is missed so."""
-        return any(it.startswith("missed ") and it != "missed none" for it in self.alone[1:])
+    def misses(self):
+        """The line at which a signal is first missed, or 0."""
+        return self.number(r"; missed at (\d+)")
 
     def end(self):
-        """How it ends, in one word."""
-        return self.alone[-1].partition(" ")[0]
+        """How it ends: free, busy, busy at the end, owed, open or dead; none if it misfits."""
+        return self.ending
 
-    def is_right_alone(self):
-        """Whether it fits so, misses nothing, and ends with nobody inside."""
-        return self.fits_alone() and not self.misses_alone() and self.end() == "free"
-
-    def is_left(self):
-        return self.counts["waiting"] + self.counts["woken"] > 0
+    def is_right(self):
+        """Whether it fits, misses nothing, and ends with nobody inside."""
+        return self.fits() and not self.misses() and self.end() == "free"
 
 
 class Judge:
-    """Judges logs, by monk or by the model."""
+    """Judges logs, by the program that MONK names, else by that of checks/program."""
 
     def __init__(self):
-        built = [os.path.join(TOP, "crates", "monk", "out", *place, "monk") for place in ((), ("unproved",))]
-        programs = [os.environ["MONK"]] if "MONK" in os.environ else built
-        self.monk = next((it for it in programs if os.path.exists(it) and self.reads_logs(it)), None)
+        self.monk = os.environ.get("MONK") or subprocess.check_output([os.path.join(TOP, "checks", "program")], text=True).strip()
 
-    @staticmethod
-    def reads_logs(program):
-        ran = subprocess.run([program, "fit"], input=SMALLEST_LOG, capture_output=True, text=True)
-        return " fits " in ran.stdout
+    def said(self, path, means=()):
+        words = [word for cond, pred in means for word in ("--means", f"{cond}={pred}")]
+        return Said(self.asked("fit", *words, path).stdout.strip().removeprefix(f"{path}: "))
 
-    def said(self, path, kinds, means, lapses=False):
-        if self.monk:
-            words = [word for cond, pred in means for word in ("--means", f"{cond}={pred}")] + ["--lapses"] * lapses
-            said, alone = (self.asked(*more, *words, path) for more in ((), ("--kind", "NPNB")))
-            return Said(said.splitlines(), alone.strip().removeprefix(f"{path}: "))
-        with open(path, encoding="latin-1", newline="") as file:
-            header, lines = read(file.read())
-        said = fitted(header, lines, lapses, kinds)[0] + counted(header, lines, means)
-        return Said(said, fitted_alone(header, lines, "NPNB", lapses, means)[0])
+    def explained(self, path, means=()):
+        words = [word for cond, pred in means for word in ("--means", f"{cond}={pred}")]
+        return self.asked("explain", *words, path).stdout.splitlines()
+
+    def completes(self, kind, path):
+        """Whether it could be of a monitor of that kind, in order of arrival."""
+        return self.asked("complete", "--kind", kind, path).returncode == 0
 
     def asked(self, *words):
-        return subprocess.run([self.monk, "fit", *words], capture_output=True, text=True).stdout
+        return subprocess.run([self.monk, *words], capture_output=True, text=True)

@@ -18,6 +18,8 @@ CALLS = {
     "go": {"enter": "monitor.Lock", "leave": "monitor.Unlock", "wait": "cond.Wait", "signal": "cond.Signal", "act": "monitor.Act"},
     "rust": {"enter": "buffer.enter", "wait": "inside.wait", "signal": "notify_one", "act": "inside.act"},
 }
+# A line of a log as `monk explain` names it: its number, its words and its place.
+NAMED = re.compile(r"line (\d+): (.*?)(?: \((\S+:\d+)\))?: ")
 SOURCES = {"c": "buffer.c", "c++": "buffer.cc", "python": "buffer.py", "java": "Buffer.java", "go": "buffer.go", "rust": "buffer.rs"}
 
 
@@ -57,6 +59,19 @@ def misplaced(language: str, path: str) -> str:
         if call and (name != source or not re.search(call, texts.get(int(number), ""))):
             return f"{path}: {line}: {place}"
     return ""
+
+
+def misexplained(path: str, explained: list[str]) -> str:
+    """The first line that an explanation names with other words, or with another place than the file beside the log has; or nothing.
+    If it tells what is wrong it has to name one."""
+    lines, places = lines_of(path), places_of(path)
+    named = [found.groups() for found in map(NAMED.match, explained) if found]
+    for number, words, place in named:
+        at = int(number) - 2
+        if (words, place or "") != (lines[at], places[at]):
+            return f"{path}: explain names {number}: {words}: {place}, and not {lines[at]}: {places[at]}"
+    is_bad = explained[0].startswith("misfit ") or "; missed at " in explained[0]
+    return "" if named or not is_bad else f"{path}: explain names no line: {explained}"
 
 
 def first_misplaced(language: str, paths: list[str]) -> str:
