@@ -1,6 +1,6 @@
 //! The picture of a log: of a run that tells it, up to the line that misfits.
 
-ghost use Rattle.std.specs.Prelude.{◌≡◌, ◌≤◌, ◌^◌, IfOk, IsErrOf, length, map, string_bytes};
+ghost use Rattle.std.specs.Prelude.{◌≡◌, ◌≤◌, ◌^◌, ◌++◌, IfOk, IsErrOf, OnOk, length, map, string_bytes};
 ghost use Rattle.std.specs.List.{flat_map};
 ghost use Rattle.monk_commands.specs.LogDrawn as drawn;
 
@@ -54,15 +54,26 @@ fn drawn_events(alloc: Global, lines: &[LogLine]) -> Result<Vec<Event>, AllocErr
     Ok(events)
 }
 
+/// Puts whom the step wakes behind those that are there, if it tells a line.
+fn put_wakes(served: &mut Vec<Option<u8>>, step: Step) -> Result<(), AllocError>
+    ensures { OnOk result (served.new.items ≡ served.old.items ++ drawn.wakes_of step) }
+{
+    match step {
+        Step::Tells(_, woken) => {
+            served.push(woken)?;
+            Ok(())
+        }
+        Step::RunsOut(_) | Step::WakesUnasked(_) => Ok(()),
+    }
+}
+
 /// Whom each line of the run wakes.
 fn drawn_served(alloc: Global, steps: &[Step]) -> Result<Vec<Option<u8>>, AllocError>
     ensures { IfOk result (λ served. served.items ≡ flat_map drawn.wakes_of steps.now) }
 {
     let mut served = Vec::with_capacity(alloc, steps.len())?;
     for step in steps {
-        if let Step::Tells(_, woken) = *step {
-            served.push(woken)?;
-        }
+        put_wakes(&mut served, *step)?;
     }
     Ok(served)
 }
