@@ -1,7 +1,7 @@
 //! Threads that were overtaken on their way back.
 
 ghost use Rattle.std.specs.Prelude.{◌≡◌, ◌<◌, ◌^◌, true, false, None, ℕ, length, slice_index_or};
-ghost use Rattle.monk_logs.specs.Expiry.{line_seat};
+ghost use Rattle.monk_logs.specs.Log.{line_seat};
 ghost use Rattle.monk_judge.specs.Hints.{ComesBack, AnswersOwn, marked, passed_of, unmarked, without};
 ghost use Rattle.monk_judge.specs.Holding.{takes_lock};
 ghost use Rattle.monk_judge.specs.declared.place.Place.TheVariants.{Outside};
