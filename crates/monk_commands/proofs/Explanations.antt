@@ -24,6 +24,7 @@ use Rattle.monk_commands.specs.Explained.{BeginsAsAudit, IsExplainAnswer, IsExpl
 use Rattle.monk_commands.specs.Explained.{IsHistoryExplained, explain_reading, explain_under, told_answer}
 use Rattle.monk_commands.specs.Legal.{IsForbiddenText, IsLegalText}
 use Rattle.monk_commands.specs.LogAnswered.{is_log_text}
+use Rattle.monk_commands.specs.Streams.{HasAnswered}
 use Rattle.monk_commands.specs.declared.question.Question.{Question}
 use Rattle.monk_commands.proofs.Exact.{one_exactly, zero_exactly}
 
@@ -93,6 +94,19 @@ pub refused_under : (k : KindName) (bytes : List ℕ) (f : ReadFault) (status : 
 refused_under k bytes f status Puts read same put =
     subst (λ (r : Result History ReadFault). (status ≡ (explain_under k r).status) × Puts (explain_under k r).text)
     (sym read) (same, put)
+
+-- a text that is an answer to what was read, and was put, is one to what is known to have been there
+pub put_known : (Is : List ℕ → ℕ → List ℕ → Type 0) (known before after : Option (List ℕ)) (bytes : List ℕ)
+    (given status : ℕ) (text : List ℕ)
+    → IfSome known (λ input. bytes ≡ input) → Is bytes given text → status ≡ given → Appends before after text
+    → HasAnswered Is known before after status
+put_known Is None before after bytes given status text same answer is put = tt
+put_known Is (Some input) before after bytes given status text same answer is put =
+    subst (λ (x : List ℕ). HasAnswered Is (Some x) before after status) same (record {
+      text = text;
+      is = subst (λ (s : ℕ). Is bytes s text) (sym is) answer;
+      puts = put;
+    })
 
 pub begins_known : (q : Question) (known before after : Option (List ℕ)) (bytes : List ℕ) (given status : ℕ)
     (text : List ℕ)

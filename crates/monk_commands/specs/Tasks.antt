@@ -7,7 +7,7 @@ use Rattle.monk_commands.specs.FitAnswered.{IsFitAnswer}
 use Rattle.monk_commands.specs.Given.{IsGiven}
 use Rattle.monk_commands.specs.Played.{IsAnswerTo}
 use Rattle.monk_commands.specs.RunText.{IsRunAnswer}
-use Rattle.monk_commands.specs.Shown.{IsShowingOf}
+use Rattle.monk_commands.specs.Shown.{IsShowAnswer}
 use Rattle.monk_commands.specs.Streams.{IsPut}
 use Rattle.monk_commands.specs.Upgraded.{upgrade_of}
 use Rattle.monk_commands.specs.declared.report.Report.TheVariants as report
@@ -24,7 +24,7 @@ IsTaskAnswer Upgrade input status Puts = IsGiven (upgrade_of input) status Puts
 IsTaskAnswer (Fit form q) input status Puts = IsPut (IsFitAnswer form q input) status Puts
 IsTaskAnswer Trace input status Puts = IsAnswerTo report.Trace input status Puts
 IsTaskAnswer (Explain q) input status Puts = IsPut (IsExplainAnswer q input) status Puts
-IsTaskAnswer (Draw window) input status Puts = IsShowingOf show.Picture window input status Puts
-IsTaskAnswer (Page window) input status Puts = IsShowingOf show.Page window input status Puts
+IsTaskAnswer (Draw window) input status Puts = IsPut (IsShowAnswer show.Picture window input) status Puts
+IsTaskAnswer (Page window) input status Puts = IsPut (IsShowAnswer show.Page window input) status Puts
 IsTaskAnswer (Complete (Some kind)) input status Puts = IsAnswerToLog kind input status Puts
 IsTaskAnswer (Complete None) input status Puts = IsPut (IsRunAnswer input) status Puts
