@@ -1,4 +1,4 @@
-use Rattle.std.proofs.Common.{List, ℕ, rules, sym, subst}
+use Rattle.std.proofs.Common.{List, rules, subst}
 use Rattle.std.specs.Prelude.{string_bytes}
 use Rattle.std.proofs.lemmas.Result.{IfOk-weaker}
 use Rattle.monk_logs.specs.declared.text.line.LogLine.{LogLine}
