@@ -12,7 +12,7 @@ returns-clause-answer c =
         run = c.in_ok-run.run';
         is = c.in_ok-run.ensures;
         drawn = subst (λ (lines : List LogLine). IsRunDrawn c.args.window c.args.header.now c.in_ok-run.run' lines
-        a.status (string_bytes a.text)) c.drawn_lines-drawn.ensures is;
+            a.status (string_bytes a.text)) c.drawn_lines-drawn.ensures is;
       };
       too_big = λ big. absurd (search rules);
     }) c.picture_if_there.ensures.answer
