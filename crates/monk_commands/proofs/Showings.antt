@@ -15,7 +15,7 @@ use Rattle.monk_draw.specs.Window.{is_behind}
 use Rattle.monk_draw.specs.declared.window.Window.{Window}
 use Rattle.monk_commands.specs.Answer.{audit_answer, reading_answer, too_big, unreadable, verdict_answer}
 use Rattle.monk_commands.specs.Shown.{HasAuditStatus, IsShowAnswer, IsShowingOf, IsShown, IsAnsweredBy, IsShownOrRefused}
-use Rattle.monk_commands.specs.Shown.{is_drawn_log}
+use Rattle.monk_commands.specs.LogAnswered.{is_log_text}
 use Rattle.monk_commands.specs.declared.show.Show.{Show}
 
 -- an answer by the verdict of the audit
@@ -80,9 +80,9 @@ of_reading s w (Err f) status Puts a = inl a.0
 pub status_known : (s : Show) (w : Option Window) (known : Option (List ℕ)) (bytes : List ℕ) (given status : ℕ)
     (text : List ℕ)
     → IfSome known (λ input. bytes ≡ input) → IsShowAnswer s w bytes given text → status ≡ given
-    → IfSome known (λ input. is_drawn_log s input ≡ false → HasAuditStatus w input status)
+    → IfSome known (λ input. is_log_text input ≡ false → HasAuditStatus w input status)
 status_known s w None bytes given status text same answer is = tt
 status_known s w (Some input) bytes given status text same answer is =
-    subst (λ (x : List ℕ). is_drawn_log s x ≡ false → HasAuditStatus w x status) same (λ history.
+    subst (λ (x : List ℕ). is_log_text x ≡ false → HasAuditStatus w x status) same (λ history.
     subst (HasAuditStatus w bytes) (sym is)
     (of_reading s w (text_at (2 ^ 25) bytes) given (λ t. text ≡ t) (answer.history history)))

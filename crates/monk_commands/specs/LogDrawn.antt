@@ -1,10 +1,10 @@
--- The picture of a log: of a run that tells it, up to the line that misfits
+-- The picture or the page of a log: of a run that tells it, up to the line that misfits
 use Rattle.std.specs.Prelude.{◌≡◌, ◌^◌, ◌+◌, ◌<◌, ◌≤◌, ℕ, true, false, List, [], ◌∷◌, ◌++◌, length, map, take}
 use Rattle.std.specs.Prelude.{Option, Some, None, Result, Ok, Err, codes}
 use Rattle.std.specs.Fmt.{decimal}
 use Rattle.std.specs.List.{flat_map}
 use Rattle.monk_kinds.specs.declared.name.KindName.TheVariants.{Npnb}
-use Rattle.monk_object.specs.Names.{most}
+use Rattle.monk_object.specs.Names.{meaning_named, most, opening_named}
 use Rattle.monk_history.specs.declared.event.Event.{Event}
 use Rattle.monk_history.specs.declared.event.Event.TheVariants as event
 use Rattle.monk_history.specs.declared.event.From3.TheVariants.{Waiter}
@@ -12,9 +12,10 @@ use Rattle.monk_history.specs.declared.event.Next.TheVariants.{Stay, Entry}
 use Rattle.monk_history.specs.declared.event.Via.TheVariants.{Free}
 use Rattle.monk_history.specs.declared.text.fault.ReadFault.{ReadFault}
 use Rattle.monk_draw.specs.RunPicture.{run_picture}
-use Rattle.monk_draw.specs.Window.{is_behind}
+use Rattle.monk_draw.specs.Window.{is_behind, not_shown, shown_last}
 use Rattle.monk_draw.specs.declared.window.Window.{Window}
 use Rattle.monk_judge.specs.Blame.{blame_word}
+use Rattle.monk_judge.specs.Run.{IsRun, opening, setting}
 use Rattle.monk_judge.specs.declared.misfit.Misfit.{Misfit}
 use Rattle.monk_judge.specs.declared.run.Run.{Run}
 use Rattle.monk_judge.specs.declared.step.Step.{Step}
@@ -27,7 +28,10 @@ use Rattle.monk_commands.specs.Answer.{behind, too_big, unreadable}
 use Rattle.monk_commands.specs.Completed.{completed_heading}
 use Rattle.monk_commands.specs.FitAnswered.{IsOf}
 use Rattle.monk_commands.specs.LogFound.{number}
+use Rattle.monk_page.specs.Log.{log_page_text}
 use Rattle.monk_commands.specs.RunText.{IsRunOfLog}
+use Rattle.monk_commands.specs.declared.show.Show.{Show}
+use Rattle.monk_commands.specs.declared.show.Show.TheVariants.{Picture, Page}
 
 -- ---- the events
 
@@ -78,30 +82,47 @@ run_drawn w h run drawn =
     run_picture (completed_heading Npnb h) (map line_event drawn) (flat_map wakes_of run.steps.items) w
     (forbidden_of run.misfit (length drawn)) (reason_of run.misfit)
 
--- a run of the log is drawn by these lines; or the answer where the lines that are asked for are behind the last
-pub record IsRunDrawn (w : Option Window) (h : LogHeading) (run : Run) (drawn : List LogLine) (status : ℕ)
-    (text : List ℕ) : Type 0 where
-  pub picture : is_behind w (length drawn) ≡ false → (status ≡ status_of run.misfit) × (text ≡ run_drawn w h run drawn)
+-- the page of that run, with a picture
+abbrev pub run_paged : List ℕ → Option Window → LogHeading → Run → List LogLine → List ℕ
+run_paged picture w h run drawn =
+    let last = shown_last w (length drawn) in
+    log_page_text picture h (meaning_named h.object) (opening_named h.object h.size) run drawn (not_shown w last) last
+
+-- what shows it
+abbrev pub run_shown : Show → Option Window → LogHeading → Run → List LogLine → List ℕ
+run_shown Picture w h run drawn = run_drawn w h run drawn
+run_shown Page w h run drawn = run_paged (run_drawn w h run drawn) w h run drawn
+
+-- its steps are a run
+abbrev pub HasRun : LogHeading → Run → Type 0
+HasRun h run =
+    IsRun (setting h.seats h.conds (meaning_named h.object)) (opening (opening_named h.object h.size)) run.steps.items
+
+-- a run of the log is shown by these lines; or the answer where the lines that are asked for are behind the last
+pub record IsRunShown (show : Show) (w : Option Window) (h : LogHeading) (run : Run) (drawn : List LogLine)
+    (status : ℕ) (text : List ℕ) : Type 0 where
+  pub shown : is_behind w (length drawn) ≡ false
+      → (status ≡ status_of run.misfit) × (text ≡ run_shown show w h run drawn)
   pub none : is_behind w (length drawn) ≡ true → IsOf (behind (length drawn)) status text
 
 -- some run of the log is
-pub record IsLogPicture (w : Option Window) (h : LogHeading) (lines : List LogLine) (status : ℕ) (text : List ℕ) :
-    Type 0 where
+pub record IsSomeRunShown (show : Show) (w : Option Window) (h : LogHeading) (lines : List LogLine) (status : ℕ)
+    (text : List ℕ) : Type 0 where
   pub run : Run
   pub is : IsRunOfLog h lines run
-  pub drawn : IsRunDrawn w h run (drawn_lines run.misfit lines) status text
+  pub shown : IsRunShown show w h run (drawn_lines run.misfit lines) status text
 
 -- the answer to a log that was read
-pub record IsLogDrawn (w : Option Window) (h : LogHeading) (lines : List LogLine) (status : ℕ) (text : List ℕ) :
-    Type 0 where
-  pub fits : h.size ≤ most h.object → IsLogPicture w h lines status text
+pub record IsLogShown (show : Show) (w : Option Window) (h : LogHeading) (lines : List LogLine) (status : ℕ)
+    (text : List ℕ) : Type 0 where
+  pub fits : h.size ≤ most h.object → IsSomeRunShown show w h lines status text
   pub too_big : most h.object < h.size → IsOf too_big status text
 
 -- the answer to what was read as a log
-abbrev pub IsLogDrawnReading : Option Window → Result Log ReadFault → ℕ → List ℕ → Type 0
-IsLogDrawnReading w (Ok l) status text = IsLogDrawn w l.0 l.1 status text
-IsLogDrawnReading w (Err f) status text = IsOf (unreadable f) status text
+abbrev pub IsLogShownReading : Show → Option Window → Result Log ReadFault → ℕ → List ℕ → Type 0
+IsLogShownReading show w (Ok l) status text = IsLogShown show w l.0 l.1 status text
+IsLogShownReading show w (Err f) status text = IsOf (unreadable f) status text
 
 -- the answer to the text of a log
-abbrev pub IsLogDrawing : Option Window → List ℕ → ℕ → List ℕ → Type 0
-IsLogDrawing w input status text = IsLogDrawnReading w (log_at (2 ^ 25) input) status text
+abbrev pub IsLogShowing : Show → Option Window → List ℕ → ℕ → List ℕ → Type 0
+IsLogShowing show w input status text = IsLogShownReading show w (log_at (2 ^ 25) input) status text

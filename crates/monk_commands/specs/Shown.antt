@@ -18,7 +18,7 @@ use Rattle.monk_page.specs.Html.{page_text}
 use Rattle.monk_commands.specs.Answer.{answer_of, behind, too_big, unreadable, verdict_answer}
 use Rattle.monk_commands.specs.Given.{IsGiven}
 use Rattle.monk_commands.specs.LogAnswered.{is_log_text}
-use Rattle.monk_commands.specs.LogDrawn.{IsLogDrawing}
+use Rattle.monk_commands.specs.LogDrawn.{IsLogShowing}
 use Rattle.monk_commands.specs.declared.show.Show.{Show}
 use Rattle.monk_commands.specs.declared.show.Show.TheVariants.{Picture, Page}
 
@@ -62,15 +62,10 @@ IsShownOrRefused show w (Err f) status Puts = (status ≡ 2) × Puts (unreadable
 abbrev pub IsShowingOf : Show → Option Window → List ℕ → ℕ → (List ℕ → Type 0) → Type 0
 IsShowingOf show w input status Puts = IsShownOrRefused show w (text_at (2 ^ 25) input) status Puts
 
--- whether it is a log, and is drawn
-abbrev pub is_drawn_log : Show → List ℕ → Bool
-is_drawn_log Picture input = is_log_text input
-is_drawn_log Page input = false
-
 -- the answer to a text
 pub record IsShowAnswer (show : Show) (w : Option Window) (input : List ℕ) (status : ℕ) (text : List ℕ) : Type 0 where
-  pub log : is_drawn_log show input ≡ true → IsLogDrawing w input status text
-  pub history : is_drawn_log show input ≡ false → IsShowingOf show w input status (λ t. text ≡ t)
+  pub log : is_log_text input ≡ true → IsLogShowing show w input status text
+  pub history : is_log_text input ≡ false → IsShowingOf show w input status (λ t. text ≡ t)
 
 -- the status is that of an audit, or where events are asked for 2
 abbrev pub HasAuditStatus : Option Window → List ℕ → ℕ → Type 0

@@ -12,6 +12,7 @@ pub(crate) mod finding_json;
 pub(crate) mod finding_line;
 pub(crate) mod judging;
 pub(crate) mod lines_told;
+pub(crate) mod paging;
 pub(crate) mod places;
 pub(crate) mod refusal;
 pub(crate) mod run_text;

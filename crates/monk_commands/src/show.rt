@@ -1,4 +1,4 @@
-/// What shows a history.
+/// What shows a history, or a run that tells a log.
 #[derive(Clone, Copy, Debug, PartialEq, Eq)]
 pub enum Show {
     /// A picture: an SVG text that stands alone, with a lane for each seat and a column for each
@@ -6,6 +6,8 @@ pub enum Show {
     /// framed, with its reason.
     Picture,
     /// A page: an HTML text that stands alone, with that picture, and for each of its steps the
-    /// event, how the monitor stands, and of a release whom it might have chosen.
+    /// event, how the monitor stands, and of a release whom it might have chosen. Of a log it tells who
+    /// has the lock, who sleeps and who is woken, and how a thread came back that relied on what no
+    /// longer held.
     Page,
 }

@@ -5,14 +5,15 @@ ghost use Rattle.monk_object.specs.Names.{most};
 ghost use Rattle.monk_history.specs.Text.Device.{inner_of, has_failed};
 ghost use Rattle.monk_commands.specs.Answer.{verdict_answer};
 ghost use Rattle.monk_commands.specs.Shown.{HasAuditStatus, IsAnsweredBy, IsShowAnswer, IsShowingOf, IsShown};
-ghost use Rattle.monk_commands.specs.Shown.{IsShownBy, forbidden_step, is_drawn_log, shown_text};
+ghost use Rattle.monk_commands.specs.Shown.{IsShownBy, forbidden_step, shown_text};
+ghost use Rattle.monk_commands.specs.LogAnswered.{is_log_text};
 ghost use Rattle.monk_commands.specs.Streams.{HasAnswered, IsStreamOutcome};
 
 use crate::answer::{LineAnswer, behind, put, too_big, unreadable};
 use crate::fault::StreamFault;
 use crate::input::read_all;
 use crate::logs::answering::is_log;
-use crate::logs::drawing::draw_log;
+use crate::logs::drawing::show_log;
 use crate::show::Show;
 use monk_audit::{AuditFault, Verdict, audit};
 use monk_draw::{Window, draw, is_behind, showable};
@@ -153,16 +154,6 @@ fn show_history_text(
     }
 }
 
-/// Whether it is a log, and is drawn.
-fn is_drawn_log(show: Show, bytes: &[u8]) -> bool
-    ensures { result ≡ is_drawn_log show bytes.now }
-{
-    match show {
-        Show::Picture => is_log(bytes),
-        Show::Page => false,
-    }
-}
-
 /// The answer to a text.
 fn show_text(
     alloc: Global,
@@ -174,8 +165,8 @@ fn show_text(
     ensures status { IfOk result (λ a. a.status ≤ 2) }
     ensures no_file { IsErrOf result StreamFault.File → ⊥ }
 {
-    if is_drawn_log(show, bytes) {
-        draw_log(alloc, window, bytes)
+    if is_log(bytes) {
+        show_log(alloc, show, window, bytes)
     } else {
         show_history_text(alloc, show, bytes, window)
     }
@@ -183,8 +174,8 @@ fn show_text(
 
 /// Reads all of the reader, and writes what shows it.
 ///
-/// Of a log, whose first word is `log`, a picture shows the run that
-/// [`complete_run_stream`](crate::complete_run_stream) writes, with a column for each line of the log up to
+/// Of a log, whose first word is `log`, the run is shown that
+/// [`complete_run_stream`](crate::complete_run_stream) writes. Its picture has a column for each line of the log up to
 /// the one that misfits, which is framed, with the word for what is wrong and its number in the file. The
 /// status is 1 if the log misfits, else 0.
 ///
@@ -218,14 +209,14 @@ pub fn show_stream<R: Read, W: Write>(
     requires writer_works { has_failed writer.old ≡ false }
 
     // What is written, and its status, are the answer to what the reader had: of a history its
-    // picture or its page, byte for byte; of a log the picture of a run.
+    // picture or its page, byte for byte; of a log those of a run that tells it.
     ensures answer { IfOk result
         (HasAnswered (IsShowAnswer show window) (R.remaining (inner_of reader.old)) (W.contents (inner_of writer.old))
         (W.contents (inner_of writer.new))) }
     // Of a history the status is that of an audit, unless events are asked for that can't be shown.
     ensures status { IfOk result
         (λ status. IfSome (R.remaining (inner_of reader.old))
-        (λ input. is_drawn_log show input ≡ false → HasAuditStatus window input status)) }
+        (λ input. is_log_text input ≡ false → HasAuditStatus window input status)) }
     ensures statuses { IfOk result (λ status. status ≤ 2) }
     ensures outcome { IsStreamOutcome R.remaining reader.old reader.new writer.old writer.new result }
 {

@@ -40,7 +40,7 @@ pub enum Task<'a> {
     Explain(Question<'a>),
     /// The picture of a history or of a log, by [`show_stream`]: of the events that are asked for.
     Draw(Option<Window>),
-    /// The page of a history, by [`show_stream`]: of the events that are asked for.
+    /// The page of a history or of a log, by [`show_stream`]: of the events that are asked for.
     Page(Option<Window>),
     /// A legal history of a monitor of the kind that tells a log, by [`complete_stream`]; with no kind, a run
     /// of a mutex with condition variables, by [`complete_run_stream`].

@@ -2,6 +2,7 @@ pub mod LinesAhead
 pub mod Sound
 pub mod Complete
 pub mod Shows
+pub mod Following
 pub mod Covers
 pub mod Counting
 pub mod Least
@@ -22,3 +23,4 @@ pub mod Reaching
 pub mod Tallies
 pub mod Taking
 pub mod Naming
+pub mod PublicLaws

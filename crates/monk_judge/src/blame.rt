@@ -1,7 +1,7 @@
 //! Why a line can't stand where it does.
 
 ghost use Rattle.std.specs.Prelude.{◌≡◌};
-ghost use Rattle.monk_judge.specs.Blame.{blame_word};
+ghost use Rattle.monk_judge.specs.Blame.{blame_sentence, blame_word};
 
 /// Why no run tells the lines up to this one: the first of these that applies.
 #[derive(Clone, Copy, Debug, PartialEq, Eq)]
@@ -35,6 +35,24 @@ impl Blame {
             Blame::Asleep => "asleep",
             Blame::Awake => "awake",
             Blame::Reply => "reply",
+        }
+    }
+    /// What is wrong, in a sentence without its end: it also says what to look for.
+    pub fn sentence(self) -> &'static str
+        ensures { result.now ≡ blame_sentence self }
+    {
+        match self {
+            Blame::Range => "the header has no such seat, condition or code",
+            Blame::Call => {
+                "until is no call of a mutex with condition variables; `monk complete --kind PIS` judges it"
+            }
+            Blame::Held => "another seat holds the lock; did the recorder give two threads one seat?",
+            Blame::NoLock => {
+                "the seat doesn't hold the lock; does another thread unlock it, or did it wait without the lock?"
+            }
+            Blame::Asleep => "the seat hasn't come back from its wait; do two threads have its seat?",
+            Blame::Awake => "the seat doesn't wait; do two threads have its seat?",
+            Blame::Reply => "the object replies otherwise: the seat relied on what no longer held",
         }
     }
 }

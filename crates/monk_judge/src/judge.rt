@@ -4,11 +4,13 @@ ghost use Rattle.std.specs.Prelude.{◌≡◌, ◌⊎◌, ◌<◌, ◌≤◌, �
 ghost use Rattle.monk_object.specs.Object.{Object};
 ghost use Rattle.monk_logs.specs.declared.text.line.LogLine.TheVariants as lines;
 ghost use Rattle.monk_judge.specs.Counts.{passing, sleepers, sleepers_on, woken_ones};
-ghost use Rattle.monk_judge.specs.Run.{MaySignal, moved, woken};
+ghost use Rattle.monk_judge.specs.Followed.{places_below};
+ghost use Rattle.monk_judge.specs.Run.{MaySignal, moved, opening, setting, woken};
 ghost use Rattle.monk_judge.specs.Shown.{Does, IsEarliest, ResumesNoLater, setting_of, shown, state_of};
 ghost use Rattle.monk_judge.specs.declared.place.Place.TheVariants.{Outside, Active, Waiting};
 ghost use Rattle.monk_judge.specs.declared.wait_end.WaitEnd.{WaitEnd};
 
+mod following;
 mod lacking;
 
 use crate::blame::Blame;
@@ -50,6 +52,8 @@ impl<T: Guarded> Judge<T> {
             × (v.data_now ≡ T.state object)) }
         ensures outside { IfOk result (λ v. (j : ℕ) → slice_index_or v.places j Outside ≡ Outside) }
         ensures ends { IfOk result (λ v. length v.ends ≡ length v.places) }
+        ensures setting { IfOk result (λ v. setting_of v T.meaning ≡ setting seats conds T.meaning) }
+        ensures state { IfOk result (λ v. state_of v ≡ opening (T.state object)) }
     {
         let mut places = Vec::new(alloc);
         let mut ends = Vec::new(alloc);
@@ -71,6 +75,13 @@ impl<T: Guarded> Judge<T> {
         ensures { result ≡ self.now.lock }
     {
         self.lock
+    }
+
+    /// The object, in its state.
+    pub fn object(&self) -> &T
+        ensures { T.state result.now ≡ self.now.data_now }
+    {
+        &self.object
     }
 
     /// How many threads sleep.
@@ -126,8 +137,9 @@ impl<T: Guarded> Judge<T> {
     }
 
     /// Where each seat is.
-    pub(crate) fn places(&self) -> &[Place]
+    pub fn places(&self) -> &[Place]
         ensures places { result.now ≡ self.now.places }
+        ensures shown { result.now ≡ places_below (length self.now.places) (state_of self.now).place }
         ensures few { length result.now < 256 }
     {
         &self.places

@@ -5,6 +5,7 @@
 
 mod ahead;
 mod blame;
+mod cutting;
 mod holder;
 mod judge;
 mod judging;
@@ -23,6 +24,7 @@ mod waits_for;
 
 pub use ahead::look_ahead;
 pub use blame::Blame;
+pub use cutting::cut;
 pub use holder::Holder;
 pub use judge::Judge;
 pub use judging::judge_log;

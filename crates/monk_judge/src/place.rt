@@ -2,8 +2,10 @@
 
 ghost use Rattle.std.specs.Prelude.{◌≡◌, ℕ, slice_index_or};
 ghost use Rattle.monk_judge.specs.Counts.{is_asleep, is_woken, waits_on};
-ghost use Rattle.monk_judge.specs.Run.{woken};
+ghost use Rattle.monk_judge.specs.Run.{run_out, woken, woken_unasked};
 ghost use Rattle.monk_judge.specs.declared.place.Place.TheVariants.{Outside};
+
+use std::fmt;
 
 /// Where a thread is, as the log and the silent steps before it tell.
 #[derive(Clone, Copy, Debug, PartialEq, Eq)]
@@ -45,6 +47,26 @@ impl Place {
         matches!(self, Place::Woken(_))
     }
 
+    /// Where a thread is whose wait runs out.
+    pub(crate) fn run_out(self) -> Place
+        ensures { result ≡ run_out self }
+    {
+        match self {
+            Place::Waiting(on) => Place::RanOut(on),
+            Place::Outside | Place::Active | Place::Woken(_) | Place::RanOut(_) => self,
+        }
+    }
+
+    /// Where a thread is that wakes though nobody sent a signal.
+    pub(crate) fn woken_unasked(self) -> Place
+        ensures { result ≡ woken_unasked self }
+    {
+        match self {
+            Place::Waiting(on) => Place::Woken(on),
+            Place::Outside | Place::Active | Place::Woken(_) | Place::RanOut(_) => self,
+        }
+    }
+
     /// Where a thread is behind a broadcast to the condition.
     fn woken(self, cond: u8) -> Place
         ensures { result ≡ woken cond self }
@@ -56,6 +78,24 @@ impl Place {
             | Place::Waiting(_)
             | Place::Woken(_)
             | Place::RanOut(_) => self,
+        }
+    }
+}
+
+/// As in `waiting 1`.
+impl fmt::Display for Place {
+    ghost use Rattle.std.specs.Prelude.{Some};
+    ghost use Rattle.monk_judge.specs.Text.{place_text};
+
+    ghost output = { λ p. Some (place_text p) };
+
+    fn fmt<W: fmt::Write>(&self, f: &mut fmt::Formatter<W>) -> fmt::Result {
+        match *self {
+            Place::Outside => write!(f, "outside"),
+            Place::Active => write!(f, "active"),
+            Place::Waiting(cond) => write!(f, "waiting {cond}"),
+            Place::Woken(cond) => write!(f, "woken {cond}"),
+            Place::RanOut(cond) => write!(f, "out {cond}"),
         }
     }
 }

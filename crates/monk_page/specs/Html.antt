@@ -10,11 +10,13 @@ use Rattle.monk_tell.specs.Told.{account}
 use Rattle.serde_json.specs.Data.{Data}
 use Rattle.serde_json.specs.Written.{compact_text}
 use Rattle.monk_page.specs.Page.{page_json}
-use Rattle.monk_page.specs.declared.template.end.TheConstants.{END}
 use Rattle.monk_page.specs.declared.template.front.TheConstants.{FRONT}
+use Rattle.monk_page.specs.declared.template.history.TheConstants.{HISTORY}
+use Rattle.monk_page.specs.declared.template.log.TheConstants.{LOG}
 use Rattle.monk_page.specs.declared.template.middle.TheConstants.{MIDDLE}
+use Rattle.monk_page.specs.declared.template.shared.TheConstants.{SHARED}
 
--- what stands before the picture: no proof looks at what it is, and so with the other two
+-- what stands before the picture: no proof looks at what it is, and so with the others
 unfoldable pub front : List ℕ
 front = FRONT.now
 
@@ -22,9 +24,17 @@ front = FRONT.now
 unfoldable pub middle : List ℕ
 middle = MIDDLE.now
 
--- what stands behind the data
-unfoldable pub finish : List ℕ
-finish = END.now
+-- what stands behind the data, whatever the page is of
+unfoldable pub shared : List ℕ
+shared = SHARED.now
+
+-- the rest of the page of a history
+unfoldable pub history_end : List ℕ
+history_end = HISTORY.now
+
+-- the rest of the page of a log
+unfoldable pub log_end : List ℕ
+log_end = LOG.now
 
 -- the step that is forbidden, if one is
 abbrev pub forbidden_step : Heading → List Event → Option ℕ
@@ -36,12 +46,12 @@ window_json h es w =
     let last = last_of w (forbidden_step h es) es in
     page_json h es (not_shown w last) last
 
--- a picture and data as a page
-abbrev pub page_around : List ℕ → List ℕ → List ℕ
-page_around drawn data_text = front ++ (drawn ++ (middle ++ (data_text ++ finish)))
+-- a picture and data as a page with that end
+abbrev pub page_around : List ℕ → List ℕ → List ℕ → List ℕ
+page_around drawn data_text end = front ++ (drawn ++ (middle ++ (data_text ++ (shared ++ end))))
 
 -- the page of those events; the picture says why one is forbidden, by the verdict on them
 abbrev pub page_text : Heading → List Event → Option Window → List ℕ
 page_text h es w =
     page_around (picture h es w (forbidden_step h es) (caption_by (account h es).verdict))
-    (compact_text (window_json h es w))
+    (compact_text (window_json h es w)) history_end

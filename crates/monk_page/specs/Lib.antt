@@ -3,5 +3,6 @@ pub mod Choice
 pub mod Html
 pub mod Json
 pub mod Kinds
+pub mod Log
 pub mod Page
 pub mod Step

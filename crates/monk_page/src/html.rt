@@ -5,51 +5,15 @@ ghost use Rattle.monk_object.specs.Names.{most};
 ghost use Rattle.monk_tell.specs.Told.{account, telling_of};
 ghost use Rattle.serde_json.specs.Read.{read};
 ghost use Rattle.serde_json.specs.Written.{compact_text};
-ghost use Rattle.monk_page.specs.Html.{finish, front, middle, page_around, page_text, window_json};
+ghost use Rattle.monk_page.specs.Html.{page_text, window_json};
 
 use crate::page_data::data_text;
-use crate::template::end::END;
-use crate::template::front::FRONT;
-use crate::template::middle::MIDDLE;
+use crate::shell::{history_end, page_around};
 use monk_audit::AuditFault;
 use monk_draw::{Span, Window, draw, showable};
 use monk_history::{Event, Header};
 use monk_tell::{Telling, tell};
-use std::alloc::{AllocError, Global};
-
-#[tactic(auto, unfolding(crate::specs::Html::front))]
-fn front() -> &'static str
-    ensures { result.now ≡ front }
-{
-    FRONT
-}
-
-#[tactic(auto, unfolding(crate::specs::Html::middle))]
-fn middle() -> &'static str
-    ensures { result.now ≡ middle }
-{
-    MIDDLE
-}
-
-#[tactic(auto, unfolding(crate::specs::Html::finish))]
-fn finish() -> &'static str
-    ensures { result.now ≡ finish }
-{
-    END
-}
-
-/// A picture and data as a page.
-fn page_around(alloc: Global, picture: &str, json: &str) -> Result<String, AllocError>
-    ensures { IfOk result (λ page. string_bytes page ≡ page_around picture.now json.now) }
-{
-    let mut page = String::new(alloc);
-    page.push_str(front())?;
-    page.push_str(picture)?;
-    page.push_str(middle())?;
-    page.push_str(json)?;
-    page.push_str(finish())?;
-    Ok(page)
-}
+use std::alloc::Global;
 
 /// The step that is forbidden, if one is.
 fn forbidden_step(telling: &Telling) -> Option<u32>
@@ -82,7 +46,12 @@ fn page_told(
     let data = data_text(alloc, header, events, telling, span)?;
     let reason = telling.verdict.caption();
     let picture = draw(alloc, header, events, window, forbidden, reason)?;
-    Ok(page_around(alloc, picture.as_str(), data.as_str())?)
+    Ok(page_around(
+        alloc,
+        picture.as_str(),
+        data.as_str(),
+        history_end(),
+    )?)
 }
 
 /// The page of a history, as one HTML text: a picture, and the data of each step that is shown, which its script reads.

@@ -9,9 +9,13 @@ mod in_json;
 mod kinds;
 pub mod laws;
 mod lists;
+mod log;
+mod log_data;
 mod page_data;
 mod queues;
+mod shell;
 mod step;
 mod template;
 
 pub use html::page;
+pub use log::log_page;

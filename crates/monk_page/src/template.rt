@@ -1,5 +1,7 @@
 //! The constant parts of a page, which template/make makes of page.html, style/ and script/.
 
-pub mod end;
 pub mod front;
+pub mod history;
+pub mod log;
 pub mod middle;
+pub mod shared;

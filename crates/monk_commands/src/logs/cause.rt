@@ -31,7 +31,7 @@ fn put_misfit(
     misfit: Misfit,
 ) -> Result<(), AllocError> {
     let trail = trails.of(finding.wrong_seat);
-    told.put(page, misfit.line, sentence(misfit.why))?;
+    told.put(page, misfit.line, misfit.why.sentence())?;
     match misfit.why {
         Blame::Reply => put_reliance(page, told, finding.wrong_seat, trail),
         Blame::Held => put_holder(page, told, finding),
@@ -50,23 +50,6 @@ fn put_misfit(
             )
         }
         Blame::Range | Blame::Call => Ok(()),
-    }
-}
-
-/// What is wrong with the line.
-fn sentence(why: Blame) -> &'static str {
-    match why {
-        Blame::Range => "the header has no such seat, condition or code",
-        Blame::Call => {
-            "until is no call of a mutex with condition variables; `monk complete --kind PIS` judges it"
-        }
-        Blame::Held => "another seat holds the lock; did the recorder give two threads one seat?",
-        Blame::NoLock => {
-            "the seat doesn't hold the lock; does another thread unlock it, or did it wait without the lock?"
-        }
-        Blame::Asleep => "the seat hasn't come back from its wait; do two threads have its seat?",
-        Blame::Awake => "the seat doesn't wait; do two threads have its seat?",
-        Blame::Reply => "the object replies otherwise: the seat relied on what no longer held",
     }
 }
 

@@ -1,14 +1,17 @@
-//! The picture of a log: of a run that tells it, up to the line that misfits.
+//! The picture or the page of a log: of a run that tells it, up to the line that misfits.
 
 ghost use Rattle.std.specs.Prelude.{◌≡◌, ◌≤◌, ◌^◌, ◌++◌, IfOk, IsErrOf, OnOk, length, map, string_bytes};
 ghost use Rattle.std.specs.List.{flat_map};
+ghost use Rattle.monk_object.specs.Names.{most};
 ghost use Rattle.monk_commands.specs.LogDrawn as drawn;
 
 use crate::answer::{LineAnswer, behind, too_big, unreadable};
 use crate::completing::header_of;
 use crate::fault::StreamFault;
 use crate::logs::judging::run;
+use crate::logs::paging::page_around;
 use crate::logs::verdict_words::number;
+use crate::show::Show;
 use monk_draw::{Window, draw_run, is_behind};
 use monk_history::{Event, From3, Next, Via};
 use monk_judge::{Misfit, Run, Step};
@@ -109,17 +112,39 @@ fn picture(
     header: &LogHeader,
     run: &Run,
     lines: &[LogLine],
-) -> Result<LineAnswer, AllocError>
+) -> Result<String, AllocError>
     requires few { length lines.now ≤ 2 ^ 25 }
-    ensures status { IfOk result (λ a. a.status ≡ drawn.status_of run.now.misfit) }
-    ensures text { IfOk result (λ a. string_bytes a.text ≡ drawn.run_drawn window header.now run.now lines.now) }
+    ensures { IfOk result (λ text. string_bytes text ≡ drawn.run_drawn window header.now run.now lines.now) }
 {
     let events = drawn_events(alloc, lines)?;
     let served = drawn_served(alloc, &run.steps)?;
     let header = header_of(KindName::Npnb, header);
     let forbidden = forbidden_step(run.misfit, lines.len());
     let reason = reason(alloc, run.misfit)?;
-    let text = draw_run(alloc, &header, &events, &served, window, forbidden, &reason)?;
+    draw_run(alloc, &header, &events, &served, window, forbidden, &reason)
+}
+
+/// The picture of a run, or the page with it.
+fn shown(
+    alloc: Global,
+    show: Show,
+    window: Option<Window>,
+    header: &LogHeader,
+    run: &Run,
+    lines: &[LogLine],
+) -> Result<LineAnswer, AllocError>
+    requires few { length lines.now ≤ 2 ^ 25 }
+    requires size { header.now.size ≤ most header.now.object }
+    requires run { drawn.HasRun header.now run.now }
+    ensures status { IfOk result (λ a. a.status ≡ drawn.status_of run.now.misfit) }
+    ensures text { IfOk result
+        (λ a. string_bytes a.text ≡ drawn.run_shown show window header.now run.now lines.now) }
+{
+    let picture = picture(alloc, window, header, run, lines)?;
+    let text = match show {
+        Show::Picture => picture,
+        Show::Page => page_around(alloc, picture.as_str(), window, header, run, lines)?,
+    };
     Ok(LineAnswer {
         status: status(run.misfit),
         text,
@@ -136,36 +161,40 @@ fn status(misfit: Option<Misfit>) -> u8
     }
 }
 
-/// The picture of a run by the lines that are drawn, if those that are asked for begin with one of them.
-fn picture_if_there(
+/// The same, if the lines that are asked for begin with one of those that are drawn.
+fn shown_if_there(
     alloc: Global,
+    show: Show,
     window: Option<Window>,
     header: &LogHeader,
     run: &Run,
     lines: &[LogLine],
 ) -> Result<LineAnswer, StreamFault>
     requires few { length lines.now ≤ 2 ^ 25 }
+    requires size { header.now.size ≤ most header.now.object }
+    requires run { drawn.HasRun header.now run.now }
     ensures answer { IfOk result
-        (λ a. drawn.IsRunDrawn window header.now run.now lines.now a.status (string_bytes a.text)) }
+        (λ a. drawn.IsRunShown show window header.now run.now lines.now a.status (string_bytes a.text)) }
     ensures status { IfOk result (λ a. a.status ≤ 2) }
     ensures no_file { IsErrOf result StreamFault.File → ⊥ }
 {
     if is_behind(window, lines.len()) {
         return behind(alloc, lines.len());
     }
-    Ok(picture(alloc, window, header, run, lines)?)
+    Ok(shown(alloc, show, window, header, run, lines)?)
 }
 
 /// The answer to a log that was read.
 fn answer_to_read(
     alloc: Global,
+    show: Show,
     window: Option<Window>,
     header: &LogHeader,
     lines: &[LogLine],
 ) -> Result<LineAnswer, StreamFault>
     requires few { length lines.now ≤ 2 ^ 25 }
     ensures answer { IfOk result
-        (λ a. drawn.IsLogDrawn window header.now lines.now a.status (string_bytes a.text)) }
+        (λ a. drawn.IsLogShown show window header.now lines.now a.status (string_bytes a.text)) }
     ensures status { IfOk result (λ a. a.status ≤ 2) }
     ensures no_file { IsErrOf result StreamFault.File → ⊥ }
 {
@@ -174,22 +203,23 @@ fn answer_to_read(
     }
     let run = run(alloc, header, lines)?;
     let drawn = drawn_lines(run.misfit, lines);
-    picture_if_there(alloc, window, header, &run, drawn)
+    shown_if_there(alloc, show, window, header, &run, drawn)
 }
 
-/// The picture of a log, with one column for each line up to the one that misfits.
-pub(crate) fn draw_log(
+/// The picture of a log, with one column for each line up to the one that misfits, or the page with it.
+pub(crate) fn show_log(
     alloc: Global,
+    show: Show,
     window: Option<Window>,
     bytes: &[u8],
 ) -> Result<LineAnswer, StreamFault>
     ensures answer { IfOk result
-        (λ a. drawn.IsLogDrawing window bytes.now a.status (string_bytes a.text)) }
+        (λ a. drawn.IsLogShowing show window bytes.now a.status (string_bytes a.text)) }
     ensures status { IfOk result (λ a. a.status ≤ 2) }
     ensures no_file { IsErrOf result StreamFault.File → ⊥ }
 {
     match read_log(alloc, bytes) {
-        Ok((header, lines)) => answer_to_read(alloc, window, &header, &lines),
+        Ok((header, lines)) => answer_to_read(alloc, show, window, &header, &lines),
         Err(fault) => unreadable(alloc, fault),
     }
 }

@@ -1,7 +1,8 @@
 // One step is shown; slider, buttons and keys go to others.
 
-let now = first;
+let now;
 let resting;
+let picked = null; // the kind whose verdict is asked for
 
 function showControls() {
   $('slider').value = now;
@@ -9,15 +10,6 @@ function showControls() {
   $('count').textContent = `step ${now} of ${last}`;
   $('back').disabled = $('first').disabled = now === first;
   $('on').disabled = $('last').disabled = now === last;
-}
-
-function showVerdict() {
-  const [word, step, , reasonWord] = H.verdict.split(' ');
-  const isLegal = word === 'legal';
-  const forbidden = `forbidden at step ${step}: ${reasonWord}`;
-  const verdict = isLegal ? `legal, ${plural(H.events, 'event')}` : forbidden;
-  $('verdict').textContent = isHiding() && now < last ? '' : verdict;
-  $('verdict').className = isLegal ? '' : 'bad';
 }
 
 // The address follows where a step is rested on: browsers refuse too many changes in a row.
@@ -50,17 +42,19 @@ function show(step, kind) {
   followAddress();
 }
 
-$('slider').min = first;
-$('slider').max = last;
-$('slider').addEventListener('input', (event) => show(Number(event.target.value)));
-$('first').addEventListener('click', () => show(first));
-$('back').addEventListener('click', () => show(now - 1));
-$('on').addEventListener('click', () => show(now + 1));
-$('last').addEventListener('click', () => show(last));
-$('hide').addEventListener('change', (event) => {
-  document.body.classList.toggle('hiding', event.target.checked);
-  show(now, picked);
-});
+function beginSteps() {
+  $('slider').min = first;
+  $('slider').max = last;
+  $('slider').addEventListener('input', (event) => show(Number(event.target.value)));
+  $('first').addEventListener('click', () => show(first));
+  $('back').addEventListener('click', () => show(now - 1));
+  $('on').addEventListener('click', () => show(now + 1));
+  $('last').addEventListener('click', () => show(last));
+  $('hide').addEventListener('change', (event) => {
+    document.body.classList.toggle('hiding', event.target.checked);
+    show(now, picked);
+  });
+}
 
 // PageUp and PageDown are what a presenter's remote control sends.
 const KEYS = {

@@ -1,33 +1,11 @@
 // All steps as a table: closed on the screen, printed.
 
-function headOf() {
-  const conditions = (R[0].conditions || []).map((_, c) => `c${c}`);
-  const signaller = signallerRank ? ['Signaller'] : [];
-  const queues = automatic ? ['Waits until', 'Ready'] : [...conditions, 'Waiter', ...signaller];
-  return ['Step', 'What happens', 'Active', ...queues, 'Data'];
-}
-
-function turnCell(r) {
-  const [turn, seat] = r.turn.split(' ');
-  if (turn === 'open') return 'open';
-  return turn === 'of' ? seat : `${seat} next`;
-}
-
-function queueCells(r) {
-  if (automatic) {
-    const waits = r.until.map(([s, predicate]) => `${s}: ${PREDICATES[predicate]}`);
-    return [waits.join('; '), r.ready.join(', ')];
-  }
-  const signaller = signallerRank ? [r.signaller] : [];
-  return [...r.conditions, r.waiter, ...signaller].map((queue) => queue.join(', '));
-}
-
 function rowOf(r) {
   const link = make('a', '', String(r.step));
   link.href = `#step=${r.step}`;
-  const happens = say(r) + (r.bad ? ` Forbidden: ${r.why}.` : '');
-  const cells = [link, happens, turnCell(r), ...queueCells(r), dataWords(r.state).join(' ')];
-  const isLong = (i) => i === 1 || i === cells.length - 1 || (automatic && i === 3);
+  const happens = say(r) + (r.bad ? ` ${wrongWords(r)}` : '');
+  const cells = [link, happens, ...placeCells(r), dataWords(r.state).join(' ')];
+  const isLong = (i) => i === 1 || i === cells.length - 1 || isLongCell(i);
   const tds = cells.map((cell, i) => make('td', isLong(i) ? '' : 'short', cell));
   const line = make('tr', r.bad ? 'bad' : '', ...tds);
   line.dataset.step = r.step;

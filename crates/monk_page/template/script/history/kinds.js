@@ -4,7 +4,6 @@ const OF = {
   PB: 'Hoare\u2019s kind',
   NPNB: 'Mesa\u2019s own kind, and that of POSIX, Java and Go',
 };
-let picked = null;
 
 const stepOf = (k) => Number(k.verdict.split(' ')[1]);
 

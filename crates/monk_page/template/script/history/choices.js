@@ -59,7 +59,7 @@ function showChoices(r) {
 function showSay(r) {
   const line = $('say');
   line.replaceChildren(make('span', 'unseen', `Step ${r.step}. `), say(r));
-  if (r.bad) line.append(make('span', 'bad', `Forbidden: ${r.why}.`));
+  if (r.bad) line.append(make('span', 'bad', wrongWords(r)));
   const others = H.kinds.filter((k) => k.kind !== H.kind && k.why && stepOf(k) === r.step);
   if (others.length) {
     const names = listed(others.map((k) => k.kind));

@@ -93,16 +93,18 @@ function nearestStep(event) {
   return x < columns.values().next().value - gap / 2 ? first : nearest[1];
 }
 
-cropPicture();
-addBand();
-const rulers = addRulers();
-fitPicture(rulers);
-collectMarks();
-svg.addEventListener('click', (event) => show(nearestStep(event)));
-addEventListener('resize', () => {
+function beginPicture() {
+  cropPicture();
+  addBand();
+  const rulers = addRulers();
   fitPicture(rulers);
-  show(now);
-});
+  collectMarks();
+  svg.addEventListener('click', (event) => show(nearestStep(event)));
+  addEventListener('resize', () => {
+    fitPicture(rulers);
+    show(now);
+  });
+}
 
 function scrollTo(r, x) {
   const box = $('picture');

@@ -34,3 +34,5 @@ function verdictWords(verdict) {
   const [word, step, , reasonWord] = verdict.split(' ');
   return word === 'legal' ? 'legal' : `step ${step}: ${reasonWord}`;
 }
+
+const wrongWords = (r) => `Forbidden: ${r.why}.`;

@@ -1,0 +1,17 @@
+use Rattle.std.proofs.Common.{◌≡◌, drop}
+use Rattle.monk_judge.specs.Judged.{after_all}
+use Rattle.monk_judge.specs.Run.{IsRun}
+use Rattle.monk_judge.specs.Shown.{setting_of, state_of}
+use Rattle.monk_judge.proofs.judge.Judge.follow_all.Given as goal
+
+-- what is left is a run, and leads where all of it leads
+abbrev pub invariant-loop-step : goal.invariant-loop-step
+invariant-loop-step g l =
+    let o = g.T.Guarded.meaning in
+    let m = setting_of l.initial.self o in
+    let left = drop l.step-index l.steps in
+    record {
+      setting : setting_of l.self o ≡ m;
+      run : IsRun m (state_of l.self) left;
+      leads : after_all m (state_of l.self) left ≡ after_all m (state_of l.initial.self) l.steps;
+    }

@@ -1,0 +1,213 @@
+//! A constant part of a page, which template/make makes.
+
+/// The rest of the page of a history.
+pub(crate) const HISTORY: &str = "\
+// One record for the situation before the first shown step, one for each allowed step, and on\
+e for\n// the forbidden step, which has the situation before it.\n\nconst fault = H.forbidden;\
+\n\nfunction recordOf(step, i) {\n  const chosen = step.choice\n    ? { fronts: step.choice.fr\
+onts.map((front) => front.join(' ')), may: step.choice.may }\n    : {};\n  return { ...step, .\
+..chosen, step: H.before + i };\n}\n\nconst R = H.steps.map(recordOf);\nif (fault) {\n  const \
+before = { ...R[R.length - 1], fronts: undefined, may: undefined };\n  R.push({ ...before, ...\
+recordOf(fault, R.length), bad: true });\n}\nR.forEach((r, i) => {\n  r.words = r.event ? r.ev\
+ent.split(' ') : [];\n  r.was = R[i - 1];\n});\nconst first = H.before;\nconst last = H.before \
++ R.length - 1;\n\n// The word at which the choice of a release begins.\nconst RELEASES = { le\
+ave: 2, wait: 3, signal: 3, 'signal-leave': 3, until: 3, 'signal-wait': 4 };\nconst nextOf = (\
+r) => (r.words[0] in RELEASES ? r.words.slice(RELEASES[r.words[0]]) : null);\nconst automatic \
+= H.mode === 'automatic';\nconst [entryRank, waiterRank, signallerRank] = H.ranks.split(' ').m\
+ap(Number);\n\n// A step in a sentence: what an event does, whom it serves, and why who goes o\
+n.\n\nconst QUEUES = automatic\n  ? [['ready', waiterRank], ['entry', entryRank]]\n  : [\n      \
+['waiters', waiterRank],\n      ...(signallerRank ? [['signallers', signallerRank]] : []),\n      \
+['entry', entryRank],\n    ];\nconst ORDER = QUEUES.slice().sort((a, b) => b[1] - a[1]);\n\nfu\
+nction orderWords() {\n  const groups = [];\n  ORDER.forEach(([name, rank], i) => {\n    if (i \
+&& ORDER[i - 1][1] === rank) groups[groups.length - 1].push(name);\n    else groups.push([name\
+]);\n  });\n  const words = groups.map((g) => (g.length > 1 ? `${listed(g)} level` : g[0]));\n  \
+return words.join(' above ').replace(/ready/, 'the ready');\n}\n\nfunction whoGoesOn(r) {\n  c\
+onst next = nextOf(r);\n  if (next[0] === 'entry') return 'the monitor is open to whoever ente\
+rs next';\n  return `seat ${next[0] === 'stay' ? r.words[1] : next[1]} goes on`;\n}\n\nfunctio\
+n rankOf(next) {\n  if (next === 'entry') return entryRank;\n  return /^[wu]/.test(next) ? wai\
+terRank : signallerRank;\n}\n\n// The kind left a choice: between whom.\nfunction freeChoice(r\
+) {\n  const name = (next) =>\n    next === 'entry' ? 'a caller' : `seat ${next === 'stay' ? r\
+.words[1] : next.split(' ')[1]}`;\n  const order = ['w', 'u', 's', 'e'];\n  const byRank = (x, \
+y) => rankOf(y) - rankOf(x) || order.indexOf(x[0]) - order.indexOf(y[0]);\n  const all = r.may\
+.slice().sort(byRank).map(name);\n  const between = all.length > 2 ? 'among' : 'between';\n  r\
+eturn `${H.kind} leaves the choice ${between} ${listed(all)}: ${whoGoesOn(r)}.`;\n}\n\nfunctio\
+n reason(r) {\n  if (r.may.length > 1) return freeChoice(r);\n  const has = (queue) => r.front\
+s.some((front) => front.startsWith(queue));\n  const over = (a, b) => `${H.kind} puts ${a} abo\
+ve ${b}, so ${whoGoesOn(r)}.`;\n  switch (nextOf(r)[0]) {\n    case 'waiter':\n      return ov\
+er('waiters', has('signaller') ? 'signallers' : 'entry');\n    case 'signaller':\n    case 'st\
+ay':\n      return over('signallers', has('waiter') ? 'waiters' : 'entry');\n    case 'until':\
+\n      return over('the ready', 'entry');\n    default:\n      return `Nobody inside could go \
+on, so ${whoGoesOn(r)}.`;\n  }\n}\n\n// The predicate that a seat waited for, which the record \
+before its release has.\nfunction waitedFor(r, seat) {\n  for (let t = r.was; t; t = t.was) {\n    \
+const found = (t.until || []).find(([j]) => j === Number(seat));\n    if (found) return found[\
+1];\n  }\n  return 0;\n}\n\nconst queueOn = (r, condition) => (r.was.conditions || [])[conditi\
+on] || [];\n\nfunction sayUntil(r) {\n  const [, s, predicate] = r.words;\n  const waits = `Se\
+at ${s} waits until ${PREDICATES[predicate]}`;\n  return nextOf(r)[0] === 'stay'\n    ? `${wai\
+ts}. That holds already, so seat ${s} goes on.`\n    : `${waits}, which isn\\u2019t so. ${reas\
+on(r)}`;\n}\n\nfunction saySignal(r) {\n  const [, s, condition] = r.words;\n  const signals = \
+`Seat ${s} signals condition ${condition}`;\n  const [served] = queueOn(r, condition);\n  if (\
+served === undefined) {\n    return `${signals}. Nobody waits there, so nothing comes of it, a\
+nd seat ${s} goes on.`;\n  }\n  const then = nextOf(r)[0] === 'stay' ? '. ' : `, seat ${s} the \
+signaller queue. `;\n  return `${signals}: seat ${served} is served and joins the waiter queue\
+${then}${reason(r)}`;\n}\n\nfunction saySignalAll(r) {\n  const [, s, condition] = r.words;\n  \
+const served = queueOn(r, condition);\n  const signals = `Seat ${s} signals all who wait on co\
+ndition ${condition}`;\n  if (!served.length) return `${signals}: nobody does. It goes on.`;\n  \
+const [join, order] = served.length > 1 ? ['join', ', in that order'] : ['joins', ''];\n  retu\
+rn `${signals}: ${seatsOf(served)} ${join} the waiter queue${order}. Seat ${s} goes on.`;\n}\n\
+\nfunction servedBy(r, condition, nobody) {\n  const [served] = queueOn(r, condition);\n  retu\
+rn served === undefined ? nobody : `seat ${served} is served and joins the waiter queue. `;\n}\
+\n\nconst SAY = {\n  enter: ([, s, via]) =>\n    via === 'free'\n      ? `Seat ${s} enters, an\
+d finds the monitor free.`\n      : `Seat ${s} enters: it waited for entry, and is handed the \
+monitor.`,\n  act: ([, s], r) => `Seat ${s} ${actWords(r)}.`,\n  resume: ([, s, from], r) =>\n    \
+from === 'until'\n      ? `Seat ${s} resumes, and is active: it waited until ${PREDICATES[wait\
+edFor(r, s)]}.`\n      : `Seat ${s} resumes from the ${from} queue, and is active.`,\n  leave: \
+([, s], r) => `Seat ${s} leaves. ${reason(r)}`,\n  wait: ([, s, condition], r) => `Seat ${s} w\
+aits on condition ${condition}. ${reason(r)}`,\n  until: (_, r) => sayUntil(r),\n  signal: (_, \
+r) => saySignal(r),\n  'signal-all': (_, r) => saySignalAll(r),\n  'signal-leave': ([, s, c], \
+r) =>\n    `Seat ${s} signals condition ${c} and leaves: ` +\n    servedBy(r, c, 'nobody waits \
+there. ') +\n    reason(r),\n  'signal-wait': ([, s, c, own], r) =>\n    `Seat ${s} signals co\
+ndition ${c} and waits on condition ${own}: ` +\n    servedBy(r, c, `nobody waits on ${c}. `) \
++\n    reason(r),\n};\n\nfunction say(r) {\n  if (r.bad) return claim(r);\n  if (r.event) retu\
+rn SAY[r.words[0]](r.words, r);\n  return r.step === 0\n    ? 'Before the first event: the mon\
+itor is open, and nobody is inside.'\n    : `After ${plural(r.step, 'event')}, which this page \
+doesn\\u2019t show.`;\n}\n\n// A forbidden event in a sentence, as it claims to be.\n\nfunctio\
+n claimedAct(r) {\n  const words = `claims that it ${actWords(r)}`;\n  return words.includes('\
+reply') ? words : `${words} (reply ${r.words[4]})`;\n}\n\nconst CLAIMS = {\n  enter: (r) =>\n    \
+r.words[2] === 'free'\n      ? 'enters, as if the monitor were free'\n      : 'enters, as if i\
+t were handed the monitor',\n  act: claimedAct,\n  leave: () => 'leaves',\n  wait: (r) => `wai\
+ts on condition ${r.words[2]}`,\n  signal: (r) => `signals condition ${r.words[2]}`,\n  'signa\
+l-leave': (r) => `signals condition ${r.words[2]} and leaves`,\n  'signal-all': (r) => `signal\
+s all who wait on condition ${r.words[2]}`,\n  'signal-wait': (r) => `signals condition ${r.wo\
+rds[2]} and waits on condition ${r.words[3]}`,\n  until: (r) => `waits until ${PREDICATES[r.wo\
+rds[2]] || `predicate ${r.words[2]} holds`}`,\n  resume: (r) => `goes on, from ${r.words[2]}`,\
+\n};\n\nfunction claim(r) {\n  const next = nextOf(r);\n  const does = `Seat ${r.words[1]} ${C\
+LAIMS[r.words[0]](r)}`;\n  if (!next) return `${does}.`;\n  if (next[0] === 'stay') return `${\
+does}, and stays active.`;\n  if (next[0] === 'entry') return `${does}, and opens the monitor \
+to a caller.`;\n  return `${does}, and hands the monitor to seat ${next[1]}.`;\n}\n\nfunction \
+verdictWords(verdict) {\n  const [word, step, , reasonWord] = verdict.split(' ');\n  return wo\
+rd === 'legal' ? 'legal' : `step ${step}: ${reasonWord}`;\n}\n\nconst wrongWords = (r) => `For\
+bidden: ${r.why}.`;\n\n// Where each seat is after each step.\n\n// The seat that is known to \
+wait for entry, since the next event hands it the monitor.\nfunction atEntry(r) {\n  const aft\
+er = R[r.step - first + 1];\n  const isHanded =\n    after && !after.bad && after.words[0] === \
+'enter' && after.words[2] === 'handed';\n  return isHanded ? Number(after.words[1]) : undefine\
+d;\n}\n\nfunction placesOf(r) {\n  const at = {};\n  for (let s = 0; s < H.seats; s++) at[s] = \
+r.inside.includes(s) ? 'inside' : 'outside';\n  (r.conditions || []).forEach((queue, c) => {\n    \
+queue.forEach((s) => (at[s] = `condition${c}`));\n  });\n  (r.waiter || []).forEach((s) => (at\
+[s] = 'waiter'));\n  (r.signaller || []).forEach((s) => (at[s] = 'signaller'));\n  (r.until || \
+[]).forEach(([s]) => (at[s] = 'until'));\n  const [turn, seat] = r.turn.split(' ');\n  if (tur\
+n === 'of') at[seat] = 'active';\n  if (turn === 'due') at[seat] = 'due';\n  return at;\n}\n\n\
+R.forEach((r) => {\n  r.at = placesOf(r);\n  r.entry = atEntry(r);\n});\n\n// The monitor as b\
+oxes: who is active, the data, each queue, and who is outside.\n\nfunction entryBox(r) {\n  if \
+(r.entry === undefined || isHiding()) {\n    return box('entry', 'Entry', '', make('p', 'quiet\
+', 'nobody known'));\n  }\n  const known = make('p', 'quiet', 'known since it enters next');\n  \
+return box('entry', 'Entry', '', make('div', '', queueOf([r.entry], 'entry'), known));\n}\n\nf\
+unction queueBox(name, r) {\n  switch (name) {\n    case 'waiters':\n      return box('waiter'\
+, 'Waiter queue', '', queueOf(r.waiter, 'waiter'));\n    case 'signallers':\n      return box(\
+'signaller', 'Signaller queue', '', queueOf(r.signaller, 'signaller'));\n    case 'ready':\n      \
+return box('until', 'Ready', '', queueOf(r.ready, 'until'));\n    default:\n      return entry\
+Box(r);\n  }\n}\n\nfunction activeWords(r) {\n  const [turn, seat, from] = r.turn.split(' ');\n  \
+if (turn === 'open') return make('p', 'quiet', 'nobody: open to whoever enters');\n  if (turn \
+=== 'of') return queueOf([Number(seat)], 'active');\n  const queue = from === 'until' ? 'waits\
+-until' : `${from} queue`;\n  const next = make('span', '', `is next, from the ${queue}`);\n  \
+return make('div', 'seats', token(Number(seat), from, 'span'), next);\n}\n\nfunction topRow(r) \
+{\n  const data = dataWords(r.state).map((words) => make('p', '', words));\n  const active = b\
+ox('active half', 'Active', '', activeWords(r));\n  return make('div', 'row', active, box('hal\
+f', 'Data', '', ...data));\n}\n\n// The queues in the kind's order, with `>` or `=` between th\
+em.\nfunction orderRow(r) {\n  const head = make('h2', '', `Who goes on at a release: ${orderW\
+ords()}`);\n  const line = make('div', 'row', head);\n  ORDER.forEach(([name, rank], i) => {\n    \
+if (i) {\n      const sign = make('span', 'rank', ORDER[i - 1][1] === rank ? '=' : '>');\n      \
+sign.setAttribute('aria-hidden', 'true');\n      line.append(sign);\n    }\n    line.append(qu\
+eueBox(name, r));\n  });\n  return line;\n}\n\nfunction untilLine(r, [s, predicate]) {\n  cons\
+t isTrue = r.ready.includes(s);\n  const truth = make('span', `truth ${isTrue ? 'yes' : 'quiet\
+'}`, isTrue ? 'true: ready' : 'false');\n  const words = make('span', '', `until ${PREDICATES[\
+predicate]}`);\n  return make('li', '', token(s, 'until', 'span'), words, truth);\n}\n\nfuncti\
+on waitersRow(r) {\n  if (!automatic) {\n    const boxes = r.conditions.map((queue, c) =>\n      \
+box('condition', `Condition ${c}`, '', queueOf(queue, 'condition')),\n    );\n    return boxes\
+.length ? [make('div', 'row', ...boxes)] : [];\n  }\n  const waits = r.until.map((wait) => unt\
+ilLine(r, wait));\n  const list = waits.length ? make('ol', 'waits', ...waits) : make('p', 'qu\
+iet', 'nobody');\n  return [make('div', 'row', box('until', 'Waits until', 'first wait first', \
+list))];\n}\n\nfunction outsideRow(r) {\n  const out = [];\n  for (let s = 0; s < H.seats; s++\
+) {\n    const isAtEntry = s === r.entry && !isHiding();\n    if (!r.inside.includes(s) && !is\
+AtEntry) out.push(s);\n  }\n  return make('div', 'row', box('outside', 'Outside the monitor', \
+'', queueOf(out, 'outside')));\n}\n\nfunction showBoxes(r) {\n  const parts = [topRow(r), orde\
+rRow(r), ...waitersRow(r)];\n  if (r.bad) {\n    const head = `Before step ${r.step}, which ca\
+n\\u2019t be: the monitor as it stands`;\n    parts.unshift(make('h2', '', head));\n  }\n  con\
+st monitor = make('div', '', ...parts);\n  monitor.id = 'monitor';\n  $('boxes').replaceChildr\
+en(monitor, outsideRow(r));\n  const when = r.bad ? 'before' : 'after';\n  $('boxes').setAttri\
+bute('aria-label', `The monitor ${when} step ${r.step}`);\n}\n\n// The sentence of a step, and \
+who might have gone on.\n\nfunction candidateOf(front, caller) {\n  const [queue, s] = front.s\
+plit(' ');\n  if (queue === 'waiter') return [front, `seat ${s}, from the waiter queue`, waite\
+rRank];\n  if (queue === 'until') return [front, `seat ${s}, whose predicate holds`, waiterRan\
+k];\n  return s === caller\n    ? ['stay', `seat ${s}, by staying active`, signallerRank]\n    \
+: [front, `seat ${s}, from the signaller queue`, signallerRank];\n}\n\n// Who could go on: eac\
+h candidate with its words and its priority, the highest first.\nfunction candidates(r) {\n  c\
+onst caller = r.words[1];\n  const found = r.fronts.map((front) => candidateOf(front, caller))\
+;\n  if (r.may.includes('stay') && !found.some(([next]) => next === 'stay')) {\n    return [['\
+stay', `seat ${caller}, by staying active`, 9]];\n  }\n  found.push(['entry', 'whoever enters \
+next', entryRank]);\n  return found.sort((a, b) => b[2] - a[2]);\n}\n\nfunction takenWords(r, \
+took) {\n  if (took === 'stay') return `seat ${r.words[1]} stays active`;\n  return took === '\
+entry' ? 'whoever enters next' : took;\n}\n\nfunction choiceLine(r, [next, words], took) {\n  \
+const may = r.may.includes(next);\n  const isTaken = next === took;\n  const notTaken = may ? \
+(r.bad ? 'permitted' : 'permitted too') : 'not permitted';\n  const taken = may ? 'taken' : 't\
+aken, forbidden';\n  const filled = may ? '\\u25CF' : '\\u00D7';\n  const hollow = may ? '\\u2\
+5CB' : '\\u2013';\n  const sign = make('span', 'sign', isTaken ? filled : hollow);\n  sign.set\
+Attribute('aria-hidden', 'true');\n  const how = make('span', 'how', isTaken ? taken : notTake\
+n);\n  const cls = (isTaken ? 'took ' : '') + (may ? '' : 'barred');\n  return make('li', cls, \
+sign, make('span', 'who', words), how);\n}\n\nfunction showChoices(r) {\n  const area = $('cho\
+ices');\n  area.replaceChildren();\n  area.hidden = !r.event || (r.bad && !r.may);\n  if (area\
+.hidden) return;\n  if (!r.may) {\n    const words = 'No choice here: this step doesn\\u2019t \
+give the monitor up.';\n    area.append(make('p', 'quiet', words));\n    return;\n  }\n  const \
+took = nextOf(r).join(' ');\n  const all = candidates(r);\n  if (!all.some(([next]) => next ==\
+= took)) all.push([took, takenWords(r, took), 0]);\n  area.append(make('h2', '', `Who may go o\
+n under ${H.kind}`));\n  area.append(make('ul', '', ...all.map((it) => choiceLine(r, it, took)\
+)));\n}\n\nfunction showSay(r) {\n  const line = $('say');\n  line.replaceChildren(make('span'\
+, 'unseen', `Step ${r.step}. `), say(r));\n  if (r.bad) line.append(make('span', 'bad', wrongW\
+ords(r)));\n  const others = H.kinds.filter((k) => k.kind !== H.kind && k.why && stepOf(k) === \
+r.step);\n  if (others.length) {\n    const names = listed(others.map((k) => k.kind));\n    li\
+ne.append(make('span', 'unseen', ` ${names} would forbid this step.`));\n  }\n  $('told').clas\
+sList.toggle('bad', Boolean(r.bad));\n  $('line').textContent = r.event || '';\n}\n\n// The te\
+n kinds: what each says of the same events.\n\nconst OF = {\n  PB: 'Hoare\\u2019s kind',\n  NP\
+NB: 'Mesa\\u2019s own kind, and that of POSIX, Java and Go',\n};\n\nconst stepOf = (k) => Numb\
+er(k.verdict.split(' ')[1]);\n\nconst chips = H.kinds.map((k) => {\n  const isOwn = k.kind === \
+H.kind;\n  const own = 'the kind of this history';\n  const cls = `chip${k.why ? ' no' : ''}${\
+isOwn ? ' own' : ''}`;\n  const words = make('span', 'unseen', isOwn ? `, ${own}` : '');\n  co\
+nst chip = make('button', cls, make('b', '', k.kind), make('span', ''), words);\n  chip.type = \
+'button';\n  if (isOwn) chip.title = own;\n  chip.addEventListener('click', () => {\n    const \
+step = k.why ? stepOf(k) : now;\n    show(step >= first && step <= last ? step : now, k);\n  }\
+);\n  $('chips').append(make('li', '', chip));\n  return chip;\n});\n\nfunction showChip(chip, \
+k, r) {\n  const isPast = Boolean(k.why) && stepOf(k) <= r.step;\n  const isHidden = isHiding(\
+) && !isPast && r.step < last;\n  chip.classList.toggle('past', isPast);\n  chip.classList.tog\
+gle('no', Boolean(k.why) && !isHidden);\n  chip.children[1].textContent = isHidden ? 'so far l\
+egal' : verdictWords(k.verdict);\n}\n\n// The sentence of one kind, said of several.\nfunction \
+ofMany(kind, why) {\n  return why\n    .replace(`${kind} puts`, 'they put')\n    .replace(`${k\
+ind} monitors have`, 'they have')\n    .replace(`${kind} monitors`, 'their monitors');\n}\n\nf\
+unction noteOf(kinds) {\n  const [k] = kinds;\n  const names = make('b', '', listed(kinds.map(\
+(it) => it.kind)));\n  if (!k.why) return make('p', '', names, ` permits all ${plural(H.events\
+, 'event')}.`);\n  const isMany = kinds.length > 1;\n  const why = isMany ? ofMany(k.kind, k.w\
+hy) : k.why;\n  const forbids = isMany ? 'forbid' : 'forbids';\n  return make('p', '', names, \
+` ${forbids} step ${stepOf(k)}: ${why}.`);\n}\n\nfunction showKinds(r, all) {\n  const notes = \
+new Map();\n  H.kinds.forEach((k, i) => {\n    showChip(chips[i], k, r);\n    if ((k.why && (s\
+tepOf(k) === r.step || all)) || picked === k) {\n      const same = k.why ? stepOf(k) + k.why.\
+replaceAll(k.kind, '') : '';\n      notes.set(same, [...(notes.get(same) || []), k]);\n    }\n  \
+});\n  $('notes').replaceChildren(...[...notes.values()].map(noteOf));\n}\n\n// What the table \
+says of a step, besides its sentence and the data.\n\nfunction headOf() {\n  const conditions \
+= (R[0].conditions || []).map((_, c) => `c${c}`);\n  const signaller = signallerRank ? ['Signa\
+ller'] : [];\n  const queues = automatic ? ['Waits until', 'Ready'] : [...conditions, 'Waiter'\
+, ...signaller];\n  return ['Step', 'What happens', 'Active', ...queues, 'Data'];\n}\n\nfuncti\
+on turnCell(r) {\n  const [turn, seat] = r.turn.split(' ');\n  if (turn === 'open') return 'op\
+en';\n  return turn === 'of' ? seat : `${seat} next`;\n}\n\nfunction queueCells(r) {\n  if (au\
+tomatic) {\n    const waits = r.until.map(([s, predicate]) => `${s}: ${PREDICATES[predicate]}`\
+);\n    return [waits.join('; '), r.ready.join(', ')];\n  }\n  const signaller = signallerRank \
+? [r.signaller] : [];\n  return [...r.conditions, r.waiter, ...signaller].map((queue) => queue\
+.join(', '));\n}\n\nconst placeCells = (r) => [turnCell(r), ...queueCells(r)];\nconst isLongCe\
+ll = (i) => automatic && i === 3;\n\n// The head of the page.\n\nfunction showVerdict() {\n  c\
+onst [word, step, , reasonWord] = H.verdict.split(' ');\n  const isLegal = word === 'legal';\n  \
+const forbidden = `forbidden at step ${step}: ${reasonWord}`;\n  const verdict = isLegal ? `le\
+gal, ${plural(H.events, 'event')}` : forbidden;\n  $('verdict').textContent = isHiding() && no\
+w < last ? '' : verdict;\n  $('verdict').className = isLegal ? '' : 'bad';\n}\n\nfunction head\
+Words() {\n  const kind = `${H.kind}, ${H.mode}${OF[H.kind] ? ` (${OF[H.kind]})` : ''}: ${orde\
+rWords()}.`;\n  const conditions = automatic ? '' : `, ${plural(H.conditions, 'condition')}`;\n  \
+const size = `${plural(H.seats, 'seat')}${conditions}, ${objectWords()}.`;\n  const isPart = H\
+.before > 0 || last < H.events;\n  const shownSteps = `The page shows steps ${first + 1} to ${\
+last} of ${H.events}.`;\n  return `${kind} ${size}${isPart && last > first ? ` ${shownSteps}` \
+: ''}`;\n}\n\nbegin(H.kind);\n})();\n</script>\n</body>\n</html>\n";

@@ -1,0 +1,21 @@
+// The head of the page.
+
+function showVerdict() {
+  const misfit = H.misfit && `misfit at line ${H.misfit.line + 1}: ${H.misfit.word}`;
+  $('verdict').textContent = isHiding() && now < last ? '' : misfit || 'fits';
+  $('verdict').className = misfit ? 'bad' : '';
+}
+
+function headWords() {
+  const rule = 'A run of a mutex with condition variables that tells this log.';
+  const numbers = `${plural(H.seats, 'thread')}, ${plural(H.conditions, 'condition')}`;
+  const shown = ` The page shows lines ${first + 2} to ${last + 1} of the file.`;
+  return `${rule} ${numbers}, ${objectWords()}.${first > 0 && last > first ? shown : ''}`;
+}
+
+// A log is judged by one kind alone.
+function showKinds() {}
+
+$('kinds').hidden = true;
+$('name').textContent = 'A log of a program';
+begin('log');
