@@ -224,7 +224,7 @@ header_form name.Log = codes "log 1 SEATS CONDS OBJECT SIZE"
 abbrev pub commands_that_read : TextName → List ℕ
 commands_that_read name.History = codes "monk audit, explain, draw, page, fit or upgrade"
 commands_that_read name.Play = codes "monk play or trace"
-commands_that_read name.Log = codes "monk fit, explain, draw or complete"
+commands_that_read name.Log = codes "monk fit, explain, draw, page or complete"
 
 -- what stands before the word of an object in a sentence: flags are many
 abbrev pub article : ObjectName → List ℕ

@@ -90,11 +90,13 @@ pub(crate) static DRAW: Help = Help {
 };
 
 pub(crate) static PAGE: Help = Help {
-    about: "Makes a page of a history: its picture, and how the monitor stands at each step",
+    about: "Makes a page of a history or a log: its picture, and how things stand at each step",
     example: "Events are numbered and chosen as by monk draw.\n\
         Example: monk page examples/hoare_handover.history > page.html\n\
-        Status: 0 legal, 1 forbidden, 2 unreadable; 3 wrong words, 4 a failed file or no memory\n\
-        Read: docs/TEXT.md",
+        Example: monk page examples/if_for_while.log > page.html\n\
+        Status: 0 legal, 1 forbidden, 2 unreadable; 3 wrong words, 4 a failed file or no memory.\n\
+        Of a log 0 fits, 1 misfits\n\
+        Read: docs/TEXT.md, of logs docs/LOGS.md",
 };
 
 pub(crate) const COMPLETED_KIND: &str =

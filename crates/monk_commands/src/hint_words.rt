@@ -95,7 +95,7 @@ fn commands_that_read(text: TextName) -> &'static str
     match text {
         TextName::History => "monk audit, explain, draw, page, fit or upgrade",
         TextName::Play => "monk play or trace",
-        TextName::Log => "monk fit, explain, draw or complete",
+        TextName::Log => "monk fit, explain, draw, page or complete",
     }
 }
 

@@ -87,7 +87,8 @@ pub cut_ends : (lines : ℕ) (steps : List Step) (i left : ℕ) → length steps
     → (steps ≡ telling lines steps) × ([] ≡ behind_lines lines steps)
 cut_ends lines steps i left all was =
     let gone : drop i steps ≡ [] = drop_all i steps all in
-    let whole = take_all i steps all in
-    (sym (was.first ∙ ap₂ (λ (ys zs : List Step). ys ++ telling left zs) whole gone
-    ∙ ap (λ (ys : List Step). steps ++ ys) (none_first left) ∙ append-nil steps),
-    sym (was.behind ∙ ap (behind_lines left) gone ∙ none_behind left))
+    let whole = take_all i steps all in (
+      sym (was.first ∙ ap₂ (λ (ys zs : List Step). ys ++ telling left zs) whole gone
+          ∙ ap (λ (ys : List Step). steps ++ ys) (none_first left) ∙ append-nil steps),
+      sym (was.behind ∙ ap (behind_lines left) gone ∙ none_behind left),
+    )

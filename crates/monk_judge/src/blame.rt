@@ -46,11 +46,13 @@ impl Blame {
             Blame::Call => {
                 "until is no call of a mutex with condition variables; `monk complete --kind PIS` judges it"
             }
-            Blame::Held => "another seat holds the lock; did the recorder give two threads one seat?",
+            Blame::Held =>
+                "another seat holds the lock; did the recorder give two threads one seat?",
             Blame::NoLock => {
                 "the seat doesn't hold the lock; does another thread unlock it, or did it wait without the lock?"
             }
-            Blame::Asleep => "the seat hasn't come back from its wait; do two threads have its seat?",
+            Blame::Asleep =>
+                "the seat hasn't come back from its wait; do two threads have its seat?",
             Blame::Awake => "the seat doesn't wait; do two threads have its seat?",
             Blame::Reply => "the object replies otherwise: the seat relied on what no longer held",
         }

@@ -41,7 +41,7 @@ pub record IsPlain (n : ℕ) (d : Data) : Type 0 where
   pub shallow : depth d ≤ n
   pub shown : is_plain d ≡ true
 
-record ArePlain (n : ℕ) (ms : Members) : Type 0 where
+pub record ArePlain (n : ℕ) (ms : Members) : Type 0 where
   no_floats : members_have_float ms ≡ false
   all_shallow : members_depth ms ≤ n
   all_shown : members_are_plain ms ≡ true
@@ -53,16 +53,16 @@ record ItemsPlain (n : ℕ) (ds : Items) : Type 0 where
 
 -- ---- what values are made of
 
-string_plain : (n : ℕ) (s : List ℕ) → is_plain_text s ≡ true → IsPlain n (string s)
+pub string_plain : (n : ℕ) (s : List ℕ) → is_plain_text s ≡ true → IsPlain n (string s)
 string_plain n s p = record { no_float = refl; shallow = omega arith; shown = p }
 
-number_plain : (n x : ℕ) → IsPlain n (number_json x)
+pub number_plain : (n x : ℕ) → IsPlain n (number_json x)
 number_plain n x = record { no_float = refl; shallow = omega arith; shown = refl }
 
-null_plain : (n : ℕ) → IsPlain n null
+pub null_plain : (n : ℕ) → IsPlain n null
 null_plain n = record { no_float = refl; shallow = omega arith; shown = refl }
 
-alone : (n : ℕ) → ArePlain n no_members
+pub alone : (n : ℕ) → ArePlain n no_members
 alone n = record { no_floats = refl; all_shallow = omega arith; all_shown = refl }
 
 beside : (n : ℕ) (k : List ℕ) (d : Data) (ms : Members) → is_plain_text k ≡ true → IsPlain n d → ArePlain n ms
@@ -102,7 +102,7 @@ either_plain n Less a b c p q r = p
 either_plain n Equal a b c p q r = q
 either_plain n Greater a b c p q r = r
 
-with_member : (n : ℕ) (k : List ℕ) (d : Data) (ms : Members) → is_plain_text k ≡ true → IsPlain n d → ArePlain n ms
+pub with_member : (n : ℕ) (k : List ℕ) (d : Data) (ms : Members) → is_plain_text k ≡ true → IsPlain n d → ArePlain n ms
     → ArePlain n (put k d ms)
 with_member n k d no_members key p q = beside n k d no_members key p q
 with_member n k d (member l e ms) key p q =
@@ -113,7 +113,7 @@ with_member n k d (member l e ms) key p q =
     (beside n k d (member l e ms) key p q) (beside n l d ms other p others)
     (beside n l e (put k d ms) other first (with_member n k d ms key p others))
 
-within : (n : ℕ) (ms : Members) → ArePlain n ms → IsPlain (suc n) (object ms)
+pub within : (n : ℕ) (ms : Members) → ArePlain n ms → IsPlain (suc n) (object ms)
 within n ms q = record { no_float = q.no_floats; shallow = omega (arith, q.all_shallow); shown = q.all_shown }
 
 items_plain : {X : Type 0} (n : ℕ) (f : X → Data) → ((x : X) → IsPlain n (f x)) → (xs : List X)
@@ -129,18 +129,18 @@ items_plain n f h (x ∷ xs) =
       each_shown = rw (first.shown, others.each_shown) refl;
     }
 
-list_plain : {X : Type 0} (n : ℕ) (f : X → Data) → ((x : X) → IsPlain n (f x)) → (xs : List X)
+pub list_plain : {X : Type 0} (n : ℕ) (f : X → Data) → ((x : X) → IsPlain n (f x)) → (xs : List X)
     → IsPlain (suc n) (list_json f xs)
 list_plain n f h xs =
     let all = items_plain n f h xs in
     record { no_float = all.none_floats; shallow = omega (arith, all.none_deep); shown = all.each_shown }
 
-option_plain : {X : Type 0} (n : ℕ) (f : X → Data) → ((x : X) → IsPlain n (f x)) → (o : Option X)
+pub option_plain : {X : Type 0} (n : ℕ) (f : X → Data) → ((x : X) → IsPlain n (f x)) → (o : Option X)
     → IsPlain n (option_json f o)
 option_plain n f h None = null_plain n
 option_plain n f h (Some x) = h x
 
-numbers_plain : (n : ℕ) (xs : List ℕ) → IsPlain (suc n) (numbers_json xs)
+pub numbers_plain : (n : ℕ) (xs : List ℕ) → IsPlain (suc n) (numbers_json xs)
 numbers_plain n xs = list_plain n number_json (number_plain n) xs
 
 pair_plain : (n : ℕ) (a b : Data) → IsPlain n a → IsPlain n b → IsPlain (suc n) (pair_json a b)

@@ -1,5 +1,5 @@
 -- The page of a log: the picture of a run, and the run step by step
-use Rattle.std.specs.Prelude.{ℕ, ◌+◌, ◌-◌, List, Option, codes, slice_get}
+use Rattle.std.specs.Prelude.{ℕ, ◌-◌, List, Option, codes, slice_get}
 use Rattle.std.specs.Option.{option_map_or}
 use Rattle.monk_object.specs.Names.{object_word}
 use Rattle.monk_object.specs.Object.{Object}

@@ -46,12 +46,7 @@ fn page_told(
     let data = data_text(alloc, header, events, telling, span)?;
     let reason = telling.verdict.caption();
     let picture = draw(alloc, header, events, window, forbidden, reason)?;
-    Ok(page_around(
-        alloc,
-        picture.as_str(),
-        data.as_str(),
-        history_end(),
-    )?)
+    Ok(page_around(alloc, picture.as_str(), data.as_str(), history_end())?)
 }
 
 /// The page of a history, as one HTML text: a picture, and the data of each step that is shown, which its script reads.

@@ -1,6 +1,7 @@
 //! The data of a log's page.
 
-ghost use Rattle.std.specs.Prelude.{◌≡◌, ◌≤◌, ◌-◌, IfOk, OnOk, length};
+ghost use Rattle.std.specs.Prelude.{◌≡◌, ◌≤◌, ◌-◌, IfOk, OnOk, codes, length};
+ghost use Rattle.serde_json.specs.Data.{put};
 ghost use Rattle.serde_json.specs.View.{members_view, view};
 ghost use Rattle.monk_judge.specs.Followed.{followed};
 ghost use Rattle.monk_judge.specs.Run.{IsRun};

@@ -45,7 +45,7 @@ static HINTS: [Row; 19] = [
     (
         Task::Trace,
         b"log 1 2 0 buffer 1\n",
-        "this is a log: give it to monk fit, explain, draw or complete",
+        "this is a log: give it to monk fit, explain, draw, page or complete",
     ),
     (
         Task::Complete(Some(KindName::Pb)),

@@ -58,63 +58,64 @@ em 1fr auto;\n  gap: .2rem;\n  padding: .12rem 0;\n}\n\n#choices li.took {\n  fo
 lor: var(--soft);\n  font-weight: 400;\n}\n\n#choices li.took.barred .who, #choices li.took.ba\
 rred .how, #choices li.took.barred .sign {\n  color: var(--wrong);\n  font-weight: 600;\n}\n\n\
 #line {\n  margin-top: .7rem;\n  font: .85rem ui-monospace, Menlo, Consolas, monospace;\n  col\
-or: var(--soft);\n  overflow-wrap: anywhere;\n}\n\n#boxes {\n  display: grid;\n  gap: .6rem;\n  \
-align-content: start;\n}\n\n.row {\n  grid-column: 1 / -1;\n  display: flex;\n  flex-wrap: wra\
-p;\n  gap: .5rem;\n  align-items: stretch;\n}\n\n.box {\n  flex: 1 1 7.6rem;\n  padding: .3rem \
-.7rem .5rem;\n  min-height: 4.5rem;\n  border-top: 3px solid var(--line);\n}\n\n.box h3 {\n  d\
-isplay: flex;\n  justify-content: space-between;\n  gap: .5rem;\n  white-space: nowrap;\n}\n\n\
-.box h3 .quiet {\n  font-weight: 400;\n}\n\n.box.active {\n  border-top-color: var(--accent);\n\
-}\n\n.box.entry {\n  border-top-color: var(--entry);\n}\n\n.box.condition {\n  border-top-colo\
-r: var(--condition);\n}\n\n.box.waiter {\n  border-top-color: var(--waiter);\n}\n\n.box.signal\
-ler {\n  border-top-color: var(--signaller);\n}\n\n.box.until {\n  border-top-color: var(--unt\
-il);\n}\n\n.box.outside {\n  border-style: dashed;\n  border-top-width: 1px;\n  background: no\
-ne;\n  display: flex;\n  align-items: center;\n  gap: 1rem;\n  min-height: 3.1rem;\n  padding-\
-top: .4rem;\n}\n\n.box.outside > * {\n  margin-top: 0;\n}\n\n.box.half {\n  flex-basis: 13rem;\
-\n}\n\n.box p {\n  margin-top: .2rem;\n}\n\n.rank {\n  align-self: center;\n  font-size: 1.3re\
-m;\n  font-weight: 600;\n  color: var(--soft);\n  padding: 0 .1rem;\n}\n\n.seats {\n  display: \
-flex;\n  flex-wrap: wrap;\n  gap: .35rem;\n  align-items: center;\n  margin-top: .25rem;\n}\n\n\
-.seat {\n  display: inline-grid;\n  place-items: center;\n  min-width: 2rem;\n  height: 2rem;\n  \
-padding: 0 .3rem;\n  border-radius: .4rem;\n  border: 2px solid var(--line);\n  font-weight: 7\
-00;\n  font-size: 1.05rem;\n}\n\n.seat.outside {\n  border-style: dashed;\n  color: var(--soft\
-);\n}\n\n.seat.active {\n  background: var(--accent);\n  border-color: var(--accent);\n  color\
-: var(--active-ink);\n}\n\n.seat.entry {\n  background: var(--entry-ground);\n  border-color: \
-var(--entry);\n}\n\n.seat.condition {\n  background: var(--condition-ground);\n  border-color: \
-var(--condition);\n}\n\n.seat.waiter {\n  background: var(--waiter-ground);\n  border-color: v\
-ar(--waiter);\n}\n\n.seat.signaller {\n  background: var(--signaller-ground);\n  border-color: \
-var(--signaller);\n}\n\n.seat.until {\n  background: var(--until-ground);\n  border-color: var\
-(--until);\n}\n\n.seat.moved {\n  box-shadow: 0 0 0 2px var(--card), 0 0 0 4px var(--ink);\n}\n\
-\n.seats > .moved + span {\n  margin-left: .3rem;\n}\n\n.waits {\n  margin-top: .25rem;\n  dis\
-play: grid;\n  gap: .3rem;\n}\n\n.waits li {\n  display: flex;\n  align-items: center;\n  gap: \
-.6rem;\n}\n\n.truth {\n  margin-left: auto;\n  font-weight: 600;\n}\n\n.truth.yes {\n  color: \
-var(--until);\n}\n\n.row > h2 {\n  flex-basis: 100%;\n  margin-bottom: -.15rem;\n}\n\n#monitor \
-{\n  border: 2px solid var(--soft);\n  border-radius: .7rem;\n  padding: .6rem .7rem .7rem;\n  \
-display: grid;\n  gap: .5rem;\n}\n\n#kinds {\n  margin-top: .8rem;\n}\n\n#chips {\n  display: \
-grid;\n  grid-template-columns: repeat(10, 1fr);\n  gap: .4rem;\n  margin: .35rem 0;\n}\n\n.ch\
-ip {\n  display: block;\n  width: 100%;\n  text-align: left;\n  padding: .3rem .5rem;\n  line-\
-height: 1.25;\n}\n\n.chip b {\n  display: block;\n}\n\n.chip span:not(.unseen) {\n  font-size: \
-.88rem;\n  white-space: nowrap;\n}\n\n.chip.own {\n  box-shadow: 0 0 0 2px var(--ground), 0 0 \
-0 4px var(--ink);\n}\n\n.chip.no span {\n  color: var(--wrong);\n}\n\n.chip.no.past {\n  backg\
-round: var(--wrong-ground);\n  border-color: var(--wrong);\n}\n\n#notes {\n  min-height: 1.5re\
-m;\n}\n\ndetails {\n  margin-top: .8rem;\n}\n\nsummary {\n  cursor: pointer;\n  font-size: .9r\
-em;\n  font-weight: 600;\n  color: var(--soft);\n}\n\n#table {\n  overflow-x: auto;\n  margin-\
-top: .5rem;\n}\n\ntable {\n  border-collapse: collapse;\n  width: 100%;\n  font-size: .9rem;\n\
-}\n\nth, td {\n  text-align: left;\n  vertical-align: top;\n  padding: .25rem .6rem;\n  border\
--bottom: 1px solid var(--line);\n}\n\nth {\n  color: var(--soft);\n  white-space: nowrap;\n}\n\
-\ntd.short {\n  white-space: nowrap;\n}\n\ntd a {\n  color: inherit;\n}\n\ntr[aria-current] td \
-{\n  background: color-mix(in srgb, var(--accent) 14%, transparent);\n}\n\ntr.bad td {\n  colo\
-r: var(--wrong);\n}\n\n#strips {\n  display: none;\n}\n\n@media (max-width: 1000px) {\n  #stag\
-e {\n    grid-template-columns: 1fr;\n  }\n  #told {\n    min-height: 0;\n  }\n  #chips {\n    \
-grid-template-columns: repeat(5, 1fr);\n  }\n}\n\n@media (max-width: 520px) {\n  #chips {\n    \
-grid-template-columns: repeat(2, 1fr);\n  }\n  body {\n    padding: .6rem;\n  }\n}\n\n@media p\
-rint {\n  @page {\n    size: A4 landscape;\n    margin: 12mm;\n  }\n  html {\n    font-size: 1\
-0pt;\n  }\n  body {\n    max-width: none;\n    padding: 0;\n    background: none;\n  }\n  #con\
-trols, #theme, #stage, summary {\n    display: none;\n  }\n  #picture {\n    height: 0;\n    m\
-ax-height: 0;\n    overflow: hidden;\n    border: 0;\n  }\n  #strips {\n    display: block;\n  \
-}\n  #strips svg {\n    display: block;\n    width: 100%;\n    height: auto;\n    break-inside\
-: avoid;\n    margin-bottom: 2mm;\n  }\n  #kinds {\n    break-inside: avoid;\n  }\n  #chips {\n    \
-grid-template-columns: repeat(10, 1fr);\n  }\n  tr {\n    break-inside: avoid;\n  }\n  tr[aria\
--current] td {\n    background: none;\n  }\n  td a {\n    text-decoration: none;\n  }\n}\n</st\
-yle>\n</head>\n<body>\n<header id=\"top\">\n  <h1 id=\"name\">A history</h1>\n  <p id=\"verdic\
-t\"></p>\n  <button id=\"theme\" type=\"button\">Dark</button>\n  <p id=\"about\"></p>\n</head\
-er>\n<main>\n<div id=\"picture\" class=\"card\" role=\"group\"\n  aria-label=\"Picture of the \
-history. The table at the end of the page tells the same.\">\n";
+or: var(--soft);\n  overflow-wrap: anywhere;\n}\n\n#choices .story li {\n  grid-template-colum\
+ns: 4.4em 1fr;\n}\n\n#choices a {\n  color: inherit;\n}\n\n#boxes {\n  display: grid;\n  gap: \
+.6rem;\n  align-content: start;\n}\n\n.row {\n  grid-column: 1 / -1;\n  display: flex;\n  flex\
+-wrap: wrap;\n  gap: .5rem;\n  align-items: stretch;\n}\n\n.box {\n  flex: 1 1 7.6rem;\n  padd\
+ing: .3rem .7rem .5rem;\n  min-height: 4.5rem;\n  border-top: 3px solid var(--line);\n}\n\n.bo\
+x h3 {\n  display: flex;\n  justify-content: space-between;\n  gap: .5rem;\n  white-space: now\
+rap;\n}\n\n.box h3 .quiet {\n  font-weight: 400;\n}\n\n.box.active {\n  border-top-color: var(\
+--accent);\n}\n\n.box.entry {\n  border-top-color: var(--entry);\n}\n\n.box.condition {\n  bor\
+der-top-color: var(--condition);\n}\n\n.box.waiter {\n  border-top-color: var(--waiter);\n}\n\n\
+.box.signaller {\n  border-top-color: var(--signaller);\n}\n\n.box.until {\n  border-top-color\
+: var(--until);\n}\n\n.box.outside {\n  border-style: dashed;\n  border-top-width: 1px;\n  bac\
+kground: none;\n  display: flex;\n  align-items: center;\n  gap: 1rem;\n  min-height: 3.1rem;\n  \
+padding-top: .4rem;\n}\n\n.box.outside > * {\n  margin-top: 0;\n}\n\n.box.half {\n  flex-basis\
+: 13rem;\n}\n\n.box p {\n  margin-top: .2rem;\n}\n\n.rank {\n  align-self: center;\n  font-siz\
+e: 1.3rem;\n  font-weight: 600;\n  color: var(--soft);\n  padding: 0 .1rem;\n}\n\n.seats {\n  \
+display: flex;\n  flex-wrap: wrap;\n  gap: .35rem;\n  align-items: center;\n  margin-top: .25r\
+em;\n}\n\n.seat {\n  display: inline-grid;\n  place-items: center;\n  min-width: 2rem;\n  heig\
+ht: 2rem;\n  padding: 0 .3rem;\n  border-radius: .4rem;\n  border: 2px solid var(--line);\n  f\
+ont-weight: 700;\n  font-size: 1.05rem;\n}\n\n.seat.outside {\n  border-style: dashed;\n  colo\
+r: var(--soft);\n}\n\n.seat.active {\n  background: var(--accent);\n  border-color: var(--acce\
+nt);\n  color: var(--active-ink);\n}\n\n.seat.entry {\n  background: var(--entry-ground);\n  b\
+order-color: var(--entry);\n}\n\n.seat.condition {\n  background: var(--condition-ground);\n  \
+border-color: var(--condition);\n}\n\n.seat.waiter {\n  background: var(--waiter-ground);\n  b\
+order-color: var(--waiter);\n}\n\n.seat.signaller {\n  background: var(--signaller-ground);\n  \
+border-color: var(--signaller);\n}\n\n.seat.until {\n  background: var(--until-ground);\n  bor\
+der-color: var(--until);\n}\n\n.seat.moved {\n  box-shadow: 0 0 0 2px var(--card), 0 0 0 4px v\
+ar(--ink);\n}\n\n.seats > .moved + span {\n  margin-left: .3rem;\n}\n\n.waits {\n  margin-top: \
+.25rem;\n  display: grid;\n  gap: .3rem;\n}\n\n.waits li {\n  display: flex;\n  align-items: c\
+enter;\n  gap: .6rem;\n}\n\n.truth {\n  margin-left: auto;\n  font-weight: 600;\n}\n\n.truth.y\
+es {\n  color: var(--until);\n}\n\n.row > h2 {\n  flex-basis: 100%;\n  margin-bottom: -.15rem;\
+\n}\n\n#monitor {\n  border: 2px solid var(--soft);\n  border-radius: .7rem;\n  padding: .6rem \
+.7rem .7rem;\n  display: grid;\n  gap: .5rem;\n}\n\n#kinds {\n  margin-top: .8rem;\n}\n\n#chip\
+s {\n  display: grid;\n  grid-template-columns: repeat(10, 1fr);\n  gap: .4rem;\n  margin: .35\
+rem 0;\n}\n\n.chip {\n  display: block;\n  width: 100%;\n  text-align: left;\n  padding: .3rem \
+.5rem;\n  line-height: 1.25;\n}\n\n.chip b {\n  display: block;\n}\n\n.chip span:not(.unseen) \
+{\n  font-size: .88rem;\n  white-space: nowrap;\n}\n\n.chip.own {\n  box-shadow: 0 0 0 2px var\
+(--ground), 0 0 0 4px var(--ink);\n}\n\n.chip.no span {\n  color: var(--wrong);\n}\n\n.chip.no\
+.past {\n  background: var(--wrong-ground);\n  border-color: var(--wrong);\n}\n\n#notes {\n  m\
+in-height: 1.5rem;\n}\n\ndetails {\n  margin-top: .8rem;\n}\n\nsummary {\n  cursor: pointer;\n  \
+font-size: .9rem;\n  font-weight: 600;\n  color: var(--soft);\n}\n\n#table {\n  overflow-x: au\
+to;\n  margin-top: .5rem;\n}\n\ntable {\n  border-collapse: collapse;\n  width: 100%;\n  font-\
+size: .9rem;\n}\n\nth, td {\n  text-align: left;\n  vertical-align: top;\n  padding: .25rem .6\
+rem;\n  border-bottom: 1px solid var(--line);\n}\n\nth {\n  color: var(--soft);\n  white-space\
+: nowrap;\n}\n\ntd.short {\n  white-space: nowrap;\n}\n\ntd a {\n  color: inherit;\n}\n\ntr[ar\
+ia-current] td {\n  background: color-mix(in srgb, var(--accent) 14%, transparent);\n}\n\ntr.b\
+ad td {\n  color: var(--wrong);\n}\n\n#strips {\n  display: none;\n}\n\n@media (max-width: 100\
+0px) {\n  #stage {\n    grid-template-columns: 1fr;\n  }\n  #told {\n    min-height: 0;\n  }\n  \
+#chips {\n    grid-template-columns: repeat(5, 1fr);\n  }\n}\n\n@media (max-width: 520px) {\n  \
+#chips {\n    grid-template-columns: repeat(2, 1fr);\n  }\n  body {\n    padding: .6rem;\n  }\n\
+}\n\n@media print {\n  @page {\n    size: A4 landscape;\n    margin: 12mm;\n  }\n  html {\n    \
+font-size: 10pt;\n  }\n  body {\n    max-width: none;\n    padding: 0;\n    background: none;\n  \
+}\n  #controls, #theme, #stage, summary {\n    display: none;\n  }\n  #picture {\n    height: \
+0;\n    max-height: 0;\n    overflow: hidden;\n    border: 0;\n  }\n  #strips {\n    display: \
+block;\n  }\n  #strips svg {\n    display: block;\n    width: 100%;\n    height: auto;\n    br\
+eak-inside: avoid;\n    margin-bottom: 2mm;\n  }\n  #kinds {\n    break-inside: avoid;\n  }\n  \
+#chips {\n    grid-template-columns: repeat(10, 1fr);\n  }\n  tr {\n    break-inside: avoid;\n  \
+}\n  tr[aria-current] td {\n    background: none;\n  }\n  td a {\n    text-decoration: none;\n  \
+}\n}\n</style>\n</head>\n<body>\n<header id=\"top\">\n  <h1 id=\"name\">A history</h1>\n  <p i\
+d=\"verdict\"></p>\n  <button id=\"theme\" type=\"button\">Dark</button>\n  <p id=\"about\"></\
+p>\n</header>\n<main>\n<div id=\"picture\" class=\"card\" role=\"group\"\n  aria-label=\"Pictu\
+re of the history. The table at the end of the page tells the same.\">\n";

@@ -9,7 +9,7 @@ use Rattle.monk_tell.specs.Told.{Account, account}
 use Rattle.serde_json.specs.Data.{Data}
 use Rattle.serde_json.specs.Read.{read}
 use Rattle.serde_json.specs.Written.{compact_text}
-use Rattle.monk_page.specs.Html.{forbidden_step, page_around, page_text, window_json}
+use Rattle.monk_page.specs.Html.{forbidden_step, history_end, page_around, page_text, window_json}
 use Rattle.monk_page.specs.Page.{page_json}
 use Rattle.monk_page.proofs.html.page_told.Goals as goal
 
@@ -23,12 +23,14 @@ span_data h es w fault before last known shown hidden =
     ap₂ (page_json h es) (hidden ∙ ap (not_shown w) end) end
 
 page_is_text : (h : Heading) (es : List Event) (w : Option Window) (reason : List ℕ) (fault : Option ℕ)
-    (json : Data) (drawn written bytes : List ℕ)
+    (json : Data) (drawn written end bytes : List ℕ)
     → fault ≡ forbidden_step h es → reason ≡ caption_by (account h es).verdict → json ≡ window_json h es w
     → drawn ≡ picture h es w fault reason
-    → written ≡ compact_text json → bytes ≡ page_around drawn written → bytes ≡ page_text h es w
-page_is_text h es w reason fault json drawn written bytes known why is draws says joins =
-    joins ∙ ap₂ page_around (draws ∙ ap₂ (picture h es w) known why) (says ∙ ap compact_text is)
+    → written ≡ compact_text json → end ≡ history_end → bytes ≡ page_around drawn written end
+    → bytes ≡ page_text h es w
+page_is_text h es w reason fault json drawn written end bytes known why is draws says ends joins =
+    joins ∙ ap (page_around drawn written) ends
+    ∙ ap₂ (λ (a b : List ℕ). page_around a b history_end) (draws ∙ ap₂ (picture h es w) known why) (says ∙ ap compact_text is)
 
 read_as : (d e : Data) → d ≡ e → read (compact_text d) ≡ Some d → read (compact_text e) ≡ Some e
 read_as d e is reads = ap (λ (x : Data). read (compact_text x)) (sym is) ∙ (reads ∙ ap Some is)
@@ -42,11 +44,11 @@ returns-clause-text c =
     ∙ ap (λ (a : Account). option_map (λ b. b.step) a.blame) c.requires.told in
     let why = c.caption-reason.ensures ∙ ap (λ (a : Account). caption_by a.verdict) c.requires.told in
     page_is_text h es c.args.window c.caption-reason.result.now c.forbidden_step-forbidden.result
-    (page_json h es span.before span.last) c.as_str.result.now c.as_str-2.result.now _ known why
+    (page_json h es span.before span.last) c.as_str.result.now c.as_str-2.result.now c.history_end.result.now _ known why
     (span_data h es c.args.window c.forbidden_step-forbidden.result span.before span.last known
     (c.of-span.ensures.last ∙ ap (shown_last c.args.window) c.showable.ensures.value) c.of-span.ensures.before)
     (c.as_str.ensures.value ∙ c.in_ok-picture.ensures.picture)
-    (c.as_str-2.ensures.value ∙ c.in_ok-data.ensures.text)
+    (c.as_str-2.ensures.value ∙ c.in_ok-data.ensures.text) c.history_end.ensures
     c.in_ok-page_around.ensures
 
 pub returns-clause-reads_back : goal.returns-clause-reads_back

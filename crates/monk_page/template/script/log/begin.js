@@ -1,7 +1,7 @@
 // The head of the page.
 
 function showVerdict() {
-  const misfit = H.misfit && `misfit at line ${H.misfit.line + 1}: ${H.misfit.word}`;
+  const misfit = H.misfit && `misfit at line ${H.misfit.index + 2}: ${H.misfit.word}`;
   $('verdict').textContent = isHiding() && now < last ? '' : misfit || 'fits';
   $('verdict').className = misfit ? 'bad' : '';
 }

@@ -24,8 +24,9 @@ function recordsOf(records, entry) {
 }
 
 const R = H.steps.reduce(recordsOf, [{ ...H.start, words: [], step: first }]);
-const fault = H.misfit && H.misfit.line === first + R.length ? H.misfit : null;
-if (fault) R.push({ ...R[R.length - 1], ...recordOf(fault, fault.line), bad: true });
+const told = first + R.length - 1;
+const fault = H.misfit && H.misfit.index === told ? H.misfit : null;
+if (fault) R.push({ ...R[R.length - 1], ...recordOf(fault, told + 1), bad: true });
 const last = first + R.length - 1;
 R.forEach((r, i) => {
   r.was = R[i - 1];

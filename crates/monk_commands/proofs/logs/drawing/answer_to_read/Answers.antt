@@ -2,17 +2,17 @@ use Rattle.std.proofs.Common.{List, rules, subst}
 use Rattle.std.specs.Prelude.{string_bytes}
 use Rattle.std.proofs.lemmas.Result.{IfOk-weaker}
 use Rattle.monk_logs.specs.declared.text.line.LogLine.{LogLine}
-use Rattle.monk_commands.specs.LogDrawn.{IsRunDrawn}
+use Rattle.monk_commands.specs.LogDrawn.{IsRunShown}
 use Rattle.monk_commands.proofs.logs.drawing.answer_to_read.Goals as goal
 
 pub returns-clause-answer : goal.returns-clause-answer
 returns-clause-answer c =
-    IfOk-weaker c.picture_if_there.result _ _ (λ a is. record {
+    IfOk-weaker c.shown_if_there.result _ _ (λ a is. record {
       fits = λ fits. record {
         run = c.in_ok-run.run';
         is = c.in_ok-run.ensures;
-        drawn = subst (λ (lines : List LogLine). IsRunDrawn c.args.window c.args.header.now c.in_ok-run.run' lines
+        shown = subst (λ (lines : List LogLine). IsRunShown c.args.show c.args.window c.args.header.now c.in_ok-run.run' lines
             a.status (string_bytes a.text)) c.drawn_lines-drawn.ensures is;
       };
       too_big = λ big. absurd (search rules);
-    }) c.picture_if_there.ensures.answer
+    }) c.shown_if_there.ensures.answer
