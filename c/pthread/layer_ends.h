@@ -7,7 +7,7 @@
 #include <sys/time.h>
 #include <sys/wait.h>
 
-enum { TICK_NS = 50000000, QUIET_TICKS = 8, MOST_WAKES = 1000, WRITING_MS = 2000 };
+enum { TICK_NS = 50000000, QUIET_TICKS = 8, MOST_WAKES = 20, WRITING_MS = 2000 };
 
 static _Atomic int is_ending, is_written;
 static _Atomic int has_watcher, ending_signal;      /* which the watcher is asked to write the histories for */
@@ -127,16 +127,23 @@ static unsigned long count_steps(void) {
     return steps;
 }
 
-/* Everybody who waits is woken, as POSIX allows. Whoever then goes on has slept though what it waits for held. */
-static void wake_sleepers(void) {
+static void broadcast_all(struct monitor *m) {
+    for (int k = 0; k < CONDITIONS; k++)
+        if (count_queued(m, k)) signal_by(m, m->inside, k, 1, self());
+}
+
+/* Everybody who waits is woken, as POSIX allows. Whoever then goes on has slept though what it waits for held. How many are woken. */
+static int wake_sleepers(void) {
+    int woken = 0;
     for (struct monitor *m = every_monitor; m; m = m->next) {
         struct timespec limit = time_of(CLOCK_MONOTONIC);
         limit.tv_sec++;
         if (m->is_dead || asked.mode != MONK_NON_BLOCKING || !enter(m, self(), &limit, 1)) continue;
-        for (int k = 0; k < CONDITIONS; k++)
-            if (count_queued(m, k)) signal_by(m, m->inside, k, 1, self());
+        woken += count_standing(m, WAITS);
+        broadcast_all(m);
         go_out(m);
     }
+    return woken;
 }
 
 /* ---- The watcher: a thread of the layer's that takes no signal */
@@ -170,8 +177,7 @@ static void *watch(void *unused) {
         if (seconds_since(begin) > asked.seconds) end_by_watcher("late");
         quiet = count_quiet(quiet, &seen, watcher);
         if (quiet < QUIET_TICKS) continue;
-        if (asked.mend != WAKES_SLEEPERS || wakes++ >= MOST_WAKES) end_by_watcher("hung");
-        wake_sleepers();
+        if (asked.mend != WAKES_SLEEPERS || wakes++ >= MOST_WAKES || !wake_sleepers()) end_by_watcher("hung");
         quiet = 0;
     }
     return unused;
