@@ -253,7 +253,8 @@ static void in_child(void) {
     is_ending = is_written = ending_signal = has_watcher = 0;
     ended_volumes = ended_timeouts = ended_outside = 0;
     serials = 0;
-    if (me) me->id = (pid_t)syscall(SYS_gettid), me->sleeps = 0;
+    for (struct thread *t = every_thread; t; t = t->next) t->has_ended = t != me;
+    if (me) me->id = (pid_t)syscall(SYS_gettid);
     name_files(getenv("MONK_HISTORY"), getenv("MONK_REPORT"));
 }
 

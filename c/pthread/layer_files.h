@@ -10,22 +10,6 @@ static const char *const standings[] = {
 
 static long ended_volumes, ended_timeouts, ended_outside;      /* of monitors whose mutex was destroyed */
 
-/* ---- Names: the file of an address, and where in it. monk-try makes names of the source from them. */
-
-struct name {
-    char text[LONGEST_PATH];
-};
-
-static struct name name_of(const void *address) {
-    struct name name;
-    Dl_info in;
-    if (address && dladdr(address, &in) && in.dli_fname)
-        snprintf(name.text, sizeof name.text, "%s+%#lx", in.dli_fname, (unsigned long)((uintptr_t)address - (uintptr_t)in.dli_fbase));
-    else
-        snprintf(name.text, sizeof name.text, "%p", address);
-    return name;
-}
-
 static void tell_seat(int file, struct monitor *m, int n) {
     struct place *p = &m->places[n];
     struct thread *t = p->who;
@@ -51,11 +35,11 @@ static void tell_monitor(int file, struct monitor *m) {
 
 /* ---- Histories: DIR/MONITOR.VOLUME, and beside them DIR/MONITOR.names */
 
-static FILE *open_history(struct monitor *m, const char *ending) {
+static FILE *open_history(struct monitor *m, const char *ending, const char *how) {
     char path[LONGEST_PATH + 32];
     mkdir(asked.history, 0755);
     snprintf(path, sizeof path, "%s/%d.%s", asked.history, m->serial, ending);
-    return fopen(path, "we");
+    return fopen(path, how);
 }
 
 /* How many seats and conditions were used, so that pictures have no empty lanes. Of the steward one event may be that of the look. */
@@ -79,26 +63,35 @@ static size_t without_last_event(const char *text, size_t length) {
     return length;
 }
 
-/* Writes the history of a hall, by a seat that is inside. */
-static void save_volume(struct monitor *m, struct hall *h, int n) {
+/* Writes the history of a hall, by a seat that is inside. Not if the seat is in a call. */
+static int save_volume(struct monitor *m, struct hall *h, int n) {
     char *text, volume[16];
     size_t length;
-    if (!asked.history || monk_history(h->monitor, h->seats[n], &text, &length)) return;
+    if (!asked.history || monk_history(h->monitor, h->seats[n], &text, &length)) return 0;
     snprintf(volume, sizeof volume, "%u", h->volume);
     int is_look = n == STEWARD && m->inside != STEWARD;
     if (is_look) length = without_last_event(text, length);
     const char *events = memchr(text, '\n', length);
-    FILE *file = events ? open_history(m, volume) : NULL;
+    FILE *file = events ? open_history(m, volume, "we") : NULL;
     if (file) {
         fprintf(file, "monk 3 %s %d %d flags 1", monk_kind_name(asked.kind), count_used_seats(h, is_look), count_used_conditions(m));
         fwrite(events, 1, length - (size_t)(events - text), file);
         fclose(file);
     }
     free(text);
+    return 1;
+}
+
+/* The seats whose waits were given up before this volume ended: the next one begins without them. */
+static void save_ghosts(struct monitor *m, uint32_t ghosts) {
+    FILE *file = asked.history && ghosts ? open_history(m, "names", "ae") : NULL;
+    for (int n = 0; file && n < SEATS; n++)
+        if (ghosts >> n & 1) fprintf(file, "ghost %d %ld %d\n", m->serial, m->volumes + 1, n);
+    if (file) fclose(file);
 }
 
 static void save_names(struct monitor *m) {
-    FILE *file = asked.history ? open_history(m, "names") : NULL;
+    FILE *file = asked.history ? open_history(m, "names", "ae") : NULL;
     if (!file) return;
     tell_monitor(fileno(file), m);
     fclose(file);

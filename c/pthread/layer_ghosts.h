@@ -57,9 +57,21 @@ static void released(struct monitor *m) {
     if (atomic_load(&m->due) > 0) look_after_ghosts(m);
 }
 
-/* A visit for pending signals, by a ghost: so no thread sleeps because it signals. */
-static void visit(struct monitor *m, struct thread *t) {
-    int n = take_number(m, t);
+/* A number for a visit: the steward's if all others are lent. NONE if by now somebody else sends the signals: whoever has come in, or the
+   thread itself by its own seat, which a signal has served. It doesn't sleep for a number: others may wait for its own seat. */
+static int visiting_number(struct monitor *m, struct thread *t, const struct place *own) {
+    for (;;) {
+        int n = free_number(m, t);
+        if (n == NONE && is_steward_free(m)) n = STEWARD;
+        if (n != NONE) return lend(m, n, t);
+        if (!atomic_load(&m->has_pending) || atomic_load(&m->owner) || (own && own->standing == SERVED)) return NONE;
+        look_after_ghosts(m);
+        sched_yield();
+    }
+}
+
+/* For pending signals, by a ghost: so no thread sleeps because it signals. */
+static void visit(struct monitor *m, int n) {
     struct place *p = &m->places[n];
     take(&m->lock);                             /* no renewal now */
     struct hall *h = m->hall;
@@ -71,9 +83,11 @@ static void visit(struct monitor *m, struct thread *t) {
     look_after_ghosts(m);
 }
 
-/* After the monitor was given up: signals that came too late for whoever was inside, if nobody is. */
-static void visit_if_pending(struct monitor *m) {
-    if (atomic_load(&m->has_pending) && !atomic_load(&m->owner)) visit(m, self());
+/* After the monitor was given up: signals that came too late for whoever was inside, if nobody is. The thread may wait by its own seat. */
+static void visit_if_pending(struct monitor *m, const struct place *own) {
+    if (!atomic_load(&m->has_pending) || atomic_load(&m->owner)) return;
+    int n = visiting_number(m, self(), own);
+    if (n != NONE) visit(m, n);
 }
 
 #endif

@@ -39,7 +39,7 @@ static void free_hall(struct hall *h) {
 
 /* The answer of a call that can't be refused. If it is, the layer's picture of the monitor is wrong, and the run is worth nothing. */
 static int sure(struct monitor *m, int answer, const char *call) {
-    if (answer < 0) refuse("the mutex at %p: %s: %s", m->known.address, call, monk_strerror(answer));
+    if (answer < 0) refuse_of(m, "%s: %s", call, monk_strerror(answer));
     return answer;
 }
 
@@ -98,17 +98,19 @@ static uint32_t carry_over(struct monitor *m, struct hall *new) {
     return moved;
 }
 
-/* Who was carried over may have become a ghost meanwhile: then it is one of the new hall. All other ghosts are left behind. */
-static void move_number(struct monitor *m, int n, struct hall *new, int is_moved) {
-    int standing = m->places[n].standing;
-    if (is_moved) {
-        m->places[n].home = new;
-    } else if (standing == GHOST_WAITS) {
-        give_number(m, n);
-    } else if (standing == GHOST_LATE) {
-        atomic_fetch_sub(&m->due, 1);
+/* Who was carried over may have become a ghost meanwhile: then it is one of the new hall. All other ghosts are left behind: those that
+   waited on a condition. */
+static uint32_t move_numbers(struct monitor *m, struct hall *new, uint32_t moved) {
+    uint32_t left = 0;
+    for (int n = 0; n < SEATS; n++) {
+        int standing = m->places[n].standing;
+        if (moved >> n & 1) m->places[n].home = new;
+        else if (standing == GHOST_WAITS) left |= 1u << n;
+        if (moved >> n & 1 || (standing != GHOST_WAITS && standing != GHOST_LATE)) continue;
+        if (standing == GHOST_LATE) atomic_fetch_sub(&m->due, 1);
         give_number(m, n);
     }
+    return left;
 }
 
 /* A new hall takes the place of the old one, by the seat n that is inside. Nobody may be on the way: then what has to be carried over is
@@ -121,10 +123,11 @@ static int renew(struct monitor *m, int n) {
     uint32_t moved = carry_over(m, new);
     sure(m, monk_enter(new->seats[n]), "enter");
     atomic_store(&m->hall, new);
-    for (int i = 0; i < SEATS; i++) move_number(m, i, new, moved >> i & 1);
+    uint32_t ghosts = move_numbers(m, new, moved);
     m->places[n].used = m->places[n].home = new;
     retire(m, old);
     let(&m->lock);
+    save_ghosts(m, ghosts);
     m->volumes++;
     m->wants_renewal = 0;
     return 1;
@@ -140,7 +143,7 @@ static void renew_if_due(struct monitor *m, int n) {
     if (!m->wants_renewal || (may_renew(m) && renew(m, n))) return;
     monk_set_wish(h->seats[n], MONK_WAITER);
     if (left < h->budget / 4) m->late_renewals++;
-    if (left < FEW_EVENTS) refuse("the mutex at %p: a seat's events are spent, and its monitor could not be renewed", m->known.address);
+    if (left < FEW_EVENTS) refuse_of(m, "a seat's events are spent, and its monitor could not be renewed");
 }
 
 #endif

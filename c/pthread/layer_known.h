@@ -111,6 +111,31 @@ static __thread __attribute__((tls_model("initial-exec"))) struct thread *me;
 
 __attribute__((noreturn, format(printf, 1, 2))) static void refuse(const char *format, ...);
 
+/* ---- Names: the file of an address, and where in it. monk-try makes names of the source from them. */
+
+struct name {
+    char text[LONGEST_PATH];
+};
+
+static struct name name_of(const void *address) {
+    struct name name;
+    Dl_info in;
+    if (address && dladdr(address, &in) && in.dli_fname)
+        snprintf(name.text, sizeof name.text, "%s+%#lx", in.dli_fname, (unsigned long)((uintptr_t)address - (uintptr_t)in.dli_fbase));
+    else
+        snprintf(name.text, sizeof name.text, "%p", address);
+    return name;
+}
+
+__attribute__((noreturn, format(printf, 2, 3))) static void refuse_of(struct monitor *m, const char *format, ...) {
+    char line[LONGEST_LINE];
+    va_list words;
+    va_start(words, format);
+    vsnprintf(line, sizeof line, format, words);
+    va_end(words);
+    refuse("the mutex %s: %s", name_of(m->known.address).text, line);
+}
+
 /* ---- Locks of the layer's own, and memory that is never given back */
 
 static inline void take(_Atomic int *lock) {
@@ -308,17 +333,21 @@ static void await_number(struct monitor *m) {
 /* Looks for a number before it is said that there are too many threads: by then some that were served may have gone on. */
 enum { PATIENT_LOOKS = 20 };
 
+static int lend(struct monitor *m, int n, struct thread *t) {
+    atomic_fetch_add(&t->uses, 1);
+    m->places[n].who = t;
+    return n;
+}
+
+static int is_steward_free(struct monitor *m) { return !atomic_exchange(&m->has_steward, 1); }
+
 static int take_number(struct monitor *m, struct thread *t) {
     for (int looks = 0;; looks++) {
         int n = free_number(m, t);
-        if (n == NONE && count_standing(m, GHOST_WAITS) && !atomic_exchange(&m->has_steward, 1)) n = STEWARD;
-        if (n != NONE) {
-            atomic_fetch_add(&t->uses, 1);
-            m->places[n].who = t;
-            return n;
-        }
+        if (n == NONE && count_standing(m, GHOST_WAITS) && is_steward_free(m)) n = STEWARD;
+        if (n != NONE) return lend(m, n, t);
         if (looks > PATIENT_LOOKS && count_standing(m, WAITS) == NUMBERS)
-            refuse("the mutex at %p: 31 threads wait on its conditions, and more come: monitors have 32 seats", m->known.address);
+            refuse_of(m, "31 threads wait on its conditions, and more come: monitors have 32 seats");
         await_number(m);
     }
 }

@@ -8,9 +8,8 @@ enum { LOOK_MS = 300, LOOKS_IN_ALL = 10 };
 
 /* By the steward, which comes in and leaves; if its turn doesn't come it stays as a ghost. Whether it came. */
 static int save_by_steward(struct monitor *m, struct timespec limit) {
-    if (atomic_exchange(&m->has_steward, 1)) return 0;
-    atomic_fetch_add(&self()->uses, 1);
-    m->places[STEWARD].who = self();
+    if (!is_steward_free(m)) return 0;
+    lend(m, STEWARD, self());
     if (!come_in_by(m, STEWARD, &limit)) return 0;
     save_volume(m, m->hall, STEWARD);
     monk_leave(seat_in(m, STEWARD));
@@ -33,8 +32,8 @@ static void save_last_volume(struct monitor *m, int *looks) {
     struct timespec limit = time_of(CLOCK_MONOTONIC);
     if (*looks > 0) limit.tv_nsec += LOOK_MS * (NS_A_SECOND / MS_A_SECOND);
     if (limit.tv_nsec >= NS_A_SECOND) limit.tv_sec++, limit.tv_nsec -= NS_A_SECOND;
-    if (inside != NONE) save_volume(m, m->hall, inside);
-    else if (!save_by_steward(m, limit)) --*looks, save_by_another(m);
+    if (inside != NONE && save_volume(m, m->hall, inside)) return;
+    if (!save_by_steward(m, limit)) --*looks, save_by_another(m);
 }
 
 static void tell_end(int file, const char *why) {

@@ -70,7 +70,7 @@ static void defer_signal(struct monitor *m, int condition, int is_broadcast) {
     if (!count) return;
     if (is_broadcast && count > 1) what = "a broadcast to more than one";
     else if (m->deferred != NONE && (m->deferred != condition || count > 1)) what = "two signals in one visit";
-    if (what) refuse("the mutex at %p: %s, which a monitor of immediate return can't do", m->known.address, what);
+    if (what) refuse_of(m, "%s, which a monitor of immediate return can't do", what);
     m->deferred = condition;
 }
 

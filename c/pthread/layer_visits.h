@@ -12,7 +12,7 @@ static void go_out(struct monitor *m) {
     leave_by(m, seat);
     released(m);
     give_number(m, n);
-    visit_if_pending(m);
+    visit_if_pending(m, NULL);
 }
 
 /* MONK_WAITING if the limit is over (a time of CLOCK_MONOTONIC; null: there is none). MONK_STOPPED: another hall took this one's place. */
@@ -74,11 +74,22 @@ enum { TYPE_BITS = 3, ROBUST = 16, INHERITS = 32, PROTECTS = 64, SHARED = 128 };
 
 static int type_of(const pthread_mutex_t *mutex) { return mutex->__data.__kind & TYPE_BITS; }
 
+/* Whether it is among those that are to be left alone, between blanks. */
+static int is_named(const pthread_mutex_t *mutex) {
+    struct name name = name_of(mutex);
+    size_t length = strlen(name.text);
+    const char *at = asked.left_alone;
+    for (; (at = strstr(at, name.text)); at += length) {
+        int begins = at == asked.left_alone || at[-1] == ' ', ends = !at[length] || at[length] == ' ';
+        if (begins && ends) return 1;
+    }
+    return 0;
+}
+
 /* Between processes, robust or with priorities; asked for; or locked by nobody we know. */
 static int is_left_alone(const pthread_mutex_t *mutex, const struct thread *t) {
     if (mutex->__data.__kind & (ROBUST | INHERITS | PROTECTS | SHARED) || mutex->__data.__owner != t->id) return 1;
-    if (!asked.left_alone) return 0;
-    return strstr(asked.left_alone, name_of(mutex).text) != NULL;
+    return asked.left_alone && is_named(mutex);
 }
 
 /* Whether nothing of its last mutex is under way any more. */

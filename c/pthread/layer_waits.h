@@ -78,7 +78,7 @@ static int number_of(struct monitor *m, const void *address) {
     if (c->of == m && m->conditions[c->number] == address) return c->number;
     int k = spare_condition(m);
     if (k == NONE && may_renew(m) && renew(m, m->inside)) k = spare_condition(m);       /* ghosts don't wait any more */
-    if (k == NONE) refuse("the mutex at %p: threads wait on more than %d of its conditions at once", m->known.address, CONDITIONS);
+    if (k == NONE) refuse_of(m, "threads wait on more than %d of its conditions at once", CONDITIONS);
     use_number(m, k, c);
     return k;
 }
@@ -135,7 +135,7 @@ static void begin_wait(struct wait *w) {
     int ghost = own_ghost(w);
     if (ghost != NONE) take_over(w, ghost);
     else start_wait(w);
-    visit_if_pending(m);
+    visit_if_pending(m, &m->places[w->number]);
 }
 
 /* Whether the thread is to end now: it was cancelled, and lets itself be. */
@@ -171,7 +171,7 @@ static int sleep_through(struct wait *w) {
 
 static void end_served(struct wait *w) {
     struct monitor *m = w->monitor;
-    if (m->places[w->number].standing != SERVED) refuse("the mutex at %p: the kernel served another seat than expected", m->known.address);
+    if (m->places[w->number].standing != SERVED) refuse_of(m, "the kernel served another seat than expected");
     m->transit--;
     note_inside(m, w->number, w->thread, w->depth);
     renew_if_due(m, w->number);
@@ -186,13 +186,14 @@ static int end_given_up(struct wait *w) {
     enter(m, w->thread, NULL, w->depth);
     if (is_late) return ETIMEDOUT;
     pthread_testcancel();
+    w->thread->is_cancelled = 0;         /* the mark was for another of the same name */
     return 0;
 }
 
 /* The wait of pthread_cond_wait and the like by the thread that is inside: 0 or ETIMEDOUT. */
 static int wait_with(struct monitor *m, const void *condition, clockid_t clock, const struct timespec *until) {
     struct wait w = {.monitor = m, .thread = self(), .number = m->inside, .depth = m->depth, .until = until, .clock = clock};
-    if (w.thread->is_cancelled) pthread_testcancel();
+    pthread_testcancel();
     w.condition = number_of(m, condition);
     begin_wait(&w);
     w.thread->sleeps = !until;

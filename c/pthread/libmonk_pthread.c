@@ -196,7 +196,7 @@ static void signal_from_outside(struct monitor *m, int k, int is_broadcast) {
     m->outside++;
     atomic_fetch_add(&m->pending[k], is_broadcast ? A_BROADCAST : 1);
     atomic_store(&m->has_pending, 1);
-    visit_if_pending(m);
+    visit_if_pending(m, NULL);
 }
 
 /* Whether the condition is one of a monitor. */
@@ -295,12 +295,13 @@ void cnd_destroy(cnd_t *condition) {
 
 /* ---- Ends and signals of the process */
 
-/* The target of a cancellation sees the mark when it wakes from its wait to look. */
+/* The target sees the mark when it wakes from its wait to look; a thread that isn't known yet finds itself cancelled as it begins one. */
 int pthread_cancel(pthread_t thread) {
     init();
+    int answer = real.cancel(thread);
     for (struct thread *t = every_thread; t; t = t->next)
         if (!t->has_ended && pthread_equal(t->self, thread)) t->is_cancelled = 1;
-    return real.cancel(thread);
+    return answer;
 }
 
 void _exit(int status) {
