@@ -12,9 +12,12 @@ enum { TICK_NS = 50000000, QUIET_TICKS = 8, MOST_WAKES = 20, WRITING_MS = 2000 }
 static _Atomic int is_ending, is_written;
 static _Atomic int has_watcher, ending_signal;      /* which the watcher is asked to write the histories for */
 
-static void finish(const char *why) {
+/* Whether the process ends behind this, or the program goes on. */
+enum { GOES_ON, IS_LAST };
+
+static void finish(const char *why, int is_last) {
     if (atomic_exchange(&is_ending, 1)) return;
-    save_all(why);
+    save_all(why, is_last);
     is_written = 1;
 }
 
@@ -52,7 +55,7 @@ static void refuse(const char *format, ...) {
     va_end(words);
     if (!is_ending && !atomic_exchange(&is_told, 1)) {
         write_line(STDERR_FILENO, "monk: %s\n", line);
-        finish("cant");
+        finish("cant", IS_LAST);
         end_children_of(getpid());
         end_now(STATUS_CANT);
     }
@@ -154,7 +157,7 @@ static double seconds_since(struct timespec begin) {
 }
 
 __attribute__((noreturn)) static void end_by_watcher(const char *why) {
-    finish(why);
+    finish(why, IS_LAST);
     end_children_of(getpid());
     end_now(STATUS_LATE);
 }
@@ -172,7 +175,7 @@ static void *watch(void *unused) {
     pid_t watcher = (pid_t)syscall(SYS_gettid);
     unsigned long seen = 0;
     for (int quiet = 0, wakes = 0;; nanosleep(&tick, NULL)) {
-        if (ending_signal) finish("signal");
+        if (ending_signal) finish("signal", IS_LAST);
         if (asked.seconds == 0) continue;
         if (seconds_since(begin) > asked.seconds) end_by_watcher("late");
         quiet = count_quiet(quiet, &seen, watcher);

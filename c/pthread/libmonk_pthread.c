@@ -35,7 +35,7 @@ static inline void init(void) {
     if (__builtin_expect(!atomic_load_explicit(&is_ready, memory_order_acquire), 0)) start();
 }
 
-__attribute__((destructor)) static void ended(void) { finish("exit"); }
+__attribute__((destructor)) static void ended(void) { finish("exit", GOES_ON); }
 
 __attribute__((constructor)) static void begin(void) {
     init();
@@ -306,7 +306,7 @@ int pthread_cancel(pthread_t thread) {
 
 void _exit(int status) {
     init();
-    finish("exit");
+    finish("exit", IS_LAST);
     end_now(status);
 }
 
