@@ -17,6 +17,7 @@ enum {
     SLOT_BITS = 14,
     SLOTS = 1 << SLOT_BITS,     /* of a table */
     CHUNK = 1 << 16,            /* bytes that are asked for at once */
+    LIVE = 1 << 30,             /* of a thread's uses, while it lives */
     NONE = -1                   /* no number, no condition */
 };
 
@@ -28,7 +29,8 @@ struct thread {
     pthread_t self;
     pid_t id;
     unsigned index;                         /* in the order in which threads made their first call */
-    _Atomic int uses;                       /* one for the thread itself, and one for each number that it has */
+    int numbers;                            /* that it has, and didn't give back itself; touched by the thread alone */
+    _Atomic int uses;                       /* LIVE, less what others gave back for it; behind its end the numbers that it still has */
     _Atomic int is_cancelled, has_ended;
     _Atomic int sleeps;                     /* in a wait that has no limit: it wakes at times to look whether it is cancelled */
     const void *_Atomic from;               /* where its last wait was called */
@@ -73,7 +75,7 @@ struct monitor {
     struct thread *_Atomic owner;
     _Atomic int due;                        /* ghosts that are to come in and leave */
     _Atomic int has_pending;
-    _Atomic int pending[CONDITIONS];        /* signals by threads that were outside */
+    _Atomic int64_t pending[CONDITIONS];    /* signals by threads that were outside, and above them broadcasts */
     const void *_Atomic conditions[CONDITIONS];
     int serial, depth;
     int transit;                            /* seats that were served or signalled, and aren't back inside */
@@ -144,6 +146,9 @@ static inline void take(_Atomic int *lock) {
 
 static inline void let(_Atomic int *lock) { atomic_store_explicit(lock, 0, memory_order_release); }
 
+/* Seen by whoever takes over what was lent, or comes in later; not at once by everybody, as a plain store to an atomic would be. */
+#define store(object, value) atomic_store_explicit(&(object), value, memory_order_release)
+
 /* Fresh memory, all zero. It doesn't come from malloc, whose locks may be those that the layer stands in for. */
 static void *room_for(size_t size) {
     static char *chunk;
@@ -172,7 +177,6 @@ static inline size_t slot_of(const void *address) {
 static inline size_t slot_after(size_t slot) { return (slot + 1) % SLOTS; }
 
 static inline struct known *find(struct table *t, const void *address) {
-    if (!atomic_load_explicit(&t->count, memory_order_relaxed)) return NULL;
     for (size_t slot = slot_of(address);; slot = slot_after(slot)) {
         struct known *k = atomic_load_explicit(&t->slots[slot], memory_order_acquire);
         if (!k || atomic_load_explicit(&k->address, memory_order_relaxed) == address) return k;
@@ -257,7 +261,8 @@ __attribute__((noinline, cold)) static struct thread *first_call(void) {
     t->dice = asked.seed * 0x9e3779b97f4a7c15u + (t->index + 1) * 0xbf58476d1ce4e5b9u + 1;
     t->is_cancelled = t->sleeps = t->has_ended = 0;
     t->from = NULL;
-    t->uses = 1;
+    t->numbers = 0;
+    t->uses = LIVE;
     me = t;
     pthread_setspecific(thread_key, t);
     return t;
@@ -266,18 +271,23 @@ __attribute__((noinline, cold)) static struct thread *first_call(void) {
 static inline struct thread *self(void) { return me ? me : first_call(); }
 
 /* A record without a use is another thread's next. */
-static void drop_thread(struct thread *t) {
-    if (atomic_fetch_sub(&t->uses, 1) > 1) return;
+static void change_uses(struct thread *t, int change) {
+    if (atomic_fetch_add(&t->uses, change) + change) return;
     take(&thread_lock);
     t->next_idle = idle_threads, idle_threads = t;
     let(&thread_lock);
+}
+
+static void drop_number(struct thread *t) {
+    if (t == me) t->numbers--;
+    else change_uses(t, -1);
 }
 
 static void thread_ends(void *it) {
     struct thread *t = it;
     t->has_ended = 1;
     me = NULL;
-    drop_thread(t);
+    change_uses(t, t->numbers - LIVE);
 }
 
 /* Marsaglia's xorshift. */
@@ -333,9 +343,10 @@ static void await_number(struct monitor *m) {
 /* Looks for a number before it is said that there are too many threads: by then some that were served may have gone on. */
 enum { PATIENT_LOOKS = 20 };
 
+/* To the thread that calls. */
 static int lend(struct monitor *m, int n, struct thread *t) {
-    atomic_fetch_add(&t->uses, 1);
-    m->places[n].who = t;
+    t->numbers++;
+    store(m->places[n].who, t);
     return n;
 }
 
@@ -355,13 +366,14 @@ static int take_number(struct monitor *m, struct thread *t) {
 static void give_number(struct monitor *m, int n) {
     struct place *p = &m->places[n];
     struct thread *t = p->who;
-    p->who = NULL;
-    p->used = p->home = NULL;
-    p->standing = AWAY;
+    store(p->who, NULL);
+    store(p->used, NULL);
+    store(p->home, NULL);
+    store(p->standing, AWAY);
     if (n == STEWARD) let(&m->has_steward);
     else atomic_fetch_or(&m->free, 1u << n);
     if (m->wanting) syscall(SYS_futex, &m->free, FUTEX_WAKE_PRIVATE, INT32_MAX, NULL, NULL, 0);
-    if (t) drop_thread(t);
+    if (t) drop_number(t);
 }
 
 #endif

@@ -9,25 +9,29 @@
 /* Lets ghosts come in whose turn it is. It follows each release. */
 static void released(struct monitor *m);
 
-enum { A_BROADCAST = 1 << 30 };      /* among pending signals; a signal is 1 */
+static const int64_t a_broadcast = (int64_t)1 << 32;        /* among pending signals; a signal is 1 */
 
 static monk_seat *seat_in(struct monitor *m, int n) {
     struct hall *h = m->hall;
     return h->seats[n];
 }
 
+/* From inside, where nobody else counts. */
+static void count_step(struct monitor *m) { store(m->steps, atomic_load_explicit(&m->steps, memory_order_relaxed) + 1); }
+
 static void note_inside(struct monitor *m, int n, struct thread *t, int depth) {
-    m->places[n].standing = INSIDE;
-    m->inside = n;
+    store(m->places[n].standing, INSIDE);
+    store(m->inside, n);
     m->depth = depth;
     atomic_store(&m->owner, t);
-    atomic_fetch_add_explicit(&m->steps, 1, memory_order_relaxed);
+    count_step(m);
 }
 
+/* Before the release: a signal from outside that finds nobody inside later than this isn't left to this thread. */
 static void note_outside(struct monitor *m) {
-    atomic_fetch_add_explicit(&m->steps, 1, memory_order_relaxed);
+    count_step(m);
+    store(m->inside, NONE);
     atomic_store(&m->owner, NULL);
-    m->inside = NONE;
 }
 
 /* The thread gives the monitor up to whom it signalled, and sleeps until it has it back. */
@@ -105,12 +109,12 @@ static void signal_by(struct monitor *m, int n, int condition, int is_broadcast,
 
 /* ---- Signals of threads that were outside, sent by the seat n that is inside before it releases the monitor */
 
-/* One of those that are pending: 0 if there is none. */
+/* Whether there is one that is pending. A broadcast is for all that are. */
 static int take_pending(struct monitor *m, int condition, int *is_broadcast) {
-    int is = atomic_load(&m->pending[condition]);
-    *is_broadcast = is >= A_BROADCAST;
+    int64_t is = atomic_load(&m->pending[condition]);
+    *is_broadcast = is >= a_broadcast;
     if (is) atomic_fetch_sub(&m->pending[condition], *is_broadcast ? is : 1);
-    return is;
+    return is != 0;
 }
 
 /* Whether it could be done to the end: a ghost that signalled may be out, and an immediate-return kind signals once a visit. */
@@ -137,10 +141,10 @@ static void send_pending(struct monitor *m, int n) {
 /* Where a signal gives the monitor up, none may be sent between the program's test and its wait: what was tested might not hold any
    more. They are kept till behind the wait; at most as many as have somebody to serve by now, so that they don't serve this wait. */
 static void keep_pending_of(struct monitor *m, int condition) {
-    int is = atomic_load(&m->pending[condition]), most;
+    int64_t is = atomic_load(&m->pending[condition]), most;
     do {
         int waiting = count_queued(m, condition);
-        most = is >= A_BROADCAST || is > waiting ? waiting : is;
+        most = is >= a_broadcast || is > waiting ? waiting : is;
     } while (is != most && !atomic_compare_exchange_weak(&m->pending[condition], &is, most));
 }
 

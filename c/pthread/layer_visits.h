@@ -40,10 +40,10 @@ static void stay_as_ghost(struct monitor *m, int n) {
 static int come_in_by(struct monitor *m, int n, const struct timespec *limit) {
     struct place *p = &m->places[n];
     int answer = MONK_STOPPED;
-    p->standing = AT_ENTRY;
+    store(p->standing, AT_ENTRY);
     while (answer == MONK_STOPPED) {
         struct hall *h = use(p, &m->hall);
-        p->home = h;
+        store(p->home, h);
         answer = arrive_at(m, h, n, limit);
     }
     if (sure(m, answer, "enter") != MONK_WAITING) return 1;

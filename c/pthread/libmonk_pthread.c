@@ -14,6 +14,11 @@
 
 static _Atomic int is_ready;
 
+/* How much a call on a mutex has to look at: all, while the start isn't over, if threads are shaken, or if mutexes are monitors from their
+   first lock on; else whether the mutex is a monitor, once there is one. */
+enum attention { NOTHING, MONITORS, ALL };
+static _Atomic int attention = ALL;
+
 /* An allocator that the start calls may come back here: then the functions of mutexes are known already. */
 __attribute__((noinline, cold)) static void start(void) {
     static _Atomic int lock;
@@ -26,6 +31,7 @@ __attribute__((noinline, cold)) static void start(void) {
         read_settings();
         pthread_key_create(&thread_key, thread_ends);
         is_ready = 1;
+        attention = asked.shakes || asked.eager ? ALL : NOTHING;
     }
     let(&lock);
     is_starting = 0;
@@ -91,20 +97,29 @@ static int lock_monitor(struct monitor *m, const struct locking *it) {
 }
 
 /* Looks again once it has the mutex: it may have become a monitor while the thread slept there. */
-static inline int lock_by(struct locking it) {
-    init();
-    shake();
-    struct monitor *m = monitor_of(it.mutex);
-    if (m) return lock_monitor(m, &it);
-    int answer = lock_really(&it);
+static int look_again(const struct locking *it, int answer) {
     if (answer && answer != EOWNERDEAD) return answer;
-    m = monitor_of(it.mutex);
-    if (m) return real.unlock(it.mutex), lock_monitor(m, &it);
-    if (__builtin_expect(asked.eager > serials, 0)) promote_early(it.mutex);
+    struct monitor *m = monitor_of(it->mutex);
+    if (m) return real.unlock(it->mutex), lock_monitor(m, it);
+    if (asked.eager > serials) promote_early(it->mutex);
     return answer;
 }
 
-int pthread_mutex_lock(pthread_mutex_t *mutex) { return lock_by((struct locking){.mutex = mutex, .how = LOCK}); }
+static int lock_by(struct locking it) {
+    init();
+    shake();
+    struct monitor *m = monitor_of(it.mutex);
+    return m ? lock_monitor(m, &it) : look_again(&it, lock_really(&it));
+}
+
+/* The way of an ordinary mutex is short. */
+int pthread_mutex_lock(pthread_mutex_t *mutex) {
+    int is = attention;
+    if (is == ALL || (is == MONITORS && monitor_of(mutex))) return lock_by((struct locking){.mutex = mutex, .how = LOCK});
+    int answer = real.lock(mutex);
+    if (attention == NOTHING || !monitor_of(mutex)) return answer;
+    return look_again(&(struct locking){.mutex = mutex, .how = LOCK}, answer);
+}
 
 int pthread_mutex_trylock(pthread_mutex_t *mutex) { return lock_by((struct locking){.mutex = mutex, .how = TRY}); }
 
@@ -123,14 +138,17 @@ static int unlock_monitor(struct monitor *m, const pthread_mutex_t *mutex) {
     return 0;
 }
 
-static inline int unlock_by(pthread_mutex_t *mutex) {
+static int unlock_by(pthread_mutex_t *mutex) {
     init();
     shake();
     struct monitor *m = monitor_of(mutex);
     return m ? unlock_monitor(m, mutex) : real.unlock(mutex);
 }
 
-int pthread_mutex_unlock(pthread_mutex_t *mutex) { return unlock_by(mutex); }
+int pthread_mutex_unlock(pthread_mutex_t *mutex) {
+    int is = attention;
+    return is == ALL || (is == MONITORS && monitor_of(mutex)) ? unlock_by(mutex) : real.unlock(mutex);
+}
 
 int pthread_mutex_init(pthread_mutex_t *mutex, const pthread_mutexattr_t *attributes) {
     init();
@@ -169,6 +187,7 @@ static int wait_by(struct locking it, pthread_cond_t *condition, const void *fro
     struct monitor *m = monitor_of(it.mutex);
     t->from = from;
     if (m && m->owner != t) return EPERM;
+    if (attention == NOTHING) attention = MONITORS;
     if (!m) m = promote(it.mutex, t);
     if (!m) return wait_really(it, condition);
     if (it.how == TIMED) it.clock = condition->__data.__wrefs & IS_MONOTONIC ? CLOCK_MONOTONIC : CLOCK_REALTIME;
@@ -194,7 +213,7 @@ int pthread_cond_clockwait(pthread_cond_t *condition, pthread_mutex_t *mutex, cl
 static void signal_from_outside(struct monitor *m, int k, int is_broadcast) {
     if (!count_queued(m, k)) return;
     m->outside++;
-    atomic_fetch_add(&m->pending[k], is_broadcast ? A_BROADCAST : 1);
+    atomic_fetch_add(&m->pending[k], is_broadcast ? a_broadcast : 1);
     atomic_store(&m->has_pending, 1);
     visit_if_pending(m, NULL);
 }

@@ -12,7 +12,7 @@ class Mutant(NamedTuple):
 
 MUTANTS: Dict[str, Mutant] = {
     "doesn't look again once it has the mutex": Mutant(
-        "libmonk_pthread.c", "    if (m) return real.unlock(it.mutex), lock_monitor(m, &it);\n", "    (void)m;\n"),
+        "libmonk_pthread.c", "    if (m) return real.unlock(it->mutex), lock_monitor(m, it);\n", "    (void)m;\n"),
     "a ghost swallows a signal": Mutant("layer_queues.h", "    return SERVED_GHOST;\n", "    return SERVED_THREAD;\n"),
     "carries waits over in the wrong order": Mutant(
         "layer_halls.h", "m->places[n].ticket < m->places[first].ticket", "m->places[n].ticket > m->places[first].ticket"),
