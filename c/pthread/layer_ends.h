@@ -1,4 +1,5 @@
-/* layer_ends.h - the ends of a run: by itself, by a signal, after a time, or because it hangs; and children. Part of libmonk_pthread.c. */
+/* layer_ends.h - the ends of a run: by itself, by a signal, after a time, or because it hangs; and children. Part of
+   libmonk_pthread.c. */
 #ifndef LAYER_ENDS_H
 #define LAYER_ENDS_H
 
@@ -10,7 +11,7 @@
 enum { TICK_NS = 50000000, QUIET_TICKS = 8, MOST_WAKES = 20, WRITING_MS = 2000 };
 
 static _Atomic int is_ending, is_written;
-static _Atomic int has_watcher, ending_signal;      /* which the watcher is asked to write the histories for */
+static _Atomic int has_watcher, ending_signal; /* which the watcher is asked to write the histories for */
 
 /* Whether the process ends behind this, or the program goes on. */
 enum { GOES_ON, IS_LAST };
@@ -62,7 +63,8 @@ static void refuse(const char *format, ...) {
     for (;;) pause();
 }
 
-/* ---- Whether the program hangs: no step was made for a while, and each of its threads sleeps in a futex without a limit */
+/* ---- Whether the program hangs: no step was made for a while, and each of its threads sleeps in a futex without a
+   limit */
 
 /* A timer or a child may wake somebody; so may whoever signals at a mutex that is left alone. */
 static int may_be_woken(void) {
@@ -135,7 +137,8 @@ static void broadcast_all(struct monitor *m) {
         if (count_queued(m, k)) signal_by(m, m->inside, k, 1, self());
 }
 
-/* Everybody who waits is woken, as POSIX allows. Whoever then goes on has slept though what it waits for held. How many are woken. */
+/* Everybody who waits is woken, as POSIX allows. Whoever then goes on has slept though what it waits for held. How
+   many are woken. */
 static int wake_sleepers(void) {
     int woken = 0;
     for (struct monitor *m = every_monitor; m; m = m->next) {
@@ -195,8 +198,8 @@ static void start_watcher(void) {
     pthread_sigmask(SIG_SETMASK, &before, NULL);
 }
 
-/* ---- Signals that end a program which asks for nothing else. The watcher writes, since no call is safe in a handler; the thread that
-   got the signal waits for that, but not for ever: it may have what the writing needs. */
+/* ---- Signals that end a program which asks for nothing else. The watcher writes, since no call is safe in a
+   handler; the thread that got the signal waits for that, but not for ever: it may have what the writing needs. */
 
 static const int fatal[] = {SIGINT, SIGTERM, SIGHUP, SIGSEGV, SIGBUS, SIGFPE, SIGILL, SIGABRT};
 enum { FATAL = sizeof fatal / sizeof *fatal };

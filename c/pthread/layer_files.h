@@ -6,9 +6,10 @@
 #include <fcntl.h>
 
 static const char *const standings[] = {
-    "away", "at the entry", "inside", "waits", "signalled, comes in", "signaller, comes back in", "ghost", "ghost", "ghost"};
+    "away",  "at the entry", "inside", "waits", "signalled, comes in", "signaller, comes back in",
+    "ghost", "ghost",        "ghost"};
 
-static long ended_volumes, ended_timeouts, ended_outside;      /* of monitors whose mutex was destroyed */
+static long ended_volumes, ended_timeouts, ended_outside; /* of monitors whose mutex was destroyed */
 
 static void tell_seat(int file, struct monitor *m, int n) {
     struct place *p = &m->places[n];
@@ -22,8 +23,10 @@ static void tell_seat(int file, struct monitor *m, int n) {
 }
 
 static void tell_names(int file, struct monitor *m) {
-    write_line(file, "monitor %d %s volumes %ld timeouts %ld passed_on %ld taken_over %ld outside %ld late_renewals %ld\n", m->serial,
-               name_of(m->known.address).text, m->volumes + 1, m->timeouts, m->passed_on, m->taken_over, m->outside, m->late_renewals);
+    write_line(file,
+               "monitor %d %s volumes %ld timeouts %ld passed_on %ld taken_over %ld outside %ld late_renewals %ld\n",
+               m->serial, name_of(m->known.address).text, m->volumes + 1, m->timeouts, m->passed_on, m->taken_over,
+               m->outside, m->late_renewals);
     for (int k = 0; k < CONDITIONS; k++)
         if (m->conditions[k]) write_line(file, "condition %d %d %s\n", m->serial, k, name_of(m->conditions[k]).text);
 }
@@ -42,7 +45,8 @@ static FILE *open_history(struct monitor *m, const char *ending, const char *how
     return fopen(path, how);
 }
 
-/* How many seats and conditions were used, so that pictures have no empty lanes. Of the steward one event may be that of the look. */
+/* How many seats and conditions were used, so that pictures have no empty lanes. Of the steward one event may be
+   that of the look. */
 static int count_used_seats(struct hall *h, int is_look) {
     if (monk_left(h->seats[STEWARD]) + (uint32_t)is_look < h->budget) return SEATS;
     int seats = NUMBERS;
@@ -56,7 +60,8 @@ static int count_used_conditions(struct monitor *m) {
     return count;
 }
 
-/* The text without its last line. The visit that reads is none of the program's, and a history is legal without its last event. */
+/* The text without its last line. The visit that reads is none of the program's, and a history is legal without its
+   last event. */
 static size_t without_last_event(const char *text, size_t length) {
     do length--;
     while (length > 0 && text[length - 1] != '\n');
@@ -74,7 +79,8 @@ static int save_volume(struct monitor *m, struct hall *h, int n) {
     const char *events = memchr(text, '\n', length);
     FILE *file = events ? open_history(m, volume, "we") : NULL;
     if (file) {
-        fprintf(file, "monk 3 %s %d %d flags 1", monk_kind_name(asked.kind), count_used_seats(h, is_look), count_used_conditions(m));
+        fprintf(file, "monk 3 %s %d %d flags 1", monk_kind_name(asked.kind), count_used_seats(h, is_look),
+                count_used_conditions(m));
         fwrite(events, 1, length - (size_t)(events - text), file);
         fclose(file);
     }

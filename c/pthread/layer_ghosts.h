@@ -1,5 +1,6 @@
-/* layer_ghosts.h - seats at which no thread stands: they wait for entry, or for a condition, though their thread didn't want to wait any
-   longer; or they carry a signal in. Once inside they do what is theirs, and leave. Part of libmonk_pthread.c. */
+/* layer_ghosts.h - seats at which no thread stands: they wait for entry, or for a condition, though their thread
+   didn't want to wait any longer; or they carry a signal in. Once inside they do what is theirs, and leave. Part of
+   libmonk_pthread.c. */
 #ifndef LAYER_GHOSTS_H
 #define LAYER_GHOSTS_H
 
@@ -17,7 +18,8 @@ static void leave_by(struct monitor *m, monk_seat *seat) {
     sure(m, monk_signal_leave(seat, (unsigned)condition), "signal_leave");
 }
 
-/* What a ghost does that has come in. A signal that served it is passed on by the signaller, or by the ghost as it leaves. */
+/* What a ghost does that has come in. A signal that served it is passed on by the signaller, or by the ghost as it
+   leaves. */
 static void do_errands(struct monitor *m, int n) {
     struct place *p = &m->places[n];
     int passes_on = asked.mode == MONK_IMMEDIATE_RETURN && count_queued(m, p->condition);
@@ -34,7 +36,7 @@ static int look_after(struct monitor *m, int n) {
     int standing = p->standing;
     if ((standing != GHOST_LATE && standing != GHOST_SERVED) || !h || monk_poll(h->seats[n]) != MONK_INSIDE) return 0;
     do_errands(m, n);
-    if (p->is_signaller) return 1;              /* it signalled, and waits to come back in */
+    if (p->is_signaller) return 1; /* it signalled, and waits to come back in */
     atomic_fetch_sub(&m->due, 1);
     leave_by(m, h->seats[n]);
     give_number(m, n);
@@ -57,8 +59,9 @@ static void released(struct monitor *m) {
     if (atomic_load(&m->due) > 0) look_after_ghosts(m);
 }
 
-/* A number for a visit: the steward's if all others are lent. NONE if by now somebody else sends the signals: whoever has come in, or the
-   thread itself by its own seat, which a signal has served. It doesn't sleep for a number: others may wait for its own seat. */
+/* A number for a visit: the steward's if all others are lent. NONE if by now somebody else sends the signals:
+   whoever has come in, or the thread itself by its own seat, which a signal has served. It doesn't sleep for a
+   number: others may wait for its own seat. */
 static int visiting_number(struct monitor *m, struct thread *t, const struct place *own) {
     for (;;) {
         int n = free_number(m, t);
@@ -73,7 +76,7 @@ static int visiting_number(struct monitor *m, struct thread *t, const struct pla
 /* For pending signals, by a ghost: so no thread sleeps because it signals. */
 static void visit(struct monitor *m, int n) {
     struct place *p = &m->places[n];
-    take(&m->lock);                             /* no renewal now */
+    take(&m->lock); /* no renewal now */
     struct hall *h = m->hall;
     p->used = p->home = h;
     sure(m, monk_arrive(h->seats[n]), "arrive");
@@ -83,7 +86,8 @@ static void visit(struct monitor *m, int n) {
     look_after_ghosts(m);
 }
 
-/* After the monitor was given up: signals that came too late for whoever was inside, if nobody is. The thread may wait by its own seat. */
+/* After the monitor was given up: signals that came too late for whoever was inside, if nobody is. The thread may
+   wait by its own seat. */
 static void visit_if_pending(struct monitor *m, const struct place *own) {
     if (!atomic_load(&m->has_pending) || atomic_load(&m->owner)) return;
     int n = visiting_number(m, self(), own);

@@ -1,8 +1,10 @@
-/* layer_halls.h - the library's monitors behind one of the program's: a volume of its history each. Part of libmonk_pthread.c.
+/* layer_halls.h - the library's monitors behind one of the program's: a volume of its history each. Part of
+   libmonk_pthread.c.
 
-   A seat has so many events. When one has spent half of them, the next thread that is inside while nobody is on the way makes a new hall,
-   in which all who wait wait in the same order, and stops the old one. Whoever sleeps in the old hall comes back from it, and goes on in
-   the new. The renewer's seat stays inside the old hall for ever, so nobody else comes in there. */
+   A seat has so many events. When one has spent half of them, the next thread that is inside while nobody is on the
+   way makes a new hall, in which all who wait wait in the same order, and stops the old one. Whoever sleeps in the
+   old hall comes back from it, and goes on in the new. The renewer's seat stays inside the old hall for ever, so
+   nobody else comes in there. */
 #ifndef LAYER_HALLS_H
 #define LAYER_HALLS_H
 
@@ -18,7 +20,8 @@ static uint32_t budget_of(unsigned volume) {
 static struct hall *make_hall(unsigned volume, int serial) {
     struct hall *h = calloc(1, sizeof *h);
     uint64_t seed = asked.seed * 1000003 + (unsigned)serial * 101u + volume;
-    monk_shape shape = {.kind = asked.kind, .seats = SEATS, .conditions = CONDITIONS, .budget = budget_of(volume), .seed = seed};
+    monk_shape shape = {
+        .kind = asked.kind, .seats = SEATS, .conditions = CONDITIONS, .budget = budget_of(volume), .seed = seed};
     if (!h || monk_make(&h->monitor, &shape)) {
         free(h);
         return NULL;
@@ -37,7 +40,8 @@ static void free_hall(struct hall *h) {
     free(h);
 }
 
-/* The answer of a call that can't be refused. If it is, the layer's picture of the monitor is wrong, and the run is worth nothing. */
+/* The answer of a call that can't be refused. If it is, the layer's picture of the monitor is wrong, and the run is
+   worth nothing. */
 static int sure(struct monitor *m, int answer, const char *call) {
     if (answer < 0) refuse_of(m, "%s: %s", call, monk_strerror(answer));
     return answer;
@@ -83,7 +87,8 @@ static void retire(struct monitor *m, struct hall *h) {
 static int next_waiting(struct monitor *m, uint32_t seen) {
     int first = NONE;
     for (int n = 0; n < NUMBERS; n++)
-        if (m->places[n].standing == WAITS && !(seen & 1u << n) && (first == NONE || m->places[n].ticket < m->places[first].ticket))
+        if (m->places[n].standing == WAITS && !(seen & 1u << n) &&
+            (first == NONE || m->places[n].ticket < m->places[first].ticket))
             first = n;
     return first;
 }
@@ -98,14 +103,16 @@ static uint32_t carry_over(struct monitor *m, struct hall *new) {
     return moved;
 }
 
-/* Who was carried over may have become a ghost meanwhile: then it is one of the new hall. All other ghosts are left behind: those that
-   waited on a condition. */
+/* Who was carried over may have become a ghost meanwhile: then it is one of the new hall. All other ghosts are left
+   behind: those that waited on a condition. */
 static uint32_t move_numbers(struct monitor *m, struct hall *new, uint32_t moved) {
     uint32_t left = 0;
     for (int n = 0; n < SEATS; n++) {
         int standing = m->places[n].standing;
-        if (moved >> n & 1) m->places[n].home = new;
-        else if (standing == GHOST_WAITS) left |= 1u << n;
+        if (moved >> n & 1)
+            m->places[n].home = new;
+        else if (standing == GHOST_WAITS)
+            left |= 1u << n;
         if (moved >> n & 1 || (standing != GHOST_WAITS && standing != GHOST_LATE)) continue;
         if (standing == GHOST_LATE) atomic_fetch_sub(&m->due, 1);
         give_number(m, n);
@@ -113,8 +120,8 @@ static uint32_t move_numbers(struct monitor *m, struct hall *new, uint32_t moved
     return left;
 }
 
-/* A new hall takes the place of the old one, by the seat n that is inside. Nobody may be on the way: then what has to be carried over is
-   who waits where. 0 if there is no memory. */
+/* A new hall takes the place of the old one, by the seat n that is inside. Nobody may be on the way: then what has
+   to be carried over is who waits where. 0 if there is no memory. */
 static int renew(struct monitor *m, int n) {
     struct hall *old = m->hall, *new = make_hall(old->volume + 1, m->serial);
     if (!new) return 0;
@@ -135,7 +142,8 @@ static int renew(struct monitor *m, int n) {
 
 static int may_renew(const struct monitor *m) { return m->transit == 0 && m->deferred == NONE; }
 
-/* By the seat n that is inside. While somebody is on the way releases prefer who waits inside, so that soon nobody is. */
+/* By the seat n that is inside. While somebody is on the way releases prefer who waits inside, so that soon nobody
+   is. */
 static void renew_if_due(struct monitor *m, int n) {
     struct hall *h = m->hall;
     uint32_t left = monk_left(h->seats[n]);

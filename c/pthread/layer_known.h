@@ -10,15 +10,15 @@
 #include <sys/syscall.h>
 
 enum {
-    NUMBERS = 31,               /* the seats by which threads come */
-    STEWARD = 31,               /* the last seat: for a look at the history, and for a renewal where ghosts have all numbers */
+    NUMBERS = 31, /* the seats by which threads come */
+    STEWARD = 31, /* the last seat: for a look at the history, and for a renewal where ghosts have all numbers */
     SEATS = 32,
     CONDITIONS = 8,
     SLOT_BITS = 14,
-    SLOTS = 1 << SLOT_BITS,     /* of a table */
-    CHUNK = 1 << 16,            /* bytes that are asked for at once */
-    LIVE = 1 << 30,             /* of a thread's uses, while it lives */
-    NONE = -1                   /* no number, no condition */
+    SLOTS = 1 << SLOT_BITS, /* of a table */
+    CHUNK = 1 << 16,        /* bytes that are asked for at once */
+    LIVE = 1 << 30,         /* of a thread's uses, while it lives */
+    NONE = -1               /* no number, no condition */
 };
 
 /* Where a seat stands, by its number, which it keeps from hall to hall. A ghost is a seat that no thread stands at. */
@@ -28,12 +28,12 @@ struct thread {
     struct thread *next, *next_idle;
     pthread_t self;
     pid_t id;
-    unsigned index;                         /* in the order in which threads made their first call */
-    int numbers;                            /* that it has, and didn't give back itself; touched by the thread alone */
-    _Atomic int uses;                       /* LIVE, less what others gave back for it; behind its end the numbers that it still has */
+    unsigned index;   /* in the order in which threads made their first call */
+    int numbers;      /* that it has, and didn't give back itself; touched by the thread alone */
+    _Atomic int uses; /* LIVE, less what others gave back for it; behind its end the numbers that it still has */
     _Atomic int is_cancelled, has_ended;
-    _Atomic int sleeps;                     /* in a wait that has no limit: it wakes at times to look whether it is cancelled */
-    const void *_Atomic from;               /* where its last wait was called */
+    _Atomic int sleeps;       /* in a wait that has no limit: it wakes at times to look whether it is cancelled */
+    const void *_Atomic from; /* where its last wait was called */
     uint64_t dice;
 };
 
@@ -48,41 +48,43 @@ struct hall {
 
 struct place {
     _Atomic int standing, condition;
-    struct hall *_Atomic used;              /* the hall that a thread may be using by this number: nobody frees it */
-    struct hall *_Atomic home;              /* the hall where the number stands now */
+    struct hall *_Atomic used; /* the hall that a thread may be using by this number: nobody frees it */
+    struct hall *_Atomic home; /* the hall where the number stands now */
     struct thread *_Atomic who;
-    uint64_t ticket;                        /* of waits, in the order in which they began */
-    int is_signaller;                       /* of a ghost: it signalled, and is to come back in */
+    uint64_t ticket;  /* of waits, in the order in which they began */
+    int is_signaller; /* of a ghost: it signalled, and is to come back in */
 };
 
-/* Begins what is known of an address. Its memory never becomes that of another kind of thing: a thread may look at it late. */
+/* Begins what is known of an address. Its memory never becomes that of another kind of thing: a thread may look at
+   it late. */
 struct known {
     const void *_Atomic address;
 };
 
-/* A mutex of the program's on whose conditions threads wait. What isn't atomic is touched by the seat that is inside. */
+/* A mutex of the program's on whose conditions threads wait. What isn't atomic is touched by the seat that is
+   inside. */
 struct monitor {
     struct known known;
-    struct monitor *next;                   /* of every monitor that ever was */
-    _Atomic int lock;                       /* of ghosts, and of renewal */
+    struct monitor *next; /* of every monitor that ever was */
+    _Atomic int lock;     /* of ghosts, and of renewal */
     struct hall *_Atomic hall;
     struct hall *retired;
     struct place places[SEATS];
-    _Atomic uint32_t free;                  /* the numbers that nobody has */
-    _Atomic int wanting;                    /* threads that sleep until a number is free */
+    _Atomic uint32_t free; /* the numbers that nobody has */
+    _Atomic int wanting;   /* threads that sleep until a number is free */
     _Atomic int has_steward;
-    _Atomic int inside;                     /* the number of the thread that is inside, or NONE */
+    _Atomic int inside; /* the number of the thread that is inside, or NONE */
     struct thread *_Atomic owner;
-    _Atomic int due;                        /* ghosts that are to come in and leave */
+    _Atomic int due; /* ghosts that are to come in and leave */
     _Atomic int has_pending;
-    _Atomic int64_t pending[CONDITIONS];    /* signals by threads that were outside, and above them broadcasts */
+    _Atomic int64_t pending[CONDITIONS]; /* signals by threads that were outside, and above them broadcasts */
     const void *_Atomic conditions[CONDITIONS];
     int serial, depth;
-    int transit;                            /* seats that were served or signalled, and aren't back inside */
-    int deferred;                           /* the condition that an immediate-return kind signals as it goes out, or NONE */
+    int transit;  /* seats that were served or signalled, and aren't back inside */
+    int deferred; /* the condition that an immediate-return kind signals as it goes out, or NONE */
     int wants_renewal;
     uint64_t tickets;
-    _Atomic int is_dead;                    /* the mutex was destroyed: its histories are written */
+    _Atomic int is_dead; /* the mutex was destroyed: its histories are written */
     _Atomic unsigned long steps;
     _Atomic long volumes, timeouts, passed_on, taken_over, outside, late_renewals;
 };
@@ -123,7 +125,8 @@ static struct name name_of(const void *address) {
     struct name name;
     Dl_info in;
     if (address && dladdr(address, &in) && in.dli_fname)
-        snprintf(name.text, sizeof name.text, "%s+%#lx", in.dli_fname, (unsigned long)((uintptr_t)address - (uintptr_t)in.dli_fbase));
+        snprintf(name.text, sizeof name.text, "%s+%#lx", in.dli_fname,
+                 (unsigned long)((uintptr_t)address - (uintptr_t)in.dli_fbase));
     else
         snprintf(name.text, sizeof name.text, "%p", address);
     return name;
@@ -146,7 +149,8 @@ static inline void take(_Atomic int *lock) {
 
 static inline void let(_Atomic int *lock) { atomic_store_explicit(lock, 0, memory_order_release); }
 
-/* Seen by whoever takes over what was lent, or comes in later; not at once by everybody, as a plain store to an atomic would be. */
+/* Seen by whoever takes over what was lent, or comes in later; not at once by everybody, as a plain store to an
+   atomic would be. */
 #define store(object, value) atomic_store_explicit(&(object), value, memory_order_release)
 
 /* Fresh memory, all zero. It doesn't come from malloc, whose locks may be those that the layer stands in for. */
@@ -210,7 +214,9 @@ static void take_out(struct table *t, struct known *k) {
 
 static inline struct monitor *monitor_of(const void *mutex) { return (struct monitor *)find(&monitors, mutex); }
 
-static inline struct condition *condition_of(const void *address) { return (struct condition *)find(&conditions, address); }
+static inline struct condition *condition_of(const void *address) {
+    return (struct condition *)find(&conditions, address);
+}
 
 /* What is known of a condition from now on. */
 static struct condition *make_condition(const void *address) {
@@ -279,8 +285,10 @@ static void change_uses(struct thread *t, int change) {
 }
 
 static void drop_number(struct thread *t) {
-    if (t == me) t->numbers--;
-    else change_uses(t, -1);
+    if (t == me)
+        t->numbers--;
+    else
+        change_uses(t, -1);
 }
 
 static void thread_ends(void *it) {
@@ -303,8 +311,10 @@ __attribute__((noinline, cold)) static void shake_now(void) {
     unsigned dice = roll(self());
     int error = errno;
     struct timespec nap = {0, (long)(dice / SIDES % NAP_NS)};
-    if (dice % SIDES < NAPS) nanosleep(&nap, NULL);
-    else if (dice % SIDES < NAPS + YIELDS) sched_yield();
+    if (dice % SIDES < NAPS)
+        nanosleep(&nap, NULL);
+    else if (dice % SIDES < NAPS + YIELDS)
+        sched_yield();
     errno = error;
 }
 
@@ -340,12 +350,14 @@ static void await_number(struct monitor *m) {
     atomic_fetch_sub(&m->wanting, 1);
 }
 
-/* Looks for a number before it is said that there are too many threads: by then some that were served may have gone on. */
+/* Looks for a number before it is said that there are too many threads: by then some that were served may have gone
+   on. */
 enum { PATIENT_LOOKS = 20 };
 
 /* To the thread that calls. */
 static int lend(struct monitor *m, int n, struct thread *t) {
     t->numbers++;
+    m->places[n].is_signaller = 0;
     store(m->places[n].who, t);
     return n;
 }
@@ -370,8 +382,10 @@ static void give_number(struct monitor *m, int n) {
     store(p->used, NULL);
     store(p->home, NULL);
     store(p->standing, AWAY);
-    if (n == STEWARD) let(&m->has_steward);
-    else atomic_fetch_or(&m->free, 1u << n);
+    if (n == STEWARD)
+        let(&m->has_steward);
+    else
+        atomic_fetch_or(&m->free, 1u << n);
     if (m->wanting) syscall(SYS_futex, &m->free, FUTEX_WAKE_PRIVATE, INT32_MAX, NULL, NULL, 0);
     if (t) drop_number(t);
 }

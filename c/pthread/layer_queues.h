@@ -1,5 +1,5 @@
-/* layer_queues.h - who waits on which condition, as the kernel has it too: so the layer knows whom a signal serves before the kernel is
-   told of it. All is called from inside. Part of libmonk_pthread.c. */
+/* layer_queues.h - who waits on which condition, as the kernel has it too: so the layer knows whom a signal serves
+   before the kernel is told of it. All is called from inside. Part of libmonk_pthread.c. */
 #ifndef LAYER_QUEUES_H
 #define LAYER_QUEUES_H
 
@@ -19,13 +19,15 @@ static int count_queued(struct monitor *m, int condition) {
 static int first_queued(struct monitor *m, int condition) {
     int first = NONE;
     for (int n = 0; n < NUMBERS; n++)
-        if (is_queued(&m->places[n], condition) && (first == NONE || m->places[n].ticket < m->places[first].ticket)) first = n;
+        if (is_queued(&m->places[n], condition) && (first == NONE || m->places[n].ticket < m->places[first].ticket))
+            first = n;
     return first;
 }
 
 enum served { SERVED_NOBODY, SERVED_GHOST, SERVED_THREAD };
 
-/* Serves the first who waits. A thread whose time is over at this moment has become a ghost, or comes in by this signal. */
+/* Serves the first who waits. A thread whose time is over at this moment has become a ghost, or comes in by this
+   signal. */
 static enum served serve(struct monitor *m, int condition) {
     int first = first_queued(m, condition), is = WAITS;
     if (first == NONE) return SERVED_NOBODY;

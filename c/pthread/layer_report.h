@@ -19,7 +19,8 @@ static void save_by_ended(struct monitor *m) {
     if (t && t->has_ended) save_volume(m, m->hall, m->inside);
 }
 
-/* The program goes on behind this: the steward comes in and leaves, or stays as a ghost if its turn doesn't come. Whether it came. */
+/* The program goes on behind this: the steward comes in and leaves, or stays as a ghost if its turn doesn't come.
+   Whether it came. */
 static int save_by_visit(struct monitor *m, int looks) {
     struct timespec limit = look_limit(looks);
     if (!come_in_by(m, STEWARD, &limit)) return save_by_ended(m), 0;
@@ -30,8 +31,8 @@ static int save_by_visit(struct monitor *m, int looks) {
     return 1;
 }
 
-/* The process ends behind this: so no seat needs to leave, and the seat of whoever is inside may be used. (Whoever refuses may hold the
-   monitor's lock.) */
+/* The process ends behind this: so no seat needs to leave, and the seat of whoever is inside may be used. (Whoever
+   refuses may hold the monitor's lock.) */
 static int save_at_last(struct monitor *m, int looks) {
     struct hall *h = use(&m->places[STEWARD], &m->hall);
     int inside = m->inside;

@@ -12,21 +12,27 @@
 #include <sys/stat.h>
 #include <unistd.h>
 
-enum { STATUS_LATE = 124 /* as of timeout(1) */, STATUS_CANT = 125, LONGEST_LINE = 600, LONGEST_PATH = 500, MOST_BUDGET = 1 << 20 };
+enum {
+    STATUS_LATE = 124 /* as of timeout(1) */,
+    STATUS_CANT = 125,
+    LONGEST_LINE = 600,
+    LONGEST_PATH = 500,
+    MOST_BUDGET = 1 << 20
+};
 
-/* How the layer mends a program, for monk-try to see what would be right: each signal is a broadcast; or all who wait are woken when
-   all sleep for ever. */
+/* How the layer mends a program, for monk-try to see what would be right: each signal is a broadcast; or all who
+   wait are woken when all sleep for ever. */
 enum { AS_IT_IS, BROADCASTS, WAKES_SLEEPERS };
 
 static struct {
     int kind, mode, wish;
-    int shakes;                 /* threads let others go first at random */
-    int eager;                  /* so many mutexes are monitors from their first lock on */
+    int shakes; /* threads let others go first at random */
+    int eager;  /* so many mutexes are monitors from their first lock on */
     int mend;
-    uint32_t budget;            /* events of a seat in a volume; 0: each volume has twice as many as the one before */
+    uint32_t budget; /* events of a seat in a volume; 0: each volume has twice as many as the one before */
     uint64_t seed;
-    double seconds;             /* after so long the program is ended; 0: never */
-    const char *left_alone;     /* mutexes that stay what they are */
+    double seconds;         /* after so long the program is ended; 0: never */
+    const char *left_alone; /* mutexes that stay what they are */
     const char *history, *report;
 } asked = {.kind = MONK_NPNB, .wish = MONK_WAITER, .seed = 1};
 
@@ -64,7 +70,8 @@ static void read_number(const char *name, uint64_t least, uint64_t most, uint64_
     if (!text) return;
     errno = 0;
     uint64_t is = strtoull(text, &end, 10);
-    if (*text < '0' || *text > '9' || *end || errno || is < least || is > most) refuse_setting(name, text, "no number, or out of range");
+    if (*text < '0' || *text > '9' || *end || errno || is < least || is > most)
+        refuse_setting(name, text, "no number, or out of range");
     *number = is;
 }
 
@@ -95,10 +102,12 @@ static void read_seconds(void) {
     char *end;
     if (!text) return;
     asked.seconds = strtod(text, &end);
-    if (*text < '0' || *text > '9' || *end || !(asked.seconds < 1e9)) refuse_setting("MONK_SECONDS", text, "no number of seconds");
+    if (*text < '0' || *text > '9' || *end || !(asked.seconds < 1e9))
+        refuse_setting("MONK_SECONDS", text, "no number of seconds");
 }
 
-/* The process that monk-run became writes into DIR and FILE; each other that it starts or that is forked into DIR/PID and FILE.PID. */
+/* The process that monk-run became writes into DIR and FILE; each other that it starts or that is forked into
+   DIR/PID and FILE.PID. */
 static void name_files(const char *history, const char *report) {
     const char *owner = getenv("MONK_OWNER");
     int is_owner = !owner || atol(owner) == getpid();
@@ -108,7 +117,8 @@ static void name_files(const char *history, const char *report) {
     asked.report = report ? report_of_process : NULL;
 }
 
-/* An allocator that isn't the C library's may have mutexes. A hall takes memory, so none can be made while one of those is held. */
+/* An allocator that isn't the C library's may have mutexes. A hall takes memory, so none can be made while one of
+   those is held. */
 static int has_own_allocator(void) {
     Dl_info of_malloc, of_library;
     void *allocator = dlsym(RTLD_DEFAULT, "malloc"), *library = dlsym(RTLD_NEXT, "getenv");

@@ -1,4 +1,5 @@
-/* layer_visits.h - threads come in and go out; how a mutex becomes a monitor, and ceases to be one. Part of libmonk_pthread.c. */
+/* layer_visits.h - threads come in and go out; how a mutex becomes a monitor, and ceases to be one. Part of
+   libmonk_pthread.c. */
 #ifndef LAYER_VISITS_H
 #define LAYER_VISITS_H
 
@@ -15,7 +16,8 @@ static void go_out(struct monitor *m) {
     visit_if_pending(m, NULL);
 }
 
-/* MONK_WAITING if the limit is over (a time of CLOCK_MONOTONIC; null: there is none). MONK_STOPPED: another hall took this one's place. */
+/* MONK_WAITING if the limit is over (a time of CLOCK_MONOTONIC; null: there is none). MONK_STOPPED: another hall
+   took this one's place. */
 static int arrive_at(struct monitor *m, struct hall *h, int n, const struct timespec *limit) {
     if (!limit) return monk_enter(h->seats[n]);
     sure(m, monk_arrive(h->seats[n]), "arrive");
@@ -51,8 +53,8 @@ static int come_in_by(struct monitor *m, int n, const struct timespec *limit) {
     return 0;
 }
 
-/* Whether the thread came in before the limit was over. The steward is lent where ghosts have all numbers: it leaves them behind in a
-   new hall, and then the thread comes by another. */
+/* Whether the thread came in before the limit was over. The steward is lent where ghosts have all numbers: it leaves
+   them behind in a new hall, and then the thread comes by another. */
 static int enter(struct monitor *m, struct thread *t, const struct timespec *limit, int depth) {
     for (;;) {
         int n = take_number(m, t);
@@ -65,10 +67,10 @@ static int enter(struct monitor *m, struct thread *t, const struct timespec *lim
     }
 }
 
-static const struct timespec no_time;       /* a limit that is over */
+static const struct timespec no_time; /* a limit that is over */
 
-/* ---- Promotion. A mutex becomes a monitor by the thread that has it, and under it. Who slept at the mutex looks again once it has it:
-   so whoever has the mutex, and finds no monitor, is inside. */
+/* ---- Promotion. A mutex becomes a monitor by the thread that has it, and under it. Who slept at the mutex looks
+   again once it has it: so whoever has the mutex, and finds no monitor, is inside. */
 
 enum { TYPE_BITS = 3, ROBUST = 16, INHERITS = 32, PROTECTS = 64, SHARED = 128 };
 
@@ -127,7 +129,8 @@ static void set_up(struct monitor *m, const void *mutex, struct hall *h, int ser
     m->is_dead = 0;
 }
 
-/* The monitor of a mutex that the thread has locked so many times: the thread is inside. Null where there is no room. */
+/* The monitor of a mutex that the thread has locked so many times: the thread is inside. Null where there is no
+   room. */
 static struct monitor *make_monitor(pthread_mutex_t *mutex, struct thread *t, int times) {
     int serial = atomic_fetch_add(&serials, 1) + 1;
     struct hall *h = make_hall(1, serial);
@@ -177,7 +180,8 @@ static void give_ghosts_back(struct monitor *m) {
         if (m->places[n].standing >= GHOST_WAITS) give_number(m, n);
 }
 
-/* The mutex is destroyed, or its memory is used for another. If somebody has it or waits, it stays: that is the program's error. */
+/* The mutex is destroyed, or its memory is used for another. If somebody has it or waits, it stays: that is the
+   program's error. */
 static void forget_mutex(const void *mutex) {
     struct monitor *m = monitor_of(mutex);
     if (!m || m->owner || count_standing(m, WAITS) || !enter(m, self(), &no_time, 1)) return;

@@ -1,7 +1,8 @@
 /* layer_waits.h - waits on conditions, with and without a limit. Part of libmonk_pthread.c.
 
-   A thread whose time is over makes its seat a ghost, if no signal has served it, and comes in by another. A signal that serves the ghost
-   is passed on. A later wait of the thread on the same condition takes the ghost over, at its old place in the queue. */
+   A thread whose time is over makes its seat a ghost, if no signal has served it, and comes in by another. A signal
+   that serves the ghost is passed on. A later wait of the thread on the same condition takes the ghost over, at its
+   old place in the queue. */
 #ifndef LAYER_WAITS_H
 #define LAYER_WAITS_H
 
@@ -13,13 +14,15 @@ struct wait {
     struct monitor *monitor;
     struct thread *thread;
     int number, depth, condition;
-    const struct timespec *until;       /* null: no limit */
+    const struct timespec *until; /* null: no limit */
     clockid_t clock;
 };
 
 /* ---- Times */
 
-static int is_before(struct timespec a, struct timespec b) { return a.tv_sec < b.tv_sec || (a.tv_sec == b.tv_sec && a.tv_nsec < b.tv_nsec); }
+static int is_before(struct timespec a, struct timespec b) {
+    return a.tv_sec < b.tv_sec || (a.tv_sec == b.tv_sec && a.tv_nsec < b.tv_nsec);
+}
 
 static struct timespec time_of(clockid_t clock) {
     struct timespec now;
@@ -46,7 +49,9 @@ static struct timespec next_look(clockid_t clock, const struct timespec *until) 
     return until && is_before(limit, look) ? limit : look;
 }
 
-static int is_over(clockid_t clock, const struct timespec *until) { return until && !is_before(time_of(clock), *until); }
+static int is_over(clockid_t clock, const struct timespec *until) {
+    return until && !is_before(time_of(clock), *until);
+}
 
 static int is_time(const struct timespec *time) { return time->tv_nsec >= 0 && time->tv_nsec < NS_A_SECOND; }
 
@@ -77,7 +82,7 @@ static int number_of(struct monitor *m, const void *address) {
     struct condition *c = make_condition(address);
     if (c->of == m && m->conditions[c->number] == address) return c->number;
     int k = spare_condition(m);
-    if (k == NONE && may_renew(m) && renew(m, m->inside)) k = spare_condition(m);       /* ghosts don't wait any more */
+    if (k == NONE && may_renew(m) && renew(m, m->inside)) k = spare_condition(m); /* ghosts don't wait any more */
     if (k == NONE) refuse_of(m, "threads wait on more than %d of its conditions at once", CONDITIONS);
     use_number(m, k, c);
     return k;
@@ -122,19 +127,26 @@ static void start_wait(struct wait *w) {
     p->home = m->hall;
     p->standing = WAITS;
     note_outside(m);
-    sure(m, signals == NONE ? monk_start_wait(seat, condition) : monk_start_signal_wait(seat, (unsigned)signals, condition), "wait");
+    sure(m,
+         signals == NONE ? monk_start_wait(seat, condition)
+                         : monk_start_signal_wait(seat, (unsigned)signals, condition),
+         "wait");
     released(m);
 }
 
 static void begin_wait(struct wait *w) {
     struct monitor *m = w->monitor;
     int hands_over = asked.mode == MONK_BLOCKING || asked.mode == MONK_QUASI_BLOCKING;
-    if (hands_over) keep_pending(m);
-    else send_pending(m, w->number);
+    if (hands_over)
+        keep_pending(m);
+    else
+        send_pending(m, w->number);
     renew_if_due(m, w->number);
     int ghost = own_ghost(w);
-    if (ghost != NONE) take_over(w, ghost);
-    else start_wait(w);
+    if (ghost != NONE)
+        take_over(w, ghost);
+    else
+        start_wait(w);
     visit_if_pending(m, &m->places[w->number]);
 }
 
@@ -177,7 +189,8 @@ static void end_served(struct wait *w) {
     renew_if_due(m, w->number);
 }
 
-/* The thread is inside again, by another number. If it was cancelled it ends here, and its clean-up handlers have the mutex. */
+/* The thread is inside again, by another number. If it was cancelled it ends here, and its clean-up handlers have
+   the mutex. */
 static int end_given_up(struct wait *w) {
     struct monitor *m = w->monitor;
     int is_late = is_over(w->clock, w->until);
@@ -186,13 +199,14 @@ static int end_given_up(struct wait *w) {
     enter(m, w->thread, NULL, w->depth);
     if (is_late) return ETIMEDOUT;
     pthread_testcancel();
-    w->thread->is_cancelled = 0;         /* the mark was for another of the same name */
+    w->thread->is_cancelled = 0; /* the mark was for another of the same name */
     return 0;
 }
 
 /* The wait of pthread_cond_wait and the like by the thread that is inside: 0 or ETIMEDOUT. */
 static int wait_with(struct monitor *m, const void *condition, clockid_t clock, const struct timespec *until) {
-    struct wait w = {.monitor = m, .thread = self(), .number = m->inside, .depth = m->depth, .until = until, .clock = clock};
+    struct wait w = {
+        .monitor = m, .thread = self(), .number = m->inside, .depth = m->depth, .until = until, .clock = clock};
     pthread_testcancel();
     w.condition = number_of(m, condition);
     begin_wait(&w);

@@ -1,12 +1,13 @@
-/* libmonk_pthread.c - runs an unchanged program of pthreads or C11 threads under any kind of monitor that has signals, by LD_PRELOAD.
+/* libmonk_pthread.c - runs an unchanged program of pthreads or C11 threads under any kind of monitor that has
+   signals, by LD_PRELOAD.
 
-   monk-run says how it is asked, and docs/TRY.md what it tells. A mutex becomes a monitor when a thread first waits on a condition with
-   it; until then it is what it was. None of this is proved: the monitors below it are (monk.h).
+   monk-run says how it is asked, and docs/TRY.md what it tells. A mutex becomes a monitor when a thread first waits
+   on a condition with it; until then it is what it was. None of this is proved: the monitors below it are (monk.h).
 
-   The parts: layer_real.h, the functions behind; layer_settings.h, what is asked; layer_known.h, threads, monitors and conditions;
-   layer_queues.h, who waits where; layer_files.h, histories and the report; layer_halls.h, volumes of a monitor; layer_signals.h;
-   layer_ghosts.h, seats without a thread; layer_visits.h, entering, leaving, and how a mutex becomes a monitor; layer_waits.h;
-   layer_report.h and layer_ends.h, the ends of a run. */
+   The parts: layer_real.h, the functions behind; layer_settings.h, what is asked; layer_known.h, threads, monitors
+   and conditions; layer_queues.h, who waits where; layer_files.h, histories and the report; layer_halls.h, volumes
+   of a monitor; layer_signals.h; layer_ghosts.h, seats without a thread; layer_visits.h, entering, leaving, and how
+   a mutex becomes a monitor; layer_waits.h; layer_report.h and layer_ends.h, the ends of a run. */
 #define _GNU_SOURCE
 #include "layer_ends.h"
 
@@ -14,8 +15,8 @@
 
 static _Atomic int is_ready;
 
-/* How much a call on a mutex has to look at: all, while the start isn't over, if threads are shaken, or if mutexes are monitors from their
-   first lock on; else whether the mutex is a monitor, once there is one. */
+/* How much a call on a mutex has to look at: all, while the start isn't over, if threads are shaken, or if mutexes
+   are monitors from their first lock on; else whether the mutex is a monitor, once there is one. */
 enum attention { NOTHING, MONITORS, ALL };
 static _Atomic int attention = ALL;
 
@@ -115,7 +116,8 @@ static int lock_by(struct locking it) {
 /* The way of an ordinary mutex is short. */
 int pthread_mutex_lock(pthread_mutex_t *mutex) {
     int is = attention;
-    if (is == ALL || (is == MONITORS && monitor_of(mutex))) return lock_by((struct locking){.mutex = mutex, .how = LOCK});
+    if (is == ALL || (is == MONITORS && monitor_of(mutex)))
+        return lock_by((struct locking){.mutex = mutex, .how = LOCK});
     int answer = real.lock(mutex);
     if (attention == NOTHING || !monitor_of(mutex)) return answer;
     return look_again(&(struct locking){.mutex = mutex, .how = LOCK}, answer);
@@ -178,7 +180,7 @@ static int wait_really(struct locking it, pthread_cond_t *condition) {
     }
 }
 
-enum { IS_MONOTONIC = 2 };      /* the bit of a condition that was made for this clock */
+enum { IS_MONOTONIC = 2 }; /* the bit of a condition that was made for this clock */
 
 static int wait_by(struct locking it, pthread_cond_t *condition, const void *from) {
     init();
@@ -205,7 +207,8 @@ int pthread_cond_timedwait(pthread_cond_t *condition, pthread_mutex_t *mutex, co
     return wait_by((struct locking){mutex, TIMED, CLOCK_REALTIME, until}, condition, CALLER);
 }
 
-int pthread_cond_clockwait(pthread_cond_t *condition, pthread_mutex_t *mutex, clockid_t clock, const struct timespec *until) {
+int pthread_cond_clockwait(pthread_cond_t *condition, pthread_mutex_t *mutex, clockid_t clock,
+                           const struct timespec *until) {
     return wait_by((struct locking){mutex, CLOCK, clock, until}, condition, CALLER);
 }
 
@@ -226,14 +229,18 @@ static int is_signalled(const void *condition, int is_broadcast) {
     struct monitor *m = c ? c->of : NULL;
     if (!m) return 0;
     struct thread *t = self();
-    if (m->owner == t) signal_by(m, m->inside, c->number, is_broadcast, t);
-    else signal_from_outside(m, c->number, is_broadcast);
+    if (m->owner == t)
+        signal_by(m, m->inside, c->number, is_broadcast, t);
+    else
+        signal_from_outside(m, c->number, is_broadcast);
     return 1;
 }
 
 int pthread_cond_signal(pthread_cond_t *condition) { return is_signalled(condition, 0) ? 0 : real.signal(condition); }
 
-int pthread_cond_broadcast(pthread_cond_t *condition) { return is_signalled(condition, 1) ? 0 : real.broadcast(condition); }
+int pthread_cond_broadcast(pthread_cond_t *condition) {
+    return is_signalled(condition, 1) ? 0 : real.broadcast(condition);
+}
 
 int pthread_cond_init(pthread_cond_t *condition, const pthread_condattr_t *attributes) {
     init();
@@ -314,7 +321,8 @@ void cnd_destroy(cnd_t *condition) {
 
 /* ---- Ends and signals of the process */
 
-/* The target sees the mark when it wakes from its wait to look; a thread that isn't known yet finds itself cancelled as it begins one. */
+/* The target sees the mark when it wakes from its wait to look; a thread that isn't known yet finds itself cancelled
+   as it begins one. */
 int pthread_cancel(pthread_t thread) {
     init();
     int answer = real.cancel(thread);
@@ -334,7 +342,7 @@ void _Exit(int status) { _exit(status); }
 /* The program is told that nothing was changed. */
 int sigaction(int number, const struct sigaction *new, struct sigaction *old) {
     init();
-    int is_default = new && !(new->sa_flags & SA_SIGINFO) && new->sa_handler == SIG_DFL;
+    int is_default = new && !(new->sa_flags &SA_SIGINFO) && new->sa_handler == SIG_DFL;
     int answer = real.sigaction(number, new, old);
     if (answer) return answer;
     if (old && old->sa_handler == end_by_signal) *old = (struct sigaction){.sa_handler = SIG_DFL};

@@ -32,8 +32,9 @@ class Lesson(NamedTuple):
 class Facts:
     """What was seen in all runs."""
 
-    def __init__(self, cells: List[Cell], plain: Counts[str], mended: Dict[int, bool], forgotten_unlocks: List[str]) -> None:
-        self.cells, self.plain, self.mended, self.forgotten_unlocks = cells, plain, mended, forgotten_unlocks
+    def __init__(self, cells: List[Cell], plain: Counts[str], mended: Dict[int, bool], unlocks: List[str]) -> None:
+        self.cells, self.plain, self.mended = cells, plain, mended
+        self.forgotten_unlocks = unlocks        # who ended inside, in a sentence each
         self.by_kind: Dict[str, Counts[str]] = {}
         for cell in cells:
             self.by_kind.setdefault(cell.kind, Counter()).update(result.what for result in cell.results)
@@ -88,16 +89,17 @@ def mesa(facts: Facts) -> Optional[Lesson]:
     if facts.mended.get(BROADCASTS):
         return Lesson("broadcast", f"{seen}. {USE_BROADCAST}")
     between = "" if "PNB" in facts.bad() else ": another thread may come in between (it never can under PNB)"
-    return Lesson("if", f"{seen}: a woken thread relies on what held at the signal{between}. Write `while` for `if` at its wait.")
+    return Lesson("if", f"{seen}: a woken thread relies on what held at the signal{between}."
+                  " Write `while` for `if` at its wait.")
 
 
 def hand_over(facts: Facts) -> Optional[Lesson]:
     bad, hoare = facts.bad(), [kind for kind in ("PB", "NPB") if kind in facts.bad()]
     if not hoare or "PNB" in bad or "NPNB" in bad or "NPNB" not in facts.fine():
         return None
-    return Lesson("hand-over", f"Right where the signaller goes on (PNB, NPNB: pthreads), wrong where it hands the monitor over"
-                  f" ({' '.join(hoare)}): the code behind a signal relies on what held before it, or the woken thread waits for the"
-                  " signaller to end. A program of pthreads may do so.")
+    return Lesson("hand-over", "Right where the signaller goes on (PNB, NPNB: pthreads), wrong where it hands the"
+                  f" monitor over ({' '.join(hoare)}): the code behind a signal relies on what held before it, or the"
+                  " woken thread waits for the signaller to end. A program of pthreads may do so.")
 
 
 def broadcast(facts: Facts) -> Optional[Lesson]:
@@ -107,26 +109,28 @@ def broadcast(facts: Facts) -> Optional[Lesson]:
 def forgotten(facts: Facts) -> Optional[Lesson]:
     if not facts.mended.get(WAKES_SLEEPERS):
         return None
-    return Lesson("signal", "Wrong under each kind. It goes on when all are woken after all have gone to sleep: a thread slept though what"
-                  " it waits for held. A signal is forgotten, goes to the wrong condition, or comes before its wait (a test without the"
-                  " lock).")
+    return Lesson("signal", "Wrong under each kind. It goes on when all are woken after all have gone to sleep: a"
+                  " thread slept though what it waits for held. A signal is forgotten, goes to the wrong condition, or"
+                  " comes before its wait (a test without the lock).")
 
 
 def deadlock(facts: Facts) -> Optional[Lesson]:
     if facts.having(WRONG):
         return None
-    return Lesson("deadlock", f"It hangs under {' '.join(facts.bad())}, also when all are woken: what these threads wait for doesn't come"
-                  " true. A deadlock, or a change that is forgotten, not only its signal.")
+    return Lesson("deadlock", f"It hangs under {' '.join(facts.bad())}, also when all are woken: what these threads"
+                  " wait for doesn't come true. A deadlock, or a change that is forgotten, not only its signal.")
 
 
 def elsewhere(facts: Facts) -> Optional[Lesson]:
-    return Lesson("hoare", f"Wrong under Hoare's rule too ({' '.join(facts.bad())}): what a wait waits for need not hold even at the"
-                  " signal; or the fault isn't one of waiting.")
+    return Lesson("hoare", f"Wrong under Hoare's rule too ({' '.join(facts.bad())}): what a wait waits for need not"
+                  " hold even at the signal; or the fault isn't one of waiting.")
+
+
+FINDERS = (untried, right, unlock, mesa, hand_over, broadcast, forgotten, deadlock, elsewhere)
 
 
 def lesson(facts: Facts) -> Lesson:
-    found = (find(facts) for find in (untried, right, unlock, mesa, hand_over, broadcast, forgotten, deadlock, elsewhere))
-    name, text = next(filter(None, found))
+    name, text = next(filter(None, (find(facts) for find in FINDERS)))
     cant = facts.having(CANT)
     signals = " (Not run to its end under {}: the program does what these kinds don't have.)"
     return Lesson(name, text + (signals.format(" ".join(cant)) if cant and name != "not run" else ""))

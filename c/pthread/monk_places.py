@@ -1,5 +1,5 @@
-"""Where threads stood at the end of a run, in the words of the program's source; and the step of a history at which a woken thread may
-rely on too much. Part of monk-try."""
+"""Where threads stood at the end of a run, in the words of the program's source; and the step of a history at which a
+woken thread may rely on too much. Part of monk-try."""
 import os
 import subprocess
 from typing import Dict, List, NamedTuple, Optional, Tuple
@@ -53,7 +53,7 @@ def line_of(place: str) -> str:
 class Names(NamedTuple):
     mutexes: Dict[str, str]
     conditions: Dict[Tuple[str, str], str]
-    waits: Dict[Tuple[str, str], Tuple[str, str]]        # of a monitor and a seat: the condition, and the place of the call
+    waits: Dict[Tuple[str, str], Tuple[str, str]]        # of a monitor and a seat: the condition, and where it waits
 
 
 def names_in(rows: List[List[str]]) -> Names:
@@ -143,8 +143,8 @@ def goes_on(rows: List[List[str]], step: int, seat: str) -> bool:
 
 
 def suspect(path: str) -> Optional[Suspect]:
-    """The first step at which a thread comes back from a wait though another came in behind its signal, and goes on without waiting
-    again. A hint: right programs have such steps too."""
+    """The first step at which a thread comes back from a wait though another came in behind its signal, and goes on
+    without waiting again. A hint: right programs have such steps too."""
     with open(path) as file:
         rows = [line.split() for line in file.read().splitlines()[1:]]
     waits, found = Waits(), []

@@ -12,7 +12,7 @@ OK, WRONG, HUNG, CANT = "ok", "wrong", "hung", "n/a"
 STATUS_HUNG, STATUS_CANT = 124, 125
 # What a run may take beyond its time limit, for its histories.
 TO_WRITE = 10
-SHORTEST_PLAIN, LONGEST_PLAIN_SECONDS = 3, 5
+FEWEST_PLAIN, LONGEST_PLAIN_SECONDS = 3, 5
 BUDGET = "65536"
 
 
@@ -129,8 +129,9 @@ def expected_of(runs: List[Ended], status: int, expect: Optional[str], check: Op
 
 
 def try_plain(words: List[str], runs: int, seconds: float, jobs: int) -> List[Ended]:
+    limit = min(seconds, LONGEST_PLAIN_SECONDS)
     with ThreadPoolExecutor(jobs) as pool:
-        return list(pool.map(lambda _: run(words, min(seconds, LONGEST_PLAIN_SECONDS)), range(max(SHORTEST_PLAIN, runs))))
+        return list(pool.map(lambda _: run(words, limit), range(max(FEWEST_PLAIN, runs))))
 
 
 def count_plain(runs: List[Ended], expected: Expected) -> Counts[str]:

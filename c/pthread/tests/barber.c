@@ -1,4 +1,5 @@
-/* A barber and four customers, who all come again and again; each waits for the chair, and for the end of its cut. Fault: if. */
+/* A barber and four customers, who all come again and again; each waits for the chair, and for the end of its cut.
+   Fault: if. */
 #include "textbook.h"
 
 enum { CUSTOMERS = 4 };

@@ -1,5 +1,5 @@
-/* A bounded buffer: three threads put and three take. Faults: if; one (one condition, and a signal); early (a test without the lock);
- * unlock (a return without one); forget (one signal in many). */
+/* A bounded buffer: three threads put and three take. Faults: if; one (one condition, and a signal); early (a test
+   without the lock); unlock (a return without one); forget (one signal in many). */
 #include "textbook.h"
 
 enum { SIZE = 2, THREADS = 6, FATAL_ROUND = 30, EARLY = 3000 };
@@ -49,8 +49,10 @@ static int take(int round) {
 
 static void *work(void *number) {
     for (int round = 0; round < rounds; round++) {
-        if ((long)number % 2) put(round);
-        else if (!take(round)) break;
+        if ((long)number % 2)
+            put(round);
+        else if (!take(round))
+            break;
     }
     return NULL;
 }

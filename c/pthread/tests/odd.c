@@ -1,4 +1,5 @@
-/* Odd uses of pthreads and C11 threads, each with the answers that the standards give. Prints one line; 0 if all are right. */
+/* Odd uses of pthreads and C11 threads, each with the answers that the standards give. Prints one line; 0 if all are
+   right. */
 #define _GNU_SOURCE
 #include <errno.h>
 #include <pthread.h>
@@ -11,16 +12,24 @@
 #include <time.h>
 #include <unistd.h>
 
-enum { NS_A_SECOND = 1000000000, MS = 1000000, TURNS = 200, CROWD = 80, CONDITIONS = 20, MUTEXES = 100000, OBJECTS = 300 };
+enum {
+    NS_A_SECOND = 1000000000,
+    MS = 1000000,
+    TURNS = 200,
+    CROWD = 80,
+    CONDITIONS = 20,
+    MUTEXES = 100000,
+    OBJECTS = 300
+};
 
 static int bad;
 static const char *now;
 
-#define CHECK(holds)                                                            \
-    do {                                                                        \
-        if (holds) break;                                                       \
-        bad++;                                                                  \
-        fprintf(stderr, "%s: line %d: %s\n", now, __LINE__, #holds);            \
+#define CHECK(holds)                                                 \
+    do {                                                             \
+        if (holds) break;                                            \
+        bad++;                                                       \
+        fprintf(stderr, "%s: line %d: %s\n", now, __LINE__, #holds); \
     } while (0)
 
 /* A counter that is posted and taken. */
@@ -369,10 +378,17 @@ static void many_mutexes(void) {
 static const struct {
     const char *name;
     void (*run)(void);
-} uses[] = {{"a recursive mutex", recursive}, {"a checking mutex", checking},  {"mutexes that are used again", used_again},
-            {"nested", nested},               {"fork", forks},                 {"cancelled", cancelled},
-            {"between processes", shared},    {"C11", c11},                    {"80 threads", crowd},
-            {"20 conditions", many_conditions}, {"100,000 mutexes", many_mutexes}};
+} uses[] = {{"a recursive mutex", recursive},
+            {"a checking mutex", checking},
+            {"mutexes that are used again", used_again},
+            {"nested", nested},
+            {"fork", forks},
+            {"cancelled", cancelled},
+            {"between processes", shared},
+            {"C11", c11},
+            {"80 threads", crowd},
+            {"20 conditions", many_conditions},
+            {"100,000 mutexes", many_mutexes}};
 
 int main(void) {
     for (size_t i = 0; i < sizeof uses / sizeof *uses; i++) {

@@ -1,5 +1,5 @@
-/* A pool of threads with a queue of work, a wait until all is done, and a broadcast at the end. `after` isn't a fault: the signal comes
- * behind the unlock. Faults: if; one (a signal at the end). */
+/* A pool of threads with a queue of work, a wait until all is done, and a broadcast at the end. `after` isn't a
+   fault: the signal comes behind the unlock. Faults: if; one (a signal at the end). */
 #include "textbook.h"
 
 enum { WORKERS = 4, DRAINS = 3 };
@@ -19,8 +19,10 @@ static void submit(int number) {
     struct job *job = malloc(sizeof *job);
     *job = (struct job){.number = number};
     pthread_mutex_lock(&mutex);
-    if (tail) tail->next = job;
-    else head = job;
+    if (tail)
+        tail->next = job;
+    else
+        head = job;
     tail = job;
     if (!has("after")) pthread_cond_signal(&has_work);
     pthread_mutex_unlock(&mutex);
@@ -66,14 +68,18 @@ static void submit_all(void) {
     }
     pthread_mutex_lock(&mutex);
     is_over = 1;
-    if (has("one")) pthread_cond_signal(&has_work);
-    else pthread_cond_broadcast(&has_work);
+    if (has("one"))
+        pthread_cond_signal(&has_work);
+    else
+        pthread_cond_broadcast(&has_work);
     pthread_mutex_unlock(&mutex);
 }
 
 static void *run(void *number) {
-    if (number) work();
-    else submit_all();
+    if (number)
+        work();
+    else
+        submit_all();
     return NULL;
 }
 

@@ -6,7 +6,7 @@ enum { THREADS = 6, WRITERS = 2, WORK = 100 };
 static pthread_mutex_t mutex = PTHREAD_MUTEX_INITIALIZER;
 static pthread_cond_t may_read = PTHREAD_COND_INITIALIZER, may_write = PTHREAD_COND_INITIALIZER;
 static int readers, is_writing, writers_that_wait;
-static volatile long first, second;         /* the same, but while a writer writes */
+static volatile long first, second; /* the same, but while a writer writes */
 
 static void start_read(void) {
     pthread_mutex_lock(&mutex);
@@ -36,8 +36,10 @@ static void end_write(void) {
     pthread_mutex_lock(&mutex);
     is_writing = 0;
     pthread_cond_signal(&may_write);
-    if (has("one")) pthread_cond_signal(&may_read);
-    else pthread_cond_broadcast(&may_read);
+    if (has("one"))
+        pthread_cond_signal(&may_read);
+    else
+        pthread_cond_broadcast(&may_read);
     pthread_mutex_unlock(&mutex);
 }
 
@@ -57,8 +59,10 @@ static void write_once(void) {
 
 static void *work(void *number) {
     for (int round = 0; round < rounds; round++) {
-        if ((long)number < WRITERS) write_once();
-        else read_once();
+        if ((long)number < WRITERS)
+            write_once();
+        else
+            read_once();
     }
     return NULL;
 }

@@ -1,5 +1,5 @@
-/* textbook.h - what the textbook programs of the tests share. Each takes a fault by name (`right` is none), and prints whether it went
- * wrong. */
+/* textbook.h - what the textbook programs of the tests share. Each takes a fault by name (`right` is none), and
+   prints whether it went wrong. */
 #ifndef TEXTBOOK_H
 #define TEXTBOOK_H
 
@@ -23,12 +23,12 @@ static inline void read_words(int count, char **words) {
 static inline void must_hold(int holds) { wrong += !holds; }
 
 /* Waits while the program may not go on; once at most, if the fault is that. */
-#define WAIT_WHILE(barred, condition, mutex)                       \
-    do {                                                           \
-        while (barred) {                                           \
-            pthread_cond_wait(condition, mutex);                   \
-            if (has("if")) break;                                  \
-        }                                                          \
+#define WAIT_WHILE(barred, condition, mutex)     \
+    do {                                         \
+        while (barred) {                         \
+            pthread_cond_wait(condition, mutex); \
+            if (has("if")) break;                \
+        }                                        \
     } while (0)
 
 /* Runs so many threads to their ends. */

@@ -1,5 +1,6 @@
-/* No signal may be lost at waits with time limits. In each round three threads want a token each and wait without a limit. Four others
- * wait with tiny limits and never take a token: one that was signalled passes the signal on, one that was late doesn't. */
+/* No signal may be lost at waits with time limits, whether it is sent with the mutex or without. In each round three
+   threads want a token each and wait without a limit. Four others wait with tiny limits and never take a token: one
+   that was signalled passes the signal on, one that was late doesn't. */
 #include <errno.h>
 #include <pthread.h>
 #include <stdio.h>
@@ -7,7 +8,15 @@
 #include <time.h>
 #include <unistd.h>
 
-enum { TAKERS = 3, THREADS = 7, NS_A_SECOND = 1000000000, LIMIT_NS = 1500000, PAUSE_US = 500, BETWEEN_US = 900, FEW = 10 };
+enum {
+    TAKERS = 3,
+    THREADS = 7,
+    NS_A_SECOND = 1000000000,
+    LIMIT_NS = 1500000,
+    PAUSE_US = 500,
+    BETWEEN_US = 900,
+    FEW = 10
+};
 
 static pthread_mutex_t mutex = PTHREAD_MUTEX_INITIALIZER;
 static pthread_cond_t has_token = PTHREAD_COND_INITIALIZER, all_taken = PTHREAD_COND_INITIALIZER;
@@ -28,8 +37,10 @@ static void wait_a_little(unsigned *seed) {
     clock_gettime(CLOCK_REALTIME, &limit);
     limit.tv_nsec += rand_r(seed) % LIMIT_NS;
     if (limit.tv_nsec >= NS_A_SECOND) limit.tv_sec++, limit.tv_nsec -= NS_A_SECOND;
-    if (pthread_cond_timedwait(&has_token, &mutex, &limit) == ETIMEDOUT) late++;
-    else pthread_cond_signal(&has_token);
+    if (pthread_cond_timedwait(&has_token, &mutex, &limit) == ETIMEDOUT)
+        late++;
+    else
+        pthread_cond_signal(&has_token);
 }
 
 static void pass_on(unsigned seed) {
@@ -55,8 +66,9 @@ static void give_tokens(unsigned *seed) {
         usleep((useconds_t)(rand_r(seed) % BETWEEN_US));
         pthread_mutex_lock(&mutex);
         tokens++;
-        pthread_cond_signal(&has_token);
+        if (i % 2) pthread_cond_signal(&has_token);
         pthread_mutex_unlock(&mutex);
+        if (i % 2 == 0) pthread_cond_signal(&has_token);
     }
 }
 

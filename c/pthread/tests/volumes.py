@@ -1,4 +1,5 @@
-"""Whether a volume of a history begins with what the one before it ended with: who waits where, in order, and who is inside."""
+"""Whether a volume of a history begins with what the one before it ended with: who waits where, in order, and who is
+inside."""
 import os
 import re
 import subprocess
@@ -16,7 +17,7 @@ def situation(monk: str, path: str) -> "Tuple[Dict[int, List[str]], str, List[st
 
 
 def beginning(path: str, waits: int) -> "Tuple[Dict[int, List[str]], List[str]]":
-    """The queues that the first pairs of enter and wait make, as many as there were waits; and the step that follows."""
+    """The queues that the first pairs of enter and wait make, as many as there were waits; and the next step."""
     with open(path) as file:
         rows = [line.split() for line in file.read().splitlines()[1:]]
     queues: Dict[int, List[str]] = {}
@@ -51,4 +52,5 @@ def first_break(monk: str, path: str) -> Optional[str]:
     began, step = beginning(following, sum(map(len, waiting.values())))
     if began == waiting and step[:2] == ["enter", inside] and not others:
         return None
-    return f"{following} begins with {began} and {step}, and {path} ends with {waiting}, inside {inside or 'nobody'}, others {others}"
+    ends = f"{waiting}, inside {inside or 'nobody'}, others {others}"
+    return f"{following} begins with {began} and {step}, and {path} ends with {ends}"
