@@ -19,14 +19,14 @@ static void leave_by(struct monitor *m, monk_seat *seat) {
 }
 
 /* What a ghost does that has come in. A signal that served it is passed on by the signaller, or by the ghost as it
-   leaves. */
+   leaves. Behind its own signal it may be out. */
 static void do_errands(struct monitor *m, int n) {
     struct place *p = &m->places[n];
     int passes_on = asked.mode == MONK_IMMEDIATE_RETURN && count_queued(m, p->condition);
+    if (monk_left(p->home->seats[n]) < p->home->budget / 2) m->wants_renewal = 1;
     if (p->standing == GHOST_SERVED) m->transit--, m->deferred = passes_on ? p->condition : NONE;
     if (p->is_signaller) m->transit--, p->is_signaller = 0;
     if (p->standing == GHOST_LATE) send_pending(m, n);
-    if (monk_left(p->home->seats[n]) < p->home->budget / 2) m->wants_renewal = 1;
 }
 
 /* Whether it moved. Under the monitor's lock. */

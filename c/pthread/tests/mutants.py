@@ -47,6 +47,10 @@ MUTANTS: Dict[str, Mutant] = {
         "layer_ghosts.h",
         "    if (n != NONE) visit(m, n);\n",
         "    if (n != NONE) (void)visit, give_number(m, n);\n"),
+    "a ghost forgets the rest of a broadcast": Mutant(
+        "layer_signals.h",
+        "    if (count <= 0) return;\n",
+        "    return;\n"),
     "doesn't look after ghosts": Mutant(
         "layer_ghosts.h",
         "    if (atomic_load(&m->due) > 0) look_after_ghosts(m);\n",
