@@ -1,0 +1,267 @@
+/* layer_ends.h - the ends of a run: by itself, by a signal, after a time, or because it hangs; and children. Part of
+   libmonk_pthread.c. */
+#ifndef LAYER_ENDS_H
+#define LAYER_ENDS_H
+
+#include "layer_report.h"
+#include <dirent.h>
+#include <sys/time.h>
+#include <sys/wait.h>
+
+enum { TICK_NS = 50000000, QUIET_TICKS = 8, MOST_WAKES = 20, WRITING_MS = 2000 };
+
+static _Atomic int is_ending, is_written;
+static _Atomic int has_watcher, ending_signal; /* which the watcher is asked to write the histories for */
+
+/* Whether the process ends behind this, or the program goes on. */
+enum { GOES_ON, IS_LAST };
+
+static void finish(const char *why, int is_last) {
+    if (atomic_exchange(&is_ending, 1)) return;
+    save_all(why, is_last);
+    is_written = 1;
+}
+
+/* ---- Children of a program that is ended from here are ended with it */
+
+static void end_children_of(pid_t parent);
+
+static void end_family(pid_t process) {
+    end_children_of(process);
+    kill(process, SIGKILL);
+}
+
+/* By /proc: the children of each of its threads. */
+static void end_children_of(pid_t parent) {
+    char path[64];
+    int child;
+    snprintf(path, sizeof path, "/proc/%d/task", (int)parent);
+    DIR *threads = opendir(path);
+    for (struct dirent *entry; threads && (entry = readdir(threads));) {
+        snprintf(path, sizeof path, "/proc/%d/task/%.20s/children", (int)parent, entry->d_name);
+        FILE *file = fopen(path, "re");
+        while (file && fscanf(file, "%d", &child) == 1) end_family(child);
+        if (file) fclose(file);
+    }
+    if (threads) closedir(threads);
+}
+
+/* The program can't be run so: this is said once, histories are written, and the program ends. */
+static void refuse(const char *format, ...) {
+    static _Atomic int is_told;
+    char line[LONGEST_LINE];
+    va_list words;
+    va_start(words, format);
+    vsnprintf(line, sizeof line, format, words);
+    va_end(words);
+    if (!is_ending && !atomic_exchange(&is_told, 1)) {
+        write_line(STDERR_FILENO, "monk: %s\n", line);
+        finish("cant", IS_LAST);
+        end_children_of(getpid());
+        end_now(STATUS_CANT);
+    }
+    for (;;) pause();
+}
+
+/* ---- Whether the program hangs: no step was made for a while, and each of its threads sleeps in a futex without a
+   limit */
+
+/* A timer or a child may wake somebody; so may whoever signals at a mutex that is left alone. */
+static int may_be_woken(void) {
+    struct itimerval alarm;
+    siginfo_t child;
+    char first;
+    int timers = open("/proc/self/timers", O_RDONLY | O_CLOEXEC);
+    int has_timer = timers != NONE && read(timers, &first, 1) > 0;
+    if (timers != NONE) close(timers);
+    if (has_timer || waits_left_alone) return 1;
+    if (!getitimer(ITIMER_REAL, &alarm) && (alarm.it_value.tv_sec || alarm.it_value.tv_usec)) return 1;
+    return waitid(P_ALL, 0, &child, WEXITED | WNOHANG | WNOWAIT) == 0;
+}
+
+/* Whether another process may write there. */
+static int is_shared(unsigned long address) {
+    unsigned long from, to;
+    char rights[8], line[LONGEST_LINE];
+    int found = 0;
+    FILE *maps = fopen("/proc/self/maps", "re");
+    while (maps && !found && fgets(line, sizeof line, maps))
+        found = sscanf(line, "%lx-%lx %7s", &from, &to, rights) == 3 && from <= address && address < to;
+    if (maps) fclose(maps);
+    return found && rights[3] == 's';
+}
+
+static int sleeps_in_a_wait(pid_t id) {
+    for (struct thread *t = every_thread; t; t = t->next)
+        if (t->id == id && !t->has_ended) return t->sleeps;
+    return 0;
+}
+
+enum sleep { AWAKE, ASLEEP, GONE };
+
+/* By the system call in which the thread is, and the call's words. */
+static enum sleep sleep_of(pid_t id) {
+    char path[64], text[256] = "";
+    unsigned long words[4];
+    int call = NONE;
+    snprintf(path, sizeof path, "/proc/self/task/%d/syscall", (int)id);
+    int file = open(path, O_RDONLY | O_CLOEXEC);
+    ssize_t length = file == NONE ? NONE : read(file, text, sizeof text - 1);
+    if (file != NONE) close(file);
+    if (length <= 0) return GONE;
+    int read = sscanf(text, "%d %lx %lx %lx %lx", &call, &words[0], &words[1], &words[2], &words[3]);
+    if (read < 5 || call != SYS_futex || (words[3] && !sleeps_in_a_wait(id))) return AWAKE;
+    return !(words[1] & FUTEX_PRIVATE_FLAG) && is_shared(words[0]) ? AWAKE : ASLEEP;
+}
+
+static int all_sleep(pid_t watcher) {
+    DIR *threads = opendir("/proc/self/task");
+    int sleepers = 0, is_awake = 0;
+    for (struct dirent *entry; threads && !is_awake && (entry = readdir(threads));) {
+        pid_t id = (pid_t)atoi(entry->d_name);
+        enum sleep is = id <= 0 || id == watcher ? GONE : sleep_of(id);
+        sleepers += is == ASLEEP, is_awake = is == AWAKE;
+    }
+    if (threads) closedir(threads);
+    return sleepers && !is_awake;
+}
+
+static unsigned long count_steps(void) {
+    unsigned long steps = 0;
+    for (struct monitor *m = every_monitor; m; m = m->next) steps += m->steps;
+    return steps;
+}
+
+static void broadcast_all(struct monitor *m) {
+    for (int k = 0; k < CONDITIONS; k++)
+        if (count_queued(m, k)) signal_by(m, m->inside, k, 1, self());
+}
+
+/* Everybody who waits is woken, as POSIX allows. Whoever then goes on has slept though what it waits for held. How
+   many are woken. */
+static int wake_sleepers(void) {
+    int woken = 0;
+    for (struct monitor *m = every_monitor; m; m = m->next) {
+        struct timespec limit = time_of(CLOCK_MONOTONIC);
+        limit.tv_sec++;
+        if (m->is_dead || asked.mode != MONK_NON_BLOCKING || !enter(m, self(), &limit, 1)) continue;
+        woken += count_standing(m, WAITS);
+        broadcast_all(m);
+        go_out(m);
+    }
+    return woken;
+}
+
+/* ---- The watcher: a thread of the layer's that takes no signal */
+
+static double seconds_since(struct timespec begin) {
+    struct timespec now = time_of(CLOCK_MONOTONIC);
+    return (double)(now.tv_sec - begin.tv_sec) + (double)(now.tv_nsec - begin.tv_nsec) / NS_A_SECOND;
+}
+
+__attribute__((noreturn)) static void end_by_watcher(const char *why) {
+    finish(why, IS_LAST);
+    end_children_of(getpid());
+    end_now(STATUS_LATE);
+}
+
+/* For how many ticks nothing has moved. */
+static int count_quiet(int quiet, unsigned long *seen, pid_t watcher) {
+    unsigned long steps = count_steps();
+    int is_quiet = steps == *seen && !may_be_woken() && all_sleep(watcher);
+    *seen = steps;
+    return is_quiet ? quiet + 1 : 0;
+}
+
+static void *watch(void *unused) {
+    const struct timespec tick = {0, TICK_NS}, begin = time_of(CLOCK_MONOTONIC);
+    pid_t watcher = (pid_t)syscall(SYS_gettid);
+    unsigned long seen = 0;
+    for (int quiet = 0, wakes = 0;; nanosleep(&tick, NULL)) {
+        if (ending_signal) finish("signal", IS_LAST);
+        if (asked.seconds == 0) continue;
+        if (seconds_since(begin) > asked.seconds) end_by_watcher("late");
+        quiet = count_quiet(quiet, &seen, watcher);
+        if (quiet < QUIET_TICKS) continue;
+        if (asked.mend != WAKES_SLEEPERS || wakes++ >= MOST_WAKES || !wake_sleepers()) end_by_watcher("hung");
+        quiet = 0;
+    }
+    return unused;
+}
+
+static void start_watcher(void) {
+    sigset_t all, before;
+    pthread_t thread;
+    sigfillset(&all);
+    pthread_sigmask(SIG_SETMASK, &all, &before);
+    has_watcher = !pthread_create(&thread, NULL, watch, NULL);
+    pthread_sigmask(SIG_SETMASK, &before, NULL);
+}
+
+/* ---- Signals that end a program which asks for nothing else. The watcher writes, since no call is safe in a
+   handler; the thread that got the signal waits for that, but not for ever: it may have what the writing needs. */
+
+static const int fatal[] = {SIGINT, SIGTERM, SIGHUP, SIGSEGV, SIGBUS, SIGFPE, SIGILL, SIGABRT};
+enum { FATAL = sizeof fatal / sizeof *fatal };
+
+static int is_fatal(int number) {
+    int i = 0;
+    while (i < FATAL && fatal[i] != number) i++;
+    return i < FATAL;
+}
+
+static void end_by_signal(int number) {
+    const struct timespec while_writing = {0, NS_A_SECOND / MS_A_SECOND};
+    struct sigaction plain = {.sa_handler = SIG_DFL};
+    ending_signal = number;
+    for (int ms = 0; has_watcher && !is_written && ms < WRITING_MS; ms++) nanosleep(&while_writing, NULL);
+    real.sigaction(number, &plain, NULL);
+    raise(number);
+}
+
+static void end_by_default(int number) {
+    struct sigaction ours = {.sa_handler = end_by_signal, .sa_flags = SA_ONSTACK | SA_NODEFER};
+    if (has_watcher) real.sigaction(number, &ours, NULL);
+}
+
+static void watch_signals(void) {
+    struct sigaction now;
+    for (int i = 0; i < FATAL; i++)
+        if (!real.sigaction(fatal[i], NULL, &now) && now.sa_handler == SIG_DFL) end_by_default(fatal[i]);
+}
+
+/* ---- Forks. In the child no mutex is a monitor; those that its thread was inside it has locked. */
+
+static void before_fork(void) { take(&monitors.lock), take(&conditions.lock), take(&thread_lock), take(&room_lock); }
+
+static void let_tables(void) { let(&room_lock), let(&thread_lock), let(&conditions.lock), let(&monitors.lock); }
+
+/* (What isn't ours may be gone: its memory isn't touched.) */
+static void lock_for_child(struct monitor *m) {
+    pthread_mutex_t *mutex = (pthread_mutex_t *)(uintptr_t)atomic_load(&m->known.address);
+    int kind = mutex->__data.__kind;
+    *mutex = (pthread_mutex_t)PTHREAD_MUTEX_INITIALIZER;
+    mutex->__data.__kind = kind;
+    for (int i = 0; i < m->depth; i++) real.lock(mutex);
+}
+
+static void empty(struct table *t) {
+    for (int slot = 0; slot < SLOTS; slot++) t->slots[slot] = NULL;
+    t->count = 0;
+}
+
+static void in_child(void) {
+    let_tables();
+    for (struct monitor *m = every_monitor; m; m = m->next)
+        if (!m->is_dead && me && m->owner == me) lock_for_child(m);
+    empty(&monitors), empty(&conditions);
+    every_monitor = NULL;
+    is_ending = is_written = ending_signal = has_watcher = 0;
+    ended_volumes = ended_timeouts = ended_outside = 0;
+    serials = 0;
+    for (struct thread *t = every_thread; t; t = t->next) t->has_ended = t != me;
+    if (me) me->id = (pid_t)syscall(SYS_gettid);
+    name_files(getenv("MONK_HISTORY"), getenv("MONK_REPORT"));
+}
+
+#endif

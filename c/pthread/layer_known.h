@@ -1,0 +1,393 @@
+/* layer_known.h - what the layer knows: threads, monitors and their seats, conditions. Part of libmonk_pthread.c. */
+#ifndef LAYER_KNOWN_H
+#define LAYER_KNOWN_H
+
+#include "layer_settings.h"
+#include <linux/futex.h>
+#include <sched.h>
+#include <stdatomic.h>
+#include <sys/mman.h>
+#include <sys/syscall.h>
+
+enum {
+    NUMBERS = 31, /* the seats by which threads come */
+    STEWARD = 31, /* the last seat: for a look at the history, and for a renewal where ghosts have all numbers */
+    SEATS = 32,
+    CONDITIONS = 8,
+    SLOT_BITS = 14,
+    SLOTS = 1 << SLOT_BITS, /* of a table */
+    CHUNK = 1 << 16,        /* bytes that are asked for at once */
+    LIVE = 1 << 30,         /* of a thread's uses, while it lives */
+    NONE = -1               /* no number, no condition */
+};
+
+/* Where a seat stands, by its number, which it keeps from hall to hall. A ghost is a seat that no thread stands at. */
+enum standing { AWAY, AT_ENTRY, INSIDE, WAITS, SERVED, SIGNALS, GHOST_WAITS, GHOST_SERVED, GHOST_LATE };
+
+struct thread {
+    struct thread *next, *next_idle;
+    pthread_t self;
+    pid_t id;
+    unsigned index;   /* in the order in which threads made their first call */
+    int numbers;      /* that it has, and didn't give back itself; touched by the thread alone */
+    _Atomic int uses; /* LIVE, less what others gave back for it; behind its end the numbers that it still has */
+    _Atomic int is_cancelled, has_ended;
+    _Atomic int sleeps;       /* in a wait that has no limit: it wakes at times to look whether it is cancelled */
+    const void *_Atomic from; /* where its last wait was called */
+    uint64_t dice;
+};
+
+/* One monitor of the library's, with all its seats: a volume of a monitor of the program's. */
+struct hall {
+    monk_monitor *monitor;
+    monk_seat *seats[SEATS];
+    struct hall *next;
+    unsigned volume;
+    uint32_t budget;
+};
+
+struct place {
+    _Atomic int standing, condition;
+    struct hall *_Atomic used; /* the hall that a thread may be using by this number: nobody frees it */
+    struct hall *_Atomic home; /* the hall where the number stands now */
+    struct thread *_Atomic who;
+    uint64_t ticket;  /* of waits, in the order in which they began */
+    int is_signaller; /* of a ghost: it signalled, and is to come back in */
+};
+
+/* Begins what is known of an address. Its memory never becomes that of another kind of thing: a thread may look at
+   it late. */
+struct known {
+    const void *_Atomic address;
+};
+
+/* A mutex of the program's on whose conditions threads wait. What isn't atomic is touched by the seat that is
+   inside. */
+struct monitor {
+    struct known known;
+    struct monitor *next; /* of every monitor that ever was */
+    _Atomic int lock;     /* of ghosts, and of renewal */
+    struct hall *_Atomic hall;
+    struct hall *retired;
+    struct place places[SEATS];
+    _Atomic uint32_t free; /* the numbers that nobody has */
+    _Atomic int wanting;   /* threads that sleep until a number is free */
+    _Atomic int has_steward;
+    _Atomic int inside; /* the number of the thread that is inside, or NONE */
+    struct thread *_Atomic owner;
+    _Atomic int due; /* ghosts that are to come in and leave */
+    _Atomic int has_pending;
+    _Atomic int64_t pending[CONDITIONS]; /* signals by threads that were outside, and above them broadcasts */
+    const void *_Atomic conditions[CONDITIONS];
+    int serial, depth;
+    int transit;  /* seats that were served or signalled, and aren't back inside */
+    int deferred; /* the condition that an immediate-return kind signals as it goes out, or NONE */
+    int wants_renewal;
+    uint64_t tickets;
+    _Atomic int is_dead; /* the mutex was destroyed: its histories are written */
+    _Atomic unsigned long steps;
+    _Atomic long volumes, timeouts, passed_on, taken_over, outside, late_renewals;
+};
+
+struct condition {
+    struct known known;
+    struct monitor *_Atomic of;
+    _Atomic int number;
+    struct condition *next_idle;
+};
+
+struct table {
+    struct known *_Atomic slots[SLOTS];
+    _Atomic int lock, count;
+};
+
+static struct table monitors, conditions;
+static struct monitor *_Atomic every_monitor;
+static struct thread *_Atomic every_thread;
+static struct condition *idle_conditions;
+static struct thread *idle_threads;
+static _Atomic int room_lock, thread_lock;
+static _Atomic unsigned thread_count;
+static _Atomic int serials;
+static _Atomic int waits_left_alone;
+static pthread_key_t thread_key;
+static __thread __attribute__((tls_model("initial-exec"))) struct thread *me;
+
+__attribute__((noreturn, format(printf, 1, 2))) static void refuse(const char *format, ...);
+
+/* ---- Names: the file of an address, and where in it. monk-try makes names of the source from them. */
+
+struct name {
+    char text[LONGEST_PATH];
+};
+
+static struct name name_of(const void *address) {
+    struct name name;
+    Dl_info in;
+    if (address && dladdr(address, &in) && in.dli_fname)
+        snprintf(name.text, sizeof name.text, "%s+%#lx", in.dli_fname,
+                 (unsigned long)((uintptr_t)address - (uintptr_t)in.dli_fbase));
+    else
+        snprintf(name.text, sizeof name.text, "%p", address);
+    return name;
+}
+
+__attribute__((noreturn, format(printf, 2, 3))) static void refuse_of(struct monitor *m, const char *format, ...) {
+    char line[LONGEST_LINE];
+    va_list words;
+    va_start(words, format);
+    vsnprintf(line, sizeof line, format, words);
+    va_end(words);
+    refuse("the mutex %s: %s", name_of(m->known.address).text, line);
+}
+
+/* ---- Locks of the layer's own, and memory that is never given back */
+
+static inline void take(_Atomic int *lock) {
+    while (atomic_exchange_explicit(lock, 1, memory_order_acquire)) sched_yield();
+}
+
+static inline void let(_Atomic int *lock) { atomic_store_explicit(lock, 0, memory_order_release); }
+
+/* Seen by whoever takes over what was lent, or comes in later; not at once by everybody, as a plain store to an
+   atomic would be. */
+#define store(object, value) atomic_store_explicit(&(object), value, memory_order_release)
+
+/* Fresh memory, all zero. It doesn't come from malloc, whose locks may be those that the layer stands in for. */
+static void *room_for(size_t size) {
+    static char *chunk;
+    static size_t left;
+    size = (size + 63) / 64 * 64;
+    take(&room_lock);
+    if (size > left) {
+        chunk = mmap(NULL, CHUNK, PROT_READ | PROT_WRITE, MAP_PRIVATE | MAP_ANONYMOUS, -1, 0);
+        left = chunk == MAP_FAILED ? 0 : CHUNK;
+    }
+    void *room = left ? chunk : NULL;
+    if (left) chunk += size, left -= size;
+    let(&room_lock);
+    if (!room) refuse("no memory is left");
+    return room;
+}
+
+/* ---- Tables. Readers take no lock. */
+
+static struct known gravestone;
+
+static inline size_t slot_of(const void *address) {
+    return (size_t)(((uintptr_t)address >> 3) * 0x9e3779b97f4a7c15u >> (64 - SLOT_BITS));
+}
+
+static inline size_t slot_after(size_t slot) { return (slot + 1) % SLOTS; }
+
+static inline struct known *find(struct table *t, const void *address) {
+    for (size_t slot = slot_of(address);; slot = slot_after(slot)) {
+        struct known *k = atomic_load_explicit(&t->slots[slot], memory_order_acquire);
+        if (!k || atomic_load_explicit(&k->address, memory_order_relaxed) == address) return k;
+    }
+}
+
+/* Under the table's lock. A table is full when half of it is used; 0 then. */
+static int insert(struct table *t, struct known *k) {
+    if (t->count >= SLOTS / 2) return 0;
+    size_t slot = slot_of(k->address);
+    while (t->slots[slot] && t->slots[slot] != &gravestone) slot = slot_after(slot);
+    t->slots[slot] = k;
+    t->count++;
+    return 1;
+}
+
+/* Gravestones before an empty slot lead nowhere. Under the table's lock. */
+static void sweep(struct table *t, size_t slot) {
+    if (t->slots[slot_after(slot)]) return;
+    for (; t->slots[slot] == &gravestone; slot = (slot + SLOTS - 1) % SLOTS) t->slots[slot] = NULL;
+}
+
+/* Under the table's lock. */
+static void take_out(struct table *t, struct known *k) {
+    size_t slot = slot_of(k->address);
+    while (t->slots[slot] != k) slot = slot_after(slot);
+    t->slots[slot] = &gravestone;
+    t->count--;
+    sweep(t, slot);
+}
+
+static inline struct monitor *monitor_of(const void *mutex) { return (struct monitor *)find(&monitors, mutex); }
+
+static inline struct condition *condition_of(const void *address) {
+    return (struct condition *)find(&conditions, address);
+}
+
+/* What is known of a condition from now on. */
+static struct condition *make_condition(const void *address) {
+    take(&conditions.lock);
+    struct condition *c = condition_of(address);
+    int is_new = !c;
+    if (is_new && (c = idle_conditions)) idle_conditions = c->next_idle;
+    if (!c) c = room_for(sizeof *c);
+    if (is_new) atomic_store(&c->known.address, address);
+    int has_room = !is_new || insert(&conditions, &c->known);
+    let(&conditions.lock);
+    if (!has_room) refuse("the program waits on more than %d conditions", SLOTS / 2);
+    return c;
+}
+
+/* Whether anybody ever waited on it with a monitor. It is unknown from now on. */
+static int forget_condition(const void *address) {
+    if (!condition_of(address)) return 0;
+    take(&conditions.lock);
+    struct condition *c = condition_of(address);
+    if (c) {
+        take_out(&conditions, &c->known);
+        atomic_store(&c->of, NULL);
+        c->next_idle = idle_conditions, idle_conditions = c;
+    }
+    let(&conditions.lock);
+    return c != NULL;
+}
+
+/* ---- Threads */
+
+static struct thread *new_thread(void) {
+    take(&thread_lock);
+    struct thread *t = idle_threads;
+    if (t) idle_threads = t->next_idle;
+    let(&thread_lock);
+    if (t) return t;
+    t = room_for(sizeof *t);
+    t->next = atomic_load(&every_thread);
+    while (!atomic_compare_exchange_weak(&every_thread, &t->next, t)) continue;
+    return t;
+}
+
+__attribute__((noinline, cold)) static struct thread *first_call(void) {
+    struct thread *t = new_thread();
+    t->index = atomic_fetch_add(&thread_count, 1);
+    t->id = (pid_t)syscall(SYS_gettid), t->self = pthread_self();
+    t->dice = asked.seed * 0x9e3779b97f4a7c15u + (t->index + 1) * 0xbf58476d1ce4e5b9u + 1;
+    t->is_cancelled = t->sleeps = t->has_ended = 0;
+    t->from = NULL;
+    t->numbers = 0;
+    t->uses = LIVE;
+    me = t;
+    pthread_setspecific(thread_key, t);
+    return t;
+}
+
+static inline struct thread *self(void) { return me ? me : first_call(); }
+
+/* A record without a use is another thread's next. */
+static void change_uses(struct thread *t, int change) {
+    if (atomic_fetch_add(&t->uses, change) + change) return;
+    take(&thread_lock);
+    t->next_idle = idle_threads, idle_threads = t;
+    let(&thread_lock);
+}
+
+static void drop_number(struct thread *t) {
+    if (t == me)
+        t->numbers--;
+    else
+        change_uses(t, -1);
+}
+
+static void thread_ends(void *it) {
+    struct thread *t = it;
+    t->has_ended = 1;
+    me = NULL;
+    change_uses(t, t->numbers - LIVE);
+}
+
+/* Marsaglia's xorshift. */
+static unsigned roll(struct thread *t) {
+    t->dice ^= t->dice << 13, t->dice ^= t->dice >> 7, t->dice ^= t->dice << 17;
+    return (unsigned)(t->dice >> 33);
+}
+
+/* How often in 16 a thread sleeps before a call, and how often it lets others go first; how long it sleeps at most. */
+enum { NAPS = 2, YIELDS = 4, SIDES = 16, NAP_NS = 250000 };
+
+__attribute__((noinline, cold)) static void shake_now(void) {
+    unsigned dice = roll(self());
+    int error = errno;
+    struct timespec nap = {0, (long)(dice / SIDES % NAP_NS)};
+    if (dice % SIDES < NAPS)
+        nanosleep(&nap, NULL);
+    else if (dice % SIDES < NAPS + YIELDS)
+        sched_yield();
+    errno = error;
+}
+
+/* Before a call that another thread may go before. */
+static inline void shake(void) {
+    if (__builtin_expect(asked.shakes, 0)) shake_now();
+}
+
+/* ---- Numbers: the seats of a monitor by which threads come */
+
+static int count_standing(struct monitor *m, int standing) {
+    int count = 0;
+    for (int n = 0; n < NUMBERS; n++) count += m->places[n].standing == standing;
+    return count;
+}
+
+/* One that nobody has: the thread's own if that is free, so that in most histories a seat is a thread. */
+static int free_number(struct monitor *m, const struct thread *t) {
+    uint32_t is = atomic_load(&m->free);
+    while (is) {
+        unsigned n = t->index % NUMBERS;
+        if (!(is & 1u << n)) n = (unsigned)__builtin_ctz(is);
+        if (atomic_compare_exchange_weak(&m->free, &is, is & ~(1u << n))) return (int)n;
+    }
+    return NONE;
+}
+
+/* Sleeps until a number is given back; for a short while at most, since ghosts may give theirs back unheard. */
+static void await_number(struct monitor *m) {
+    struct timespec while_none = {0, 20000000};
+    atomic_fetch_add(&m->wanting, 1);
+    if (!m->free) syscall(SYS_futex, &m->free, FUTEX_WAIT_PRIVATE, 0, &while_none, NULL, 0);
+    atomic_fetch_sub(&m->wanting, 1);
+}
+
+/* Looks for a number before it is said that there are too many threads: by then some that were served may have gone
+   on. */
+enum { PATIENT_LOOKS = 20 };
+
+/* To the thread that calls. */
+static int lend(struct monitor *m, int n, struct thread *t) {
+    t->numbers++;
+    m->places[n].is_signaller = 0;
+    store(m->places[n].who, t);
+    return n;
+}
+
+static int is_steward_free(struct monitor *m) { return !atomic_exchange(&m->has_steward, 1); }
+
+static int take_number(struct monitor *m, struct thread *t) {
+    for (int looks = 0;; looks++) {
+        int n = free_number(m, t);
+        if (n == NONE && count_standing(m, GHOST_WAITS) && is_steward_free(m)) n = STEWARD;
+        if (n != NONE) return lend(m, n, t);
+        if (looks > PATIENT_LOOKS && count_standing(m, WAITS) == NUMBERS)
+            refuse_of(m, "31 threads wait on its conditions, and more come: monitors have 32 seats");
+        await_number(m);
+    }
+}
+
+static void give_number(struct monitor *m, int n) {
+    struct place *p = &m->places[n];
+    struct thread *t = p->who;
+    store(p->who, NULL);
+    store(p->used, NULL);
+    store(p->home, NULL);
+    store(p->standing, AWAY);
+    if (n == STEWARD)
+        let(&m->has_steward);
+    else
+        atomic_fetch_or(&m->free, 1u << n);
+    if (m->wanting) syscall(SYS_futex, &m->free, FUTEX_WAKE_PRIVATE, INT32_MAX, NULL, NULL, 0);
+    if (t) drop_number(t);
+}
+
+#endif

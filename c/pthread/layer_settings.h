@@ -1,0 +1,145 @@
+/* layer_settings.h - what monk-run asks of the layer, by the environment. Part of libmonk_pthread.c. */
+#ifndef LAYER_SETTINGS_H
+#define LAYER_SETTINGS_H
+
+#include "layer_real.h"
+#include "monk.h"
+#include <errno.h>
+#include <stdarg.h>
+#include <stdint.h>
+#include <stdlib.h>
+#include <string.h>
+#include <sys/stat.h>
+#include <unistd.h>
+
+enum {
+    STATUS_LATE = 124 /* as of timeout(1) */,
+    STATUS_CANT = 125,
+    LONGEST_LINE = 600,
+    LONGEST_PATH = 500,
+    MOST_BUDGET = 1 << 20
+};
+
+/* How the layer mends a program, for monk-try to see what would be right: each signal is a broadcast; or all who
+   wait are woken when all sleep for ever. */
+enum { AS_IT_IS, BROADCASTS, WAKES_SLEEPERS };
+
+static struct {
+    int kind, mode, wish;
+    int shakes; /* threads let others go first at random */
+    int eager;  /* so many mutexes are monitors from their first lock on */
+    int mend;
+    uint32_t budget; /* events of a seat in a volume; 0: each volume has twice as many as the one before */
+    uint64_t seed;
+    double seconds;         /* after so long the program is ended; 0: never */
+    const char *left_alone; /* mutexes that stay what they are */
+    const char *history, *report;
+} asked = {.kind = MONK_NPNB, .wish = MONK_WAITER, .seed = 1};
+
+static char history_of_process[LONGEST_PATH], report_of_process[LONGEST_PATH];
+
+/* ---- Saying */
+
+__attribute__((format(printf, 2, 3))) static void write_line(int file, const char *format, ...) {
+    char line[LONGEST_LINE];
+    va_list words;
+    va_start(words, format);
+    int length = vsnprintf(line, sizeof line, format, words);
+    va_end(words);
+    if (length < 0) return;
+    size_t size = (size_t)length < sizeof line ? (size_t)length : sizeof line - 1;
+    if (write(file, line, size) < 0) return;
+}
+
+__attribute__((noreturn)) static void end_now(int status) {
+    real.end(status);
+    __builtin_unreachable();
+}
+
+__attribute__((noreturn)) static void refuse_setting(const char *name, const char *text, const char *what) {
+    write_line(STDERR_FILENO, "monk: %s=%s: %s\n", name, text, what);
+    end_now(STATUS_CANT);
+}
+
+/* ---- Reading */
+
+/* A whole number of that range, where the variable is set. */
+static void read_number(const char *name, uint64_t least, uint64_t most, uint64_t *number) {
+    const char *text = getenv(name);
+    char *end;
+    if (!text) return;
+    errno = 0;
+    uint64_t is = strtoull(text, &end, 10);
+    if (*text < '0' || *text > '9' || *end || errno || is < least || is > most)
+        refuse_setting(name, text, "no number, or out of range");
+    *number = is;
+}
+
+static int number_of_setting(const char *name, uint64_t least, uint64_t most) {
+    uint64_t number = 0;
+    read_number(name, least, most, &number);
+    return (int)number;
+}
+
+static void read_kind(void) {
+    const char *text = getenv("MONK_KIND");
+    if (text) asked.kind = monk_kind_named(text);
+    asked.mode = asked.kind < 0 ? MONK_AUTOMATIC : monk_mode_of(asked.kind);
+    if (asked.mode == MONK_AUTOMATIC) refuse_setting("MONK_KIND", text, "none of PB NPB PNB NPNB PQB NPQB PIR NPIR");
+}
+
+static void read_wish(void) {
+    static const char *const wishes[] = {"entry", "waiter", "signaller", "any"};
+    const char *text = getenv("MONK_WISH");
+    if (!text) return;
+    asked.wish = MONK_ENTRY;
+    while (asked.wish <= MONK_ANY && strcmp(text, wishes[asked.wish])) asked.wish++;
+    if (asked.wish > MONK_ANY) refuse_setting("MONK_WISH", text, "none of entry waiter signaller any");
+}
+
+static void read_seconds(void) {
+    const char *text = getenv("MONK_SECONDS");
+    char *end;
+    if (!text) return;
+    asked.seconds = strtod(text, &end);
+    if (*text < '0' || *text > '9' || *end || !(asked.seconds < 1e9))
+        refuse_setting("MONK_SECONDS", text, "no number of seconds");
+}
+
+/* The process that monk-run became writes into DIR and FILE; each other that it starts or that is forked into
+   DIR/PID and FILE.PID. */
+static void name_files(const char *history, const char *report) {
+    const char *owner = getenv("MONK_OWNER");
+    int is_owner = !owner || atol(owner) == getpid();
+    snprintf(history_of_process, LONGEST_PATH, is_owner ? "%s" : "%s/%d", history ? history : "", (int)getpid());
+    snprintf(report_of_process, LONGEST_PATH, is_owner ? "%s" : "%s.%d", report ? report : "", (int)getpid());
+    asked.history = history ? history_of_process : NULL;
+    asked.report = report ? report_of_process : NULL;
+}
+
+/* An allocator that isn't the C library's may have mutexes. A hall takes memory, so none can be made while one of
+   those is held. */
+static int has_own_allocator(void) {
+    Dl_info of_malloc, of_library;
+    void *allocator = dlsym(RTLD_DEFAULT, "malloc"), *library = dlsym(RTLD_NEXT, "getenv");
+    return dladdr(allocator, &of_malloc) && dladdr(library, &of_library) && of_malloc.dli_fbase != of_library.dli_fbase;
+}
+
+static void read_settings(void) {
+    const char *history = getenv("MONK_HISTORY");
+    read_kind();
+    read_wish();
+    read_seconds();
+    read_number("MONK_SEED", 0, UINT64_MAX, &asked.seed);
+    read_number("MONK_SHAKE", 0, UINT64_MAX, &asked.seed);
+    asked.shakes = getenv("MONK_SHAKE") != NULL;
+    asked.budget = (uint32_t)number_of_setting("MONK_BUDGET", 64, MOST_BUDGET);
+    asked.eager = number_of_setting("MONK_EAGER", 0, INT32_MAX);
+    asked.mend = number_of_setting("MONK_MEND", AS_IT_IS, WAKES_SLEEPERS);
+    asked.left_alone = getenv("MONK_LEAVE");
+    if (asked.eager && has_own_allocator()) asked.eager = 0;
+    if (history && mkdir(history, 0755) && errno != EEXIST) refuse_setting("MONK_HISTORY", history, strerror(errno));
+    name_files(history, getenv("MONK_REPORT"));
+}
+
+#endif

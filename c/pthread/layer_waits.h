@@ -1,0 +1,221 @@
+/* layer_waits.h - waits on conditions, with and without a limit. Part of libmonk_pthread.c.
+
+   A thread whose time is over makes its seat a ghost, if no signal has served it, and comes in by another. A signal
+   that serves the ghost is passed on. A later wait of the thread on the same condition takes the ghost over, at its
+   old place in the queue. */
+#ifndef LAYER_WAITS_H
+#define LAYER_WAITS_H
+
+#include "layer_visits.h"
+
+enum { MS_A_SECOND = 1000, NS_A_SECOND = 1000000000, SLICE_NS = 200000000 };
+
+struct wait {
+    struct monitor *monitor;
+    struct thread *thread;
+    int number, depth, condition;
+    const struct timespec *until; /* null: no limit */
+    clockid_t clock;
+};
+
+/* ---- Times */
+
+static int is_before(struct timespec a, struct timespec b) {
+    return a.tv_sec < b.tv_sec || (a.tv_sec == b.tv_sec && a.tv_nsec < b.tv_nsec);
+}
+
+static struct timespec time_of(clockid_t clock) {
+    struct timespec now;
+    clock_gettime(clock, &now);
+    return now;
+}
+
+/* The same time by CLOCK_MONOTONIC, as the clocks stand now; now if it is over. */
+static struct timespec monotonic(clockid_t clock, const struct timespec *until) {
+    struct timespec now = time_of(CLOCK_MONOTONIC), here = time_of(clock);
+    if (!is_before(here, *until)) return now;
+    now.tv_sec += until->tv_sec - here.tv_sec;
+    now.tv_nsec += until->tv_nsec - here.tv_nsec;
+    if (now.tv_nsec < 0) now.tv_sec--, now.tv_nsec += NS_A_SECOND;
+    if (now.tv_nsec >= NS_A_SECOND) now.tv_sec++, now.tv_nsec -= NS_A_SECOND;
+    return now;
+}
+
+/* When a wait wakes to look at its clock, which may have been set, and whether its thread was cancelled. */
+static struct timespec next_look(clockid_t clock, const struct timespec *until) {
+    struct timespec look = time_of(CLOCK_MONOTONIC), limit = until ? monotonic(clock, until) : look;
+    look.tv_nsec += SLICE_NS;
+    if (look.tv_nsec >= NS_A_SECOND) look.tv_sec++, look.tv_nsec -= NS_A_SECOND;
+    return until && is_before(limit, look) ? limit : look;
+}
+
+static int is_over(clockid_t clock, const struct timespec *until) {
+    return until && !is_before(time_of(clock), *until);
+}
+
+static int is_time(const struct timespec *time) { return time->tv_nsec >= 0 && time->tv_nsec < NS_A_SECOND; }
+
+static int is_clock(clockid_t clock) { return clock == CLOCK_REALTIME || clock == CLOCK_MONOTONIC; }
+
+/* ---- Numbers of conditions */
+
+/* A number on whose condition nobody waits. */
+static int spare_condition(struct monitor *m) {
+    int k = 0;
+    while (k < CONDITIONS && m->conditions[k]) k++;
+    if (k < CONDITIONS) return k;
+    for (k = 0; k < CONDITIONS && count_queued(m, k); k++) continue;
+    return k < CONDITIONS ? k : NONE;
+}
+
+static void use_number(struct monitor *m, int k, struct condition *c) {
+    const void *before = m->conditions[k];
+    struct condition *old = before ? condition_of(before) : NULL;
+    if (old && old->of == m && old->number == k) old->of = NULL;
+    m->conditions[k] = c->known.address;
+    m->pending[k] = 0;
+    c->number = k;
+    atomic_store(&c->of, m);
+}
+
+static int number_of(struct monitor *m, const void *address) {
+    struct condition *c = make_condition(address);
+    if (c->of == m && m->conditions[c->number] == address) return c->number;
+    int k = spare_condition(m);
+    if (k == NONE && may_renew(m) && renew(m, m->inside)) k = spare_condition(m); /* ghosts don't wait any more */
+    if (k == NONE) refuse_of(m, "threads wait on more than %d of its conditions at once", CONDITIONS);
+    use_number(m, k, c);
+    return k;
+}
+
+/* ---- A wait */
+
+/* The ghost of this thread that waits on this condition. */
+static int own_ghost(const struct wait *w) {
+    struct monitor *m = w->monitor;
+    for (int n = 0; n < NUMBERS && m->deferred == NONE; n++) {
+        struct place *p = &m->places[n];
+        if (p->standing == GHOST_WAITS && p->who == w->thread && p->condition == w->condition) return n;
+    }
+    return NONE;
+}
+
+static void take_over(struct wait *w, int ghost) {
+    struct monitor *m = w->monitor;
+    monk_seat *seat = seat_in(m, w->number);
+    struct place *p = &m->places[ghost];
+    m->taken_over++;
+    atomic_store(&p->used, p->home);
+    p->standing = WAITS;
+    note_outside(m);
+    leave_by(m, seat);
+    released(m);
+    give_number(m, w->number);
+    w->number = ghost;
+}
+
+static void start_wait(struct wait *w) {
+    struct monitor *m = w->monitor;
+    struct place *p = &m->places[w->number];
+    monk_seat *seat = seat_in(m, w->number);
+    unsigned condition = (unsigned)w->condition;
+    int signals = m->deferred;
+    m->deferred = NONE;
+    if (signals != NONE) serve(m, signals);
+    p->condition = w->condition;
+    p->ticket = m->tickets++;
+    p->home = m->hall;
+    p->standing = WAITS;
+    note_outside(m);
+    sure(m,
+         signals == NONE ? monk_start_wait(seat, condition)
+                         : monk_start_signal_wait(seat, (unsigned)signals, condition),
+         "wait");
+    released(m);
+}
+
+static void begin_wait(struct wait *w) {
+    struct monitor *m = w->monitor;
+    int hands_over = asked.mode == MONK_BLOCKING || asked.mode == MONK_QUASI_BLOCKING;
+    if (hands_over)
+        keep_pending(m);
+    else
+        send_pending(m, w->number);
+    renew_if_due(m, w->number);
+    int ghost = own_ghost(w);
+    if (ghost != NONE)
+        take_over(w, ghost);
+    else
+        start_wait(w);
+    visit_if_pending(m, &m->places[w->number]);
+}
+
+/* Whether the thread is to end now: it was cancelled, and lets itself be. */
+static int is_to_end(struct thread *t) {
+    int state = PTHREAD_CANCEL_DISABLE;
+    if (!t->is_cancelled) return 0;
+    pthread_setcancelstate(PTHREAD_CANCEL_DISABLE, &state);
+    pthread_setcancelstate(state, NULL);
+    return state == PTHREAD_CANCEL_ENABLE;
+}
+
+/* Whether the seat is given up: its time is over or its thread is to end, and no signal has served it. */
+static int is_given_up(struct wait *w, struct place *p) {
+    int is = WAITS;
+    if (!is_over(w->clock, w->until) && !is_to_end(w->thread)) return 0;
+    return atomic_compare_exchange_strong(&p->standing, &is, GHOST_WAITS);
+}
+
+/* Whether a signal served it; else it was given up. */
+static int sleep_through(struct wait *w) {
+    struct monitor *m = w->monitor;
+    struct place *p = &m->places[w->number];
+    for (;;) {
+        struct hall *h = use(p, &p->home);
+        struct timespec look = next_look(w->clock, p->standing == SERVED ? NULL : w->until);
+        int answer = monk_await_until(h->seats[w->number], &look);
+        if (answer == MONK_INSIDE) return 1;
+        if (answer == MONK_STOPPED) continue;
+        sure(m, answer, "wait");
+        if (is_given_up(w, p)) return 0;
+    }
+}
+
+static void end_served(struct wait *w) {
+    struct monitor *m = w->monitor;
+    if (m->places[w->number].standing != SERVED) refuse_of(m, "the kernel served another seat than expected");
+    m->transit--;
+    note_inside(m, w->number, w->thread, w->depth);
+    renew_if_due(m, w->number);
+}
+
+/* The thread is inside again, by another number. If it was cancelled it ends here, and its clean-up handlers have
+   the mutex. */
+static int end_given_up(struct wait *w) {
+    struct monitor *m = w->monitor;
+    int is_late = is_over(w->clock, w->until);
+    m->places[w->number].used = NULL;
+    m->timeouts++;
+    enter(m, w->thread, NULL, w->depth);
+    if (is_late) return ETIMEDOUT;
+    pthread_testcancel();
+    w->thread->is_cancelled = 0; /* the mark was for another of the same name */
+    return 0;
+}
+
+/* The wait of pthread_cond_wait and the like by the thread that is inside: 0 or ETIMEDOUT. */
+static int wait_with(struct monitor *m, const void *condition, clockid_t clock, const struct timespec *until) {
+    struct wait w = {
+        .monitor = m, .thread = self(), .number = m->inside, .depth = m->depth, .until = until, .clock = clock};
+    pthread_testcancel();
+    w.condition = number_of(m, condition);
+    begin_wait(&w);
+    w.thread->sleeps = !until;
+    int is_served = sleep_through(&w);
+    w.thread->sleeps = 0;
+    if (!is_served) return end_given_up(&w);
+    end_served(&w);
+    return 0;
+}
+
+#endif

@@ -1,0 +1,136 @@
+"""What a program relies on, by the kinds under which it was right and wrong. Part of monk-try."""
+from collections import Counter
+from typing import Counter as Counts, Dict, List, NamedTuple, Optional
+
+from monk_runs import CANT, HUNG, OK, WRONG, Result
+
+KINDS = ["PB", "NPB", "PNB", "NPNB", "PQB", "NPQB", "PIR", "NPIR"]
+# How monk-run mends a program (--mend).
+BROADCASTS, WAKES_SLEEPERS = 1, 2
+
+
+class Cell(NamedTuple):
+    kind: str
+    wish: str
+    results: List[Result]
+
+    def count(self, what: str) -> int:
+        return sum(result.what == what for result in self.results)
+
+    def is_bad(self) -> bool:
+        return self.count(WRONG) + self.count(HUNG) > 0
+
+    def first(self, *whats: str) -> Optional[Result]:
+        return next((result for result in self.results if result.what in whats), None)
+
+
+class Lesson(NamedTuple):
+    name: str
+    text: str
+
+
+class Facts:
+    """What was seen in all runs."""
+
+    def __init__(self, cells: List[Cell], plain: Counts[str], mended: Dict[int, bool], unlocks: List[str]) -> None:
+        self.cells, self.plain, self.mended = cells, plain, mended
+        self.forgotten_unlocks = unlocks        # who ended inside, in a sentence each
+        self.by_kind: Dict[str, Counts[str]] = {}
+        for cell in cells:
+            self.by_kind.setdefault(cell.kind, Counter()).update(result.what for result in cell.results)
+
+    def having(self, *whats: str) -> List[str]:
+        """The kinds under which some run ended so, in the order of KINDS."""
+        return [kind for kind in KINDS if kind in self.by_kind and any(self.by_kind[kind][what] for what in whats)]
+
+    def bad(self) -> List[str]:
+        return self.having(WRONG, HUNG)
+
+    def fine(self) -> List[str]:
+        return [kind for kind in self.having(OK) if kind not in self.bad()]
+
+
+def untried(facts: Facts) -> Optional[Lesson]:
+    if facts.having(OK, WRONG, HUNG):
+        return None
+    return Lesson("not run", "It can't be run under any of these kinds.")
+
+
+def right(facts: Facts) -> Optional[Lesson]:
+    if facts.bad():
+        return None
+    relies = ": in these runs it relied neither on who goes on at a signal nor on who comes in first."
+    if facts.plain[OK] < sum(facts.plain.values()):
+        relies = ", though plain runs go wrong: the fault isn't one of waiting and signalling."
+    return Lesson("right", f"Right under {' '.join(facts.fine())}{relies}")
+
+
+def unlock(facts: Facts) -> Optional[Lesson]:
+    if not facts.forgotten_unlocks:
+        return None
+    return Lesson("unlock", f"{facts.forgotten_unlocks[0]}: a return without an unlock.")
+
+
+USE_BROADCAST = ("It is right when each signal is made a broadcast: a signal wakes a thread that can't use it."
+                 " Signal another condition, or broadcast.")
+
+
+def preferred(facts: Facts, kind: str) -> str:
+    """Which wish it takes, if it isn't wrong under each."""
+    wishes = [cell.wish for cell in facts.cells if cell.kind == kind and cell.is_bad()]
+    return " with entry preferred" if wishes and "waiter" not in wishes else ""
+
+
+def mesa(facts: Facts) -> Optional[Lesson]:
+    wrong = [kind for kind in ("PNB", "NPNB") if kind in facts.bad()]
+    if "PB" not in facts.fine() or not wrong:
+        return None
+    seen = f"Right under Hoare's rule (PB), wrong under Mesa's ({wrong[-1]}){preferred(facts, wrong[-1])}"
+    if facts.mended.get(BROADCASTS):
+        return Lesson("broadcast", f"{seen}. {USE_BROADCAST}")
+    between = "" if "PNB" in facts.bad() else ": another thread may come in between (it never can under PNB)"
+    return Lesson("if", f"{seen}: a woken thread relies on what held at the signal{between}."
+                  " Write `while` for `if` at its wait.")
+
+
+def hand_over(facts: Facts) -> Optional[Lesson]:
+    bad, hoare = facts.bad(), [kind for kind in ("PB", "NPB") if kind in facts.bad()]
+    if not hoare or "PNB" in bad or "NPNB" in bad or "NPNB" not in facts.fine():
+        return None
+    return Lesson("hand-over", "Right where the signaller goes on (PNB, NPNB: pthreads), wrong where it hands the"
+                  f" monitor over ({' '.join(hoare)}): the code behind a signal relies on what held before it, or the"
+                  " woken thread waits for the signaller to end. A program of pthreads may do so.")
+
+
+def broadcast(facts: Facts) -> Optional[Lesson]:
+    return Lesson("broadcast", f"Wrong under each kind. {USE_BROADCAST}") if facts.mended.get(BROADCASTS) else None
+
+
+def forgotten(facts: Facts) -> Optional[Lesson]:
+    if not facts.mended.get(WAKES_SLEEPERS):
+        return None
+    return Lesson("signal", "Wrong under each kind. It goes on when all are woken after all have gone to sleep: a"
+                  " thread slept though what it waits for held. A signal is forgotten, goes to the wrong condition, or"
+                  " comes before its wait (a test without the lock).")
+
+
+def deadlock(facts: Facts) -> Optional[Lesson]:
+    if facts.having(WRONG):
+        return None
+    return Lesson("deadlock", f"It hangs under {' '.join(facts.bad())}, also when all are woken: what these threads"
+                  " wait for doesn't come true. A deadlock, or a change that is forgotten, not only its signal.")
+
+
+def elsewhere(facts: Facts) -> Optional[Lesson]:
+    return Lesson("hoare", f"Wrong under Hoare's rule too ({' '.join(facts.bad())}): what a wait waits for need not"
+                  " hold even at the signal; or the fault isn't one of waiting.")
+
+
+FINDERS = (untried, right, unlock, mesa, hand_over, broadcast, forgotten, deadlock, elsewhere)
+
+
+def lesson(facts: Facts) -> Lesson:
+    name, text = next(filter(None, (find(facts) for find in FINDERS)))
+    cant = facts.having(CANT)
+    signals = " (Not run to its end under {}: the program does what these kinds don't have.)"
+    return Lesson(name, text + (signals.format(" ".join(cant)) if cant and name != "not run" else ""))

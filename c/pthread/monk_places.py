@@ -1,0 +1,158 @@
+"""Where threads stood at the end of a run, in the words of the program's source; and the step of a history at which a
+woken thread may rely on too much. Part of monk-try."""
+import os
+import subprocess
+from typing import Dict, List, NamedTuple, Optional, Tuple
+
+from monk_runs import reports
+
+# The data of a program, as nm tells them; and how far behind a name an address may be that belongs to it.
+DATA, FARTHEST = "bBdDvVuC", 4096
+MOST_HISTORIES = 3
+_symbols: Dict[str, List[Tuple[int, str]]] = {}
+
+
+def said(words: List[str]) -> str:
+    """What a tool prints; nothing if there is no such tool."""
+    try:
+        done = subprocess.run(words, stdout=subprocess.PIPE, stderr=subprocess.DEVNULL, universal_newlines=True)
+    except OSError:
+        return ""
+    return done.stdout
+
+
+def symbols(program: str) -> List[Tuple[int, str]]:
+    if program not in _symbols:
+        rows = [line.split() for line in said(["nm", "-n", program]).splitlines()]
+        _symbols[program] = [(int(row[0], 16), row[2]) for row in rows if len(row) == 3 and row[1] in DATA]
+    return _symbols[program]
+
+
+def name_of(place: str) -> str:
+    """The name of the data at PATH+0xOFFSET; the place itself if it has none."""
+    path, plus, offset = place.rpartition("+0x")
+    if not plus:
+        return place
+    at = int(offset, 16)
+    before = [row for row in symbols(path) if row[0] <= at]
+    if not before or at - before[-1][0] > FARTHEST:
+        return place
+    address, name = before[-1]
+    return name if at == address else f"{name}+{at - address}"
+
+
+def line_of(place: str) -> str:
+    """File and line of the code at PATH+0xOFFSET, behind a call; the place itself if the program doesn't tell."""
+    path, plus, offset = place.rpartition("+0x")
+    if not plus:
+        return place
+    found = said(["addr2line", "-e", path, hex(int(offset, 16) - 1)]).split(" ")[0].strip()
+    return place if not found or found.startswith("?") else os.path.basename(found)
+
+
+class Names(NamedTuple):
+    mutexes: Dict[str, str]
+    conditions: Dict[Tuple[str, str], str]
+    waits: Dict[Tuple[str, str], Tuple[str, str]]        # of a monitor and a seat: the condition, and where it waits
+
+
+def names_in(rows: List[List[str]]) -> Names:
+    names = Names({}, {}, {})
+    for row in rows:
+        if row[0] == "monitor":
+            names.mutexes[row[1]] = name_of(row[2])
+        elif row[0] == "condition":
+            names.conditions[row[1], row[2]] = name_of(row[3])
+        elif row[0] == "on":
+            names.waits[row[1], row[2]] = (row[3], line_of(row[4]))
+    return names
+
+
+def sentence(row: List[str], names: Names) -> str:
+    """Of the row `seat MONITOR SEAT thread THREAD STANDING ..`."""
+    monitor, seat, thread, standing = row[1], row[2], row[4], " ".join(row[5:])
+    mutex = names.mutexes.get(monitor, "?")
+    if not standing.startswith("waits"):
+        return f"thread {thread}: {standing}, {mutex}"
+    number, line = names.waits.get((monitor, seat), ("", "?"))
+    condition = names.conditions.get((monitor, number), "?")
+    return f"thread {thread} waits on {condition} of {mutex} at {line}{standing[len('waits'):]}"
+
+
+def who_waits(folder: str) -> List[str]:
+    """Who stood where at the end of a run, one sentence each."""
+    told = []
+    for rows in reports(folder).values():
+        names = names_in(rows)
+        told += [sentence(row, names) for row in rows if row[0] == "seat" and row[5] != "ghost"]
+    return told
+
+
+def last_volumes(folder: str) -> Dict[int, int]:
+    last: Dict[int, int] = {}
+    for name in os.listdir(folder) if os.path.isdir(folder) else []:
+        monitor, _, volume = name.partition(".")
+        if volume.isdigit():
+            last[int(monitor)] = max(last.get(int(monitor), 0), int(volume))
+    return last
+
+
+def worth_reading(folder: str) -> List[str]:
+    """The last volumes of the monitors at which somebody stood at the end; else of the first."""
+    found = []
+    for history, rows in reports(folder).items():
+        last = last_volumes(history)
+        stood = {int(row[1]) for row in rows if row[0] == "seat"} & set(last)
+        found += [os.path.join(history, f"{monitor}.{last[monitor]}") for monitor in sorted(stood or set(last))]
+    return found[:MOST_HISTORIES]
+
+
+# ---- the step that a woken thread relies on
+
+
+class Suspect(NamedTuple):
+    step: int
+    seat: int            # which comes back from its wait and goes on
+    between: int         # which came in behind the signal
+    steps: int           # how many such steps there are
+
+
+class Waits:
+    """Who waits on what, and since when those who were signalled may come in, as a history is read."""
+
+    def __init__(self) -> None:
+        self.queues: Dict[str, List[str]] = {}
+        self.served: Dict[str, int] = {}
+
+    def read(self, step: int, row: List[str]) -> None:
+        verb = row[0]
+        if verb in ("signal", "signal_leave", "signal_wait") and self.queues.get(row[2]):
+            self.served[self.queues[row[2]].pop(0)] = step
+        elif verb == "broadcast":
+            self.served.update({seat: step for seat in self.queues.pop(row[2], [])})
+        if verb in ("wait", "signal_wait"):
+            self.queues.setdefault(row[-1] if verb == "signal_wait" else row[2], []).append(row[1])
+
+
+def came_between(rows: List[List[str]], since: int, step: int, seat: str) -> List[str]:
+    return [row[1] for row in rows[since + 1:step] if row[0] == "enter" and row[1] != seat]
+
+
+def goes_on(rows: List[List[str]], step: int, seat: str) -> bool:
+    return next((row[0] for row in rows[step + 1:] if row[1] == seat), "wait") != "wait"
+
+
+def suspect(path: str) -> Optional[Suspect]:
+    """The first step at which a thread comes back from a wait though another came in behind its signal, and goes on
+    without waiting again. A hint: right programs have such steps too."""
+    with open(path) as file:
+        rows = [line.split() for line in file.read().splitlines()[1:]]
+    waits, found = Waits(), []
+    for step, row in enumerate(rows):
+        waits.read(step, row)
+        if row[0] != "resume" or row[1] not in waits.served:
+            continue
+        came = came_between(rows, waits.served.pop(row[1]), step, row[1])
+        if came and goes_on(rows, step, row[1]):
+            found.append((step + 1, int(row[1]), int(came[-1])))
+    return Suspect(*found[0], steps=len(found)) if found else None

@@ -1,0 +1,138 @@
+"""One run of a program, plain or under a kind of monitor, and what is expected of it. Part of monk-try."""
+import os
+import re
+import signal
+import subprocess
+from collections import Counter
+from concurrent.futures import ThreadPoolExecutor
+from typing import Counter as Counts, Dict, List, NamedTuple, Optional, Tuple
+
+HERE = os.path.dirname(os.path.realpath(__file__))
+OK, WRONG, HUNG, CANT = "ok", "wrong", "hung", "n/a"
+STATUS_HUNG, STATUS_CANT = 124, 125
+# What a run may take beyond its time limit, for its histories.
+TO_WRITE = 10
+FEWEST_PLAIN, LONGEST_PLAIN_SECONDS = 3, 5
+BUDGET = "65536"
+
+
+class Result(NamedTuple):
+    what: str            # OK, WRONG, HUNG, CANT
+    why: str
+    folder: str          # with `history/`, and `report` of each process
+
+
+class Expected(NamedTuple):
+    status: int
+    output: Optional[bytes]      # None: it differs from run to run, and isn't compared
+    check: Optional[str]         # a shell command that judges the output
+
+
+class Job(NamedTuple):
+    """What is to be run, and how it is judged."""
+    words: List[str]
+    seconds: float
+    expected: Expected
+
+
+class Ended(NamedTuple):
+    status: int
+    output: bytes
+    errors: str
+
+
+def monk_run() -> str:
+    """The command beside this file, or where it is installed."""
+    beside = os.path.join(HERE, "monk-run")
+    return beside if os.path.exists(beside) else os.path.join(HERE, "..", "..", "bin", "monk-run")
+
+
+def status_words(status: int) -> str:
+    return f"ended by {signal.Signals(-status).name}" if status < 0 else f"status {status}"
+
+
+def run(words: List[str], seconds: float) -> Ended:
+    """Runs it in a session of its own, of which nothing is left behind it. STATUS_HUNG if the time is over."""
+    process = subprocess.Popen(words, stdin=subprocess.DEVNULL, stdout=subprocess.PIPE, stderr=subprocess.PIPE,
+                               start_new_session=True)
+    try:
+        output, errors = process.communicate(timeout=seconds)
+        status = process.returncode
+    except subprocess.TimeoutExpired:
+        end_session(process.pid)
+        output, errors = process.communicate()
+        status = STATUS_HUNG
+    end_session(process.pid)
+    return Ended(status, output, errors.decode(errors="replace"))
+
+
+def end_session(leader: int) -> None:
+    try:
+        os.killpg(leader, signal.SIGKILL)
+    except ProcessLookupError:
+        pass
+
+
+def is_right_by(check: str, ended: Ended) -> bool:
+    done = subprocess.run(["sh", "-c", check], input=ended.output, stdout=subprocess.DEVNULL, stderr=subprocess.DEVNULL,
+                          env={**os.environ, "MONK_STATUS": str(ended.status)})
+    return done.returncode == 0
+
+
+def judged(ended: Ended, folder: str, expected: Expected) -> Result:
+    refusal = re.search(r"^monk: (.*)$", ended.errors, re.M)
+    if ended.status == STATUS_CANT and refusal:
+        return Result(CANT, refusal[1], folder)
+    if ended.status == STATUS_HUNG:
+        return Result(HUNG, "it hangs", folder)
+    if expected.check is not None:
+        what = OK if is_right_by(expected.check, ended) else WRONG
+        return Result(what, "the check says so", folder)
+    if ended.status != expected.status:
+        return Result(WRONG, status_words(ended.status), folder)
+    if expected.output is not None and ended.output != expected.output:
+        return Result(WRONG, "another output", folder)
+    return Result(OK, "", folder)
+
+
+def run_under(job: Job, folder: str, options: List[str]) -> Result:
+    """A run under the kind that the options name. Its histories and reports are in the folder."""
+    os.makedirs(folder)
+    asked = ["--budget", BUDGET, "--seconds", str(job.seconds), "--history", os.path.join(folder, "history"),
+             "--report", os.path.join(folder, "report"), *options]
+    ended = run([monk_run(), *asked, "--", *job.words], job.seconds + TO_WRITE)
+    return judged(ended, folder, job.expected)
+
+
+def reports(folder: str) -> Dict[str, List[List[str]]]:
+    """The lines of each process's report, by the folder of its histories; those of the program itself are first."""
+    found: Dict[str, List[List[str]]] = {}
+    names = [name for name in os.listdir(folder) if name.startswith("report")] if os.path.isdir(folder) else []
+    for name in sorted(names):
+        history = os.path.join(folder, "history", name[len("report."):])
+        with open(os.path.join(folder, name)) as file:
+            found[history.rstrip("/")] = [line.split() for line in file]
+    return found
+
+
+def usual(runs: List[Ended]) -> Ended:
+    return Counter(runs).most_common(1)[0][0] if runs else Ended(0, b"", "")
+
+
+def expected_of(runs: List[Ended], status: int, expect: Optional[str], check: Optional[str]) -> Expected:
+    """The output that right runs have in common, unless a file says it."""
+    if expect:
+        with open(expect, "rb") as file:
+            return Expected(status, file.read(), check)
+    outputs = {it.output for it in runs if it.status == status}
+    return Expected(status, outputs.pop() if len(outputs) == 1 else None, check)
+
+
+def try_plain(words: List[str], runs: int, seconds: float, jobs: int) -> List[Ended]:
+    limit = min(seconds, LONGEST_PLAIN_SECONDS)
+    with ThreadPoolExecutor(jobs) as pool:
+        return list(pool.map(lambda _: run(words, limit), range(max(FEWEST_PLAIN, runs))))
+
+
+def count_plain(runs: List[Ended], expected: Expected) -> Counts[str]:
+    return Counter(judged(it, "", expected).what for it in runs)
