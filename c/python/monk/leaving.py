@@ -14,12 +14,12 @@ from .libmonk import library_now
 class _Unread:
     """The type of an argument that C doesn't read: a 0 stands for every object."""
 
-    from_param = [].count
+    from_param: Any = [].count
 
 
-def leave_before(rest: Callable[[int, object, Tuple[Any, ...]], None]) -> Any:
+def leave_before(rest: Callable[[int, object, Tuple[Any, ...]], object]) -> Any:
     """A call of the library that leaves by a seat. What is left to do then follows, with the answer and the words of the call."""
-    call = library_now["monk_leave"]
+    call: Any = library_now["monk_leave"]
     # The seat, and the three words of an `__exit__`.
     call.argtypes, call.errcheck = [ctypes.c_void_p, _Unread, _Unread, _Unread], rest
     return call

@@ -25,7 +25,9 @@ SLICE_MS = 100
 MS_A_SECOND = 1000
 
 # Those of each visit, looked up once. A seat's pointer and the time are ctypes values already, so nothing is converted.
-_enter_within, _leave, _start_signal = library_now.monk_enter_within, library_now.monk_leave, library_now.monk_start_signal
+_enter_within: Any = library_now.monk_enter_within
+_leave: Any = library_now.monk_leave
+_start_signal: Any = library_now.monk_start_signal
 _enter_within.argtypes = _leave.argtypes = None
 
 
@@ -58,7 +60,7 @@ class Seat(ctypes.c_void_p):
             raise no_seat(self.handle.shape.seats)
         checked(answer)
         self.handle.sitters[self.number] = weakref.ref(self)
-        self.handle.names[self.number] = threading.current_thread().name
+        self.name = threading.current_thread().name
         if wish != "waiter":
             self.wish(wish)
 
@@ -88,9 +90,18 @@ class Seat(ctypes.c_void_p):
         return int(libmonk.library.monk_seat_number(self._pointer()))
 
     @property
+    def name(self) -> str:
+        """Its name in reports and pictures: that of the thread that took it, or another that was set."""
+        return self.handle.names.get(self.number, "")
+
+    @name.setter
+    def name(self, name: str) -> None:
+        self.handle.names[self.number] = name
+
+    @property
     def title(self) -> str:
-        """Its number, and the name of the thread that took it."""
-        return f"seat {self.number} ({self.handle.names.get(self.number, 'no name')})" if self else "a seat"
+        """Its number and its name."""
+        return f"seat {self.number} ({self.name})" if self else "a seat"
 
     def __repr__(self) -> str:
         return f"<monk.Seat: {self.title}, {self.place if self else 'given back'}>"
@@ -179,7 +190,7 @@ class Seat(ctypes.c_void_p):
 
     def signal(self, condition: int) -> None:
         """Serves the first who waits there. Under a blocking kind that one goes on first."""
-        place = _start_signal(self, condition) if 0 <= condition <= MOST_UNSIGNED else RANGE
+        place: int = _start_signal(self, condition) if 0 <= condition <= MOST_UNSIGNED else RANGE
         if place < 0:
             place = self._asked("signal", lambda _, __: place, self.handle.conditions, condition)
         if place != INSIDE:

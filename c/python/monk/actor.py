@@ -1,0 +1,99 @@
+"""A program of a scene at its seat, as far as it has come."""
+
+from __future__ import annotations
+
+import inspect
+import os
+import sysconfig
+import traceback
+from dataclasses import dataclass
+from typing import Any, Optional, Tuple, Union
+
+from .calls import Call
+from .run import WRONG
+from .scene import Program, line_of
+from .seat import Seat
+from .staged import Threaded
+
+# Frames of these files are no part of what a user wrote.
+OTHERS = (os.path.dirname(os.path.abspath(__file__)) + os.sep, sysconfig.get_paths()["stdlib"] + os.sep)
+
+
+class Over(Exception):
+    """The run is over: its outcome, whose fault that is, and why."""
+
+    def __init__(self, outcome: str, who: str, why: str) -> None:
+        super().__init__(why)
+        self.outcome, self.who, self.why = outcome, who, why
+
+
+class Steps:
+    """The calls of a generator."""
+
+    def __init__(self, program: Program) -> None:
+        self.generator: Any = program()
+
+    def __next__(self) -> Any:
+        return next(self.generator)
+
+    def close(self) -> None:
+        self.generator.close()
+
+    @property
+    def line(self) -> int:
+        """At which line it stands."""
+        inner = self.generator
+        while inspect.isgenerator(inner.gi_yieldfrom):
+            inner = inner.gi_yieldfrom
+        return int(inner.gi_frame.f_lineno) if inner.gi_frame else 0
+
+
+@dataclass
+class Served:
+    """By whom a seat was served, on which condition, by which event; and at which event it went on."""
+    by: str = ""
+    on: str = ""
+    at: int = 0
+    then: int = 0
+
+
+class Actor:
+    """A program of a scene at its seat. Its place is outside, entry, inside, condition, waiter, signaller or done."""
+
+    def __init__(self, name: str, seat: Seat, program: Program) -> None:
+        self.name, self.seat, self.program = name, seat, program
+        self.steps: Union[Steps, Threaded] = Steps(program) if inspect.isgeneratorfunction(program) else Threaded(program)
+        self.next: Optional[Call] = None
+        self.place, self.served = "outside", Served()
+        seat.name = name
+
+    def waits(self) -> bool:
+        return self.place in ("entry", "condition", "waiter", "signaller")
+
+    def advance(self) -> None:
+        """Runs the program up to its next call."""
+        try:
+            call = next(self.steps)
+        except StopIteration:
+            return self._end()
+        except Exception as fault:
+            raise Over(WRONG, self.name, _where(fault)) from None
+        if not isinstance(call, Call):
+            why = f"yields {call!r} in line {self.steps.line}, which is no call: write `yield enter()` and the like"
+            raise Over(WRONG, self.name, why)
+        self.next = call
+
+    def _end(self) -> None:
+        if self.place == "inside":
+            raise Over(WRONG, self.name, f"ends inside: there is no leave (line {line_of(self.program)}: its beginning)")
+        self.next, self.place = None, "done"
+
+
+def _where(fault: Exception) -> str:
+    """The error, with the line of the user's that raised it."""
+    frames = traceback.extract_tb(fault.__traceback__)
+    own = [frame for frame in frames if not frame.filename.startswith(OTHERS)] or list(frames)
+    return f"{type(fault).__name__}: {fault} (line {own[-1].lineno}: {own[-1].line})"
+
+
+Option = Tuple[Actor, str]
