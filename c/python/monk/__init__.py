@@ -23,7 +23,7 @@ The library behind it is libmonk (docs/C.md): the file that MONK_LIBRARY names, 
 libmonk.so.0. A refused call raises an error named after the answer, and then nothing has changed.
 """
 
-from .calls import Call, condition, enter, leave, signal, signal_all, wait
+from .calls import Call, Calls, condition, enter, leave, signal, signal_all, wait
 from .conditions import Condition, Flag
 from .errors import (Busy, Closed, InUse, MonkError, NoMemory, NoSeat, NotNow, NotOfKind, OutOfRange, Spent, Stopped)
 from .kinds import KINDS, MODES, WISHES
@@ -32,12 +32,12 @@ from .monitor import Monitor
 from .orders import Comparison, Finding, compare
 from .program import ask
 from .run import Run
-from .scene import Scene
+from .scene import Program, Scene
 from .scenes import play
 from .seat import Seat, inside
 from .staged import Staged
 
 __all__ = ["Monitor", "Condition", "Flag", "Seat", "inside", "KINDS", "MODES", "WISHES", "MonkError", "NotNow", "Spent",
            "NotOfKind", "OutOfRange", "NoMemory", "NoSeat", "Busy", "InUse", "Stopped", "Closed", "version", "build", "ask",
-           "compare", "play", "Scene", "Run", "Comparison", "Finding", "Staged", "Call", "condition", "enter", "leave", "wait",
+           "compare", "play", "Scene", "Run", "Comparison", "Finding", "Staged", "Call", "Calls", "Program", "condition", "enter", "leave", "wait",
            "signal", "signal_all"]

@@ -3,7 +3,7 @@
 from __future__ import annotations
 
 from dataclasses import dataclass
-from typing import Callable, Optional, Union
+from typing import Callable, Iterator, Optional, Union
 
 from .errors import OutOfRange
 
@@ -23,6 +23,10 @@ class Call:
     verb: str
     name: str = ""
     until: Optional[Test] = None
+
+
+# What a program is that has the calls of a scene.
+Calls = Iterator[Call]
 
 
 def condition(name: str, until: Optional[Test] = None) -> Named:

@@ -51,6 +51,8 @@ class Stage:
         self.is_automatic = self.mode == "automatic"
         counts = (0, len(names)) if self.is_automatic else (len(names), 0)
         self.monitor = Monitor(way.kind, seats=len(scene.programs) + 1, conditions=counts[0], flags=counts[1], budget=BUDGET)
+        for name in [] if self.is_automatic else names:
+            self.monitor.condition(name)
         seats = titles(scene.programs)
         self.actors = [Actor(name, self.monitor.seat(), program) for name, program in zip(seats, scene.programs)]
         self.queues: Dict[str, List[Actor]] = {name: [] for name in names}
@@ -244,17 +246,14 @@ class Stage:
         if call.verb == "wait" and call.name not in self.tests:
             why = f"{self.way.kind} has no signals: write wait({call.name!r}, lambda: ..) in line {actor.steps.line}"
             raise Over(NO_SUCH_CALL, actor.name, why)
-        bits = sum(bool(test()) << self.names.index(name) for name, test in self.tests.items())
+        held = [name for name in self.names if name in self.tests and _answer(self.tests[name], f"the test of {name}", actor.name)]
+        bits = sum(1 << self.names.index(name) for name in held)
         if bits != actor.seat.flags:
             actor.seat.flags = bits
-            held = [name for number, name in enumerate(self.names) if bits >> number & 1]
             self._tell(actor, f"tells: {', '.join(held) or 'nothing'} holds")
 
     def _test(self, test: Optional[Test], what: str, who: str) -> None:
-        try:
-            holds = test() if test else None
-        except AssertionError as fault:
-            raise Over(WRONG, who, f"{what}: {fault or 'its assertion fails'}") from None
+        holds = _answer(test, what, who) if test else None
         if holds is not None and not holds:
             raise Over(WRONG, who, f"{what} doesn't hold")
 
@@ -295,3 +294,13 @@ class Stage:
         for actor in self.actors:
             actor.steps.close()
             actor.seat.give()
+
+
+def _answer(test: Test, what: str, who: str) -> object:
+    """What the test answers. If it raises, the run is over."""
+    try:
+        return test()
+    except AssertionError as fault:
+        raise Over(WRONG, who, f"{what}: {fault or 'its assertion fails'}") from None
+    except Exception as fault:
+        raise Over(WRONG, who, f"{what}: {type(fault).__name__}: {fault}") from None
