@@ -26,7 +26,8 @@ class PlainBuffer:
     """The buffer of docs/PYTHON.md, for a monitor of threads or a staged one."""
 
     def __init__(self, monitor: Any) -> None:
-        self.monitor, self.items = monitor, []
+        self.monitor = monitor
+        self.items: List[str] = []
         self.room = monitor.condition("room", lambda: not self.items)
         self.item = monitor.condition("item", lambda: self.items)
 
@@ -56,6 +57,10 @@ def alone(*calls: Any) -> Callable[[], List[Any]]:
         def one() -> Any:
             yield from calls
         return [one]
+    return scene
+
+
+def same(scene: Scene) -> Scene:
     return scene
 
 
@@ -163,7 +168,7 @@ class Scenes(unittest.TestCase):
                              (Scene(alone(enter(), leave())(), end=lambda: 1 / 0), "the end: ZeroDivisionError: division by zero"),
                              (Scene(alone(enter(), leave())(), end=lambda: []), "the end doesn't hold")):
             with self.subTest(words):
-                self.assertEqual(play(lambda scene=scene: scene, "PB").fault, words)
+                self.assertEqual(play(functools.partial(same, scene), "PB").fault, words)
 
     def test_a_program_that_goes_on_and_on(self) -> None:
         def scene() -> List[Any]:
@@ -177,7 +182,7 @@ class Scenes(unittest.TestCase):
         self.assertIn("one: goes on and on: its 1024 events are spent", finding.example.fault)
 
     def test_scenes_that_cannot_be_played(self) -> None:
-        def named() -> object:
+        def named() -> Any:
             return 7
         self.refused(r"^named \(line \d+\) returns 7: it should return its programs", lambda: compare(named))
         self.refused(r"has 32 programs: 1 to 31 can be played", lambda: compare(lambda: 32 * alone()()))
@@ -185,7 +190,7 @@ class Scenes(unittest.TestCase):
         calls = [call for number in range(9) for call in (signal(f"condition {number}"),)]
         self.refused(r"^one, line \d+: 'condition 8' is one condition too many: a monitor has 8, condition 0, ",
                      lambda: compare(alone(enter(), *calls, leave())))
-        self.refused("no condition is 7: give a name", lambda: condition(7))
+        self.refused("no condition is 7: give a name", lambda: condition(named()))
 
     def test_words_that_are_refused(self) -> None:
         buffer = compare_buffer.buffer

@@ -15,7 +15,7 @@ import tempfile
 import threading
 import unittest
 import unittest.mock
-from typing import Callable, List
+from typing import Callable, List, Type
 
 import monk
 
@@ -35,7 +35,7 @@ def run(*works: Callable[[], None]) -> None:
 
 
 class Telling(unittest.TestCase):
-    def refused(self, fault: type, words: str, call: Callable[[], object]) -> None:
+    def refused(self, fault: Type[Exception], words: str, call: Callable[[], object]) -> None:
         with self.assertRaises(fault) as refused:
             call()
         self.assertIn(words, str(refused.exception))

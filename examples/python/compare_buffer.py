@@ -36,6 +36,4 @@ def buffer() -> Sequence[Program]:
 if __name__ == "__main__":
     found = compare(buffer)
     run = found["NPNB"].example
-    print(found)
-    if run:
-        print(f"\n{run}\n\n{run.picture(100)}\n\nplay(buffer, \"NPNB\", \"{run.schedule}\")")
+    print(f"{found}\n\n{run}\n\n{run.picture(100)}\n\nplay(buffer, \"NPNB\", \"{run.schedule}\")")

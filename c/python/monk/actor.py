@@ -77,7 +77,7 @@ class Actor:
         except StopIteration:
             return self._end()
         except Exception as fault:
-            raise Over(WRONG, self.name, _where(fault)) from None
+            raise Over(WRONG, self.name, where(fault)) from None
         if not isinstance(call, Call):
             why = f"yields {call!r} in line {self.steps.line}, which is no call: write `yield enter()` and the like"
             raise Over(WRONG, self.name, why)
@@ -89,11 +89,12 @@ class Actor:
         self.next, self.place = None, "done"
 
 
-def _where(fault: Exception) -> str:
+def where(fault: BaseException) -> str:
     """The error, with the line of the user's that raised it."""
     frames = traceback.extract_tb(fault.__traceback__)
-    own = [frame for frame in frames if not frame.filename.startswith(OTHERS)] or list(frames)
-    return f"{type(fault).__name__}: {fault} (line {own[-1].lineno}: {own[-1].line})"
+    own = [frame for frame in frames if not frame.filename.startswith(OTHERS)]
+    place = f" (line {own[-1].lineno}: {own[-1].line})" if own else ""
+    return f"{type(fault).__name__}: {fault}{place}"
 
 
 Option = Tuple[Actor, str]

@@ -20,6 +20,7 @@ from .tables import html_table, table
 MOST = 5_000
 # Outcomes, the worst first.
 ORDER = (NO_SUCH_CALL, WRONG, STUCK, RIGHT)
+Orders = Union[str, int]
 Ways = Iterator[Callable[[], Choose]]
 
 
@@ -32,8 +33,13 @@ class Finding:
     bad: Dict[str, int] = field(default_factory=dict)
     # Whether every order of moves and every wish was tried.
     is_whole: bool = False
-    # The shortest run that went wrong, else the first; with its history.
-    example: Optional[Run] = None
+    worst: Optional[Run] = None
+
+    @property
+    def example(self) -> Run:
+        """The shortest run that went wrong, else the first; with its history."""
+        assert self.worst is not None, "at least one run is made"
+        return self.worst
 
     @property
     def outcome(self) -> str:
@@ -49,8 +55,8 @@ class Finding:
         self.runs += 1
         if run.outcome != RIGHT:
             self.bad[run.outcome] = self.bad.get(run.outcome, 0) + 1
-        if self.example is None or _badness(run) < _badness(self.example):
-            self.example = run
+        if self.worst is None or _badness(run) < _badness(self.worst):
+            self.worst = run
 
 
 def _badness(run: Run) -> Tuple[int, int]:
@@ -85,7 +91,7 @@ class Comparison:
         return html_table(self)
 
 
-def compare(made: Made, kinds: Sequence[str] = KINDS, orders: Union[str, int] = "all", wish: Optional[str] = None,
+def compare(made: Made, kinds: Sequence[str] = KINDS, orders: Orders = "all", wish: Optional[str] = None,
             most: int = MOST, seed: int = 0) -> Comparison:
     """Plays the scene under each kind. orders: "all" tries each order of moves, and at each release each wish that the kind leaves
     open, up to `most` runs of a kind; a number throws dice for so many runs, which `seed` makes repeatable; in "list" all arrive
@@ -108,11 +114,11 @@ def compare(made: Made, kinds: Sequence[str] = KINDS, orders: Union[str, int] = 
     return Comparison(name_of(made), f"{_told(orders)}, {'wish ' + wish if wish else 'all wishes'}", findings)
 
 
-def _told(orders: Union[str, int]) -> str:
+def _told(orders: Orders) -> str:
     return {"all": "all orders", "list": "in the order of the list"}.get(str(orders), f"{orders} random orders")
 
 
-def _ways(orders: Union[str, int], most: int, seed: str) -> Ways:
+def _ways(orders: Orders, most: int, seed: str) -> Ways:
     if orders == "all":
         return all_orders(most + 1)
     if orders == "list":
@@ -131,8 +137,8 @@ def _finding(made: Made, way: Way, names: List[str], ways: Ways, most: int) -> F
         if run.outcome == NO_SUCH_CALL or run.is_endless:
             finding.is_whole = False
             break
-    if finding.example is not None:                 # once more, with its history
-        finding.example = play(made, way.kind, finding.example.schedule, way.wish)
+    # Once more, with its history.
+    finding.worst = play(made, way.kind, finding.example.schedule, way.wish)
     return finding
 
 

@@ -26,7 +26,7 @@ def _cells(finding: Finding) -> List[str]:
 def _reasons(finding: Finding) -> List[str]:
     """What the shortest run that went wrong says."""
     run = finding.example
-    if run is None or finding.holds:
+    if finding.holds:
         return []
     return [line for line in (f"{run.fault}, after event {run.at}", run.between) if line]
 
