@@ -114,9 +114,11 @@ class Scenes(unittest.TestCase):
 
     def test_who_may_wait(self) -> None:
         def scene() -> Scene:
+            request = condition("request")
+
             def server() -> Any:
                 yield enter()
-                yield wait("request")
+                yield wait(request)
                 yield leave()
             return Scene([server, server], may_wait=["server1"], end=lambda: False)
         self.assertEqual(play(scene, "PB").fault, "nobody can go on: server2 waits on request")

@@ -62,10 +62,16 @@ class Actor:
 
     def __init__(self, name: str, seat: Seat, program: Program) -> None:
         self.name, self.seat, self.program = name, seat, program
-        self.steps: Union[Steps, Threaded] = Steps(program) if inspect.isgeneratorfunction(program) else Threaded(program)
+        is_generator = inspect.isgeneratorfunction(program)
+        self.steps: Union[Steps, Threaded] = Steps(program) if is_generator else Threaded(program)
         self.next: Optional[Call] = None
         self.place, self.served = "outside", Served()
         seat.name = name
+
+    @property
+    def on(self) -> str:
+        """The condition on which it waits, or waited last: that of its last call."""
+        return self.next.name if self.next else ""
 
     def waits(self) -> bool:
         return self.place in ("entry", "condition", "waiter", "signaller")
@@ -85,7 +91,8 @@ class Actor:
 
     def _end(self) -> None:
         if self.place == "inside":
-            raise Over(WRONG, self.name, f"ends inside: there is no leave (line {line_of(self.program)}: its beginning)")
+            line = line_of(self.program)
+            raise Over(WRONG, self.name, f"ends inside: there is no leave (line {line}: its beginning)")
         self.next, self.place = None, "done"
 
 

@@ -30,7 +30,8 @@ Calls = Iterator[Call]
 
 
 def condition(name: str, until: Optional[Test] = None) -> Named:
-    """A condition, for `wait` and `signal` in place of its name. The test is for the automatic kinds, which have no signals."""
+    """A condition, for `wait` and `signal` in place of its name. The test is for the automatic kinds, which have no
+    signals."""
     if not isinstance(name, str) or not name:
         raise OutOfRange(f"no condition is {name!r}: give a name")
     return Named(name, until)
@@ -57,7 +58,8 @@ def wait(on: Union[str, Named], until: Optional[Test] = None) -> Call:
 
 
 def signal(on: Union[str, Named]) -> Call:
-    """Serves the first who waits there. Under immediate return it leaves as well. Under an automatic kind it does nothing."""
+    """Serves the first who waits there. Under immediate return it leaves as well. Under an automatic kind it does
+    nothing."""
     return _of("signal", on)
 
 

@@ -1,4 +1,5 @@
-"""A history as columns of a picture: for each event its words, whom it hands the monitor to, and where each seat waits after it."""
+"""A history as columns of a picture: for each event its words, whom it hands the monitor to, and where each seat
+waits after it."""
 
 from __future__ import annotations
 
@@ -13,8 +14,8 @@ ON_A_CONDITION = ("wait", "signal", "signal-leave", "signal-all", "until")
 
 
 class Column(NamedTuple):
-    """An event: its seat, its words, the seat that it hands the monitor to, and where each seat waits after it: "condition",
-    "waiter", "signaller", "until", or nowhere."""
+    """An event: its seat, its words, the seat that it hands the monitor to, and where each seat waits after it:
+    "condition", "waiter", "signaller", "until", or nowhere."""
     seat: int
     words: str
     to: Optional[int]
@@ -84,7 +85,8 @@ def words_of(event: Sequence[str], thing: Tuple[str, int], conditions: Sequence[
     verb = event[0]
     if verb == "act":
         return _words_of_act(event, thing)
-    on = [conditions[int(number)] if int(number) < len(conditions) else number for number in event[2:4] if number.isdigit()]
+    known = {str(number): name for number, name in enumerate(conditions)}
+    on = [known.get(number, number) for number in event[2:4]]
     if verb in ON_A_CONDITION:
         return f"{verb} {on[0]}"
     return f"{verb} {on[0]} {on[1]}" if verb == "signal-wait" else verb

@@ -37,7 +37,8 @@ def has_none_such(call: str, what: str, count: int) -> OutOfRange:
 
 
 class Numbered:
-    """The conditions of a monitor, or its flags. There are as many as is said, else as many as are asked for before its first use."""
+    """The conditions of a monitor, or its flags. There are as many as is said, else as many as are asked for before
+    its first use."""
 
     def __init__(self, what: str, said: Optional[int]) -> None:
         self.what, self.said, self.asked = what, said, 0
@@ -97,7 +98,8 @@ class Handle:
             self.made()
 
     def made(self) -> ctypes.c_void_p:
-        """The library's pointer. The first call makes the monitor, with the conditions and flags that were asked for till then."""
+        """The library's pointer. The first call makes the monitor, with the conditions and flags that were asked for
+        till then."""
         with self._making:
             if not self.at:
                 self.shape.conditions, self.shape.flags = self.conditions.count, self.flags.count

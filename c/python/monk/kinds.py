@@ -22,7 +22,8 @@ def number_of(kind: str) -> int:
     if kind in KINDS:
         return KINDS.index(kind)
     near = difflib.get_close_matches(str(kind).upper(), KINDS, 1)
-    raise OutOfRange(f"no kind is {kind!r}{f' (did you mean {near[0]!r}?)' if near else ''}: there are {', '.join(KINDS)}")
+    hint = f" (did you mean {near[0]!r}?)" if near else ""
+    raise OutOfRange(f"no kind is {kind!r}{hint}: there are {', '.join(KINDS)}")
 
 
 def number_of_wish(wish: str) -> int:

@@ -45,7 +45,8 @@ def holds(title: str, made: Made, kinds: Sequence[str] = KINDS, orders: Orders =
     def look() -> Verdict:
         found = compare(made, kinds, orders)
         runs = sum(finding.runs for finding in found.findings.values())
-        words = f"in all {runs} orders" if all(finding.is_whole for finding in found.findings.values()) else f"in {runs} random orders"
+        is_whole = all(finding.is_whole for finding in found.findings.values())
+        words = f"in all {runs} orders" if is_whole else f"in {runs} random orders"
         return Verdict(False, _broken(found)) if found.breaks else Verdict(True, words)
     return Check(title, look)
 
@@ -79,7 +80,8 @@ def _broken(found: Comparison) -> str:
     """The first kind that breaks: in how many orders, where, who came between, the picture, and the moves."""
     finding = found[found.breaks[0]]
     run = finding.example
-    lines = [f"{finding.kind}, {sum(finding.bad.values())} of {finding.runs} orders: {run.fault}, after event {run.at}", run.between,
+    bad = sum(finding.bad.values())
+    lines = [f"{finding.kind}, {bad} of {finding.runs} orders: {run.fault}, after event {run.at}", run.between,
              run.picture(WIDTH) if run.story else "", f"The moves: {run.schedule}" if run.moves else "",
              f"So it is under {', '.join(found.breaks[1:])}, too." if found.breaks[1:] else ""]
     return "\n".join(line for line in lines if line)
@@ -108,9 +110,10 @@ def grade(name: str, checks: Sequence[Check]) -> int:
     for number, check in enumerate(checks, 1):
         verdict = _looked(check)
         met += verdict.is_met
-        print(f"  {number} {'yes' if verdict.is_met else 'NO '}  {check.title}" + (f": {verdict.words}" if verdict.is_met else ""))
-        if not verdict.is_met:
-            print(textwrap.indent(verdict.words, INDENT))
+        if verdict.is_met:
+            print(f"  {number} yes  {check.title}: {verdict.words}")
+        else:
+            print(f"  {number} NO   {check.title}\n{textwrap.indent(verdict.words, INDENT)}")
     print(f"{met} of {len(checks)}")
     return 0 if met == len(checks) else 1
 
@@ -125,7 +128,8 @@ def _load(path: str) -> types.ModuleType:
 
 
 def main(name: str, checks_of: Callable[[Any], List[Check]]) -> None:
-    """The check of the file that the command line names. Status 0 if all is met, 1 if not, 2 if the file can't be loaded."""
+    """The check of the file that the command line names. Status 0 if all is met, 1 if not, 2 if the file can't be
+    loaded."""
     if len(sys.argv) != 2:
         print("usage: python3 check.py FILE", file=sys.stderr)
         sys.exit(2)

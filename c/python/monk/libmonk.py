@@ -15,12 +15,15 @@ AT_ONCE = ctypes.c_long(0)
 # The greatest numbers that C holds: ctypes hands over what is left of a greater one, and says nothing.
 MOST_UNSIGNED, MOST_LONG = 2**32 - 1, 2 ** (8 * ctypes.sizeof(ctypes.c_long) - 1) - 1
 SYSTEMS_LIBRARY = "libmonk.so.0"
+# Calls with a pointer, and those with a pointer and the number of a condition or a flag.
+OF_A_POINTER = ("stop", "close", "free", "abandon", "place", "arrive", "poll", "leave")
+OF_A_NUMBER = ("start_wait", "start_signal", "start_wait_until", "broadcast", "signal_leave", "waiting")
 
 
 class Shape(ctypes.Structure):
     """What a monitor is made of."""
-    _fields_ = [("kind", ctypes.c_int), ("seats", ctypes.c_uint), ("conditions", ctypes.c_uint), ("flags", ctypes.c_uint),
-                ("budget", ctypes.c_uint32), ("seed", ctypes.c_uint64)]
+    _fields_ = [("kind", ctypes.c_int), ("seats", ctypes.c_uint), ("conditions", ctypes.c_uint),
+                ("flags", ctypes.c_uint), ("budget", ctypes.c_uint32), ("seed", ctypes.c_uint64)]
 
 
 def _opened(way: Type[ctypes.CDLL]) -> ctypes.CDLL:
@@ -31,7 +34,8 @@ def _opened(way: Type[ctypes.CDLL]) -> ctypes.CDLL:
         return way(path)
     except OSError as fault:
         looked = f"MONK_LIBRARY ({named or 'not set'}); {beside}; {SYSTEMS_LIBRARY} where the system's loader looks"
-        raise ImportError(f"libmonk can't be loaded: {fault}. Looked for: {looked}. docs/C.md says how it is built.") from fault
+        words = f"libmonk can't be loaded: {fault}. Looked for: {looked}. docs/C.md says how it is built."
+        raise ImportError(words) from fault
 
 
 def _load(way: Type[ctypes.CDLL]) -> ctypes.CDLL:
@@ -46,11 +50,11 @@ def _load(way: Type[ctypes.CDLL]) -> ctypes.CDLL:
         "set_flags": [pointer, ctypes.c_uint32], "flags": [pointer, ctypes.POINTER(ctypes.c_uint32)],
         "history": [pointer, pointer, out, ctypes.POINTER(ctypes.c_size_t)],
     }
-    answers.update({name: [pointer] for name in ("stop", "close", "free", "abandon", "place", "arrive", "poll", "leave")})
-    answers.update({name: [pointer, unsigned] for name in ("start_wait", "start_signal", "start_wait_until", "broadcast",
-                                                           "signal_leave", "waiting")})
-    told: Dict[str, Tuple[List[Any], Any]] = {"strerror": ([number], text), "build": ([], text), "version": ([], unsigned),
-                                              "left": ([pointer], ctypes.c_uint32), "seat_number": ([pointer], unsigned)}
+    answers.update({name: [pointer] for name in OF_A_POINTER})
+    answers.update({name: [pointer, unsigned] for name in OF_A_NUMBER})
+    told: Dict[str, Tuple[List[Any], Any]] = {
+        "strerror": ([number], text), "build": ([], text), "version": ([], unsigned),
+        "left": ([pointer], ctypes.c_uint32), "seat_number": ([pointer], unsigned)}
     for name, (takes, gives) in {**{name: (takes, number) for name, takes in answers.items()}, **told}.items():
         call = getattr(opened, "monk_" + name)
         call.argtypes, call.restype = takes, gives

@@ -26,8 +26,8 @@ def without_looks(text: str, looks: List[int]) -> str:
 
 
 def _drop_look(lines: List[str], look: int) -> None:
-    """Drops a look that came in at that line. Whom it chose when it left had been in a queue before it came. The release
-    before it chose the entry, and is told to have chosen that seat."""
+    """Drops a look that came in at that line. Whom it chose when it left had been in a queue before it came. The
+    release before it chose the entry, and is told to have chosen that seat."""
     chosen = [line.split(" ", 2)[2] for line in lines[look + 1:look + 2]]
     del lines[look:look + 2]
     if chosen not in ([], ["entry"]):

@@ -17,13 +17,15 @@ from .visits import Here, Visits
 class Monitor(Visits, Told):
     """A monitor of a kind. `with monitor:` comes in by the calling thread's seat, and leaves at the end.
 
-    kind: one of KINDS. seats: 1 to 32, one for each thread, and one to spare for a look at a run that hangs. conditions: 0 to 8.
-    flags: 0 to 32. Where these two are left out there are as many as are asked for before the first use. budget: how many events
-    each seat has. wish: whom releases prefer where the kind leaves it open, one of WISHES. seed: of the wish "any". patience: for
-    how many seconds a thread waits before it says who waits where, and ends a run in which all wait; MONK_SECONDS names it, too."""
+    kind: one of KINDS. seats: 1 to 32, one for each thread, and one to spare for a look at a run that hangs.
+    conditions: 0 to 8. flags: 0 to 32. Where these two are left out there are as many as are asked for before the
+    first use. budget: how many events each seat has. wish: whom releases prefer where the kind leaves it open, one of
+    WISHES. seed: of the wish "any". patience: for how many seconds a thread waits before it says who waits where, and
+    ends a run in which all wait; MONK_SECONDS names it, too."""
 
     def __init__(self, kind: str, seats: int = 8, conditions: Optional[int] = None, flags: Optional[int] = None,
-                 budget: int = USUAL_BUDGET, wish: str = "waiter", seed: int = 0, patience: Optional[float] = None) -> None:
+                 budget: int = USUAL_BUDGET, wish: str = "waiter", seed: int = 0,
+                 patience: Optional[float] = None) -> None:
         number_of_wish(wish)
         shape = Shape(kind=number_of(kind))
         test_shape(seats=seats, conditions=conditions, flags=flags, budget=budget, seed=seed)
@@ -49,8 +51,8 @@ class Monitor(Visits, Told):
         return self._handle.flags.count
 
     def condition(self, name: Union[None, int, str] = None, until: Optional[Callable[[], object]] = None) -> Condition:
-        """The condition of that name for reports and pictures, else the next one, or the one of that number. The test is for
-        `Staged`, and isn't used here."""
+        """The condition of that name for reports and pictures, else the next one, or the one of that number. The test
+        is for `Staged`, and isn't used here."""
         numbered = self._handle.conditions
         number = numbered.of_number(name) if isinstance(name, int) else numbered.next(name, bool(self._handle.at))
         return Condition(self, number)
@@ -79,8 +81,8 @@ class Monitor(Visits, Told):
         self._here.seat.give()
 
     def set_flags(self, *flags: Union[int, Flag, Tuple[Union[int, Flag], bool]]) -> None:
-        """Sets all flags at once: those that are given are set, and no other. Each is a flag, or a pair of one and whether it is
-        set."""
+        """Sets all flags at once: those that are given are set, and no other. Each is a flag, or a pair of one and
+        whether it is set."""
         bits, seat = 0, self.here
         for flag in flags:
             given, is_set = flag if isinstance(flag, tuple) else (flag, True)
@@ -104,8 +106,8 @@ class Monitor(Visits, Told):
         self._handle.close()
 
     def history(self) -> str:
-        """The history up to now: by this thread's seat if it is inside, else by a look of a seat that nobody has, which isn't in
-        it."""
+        """The history up to now: by this thread's seat if it is inside, else by a look of a seat that nobody has,
+        which isn't in it."""
         seat = self._here.seat
         return seat.history() if seat and seat.place == PLACES[INSIDE] else self._handle.history(None)
 

@@ -93,9 +93,10 @@ class Comparison:
 
 def compare(made: Made, kinds: Sequence[str] = KINDS, orders: Orders = "all", wish: Optional[str] = None,
             most: int = MOST, seed: int = 0) -> Comparison:
-    """Plays the scene under each kind. orders: "all" tries each order of moves, and at each release each wish that the kind leaves
-    open, up to `most` runs of a kind; a number throws dice for so many runs, which `seed` makes repeatable; in "list" all arrive
-    at once, in the order of the list. wish: this one in place of all. OutOfRange if one of these can't be taken, or the scene.
+    """Plays the scene under each kind. orders: "all" tries each order of moves, and at each release each wish that
+    the kind leaves open, up to `most` runs of a kind; a number throws dice for so many runs, which `seed` makes
+    repeatable; in "list" all arrive at once, in the order of the list. wish: this one in place of all. OutOfRange if
+    one of these can't be taken, or the scene.
 
     A run of a scene of generators costs some 0.4 ms, one of `Staged` some 3 ms."""
     if orders not in ("all", "list") and not (isinstance(orders, int) and orders >= 1):
@@ -143,8 +144,8 @@ def _finding(made: Made, way: Way, names: List[str], ways: Ways, most: int) -> F
 
 
 def all_orders(most: int) -> Ways:
-    """Each order of moves once, depth first: every run repeats the last one up to its last open choice, and there takes the
-    next. At most so many."""
+    """Each order of moves once, depth first: every run repeats the last one up to its last open choice, and there
+    takes the next. At most so many."""
     path: List[Tuple[int, int]] = []
 
     def begin() -> Choose:

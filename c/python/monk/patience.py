@@ -26,7 +26,8 @@ def patience_of(seconds: Optional[float]) -> Optional[float]:
     except ValueError:
         given = 0
     if not given > 0:
-        raise OutOfRange(f"patience={seconds}: seconds above 0" if seconds is not None else f"{VARIABLE}={named}: seconds above 0")
+        told = f"{VARIABLE}={named}" if seconds is None else f"patience={seconds}"
+        raise OutOfRange(f"{told}: seconds above 0")
     return given
 
 
@@ -41,8 +42,8 @@ def _doing(seat: Seat, now: float) -> str:
 
 
 def lose(seat: Seat) -> None:
-    """Called by a thread that waits. If its patience is over it says so, once. If each seat that is taken has waited as long,
-    nobody can go on, and all waiting is ended."""
+    """Called by a thread that waits. If its patience is over it says so, once. If each seat that is taken has waited
+    as long, nobody can go on, and all waiting is ended."""
     handle, now = seat.handle, time.monotonic()
     if handle.patience is None or handle.is_stopped or now - seat.since < handle.patience:
         return

@@ -12,11 +12,12 @@ if TYPE_CHECKING:
     from .seat import Seat
 
 # By the call and where the seat stands.
-REMEDIES = {("enter", "inside"): "leave first, or drop the inner `with`", ("leave", "outside"): "it never came in, or has left",
+REMEDIES = {("enter", "inside"): "leave first, or drop the inner `with`",
+            ("leave", "outside"): "it never came in, or has left",
             ("release", "outside"): "it never came in, or has left"}
 # By where the seat stands.
-REMEDIES_OF_ANY = {"outside": "come in first, by `with monitor:`", "waiting": "its last call isn't over, so await_ or poll it",
-                   "inside": "leave first"}
+REMEDIES_OF_ANY = {"outside": "come in first, by `with monitor:`", "inside": "leave first",
+                   "waiting": "its last call isn't over, so await_ or poll it"}
 # By the call and the mode.
 OTHER_CALLS = {("wait", "automatic"): "Write wait_until(flag).", ("signal", "immediate return"): "Write signal_leave.",
                ("signal", "automatic"): "Set the flags: who waits until one is set goes on.",
@@ -54,5 +55,5 @@ def _out_of_place(verb: str, seat: Seat) -> str:
 
 def no_seat(seats: int) -> MonkError:
     """The error of a thread that finds each seat taken."""
-    return ERRORS[NO_SEAT](f"each of the {seats} seats is taken: give Monitor(seats=..) a seat for each thread at once, "
-                           "and one to spare for a look at the run")
+    return ERRORS[NO_SEAT](f"each of the {seats} seats is taken: give Monitor(seats=..) a seat for each thread at once,"
+                           " and one to spare for a look at the run")

@@ -6,6 +6,7 @@ import html
 from dataclasses import dataclass, field
 from typing import Any, Dict, List, Tuple
 
+from .shared import in_words
 from .told import WIDTH_IN_A_NOTEBOOK, Told
 
 RIGHT, WRONG, STUCK, NO_SUCH_CALL = "right", "wrong", "stuck", "no such call"
@@ -55,7 +56,8 @@ class Run(Told):
         return self.conditions
 
     def page_data(self) -> Dict[str, Any]:
-        """What a page may show besides the history: names, the data before the first event and after each, and how it ended."""
+        """What a page may show besides the history: names, the data before the first event and after each, and how it
+        ended."""
         ends = f" Then {self.fault}." if self.why else ""
         return {**super().page_data(), "told0": self.told[0], "told": self.told[1:], "ends": ends}
 
@@ -71,7 +73,3 @@ class Run(Told):
         if self.data:
             ends.append("     at the end: " + in_words(self.data))
         return "\n".join([f"{self.kind}: {self.outcome}", *lines, *ends])
-
-
-def in_words(data: Dict[str, str]) -> str:
-    return ", ".join(f"{name} = {value}" for name, value in data.items())

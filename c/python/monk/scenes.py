@@ -24,9 +24,9 @@
 
     print(compare(buffer))
 
-Each program is a generator that yields its calls. What stands between two yields is one step. The real kernel takes the calls, one at
-a time. The driver only says who moves next, and a run is told by these moves: `play(buffer, "NPNB", "taker putter thief ..")`.
-"""
+Each program is a generator that yields its calls. What stands between two yields is one step. The real kernel takes
+the calls, one at a time. The driver only says who moves next, and a run is told by these moves: `play(buffer, "NPNB",
+"taker putter thief ..")`. """
 
 from __future__ import annotations
 
@@ -41,16 +41,17 @@ from .stage import Choose, NewName, Stage, Way
 
 
 def play(made: Made, kind: str, schedule: str = "", wish: Optional[str] = None) -> Run:
-    """One run of a scene under that kind, with its history. The words of the schedule say who moves, one after the other:
-    `putter`, or `putter/entry` with whom the release prefers. When they are used up, all arrive in the order of the list, and then
-    whoever is inside moves. wish: whom all releases prefer where the kind leaves it open. OutOfRange if the schedule can't be
-    played: at which word, and who can move there."""
+    """One run of a scene under that kind, with its history. The words of the schedule say who moves, one after the
+    other: `putter`, or `putter/entry` with whom the release prefers. When they are used up, all arrive in the order
+    of the list, and then whoever is inside moves. wish: whom all releases prefer where the kind leaves it open.
+    OutOfRange if the schedule can't be played: at which word, and who can move there."""
     number_of(kind)
     number_of_wish(wish or "any")
     words = Words(schedule)
     run = played(made, Way(kind, wish), [], words.begin)
     if len(words.rest) > 0:
-        raise OutOfRange(f"{words.place} of the schedule is {words.rest[0]!r}, and the run is over there: {run.outcome}")
+        word = f"{words.place} of the schedule is {words.rest[0]!r}"
+        raise OutOfRange(f"{word}, and the run is over there: {run.outcome}")
     return run
 
 

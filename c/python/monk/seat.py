@@ -20,7 +20,8 @@ from .lost import warn_of
 from .patience import lose
 from .refusals import no_seat, refusal
 
-# Who may have to be woken waits in slices: the main thread sees an interrupt then, and a thread that its patience is over.
+# Who may have to be woken waits in slices: the main thread sees an interrupt then, and a thread that its patience is
+# over.
 SLICE_MS = 100
 MS_A_SECOND = 1000
 
@@ -42,8 +43,8 @@ _leave_seat = leave_before(lambda _answer, _call, words: words[0].give())
 
 
 class Seat(ctypes.c_void_p):
-    """A seat of a monitor. One thread at a time uses it. It is the library's pointer, and null until the seat is taken and after
-    it was given back."""
+    """A seat of a monitor. One thread at a time uses it. It is the library's pointer, and null until the seat is
+    taken and after it was given back."""
 
     def __init__(self, handle: Handle) -> None:
         super().__init__()
@@ -76,7 +77,8 @@ class Seat(ctypes.c_void_p):
         return answer
 
     def _asked(self, call: str, ask: Callable[..., int], among: Numbered, *numbers: int) -> int:
-        """The library's answer to a call about conditions or flags. It knows which there are, but C can't hold every number."""
+        """The library's answer to a call about conditions or flags. It knows which there are, but C can't hold every
+        number."""
         at = self._pointer()
         answer = ask(at, *numbers) if all(0 <= number <= MOST_UNSIGNED for number in numbers) else RANGE
         if answer == RANGE:
@@ -121,7 +123,8 @@ class Seat(ctypes.c_void_p):
         checked(libmonk.library.monk_set_wish(self._pointer(), number_of_wish(wish)))
 
     def await_(self, timeout: Optional[float] = None) -> bool:
-        """Waits until it is inside. False if `timeout` seconds are over: then it waits on, at its place in its queue."""
+        """Waits until it is inside. False if `timeout` seconds are over: then it waits on, at its place in its
+        queue."""
         limit = FOREVER if timeout is None else max(0, int(timeout * MS_A_SECOND))
         if timeout is not None and limit > MOST_LONG:
             raise OutOfRange(f"await_({timeout}): seconds are 0 to {MOST_LONG // MS_A_SECOND}")
@@ -130,7 +133,8 @@ class Seat(ctypes.c_void_p):
         return self._tested(libmonk.library.monk_await(self._pointer(), limit), "await_") == INSIDE
 
     def _await_in_slices(self, limit: int) -> bool:
-        """Waits for so many milliseconds. After each slice of them it looks for an interrupt, and at what else waits."""
+        """Waits for so many milliseconds. After each slice of them it looks for an interrupt, and at what else
+        waits."""
         end = math.inf if limit == FOREVER else time.monotonic() * MS_A_SECOND + limit
         while True:
             left = max(0, min(SLICE_MS, end - time.monotonic() * MS_A_SECOND))
@@ -208,7 +212,8 @@ class Seat(ctypes.c_void_p):
     def signal_wait(self, condition: int, wait_condition: int) -> None:
         """Signals the first and waits on the second, as one; immediate return."""
         call = libmonk.library.monk_start_signal_wait
-        self._finished(self._asked("signal_wait", call, self.handle.conditions, condition, wait_condition), self._on(wait_condition))
+        place = self._asked("signal_wait", call, self.handle.conditions, condition, wait_condition)
+        self._finished(place, self._on(wait_condition))
 
     def wait_until(self, flag: int) -> None:
         """Goes on once the flag is set; automatic kinds."""
@@ -252,7 +257,8 @@ class Seat(ctypes.c_void_p):
         at, count = self._pointer(), self.handle.flags.count
         answer = libmonk.library.monk_set_flags(at, bits) if 0 <= bits <= MOST_UNSIGNED else RANGE
         if answer == RANGE:
-            raise OutOfRange(f"flags = {bits}: " + (f"the bits are 0 to {2**count - 1}" if count else "the monitor has no flags"))
+            there = f"the bits are 0 to {2**count - 1}" if count else "the monitor has no flags"
+            raise OutOfRange(f"flags = {bits}: {there}")
         self._tested(answer, "flags")
 
     def pause(self, number: int) -> None:
@@ -290,7 +296,8 @@ class Seat(ctypes.c_void_p):
         self._tested(self.not_left(answer) if answer < 0 else answer, "release")
 
     def not_left(self, answer: int) -> int:
-        """What follows a leave that was refused with this answer. It is the answer still, if there was no visit to end."""
+        """What follows a leave that was refused with this answer. It is the answer still, if there was no visit to
+        end."""
         was_out, self.has_signalled_out = self.has_signalled_out, False
         if libmonk.library.monk_place(self) == WAITING:
             self.give()

@@ -13,8 +13,9 @@ from .errors import MonkError, NotOfKind, OutOfRange, Spent
 from .handle import SHAPES
 from .kinds import mode_of
 from .monitor import Monitor
-from .run import NO_SUCH_CALL, STUCK, WRONG, Run, in_words
-from .scene import Scene, shared, titles
+from .run import NO_SUCH_CALL, STUCK, WRONG, Run
+from .scene import Scene, name_of, titles
+from .shared import Shared
 
 # Events of a seat. A program that spends them goes on and on.
 BUDGET = 1024
@@ -22,6 +23,8 @@ MOST_CONDITIONS = SHAPES["conditions"][1]
 # The wishes that a kind's priorities leave open.
 OPEN = {"NPB": ("entry", "signaller"), "NPNB": ("entry", "waiter"), "PQB": ("waiter", "signaller"),
         "NPQB": ("entry", "waiter", "signaller"), "NPIR": ("entry", "waiter"), "NPIS": ("entry", "waiter")}
+# What the story says of a seat that has the turn: from the entry, and from elsewhere.
+ARRIVALS = ("comes in", "goes on")
 # At most one of the seats at these places has the turn.
 PLACES_OF_WAITING = ("entry", "condition", "waiter", "signaller")
 
@@ -44,13 +47,14 @@ class Way:
 
 
 class Stage:
-    """The seats of one run, and the kernel's monitor. The names are those of the conditions that are known up to now."""
+    """The seats of one run, and the kernel's monitor. The names are those of the conditions that are known up to
+    now."""
 
     def __init__(self, scene: Scene, way: Way, names: List[str]) -> None:
         self.scene, self.way, self.names, self.mode = scene, way, names, mode_of(way.kind)
         self.is_automatic = self.mode == "automatic"
-        counts = (0, len(names)) if self.is_automatic else (len(names), 0)
-        self.monitor = Monitor(way.kind, seats=len(scene.programs) + 1, conditions=counts[0], flags=counts[1], budget=BUDGET)
+        conditions, flags = (0, len(names)) if self.is_automatic else (len(names), 0)
+        self.monitor = Monitor(way.kind, len(scene.programs) + 1, conditions, flags, BUDGET)
         for name in [] if self.is_automatic else names:
             self.monitor.condition(name)
         seats = titles(scene.programs)
@@ -59,9 +63,10 @@ class Stage:
         self.tests: Dict[str, Test] = {}
         # Of each condition the last signal that found nobody: whose, and at which event.
         self.lost: Dict[str, "tuple[str, int]"] = {}
-        self.run = Run(way.kind, seats, conditions=names)
+        self.run, self.shared = Run(way.kind, seats, conditions=names), Shared(scene.programs)
         self.make: Dict[str, Callable[[Actor, Call], None]] = {
-            "enter": self._enter, "leave": self._leave, "wait": self._wait, "signal": self._signal, "signal_all": self._signal_all}
+            "enter": self._enter, "leave": self._leave, "wait": self._wait, "signal": self._signal,
+            "signal_all": self._signal_all}
 
     def play(self, choose: Choose) -> Run:
         """The run, with each move chosen from those that are possible."""
@@ -72,14 +77,14 @@ class Stage:
             run.outcome, run.who, run.why, run.at = over.outcome, over.who, over.why, len(run.story)
             self._blame()
         if self.way.is_kept:
-            run.data = shared(self.scene.programs)
-            run.told.append(in_words(run.data))
+            run.data = self.shared.words()
+            run.told.append(str(self.shared))
             run.history = self._history()
         return run
 
     def _play(self, choose: Choose) -> None:
         if self.way.is_kept:
-            self.run.told.append(in_words(shared(self.scene.programs)))
+            self.run.told.append(str(self.shared))
         for actor in self.actors:
             actor.advance()
         while True:
@@ -104,7 +109,8 @@ class Stage:
         places = [other.place for other in self.actors]
         serves = actor.next is not None and actor.next.verb == "signal" and bool(self.queues.get(actor.next.name))
         stays = serves and self.mode in ("blocking", "quasi-blocking")
-        there = {"entry": "entry" in places, "waiter": serves or ("condition" if self.is_automatic else "waiter") in places,
+        waiters = "condition" if self.is_automatic else "waiter"
+        there = {"entry": "entry" in places, "waiter": serves or waiters in places,
                  "signaller": stays or "signaller" in places}
         found = [wish for wish in OPEN.get(self.way.kind, ()) if there[wish]] if self._gives_up(actor) else []
         return found if len(found) > 1 else [""]
@@ -141,7 +147,7 @@ class Stage:
         """Whoever has the turn comes in."""
         for other in self.actors:
             if other.place in PLACES_OF_WAITING and other.seat.poll():
-                self._tell(other, "comes in" if other.place == "entry" else "goes on")
+                self._tell(other, ARRIVALS[int(other.place != "entry")])
                 other.served.then = len(self.run.story)
                 other.place = "inside"
                 other.advance()
@@ -149,7 +155,7 @@ class Stage:
     def _tell(self, actor: Actor, words: str) -> None:
         self.run.story.append((actor.name, words))
         if self.way.is_kept:
-            self.run.told.append(in_words(shared(self.scene.programs)))
+            self.run.told.append(str(self.shared))
 
     def _enter(self, actor: Actor, _: Call) -> None:
         actor.seat.arrive()
@@ -206,13 +212,13 @@ class Stage:
         actor.seat.signal_leave(number)
         actor.place = "outside"
         self._serve(actor, call, self.queues[call.name][:1], "; and leaves")
-        before = shared(self.scene.programs)
+        before = self.shared.words()
         actor.advance()
         if actor.next is None or actor.next.verb != "leave":
             return
-        if shared(self.scene.programs) != before:
-            why = f"changes the data before line {actor.steps.line}, after its signal, which was the way out under {self.way.kind}"
-            raise Over(WRONG, actor.name, why)
+        if self.shared.words() != before:
+            place = f"before line {actor.steps.line}, after its signal"
+            raise Over(WRONG, actor.name, f"changes the data {place}, which was the way out under {self.way.kind}")
         actor.advance()
 
     def _serve(self, actor: Actor, call: Call, served: List[Actor], then: str) -> None:
@@ -229,8 +235,8 @@ class Stage:
         if name in self.names:
             return self.names.index(name)
         if len(self.names) == MOST_CONDITIONS:
-            where = f"{actor.name}, line {actor.steps.line}"
-            raise OutOfRange(f"{where}: {name!r} is one condition too many: a monitor has {MOST_CONDITIONS}, {', '.join(self.names)}")
+            where = f"{actor.name}, line {actor.steps.line}: {name!r} is one condition too many"
+            raise OutOfRange(f"{where}: a monitor has {MOST_CONDITIONS}, {', '.join(self.names)}")
         self.names.append(name)
         raise NewName
 
@@ -246,7 +252,8 @@ class Stage:
         if call.verb == "wait" and call.name not in self.tests:
             why = f"{self.way.kind} has no signals: write wait({call.name!r}, lambda: ..) in line {actor.steps.line}"
             raise Over(NO_SUCH_CALL, actor.name, why)
-        held = [name for name in self.names if name in self.tests and _answer(self.tests[name], f"the test of {name}", actor.name)]
+        tests = [(name, self.tests[name]) for name in self.names if name in self.tests]
+        held = [name for name, test in tests if _answer(test, f"the test of {name}", actor.name)]
         bits = sum(1 << self.names.index(name) for name in held)
         if bits != actor.seat.flags:
             actor.seat.flags = bits
@@ -259,28 +266,35 @@ class Stage:
 
     def _test_end(self) -> None:
         """Nobody can move: all are through, or those that aren't may wait for ever."""
-        may = self.scene.may_wait
-        waits = [actor for actor in self.actors if actor.waits() and not {actor.name, actor.name.rstrip("0123456789")} & set(may)]
-        on = {actor.name: name for name, queue in self.queues.items() for actor in queue}
+        may = set(self.scene.may_wait)
+        waits = [actor for actor in self.actors if actor.waits() and not may & {actor.name, name_of(actor.program)}]
         if waits:
-            lost = [f"{who} signalled {name} ({at}) when nobody waited" for name, (who, at) in self.lost.items() if name in on.values()]
-            self.run.between = ", ".join(lost)
-            where = [f"{actor.name} waits on {on.get(actor.name) or (actor.next.name if actor.next else '')}" for actor in waits]
-            raise Over(STUCK, "", f"nobody can go on: {', '.join(where)}")
+            where = ", ".join(f"{actor.name} waits on {actor.on}" for actor in waits)
+            raise Over(STUCK, "", f"nobody can go on: {where}")
         self._test(self.scene.end, "the end", "")
 
     def _blame(self) -> None:
-        """Who came between the signal and the seat that it served."""
+        """Who came between the signal and the seat that it served. Of a run that is stuck, the signals that found nobody."""
+        if self.run.outcome == STUCK:
+            self.run.between = self._lost_signals()
+            return
         served = next((actor.served for actor in self.actors if actor.name == self.run.who), Served())
         if not served.by or not served.then:
             return
         between = enumerate(self.run.story[served.at:served.then - 1], served.at + 1)
-        came = [f"{who} came in between ({number})" for number, (who, words) in between if words in ("comes in", "goes on")]
+        came = [f"{who} came in between ({number})" for number, (who, words) in between if words in ARRIVALS]
         who = ", ".join(came) or f"{served.by} itself went on"
-        self.run.between = f"{served.by} signalled {served.on} ({served.at}), {who}, {self.run.who} went on ({served.then})"
+        signalled = f"{served.by} signalled {served.on} ({served.at})"
+        self.run.between = f"{signalled}, {who}, {self.run.who} went on ({served.then})"
+
+    def _lost_signals(self) -> str:
+        on = {actor.on for actor in self.actors if actor.waits()}
+        lost = [(name, who, at) for name, (who, at) in self.lost.items() if name in on]
+        return ", ".join(f"{who} signalled {name} ({at}) when nobody waited" for name, who, at in lost)
 
     def _history(self) -> str:
-        """Read by whoever is inside or has the turn, else by the spare seat. What that adds is left out, and so is that seat."""
+        """Read by whoever is inside or has the turn, else by the spare seat. What that adds is left out, and so is
+        that seat."""
         waiting = (actor for actor in self.actors if actor.waits() and actor.seat.poll())
         inside = (actor for actor in self.actors if actor.place == "inside")
         reader = next(inside, None) or next(waiting, None)

@@ -1,4 +1,5 @@
-"""Scenes of plain functions: the very code that runs with threads, `with monitor:` and `condition.wait()`, played by the driver.
+"""Scenes of plain functions: the very code that runs with threads, `with monitor:` and `condition.wait()`, played by
+the driver.
 
     def buffer():
         monitor, items = monk.Staged(), []              # in place of monk.Monitor(kind)
@@ -11,7 +12,8 @@
         ..
         return taker, putter, thief
 
-Each program has a thread. But one of them runs at a time, and only while the driver waits for its next call: no luck is in it."""
+Each program has a thread. But one of them runs at a time, and only while the driver waits for its next call: no luck
+is in it."""
 
 from __future__ import annotations
 
@@ -22,6 +24,7 @@ import threading
 from typing import Any, Callable, List, Optional, TypeVar
 
 from .calls import Call, Named, Test, condition, enter, leave, signal, signal_all, wait
+from .errors import NotNow
 
 T = TypeVar("T")
 S = TypeVar("S", bound="_StagedLock")
@@ -140,7 +143,7 @@ def _line() -> int:
 
 def _make(call: Call) -> None:
     if _here.program is None:
-        raise RuntimeError("a staged monitor is used by the programs of a scene alone: monk.compare(scene), monk.play(scene, kind)")
+        raise NotNow("a staged monitor is for the programs of a scene: monk.compare(scene), or monk.play(scene, kind)")
     _here.program.make(call)
 
 

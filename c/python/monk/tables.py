@@ -33,7 +33,9 @@ def _reasons(finding: Finding) -> List[str]:
 
 def _summary(found: Comparison) -> str:
     """The kinds by outcome. Those that aren't tried in every order are told apart."""
-    groups = {word: [kind for kind, it in found.findings.items() if it.outcome == word] for word in (NO_SUCH_CALL, WRONG, STUCK)}
+    groups = {}
+    for word in (NO_SUCH_CALL, WRONG, STUCK):
+        groups[word] = [kind for kind, it in found.findings.items() if it.outcome == word]
     right = [it for it in found.findings.values() if it.outcome == RIGHT]
     groups["right in every order"] = [it.kind for it in right if it.is_whole]
     groups["right as far as tried"] = [it.kind for it in right if not it.is_whole]

@@ -36,8 +36,8 @@ class Told:
         return ask("audit", self._text())
 
     def explain(self, kind: Optional[str] = None) -> str:
-        """What `monk explain` says of the history: how the monitor stands, and why an event is forbidden. With a kind: if the
-        monitor were of that one."""
+        """What `monk explain` says of the history: how the monitor stands, and why an event is forbidden. With a
+        kind: if the monitor were of that one."""
         return ask("explain", self._text(), *(("--kind", kind) if kind else ()))
 
     def fit(self) -> str:

@@ -15,8 +15,8 @@ V = TypeVar("V", bound="Visits")
 
 
 class Here(threading.local):
-    """What a thread has of a monitor: its seat, and the call that ends its visit. Python makes both anew for each thread that
-    asks."""
+    """What a thread has of a monitor: its seat, and the call that ends its visit. Python makes both anew for each
+    thread that asks."""
 
     def __init__(self, handle: Handle) -> None:
         self.seat = Seat(handle)
@@ -39,8 +39,8 @@ class Visits:
         return True
 
     def release(self) -> None:
-        """Leaves; nothing if a signal was the way out already. NotNow if there is no visit to end, so a second release is
-        refused."""
+        """Leaves; nothing if a signal was the way out already. NotNow if there is no visit to end, so a second
+        release is refused."""
         self.here.release()
 
     def __enter__(self: V) -> V:
