@@ -64,7 +64,7 @@ class Run(Told):
     def _repr_html_(self) -> str:
         """In a notebook: the picture as text, and the story."""
         words = f"{self.picture(WIDTH_IN_A_NOTEBOOK)}\n\n{self}"
-        return f"<pre style='line-height:1.25'>{html.escape(words)}</pre>"
+        return f"<pre style='line-height:1.25;white-space:pre;overflow-x:auto'>{html.escape(words)}</pre>"
 
     def __str__(self) -> str:
         width = max(map(len, self.seats))

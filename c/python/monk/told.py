@@ -78,7 +78,7 @@ class Told:
         try:
             return f"<div style='overflow-x:auto'>{self.svg()}</div>"
         except (FileNotFoundError, MonkError):
-            return f"<pre style='line-height:1.2'>{html.escape(self.picture(WIDTH_IN_A_NOTEBOOK))}</pre>"
+            return f"<pre style='line-height:1.25;white-space:pre;overflow-x:auto'>{html.escape(self.picture(WIDTH_IN_A_NOTEBOOK))}</pre>"
 
 
 def _usual(names: List[str]) -> List[str]:
