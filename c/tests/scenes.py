@@ -94,6 +94,34 @@ class Scenes(unittest.TestCase):
             return [lambda: both(leave()), functools.partial(both, leave())]
         self.assertEqual([it.outcome for it in compare(scene).findings.values()], 10 * ["right"])
 
+    def test_programs_that_do_not_end_quietly(self) -> None:
+        """A `finally` that makes a call, and names that are no words of a schedule."""
+        def scene() -> List[Any]:
+            def of(name: str) -> Any:
+                def program() -> Any:
+                    yield enter()
+                    try:
+                        yield wait("gate", lambda: False)
+                    finally:
+                        yield leave()
+                program.__name__ = name
+                return program
+            return [of("a guest"), of("guest"), of("guest"), of("guest1")]
+        finding = compare(scene, ["PNB"], orders=5)["PNB"]
+        self.assertEqual((finding.outcome, finding.runs), ("stuck", 5))
+        self.assertRegex(finding.example.fault, r"^nobody can go on: a_guest\.1 waits on gate, guest\.2 waits on gate, ")
+
+    def test_a_plain_function_that_ends_the_process(self) -> None:
+        def scene() -> List[Any]:
+            monitor = monk.Staged()
+
+            def leaves() -> None:
+                with monitor:
+                    sys.exit(7)
+            return [leaves, leaves]
+        self.assertRaises(SystemExit, lambda: play(scene, "PB"))
+        self.assertEqual(compare(staged, ["PB"], most=3).breaks, [])
+
     def test_some_orders(self) -> None:
         """Dice find what all orders find, and come again by their seed."""
         some = [compare(compare_buffer.buffer, orders=100, seed=seed) for seed in (1, 1, 2)]

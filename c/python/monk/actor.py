@@ -2,6 +2,7 @@
 
 from __future__ import annotations
 
+import contextlib
 import inspect
 import os
 import sysconfig
@@ -37,7 +38,9 @@ class Steps:
         return next(self.generator)
 
     def close(self) -> None:
-        self.generator.close()
+        """Ends it. It may have a `finally` that makes a call, which nobody takes any more."""
+        with contextlib.suppress(Exception):
+            self.generator.close()
 
     @property
     def line(self) -> int:

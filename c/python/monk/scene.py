@@ -4,6 +4,7 @@ from __future__ import annotations
 
 import functools
 import inspect
+import re
 from dataclasses import dataclass
 from typing import Any, Callable, Iterator, List, Optional, Sequence, Union
 
@@ -13,6 +14,7 @@ from .handle import SHAPES
 
 # One of a monitor's seats reads the history.
 MOST_PROGRAMS = SHAPES["seats"][1] - 1
+NO_WORD = re.compile(r"[\s/]")
 Program = Callable[[], Union[Iterator[Call], object]]
 
 
@@ -63,6 +65,7 @@ def bare(function: Any) -> Any:
 
 
 def titles(programs: Sequence[Program]) -> List[str]:
-    """The names of the programs. Those of one name are numbered."""
-    names = [name_of(program) for program in programs]
-    return [name if names.count(name) == 1 else f"{name}{names[:i].count(name) + 1}" for i, name in enumerate(names)]
+    """The names of the programs, as the words of a schedule. Those of one name are numbered."""
+    names = [NO_WORD.sub("_", name_of(program)) for program in programs]
+    found = [name if names.count(name) == 1 else f"{name}{names[:i].count(name) + 1}" for i, name in enumerate(names)]
+    return found if len(set(found)) == len(found) else [f"{name}.{i}" for i, name in enumerate(names, 1)]

@@ -26,6 +26,8 @@ from typing import Any, Callable, List, Optional, TypeVar
 from .calls import Call, Named, Test, condition, enter, leave, signal, signal_all, wait
 from .errors import NotNow
 
+# So many seconds a program may take to its next call, after an interrupt.
+PATIENCE = 1
 T = TypeVar("T")
 S = TypeVar("S", bound="_StagedLock")
 
@@ -78,7 +80,7 @@ class Threaded:
     def __init__(self, work: Callable[[], object]) -> None:
         self.work, self.is_gone, self.line = work, False, 0
         self.call: Optional[object] = None
-        self.fault: Optional[Exception] = None
+        self.fault: Optional[BaseException] = None
         self.worker: Optional[_Worker] = None
         self.has_ended = self.is_running = False
         # The program goes on by its turn, and the driver when the program is back.
@@ -93,7 +95,7 @@ class Threaded:
                     self.make(call)
         except _Gone:
             pass
-        except Exception as fault:
+        except BaseException as fault:              # a SystemExit, too, is the driver's to raise
             self.fault = fault
         self.call, self.has_ended = None, True
 
@@ -124,10 +126,11 @@ class Threaded:
             raise _Gone
 
     def close(self) -> None:
-        """Ends the program at its call, or at its next one if an interrupt came while it ran."""
+        """Ends the program at its call, or at its next one if an interrupt came while it ran. One that makes no call any more
+        is left to its thread."""
         self.is_gone = True
-        if self.is_running:
-            self.back.acquire()
+        if self.is_running and not self.back.acquire(timeout=PATIENCE):
+            return
         if self.worker is not None and not self.has_ended:
             self.turn.release()
             self.back.acquire()
