@@ -17,7 +17,7 @@ from .seat import Seat
 from .staged import Threaded
 
 # Frames of these files are no part of what a user wrote.
-OTHERS = (os.path.dirname(os.path.abspath(__file__)) + os.sep, sysconfig.get_paths()["stdlib"] + os.sep)
+OTHERS = (os.path.dirname(os.path.abspath(__file__)) + os.sep, sysconfig.get_paths()["stdlib"] + os.sep, "<frozen")
 
 
 class Over(Exception):

@@ -18,8 +18,8 @@ from .orders import Comparison, Orders, compare
 from .scene import Made
 
 WIDTH = 92
-# Of a check, in seconds of the processor. A check that is met takes some ten of them at most.
-MOST_SECONDS = 60
+# Of a check, in seconds of the processor. A check that is met takes one or two.
+MOST_SECONDS = 20
 INDENT = " " * 9
 
 
