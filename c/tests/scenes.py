@@ -77,6 +77,9 @@ class Scenes(unittest.TestCase):
         self.assertEqual(run.between, "putter signalled item (4), thief came in between (6), taker went on (8)")
         self.assertEqual(play(compare_buffer.buffer, "NPNB", run.schedule), run)
         self.assertEqual(run.audit(), "legal 8\n")
+        data = run.page_data()
+        self.assertEqual((data["told0"], data["told"][3:6], len(data["told"])), ("items = []", 3 * ["items = ['tea']"], 8))
+        self.assertEqual(data["ends"], f" Then {run.fault}.")
 
     def test_plain_functions(self) -> None:
         found = compare(staged, ["PB", "NPNB"], most=200)

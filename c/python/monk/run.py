@@ -30,7 +30,7 @@ class Run(Told):
     moves: List[str] = field(default_factory=list)
     # For each event who made it, and what it was in words.
     story: List[Tuple[str, str]] = field(default_factory=list)
-    # What the programs share: at the end; and before the first event and after each.
+    # What the programs share: at the end; and before the first event and at each.
     data: Dict[str, str] = field(default_factory=dict)
     told: List[str] = field(default_factory=list)
     history: str = ""
@@ -56,8 +56,7 @@ class Run(Told):
         return self.conditions
 
     def page_data(self) -> Dict[str, Any]:
-        """What a page may show besides the history: names, the data before the first event and after each, and how it
-        ended."""
+        """What a page may show besides the history: names, the data before the first event and at each, and how it ended."""
         ends = f" Then {self.fault}." if self.why else ""
         return {**super().page_data(), "told0": self.told[0], "told": self.told[1:], "ends": ends}
 

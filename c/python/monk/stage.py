@@ -78,7 +78,6 @@ class Stage:
             self._blame()
         if self.way.is_kept:
             run.data = self.shared.words()
-            run.told.append(str(self.shared))
             run.history = self._history()
         return run
 
