@@ -13,6 +13,7 @@ import subprocess
 import sys
 import tempfile
 import threading
+import time
 import unittest
 import unittest.mock
 from typing import Callable, List, Type
@@ -109,7 +110,7 @@ class Telling(unittest.TestCase):
         def host() -> None:
             has_begun.wait()
             with monitor:
-                self.assertRegex(monitor.who(), r"^  seat 0 \(guest\): waits on condition tea, for 0\.\d s\n  seat 1 \(host\): inside$")
+                self.assertRegex(monitor.who(), r"^  seat 0 \(guest\): waits on condition tea, for \d+\.\d s\n  seat 1 \(host\): inside$")
                 monitor.stop()
 
         run(guest, host)
@@ -140,7 +141,7 @@ class Telling(unittest.TestCase):
 
     def test_a_run_in_which_somebody_can_go_on(self) -> None:
         """One that waits long is told of once, and the run goes on."""
-        monitor, told, ends = monk.Monitor("PNB", seats=3, patience=PATIENCE), io.StringIO(), threading.Event()
+        monitor, told = monk.Monitor("PNB", seats=3, patience=PATIENCE), io.StringIO()
         tea = monitor.condition("tea")
 
         def guest() -> None:
@@ -148,9 +149,11 @@ class Telling(unittest.TestCase):
                 tea.wait()
 
         def host() -> None:
+            monitor.here.name = "host"              # it has a seat, so not all wait
+            while "waits on condition tea" not in monitor.who():
+                time.sleep(0.01)
             with monitor:
-                ends.wait(4 * PATIENCE)
-            with monitor:
+                time.sleep(4 * PATIENCE)
                 tea.notify()
 
         with contextlib.redirect_stderr(told):
