@@ -220,6 +220,11 @@ class Scenes(unittest.TestCase):
         self.refused(r"^named \(line \d+\) returns 7: it should return its programs", lambda: compare(named))
         self.refused(r"has 32 programs: 1 to 31 can be played", lambda: compare(lambda: 32 * alone()()))
         self.refused(r"has 0 programs", lambda: compare(lambda: []))
+
+        def wants_more(item: str) -> Any:
+            yield enter()
+        more: List[Any] = [wants_more]
+        self.refused(r"wants_more.*missing 1 .*'item' \(line \d+\): a program takes no arguments", lambda: compare(lambda: more))
         calls = [call for number in range(9) for call in (signal(f"condition {number}"),)]
         self.refused(r"^one, line \d+: 'condition 8' is one condition too many: a monitor has 8, condition 0, ",
                      lambda: compare(alone(enter(), *calls, leave())))

@@ -11,6 +11,7 @@ from dataclasses import dataclass
 from typing import Any, Optional, Tuple, Union
 
 from .calls import Call
+from .errors import OutOfRange
 from .run import WRONG
 from .scene import Program, line_of
 from .seat import Seat
@@ -53,7 +54,7 @@ class Steps:
 
 @dataclass
 class Served:
-    """By whom a seat was served, on which condition, by which event; and at which event it went on."""
+    """By whom a seat was served in this visit, on which condition, by which event; and at which event it went on."""
     by: str = ""
     on: str = ""
     at: int = 0
@@ -65,8 +66,7 @@ class Actor:
 
     def __init__(self, name: str, seat: Seat, program: Program) -> None:
         self.name, self.seat, self.program = name, seat, program
-        is_generator = inspect.isgeneratorfunction(program)
-        self.steps: Union[Steps, Threaded] = Steps(program) if is_generator else Threaded(program)
+        self.steps = _steps(program)
         self.next: Optional[Call] = None
         self.place, self.served = "outside", Served()
         seat.name = name
@@ -97,6 +97,16 @@ class Actor:
             line = line_of(self.program)
             raise Over(WRONG, self.name, f"ends inside: there is no leave (line {line}: its beginning)")
         self.next, self.place = None, "done"
+
+
+def _steps(program: Program) -> Union[Steps, Threaded]:
+    """The calls of a program. OutOfRange, with its name and line, if it wants arguments."""
+    if not inspect.isgeneratorfunction(program):
+        return Threaded(program)
+    try:
+        return Steps(program)
+    except TypeError as fault:
+        raise OutOfRange(f"{fault} (line {line_of(program)}): a program takes no arguments") from None
 
 
 def where(fault: BaseException) -> str:

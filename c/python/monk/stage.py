@@ -5,7 +5,7 @@ The driver says who moves. What a move does, and who goes on after it, is the ke
 from __future__ import annotations
 
 from dataclasses import dataclass
-from typing import Callable, Dict, List, Optional
+from typing import Callable, Dict, List, Optional, Tuple
 
 from .actor import Actor, Option, Over, Served
 from .calls import Call, Test
@@ -62,7 +62,7 @@ class Stage:
         self.queues: Dict[str, List[Actor]] = {name: [] for name in names}
         self.tests: Dict[str, Test] = {}
         # Of each condition the last signal that found nobody: whose, and at which event.
-        self.lost: Dict[str, "tuple[str, int]"] = {}
+        self.lost: Dict[str, Tuple[str, int]] = {}
         self.run, self.shared = Run(way.kind, seats, conditions=names), Shared(scene.programs)
         self.make: Dict[str, Callable[[Actor, Call], None]] = {
             "enter": self._enter, "leave": self._leave, "wait": self._wait, "signal": self._signal,
@@ -158,7 +158,7 @@ class Stage:
 
     def _enter(self, actor: Actor, _: Call) -> None:
         actor.seat.arrive()
-        actor.place = "entry"
+        actor.place, actor.served = "entry", Served()
 
     def _leave(self, actor: Actor, call: Call) -> None:
         self._before_giving_up(actor, call)
@@ -174,7 +174,7 @@ class Stage:
             return self._wait_until(actor, call.name, number)
         actor.seat.start_wait(number)
         self.queues[call.name].append(actor)
-        actor.place = "condition"
+        actor.place, actor.served = "condition", Served()
         self._tell(actor, f"waits on {call.name}")
 
     def _wait_until(self, actor: Actor, name: str, number: int) -> None:

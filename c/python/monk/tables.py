@@ -3,7 +3,7 @@
 from __future__ import annotations
 
 import html
-from typing import TYPE_CHECKING, List
+from typing import TYPE_CHECKING, List, Sequence
 
 from .run import NO_SUCH_CALL, RIGHT, STUCK, WRONG
 
@@ -50,7 +50,7 @@ def table(found: Comparison) -> str:
     return "\n".join([*lines, _summary(found)])
 
 
-def _line(cells: "List[str] | tuple[str, ...]", last: str) -> str:
+def _line(cells: Sequence[str], last: str) -> str:
     return (" ".join(format(cell, align) for cell, align in zip(cells, ALIGNED)) + "  " + last).rstrip()
 
 
