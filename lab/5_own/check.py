@@ -12,14 +12,14 @@ DICE = 100
 
 
 def breaks_its_invariant(answer: Any) -> Check:
-    """So the invariant isn't one that always holds."""
+    """Under the first kind that is named. So the invariant isn't one that always holds."""
     def look() -> Verdict:
-        found = compare(answer.slip, orders=DICE)
-        for finding in found.findings.values():
-            if "the invariant" in finding.example.why:
-                return Verdict(True, f"{finding.kind}: {finding.example.fault}, after event {finding.example.at}")
-        return Verdict(False, "under no kind: either the slip does no harm, or the invariant doesn't see it")
-    return Check("the slip breaks the invariant under some kind", look)
+        found = compare(answer.slip, answer.WRONG_WITH_SLIP[:1], orders=DICE)
+        faults = [f"{it.kind}: {it.example.fault}, after event {it.example.at}" for it in found.findings.values()]
+        if any("the invariant" in fault for fault in faults):
+            return Verdict(True, faults[0])
+        return Verdict(False, "either the slip does no harm there, or the invariant doesn't see it")
+    return Check("the slip breaks the invariant under the first kind of WRONG_WITH_SLIP", look)
 
 
 def checks(answer: Any) -> List[Check]:

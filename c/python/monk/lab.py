@@ -61,16 +61,8 @@ def breaks(title: str, made: Made, kinds: Sequence[str], orders: Orders = "all")
     return Check(title, look)
 
 
-def reaches(title: str, made: Made, has_reached: Callable[[], bool], kinds: Sequence[str] = KINDS) -> Check:
-    """Some run of the scene under these kinds comes to a point that `has_reached` tells of afterwards."""
-    def look() -> Verdict:
-        compare(made, kinds)
-        return Verdict(has_reached(), "in some order" if has_reached() else f"in no order under {', '.join(kinds)}")
-    return Check(title, look)
-
-
 def is_so(title: str, is_met: Callable[[], bool], hint: str) -> Check:
-    """What needs no run. The hint says what to do if it isn't so."""
+    """What needs no run of its own. The hint says what is wrong if it isn't so."""
     def look() -> Verdict:
         return Verdict(True, "yes") if is_met() else Verdict(False, hint)
     return Check(title, look)
