@@ -179,7 +179,7 @@ class Telling(unittest.TestCase):
             with open(path + ".html", encoding="utf-8") as page:
                 self.assertIn("<!doctype html>", page.read().lower())
         self.assertEqual(monitor.fit().count("legal 2"), 10)
-        self.assertIn("guest    enter   leave", monitor.picture(60))
+        self.assertIn("guest    enter   leave", monitor.picture(60, is_plain=True))
         self.assertIn("<svg", monitor._repr_html_())
         with unittest.mock.patch.dict(os.environ, {"MONK": "/none/monk"}):
             self.assertIn("<pre", monitor._repr_html_())

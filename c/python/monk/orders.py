@@ -98,7 +98,7 @@ def compare(made: Made, kinds: Sequence[str] = KINDS, orders: Orders = "all", wi
     repeatable; in "list" all arrive at once, in the order of the list. wish: this one in place of all. OutOfRange if
     one of these can't be taken, or the scene.
 
-    A run of a scene of generators costs some 0.4 ms, one of `Staged` some 3 ms."""
+    A run of a scene of generators costs some 0.5 ms, one of `Staged` one or two."""
     if orders not in ("all", "list") and not (isinstance(orders, int) and orders >= 1):
         raise OutOfRange(f'orders={orders!r}: "all", "list", or a number of runs')
     if most < 1:

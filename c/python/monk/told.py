@@ -69,9 +69,10 @@ class Told:
         """What a page may show besides the history: names of seats and conditions."""
         return {"names": _usual(self._names()), "conditionNames": _usual(self._condition_names())}
 
-    def picture(self, width: Optional[int] = None) -> str:
-        """The history as a picture of text, in strips as wide as the terminal, or `width` columns wide."""
-        return picture(self._text(), self._names(), self._condition_names(), width)
+    def picture(self, width: Optional[int] = None, is_plain: bool = False) -> str:
+        """The history as a picture of text, in strips as wide as the terminal, or `width` columns wide. If it is plain it
+        is ASCII."""
+        return picture(self._text(), self._names(), self._condition_names(), width, is_plain)
 
     def _repr_html_(self) -> str:
         """In a notebook: the picture, as an SVG if there is a program `monk`."""
