@@ -195,10 +195,13 @@ class Seat(ctypes.c_void_p):
     def signal(self, condition: int) -> None:
         """Serves the first who waits there. Under a blocking kind that one goes on first."""
         place: int = _start_signal(self, condition) if 0 <= condition <= MOST_UNSIGNED else RANGE
-        if place < 0:
-            place = self._asked("signal", lambda _, __: place, self.handle.conditions, condition)
         if place != INSIDE:
-            self._finished(place, GAVE_WAY)
+            self._go_on_signalling(place, condition)
+
+    def _go_on_signalling(self, place: int, condition: int) -> None:
+        if place < 0:
+            self._asked("signal", lambda *_: place, self.handle.conditions, condition)
+        self._finished(place, GAVE_WAY)
 
     def broadcast(self, condition: int) -> None:
         """Serves all who wait there; non-blocking kinds."""
