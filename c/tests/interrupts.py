@@ -1,9 +1,10 @@
-"""monk.py under interrupts: wherever one comes, no seat is left inside, every seat comes back, and other threads go on.
+"""The library for Python under interrupts: wherever one comes, no seat is left inside, every seat comes back, and other threads go on.
 
 test_monk.py runs these tests."""
 
 from __future__ import annotations
 
+import os
 import random
 import signal
 import sys
@@ -15,6 +16,7 @@ from typing import Any, Callable
 
 import monk
 
+PACKAGE = os.path.dirname(monk.__file__) + os.sep
 SECONDS = 20
 INTERRUPTS, VISITS = 1000, 1000
 # From before the first visit of a loop until after some ten of them.
@@ -28,13 +30,13 @@ def interrupt(*_: object) -> None:
 
 
 class AtCall:
-    """Raises an interrupt in the calling thread where a function of monk.py begins: the first that is called, the second and so on."""
+    """Raises an interrupt in the calling thread where a function of the package begins: the first that is called, the second and so on."""
 
     def __init__(self, number: int) -> None:
         self.left = number
 
     def __call__(self, frame: types.FrameType, event: str, _: object) -> None:
-        if frame.f_code.co_filename == monk.__file__ and event == "call":
+        if frame.f_code.co_filename.startswith(PACKAGE) and event == "call":
             self.left -= 1
             if self.left == 0:
                 raise KeyboardInterrupt

@@ -1,4 +1,4 @@
-"""monk.py's looks at a run: the history is what the calls made of it, however often somebody looks. And what the program `monk` says of it.
+"""The looks of the library for Python at a run: the history is what the calls made of it, however often somebody looks. And what the program `monk` says of it.
 
 test_monk.py runs these tests."""
 
@@ -90,14 +90,14 @@ class Looks(unittest.TestCase):
                 self.assertFalse(any(thread.is_alive() for thread in run.crew))
                 for history in [*histories[-3:], run.monitor.history()]:
                     self.assertIsNone(re.search(f"^[a-z-]+ {CREW} ", history, re.M))
-                    self.assertTrue(monk._asked("audit", history).startswith("legal "))
+                    self.assertTrue(monk.ask("audit", history).startswith("legal "))
 
     def test_whom_a_look_chose(self) -> None:
         """A look that comes in between a signal and whom it served: the release before it is told to have chosen that seat."""
         monitor = made("NPNB", 4)
         served, signaller = monitor.seat(), monitor.seat()
         served.enter()
-        self.assertEqual(monk._library.monk_start_wait(served, 0), monk.WAITING)
+        self.assertEqual(monk.libmonk.library.monk_start_wait(served, 0), monk.libmonk.WAITING)
         signaller.enter()
         look = threading.Thread(target=monitor.history)
         look.start()
@@ -122,9 +122,9 @@ class Looks(unittest.TestCase):
              "resume 0 waiter\n"),
         ):
             with self.subTest(text):
-                self.assertEqual(monk._without_looks(HEADER + text, looks), HEADER + left)
+                self.assertEqual(monk.looks.without_looks(HEADER + text, looks), HEADER + left)
                 for history in (HEADER + text, HEADER + left):
-                    self.assertTrue(monk._asked("audit", history).startswith("legal "))
+                    self.assertTrue(monk.ask("audit", history).startswith("legal "))
 
 
 class Programs(unittest.TestCase):

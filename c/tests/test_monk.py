@@ -1,5 +1,5 @@
-"""monk.py: every kind, seats that come back, exceptions inside a visit, a run that hangs, many threads, threads that end inside, numbers
-out of range, the child of a fork, looks at a run (looks.py) and interrupts (interrupts.py).
+"""The library for Python: every kind, seats that come back, exceptions inside a visit, a run that hangs, many threads, threads that end inside, numbers
+out of range, the child of a fork, looks at a run (looks.py), what is told (telling.py), interrupts (interrupts.py) and scenes (scenes.py).
 
 MONK_LIBRARY names the library that is tried, and MONK the program that audits."""
 
@@ -21,8 +21,10 @@ sys.path.insert(0, os.path.join(os.path.dirname(HERE), "python"))
 import monk  # noqa: E402  (the folder is named first)
 from interrupts import Interrupts  # noqa: E402
 from looks import Looks, Programs  # noqa: E402
+from scenes import Scenes  # noqa: E402
+from telling import Telling  # noqa: E402
 
-__all__ = ["Interrupts", "Looks", "Programs"]
+__all__ = ["Interrupts", "Looks", "Programs", "Scenes", "Telling"]
 AUTOMATIC = ("PIS", "NPIS")
 IMMEDIATE = ("PIR", "NPIR")
 NON_BLOCKING = ("PNB", "NPNB")
@@ -119,7 +121,7 @@ class Refusals(unittest.TestCase):
         self.assertRaises(monk.NotNow, seat.enter)
         self.assertRaises(monk.OutOfRange, lambda: seat.wait(2))
         self.assertRaises(monk.NotOfKind, lambda: seat.broadcast(0))
-        self.assertRaises(monk.Busy, lambda: monk._checked(monk._library.monk_close(monitor._handle.at)))
+        self.assertRaises(monk.Busy, lambda: monk.libmonk.checked(monk.libmonk.library.monk_close(monitor._handle.at)))
         seat.give()
         self.assertRaises(monk.NotNow, seat.leave)
         monitor.close()
@@ -237,7 +239,7 @@ class Endings(unittest.TestCase):
         monitor.acquire()
         child = os.fork()
         if child == 0:
-            setattr(monk, "_library", NoLibrary())
+            setattr(monk.libmonk, "library", NoLibrary())
             del monitor, spare
             gc.collect()
             os._exit(0)

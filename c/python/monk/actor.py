@@ -1,0 +1,120 @@
+"""A program of a scene at its seat, as far as it has come."""
+
+from __future__ import annotations
+
+import contextlib
+import inspect
+import os
+import sysconfig
+import traceback
+from dataclasses import dataclass
+from typing import Any, Optional, Tuple, Union
+
+from .calls import Call
+from .errors import OutOfRange
+from .run import WRONG
+from .scene import Program, line_of
+from .seat import Seat
+from .staged import Threaded
+
+# Frames of these files are no part of what a user wrote.
+OTHERS = (os.path.dirname(os.path.abspath(__file__)) + os.sep, sysconfig.get_paths()["stdlib"] + os.sep, "<frozen")
+
+
+class Over(Exception):
+    """The run is over: its outcome, whose fault that is, and why."""
+
+    def __init__(self, outcome: str, who: str, why: str) -> None:
+        super().__init__(why)
+        self.outcome, self.who, self.why = outcome, who, why
+
+
+class Steps:
+    """The calls of a generator."""
+
+    def __init__(self, program: Program) -> None:
+        self.generator: Any = program()
+
+    def __next__(self) -> Any:
+        return next(self.generator)
+
+    def close(self) -> None:
+        """Ends it. It may have a `finally` that makes a call, which nobody takes any more."""
+        with contextlib.suppress(Exception):
+            self.generator.close()
+
+    @property
+    def line(self) -> int:
+        """At which line it stands."""
+        inner = self.generator
+        while inspect.isgenerator(inner.gi_yieldfrom):
+            inner = inner.gi_yieldfrom
+        return int(inner.gi_frame.f_lineno) if inner.gi_frame else 0
+
+
+@dataclass
+class Served:
+    """By whom a seat was served in this visit, on which condition, by which event; and at which event it went on."""
+    by: str = ""
+    on: str = ""
+    at: int = 0
+    then: int = 0
+
+
+class Actor:
+    """A program of a scene at its seat. Its place is outside, entry, inside, condition, waiter, signaller or done."""
+
+    def __init__(self, name: str, seat: Seat, program: Program) -> None:
+        self.name, self.seat, self.program = name, seat, program
+        self.steps = _steps(program)
+        self.next: Optional[Call] = None
+        self.place, self.served = "outside", Served()
+        seat.name = name
+
+    @property
+    def on(self) -> str:
+        """The condition on which it waits, or waited last: that of its last call."""
+        return self.next.name if self.next else ""
+
+    def waits(self) -> bool:
+        return self.place in ("entry", "condition", "waiter", "signaller")
+
+    def advance(self) -> None:
+        """Runs the program up to its next call."""
+        try:
+            call = next(self.steps)
+        except StopIteration:
+            return self._end()
+        except Exception as fault:
+            raise Over(WRONG, self.name, where(fault)) from None
+        if not isinstance(call, Call):
+            why = f"yields {call!r} in line {self.steps.line}, which is no call: write `yield enter()` and the like"
+            raise Over(WRONG, self.name, why)
+        self.next = call
+
+    def _end(self) -> None:
+        if self.place == "inside":
+            line = line_of(self.program)
+            raise Over(WRONG, self.name, f"ends inside: there is no leave (line {line}: its beginning)")
+        self.next, self.place = None, "done"
+
+
+def _steps(program: Program) -> Union[Steps, Threaded]:
+    """The calls of a program. OutOfRange, with its name and line, if it wants arguments."""
+    if not inspect.isgeneratorfunction(program):
+        return Threaded(program)
+    try:
+        return Steps(program)
+    except TypeError as fault:
+        raise OutOfRange(f"{fault} (line {line_of(program)}): a program takes no arguments") from None
+
+
+def where(fault: BaseException) -> str:
+    """The error, with the line of the user's that raised it."""
+    frames = traceback.extract_tb(fault.__traceback__)
+    own = [frame for frame in frames if not frame.filename.startswith(OTHERS)]
+    place = f" (line {own[-1].lineno}: {own[-1].line})" if own else ""
+    return f"{type(fault).__name__}: {fault}{place}"
+
+
+Option = Tuple[Actor, str]

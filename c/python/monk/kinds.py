@@ -1,0 +1,33 @@
+"""The ten kinds of monitor, their modes, and whom a release may prefer."""
+
+from __future__ import annotations
+
+import difflib
+
+from .errors import OutOfRange
+
+KINDS = ("PB", "NPB", "PNB", "NPNB", "PQB", "NPQB", "PIR", "NPIR", "PIS", "NPIS")
+MODES = ("blocking", "non-blocking", "quasi-blocking", "immediate return", "automatic")
+KINDS_OF_A_MODE = 2
+WISHES = ("entry", "waiter", "signaller", "any")
+
+
+def mode_of(kind: str) -> str:
+    """Its mode, which says what a signal does."""
+    return MODES[number_of(kind) // KINDS_OF_A_MODE]
+
+
+def number_of(kind: str) -> int:
+    """Its number for the library. OutOfRange, with the name that was perhaps meant, if there is no such kind."""
+    if kind in KINDS:
+        return KINDS.index(kind)
+    near = difflib.get_close_matches(str(kind).upper(), KINDS, 1)
+    hint = f" (did you mean {near[0]!r}?)" if near else ""
+    raise OutOfRange(f"no kind is {kind!r}{hint}: there are {', '.join(KINDS)}")
+
+
+def number_of_wish(wish: str) -> int:
+    """Its number for the library. OutOfRange if there is no such wish."""
+    if wish in WISHES:
+        return WISHES.index(wish)
+    raise OutOfRange(f"no wish is {wish!r}: there are {', '.join(WISHES)}")

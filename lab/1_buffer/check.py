@@ -1,0 +1,47 @@
+"""Checks exercise 1: python3 check.py FILE"""
+
+from __future__ import annotations
+
+import types
+from typing import Any, Callable, List
+
+from monk import Scene
+from monk.lab import Check, holds, is_so, main
+
+WRONG_WITH_IF = ["NPNB", "NPQB", "NPIR"]
+
+
+def scene(answer: Any, putters: int = 1, takers: int = 1, items: int = 1) -> Callable[[], Scene]:
+    """Putters with so many items each, and takers. There is never more than one item, and each arrives once."""
+    def made() -> Scene:
+        box, got = types.SimpleNamespace(items=[]), []
+        put, take = answer.procedures(box)
+        brought = [f"item {number}" for number in range(putters * items)]
+
+        def putter_of(mine: List[str]) -> Callable[[], Any]:
+            def putter() -> Any:
+                for item in mine:
+                    yield from put(item)
+            return putter
+
+        def taker() -> Any:
+            for _ in range(putters * items // takers):
+                got.append((yield from take()))
+
+        crew = [putter_of(brought[number * items:(number + 1) * items]) for number in range(putters)]
+        return Scene([*(taker for _ in range(takers)), *crew], lambda: len(box.items) <= 1, lambda: sorted(got) == brought)
+    return made
+
+
+def checks(answer: Any) -> List[Check]:
+    return [
+        holds("one puts and one takes, under Hoare's rules (PB)", scene(answer), ["PB"]),
+        holds("two of each, under Hoare's rules (PB)", scene(answer, 2, 2), ["PB"]),
+        holds("two of each, under Mesa's rules (NPNB)", scene(answer, 2, 2), ["NPNB"]),
+        holds("one puts two, and two take, under every kind", scene(answer, 1, 2, 2)),
+        is_so("you found the kinds under which an `if` goes wrong", lambda: sorted(answer.WRONG_WITH_IF) == sorted(WRONG_WITH_IF),
+              "WRONG_WITH_IF isn't what this check finds: write `if`, and look at the fourth line"),
+    ]
+
+
+main("Exercise 1: a buffer of one place", checks)

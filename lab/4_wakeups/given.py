@@ -1,0 +1,51 @@
+"""Three programs of exercise 4, each with a mistake. They stay as they are: skeleton.py says what to do."""
+
+from monk import enter, leave, signal, wait
+
+
+def late_work(box):                      # the putter signals before it has put the item
+    def taker():
+        yield enter()
+        while not box.items:
+            yield wait("item", lambda: box.items)
+        box.items.pop()
+        yield leave()
+
+    def putter():
+        yield enter()
+        yield signal("item")
+        box.items.append("tea")
+        yield leave()
+
+    return taker, putter
+
+
+def early_signal(gate):                  # the guest waits without a look at the gate
+    def guest():
+        yield enter()
+        yield wait("gate", lambda: gate.is_open)
+        yield leave()
+
+    def porter():
+        yield enter()
+        gate.is_open = True
+        yield signal("gate")
+        yield leave()
+
+    return guest, porter
+
+
+def one_signal(gate):                    # there may be two guests at the gate
+    def guest():
+        yield enter()
+        while not gate.is_open:
+            yield wait("gate", lambda: gate.is_open)
+        yield leave()
+
+    def porter():
+        yield enter()
+        gate.is_open = True
+        yield signal("gate")
+        yield leave()
+
+    return guest, porter
