@@ -1,4 +1,5 @@
-"""Scenes: what the driver says of runs that go wrong and of scenes that it can't play, and that a run comes again by its schedule.
+"""Scenes: what the driver says of runs that go wrong and of scenes that it can't play, and that a run comes again by
+its schedule.
 
 test_monk.py runs these tests."""
 

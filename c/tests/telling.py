@@ -1,5 +1,5 @@
-"""What the library for Python tells: names, refusals that say what to do, who waits where, a run in which nobody can go on, and what is
-written of a history.
+"""What the library for Python tells: names, refusals that say what to do, who waits where, a run in which nobody can
+go on, and what is written of a history.
 
 test_monk.py runs these tests."""
 

@@ -1,4 +1,4 @@
-"""A bridge of one lane: cars from one side wait while cars from the other are on it. The last car off signals to all."""
+"""A bridge of one lane: cars from one side wait while others are on it. The last car off signals to all."""
 
 from __future__ import annotations
 

@@ -1,4 +1,4 @@
-"""One taker waits for an item, one putter brings two, and a thief takes what is there. Under which kinds is the `if` wrong?"""
+"""A taker waits for an item, a putter brings two, and a thief comes by. Under which kinds is the `if` wrong?"""
 
 from __future__ import annotations
 

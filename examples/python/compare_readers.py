@@ -1,4 +1,4 @@
-"""Two readers and a writer. A reader that was let in lets in the next one: a chain of signals, right under every kind."""
+"""Two readers and a writer. A reader that was let in lets in the next one, by a chain of signals."""
 
 from __future__ import annotations
 

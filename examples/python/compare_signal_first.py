@@ -1,4 +1,4 @@
-"""The putter signals first, and does its work after that. The taker tests again by `while`: where does that not help?"""
+"""The putter signals first, and works after that. The taker tests again by `while`: where does that not help?"""
 
 from __future__ import annotations
 

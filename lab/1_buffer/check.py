@@ -29,7 +29,8 @@ def scene(answer: Any, putters: int = 1, takers: int = 1, items: int = 1) -> Cal
                 got.append((yield from take()))
 
         crew = [putter_of(brought[number * items:(number + 1) * items]) for number in range(putters)]
-        return Scene([*(taker for _ in range(takers)), *crew], lambda: len(box.items) <= 1, lambda: sorted(got) == brought)
+        programs = [*(taker for _ in range(takers)), *crew]
+        return Scene(programs, lambda: len(box.items) <= 1, lambda: sorted(got) == brought)
     return made
 
 
@@ -39,7 +40,8 @@ def checks(answer: Any) -> List[Check]:
         holds("two of each, under Hoare's rules (PB)", scene(answer, 2, 2), ["PB"]),
         holds("two of each, under Mesa's rules (NPNB)", scene(answer, 2, 2), ["NPNB"]),
         holds("one puts two, and two take, under every kind", scene(answer, 1, 2, 2)),
-        is_so("you found the kinds under which an `if` goes wrong", lambda: sorted(answer.WRONG_WITH_IF) == sorted(WRONG_WITH_IF),
+        is_so("you found the kinds under which an `if` goes wrong",
+              lambda: sorted(answer.WRONG_WITH_IF) == sorted(WRONG_WITH_IF),
               "WRONG_WITH_IF isn't what this check finds: write `if`, and look at the fourth line"),
     ]
 

@@ -1,7 +1,7 @@
 """Exercise 2: readers and writers. Fill in the four procedures, then run: python3 check.py skeleton.py
 
-Nobody may read while somebody writes, and one writes at a time. Readers may read together. Try it first with a signal to all
-(`yield signal_all("read")`), which two kinds have. Then find a way with single signals, for all ten."""
+Nobody may read while somebody writes, and one writes at a time. Readers may read together. Try it first with a signal
+to all (`yield signal_all("read")`), which two kinds have. Then find a way with single signals, for all ten."""
 
 from monk import enter, leave, signal, signal_all, wait
 

@@ -46,9 +46,10 @@ def checks(answer: Any) -> List[Check]:
     seen, nobody = Cars(), Cars()
     return [
         holds("one car from each side, under every kind", scene(answer, [0, 1], nobody)),
-        holds("one from one side and two from the other, under PNB and NPNB", scene(answer, [0, 1, 1], seen), ["PNB", "NPNB"]),
-        is_so("two cars of one side may be on the bridge together", lambda: seen.most > 1, "in no order under PNB and NPNB"),
-        holds("one from one side and two from the other, under every kind", scene(answer, [0, 1, 1], nobody), orders=DICE),
+        holds("one east and two west, under PNB and NPNB", scene(answer, [0, 1, 1], seen), ["PNB", "NPNB"]),
+        is_so("two cars of one side may be on the bridge together", lambda: seen.most > 1,
+              "in no order under PNB and NPNB"),
+        holds("one east and two west, under every kind", scene(answer, [0, 1, 1], nobody), orders=DICE),
     ]
 
 

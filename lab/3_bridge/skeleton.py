@@ -1,7 +1,7 @@
 """Exercise 3: a bridge of one lane. Fill in the two procedures, then run: python3 check.py skeleton.py
 
-Cars come from side 0 and from side 1. Cars from one side may be on the bridge together, and never with one from the other side. A car
-may not wait at an empty bridge for ever."""
+Cars come from side 0 and from side 1. Cars from one side may be on the bridge together, and never with one from the
+other side. A car may not wait at an empty bridge for ever."""
 
 from monk import enter, leave, signal, wait
 

@@ -1,8 +1,8 @@
 """Exercise 5: a monitor of your own. Run: python3 check.py skeleton.py
 
-Choose a thing that programs share: a lock, a car park, a barber, a bank account. Write its scene twice: `right`, which goes right under
-every kind; and `slip`, with one slip. The invariant says what has to hold whenever the monitor is given up. The slip breaks it under
-some kinds, and under others it doesn't."""
+Choose a thing that programs share: a lock, a car park, a barber, a bank account. Write its scene twice: `right`,
+which goes right under every kind; and `slip`, with one slip. The invariant says what has to hold whenever the monitor
+is given up. The slip breaks it under some kinds, and under others it doesn't."""
 
 from monk import Scene, enter, leave, signal, wait
 

@@ -1,5 +1,5 @@
-"""An answer to exercise 2: a reader that was let in lets in the next one. It counts who waits, since a signal must find somebody, and
-since under immediate return there is one signal."""
+"""An answer to exercise 2: a reader that was let in lets in the next one. It counts who waits, since a signal must
+find somebody, and since under immediate return there is one signal."""
 
 from monk import enter, leave, signal, wait
 

@@ -54,4 +54,5 @@ def one_signal(gate):
 
 
 WITH_SIGNALS = ["PB", "NPB", "PNB", "NPNB", "PQB", "NPQB", "PIR", "NPIR"]
-WRONG = {"late_work": ["PB", "NPB", "PQB", "NPQB", "PIR", "NPIR"], "early_signal": WITH_SIGNALS, "one_signal": WITH_SIGNALS}
+WRONG = {"late_work": ["PB", "NPB", "PQB", "NPQB", "PIR", "NPIR"],
+         "early_signal": WITH_SIGNALS, "one_signal": WITH_SIGNALS}
