@@ -1,4 +1,4 @@
-//! Whether standard input is a terminal.
+//! Whether a standard stream is a terminal.
 
 use std::fs;
 use std::os::unix::fs::MetadataExt;
@@ -6,18 +6,30 @@ use std::rt::Files;
 
 /// Standard input, as a file.
 const STANDARD_INPUT: &str = "/dev/stdin";
+/// Standard error, as a file.
+const STANDARD_ERROR: &str = "/dev/stderr";
 
 /// The major number of a device, in the number that the system gives it.
 fn major(device: u64) -> u64 {
     (device >> 8) & 0xfff
 }
 
-/// Whether standard input is a terminal, by the number of its device: Linux gives 4 and 5 to
+/// Whether the file is a terminal, by the number of its device: Linux gives 4 and 5 to
 /// terminals, and 136 to 143 to those of windows. It is none where the system doesn't say. The kit
 /// has no call that asks the terminal itself.
-pub(crate) fn is_standard_input(files: &impl Files) -> bool {
-    match fs::metadata(files, STANDARD_INPUT) {
-        Ok(input) => matches!(major(input.rdev()), 4 | 5 | 136..=143),
+fn is_terminal(files: &impl Files, name: &str) -> bool {
+    match fs::metadata(files, name) {
+        Ok(file) => matches!(major(file.rdev()), 4 | 5 | 136..=143),
         Err(_) => false,
     }
+}
+
+/// Whether standard input is a terminal.
+pub(crate) fn is_standard_input(files: &impl Files) -> bool {
+    is_terminal(files, STANDARD_INPUT)
+}
+
+/// Whether standard error is a terminal.
+pub(crate) fn is_standard_error(files: &impl Files) -> bool {
+    is_terminal(files, STANDARD_ERROR)
 }

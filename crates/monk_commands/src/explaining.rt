@@ -84,18 +84,18 @@ fn answer_under(alloc: Global, kind: KindName, bytes: &[u8]) -> Result<LineAnswe
 fn answer_to_text(
     alloc: Global,
     question: Question<'_>,
-    bytes: &[u8],
+    bytes: Vec<u8>,
 ) -> Result<LineAnswer, StreamFault>
-    ensures answer { IfOk result (λ a. IsExplainAnswer question.entry bytes.now a.status (string_bytes a.text)) }
+    ensures answer { IfOk result (λ a. IsExplainAnswer question.entry bytes.items a.status (string_bytes a.text)) }
     ensures status { IfOk result (λ a. a.status ≤ 2) }
     ensures no_file { IsErrOf result StreamFault.File → ⊥ }
 {
-    if is_log(bytes) {
+    if is_log(&bytes) {
         return answer_to_log(alloc, LogView::Explanation, question, bytes);
     }
     match question.kind {
-        Some(kind) => answer_under(alloc, kind, bytes),
-        None => answer_to_history(alloc, bytes),
+        Some(kind) => answer_under(alloc, kind, &bytes),
+        None => answer_to_history(alloc, &bytes),
     }
 }
 
@@ -147,5 +147,5 @@ pub fn explain_stream<R: Read, W: Write>(
     ensures outcome { IsStreamOutcome R.remaining reader.old reader.new writer.old writer.new result }
 {
     let bytes = read_all(alloc, reader)?;
-    put(&answer_to_text(alloc, question, &bytes)?, writer)
+    put(&answer_to_text(alloc, question, bytes)?, writer)
 }

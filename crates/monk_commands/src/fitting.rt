@@ -181,9 +181,9 @@ fn fit_log(
     alloc: Global,
     form: FitForm,
     question: Question<'_>,
-    bytes: &[u8],
+    bytes: Vec<u8>,
 ) -> Result<LineAnswer, StreamFault>
-    ensures answer { IfOk result (λ a. answered.IsLogFit form question.entry bytes.now a.status (string_bytes a.text)) }
+    ensures answer { IfOk result (λ a. answered.IsLogFit form question.entry bytes.items a.status (string_bytes a.text)) }
     ensures status { IfOk result (λ a. a.status ≤ 2) }
     ensures no_file { IsErrOf result StreamFault.File → ⊥ }
 {
@@ -201,17 +201,17 @@ fn fit_text(
     alloc: Global,
     form: FitForm,
     question: Question<'_>,
-    bytes: &[u8],
+    bytes: Vec<u8>,
 ) -> Result<LineAnswer, StreamFault>
     ensures answer { IfOk result
-        (λ a. answered.IsFitAnswer form question.entry bytes.now a.status (string_bytes a.text)) }
+        (λ a. answered.IsFitAnswer form question.entry bytes.items a.status (string_bytes a.text)) }
     ensures status { IfOk result (λ a. a.status ≤ 2) }
     ensures no_file { IsErrOf result StreamFault.File → ⊥ }
 {
-    if is_log(bytes) {
+    if is_log(&bytes) {
         fit_log(alloc, form, question, bytes)
     } else {
-        fit_history(alloc, question, bytes)
+        fit_history(alloc, question, &bytes)
     }
 }
 
@@ -240,8 +240,8 @@ fn fit_text(
 ///
 /// # Cost
 ///
-/// Of a log one pass over the text and two over its lines; memory for the text and some 32 bytes for each
-/// line. Of a history one pass over the text and one over the events for each kind; memory for the text,
+/// Of a log one pass over the text and two over its lines; memory for 24 bytes for each line and for the text,
+/// or for 32 bytes for each line, whichever is more. Of a history one pass over the text and one over the events for each kind; memory for the text,
 /// the events and the queues.
 pub fn fit_stream<R: Read, W: Write>(
     alloc: Global,
@@ -265,5 +265,5 @@ pub fn fit_stream<R: Read, W: Write>(
     ensures outcome { IsStreamOutcome R.remaining reader.old reader.new writer.old writer.new result }
 {
     let bytes = read_all(alloc, reader)?;
-    put(&fit_text(alloc, form, question, &bytes)?, writer)
+    put(&fit_text(alloc, form, question, bytes)?, writer)
 }

@@ -1,4 +1,4 @@
-//! The pages that the command writes; what stands in them, the tests of pages say.
+//! The pages that the command writes; what stands in those of histories, the tests of pages say.
 
 use monk_commands::Task;
 use monk_draw::Window;
@@ -9,7 +9,29 @@ use std::test::Fail;
 /// A text of which a page is to be made, of which events, what is written in it, and the status.
 type Row = (&'static [u8], Option<u32>, &'static str, u8);
 
-static ROWS: [Row; 6] = [
+/// Seat 2 comes in between the signal and seat 0, which doesn't test again.
+const IF_FOR_WHILE: &[u8] = b"log 1 3 1 buffer 1\nenter 0\nact 0 1 0 0\nwait 0 0\nenter 1\nact 1 0 7 1\nsignal 1 0\nleave 1\nenter 2\nact 2 1 0 8\nleave 2\nresume 0\nact 0 1 0 8\nleave 0\n";
+
+static ROWS: [Row; 9] = [
+    (
+        IF_FOR_WHILE,
+        None,
+        "{\"before\":0,\"conditions\":1,\"misfit\":{\"index\":11,\"told\":\"act 0 1 0 8\",\"why\":\"the object replies otherwise: the seat relied on what no longer held\",\"word\":\"reply\"},\"object\":\"buffer\",",
+        1,
+    ),
+    (
+        IF_FOR_WHILE,
+        Some(6),
+        "\"steps\":[{\"lock\":1,\"places\":[\"woken 0\",\"active\",\"outside\"],\"state\":[1,7],\"told\":\"signal 1 0 wakes 0\"},",
+        1,
+    ),
+    // The wait runs out before the first line that is shown.
+    (
+        b"log 1 2 1 book 2\nenter 0\nwait 0 0\nlapse 0\n",
+        Some(3),
+        "\"start\":{\"lock\":null,\"places\":[\"waiting 0\",\"outside\"],\"state\":[2,0,0]},\"steps\":[{\"lock\":null,\"places\":[\"out 0\",\"outside\"],\"state\":[2,0,0],\"told\":\"out 0\"},",
+        0,
+    ),
     (
         b"monk 1 PB 2 0 buffer 1\nenter 0 free\nact 0 1 0 0\nleave 0 entry\n",
         None,
@@ -57,7 +79,7 @@ fn is_paged(alloc: Global, row: &Row) -> bool {
 }
 
 #[test]
-fn pages_are_made_of_histories(rt: HostRuntime) -> Result<(), Fail> {
+fn pages_are_made_of_histories_and_logs(rt: HostRuntime) -> Result<(), Fail> {
     for row in ROWS.iter() {
         if !is_paged(rt.alloc(), row) {
             return Err(row.2)?;

@@ -2,6 +2,8 @@
 
 ghost use Rattle.std.specs.Prelude.{◌≡◌, ◌≢◌, ◌≤◌, ◌^◌, IfOk, IsErrOf, length, string_bytes};
 ghost use Rattle.monk_history.specs.Text.Faults.{memory};
+ghost use Rattle.monk_history.specs.Text.Lines.{Gives};
+ghost use Rattle.monk_logs.specs.Log.Reading.{log_at, log_view};
 ghost use Rattle.monk_object.specs.Names.{most};
 ghost use Rattle.monk_commands.specs.Answer.{unreadable};
 ghost use Rattle.monk_commands.specs.LogAnswered as answered;
@@ -156,19 +158,30 @@ fn answer_to_fault(
     Ok(LineAnswer { status: 2, text })
 }
 
+/// The log that has this text. The text isn't kept, since it takes a third of what its lines take.
+fn read_and_drop(
+    alloc: Global,
+    bytes: Vec<u8>,
+) -> Result<(LogHeader, Vec<LogLine>), ReadFault>
+    ensures few { IfOk result (λ r. length r.1.items ≤ 2 ^ 25) }
+    ensures exact { Gives log_view result (log_at (2 ^ 25) bytes.items) }
+{
+    read_log(alloc, &bytes)
+}
+
 /// The answer to the text of a log.
 pub(crate) fn answer_to_log(
     alloc: Global,
     view: LogView,
     question: Question<'_>,
-    bytes: &[u8],
+    bytes: Vec<u8>,
 ) -> Result<LineAnswer, StreamFault>
     ensures answer { IfOk result
-        (λ a. answered.IsAnswerToLog view question.entry bytes.now a.status (string_bytes a.text)) }
+        (λ a. answered.IsAnswerToLog view question.entry bytes.items a.status (string_bytes a.text)) }
     ensures status { IfOk result (λ a. a.status ≤ 2) }
     ensures no_file { IsErrOf result StreamFault.File → ⊥ }
 {
-    match read_log(alloc, bytes) {
+    match read_and_drop(alloc, bytes) {
         Ok((header, lines)) => Ok(answer_to_read(alloc, view, question, &header, &lines)?),
         Err(fault) => answer_to_fault(alloc, view, question.name, fault),
     }

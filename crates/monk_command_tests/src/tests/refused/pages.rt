@@ -2,7 +2,11 @@ use super::begins;
 use monk_history::{Event, Header, Next, Via};
 use monk_kinds::KindName;
 use monk_object::ObjectName;
-use monk_page::page;
+use monk_draw::Span;
+use monk_judge::run_of_log;
+use monk_logs::read_log;
+use monk_object::Book;
+use monk_page::{log_page, page};
 use std::test::Fail;
 
 /// A signal that chooses entry over the waiter that it serves.
@@ -19,5 +23,18 @@ pub(super) fn page_of_four(rt: &HostRuntime) -> Result<bool, Fail> {
         return Err(Fail::new("no header"));
     };
     let page = page(rt.alloc(), &header, &WRONG_CHOICE, None)?;
+    Ok(page.as_str().ends_with("</html>\n"))
+}
+
+/// A log whose second line misfits.
+const SECOND_MISFITS: &[u8] = b"log 1 2 1 book 2\nenter 0\nenter 1\n";
+
+pub(super) fn page_of_a_log(rt: &HostRuntime) -> Result<bool, Fail> {
+    let (header, lines) = read_log(rt.alloc(), SECOND_MISFITS)?;
+    let run = run_of_log(rt.alloc(), 2, 1, Book::make(2)?, &lines)?;
+    begins(rt, "log_page")?;
+    let span = Span { before: 0, last: 2 };
+    let book = Book::make(2)?;
+    let page = log_page(rt.alloc(), "", &header, book, &run, &lines, span)?;
     Ok(page.as_str().ends_with("</html>\n"))
 }

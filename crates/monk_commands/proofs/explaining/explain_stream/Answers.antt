@@ -13,10 +13,9 @@ returns-clause-answer g c =
     let after = g.W.Write.contents (inner_of c.put.new.writer) in
     let given = c.in_ok-answer_to_text.field-0 in
     IfOk-weaker c.put.result _ _ (λ status put.
-    put_known (IsExplainAnswer c.args.question) known before after c.deref.result.now given.status status
+    put_known (IsExplainAnswer c.args.question) known before after c.in_ok-bytes.bytes.items given.status status
     (string_bytes given.text)
-    (subst (λ (bytes : List ℕ). IfSome known (λ input. bytes ≡ input)) (sym c.deref.ensures.value)
-    c.in_ok-bytes.ensures.bytes) c.in_ok-answer_to_text.ensures.answer put.0 put.1)
+    c.in_ok-bytes.ensures.bytes c.in_ok-answer_to_text.ensures.answer put.0 put.1)
     c.put.ensures.line
 
 pub returns-clause-audit : goal.returns-clause-audit
@@ -26,9 +25,8 @@ returns-clause-audit g c =
     let after = g.W.Write.contents (inner_of c.put.new.writer) in
     let given = c.in_ok-answer_to_text.field-0 in
     IfOk-weaker c.put.result _ _ (λ status put.
-    begins_known c.args.question known before after c.deref.result.now given.status status (string_bytes given.text)
-    (subst (λ (bytes : List ℕ). IfSome known (λ input. bytes ≡ input)) (sym c.deref.ensures.value)
-    c.in_ok-bytes.ensures.bytes) c.in_ok-answer_to_text.ensures.answer put.0 put.1)
+    begins_known c.args.question known before after c.in_ok-bytes.bytes.items given.status status (string_bytes given.text)
+    c.in_ok-bytes.ensures.bytes c.in_ok-answer_to_text.ensures.answer put.0 put.1)
     c.put.ensures.line
 
 pub returns-clause-legal : goal.returns-clause-legal

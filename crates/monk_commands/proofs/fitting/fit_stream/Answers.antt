@@ -10,7 +10,6 @@ returns-clause-fits g c =
     let known = g.R.Read.remaining (inner_of c.args.reader.now) in
     let given = c.in_ok-fit_text.field-0 in
     IfOk-weaker c.put.result _ _ (λ status put.
-    fits_known c.args.form c.args.question known c.deref.result.now given.status status (string_bytes given.text)
-    (subst (λ (bytes : List ℕ). IfSome known (λ input. bytes ≡ input)) (sym c.deref.ensures.value)
-    c.in_ok-bytes.ensures.bytes) c.in_ok-fit_text.ensures.answer put.0)
+    fits_known c.args.form c.args.question known c.in_ok-bytes.bytes.items given.status status (string_bytes given.text)
+    c.in_ok-bytes.ensures.bytes c.in_ok-fit_text.ensures.answer put.0)
     c.put.ensures.line
