@@ -163,7 +163,7 @@ fn fit_history(
     ensures status { IfOk result (λ a. a.status ≤ 2) }
 {
     match question.kind {
-        Some(kind) => Ok(named(alloc, question.name, answer_under(alloc, kind, bytes)?)?),
+        Some(kind) => named(alloc, question.name, answer_under(alloc, kind, bytes)?),
         None => answer_to_history(alloc, bytes),
     }
 }
@@ -181,7 +181,7 @@ fn fit_log(
     match form {
         FitForm::Words => {
             let answer = answer_to_log(alloc, LogView::Line, question, bytes)?;
-            Ok(named(alloc, question.name, answer)?)
+            named(alloc, question.name, answer)
         }
         FitForm::Json => answer_to_log(alloc, LogView::Json, question, bytes),
     }

@@ -57,7 +57,7 @@ fn shown_text(
     match show {
         Show::Picture => {
             let step = forbidden_step(verdict);
-            Ok(draw(alloc, header, events, window, step, verdict.caption())?)
+            draw(alloc, header, events, window, step, verdict.caption())
         }
         Show::Page => match page(alloc, header, events, window) {
             Ok(page) => Ok(page),

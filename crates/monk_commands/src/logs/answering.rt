@@ -179,7 +179,7 @@ pub(crate) fn answer_to_log(
     ensures status { IfOk result (λ a. a.status ≤ 2) }
 {
     match read_and_drop(alloc, bytes) {
-        Ok((header, lines)) => Ok(answer_to_read(alloc, view, question, &header, &lines)?),
+        Ok((header, lines)) => answer_to_read(alloc, view, question, &header, &lines),
         Err(fault) => answer_to_fault(alloc, view, question.name, fault),
     }
 }

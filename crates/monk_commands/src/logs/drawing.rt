@@ -179,7 +179,7 @@ fn shown_if_there(
     if is_behind(window, lines.len()) {
         return behind(alloc, lines.len());
     }
-    Ok(shown(alloc, show, window, header, run, lines)?)
+    shown(alloc, show, window, header, run, lines)
 }
 
 /// The answer to a log that was read.
