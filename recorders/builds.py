@@ -1,8 +1,11 @@
 """How the demonstrations of each language are built and run, for recorders/check."""
+from __future__ import annotations
+
 import glob
 import os
 import shutil
 import subprocess
+from typing import Callable, Dict, List
 
 HERE = os.path.dirname(os.path.abspath(__file__))
 # How long a recorded run may last, in seconds, one that may hang, and one that is shaken besides; how many signals there are to
@@ -16,45 +19,45 @@ TOOLS = {"c": ("gcc",), "c++": ("gcc", "g++"), "python": ("python3",), "java": (
 ROWS, PRIME = 300000, 999983
 
 
-def missing(language):
+def missing(language: str) -> list[str]:
     """The tools of the language that aren't there."""
     return [tool for tool in TOOLS[language] if not shutil.which(tool)]
 
 
-def demo(name):
+def demo(name: str) -> str:
     return os.path.join(HERE, "demos", name)
 
 
-def make(*words, folder):
+def make(*words: str, folder: str) -> None:
     """Builds something, in the folder."""
     done = subprocess.run(words, cwd=folder, capture_output=True, text=True)
     if done.returncode:
         raise SystemExit(f"recorders: {' '.join(words)}\n{done.stdout}{done.stderr}")
 
 
-def build_library(folder):
+def build_library(folder: str) -> None:
     source = os.path.join(HERE, "c", "libmonk_log.c")
     make("gcc", "-O2", "-Wall", "-Wextra", "-Werror", "-shared", "-fPIC", "-o", "libmonk_log.so", source, "-ldl", "-lpthread", folder=folder)
 
 
-def build_c(folder):
+def build_c(folder: str) -> None:
     build_library(folder)
     make("gcc", "-O2", "-shared", "-fPIC", "-o", "libdrop.so", demo("drop.c"), "-ldl", folder=folder)
     for name in ("buffer", "hoare"):
         make("gcc", "-g", "-O2", "-o", name, demo(f"{name}.c"), "-lpthread", folder=folder)
 
 
-def build_cpp(folder):
+def build_cpp(folder: str) -> None:
     build_library(folder)
     for name, level in (("buffer", "-O2"), ("unoptimized", "-O0")):
         make("g++", "-g", level, "-o", name, demo("buffer.cc"), "-lpthread", folder=folder)
 
 
-def build_java(folder):
+def build_java(folder: str) -> None:
     make("javac", "-d", ".", os.path.join(HERE, "java", "MonkLog.java"), demo("Buffer.java"), folder=folder)
 
 
-def build_go(folder):
+def build_go(folder: str) -> None:
     os.makedirs(os.path.join(folder, "monklog"))
     shutil.copy(os.path.join(HERE, "go", "monklog.go"), os.path.join(folder, "monklog"))
     shutil.copy(demo("buffer.go"), folder)
@@ -63,14 +66,18 @@ def build_go(folder):
     make("go", "build", "-o", "buffer", ".", folder=folder)
 
 
-def build_rust(folder):
+def build_rust(folder: str) -> None:
     make("rustc", "--edition", "2021", "-O", "-o", "buffer", demo("buffer.rs"), folder=folder)
 
 
-BUILDS = {"c": build_c, "c++": build_cpp, "python": lambda folder: None, "java": build_java, "go": build_go, "rust": build_rust}
+def build_nothing(_: str) -> None:
+    """A program of Python runs as it is."""
+
+
+BUILDS = {"c": build_c, "c++": build_cpp, "python": build_nothing, "java": build_java, "go": build_go, "rust": build_rust}
 LOST = ("lost notify", "passed on")
 # The words of a program of a language, that writes all its logs itself.
-WRITERS = {
+WRITERS: Dict[str, Callable[[str, str], List[str]]] = {
     "python": lambda folder, style: ["python3", demo("lost_notify.py" if style in LOST else "buffer.py")],
     "java": lambda folder, style: ["java", "-cp", folder, "Buffer"],
     "go": lambda folder, style: [os.path.join(folder, "buffer")],
@@ -78,17 +85,17 @@ WRITERS = {
 }
 
 
-def shaking(style, seed):
+def shaking(style: str, seed: int) -> dict[str, str]:
     """What the environment has besides, where a style is shaken."""
     return {"MONK_SHAKE": str(seed)} if style in SHAKEN else {}
 
 
-def seconds_of(style):
+def seconds_of(style: str) -> str:
     """How long a run may last."""
     return LONG if style not in HANGING else LONG_IF_SHAKEN if style in SHAKEN else LONG_IF_HANGING
 
 
-def run_recorded(folder, style, prefix, seed):
+def run_recorded(folder: str, style: str, prefix: str, seed: int) -> str:
     """Runs a program with the recorder loaded; what it says on standard error."""
     drops, program = style == "drop", os.path.join(folder, style if style == "unoptimized" else "buffer")
     words = [*UNMODIFIED[style], input_of(folder)] if style in UNMODIFIED else [program, "pair" if drops else style]
@@ -107,7 +114,7 @@ def run_recorded(folder, style, prefix, seed):
     return ran.stderr
 
 
-def input_of(folder):
+def input_of(folder: str) -> str:
     """A text that is the same each time, in no order."""
     path = os.path.join(folder, "numbers")
     if not os.path.exists(path):
@@ -122,7 +129,7 @@ UNMODIFIED = {
 }
 
 
-def run(language, style, folder, times):
+def run(language: str, style: str, folder: str, times: int) -> tuple[list[str], str]:
     """Runs a demonstration some times; its logs, and what was said on standard error. What it wrote before goes."""
     prefix, said = os.path.join(folder, f"{style.replace(' ', '_')}.log"), ""
     for path in glob.glob(f"{prefix}.*"):
@@ -140,6 +147,6 @@ def run(language, style, folder, times):
     return logs_of(prefix), said
 
 
-def logs_of(prefix):
+def logs_of(prefix: str) -> list[str]:
     """The logs whose names begin so; beside each stands a file of names."""
     return sorted(path for path in glob.glob(f"{prefix}.*") if not path.endswith(".names"))

@@ -18,14 +18,16 @@ CALLS = {
     "go": {"enter": "monitor.Lock", "leave": "monitor.Unlock", "wait": "cond.Wait", "signal": "cond.Signal", "act": "monitor.Act"},
     "rust": {"enter": "buffer.enter", "wait": "inside.wait", "signal": "notify_one", "act": "inside.act"},
 }
-# A line of a log as `monk explain` names it: its number, its words and its place.
+# A line of a log as `monk explain` names it: its number, its words and its place. And one since which a seat is where it is.
 NAMED = re.compile(r"line (\d+): (.*?)(?: \((\S+:\d+)\))?: ")
+SINCE = re.compile(r"seat \d+: .* since line (\d+)(?: \((\S+:\d+)\))?(?:;.*)?")
 SOURCES = {"c": "buffer.c", "c++": "buffer.cc", "python": "buffer.py", "java": "Buffer.java", "go": "buffer.go", "rust": "buffer.rs"}
 
 
 def places_of(path: str) -> list[str]:
     """By line of a log, FILE:LINE or nothing."""
-    places, numbers = [""], list[int]()
+    places = [""]
+    numbers: list[int] = []
     with open(f"{path}.names") as file:
         for word, _, rest in (row.rstrip("\n").partition(" ") for row in file):
             if word == "site":
@@ -66,7 +68,8 @@ def misexplained(path: str, explained: list[str]) -> str:
     If it tells what is wrong it has to name one."""
     lines, places = lines_of(path), places_of(path)
     named = [found.groups() for found in map(NAMED.match, explained) if found]
-    for number, words, place in named:
+    since = [(found[1], lines[int(found[1]) - 2], found[2]) for found in map(SINCE.fullmatch, explained) if found]
+    for number, words, place in named + since:
         at = int(number) - 2
         if (words, place or "") != (lines[at], places[at]):
             return f"{path}: explain names {number}: {words}: {place}, and not {lines[at]}: {places[at]}"

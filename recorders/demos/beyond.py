@@ -46,7 +46,7 @@ def wait_for_signal() -> None:
     signal.pthread_sigmask(signal.SIG_BLOCK, (signal.SIGUSR1,))
     os.kill(os.getpid(), signal.SIGUSR1)
     time.sleep(0.1)
-    print(signal.sigwait((signal.SIGUSR1,)).name)
+    print(signal.Signals(signal.sigwait((signal.SIGUSR1,))).name)
 
 
 def main(style: str) -> None:

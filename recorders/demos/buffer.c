@@ -33,7 +33,7 @@ static unsigned ring[SIZE], first, size = SIZE, items = ITEMS;
 static atomic_uint count; /* (early reads it without the lock) */
 static int all, timed, late, once, forgotten, single, early, returns, deadlock;
 
-static int is_full(void) { return count == size; }
+static int is_full(void) { return count >= size; }
 static int is_empty(void) { return count == 0; }
 
 /* The condition that stands for this one. */
@@ -89,8 +89,8 @@ static void put_without_lock(unsigned item) {
 static unsigned take(void) {
     pthread_mutex_lock(&lock);
     wait_while(is_empty, &not_empty);
-    unsigned item = ring[first++ % SIZE];
-    count--;
+    unsigned item = is_empty() ? 0 : ring[first++ % SIZE];
+    count -= item > 0;
     if (!early)
         MONK_ACT(TAKE, 0, item + 1ul);
     if (!returns || item != ITEMS / 2)

@@ -4,24 +4,32 @@ Two takers wait for an item. The first does so for a while only, and its time ru
 the putter puts an item and notifies once. The second taker should get it, since the first has given up. Where it sleeps on,
 that notify was lost. Takers wait on condition 0 (predicate 1 of a buffer). The program is right; docs/LOGS.md follows its
 log to the line at fault. With the style `passed on` the condition is one whose line at fault is mended."""
+from __future__ import annotations
+
 import os
 import sys
 import threading
 import time
+from typing import Any, Callable
 
 sys.dont_write_bytecode = True
 sys.path.insert(0, os.path.join(os.path.dirname(os.path.abspath(__file__)), "../python"))
 import monk_log
 
 PUT, TAKE, ITEM = 0, 1, 7
-# How long the first taker waits, and how long the others are given, in seconds.
-PATIENCE, LONG = 0.1, 0.2
+# How long the first taker waits, and how long the putter has the lock and the second taker is given in the end, in seconds.
+PATIENCE, LONG = 0.2, 0.4
 
 
 class Mended(threading.Condition):
     """As the condition of the standard library, but that a notify is passed on which found a wait that had run out."""
 
-    def wait(self, timeout=None):
+    # what threading.Condition has behind its public names
+    _waiters: Any
+    _release_save: Callable[[], Any]
+    _acquire_restore: Callable[[Any], None]
+
+    def wait(self, timeout: float | None = None) -> bool:
         waiter = threading.Lock()
         waiter.acquire()
         self._waiters.append(waiter)
@@ -38,7 +46,8 @@ class Mended(threading.Condition):
                     threading.Condition.notify(self)
 
 
-def take(recorder, not_empty, items, patience, waits):
+def take(recorder: monk_log.Recorder, not_empty: threading.Condition, items: list[int], patience: float | None,
+         waits: threading.Event) -> None:
     """Takes an item, or gives up."""
     with not_empty:
         while not items:
@@ -48,7 +57,7 @@ def take(recorder, not_empty, items, patience, waits):
         recorder.act(TAKE, 0, items.pop(0) + 1)
 
 
-def put(recorder, not_empty, items):
+def put(recorder: monk_log.Recorder, not_empty: threading.Condition, items: list[int]) -> None:
     with not_empty:
         time.sleep(LONG)
         items.append(ITEM)
@@ -56,8 +65,9 @@ def put(recorder, not_empty, items):
         not_empty.notify()
 
 
-def run():
-    recorder, items = monk_log.Recorder(), []
+def run() -> monk_log.Recorder:
+    recorder = monk_log.Recorder()
+    items: list[int] = []
     not_empty = recorder.condition(recorder.lock())
     threads = []
     for patience in (PATIENCE, None):
@@ -67,13 +77,14 @@ def run():
         waits.wait()
     threads.append(threading.Thread(target=put, args=(recorder, not_empty, items), daemon=True))
     threads[-1].start()
-    end = time.monotonic() + 2 * LONG
-    for thread in threads:
-        thread.join(max(0, end - time.monotonic()))
+    first, second, putter = threads
+    first.join()
+    putter.join()
+    second.join(LONG)
     return recorder
 
 
-def main():
+def main() -> None:
     prefix, runs, style = sys.argv[1], int(sys.argv[2]), sys.argv[3]
     if style == "passed on":
         monk_log.Condition.__bases__ = (Mended,)

@@ -24,8 +24,8 @@ const (
 	statusLate = 124
 	// in place of a count
 	ended = -1
-	// which may be the recorder's, and the program's last; those that always are the recorder's
-	frames, callersOfRecorder = 4, 3
+	// of runtime.Callers, up to the caller of the function that asks
+	skipped = 3
 )
 
 func min(one, other int) int {
@@ -48,13 +48,13 @@ type Monitor struct {
 	leftOut int
 }
 
-// stack is the nearest callers of a function, of which the first that isn't the recorder's is meant.
-type stack [frames]uintptr
+// site is from where in the program a function of the recorder was called.
+type site uintptr
 
 // line is one of the log, and from where it comes.
 type line struct {
-	text    string
-	callers stack
+	text string
+	from site
 }
 
 // signal is one by a seat that hadn't the mutex, and how many lines there are before it.
@@ -70,31 +70,30 @@ type Cond struct {
 	number  int
 }
 
-// newLine is a line that comes from where the program runs.
-func newLine(verb string, numbers ...uint64) line {
+// caller is the site of the function that asks. Each frame takes a tenth of a microsecond, so what the program calls asks itself.
+func caller() site {
+	var at [1]uintptr
+	runtime.Callers(skipped, at[:])
+	return site(at[0])
+}
+
+// place is FILE:LINE.
+func (s site) place() string {
+	frame, _ := runtime.CallersFrames([]uintptr{uintptr(s)}).Next()
+	return fmt.Sprintf("%s:%d", filepath.Base(frame.File), frame.Line)
+}
+
+// newLine is a verb, and the seat and what else belongs to it.
+func newLine(from site, verb string, numbers ...uint64) line {
 	text := []byte(verb)
 	for _, number := range numbers {
 		text = strconv.AppendUint(append(text, ' '), number, 10)
 	}
-	it := line{text: string(text)}
-	runtime.Callers(callersOfRecorder, it.callers[:])
-	return it
+	return line{string(text), from}
 }
 
-var _, own, _, _ = runtime.Caller(0)
-
-// place is FILE:LINE of the nearest caller that is none of the recorder's.
-func (s stack) place() string {
-	callers := runtime.CallersFrames(s[:])
-	frame, more := callers.Next()
-	for frame.File == own && more {
-		frame, more = callers.Next()
-	}
-	return fmt.Sprintf("%s:%d", filepath.Base(frame.File), frame.Line)
-}
-
-// put writes a line: a verb, and the seat and what else belongs to it. What stands before a line that isn't written is a log too.
-func (m *Monitor) put(verb string, numbers ...uint64) {
+// put writes a line. What stands before a line that isn't written is a log too.
+func (m *Monitor) put(from site, verb string, numbers ...uint64) {
 	if m.stopped == "" && numbers[0] >= seats {
 		m.stopped = fmt.Sprintf("there are more than %d threads, and a log has no more seats", seats)
 	}
@@ -102,7 +101,7 @@ func (m *Monitor) put(verb string, numbers ...uint64) {
 		m.count.Store(ended)
 		return
 	}
-	m.lines = append(m.lines, newLine(verb, numbers...))
+	m.lines = append(m.lines, newLine(from, verb, numbers...))
 	m.count.Store(int64(len(m.lines)))
 }
 
@@ -124,35 +123,36 @@ func (m *Monitor) Cond() *Cond {
 }
 
 func (m *Monitor) Lock(seat uint64) {
+	from := caller() // before others have to wait
 	m.mutex.Lock()
 	m.active.Store(seat + 1)
-	m.put("enter", seat)
+	m.put(from, "enter", seat)
 }
 
 func (m *Monitor) Unlock(seat uint64) {
-	m.put("leave", seat)
+	m.put(caller(), "leave", seat)
 	m.active.Store(0)
 	m.mutex.Unlock()
 }
 
 // Act tells of an operation on what the mutex guards: its code, what it was given, what it replied (docs/MONITORS.md).
 func (m *Monitor) Act(seat, code, arg, reply uint64) {
-	m.put("act", seat, code, arg, reply)
+	m.put(caller(), "act", seat, code, arg, reply)
 }
 
 // on writes a line of the condition.
-func (c *Cond) on(verb string, seat uint64) {
+func (c *Cond) on(from site, verb string, seat uint64) {
 	if c.number >= conditions && c.monitor.stopped == "" {
 		c.monitor.stopped = fmt.Sprintf("there are more than %d conditions, and a log has no more", conditions)
 	}
-	c.monitor.put(verb, seat, uint64(c.number))
+	c.monitor.put(from, verb, seat, uint64(c.number))
 }
 
 // tell writes a signal down and calls it. One from outside is noted: whom it serves can't write yet that it goes on.
-func (c *Cond) tell(verb string, seat uint64, call func()) {
+func (c *Cond) tell(from site, verb string, seat uint64, call func()) {
 	m := c.monitor
 	if m.active.Load() == seat+1 {
-		c.on(verb, seat)
+		c.on(from, verb, seat)
 		call()
 		return
 	}
@@ -162,29 +162,29 @@ func (c *Cond) tell(verb string, seat uint64, call func()) {
 	if seat >= seats || c.number >= conditions || place == ended {
 		m.leftOut++
 	} else {
-		m.outside = append(m.outside, signal{place, newLine(verb, seat, uint64(c.number))})
+		m.outside = append(m.outside, signal{place, newLine(from, verb, seat, uint64(c.number))})
 	}
 	call()
 }
 
 // Wait holds the order until its caller is among those that wait (gate), so a signal from outside finds whom the lines show.
 func (c *Cond) Wait(seat uint64) {
-	m := c.monitor
+	m, from := c.monitor, caller()
 	m.order.Lock()
-	c.on("wait", seat)
+	c.on(from, "wait", seat)
 	c.raw.Wait()
 	m.active.Store(seat + 1)
 	m.order.Lock()
 	defer m.order.Unlock()
-	m.put("resume", seat)
+	m.put(from, "resume", seat)
 }
 
 func (c *Cond) Signal(seat uint64) {
-	c.tell("signal", seat, c.raw.Signal)
+	c.tell(caller(), "signal", seat, c.raw.Signal)
 }
 
 func (c *Cond) Broadcast(seat uint64) {
-	c.tell("broadcast", seat, c.raw.Broadcast)
+	c.tell(caller(), "broadcast", seat, c.raw.Broadcast)
 }
 
 // Summary is what was seen, in words.
@@ -268,12 +268,12 @@ func (m *Monitor) Text(count int, object string) string {
 // names is what stands beside the log: the places from which its lines come.
 func names(lines []line) string {
 	var sites, numbers strings.Builder
-	places, of := map[stack]string{}, map[string]int{}
+	places, of := map[site]string{}, map[string]int{}
 	for _, it := range lines {
-		place, isKnown := places[it.callers]
+		place, isKnown := places[it.from]
 		if !isKnown {
-			place = it.callers.place()
-			places[it.callers] = place
+			place = it.from.place()
+			places[it.from] = place
 		}
 		if of[place] == 0 {
 			of[place] = len(of) + 1

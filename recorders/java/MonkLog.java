@@ -1,4 +1,5 @@
 import java.io.IOException;
+import java.lang.StackWalker.StackFrame;
 import java.nio.file.Files;
 import java.nio.file.Path;
 import java.nio.file.StandardOpenOption;
@@ -7,7 +8,6 @@ import java.util.Date;
 import java.util.LinkedHashMap;
 import java.util.List;
 import java.util.Map;
-import java.util.Set;
 import java.util.concurrent.TimeUnit;
 import java.util.concurrent.atomic.AtomicInteger;
 import java.util.concurrent.locks.Condition;
@@ -31,23 +31,23 @@ public final class MonkLog {
 
     private static final int STATUS_LATE = 124;
 
-    /** How many frames are looked at first: mostly those of the recorder, and the program's last. */
-    private static final int FRAMES = 6;
+    /** Of {@link #caller} and of the method that asks. */
+    private static final int OWN_FRAMES = 2;
 
-    private static final StackWalker STACK = StackWalker.getInstance(Set.of(), FRAMES);
+    private static final StackWalker STACK = StackWalker.getInstance();
 
     /** A line, and the frame from which it comes. (Its file and number are only asked for when the log is written.) */
     private static final class Line {
         private final String text;
-        private final StackWalker.StackFrame frame;
+        private final StackFrame from;
 
-        private Line(String text) {
+        private Line(String text, StackFrame from) {
             this.text = text;
-            frame = STACK.walk(frames -> frames.filter(MonkLog::isOfProgram).findFirst()).orElse(null);
+            this.from = from;
         }
 
         private String site() {
-            return frame == null ? "?:0" : frame.getFileName() + ":" + frame.getLineNumber();
+            return from == null ? "?:0" : from.getFileName() + ":" + from.getLineNumber();
         }
     }
 
@@ -57,13 +57,13 @@ public final class MonkLog {
     private int conditions;
     private String stopped = "";
 
-    private static boolean isOfProgram(StackWalker.StackFrame frame) {
-        String name = frame.getClassName(), own = MonkLog.class.getName();
-        return !name.equals(own) && !name.startsWith(own + "$");
+    /** From where the method that asks was called; what the program calls asks itself. */
+    private static StackFrame caller() {
+        return STACK.walk(frames -> frames.skip(OWN_FRAMES).findFirst()).orElse(null);
     }
 
     /** What stands before a line that isn't written is a log too. */
-    private void put(String verb, String numbers) {
+    private void put(StackFrame from, String verb, String numbers) {
         Integer seat = seats.get(Thread.currentThread());
         if (seat == null && seats.size() == SEATS) {
             stop("there are more than " + SEATS + " threads, and a log has no more seats");
@@ -75,14 +75,14 @@ public final class MonkLog {
             seat = seats.size();
             seats.put(Thread.currentThread(), seat);
         }
-        lines.add(new Line(verb + " " + seat + numbers));
+        lines.add(new Line(verb + " " + seat + numbers, from));
     }
 
-    private void put(String verb, int condition) {
+    private void put(StackFrame from, String verb, int condition) {
         if (condition >= CONDITIONS) {
             stop("there are more than " + CONDITIONS + " conditions, and a log has no more");
         }
-        put(verb, " " + condition);
+        put(from, verb, " " + condition);
     }
 
     /** The first reason stays. */
@@ -93,9 +93,9 @@ public final class MonkLog {
     }
 
     /** A signal is written down where its caller holds the lock; else it is counted, and the library refuses it. */
-    private void tell(boolean isHeld, String verb, int condition) {
+    private void tell(boolean isHeld, StackFrame from, String verb, int condition) {
         if (isHeld) {
-            put(verb, condition);
+            put(from, verb, condition);
         } else {
             strays.incrementAndGet();
         }
@@ -162,45 +162,49 @@ public final class MonkLog {
 
     /** An operation on what the lock guards: its code, what it was given, what it replied (docs/MONITORS.md). */
     public void act(int code, long arg, long reply) {
-        put("act", " " + code + " " + arg + " " + reply);
+        put(caller(), "act", " " + code + " " + arg + " " + reply);
     }
 
     // ---- synchronized, which has one condition
 
     public void enter() {
-        put("enter", "");
+        put(caller(), "enter", "");
     }
 
     public void leave() {
-        put("leave", "");
+        put(caller(), "leave", "");
     }
 
     public void await(Object monitor) throws InterruptedException {
-        await(monitor, 0);
+        await(caller(), monitor, 0);
     }
 
     /** Nothing tells whether a wait with a time ran out, so it is always told as a {@code resume}. */
     public void await(Object monitor, long milliseconds) throws InterruptedException {
+        await(caller(), monitor, milliseconds);
+    }
+
+    private void await(StackFrame from, Object monitor, long milliseconds) throws InterruptedException {
         conditions = 1;
-        put("wait", 0);
+        put(from, "wait", 0);
         String end = "lapse";
         try {
             monitor.wait(milliseconds);
             end = "resume";
         } finally {
-            put(end, "");
+            put(from, end, "");
         }
     }
 
     public void signal(Object monitor) {
         conditions = 1;
-        tell(Thread.holdsLock(monitor), "signal", 0);
+        tell(Thread.holdsLock(monitor), caller(), "signal", 0);
         monitor.notify();
     }
 
     public void signalAll(Object monitor) {
         conditions = 1;
-        tell(Thread.holdsLock(monitor), "broadcast", 0);
+        tell(Thread.holdsLock(monitor), caller(), "broadcast", 0);
         monitor.notifyAll();
     }
 
@@ -218,20 +222,27 @@ public final class MonkLog {
             raw = new ReentrantLock(fair);
         }
 
+        /** Who has the lock comes in. The frame was asked for before, when nobody had to wait for that. */
+        private void comeIn(StackFrame from) {
+            if (raw.getHoldCount() == 1) {
+                put(from, "enter", "");
+            }
+        }
+
         @Override
         public void lock() {
+            StackFrame from = caller();
             raw.lock();
-            if (raw.getHoldCount() == 1) {
-                enter();
-            }
+            comeIn(from);
         }
 
         /** Whether it was free. */
         @Override
         public boolean tryLock() {
+            StackFrame from = caller();
             boolean got = raw.tryLock();
-            if (got && raw.getHoldCount() == 1) {
-                enter();
+            if (got) {
+                comeIn(from);
             }
             return got;
         }
@@ -239,25 +250,25 @@ public final class MonkLog {
         /** Whether it came free before the time was over. */
         @Override
         public boolean tryLock(long time, TimeUnit unit) throws InterruptedException {
+            StackFrame from = caller();
             boolean got = raw.tryLock(time, unit);
-            if (got && raw.getHoldCount() == 1) {
-                enter();
+            if (got) {
+                comeIn(from);
             }
             return got;
         }
 
         @Override
         public void lockInterruptibly() throws InterruptedException {
+            StackFrame from = caller();
             raw.lockInterruptibly();
-            if (raw.getHoldCount() == 1) {
-                enter();
-            }
+            comeIn(from);
         }
 
         @Override
         public void unlock() {
             if (raw.getHoldCount() == 1) {
-                leave();
+                put(caller(), "leave", "");
             }
             raw.unlock();
         }
@@ -286,23 +297,23 @@ public final class MonkLog {
         }
 
         /** A wait with its two lines. Who doesn't hold the lock has none: the library refuses the wait. */
-        private boolean recorded(Waiting waiting) throws InterruptedException {
+        private boolean recorded(StackFrame from, Waiting waiting) throws InterruptedException {
             if (!lock.isHeldByCurrentThread()) {
                 return waiting.endsEarly();
             }
-            put("wait", number);
+            put(from, "wait", number);
             boolean early = false;
             try {
                 early = waiting.endsEarly();
             } finally {
-                put(early ? "resume" : "lapse", "");
+                put(from, early ? "resume" : "lapse", "");
             }
             return early;
         }
 
         @Override
         public void await() throws InterruptedException {
-            recorded(() -> {
+            recorded(caller(), () -> {
                 raw.await();
                 return true;
             });
@@ -310,30 +321,31 @@ public final class MonkLog {
 
         @Override
         public void awaitUninterruptibly() {
+            StackFrame from = caller();
             if (lock.isHeldByCurrentThread()) {
-                put("wait", number);
+                put(from, "wait", number);
             }
             raw.awaitUninterruptibly();
-            put("resume", "");
+            put(from, "resume", "");
         }
 
         /** Whether the wait ended before its time. */
         @Override
         public boolean await(long time, TimeUnit unit) throws InterruptedException {
-            return recorded(() -> raw.await(time, unit));
+            return recorded(caller(), () -> raw.await(time, unit));
         }
 
         /** Whether the wait ended before that date. */
         @Override
         public boolean awaitUntil(Date deadline) throws InterruptedException {
-            return recorded(() -> raw.awaitUntil(deadline));
+            return recorded(caller(), () -> raw.awaitUntil(deadline));
         }
 
         /** How many nanoseconds were left when it ended. */
         @Override
         public long awaitNanos(long nanoseconds) throws InterruptedException {
             long[] left = {0};
-            recorded(() -> {
+            recorded(caller(), () -> {
                 left[0] = raw.awaitNanos(nanoseconds);
                 return left[0] > 0;
             });
@@ -342,13 +354,13 @@ public final class MonkLog {
 
         @Override
         public void signal() {
-            tell(lock.isHeldByCurrentThread(), "signal", number);
+            tell(lock.isHeldByCurrentThread(), caller(), "signal", number);
             raw.signal();
         }
 
         @Override
         public void signalAll() {
-            tell(lock.isHeldByCurrentThread(), "broadcast", number);
+            tell(lock.isHeldByCurrentThread(), caller(), "broadcast", number);
             raw.signalAll();
         }
     }

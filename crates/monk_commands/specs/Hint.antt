@@ -13,7 +13,8 @@ use Rattle.monk_commands.specs.declared.task.Task.TheVariants.{Complete}
 use Rattle.monk_commands.specs.declared.text_name.TextName.{TextName}
 use Rattle.monk_commands.specs.declared.text_name.TextName.TheVariants as name
 use Rattle.monk_history.specs.declared.text.fault.Flaw.TheVariants as flaw
-use Rattle.monk_history.specs.Limits.{most_conds, most_seats}
+use Rattle.monk_history.specs.Limits.{most_conds, most_seats, newest_version}
+use Rattle.monk_logs.specs.Log.{log_version}
 use Rattle.monk_history.specs.Text.Lines.{lines_of}
 use Rattle.monk_history.specs.Text.Words.{Word, Taken, words_left, number_at}
 use Rattle.monk_kinds.specs.Names.{kind_word, kinds, with_text}
@@ -65,7 +66,7 @@ reads (Fit form q) t = not (is_play t)
 reads Trace t = is_play t
 reads (Explain q) t = not (is_play t)
 reads (Draw window) t = not (is_play t)
-reads (Page window) t = is_history t
+reads (Page window) t = not (is_play t)
 reads (Complete kind) t = is_log t
 
 -- the text that it reads, a history where it reads two
@@ -168,10 +169,19 @@ abbrev pub kinded_hint : List Word → Option Hint
 kinded_hint [] = None
 kinded_hint (w ∷ ws) = or_else (kind_hint w) (guarded_hint ws)
 
--- the version, and what follows it: of a log no kind
+-- the newest version of a text
+abbrev pub newest : TextName → ℕ
+newest name.History = newest_version
+newest name.Play = newest_version
+newest name.Log = log_version Flags
+
+-- what follows the version: of a log no kind
+abbrev pub rest_hint : TextName → List Word → Option Hint
+rest_hint t ws = if is_log t then guarded_hint ws else kinded_hint ws
+
+-- the version, and what follows it
 abbrev pub parts_hint : TextName → List Word → Option Hint
-parts_hint t [] = None
-parts_hint t (version ∷ ws) = if is_log t then guarded_hint ws else kinded_hint ws
+parts_hint t ws = range_hint (hint.Version t) 1 (newest t) (rest_hint t) ws
 
 -- the hint for a first line that begins with the word of that text
 abbrev pub named_hint : Task → Option TextName → List Word → Option Hint
@@ -241,6 +251,7 @@ sentence hint.Mark = codes "a byte-order mark stands in front: save the text as 
 sentence hint.Binary = codes "the input is binary: a text has printable characters alone"
 sentence hint.Return = codes "a line ends in CR LF: end each line in LF alone"
 sentence (hint.Another t) = codes "this is " ++ text_called t ++ codes ": give it to " ++ commands_that_read t
+sentence (hint.Version t) = codes "there is no such version: " ++ text_called t ++ codes " begins with `" ++ header_form t ++ codes "`"
 sentence (hint.Capitals k) = codes "a kind has capital letters: did you mean " ++ kind_word k ++ codes "?"
 sentence hint.NoKind =
     codes "there is no such kind: the kinds are PB, NPB, PNB, NPNB, PQB, NPQB, PIR, NPIR, PIS, NPIS"

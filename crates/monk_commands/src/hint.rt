@@ -6,7 +6,7 @@ ghost use Rattle.std.specs.Option.{option_map};
 ghost use Rattle.monk_history.specs.Text.Lines.{lines_of};
 ghost use Rattle.monk_history.specs.Text.Words.{words_left};
 ghost use Rattle.monk_commands.specs.Hint.{begins_line, hint_of, bytes_hint, header_hint, guarded_hint, kind_hint, kind_meant};
-ghost use Rattle.monk_commands.specs.Hint.{parts_hint, size_hint, conds_hint, named_object_hint, has_mark, is_control, no_header_hint};
+ghost use Rattle.monk_commands.specs.Hint.{parts_hint, rest_hint, size_hint, conds_hint, named_object_hint, has_mark, is_control, no_header_hint};
 
 use crate::task::Task;
 use crate::text_name::TextName;
@@ -28,6 +28,8 @@ pub enum Hint {
     Return,
     /// The text is another one than the command reads.
     Another(TextName),
+    /// The version in the header is none of this text.
+    Version(TextName),
     /// The kind in the header is in small letters: this one is meant.
     Capitals(KindName),
     /// The header names no kind.
@@ -52,7 +54,7 @@ pub enum Hint {
 /// front has nothing of what a hint tells.
 ///
 /// The first of these that the front has decides: no bytes, a byte-order mark, a control character,
-/// a carriage return, a header of another text, a header whose kind, seats, conditions, object or size
+/// a carriage return, a header of another text, a header whose version, kind, seats, conditions, object or size
 /// there aren't (in this order), a line that begins with `#`, a line of no bytes, a first line of none of the three
 /// texts.
 ///
@@ -174,12 +176,23 @@ fn header_hint(task: &Task<'_>, line: Option<&[u8]>) -> Option<Hint>
     }
 }
 
-/// By the words behind the first: the version, of a log no kind, the seats, the conditions, the object and its size.
+/// By the words behind the first: the version, and what follows it.
 fn parts_hint(text: TextName, words: LineWords<'_>) -> Option<Hint>
     ensures { result ≡ parts_hint text words.entry }
 {
     let mut words = words;
-    let _version = words.next()?;
+    match words.number(u64::from(text.newest_version())) {
+        Ok(0) | Err(Flaw::Number) => Some(Hint::Version(text)),
+        Ok(_) => rest_hint(text, words),
+        Err(Flaw::Word) => None,
+    }
+}
+
+/// By the words behind the version: of a log no kind, the seats, the conditions, the object and its size.
+fn rest_hint(text: TextName, words: LineWords<'_>) -> Option<Hint>
+    ensures { result ≡ rest_hint text words.entry }
+{
+    let mut words = words;
     if text != TextName::Log {
         if let Some(hint) = kind_hint(words.next()?) {
             return Some(hint);

@@ -37,6 +37,13 @@ impl fmt::Display for Hint {
             Hint::Another(text) => {
                 write!(f, "this is {text}: give it to {}", commands_that_read(text))
             }
+            Hint::Version(text) => {
+                write!(
+                    f,
+                    "there is no such version: {text} begins with `{}`",
+                    header_form(text)
+                )
+            }
             Hint::Capitals(kind) => {
                 write!(
                     f,

@@ -1,10 +1,16 @@
 //! The texts that the commands read.
 
 ghost use Rattle.std.specs.Prelude.{◌≡◌};
-ghost use Rattle.monk_commands.specs.Hint.{reads, text_named, wanted};
+ghost use Rattle.monk_commands.specs.Hint.{newest, reads, text_named, wanted};
 
 use crate::task::Task;
 use std::fmt;
+
+/// The newest version of a history and of a play.
+const NEWEST: u8 = 3;
+
+/// The newest version of a log.
+const NEWEST_OF_LOGS: u8 = 2;
 
 /// A text that a command reads.
 #[derive(Clone, Copy, Debug, PartialEq, Eq)]
@@ -30,15 +36,27 @@ impl TextName {
         }
     }
 
+    /// Its newest version.
+    pub(crate) fn newest_version(self) -> u8
+        ensures { result ≡ newest self }
+    {
+        match self {
+            TextName::History | TextName::Play => NEWEST,
+            TextName::Log => NEWEST_OF_LOGS,
+        }
+    }
+
     /// Whether the task reads it.
     pub fn is_read_by(self, task: &Task<'_>) -> bool
         ensures { result ≡ reads task.now self }
     {
         match task {
-            Task::Audit | Task::Upgrade | Task::Page(_) => self == TextName::History,
+            Task::Audit | Task::Upgrade => self == TextName::History,
             Task::Play | Task::Trace => self == TextName::Play,
             Task::Complete(_) => self == TextName::Log,
-            Task::Fit(..) | Task::Explain(_) | Task::Draw(_) => self != TextName::Play,
+            Task::Fit(..) | Task::Explain(_) | Task::Draw(_) | Task::Page(_) => {
+                self != TextName::Play
+            }
         }
     }
 

@@ -11,7 +11,7 @@ use std::test::Fail;
 /// A command, the front of its input, and the hint, which is empty where there is none.
 type Row = (Task<'static>, &'static [u8], &'static str);
 
-static HINTS: [Row; 19] = [
+static HINTS: [Row; 20] = [
     (
         Task::Audit,
         b"",
@@ -61,6 +61,11 @@ static HINTS: [Row; 19] = [
         Task::Audit,
         b"monk 1 ABC 2 0 buffer 1\n",
         "there is no such kind: the kinds are PB, NPB, PNB, NPNB, PQB, NPQB, PIR, NPIR, PIS, NPIS",
+    ),
+    (
+        Task::Page(None),
+        b"log 9 2 1 buffer 1\n",
+        "there is no such version: a log begins with `log 1 SEATS CONDS OBJECT SIZE`",
     ),
     (
         FIT,
