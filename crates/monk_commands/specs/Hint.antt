@@ -251,7 +251,8 @@ sentence hint.Mark = codes "a byte-order mark stands in front: save the text as 
 sentence hint.Binary = codes "the input is binary: a text has printable characters alone"
 sentence hint.Return = codes "a line ends in CR LF: end each line in LF alone"
 sentence (hint.Another t) = codes "this is " ++ text_called t ++ codes ": give it to " ++ commands_that_read t
-sentence (hint.Version t) = codes "there is no such version: " ++ text_called t ++ codes " begins with `" ++ header_form t ++ codes "`"
+sentence (hint.Version t) =
+    codes "there is no such version: " ++ text_called t ++ codes " begins with `" ++ header_form t ++ codes "`"
 sentence (hint.Capitals k) = codes "a kind has capital letters: did you mean " ++ kind_word k ++ codes "?"
 sentence hint.NoKind =
     codes "there is no such kind: the kinds are PB, NPB, PNB, NPNB, PQB, NPQB, PIR, NPIR, PIS, NPIS"

@@ -175,7 +175,8 @@ fn fit_log(
     question: Question<'_>,
     bytes: Vec<u8>,
 ) -> Result<LineAnswer, AllocError>
-    ensures answer { IfOk result (λ a. answered.IsLogFit form question.entry bytes.items a.status (string_bytes a.text)) }
+    ensures answer { IfOk result
+        (λ a. answered.IsLogFit form question.entry bytes.items a.status (string_bytes a.text)) }
     ensures status { IfOk result (λ a. a.status ≤ 2) }
 {
     match form {
@@ -230,9 +231,9 @@ fn fit_text(
 ///
 /// # Cost
 ///
-/// Of a log one pass over the text and two over its lines; memory for 24 bytes for each line and for the text,
-/// or for 32 bytes for each line, whichever is more. Of a history one pass over the text and one over the events for each kind; memory for the text,
-/// the events and the queues.
+/// Of a log one pass over the text and two over its lines; memory for 24 bytes for each line and for the
+/// text, or for 32 bytes for each line, whichever is more. Of a history one pass over the text and one over
+/// the events for each kind; memory for the text, the events and the queues.
 pub fn fit_stream<R: Read, W: Write>(
     alloc: Global,
     form: FitForm,

@@ -17,8 +17,8 @@ places_at xs zero le = refl
 places_at xs (suc n) le =
     let lt : n < length xs = omega (arith, le) in
     let next : suc n ≡ n + 1 = omega arith in
-    ap (λ (k : ℕ). take k xs) next ∙ take_more xs n Outside lt ∙ ap (λ (ys : List Place). ys ++ get_or xs n Outside ∷ [])
-    (places_at xs n (omega (arith, le)))
+    ap (λ (k : ℕ). take k xs) next ∙ take_more xs n Outside lt
+    ∙ ap (λ (ys : List Place). ys ++ get_or xs n Outside ∷ []) (places_at xs n (omega (arith, le)))
 
 pub places_shown : (xs : List Place) → xs ≡ places_below (length xs) (λ s. get_or xs s Outside)
 places_shown xs = sym (take_all (length xs) xs (omega arith)) ∙ places_at xs (length xs) (omega arith)
@@ -44,9 +44,6 @@ run_cut m x (suc n) (WakesUnasked s ∷ steps) run =
 pub record IsCut (lines : ℕ) (steps : List Step) (i left : ℕ) : Type 0 where
   pub first : telling lines steps ≡ take i steps ++ telling left (drop i steps)
   pub behind : behind_lines lines steps ≡ behind_lines left (drop i steps)
-
-pub cut_starts : (lines : ℕ) (steps : List Step) → IsCut lines steps 0 lines
-cut_starts lines steps = record { first = refl; behind = refl }
 
 first_on : (n : ℕ) (step : Step) (rest : List Step)
     → telling (suc n) (step ∷ rest) ≡ step ∷ telling (left_by step n) rest

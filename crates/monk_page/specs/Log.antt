@@ -28,7 +28,8 @@ place_json p = string (place_text p)
 -- who holds the lock, where so many threads are, and the data
 abbrev pub with_state : ℕ → State → Members → Members
 with_state seats x ms =
-    put (codes "state") (numbers_json x.data_now) (put (codes "places") (list_json place_json (places_below seats x.place))
+    put (codes "state") (numbers_json x.data_now)
+    (put (codes "places") (list_json place_json (places_below seats x.place))
     (put (codes "lock") (option_json number_json x.lock) ms))
 
 -- a state

@@ -2,7 +2,6 @@
 
 ghost use Rattle.std.specs.Prelude.{◌≡◌, ◌≤◌, IfOk, string_bytes};
 ghost use Rattle.serde_json.specs.View.{view};
-ghost use Rattle.serde_json.specs.Written.{compact_text};
 ghost use Rattle.monk_judge.specs.Run.{IsRun, opening, setting};
 ghost use Rattle.monk_page.specs.Log.{log_json, log_page_text};
 

@@ -10,7 +10,8 @@ use std::test::Fail;
 type Row = (&'static [u8], Option<u32>, &'static str, u8);
 
 /// Seat 2 comes in between the signal and seat 0, which doesn't test again.
-const IF_FOR_WHILE: &[u8] = b"log 1 3 1 buffer 1\nenter 0\nact 0 1 0 0\nwait 0 0\nenter 1\nact 1 0 7 1\nsignal 1 0\nleave 1\nenter 2\nact 2 1 0 8\nleave 2\nresume 0\nact 0 1 0 8\nleave 0\n";
+const IF_FOR_WHILE: &[u8] =
+    b"log 1 3 1 buffer 1\nenter 0\nact 0 1 0 0\nwait 0 0\nenter 1\nact 1 0 7 1\nsignal 1 0\nleave 1\nenter 2\nact 2 1 0 8\nleave 2\nresume 0\nact 0 1 0 8\nleave 0\n";
 
 static ROWS: [Row; 9] = [
     (

@@ -1,6 +1,6 @@
 //! The page of a run, over the object that its log names.
 
-ghost use Rattle.std.specs.Prelude.{◌≡◌, ◌≤◌, IfOk, length, string_bytes};
+ghost use Rattle.std.specs.Prelude.{◌≡◌, ◌≤◌, IfOk, string_bytes};
 ghost use Rattle.monk_object.specs.Names.{most};
 ghost use Rattle.monk_commands.specs.LogDrawn.{HasRun, run_paged};
 
@@ -33,13 +33,37 @@ pub(crate) fn page_around(
             Err(_) => Err(AllocError),
         },
         ObjectName::Book => {
-            log_page(alloc, picture, header, book(header.size()), run, lines, span)
+            log_page(
+                alloc,
+                picture,
+                header,
+                book(header.size()),
+                run,
+                lines,
+                span,
+            )
         }
         ObjectName::Shop => {
-            log_page(alloc, picture, header, shop(header.size()), run, lines, span)
+            log_page(
+                alloc,
+                picture,
+                header,
+                shop(header.size()),
+                run,
+                lines,
+                span,
+            )
         }
         ObjectName::Flags => {
-            log_page(alloc, picture, header, flags(header.size()), run, lines, span)
+            log_page(
+                alloc,
+                picture,
+                header,
+                flags(header.size()),
+                run,
+                lines,
+                span,
+            )
         }
     }
 }

@@ -50,7 +50,7 @@ impl<T: Guarded> Judge<T> {
             LogLine::Enter(seat) | LogLine::Resume(seat) | LogLine::Lapse(seat) => self.take(seat),
             LogLine::Leave(seat) => self.let_go(seat, Place::Outside),
             LogLine::Wait(seat, cond) => self.let_go(seat, Place::Waiting(cond)),
-            LogLine::Signal(_, cond) => self.wake_one(cond, woken),
+            LogLine::Signal(_, cond) => self.wake_named(cond, woken),
             LogLine::Broadcast(_, cond) => self.wake(cond),
             LogLine::Until(..) => {}
             LogLine::Act(_, op, _) => self.change(op),
@@ -68,7 +68,7 @@ impl<T: Guarded> Judge<T> {
     }
 
     /// A signal to the condition wakes that thread.
-    fn wake_one(&mut self, cond: u8, woken: Option<u8>)
+    fn wake_named(&mut self, cond: u8, woken: Option<u8>)
         requires { WakesRightly (state_of self.old) cond woken }
         ensures state { state_of self.new
             ≡ moved (signalled cond woken (state_of self.old).place) (state_of self.old) }

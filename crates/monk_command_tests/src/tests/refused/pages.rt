@@ -1,11 +1,10 @@
 use super::begins;
-use monk_history::{Event, Header, Next, Via};
-use monk_kinds::KindName;
-use monk_object::ObjectName;
 use monk_draw::Span;
+use monk_history::{Event, Header, Next, Via};
 use monk_judge::run_of_log;
+use monk_kinds::KindName;
 use monk_logs::read_log;
-use monk_object::Book;
+use monk_object::{Book, ObjectName};
 use monk_page::{log_page, page};
 use std::test::Fail;
 

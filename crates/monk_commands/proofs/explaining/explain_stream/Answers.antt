@@ -1,5 +1,4 @@
-use Rattle.std.proofs.Common.{◌≡◌, List, ℕ, sym, subst}
-use Rattle.std.specs.Prelude.{IfSome, string_bytes}
+use Rattle.std.specs.Prelude.{string_bytes}
 use Rattle.std.proofs.lemmas.Result.{IfOk-weaker}
 use Rattle.monk_history.specs.Text.Device.{inner_of}
 use Rattle.monk_commands.specs.Explained.{IsExplainAnswer}
@@ -25,8 +24,8 @@ returns-clause-audit g c =
     let after = g.W.Write.contents (inner_of c.put.new.writer) in
     let given = c.in_ok-answer_to_text.field-0 in
     IfOk-weaker c.put.result _ _ (λ status put.
-    begins_known c.args.question known before after c.in_ok-bytes.bytes.items given.status status (string_bytes given.text)
-    c.in_ok-bytes.ensures.bytes c.in_ok-answer_to_text.ensures.answer put.0 put.1)
+    begins_known c.args.question known before after c.in_ok-bytes.bytes.items given.status status
+    (string_bytes given.text) c.in_ok-bytes.ensures.bytes c.in_ok-answer_to_text.ensures.answer put.0 put.1)
     c.put.ensures.line
 
 pub returns-clause-legal : goal.returns-clause-legal

@@ -30,7 +30,8 @@ page_is_text : (h : Heading) (es : List Event) (w : Option Window) (reason : Lis
     → bytes ≡ page_text h es w
 page_is_text h es w reason fault json drawn written end bytes known why is draws says ends joins =
     joins ∙ ap (page_around drawn written) ends
-    ∙ ap₂ (λ (a b : List ℕ). page_around a b history_end) (draws ∙ ap₂ (picture h es w) known why) (says ∙ ap compact_text is)
+    ∙ ap₂ (λ (a b : List ℕ). page_around a b history_end)
+    (draws ∙ ap₂ (picture h es w) known why) (says ∙ ap compact_text is)
 
 read_as : (d e : Data) → d ≡ e → read (compact_text d) ≡ Some d → read (compact_text e) ≡ Some e
 read_as d e is reads = ap (λ (x : Data). read (compact_text x)) (sym is) ∙ (reads ∙ ap Some is)
@@ -44,7 +45,8 @@ returns-clause-text c =
     ∙ ap (λ (a : Account). option_map (λ b. b.step) a.blame) c.requires.told in
     let why = c.caption-reason.ensures ∙ ap (λ (a : Account). caption_by a.verdict) c.requires.told in
     page_is_text h es c.args.window c.caption-reason.result.now c.forbidden_step-forbidden.result
-    (page_json h es span.before span.last) c.as_str.result.now c.as_str-2.result.now c.history_end.result.now _ known why
+    (page_json h es span.before span.last) c.as_str.result.now c.as_str-2.result.now c.history_end.result.now _
+    known why
     (span_data h es c.args.window c.forbidden_step-forbidden.result span.before span.last known
     (c.of-span.ensures.last ∙ ap (shown_last c.args.window) c.showable.ensures.value) c.of-span.ensures.before)
     (c.as_str.ensures.value ∙ c.in_ok-picture.ensures.picture)

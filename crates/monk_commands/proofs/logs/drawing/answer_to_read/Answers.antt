@@ -11,8 +11,8 @@ returns-clause-answer c =
       fits = λ fits. record {
         run = c.in_ok-run.run';
         is = c.in_ok-run.ensures;
-        shown = subst (λ (lines : List LogLine). IsRunShown c.args.show c.args.window c.args.header.now c.in_ok-run.run' lines
-            a.status (string_bytes a.text)) c.drawn_lines-drawn.ensures is;
+        shown = subst (λ (lines : List LogLine). IsRunShown c.args.show c.args.window c.args.header.now
+            c.in_ok-run.run' lines a.status (string_bytes a.text)) c.drawn_lines-drawn.ensures is;
       };
       too_big = λ big. absurd (search rules);
     }) c.shown_if_there.ensures.answer
