@@ -56,7 +56,7 @@ fn answer_to_log(
         return too_big(alloc);
     }
     let run = run(alloc, header, lines)?;
-    given(alloc, header, &run)
+    Ok(given(alloc, header, &run)?)
 }
 
 /// The answer to a text.
