@@ -1,6 +1,6 @@
 //! The line that answers an input, and its status.
 
-ghost use Rattle.std.specs.Prelude.{◌≡◌, ◌≢◌, ◌≤◌, ℕ, List, false, true, IfOk, OnErr, Err, IsErrOf, string_bytes};
+ghost use Rattle.std.specs.Prelude.{◌≡◌, ◌≢◌, ◌≤◌, ℕ, List, false, true, IfOk, OnErr, Err, string_bytes};
 ghost use Rattle.std.specs.Io.KnownBytes.{Appends};
 ghost use Rattle.monk_history.specs.Text.Device.{inner_of, has_failed};
 ghost use Rattle.monk_history.specs.Text.Faults.{memory};
@@ -11,7 +11,7 @@ ghost use Rattle.monk_commands.specs.Answer.{answer_of, behind, verdict_answer, 
 use crate::fault::StreamFault;
 use monk_audit::{TextVerdict, Verdict};
 use monk_history::{Device, ReadFault};
-use std::alloc::Global;
+use std::alloc::{AllocError, Global};
 use std::io::Write;
 
 /// A line, and the status that goes with it.
@@ -25,11 +25,10 @@ pub(crate) struct LineAnswer {
 pub(crate) fn answer_to(
     alloc: Global,
     found: Result<TextVerdict, ReadFault>,
-) -> Result<LineAnswer, StreamFault>
+) -> Result<LineAnswer, AllocError>
     ensures answer { (input : List ℕ) → Gives same found (text_verdict input) → IfOk result
         (λ a. (a.status ≡ (answer_of input).status) × (string_bytes a.text ≡ (answer_of input).text)) }
     ensures status { IfOk result (λ a. a.status ≤ 2) }
-    ensures no_file { IsErrOf result StreamFault.File → ⊥ }
 {
     match found {
         Ok(TextVerdict::Judged(verdict)) => verdict_answer(alloc, verdict),
@@ -39,15 +38,14 @@ pub(crate) fn answer_to(
 }
 
 /// The answer to a text with a fault; where the fault is want of memory, there is none.
-pub(crate) fn unreadable(alloc: Global, fault: ReadFault) -> Result<LineAnswer, StreamFault>
+pub(crate) fn unreadable(alloc: Global, fault: ReadFault) -> Result<LineAnswer, AllocError>
     ensures answer { IfOk result
         (λ a. (fault ≢ memory) × (a.status ≡ (unreadable fault).status)
         × (string_bytes a.text ≡ (unreadable fault).text)) }
     ensures status { IfOk result (λ a. a.status ≤ 2) }
-    ensures no_file { IsErrOf result StreamFault.File → ⊥ }
 {
     if fault.number == ReadFault::MEMORY {
-        return Err(StreamFault::Memory);
+        return Err(AllocError);
     }
     let word = fault_word(fault.number);
     let text = format!(in alloc; "unreadable {} {} {word}\n", fault.line, fault.number)?;
@@ -55,10 +53,9 @@ pub(crate) fn unreadable(alloc: Global, fault: ReadFault) -> Result<LineAnswer, 
 }
 
 /// The answer to a size above the object's greatest.
-pub(crate) fn too_big(alloc: Global) -> Result<LineAnswer, StreamFault>
+pub(crate) fn too_big(alloc: Global) -> Result<LineAnswer, AllocError>
     ensures answer { IfOk result (λ a. (a.status ≡ too_big.status) × (string_bytes a.text ≡ too_big.text)) }
     ensures status { IfOk result (λ a. a.status ≤ 2) }
-    ensures no_file { IsErrOf result StreamFault.File → ⊥ }
 {
     let text = String::from_str(alloc, "object\n")?;
     Ok(LineAnswer { status: 2, text })
@@ -91,11 +88,10 @@ fn fault_word(number: u8) -> &'static str
     }
 }
 
-pub(crate) fn verdict_answer(alloc: Global, verdict: Verdict) -> Result<LineAnswer, StreamFault>
+pub(crate) fn verdict_answer(alloc: Global, verdict: Verdict) -> Result<LineAnswer, AllocError>
     ensures answer { IfOk result (λ a. let j = verdict_answer verdict in
         (a.status ≡ j.status) × (string_bytes a.text ≡ j.text)) }
     ensures status { IfOk result (λ a. a.status ≤ 2) }
-    ensures no_file { IsErrOf result StreamFault.File → ⊥ }
 {
     let text = format!(in alloc; "{verdict}\n")?;
     let status = match verdict {
@@ -106,10 +102,9 @@ pub(crate) fn verdict_answer(alloc: Global, verdict: Verdict) -> Result<LineAnsw
 }
 
 /// The answer where events are asked for that are behind the last that can be shown.
-pub(crate) fn behind(alloc: Global, last: usize) -> Result<LineAnswer, StreamFault>
+pub(crate) fn behind(alloc: Global, last: usize) -> Result<LineAnswer, AllocError>
     ensures answer { IfOk result (λ a. (a.status ≡ (behind last).status) × (string_bytes a.text ≡ (behind last).text)) }
     ensures status { IfOk result (λ a. a.status ≤ 2) }
-    ensures no_file { IsErrOf result StreamFault.File → ⊥ }
 {
     let text = format!(in alloc; "window {last}\n")?;
     Ok(LineAnswer { status: 2, text })

@@ -1,6 +1,6 @@
 //! The completing stream: the text of a log in, the text of a legal history that tells it out, or why there is none.
 
-ghost use Rattle.std.specs.Prelude.{◌≡◌, ◌≤◌, ◌^◌, ◌↔◌, false, true, length, IfOk, IfSome, IsErrOf, Err, OnErr};
+ghost use Rattle.std.specs.Prelude.{◌≡◌, ◌≤◌, ◌^◌, ◌↔◌, false, true, length, IfOk, IfSome, Err, OnErr};
 ghost use Rattle.std.specs.Prelude.{IsTrue, List};
 ghost use Rattle.std.specs.Io.KnownBytes.{Appends};
 ghost use Rattle.monk_history.specs.declared.event.Event.{Event};
@@ -20,7 +20,7 @@ use monk_completion::{Blame, Completion, complete};
 use monk_history::{Device, Event, Header, write};
 use monk_kinds::KindName;
 use monk_logs::{LogHeader, LogLine, read_log};
-use std::alloc::Global;
+use std::alloc::{AllocError, Global};
 use std::io::{Read, Write};
 
 /// The header of a history of the kind over what the log's first line names, in the version that has every event.
@@ -41,9 +41,8 @@ pub(crate) fn misfit_line(
     kind: KindName,
     line: u32,
     blame: Blame,
-) -> Result<Vec<u8>, StreamFault>
+) -> Result<Vec<u8>, AllocError>
     ensures line { IfOk result (λ page. page.items ≡ (misfit_answer kind line blame).text) }
-    ensures no_file { IsErrOf result StreamFault.File → ⊥ }
 {
     let (number, word) = (blame.number(), blame.text());
     let told = format!(in alloc; " misfit {line} {number} {word}\n")?;

@@ -1,6 +1,6 @@
 //! The explaining stream: the text of a history or of a log in, its verdict, how things stand and what is wrong out.
 
-ghost use Rattle.std.specs.Prelude.{◌≡◌, ◌≤◌, ◌^◌, ◌↔◌, false, None, length, IfOk, IfSome, IsErrOf, Ok, string_bytes};
+ghost use Rattle.std.specs.Prelude.{◌≡◌, ◌≤◌, ◌^◌, ◌↔◌, false, None, length, IfOk, IfSome, Ok, string_bytes};
 ghost use Rattle.monk_history.specs.Text.Device.{inner_of, has_failed};
 ghost use Rattle.monk_history.specs.Text.Reading.{history};
 ghost use Rattle.monk_tell.specs.Told.{telling_of};
@@ -20,16 +20,15 @@ use monk_audit::{AuditFault, under};
 use monk_history::{Device, Event, Header, read};
 use monk_kinds::KindName;
 use monk_tell::{Telling, tell};
-use std::alloc::Global;
+use std::alloc::{AllocError, Global};
 use std::io::{Read, Write};
 
 /// The line of the verdict, and what is told behind it.
-fn told(alloc: Global, telling: &Telling) -> Result<LineAnswer, StreamFault>
+fn told(alloc: Global, telling: &Telling) -> Result<LineAnswer, AllocError>
     ensures answer { IfOk result
         (λ a. (a.status ≡ (told_answer (telling_of telling.now)).status)
         × (string_bytes a.text ≡ (told_answer (telling_of telling.now)).text)) }
     ensures status { IfOk result (λ a. a.status ≤ 2) }
-    ensures no_file { IsErrOf result StreamFault.File → ⊥ }
 {
     let mut answer = verdict_answer(alloc, telling.verdict)?;
     write!(answer.text, "{telling}")?;
@@ -41,25 +40,23 @@ pub(crate) fn explained(
     alloc: Global,
     header: &Header,
     events: &[Event],
-) -> Result<LineAnswer, StreamFault>
+) -> Result<LineAnswer, AllocError>
     requires few { length events.now ≤ 2 ^ 25 }
     ensures answer { IfOk result
         (λ a. IsExplained (Ok (history header.now events.now)) a.status (λ text. string_bytes a.text ≡ text)) }
     ensures status { IfOk result (λ a. a.status ≤ 2) }
-    ensures no_file { IsErrOf result StreamFault.File → ⊥ }
 {
     match tell(alloc, header, events) {
         Ok(telling) => told(alloc, &telling),
         Err(AuditFault::Object) => too_big(alloc),
-        Err(AuditFault::Memory) => Err(StreamFault::Memory),
+        Err(AuditFault::Memory) => Err(AllocError),
     }
 }
 
 /// The answer to the text of a history under its own kind.
-fn answer_to_history(alloc: Global, bytes: &[u8]) -> Result<LineAnswer, StreamFault>
+fn answer_to_history(alloc: Global, bytes: &[u8]) -> Result<LineAnswer, AllocError>
     ensures answer { IfOk result (λ a. IsExplanationOf bytes.now a.status (λ text. string_bytes a.text ≡ text)) }
     ensures status { IfOk result (λ a. a.status ≤ 2) }
-    ensures no_file { IsErrOf result StreamFault.File → ⊥ }
 {
     match read(alloc, bytes) {
         Ok((header, events)) => explained(alloc, &header, &events),
@@ -68,11 +65,10 @@ fn answer_to_history(alloc: Global, bytes: &[u8]) -> Result<LineAnswer, StreamFa
 }
 
 /// The answer to the text of a history under that kind.
-fn answer_under(alloc: Global, kind: KindName, bytes: &[u8]) -> Result<LineAnswer, StreamFault>
+fn answer_under(alloc: Global, kind: KindName, bytes: &[u8]) -> Result<LineAnswer, AllocError>
     ensures answer { IfOk result
         (λ a. IsExplanationUnder kind bytes.now a.status (λ text. string_bytes a.text ≡ text)) }
     ensures status { IfOk result (λ a. a.status ≤ 2) }
-    ensures no_file { IsErrOf result StreamFault.File → ⊥ }
 {
     match read(alloc, bytes) {
         Ok((header, events)) => explained(alloc, &under(&header, kind), &events),
@@ -85,10 +81,9 @@ fn answer_to_text(
     alloc: Global,
     question: Question<'_>,
     bytes: Vec<u8>,
-) -> Result<LineAnswer, StreamFault>
+) -> Result<LineAnswer, AllocError>
     ensures answer { IfOk result (λ a. IsExplainAnswer question.entry bytes.items a.status (string_bytes a.text)) }
     ensures status { IfOk result (λ a. a.status ≤ 2) }
-    ensures no_file { IsErrOf result StreamFault.File → ⊥ }
 {
     if is_log(&bytes) {
         return answer_to_log(alloc, LogView::Explanation, question, bytes);

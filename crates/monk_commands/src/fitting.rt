@@ -1,6 +1,6 @@
 //! The fitting stream: the text of a history or of a log in, how it is judged out.
 
-ghost use Rattle.std.specs.Prelude.{◌≡◌, ◌≤◌, ◌^◌, ◌++◌, ◌↔◌, false, None, length, IfOk, OnOk, IfSome, IsErrOf, string_bytes};
+ghost use Rattle.std.specs.Prelude.{◌≡◌, ◌≤◌, ◌^◌, ◌++◌, ◌↔◌, false, None, length, IfOk, OnOk, IfSome, string_bytes};
 ghost use Rattle.monk_object.specs.Names.{most};
 ghost use Rattle.monk_history.specs.Text.Device.{inner_of, has_failed};
 ghost use Rattle.monk_kinds.specs.Names.{kinds};
@@ -29,15 +29,14 @@ fn verdict_under(
     header: &Header,
     events: &[Event],
     kind: KindName,
-) -> Result<Verdict, StreamFault>
+) -> Result<Verdict, AllocError>
     requires few { length events.now ≤ 2 ^ 25 }
     requires fits { header.now.size ≤ most header.now.object }
     ensures verdict { IfOk result (λ v. v ≡ verdict_under header.now events.now kind) }
-    ensures no_file { IsErrOf result StreamFault.File → ⊥ }
 {
     match audit(alloc, &under(header, kind), events) {
         Ok(verdict) => Ok(verdict),
-        Err(AuditFault::Memory) => Err(StreamFault::Memory),
+        Err(AuditFault::Memory) => Err(AllocError),
         // The size is within the object's greatest.
         Err(AuditFault::Object) => unreachable!(),
     }
@@ -50,12 +49,11 @@ fn put_line(
     header: &Header,
     events: &[Event],
     kind: KindName,
-) -> Result<bool, StreamFault>
+) -> Result<bool, AllocError>
     requires few { length events.now ≤ 2 ^ 25 }
     requires fits { header.now.size ≤ most header.now.object }
     ensures line { OnOk result (string_bytes page.new ≡ string_bytes page.old ++ fit_line header.now events.now kind) }
     ensures fit { IfOk result (λ fits. fits ≡ is_fit (verdict_under header.now events.now kind)) }
-    ensures no_file { IsErrOf result StreamFault.File → ⊥ }
 {
     let verdict = verdict_under(alloc, header, events, kind)?;
     let answer = verdict_answer(alloc, verdict)?;
@@ -70,12 +68,11 @@ fn all_lines(
     alloc: Global,
     header: &Header,
     events: &[Event],
-) -> Result<(String, bool), StreamFault>
+) -> Result<(String, bool), AllocError>
     requires few { length events.now ≤ 2 ^ 25 }
     requires fits { header.now.size ≤ most header.now.object }
     ensures lines { IfOk result (λ r. string_bytes r.0 ≡ fit_lines header.now events.now kinds) }
     ensures fit { IfOk result (λ r. r.1 ≡ fits_some header.now events.now kinds) }
-    ensures no_file { IsErrOf result StreamFault.File → ⊥ }
 {
     let mut page = String::new(alloc);
     let mut is_fit = false;
@@ -87,12 +84,11 @@ fn all_lines(
 }
 
 /// The answer to a history under each kind.
-fn fit(alloc: Global, header: &Header, events: &[Event]) -> Result<LineAnswer, StreamFault>
+fn fit(alloc: Global, header: &Header, events: &[Event]) -> Result<LineAnswer, AllocError>
     requires few { length events.now ≤ 2 ^ 25 }
     ensures answer { IfOk result
         (λ a. answered.IsOf (fit_answer header.now events.now) a.status (string_bytes a.text)) }
     ensures status { IfOk result (λ a. a.status ≤ 2) }
-    ensures no_file { IsErrOf result StreamFault.File → ⊥ }
 {
     if header.size() > header.object().greatest_size() {
         return too_big(alloc);
@@ -108,12 +104,11 @@ fn fit_under(
     kind: KindName,
     header: &Header,
     events: &[Event],
-) -> Result<LineAnswer, StreamFault>
+) -> Result<LineAnswer, AllocError>
     requires few { length events.now ≤ 2 ^ 25 }
     ensures answer { IfOk result
         (λ a. answered.IsOf (answered.kind_fit_answer kind header.now events.now) a.status (string_bytes a.text)) }
     ensures status { IfOk result (λ a. a.status ≤ 2) }
-    ensures no_file { IsErrOf result StreamFault.File → ⊥ }
 {
     if header.size() > header.object().greatest_size() {
         return too_big(alloc);
@@ -125,10 +120,9 @@ fn fit_under(
 }
 
 /// The answer to the text of a history under each kind.
-fn answer_to_history(alloc: Global, bytes: &[u8]) -> Result<LineAnswer, StreamFault>
+fn answer_to_history(alloc: Global, bytes: &[u8]) -> Result<LineAnswer, AllocError>
     ensures answer { IfOk result (λ a. answered.IsOf (fit_of bytes.now) a.status (string_bytes a.text)) }
     ensures status { IfOk result (λ a. a.status ≤ 2) }
-    ensures no_file { IsErrOf result StreamFault.File → ⊥ }
 {
     match read(alloc, bytes) {
         Ok((header, events)) => fit(alloc, &header, &events),
@@ -137,11 +131,10 @@ fn answer_to_history(alloc: Global, bytes: &[u8]) -> Result<LineAnswer, StreamFa
 }
 
 /// The answer to the text of a history under the kind.
-fn answer_under(alloc: Global, kind: KindName, bytes: &[u8]) -> Result<LineAnswer, StreamFault>
+fn answer_under(alloc: Global, kind: KindName, bytes: &[u8]) -> Result<LineAnswer, AllocError>
     ensures answer { IfOk result
         (λ a. answered.IsOf (answered.kind_fit_of kind bytes.now) a.status (string_bytes a.text)) }
     ensures status { IfOk result (λ a. a.status ≤ 2) }
-    ensures no_file { IsErrOf result StreamFault.File → ⊥ }
 {
     match read(alloc, bytes) {
         Ok((header, events)) => fit_under(alloc, kind, &header, &events),
@@ -164,14 +157,13 @@ fn fit_history(
     alloc: Global,
     question: Question<'_>,
     bytes: &[u8],
-) -> Result<LineAnswer, StreamFault>
+) -> Result<LineAnswer, AllocError>
     ensures answer { IfOk result (λ a. answered.IsHistoryFit question.entry.kind question.entry.name.now bytes.now
         a.status (string_bytes a.text)) }
     ensures status { IfOk result (λ a. a.status ≤ 2) }
-    ensures no_file { IsErrOf result StreamFault.File → ⊥ }
 {
     match question.kind {
-        Some(kind) => Ok(named(alloc, question.name, answer_under(alloc, kind, bytes)?)?),
+        Some(kind) => named(alloc, question.name, answer_under(alloc, kind, bytes)?),
         None => answer_to_history(alloc, bytes),
     }
 }
@@ -182,16 +174,15 @@ fn fit_log(
     form: FitForm,
     question: Question<'_>,
     bytes: Vec<u8>,
-) -> Result<LineAnswer, StreamFault>
+) -> Result<LineAnswer, AllocError>
     ensures answer { IfOk result
         (λ a. answered.IsLogFit form question.entry bytes.items a.status (string_bytes a.text)) }
     ensures status { IfOk result (λ a. a.status ≤ 2) }
-    ensures no_file { IsErrOf result StreamFault.File → ⊥ }
 {
     match form {
         FitForm::Words => {
             let answer = answer_to_log(alloc, LogView::Line, question, bytes)?;
-            Ok(named(alloc, question.name, answer)?)
+            named(alloc, question.name, answer)
         }
         FitForm::Json => answer_to_log(alloc, LogView::Json, question, bytes),
     }
@@ -203,11 +194,10 @@ fn fit_text(
     form: FitForm,
     question: Question<'_>,
     bytes: Vec<u8>,
-) -> Result<LineAnswer, StreamFault>
+) -> Result<LineAnswer, AllocError>
     ensures answer { IfOk result
         (λ a. answered.IsFitAnswer form question.entry bytes.items a.status (string_bytes a.text)) }
     ensures status { IfOk result (λ a. a.status ≤ 2) }
-    ensures no_file { IsErrOf result StreamFault.File → ⊥ }
 {
     if is_log(&bytes) {
         fit_log(alloc, form, question, bytes)

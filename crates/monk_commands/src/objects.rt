@@ -1,23 +1,21 @@
 //! The objects that a play may name, as they are at its start.
 
-ghost use Rattle.std.specs.Prelude.{◌≡◌, ◌≤◌, IfOk, IsErrOf};
+ghost use Rattle.std.specs.Prelude.{◌≡◌, ◌≤◌, IfOk};
 ghost use Rattle.monk_object.specs.Names.{most, opening_named};
 ghost use Rattle.monk_object.specs.declared.name.ObjectName.TheVariants as object;
 
-use crate::fault::StreamFault;
 use monk_object::{Book, Buffer, Flags, ObjectFault, Shop};
-use std::alloc::Global;
+use std::alloc::{AllocError, Global};
 
 /// A buffer with no items.
-pub(crate) fn buffer(alloc: Global, size: u8) -> Result<Buffer, StreamFault>
+pub(crate) fn buffer(alloc: Global, size: u8) -> Result<Buffer, AllocError>
     requires some { 1 ≤ size }
     requires few { size ≤ most object.Buffer }
     ensures made { IfOk result (λ b. b ≡ opening_named object.Buffer size) }
-    ensures no_file { IsErrOf result StreamFault.File → ⊥ }
 {
     match Buffer::make(alloc, size) {
         Ok(buffer) => Ok(buffer),
-        Err(ObjectFault::Memory) => Err(StreamFault::Memory),
+        Err(ObjectFault::Memory) => Err(AllocError),
         Err(_) => unreachable!(),
     }
 }

@@ -62,30 +62,28 @@ pub(crate) fn audited(
     header: &Header,
     history: &[Event],
     text: String,
-) -> Result<LineAnswer, StreamFault>
+) -> Result<LineAnswer, AllocError>
     requires legal { IsLegal (named_monitor header.now) history.now }
     requires few { length history.now ≤ 2 ^ 24 }
     requires size { header.now.size ≤ most header.now.object }
     ensures answer { IfOk result (λ a. (a.status ≡ 0) × (string_bytes a.text ≡ string_bytes text)) }
-    ensures no_file { IsErrOf result StreamFault.File → ⊥ }
 {
     match audit(alloc, header, history) {
         Ok(Verdict::Legal(_)) => Ok(LineAnswer { status: 0, text }),
         Ok(Verdict::Forbidden { step, reason }) => {
             verdict_answer(alloc, Verdict::Forbidden { step, reason })
         }
-        Err(AuditFault::Memory) => Err(StreamFault::Memory),
+        Err(AuditFault::Memory) => Err(AllocError),
         // The size is within the object's greatest.
         Err(AuditFault::Object) => unreachable!(),
     }
 }
 
 /// The answer to a run that left this: its totals, once its history was found legal.
-fn audited_run(alloc: Global, sample: Sample, outcome: &Outcome) -> Result<LineAnswer, StreamFault>
+fn audited_run(alloc: Global, sample: Sample, outcome: &Outcome) -> Result<LineAnswer, AllocError>
     requires { (k : _) × IsOutcome k (patiently sample) outcome.now.header.seats outcome.now.header
         outcome.now.history.items outcome.now.totals }
     ensures answer { IfOk result (λ a. (a.status ≡ 0) × (string_bytes a.text ≡ totals_text sample outcome.now.totals)) }
-    ensures no_file { IsErrOf result StreamFault.File → ⊥ }
 {
     let text = told(alloc, sample, &outcome.totals)?;
     audited(alloc, &outcome.header, &outcome.history, text)

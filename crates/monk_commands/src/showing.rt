@@ -1,6 +1,6 @@
 //! The showing stream: the text of a history or of a log in, a picture of it or a page out.
 
-ghost use Rattle.std.specs.Prelude.{◌≡◌, ◌≤◌, ◌^◌, false, length, IfOk, IfSome, IsErrOf, string_bytes};
+ghost use Rattle.std.specs.Prelude.{◌≡◌, ◌≤◌, ◌^◌, false, length, IfOk, IfSome, string_bytes};
 ghost use Rattle.monk_object.specs.Names.{most};
 ghost use Rattle.monk_history.specs.Text.Device.{inner_of, has_failed};
 ghost use Rattle.monk_commands.specs.Answer.{verdict_answer};
@@ -19,7 +19,7 @@ use monk_audit::{AuditFault, Verdict, audit};
 use monk_draw::{Window, draw, is_behind, showable};
 use monk_history::{Device, Event, Header, read};
 use monk_page::page;
-use std::alloc::Global;
+use std::alloc::{AllocError, Global};
 use std::io::{Read, Write};
 
 /// The step that the verdict forbids.
@@ -49,20 +49,19 @@ fn shown_text(
     events: &[Event],
     window: Option<Window>,
     verdict: Verdict,
-) -> Result<String, StreamFault>
+) -> Result<String, AllocError>
     requires few { length events.now ≤ 2 ^ 25 }
     requires fits { header.now.size ≤ most header.now.object }
     ensures text { IfOk result (λ text. string_bytes text ≡ shown_text show window verdict header.now events.now) }
-    ensures no_file { IsErrOf result StreamFault.File → ⊥ }
 {
     match show {
         Show::Picture => {
             let step = forbidden_step(verdict);
-            Ok(draw(alloc, header, events, window, step, verdict.caption())?)
+            draw(alloc, header, events, window, step, verdict.caption())
         }
         Show::Page => match page(alloc, header, events, window) {
             Ok(page) => Ok(page),
-            Err(AuditFault::Memory) => Err(StreamFault::Memory),
+            Err(AuditFault::Memory) => Err(AllocError),
             Err(AuditFault::Object) => unreachable!(),
         },
     }
@@ -76,13 +75,12 @@ fn shown(
     events: &[Event],
     window: Option<Window>,
     verdict: Verdict,
-) -> Result<LineAnswer, StreamFault>
+) -> Result<LineAnswer, AllocError>
     requires few { length events.now ≤ 2 ^ 25 }
     requires fits { header.now.size ≤ most header.now.object }
     ensures answer { IfOk result (λ a. IsShownBy show window verdict header.now events.now a.status
         (λ t. string_bytes a.text ≡ t)) }
     ensures status { IfOk result (λ a. a.status ≤ 2) }
-    ensures no_file { IsErrOf result StreamFault.File → ⊥ }
 {
     let text = shown_text(alloc, show, header, events, window, verdict)?;
     Ok(LineAnswer {
@@ -99,13 +97,12 @@ fn shown_if_there(
     events: &[Event],
     window: Option<Window>,
     verdict: Verdict,
-) -> Result<LineAnswer, StreamFault>
+) -> Result<LineAnswer, AllocError>
     requires few { length events.now ≤ 2 ^ 25 }
     requires fits { header.now.size ≤ most header.now.object }
     ensures answer { IfOk result (λ a. IsAnsweredBy show window verdict header.now events.now a.status
         (λ t. string_bytes a.text ≡ t)) }
     ensures status { IfOk result (λ a. a.status ≤ 2) }
-    ensures no_file { IsErrOf result StreamFault.File → ⊥ }
 {
     let last = showable(forbidden_step(verdict), events.len());
     if is_behind(window, last) {
@@ -122,16 +119,15 @@ fn show_history(
     header: &Header,
     events: &[Event],
     window: Option<Window>,
-) -> Result<LineAnswer, StreamFault>
+) -> Result<LineAnswer, AllocError>
     requires few { length events.now ≤ 2 ^ 25 }
     ensures answer { IfOk result
         (λ a. IsShown show window header.now events.now a.status (λ t. string_bytes a.text ≡ t)) }
     ensures status { IfOk result (λ a. a.status ≤ 2) }
-    ensures no_file { IsErrOf result StreamFault.File → ⊥ }
 {
     match audit(alloc, header, events) {
         Ok(verdict) => shown_if_there(alloc, show, header, events, window, verdict),
-        Err(AuditFault::Memory) => Err(StreamFault::Memory),
+        Err(AuditFault::Memory) => Err(AllocError),
         Err(AuditFault::Object) => too_big(alloc),
     }
 }
@@ -142,11 +138,10 @@ fn show_history_text(
     show: Show,
     bytes: &[u8],
     window: Option<Window>,
-) -> Result<LineAnswer, StreamFault>
+) -> Result<LineAnswer, AllocError>
     ensures answer { IfOk result
         (λ a. IsShowingOf show window bytes.now a.status (λ t. string_bytes a.text ≡ t)) }
     ensures status { IfOk result (λ a. a.status ≤ 2) }
-    ensures no_file { IsErrOf result StreamFault.File → ⊥ }
 {
     match read(alloc, bytes) {
         Ok((header, events)) => show_history(alloc, show, &header, &events, window),
@@ -160,10 +155,9 @@ fn show_text(
     show: Show,
     bytes: &[u8],
     window: Option<Window>,
-) -> Result<LineAnswer, StreamFault>
+) -> Result<LineAnswer, AllocError>
     ensures answer { IfOk result (λ a. IsShowAnswer show window bytes.now a.status (string_bytes a.text)) }
     ensures status { IfOk result (λ a. a.status ≤ 2) }
-    ensures no_file { IsErrOf result StreamFault.File → ⊥ }
 {
     if is_log(bytes) {
         show_log(alloc, show, window, bytes)

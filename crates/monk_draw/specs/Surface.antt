@@ -19,23 +19,16 @@ picture_height lanes = lane_at lanes + 70
 abbrev pub columns_foot : ℕ → ℕ
 columns_foot lanes = lane_at lanes - 31
 
--- how the picture begins
-unfoldable pub opening : List ℕ
-opening = codes "<svg xmlns=\"http://www.w3.org/2000/svg\" role=\"img\" "
+-- how the picture begins: its size and its title
+unfoldable pub opening : ℕ → ℕ → List ℕ
+opening width height =
+    codes "<svg xmlns=\"http://www.w3.org/2000/svg\" role=\"img\" viewBox=\"0 0 " ++ (decimal width ++ (codes " "
+    ++ (decimal height ++ (codes "\" width=\"" ++ (decimal width ++ (codes "\" height=\"" ++ (decimal height
+    ++ codes "\">\n<title>The history of a monitor</title>\n")))))))
 
--- the size of the picture
-unfoldable pub sized : ℕ → ℕ → List ℕ
-sized width height =
-    codes "viewBox=\"0 0 " ++ (decimal width ++ (codes " " ++ (decimal height ++ (codes "\" width=\"" ++ (decimal width
-    ++ (codes "\" height=\"" ++ (decimal height ++ codes "\">\n")))))))
-
--- the title of the picture
-unfoldable pub head_title : List ℕ
-head_title = codes "<title>The history of a monitor</title>\n"
-
--- how the picture begins
+-- how the picture of so many columns and lanes begins
 abbrev pub head : ℕ → ℕ → List ℕ
-head columns lanes = opening ++ (sized (picture_width columns) (picture_height lanes) ++ head_title)
+head columns lanes = opening (picture_width columns) (picture_height lanes)
 
 -- the ground of the picture
 unfoldable pub background : List ℕ
@@ -52,31 +45,19 @@ unfoldable pub columns_below : ℕ → ℕ → List ℕ
 columns_below foot zero = []
 columns_below foot (suc column) = columns_below foot column ++ column_line foot (column_at column)
 
--- the rail of a lane, and its name: the seat, or that there is none
-unfoldable pub rail : ℕ → ℕ → List ℕ
-rail end y =
-    codes "<line class=\"rail\" x1=\"" ++ (decimal 84 ++ (codes "\" x2=\"" ++ (decimal end ++ (codes "\" y1=\""
-    ++ (decimal y ++ (codes "\" y2=\"" ++ (decimal y ++ codes "\"/>\n")))))))
-
--- the name of a seat at its lane
-unfoldable pub seat_name : ℕ → ℕ → List ℕ
-seat_name base seat =
-    codes "<text x=\"16\" y=\"" ++ (decimal base ++ (codes "\">seat " ++ (decimal seat ++ codes "</text>\n")))
-
--- the name of the lane of a seat that there isn't
-unfoldable pub no_seat_name : ℕ → List ℕ
-no_seat_name base = codes "<text x=\"16\" y=\"" ++ (decimal base ++ codes "\">no seat</text>\n")
-
--- the name of a lane
+-- the name of the seat of a lane, or that there is none
 abbrev pub lane_name : ℕ → ℕ → List ℕ
-lane_name seats lane =
-    if nat_lt lane seats then seat_name (lane_at lane + 4) lane else no_seat_name (lane_at lane + 4)
+lane_name seats lane = if nat_lt lane seats then codes "seat " ++ decimal lane else codes "no seat"
 
--- a lane: its rail and its name
-abbrev pub lane_text : ℕ → ℕ → ℕ → List ℕ
-lane_text end seats lane = rail end (lane_at lane) ++ lane_name seats lane
+-- a lane: its rail there, and its name on that line
+unfoldable pub lane_text : ℕ → ℕ → ℕ → ℕ → ℕ → List ℕ
+lane_text end y base seats lane =
+    codes "<line class=\"rail\" x1=\"84\" x2=\"" ++ (decimal end ++ (codes "\" y1=\""
+    ++ (decimal y ++ (codes "\" y2=\"" ++ (decimal y ++ (codes "\"/>\n<text x=\"16\" y=\"" ++ (decimal base
+    ++ (codes "\">" ++ (lane_name seats lane ++ codes "</text>\n")))))))))
 
 -- the lanes below that number
 unfoldable pub lanes_below : ℕ → ℕ → ℕ → List ℕ
 lanes_below end seats zero = []
-lanes_below end seats (suc lane) = lanes_below end seats lane ++ lane_text end seats lane
+lanes_below end seats (suc lane) =
+    lanes_below end seats lane ++ lane_text end (lane_at lane) (lane_at lane + 4) seats lane

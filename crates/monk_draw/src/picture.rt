@@ -18,7 +18,7 @@ use crate::scene::put_stretches;
 use crate::seats::DrawnSeats;
 use crate::span::{Span, showable};
 use crate::standing::Standing;
-use crate::style::put_style;
+use crate::style::style;
 use crate::surface::{Surface, put_background};
 use crate::tags::put_tags;
 use crate::view::View;
@@ -86,7 +86,7 @@ fn put_ground(
         ≡ string_bytes page.old ++ ground header.now seats surface.columns surface.lanes) }
 {
     surface.put_head(page)?;
-    put_style(page)?;
+    page.push_str(style())?;
     put_background(page)?;
     put_heading(page, header)?;
     surface.put_columns(page)?;

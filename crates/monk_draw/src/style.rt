@@ -1,13 +1,10 @@
 //! Colours and hatchings, in light and dark.
 
-ghost use Rattle.std.specs.Prelude.{◌≡◌, ◌++◌, OnOk, string_bytes};
-ghost use Rattle.monk_draw.specs.Style.{dark, definitions, hatching, hatchings, pattern_back, pattern_named, pattern_stripe};
-ghost use Rattle.monk_draw.specs.Style.{pattern_turned, shapes, sheet, style, texts, tip, tip_named, tip_shape, tip_turned};
+ghost use Rattle.std.specs.Prelude.{◌≡◌};
+ghost use Rattle.monk_draw.specs.Style.{style};
 
-use std::alloc::AllocError;
-
-/// Of what is written.
-const TEXTS: &str = "<style>
+/// The style sheet, the hatchings of the places and the tips of the arrows.
+pub(crate) const STYLE: &str = "<style>
 svg { font: 12px ui-sans-serif, system-ui, Helvetica, Arial, sans-serif; }
 text { fill: #1f2933; }
 .head { font-size: 15px; font-weight: 600; }
@@ -19,10 +16,7 @@ text { fill: #1f2933; }
 .tag { font-size: 10px; stroke: #fff; stroke-width: 6; stroke-linejoin: round; paint-order: stroke; }
 .wrong { fill: #c53030; }
 .far { text-anchor: end; }
-";
-
-/// Of what is drawn.
-const SHAPES: &str = ".background { fill: #fff; }
+.background { fill: #fff; }
 .grid { stroke: #e4e8ec; }
 .rail { stroke: #b8c1ca; stroke-dasharray: 2 4; }
 .active { fill: #2f6fdb; }
@@ -39,10 +33,7 @@ const SHAPES: &str = ".background { fill: #fff; }
 .frame, .wish { stroke: #c53030; }
 .wish { stroke-dasharray: 5 3; }
 .wish-tip { fill: #c53030; }
-";
-
-/// In the dark.
-const DARK: &str = "@media (prefers-color-scheme: dark) {
+@media (prefers-color-scheme: dark) {
 text { fill: #e6ebf0; } .soft, .note, .step { fill: #a3afbb; }
 .act, .note, .what, .tag { stroke: #12171d; } .wrong, .wish-tip { fill: #fc8181; } .background { fill: #12171d; }
 .grid { stroke: #232b34; } .rail { stroke: #4a5663; } .active { fill: #5b93f0; }
@@ -50,156 +41,33 @@ text { fill: #e6ebf0; } .soft, .note, .step { fill: #a3afbb; }
 .frame, .wish { stroke: #fc8181; }
 }
 </style>
+<defs>
+<pattern id=\"entry\" width=\"6\" height=\"6\" patternUnits=\"userSpaceOnUse\" patternTransform=\"rotate(0)\">\
+<rect class=\"back\" width=\"6\" height=\"6\" fill=\"#eef1f4\"/>\
+<rect width=\"2.4\" height=\"6\" fill=\"#c3ccd5\"/></pattern>
+<pattern id=\"condition\" width=\"6\" height=\"6\" patternUnits=\"userSpaceOnUse\" patternTransform=\"rotate(45)\">\
+<rect class=\"back\" width=\"6\" height=\"6\" fill=\"#fdf0d5\"/>\
+<rect width=\"2.4\" height=\"6\" fill=\"#f6c667\"/></pattern>
+<pattern id=\"waiter\" width=\"6\" height=\"6\" patternUnits=\"userSpaceOnUse\" patternTransform=\"rotate(90)\">\
+<rect class=\"back\" width=\"6\" height=\"6\" fill=\"#e0f5e8\"/>\
+<rect width=\"2.4\" height=\"6\" fill=\"#68c08b\"/></pattern>
+<pattern id=\"signaller\" width=\"6\" height=\"6\" patternUnits=\"userSpaceOnUse\" patternTransform=\"rotate(135)\">\
+<rect class=\"back\" width=\"6\" height=\"6\" fill=\"#efe8fb\"/>\
+<rect width=\"2.4\" height=\"6\" fill=\"#a78bda\"/></pattern>
+<pattern id=\"until\" width=\"6\" height=\"6\" patternUnits=\"userSpaceOnUse\" patternTransform=\"rotate(20)\">\
+<rect class=\"back\" width=\"6\" height=\"6\" fill=\"#ddf3f1\"/>\
+<rect width=\"2.4\" height=\"6\" fill=\"#5bb8b0\"/></pattern>
+<marker id=\"hand-tip\" markerWidth=\"8\" markerHeight=\"8\" markerUnits=\"userSpaceOnUse\" \
+refX=\"6\" refY=\"4\" orient=\"auto\"><path class=\"hand-tip\" d=\"M0 0L8 4L0 8z\"/></marker>
+<marker id=\"wish-tip\" markerWidth=\"8\" markerHeight=\"8\" markerUnits=\"userSpaceOnUse\" \
+refX=\"6\" refY=\"4\" orient=\"auto\"><path class=\"wish-tip\" d=\"M0 0L8 4L0 8z\"/></marker>
+</defs>
 ";
 
-#[tactic(auto, unfolding(crate::specs::Style::pattern_named))]
-fn put_pattern_named(page: &mut String, name: &str) -> Result<(), AllocError>
-    ensures { OnOk result (string_bytes page.new ≡ string_bytes page.old ++ pattern_named name.now) }
+/// How everything is drawn.
+#[tactic(auto, unfolding(crate::specs::Style::style))]
+pub(crate) fn style() -> &'static str
+    ensures { result.now ≡ style }
 {
-    write!(page, "<pattern id=\"{name}\" width=\"6\" height=\"6\" ")
-}
-
-#[tactic(auto, unfolding(crate::specs::Style::pattern_turned))]
-fn put_pattern_turned(page: &mut String, turn: u8) -> Result<(), AllocError>
-    ensures { OnOk result (string_bytes page.new ≡ string_bytes page.old ++ pattern_turned turn) }
-{
-    write!(
-        page,
-        "patternUnits=\"userSpaceOnUse\" patternTransform=\"rotate({turn})\">"
-    )
-}
-
-#[tactic(auto, unfolding(crate::specs::Style::pattern_back))]
-fn put_pattern_back(page: &mut String, colour: &str) -> Result<(), AllocError>
-    ensures { OnOk result (string_bytes page.new ≡ string_bytes page.old ++ pattern_back colour.now) }
-{
-    write!(
-        page,
-        "<rect class=\"back\" width=\"6\" height=\"6\" fill=\"{colour}\"/>"
-    )
-}
-
-#[tactic(auto, unfolding(crate::specs::Style::pattern_stripe))]
-fn put_pattern_stripe(page: &mut String, colour: &str) -> Result<(), AllocError>
-    ensures { OnOk result (string_bytes page.new ≡ string_bytes page.old ++ pattern_stripe colour.now) }
-{
-    write!(
-        page,
-        "<rect width=\"2.4\" height=\"6\" fill=\"{colour}\"/></pattern>\n"
-    )
-}
-
-/// Puts a hatching: stripes of a colour on another, turned by so many degrees.
-#[tactic(auto, unfolding(crate::specs::Style::hatching))]
-fn put_hatching(
-    page: &mut String,
-    name: &str,
-    back: &str,
-    stripe: &str,
-    turn: u8,
-) -> Result<(), AllocError>
-    ensures { OnOk result (string_bytes page.new
-        ≡ string_bytes page.old ++ hatching name.now back.now stripe.now turn) }
-{
-    put_pattern_named(page, name)?;
-    put_pattern_turned(page, turn)?;
-    put_pattern_back(page, back)?;
-    put_pattern_stripe(page, stripe)
-}
-
-#[tactic(auto, unfolding(crate::specs::Style::tip_named))]
-fn put_tip_named(page: &mut String, name: &str) -> Result<(), AllocError>
-    ensures { OnOk result (string_bytes page.new ≡ string_bytes page.old ++ tip_named name.now) }
-{
-    write!(
-        page,
-        "<marker id=\"{name}\" markerWidth=\"8\" markerHeight=\"8\" markerUnits=\"userSpaceOnUse\" "
-    )
-}
-
-#[tactic(auto, unfolding(crate::specs::Style::tip_turned))]
-fn put_tip_turned(page: &mut String) -> Result<(), AllocError>
-    ensures { OnOk result (string_bytes page.new ≡ string_bytes page.old ++ tip_turned) }
-{
-    page.push_str("refX=\"6\" refY=\"4\" orient=\"auto\">")
-}
-
-#[tactic(auto, unfolding(crate::specs::Style::tip_shape))]
-fn put_tip_shape(page: &mut String, name: &str) -> Result<(), AllocError>
-    ensures { OnOk result (string_bytes page.new ≡ string_bytes page.old ++ tip_shape name.now) }
-{
-    write!(
-        page,
-        "<path class=\"{name}\" d=\"M0 0L8 4L0 8z\"/></marker>\n"
-    )
-}
-
-/// Puts the tip of an arrow.
-#[tactic(auto, unfolding(crate::specs::Style::tip))]
-fn put_tip(page: &mut String, name: &str) -> Result<(), AllocError>
-    ensures { OnOk result (string_bytes page.new ≡ string_bytes page.old ++ tip name.now) }
-{
-    put_tip_named(page, name)?;
-    put_tip_turned(page)?;
-    put_tip_shape(page, name)
-}
-
-#[tactic(auto, unfolding(crate::specs::Style::hatchings))]
-fn put_hatchings(page: &mut String) -> Result<(), AllocError>
-    ensures { OnOk result (string_bytes page.new ≡ string_bytes page.old ++ hatchings) }
-{
-    put_hatching(page, "entry", "#eef1f4", "#c3ccd5", 0)?;
-    put_hatching(page, "condition", "#fdf0d5", "#f6c667", 45)?;
-    put_hatching(page, "waiter", "#e0f5e8", "#68c08b", 90)?;
-    put_hatching(page, "signaller", "#efe8fb", "#a78bda", 135)?;
-    put_hatching(page, "until", "#ddf3f1", "#5bb8b0", 20)
-}
-
-#[tactic(auto, unfolding(crate::specs::Style::definitions))]
-fn put_definitions(page: &mut String) -> Result<(), AllocError>
-    ensures { OnOk result (string_bytes page.new ≡ string_bytes page.old ++ definitions) }
-{
-    page.push_str("<defs>\n")?;
-    put_hatchings(page)?;
-    put_tip(page, "hand-tip")?;
-    put_tip(page, "wish-tip")?;
-    page.push_str("</defs>\n")
-}
-
-#[tactic(auto, unfolding(crate::specs::Style::texts))]
-fn texts() -> &'static str
-    ensures { result.now ≡ texts }
-{
-    TEXTS
-}
-
-#[tactic(auto, unfolding(crate::specs::Style::shapes))]
-fn shapes() -> &'static str
-    ensures { result.now ≡ shapes }
-{
-    SHAPES
-}
-
-#[tactic(auto, unfolding(crate::specs::Style::dark))]
-fn dark() -> &'static str
-    ensures { result.now ≡ dark }
-{
-    DARK
-}
-
-#[tactic(auto, unfolding(crate::specs::Style::sheet))]
-fn put_sheet(page: &mut String) -> Result<(), AllocError>
-    ensures { OnOk result (string_bytes page.new ≡ string_bytes page.old ++ sheet) }
-{
-    page.push_str(texts())?;
-    page.push_str(shapes())?;
-    page.push_str(dark())
-}
-
-/// Puts how everything is drawn.
-pub(crate) fn put_style(page: &mut String) -> Result<(), AllocError>
-    ensures { OnOk result (string_bytes page.new ≡ string_bytes page.old ++ style) }
-{
-    put_sheet(page)?;
-    put_definitions(page)
+    STYLE
 }

@@ -2,12 +2,13 @@
 
 ghost use Rattle.std.specs.Prelude.{◌≡◌, ◌≤◌, ◌+◌, ◌*◌, ◌++◌, OnOk, string_bytes};
 ghost use Rattle.monk_draw.specs.Layout.{lane_at};
-ghost use Rattle.monk_draw.specs.Surface.{background, column_line, columns_below, columns_foot, head, head_title};
-ghost use Rattle.monk_draw.specs.Surface.{lane_name, lane_text, lanes_below, lanes_end, no_seat_name, opening};
-ghost use Rattle.monk_draw.specs.Surface.{picture_height, picture_width, rail, seat_name, sized};
+ghost use Rattle.monk_draw.specs.Surface.{background, column_line, columns_below, columns_foot, head};
+ghost use Rattle.monk_draw.specs.Surface.{lanes_below, lanes_end, opening};
+ghost use Rattle.monk_draw.specs.Surface.{picture_height, picture_width};
 
 use crate::layout::{COLUMN, LANE, LEFT, column_at, lane_at};
 use std::alloc::AllocError;
+use std::fmt;
 
 /// How large a picture is.
 #[derive(Clone, Copy)]
@@ -58,9 +59,7 @@ impl Surface {
     pub(crate) fn put_head(self, page: &mut String) -> Result<(), AllocError>
         ensures { OnOk result (string_bytes page.new ≡ string_bytes page.old ++ head self.columns self.lanes) }
     {
-        put_opening(page)?;
-        put_sized(page, self.width(), self.height())?;
-        put_head_title(page)
+        put_opening(page, self.width(), self.height())
     }
 
     /// Puts a thin line for each column.
@@ -84,34 +83,32 @@ impl Surface {
     {
         let end = self.end();
         for lane in 0..self.lanes {
-            put_lane(page, end, seats, lane)?;
+            let y = lane_at(lane);
+            let name = LaneName { seats, lane };
+            write!(
+                page,
+                "{}",
+                Lane {
+                    end,
+                    y,
+                    base: y + 4,
+                    name
+                }
+            )?;
         }
         Ok(())
     }
 }
 
 #[tactic(auto, unfolding(crate::specs::Surface::opening))]
-fn put_opening(page: &mut String) -> Result<(), AllocError>
-    ensures { OnOk result (string_bytes page.new ≡ string_bytes page.old ++ opening) }
-{
-    page.push_str("<svg xmlns=\"http://www.w3.org/2000/svg\" role=\"img\" ")
-}
-
-#[tactic(auto, unfolding(crate::specs::Surface::sized))]
-fn put_sized(page: &mut String, width: u64, height: u64) -> Result<(), AllocError>
-    ensures { OnOk result (string_bytes page.new ≡ string_bytes page.old ++ sized width height) }
+fn put_opening(page: &mut String, width: u64, height: u64) -> Result<(), AllocError>
+    ensures { OnOk result (string_bytes page.new ≡ string_bytes page.old ++ opening width height) }
 {
     write!(
         page,
-        "viewBox=\"0 0 {width} {height}\" width=\"{width}\" height=\"{height}\">\n"
+        "<svg xmlns=\"http://www.w3.org/2000/svg\" role=\"img\" viewBox=\"0 0 {width} {height}\" \
+        width=\"{width}\" height=\"{height}\">\n<title>The history of a monitor</title>\n"
     )
-}
-
-#[tactic(auto, unfolding(crate::specs::Surface::head_title))]
-fn put_head_title(page: &mut String) -> Result<(), AllocError>
-    ensures { OnOk result (string_bytes page.new ≡ string_bytes page.old ++ head_title) }
-{
-    page.push_str("<title>The history of a monitor</title>\n")
 }
 
 /// Puts the background.
@@ -132,44 +129,49 @@ fn put_column_line(page: &mut String, foot: u64, x: u64) -> Result<(), AllocErro
     )
 }
 
-#[tactic(auto, unfolding(crate::specs::Surface::rail))]
-fn put_rail(page: &mut String, end: u64, y: u64) -> Result<(), AllocError>
-    ensures { OnOk result (string_bytes page.new ≡ string_bytes page.old ++ rail end y) }
-{
-    write!(
-        page,
-        "<line class=\"rail\" x1=\"{LEFT}\" x2=\"{end}\" y1=\"{y}\" y2=\"{y}\"/>\n"
-    )
+/// The name of the seat of a lane, or that there is none.
+#[derive(Drop)]
+struct LaneName {
+    seats: u8,
+    lane: u8,
 }
 
-#[tactic(auto, unfolding(crate::specs::Surface::seat_name))]
-fn put_seat_name(page: &mut String, base: u64, seat: u8) -> Result<(), AllocError>
-    ensures { OnOk result (string_bytes page.new ≡ string_bytes page.old ++ seat_name base seat) }
-{
-    write!(page, "<text x=\"16\" y=\"{base}\">seat {seat}</text>\n")
-}
+impl fmt::Display for LaneName {
+    ghost use Rattle.std.specs.Prelude.{Some};
+    ghost use Rattle.monk_draw.specs.Surface.{lane_name};
 
-#[tactic(auto, unfolding(crate::specs::Surface::no_seat_name))]
-fn put_no_seat_name(page: &mut String, base: u64) -> Result<(), AllocError>
-    ensures { OnOk result (string_bytes page.new ≡ string_bytes page.old ++ no_seat_name base) }
-{
-    write!(page, "<text x=\"16\" y=\"{base}\">no seat</text>\n")
-}
+    ghost output = { λ l. Some (lane_name l.seats l.lane) };
 
-fn put_lane_name(page: &mut String, seats: u8, lane: u8) -> Result<(), AllocError>
-    ensures { OnOk result (string_bytes page.new ≡ string_bytes page.old ++ lane_name seats lane) }
-{
-    let base = lane_at(lane) + 4;
-    if lane < seats {
-        put_seat_name(page, base, lane)
-    } else {
-        put_no_seat_name(page, base)
+    fn fmt<W: fmt::Write>(&self, f: &mut fmt::Formatter<W>) -> fmt::Result {
+        if self.lane < self.seats {
+            write!(f, "seat {}", self.lane)
+        } else {
+            write!(f, "no seat")
+        }
     }
 }
 
-fn put_lane(page: &mut String, end: u64, seats: u8, lane: u8) -> Result<(), AllocError>
-    ensures { OnOk result (string_bytes page.new ≡ string_bytes page.old ++ lane_text end seats lane) }
-{
-    put_rail(page, end, lane_at(lane))?;
-    put_lane_name(page, seats, lane)
+/// A lane: its rail and its name.
+#[derive(Drop)]
+struct Lane {
+    end: u64,
+    y: u64,
+    base: u64,
+    name: LaneName,
+}
+
+impl fmt::Display for Lane {
+    ghost use Rattle.std.specs.Prelude.{Some};
+    ghost use Rattle.monk_draw.specs.Surface.{lane_text};
+
+    ghost output = { λ l. Some (lane_text l.end l.y l.base l.name.seats l.name.lane) };
+
+    #[tactic(auto, unfolding(crate::specs::Surface::lane_text))]
+    fn fmt<W: fmt::Write>(&self, f: &mut fmt::Formatter<W>) -> fmt::Result {
+        let (end, y, base, name) = (self.end, self.y, self.base, &self.name);
+        write!(
+            f,
+            "<line class=\"rail\" x1=\"84\" x2=\"{end}\" y1=\"{y}\" y2=\"{y}\"/>\n<text x=\"16\" y=\"{base}\">{name}</text>\n"
+        )
+    }
 }

@@ -1,6 +1,6 @@
 //! The answer to a log.
 
-ghost use Rattle.std.specs.Prelude.{◌≡◌, ◌≢◌, ◌≤◌, ◌^◌, IfOk, IsErrOf, length, string_bytes};
+ghost use Rattle.std.specs.Prelude.{◌≡◌, ◌≢◌, ◌≤◌, ◌^◌, IfOk, length, string_bytes};
 ghost use Rattle.monk_history.specs.Text.Faults.{memory};
 ghost use Rattle.monk_history.specs.Text.Lines.{Gives};
 ghost use Rattle.monk_logs.specs.Log.Reading.{log_at, log_view};
@@ -11,7 +11,6 @@ ghost use Rattle.monk_commands.specs.LogFound as found;
 ghost use Rattle.monk_commands.specs.LogFound.{IsFinding};
 
 use crate::answer::{LineAnswer, unreadable};
-use crate::fault::StreamFault;
 use crate::logs::explanation::explanation;
 use crate::logs::finding::Finding;
 use crate::logs::finding_json::{fault_json, finding_json};
@@ -147,11 +146,10 @@ fn answer_to_fault(
     view: LogView,
     name: &str,
     fault: ReadFault,
-) -> Result<LineAnswer, StreamFault>
+) -> Result<LineAnswer, AllocError>
     ensures answer { IfOk result
         (λ a. (fault ≢ memory) × (a.status ≡ 2) × answered.Says view (unreadable fault).text (string_bytes a.text)) }
     ensures status { IfOk result (λ a. a.status ≤ 2) }
-    ensures no_file { IsErrOf result StreamFault.File → ⊥ }
 {
     let answer = unreadable(alloc, fault)?;
     let text = said(alloc, view, name, answer.text)?;
@@ -172,14 +170,13 @@ pub(crate) fn answer_to_log(
     view: LogView,
     question: Question<'_>,
     bytes: Vec<u8>,
-) -> Result<LineAnswer, StreamFault>
+) -> Result<LineAnswer, AllocError>
     ensures answer { IfOk result
         (λ a. answered.IsAnswerToLog view question.entry bytes.items a.status (string_bytes a.text)) }
     ensures status { IfOk result (λ a. a.status ≤ 2) }
-    ensures no_file { IsErrOf result StreamFault.File → ⊥ }
 {
     match read_and_drop(alloc, bytes) {
-        Ok((header, lines)) => Ok(answer_to_read(alloc, view, question, &header, &lines)?),
+        Ok((header, lines)) => answer_to_read(alloc, view, question, &header, &lines),
         Err(fault) => answer_to_fault(alloc, view, question.name, fault),
     }
 }

@@ -1,6 +1,6 @@
 //! The stream that completes a log to a run: the text of a log in, a run that tells it out, or why there is none.
 
-ghost use Rattle.std.specs.Prelude.{◌≡◌, ◌≤◌, ◌^◌, false, length, IfOk, IsErrOf, string_bytes};
+ghost use Rattle.std.specs.Prelude.{◌≡◌, ◌≤◌, ◌^◌, false, length, IfOk, string_bytes};
 ghost use Rattle.monk_history.specs.Text.Device.{inner_of, has_failed};
 ghost use Rattle.monk_commands.specs.RunText.{IsRunAnswer, IsRunGiven, IsRunOrMisfit, misfit_line};
 ghost use Rattle.monk_commands.specs.Streams.{HasAnswered, IsStreamOutcome};
@@ -47,11 +47,10 @@ fn answer_to_log(
     alloc: Global,
     header: &LogHeader,
     lines: &[LogLine],
-) -> Result<LineAnswer, StreamFault>
+) -> Result<LineAnswer, AllocError>
     requires few { length lines.now ≤ 2 ^ 25 }
     ensures answer { IfOk result (λ a. IsRunOrMisfit header.now lines.now a.status (string_bytes a.text)) }
     ensures status { IfOk result (λ a. a.status ≤ 2) }
-    ensures no_file { IsErrOf result StreamFault.File → ⊥ }
 {
     if header.size() > header.object().greatest_size() {
         return too_big(alloc);
@@ -61,10 +60,9 @@ fn answer_to_log(
 }
 
 /// The answer to a text.
-fn answer_to_text(alloc: Global, bytes: &[u8]) -> Result<LineAnswer, StreamFault>
+fn answer_to_text(alloc: Global, bytes: &[u8]) -> Result<LineAnswer, AllocError>
     ensures answer { IfOk result (λ a. IsRunAnswer bytes.now a.status (string_bytes a.text)) }
     ensures status { IfOk result (λ a. a.status ≤ 2) }
-    ensures no_file { IsErrOf result StreamFault.File → ⊥ }
 {
     match read_log(alloc, bytes) {
         Ok((header, lines)) => answer_to_log(alloc, &header, &lines),

@@ -1,13 +1,12 @@
 //! The picture or the page of a log: of a run that tells it, up to the line that misfits.
 
-ghost use Rattle.std.specs.Prelude.{◌≡◌, ◌≤◌, ◌^◌, ◌++◌, IfOk, IsErrOf, OnOk, length, map, string_bytes};
+ghost use Rattle.std.specs.Prelude.{◌≡◌, ◌≤◌, ◌^◌, ◌++◌, IfOk, OnOk, length, map, string_bytes};
 ghost use Rattle.std.specs.List.{flat_map};
 ghost use Rattle.monk_object.specs.Names.{most};
 ghost use Rattle.monk_commands.specs.LogDrawn as drawn;
 
 use crate::answer::{LineAnswer, behind, too_big, unreadable};
 use crate::completing::header_of;
-use crate::fault::StreamFault;
 use crate::logs::judging::run;
 use crate::logs::paging::page_around;
 use crate::logs::verdict_words::number;
@@ -169,19 +168,18 @@ fn shown_if_there(
     header: &LogHeader,
     run: &Run,
     lines: &[LogLine],
-) -> Result<LineAnswer, StreamFault>
+) -> Result<LineAnswer, AllocError>
     requires few { length lines.now ≤ 2 ^ 25 }
     requires size { header.now.size ≤ most header.now.object }
     requires run { drawn.HasRun header.now run.now }
     ensures answer { IfOk result
         (λ a. drawn.IsRunShown show window header.now run.now lines.now a.status (string_bytes a.text)) }
     ensures status { IfOk result (λ a. a.status ≤ 2) }
-    ensures no_file { IsErrOf result StreamFault.File → ⊥ }
 {
     if is_behind(window, lines.len()) {
         return behind(alloc, lines.len());
     }
-    Ok(shown(alloc, show, window, header, run, lines)?)
+    shown(alloc, show, window, header, run, lines)
 }
 
 /// The answer to a log that was read.
@@ -191,12 +189,11 @@ fn answer_to_read(
     window: Option<Window>,
     header: &LogHeader,
     lines: &[LogLine],
-) -> Result<LineAnswer, StreamFault>
+) -> Result<LineAnswer, AllocError>
     requires few { length lines.now ≤ 2 ^ 25 }
     ensures answer { IfOk result
         (λ a. drawn.IsLogShown show window header.now lines.now a.status (string_bytes a.text)) }
     ensures status { IfOk result (λ a. a.status ≤ 2) }
-    ensures no_file { IsErrOf result StreamFault.File → ⊥ }
 {
     if header.size() > header.object().greatest_size() {
         return too_big(alloc);
@@ -212,11 +209,10 @@ pub(crate) fn show_log(
     show: Show,
     window: Option<Window>,
     bytes: &[u8],
-) -> Result<LineAnswer, StreamFault>
+) -> Result<LineAnswer, AllocError>
     ensures answer { IfOk result
         (λ a. drawn.IsLogShowing show window bytes.now a.status (string_bytes a.text)) }
     ensures status { IfOk result (λ a. a.status ≤ 2) }
-    ensures no_file { IsErrOf result StreamFault.File → ⊥ }
 {
     match read_log(alloc, bytes) {
         Ok((header, lines)) => answer_to_read(alloc, show, window, &header, &lines),
