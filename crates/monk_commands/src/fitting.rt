@@ -64,11 +64,7 @@ fn put_line(
 }
 
 /// A line for each kind, and whether the events are legal under one of them.
-fn all_lines(
-    alloc: Global,
-    header: &Header,
-    events: &[Event],
-) -> Result<(String, bool), AllocError>
+fn all_lines(alloc: Global, header: &Header, events: &[Event]) -> Result<(String, bool), AllocError>
     requires few { length events.now ≤ 2 ^ 25 }
     requires fits { header.now.size ≤ most header.now.object }
     ensures lines { IfOk result (λ r. string_bytes r.0 ≡ fit_lines header.now events.now kinds) }
