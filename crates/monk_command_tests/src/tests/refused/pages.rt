@@ -3,7 +3,7 @@ use monk_draw::Span;
 use monk_history::{Event, Header, Next, Via};
 use monk_judge::run_of_log;
 use monk_kinds::KindName;
-use monk_logs::read_log;
+use monk_logs::{LogHeader, LogLine};
 use monk_object::{Book, ObjectName};
 use monk_page::{log_page, page};
 use std::test::Fail;
@@ -25,15 +25,18 @@ pub(super) fn page_of_four(rt: &HostRuntime) -> Result<bool, Fail> {
     Ok(page.as_str().ends_with("</html>\n"))
 }
 
-/// A log whose second line misfits.
-const SECOND_MISFITS: &[u8] = b"log 1 2 1 book 2\nenter 0\nenter 1\n";
+/// The second line of this log misfits.
+const SECOND_MISFITS: [LogLine; 2] = [LogLine::Enter(0), LogLine::Enter(1)];
 
+/// The run is found first, and its requests count too.
 pub(super) fn page_of_a_log(rt: &HostRuntime) -> Result<bool, Fail> {
-    let (header, lines) = read_log(rt.alloc(), SECOND_MISFITS)?;
-    let run = run_of_log(rt.alloc(), 2, 1, Book::make(2)?, &lines)?;
     begins(rt, "log_page")?;
+    let Some(header) = LogHeader::new(2, 1, ObjectName::Book, 2) else {
+        return Err(Fail::new("no header"));
+    };
+    let run = run_of_log(rt.alloc(), 2, 1, Book::make(2)?, &SECOND_MISFITS)?;
     let span = Span { before: 0, last: 2 };
     let book = Book::make(2)?;
-    let page = log_page(rt.alloc(), "", &header, book, &run, &lines, span)?;
+    let page = log_page(rt.alloc(), "", &header, book, &run, &SECOND_MISFITS, span)?;
     Ok(page.as_str().ends_with("</html>\n"))
 }
