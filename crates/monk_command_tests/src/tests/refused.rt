@@ -29,6 +29,5 @@ fn each_call(rt: HostRuntime) -> Result<(), Fail> {
     }
     assert!(rt; steps::steps(&rt)?);
     assert!(rt; pages::page_of_four(&rt)?);
-    assert!(rt; pages::page_of_a_log(&rt)?);
     Ok(())
 }

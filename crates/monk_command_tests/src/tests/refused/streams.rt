@@ -198,39 +198,50 @@ pub(super) static JOBS: [Job<'static>; 24] = [
     },
 ];
 
-/// A text that is drawn, and the status.
+/// A text that is shown, how what shows it begins, and the status.
 pub(super) struct Picture<'a> {
     pub(super) name: &'static str,
     task: Task<'a>,
     input: &'a [u8],
+    front: &'a [u8],
     status: u8,
 }
 
 /// By the names that `checks/fail_alloc` knows them by.
-pub(super) static PICTURES: [Picture<'static>; 3] = [
+pub(super) static PICTURES: [Picture<'static>; 4] = [
     Picture {
         name: "drawn",
         task: Task::Draw(None),
         input: b"monk 1 PB 2 1 buffer 1\nenter 0 free\nwait 0 0 entry\nenter 0 free\n",
+        front: b"<svg ",
         status: 1,
     },
     Picture {
         name: "run_drawn",
         task: Task::Draw(None),
         input: b"log 1 2 1 buffer 1\nenter 0\nwait 0 0\nenter 1\nsignal 1 0\nleave 1\nresume 0\n",
+        front: b"<svg ",
         status: 0,
     },
     Picture {
         name: "run_drawn_misfit",
         task: Task::Draw(None),
         input: b"log 1 2 1 buffer 1\nenter 0\nwait 0 0\nsignal 1 0\nenter 0\n",
+        front: b"<svg ",
+        status: 1,
+    },
+    Picture {
+        name: "run_paged",
+        task: Task::Page(None),
+        input: b"log 1 2 1 buffer 1\nenter 0\nenter 1\n",
+        front: b"<!DOCTYPE html>",
         status: 1,
     },
 ];
 
-/// Whether a picture was written, or a fault with nothing written.
+/// Whether a picture or a page was written, or a fault with nothing written.
 pub(super) fn is_drawn(rt: &HostRuntime, drawn: &Picture<'_>) -> Result<bool, StreamFault> {
-    let front: &[u8] = b"<svg ";
+    let front: &[u8] = drawn.front;
     let mut picture = Expected::new(front);
     let mut reader = Device::new(drawn.input);
     let told = drawn
