@@ -80,7 +80,7 @@ fn is_paged(alloc: Global, row: &Row) -> bool {
 }
 
 #[test]
-fn pages_are_made_of_histories_and_logs(rt: HostRuntime) -> Result<(), Fail> {
+fn pages_are_made_of_histories(rt: HostRuntime) -> Result<(), Fail> {
     for row in ROWS.iter() {
         if !is_paged(rt.alloc(), row) {
             return Err(row.2)?;
