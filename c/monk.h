@@ -54,7 +54,7 @@
 extern "C" {
 #endif
 
-#define MONK_VERSION 0x000100        /* 0.1.0; monk_version() is that of the library which is linked */
+#define MONK_VERSION 0x010000        /* 1.0.0; monk_version() is that of the library which is linked */
 
 typedef struct monk_monitor monk_monitor;
 typedef struct monk_seat monk_seat;      /* a pointer to it names a lending of a seat, and isn't where the seat is kept */
@@ -99,7 +99,7 @@ enum {
 
 const char *monk_strerror(int answer);           /* one line for each answer; never NULL */
 uint32_t monk_version(void);                     /* 0xMMmmpp */
-const char *monk_build(void);                    /* "proved, kit 13f, commit .." or "reference, not proved" */
+const char *monk_build(void);                    /* "kernel proved, KIT, commit .." or "reference, not proved" */
 
 /* ---- Making and ending ------------------------------------------------------------------------------------------- */
 

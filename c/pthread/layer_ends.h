@@ -11,13 +11,15 @@
 enum { TICK_NS = 50000000, QUIET_TICKS = 8, MOST_WAKES = 20, WRITING_MS = 2000 };
 
 static _Atomic int is_ending, is_written;
-static _Atomic int has_watcher, ending_signal; /* which the watcher is asked to write the histories for */
+static _Atomic int is_watched, has_watcher; /* whether a watcher was wanted, and whether there is one */
+static _Atomic int ending_signal;           /* which the watcher is asked to write the histories for */
+static _Atomic int watcher_lock;            /* taken while the watcher begins or looks, and may be in an allocator */
 
 /* Whether the process ends behind this, or the program goes on. */
 enum { GOES_ON, IS_LAST };
 
 static void finish(const char *why, int is_last) {
-    if (atomic_exchange(&is_ending, 1)) return;
+    if (is_in_parent() || atomic_exchange(&is_ending, 1)) return;
     save_all(why, is_last);
     is_written = 1;
 }
@@ -177,11 +179,14 @@ static void *watch(void *unused) {
     const struct timespec tick = {0, TICK_NS}, begin = time_of(CLOCK_MONOTONIC);
     pid_t watcher = (pid_t)syscall(SYS_gettid);
     unsigned long seen = 0;
+    let(&watcher_lock);
     for (int quiet = 0, wakes = 0;; nanosleep(&tick, NULL)) {
         if (ending_signal) finish("signal", IS_LAST);
         if (asked.seconds == 0) continue;
         if (seconds_since(begin) > asked.seconds) end_by_watcher("late");
+        take(&watcher_lock);
         quiet = count_quiet(quiet, &seen, watcher);
+        let(&watcher_lock);
         if (quiet < QUIET_TICKS) continue;
         if (asked.mend != WAKES_SLEEPERS || wakes++ >= MOST_WAKES || !wake_sleepers()) end_by_watcher("hung");
         quiet = 0;
@@ -194,7 +199,9 @@ static void start_watcher(void) {
     pthread_t thread;
     sigfillset(&all);
     pthread_sigmask(SIG_SETMASK, &all, &before);
+    take(&watcher_lock);
     has_watcher = !pthread_create(&thread, NULL, watch, NULL);
+    if (!has_watcher) let(&watcher_lock);
     pthread_sigmask(SIG_SETMASK, &before, NULL);
 }
 
@@ -213,8 +220,9 @@ static int is_fatal(int number) {
 static void end_by_signal(int number) {
     const struct timespec while_writing = {0, NS_A_SECOND / MS_A_SECOND};
     struct sigaction plain = {.sa_handler = SIG_DFL};
-    ending_signal = number;
-    for (int ms = 0; has_watcher && !is_written && ms < WRITING_MS; ms++) nanosleep(&while_writing, NULL);
+    int waits = has_watcher && !is_in_parent();
+    if (waits) ending_signal = number;
+    for (int ms = 0; waits && !is_written && ms < WRITING_MS; ms++) nanosleep(&while_writing, NULL);
     real.sigaction(number, &plain, NULL);
     raise(number);
 }
@@ -230,11 +238,26 @@ static void watch_signals(void) {
         if (!real.sigaction(fatal[i], NULL, &now) && now.sa_handler == SIG_DFL) end_by_default(fatal[i]);
 }
 
-/* ---- Forks. In the child no mutex is a monitor; those that its thread was inside it has locked. */
+/* Once in a process, if there is anything to watch for. */
+static void watch_process(void) {
+    if ((asked.seconds == 0 && !asked.history && !asked.report) || atomic_exchange(&is_watched, 1)) return;
+    start_watcher();
+    watch_signals();
+}
 
-static void before_fork(void) { take(&monitors.lock), take(&conditions.lock), take(&thread_lock), take(&room_lock); }
+/* ---- Forks. In the child no mutex is a monitor; those that its thread was inside it has locked. It is watched from
+   its first wait on: as it is forked, an allocator may still have its locks. The watcher has none then, since a child's
+   own watcher would wait for it for ever. */
 
-static void let_tables(void) { let(&room_lock), let(&thread_lock), let(&conditions.lock), let(&monitors.lock); }
+static void before_fork(void) {
+    take(&watcher_lock);
+    take(&monitors.lock), take(&conditions.lock), take(&thread_lock), take(&room_lock);
+}
+
+static void let_tables(void) {
+    let(&room_lock), let(&thread_lock), let(&conditions.lock), let(&monitors.lock);
+    let(&watcher_lock);
+}
 
 /* (What isn't ours may be gone: its memory isn't touched.) */
 static void lock_for_child(struct monitor *m) {
@@ -256,7 +279,7 @@ static void in_child(void) {
         if (!m->is_dead && me && m->owner == me) lock_for_child(m);
     empty(&monitors), empty(&conditions);
     every_monitor = NULL;
-    is_ending = is_written = ending_signal = has_watcher = 0;
+    is_ending = is_written = ending_signal = is_watched = has_watcher = 0;
     ended_volumes = ended_timeouts = ended_outside = 0;
     serials = 0;
     for (struct thread *t = every_thread; t; t = t->next) t->has_ended = t != me;

@@ -6,6 +6,7 @@
 #include <linux/futex.h>
 #include <sched.h>
 #include <stdatomic.h>
+#include <sys/auxv.h>
 #include <sys/mman.h>
 #include <sys/syscall.h>
 
@@ -22,7 +23,7 @@ enum {
 };
 
 /* Where a seat stands, by its number, which it keeps from hall to hall. A ghost is a seat that no thread stands at. */
-enum standing { AWAY, AT_ENTRY, INSIDE, WAITS, SERVED, SIGNALS, GHOST_WAITS, GHOST_SERVED, GHOST_LATE };
+enum standing { AWAY, AT_THE_ENTRY, INSIDE, WAITS, SERVED, SIGNALS, GHOST_WAITS, GHOST_SERVED, GHOST_LATE };
 
 struct thread {
     struct thread *next, *next_idle;
@@ -121,11 +122,16 @@ struct name {
     char text[LONGEST_PATH];
 };
 
+/* The loader calls the program by the first of its words, which needn't be a path. */
+static const char *path_of(const char *file) {
+    return strchr(file, '/') ? file : (const char *)getauxval(AT_EXECFN);
+}
+
 static struct name name_of(const void *address) {
     struct name name;
     Dl_info in;
     if (address && dladdr(address, &in) && in.dli_fname)
-        snprintf(name.text, sizeof name.text, "%s+%#lx", in.dli_fname,
+        snprintf(name.text, sizeof name.text, "%s+%#lx", path_of(in.dli_fname),
                  (unsigned long)((uintptr_t)address - (uintptr_t)in.dli_fbase));
     else
         snprintf(name.text, sizeof name.text, "%p", address);

@@ -16,6 +16,13 @@ static int count_queued(struct monitor *m, int condition) {
     return count;
 }
 
+/* Without ghosts. */
+static int count_waiting(struct monitor *m, int condition) {
+    int count = 0;
+    for (int n = 0; n < NUMBERS; n++) count += m->places[n].standing == WAITS && m->places[n].condition == condition;
+    return count;
+}
+
 static int first_queued(struct monitor *m, int condition) {
     int first = NONE;
     for (int n = 0; n < NUMBERS; n++)

@@ -37,6 +37,10 @@ static struct {
 } asked = {.kind = MONK_NPNB, .wish = MONK_WAITER, .seed = 1};
 
 static char history_of_process[LONGEST_PATH], report_of_process[LONGEST_PATH];
+static pid_t process; /* whose files these are */
+
+/* A child of vfork runs in its parent's memory until it is another program. */
+static int is_in_parent(void) { return getpid() != process; }
 
 /* ---- Saying */
 
@@ -110,9 +114,10 @@ static void read_seconds(void) {
    DIR/PID and FILE.PID. */
 static void name_files(const char *history, const char *report) {
     const char *owner = getenv("MONK_OWNER");
-    int is_owner = !owner || atol(owner) == getpid();
-    snprintf(history_of_process, LONGEST_PATH, is_owner ? "%s" : "%s/%d", history ? history : "", (int)getpid());
-    snprintf(report_of_process, LONGEST_PATH, is_owner ? "%s" : "%s.%d", report ? report : "", (int)getpid());
+    process = getpid();
+    int is_owner = !owner || atol(owner) == process;
+    snprintf(history_of_process, LONGEST_PATH, is_owner ? "%s" : "%s/%d", history ? history : "", (int)process);
+    snprintf(report_of_process, LONGEST_PATH, is_owner ? "%s" : "%s.%d", report ? report : "", (int)process);
     asked.history = history ? history_of_process : NULL;
     asked.report = report ? report_of_process : NULL;
 }

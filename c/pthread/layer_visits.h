@@ -42,7 +42,7 @@ static void stay_as_ghost(struct monitor *m, int n) {
 static int come_in_by(struct monitor *m, int n, const struct timespec *limit) {
     struct place *p = &m->places[n];
     int answer = MONK_STOPPED;
-    store(p->standing, AT_ENTRY);
+    store(p->standing, AT_THE_ENTRY);
     while (answer == MONK_STOPPED) {
         struct hall *h = use(p, &m->hall);
         store(p->home, h);

@@ -59,13 +59,25 @@ static int is_clock(clockid_t clock) { return clock == CLOCK_REALTIME || clock =
 
 /* ---- Numbers of conditions */
 
-/* A number on whose condition nobody waits. */
-static int spare_condition(struct monitor *m) {
+static int number_with(struct monitor *m, const void *address) {
     int k = 0;
-    while (k < CONDITIONS && m->conditions[k]) k++;
-    if (k < CONDITIONS) return k;
-    for (k = 0; k < CONDITIONS && count_queued(m, k); k++) continue;
+    while (k < CONDITIONS && m->conditions[k] != address) k++;
     return k < CONDITIONS ? k : NONE;
+}
+
+static int number_without(struct monitor *m, int (*count)(struct monitor *, int)) {
+    int k = 0;
+    while (k < CONDITIONS && count(m, k)) k++;
+    return k < CONDITIONS ? k : NONE;
+}
+
+/* That which the condition had (it may have gone to another mutex, and come back), one that was never used, or one
+   where nobody waits; at last one where only ghosts do, since they pass each signal on. */
+static int spare_number(struct monitor *m, const void *address) {
+    int k = number_with(m, address);
+    if (k == NONE) k = number_with(m, NULL);
+    if (k == NONE) k = number_without(m, count_queued);
+    return k == NONE ? number_without(m, count_waiting) : k;
 }
 
 static void use_number(struct monitor *m, int k, struct condition *c) {
@@ -81,8 +93,7 @@ static void use_number(struct monitor *m, int k, struct condition *c) {
 static int number_of(struct monitor *m, const void *address) {
     struct condition *c = make_condition(address);
     if (c->of == m && m->conditions[c->number] == address) return c->number;
-    int k = spare_condition(m);
-    if (k == NONE && may_renew(m) && renew(m, m->inside)) k = spare_condition(m); /* ghosts don't wait any more */
+    int k = spare_number(m, address);
     if (k == NONE) refuse_of(m, "threads wait on more than %d of its conditions at once", CONDITIONS);
     use_number(m, k, c);
     return k;

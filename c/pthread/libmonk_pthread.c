@@ -48,9 +48,7 @@ __attribute__((constructor)) static void begin(void) {
     init();
     pthread_atfork(before_fork, let_tables, in_child);
     at_quick_exit(ended);
-    if (asked.seconds == 0 && !asked.history && !asked.report) return;
-    start_watcher();
-    watch_signals();
+    watch_process();
 }
 
 /* ---- Mutexes */
@@ -190,6 +188,7 @@ static int wait_by(struct locking it, pthread_cond_t *condition, const void *fro
     t->from = from;
     if (m && m->owner != t) return EPERM;
     if (attention == NOTHING) attention = MONITORS;
+    if (!is_watched) watch_process();
     if (!m) m = promote(it.mutex, t);
     if (!m) return wait_really(it, condition);
     if (it.how == TIMED) it.clock = condition->__data.__wrefs & IS_MONOTONIC ? CLOCK_MONOTONIC : CLOCK_REALTIME;

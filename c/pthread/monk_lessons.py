@@ -5,6 +5,8 @@ from typing import Counter as Counts, Dict, List, NamedTuple, Optional
 from monk_runs import CANT, HUNG, OK, WRONG, Result
 
 KINDS = ["PB", "NPB", "PNB", "NPNB", "PQB", "NPQB", "PIR", "NPIR"]
+# Those under which a signal gives the monitor up.
+GIVE_UP = ["PB", "NPB", "PQB", "NPQB"]
 # How monk-run mends a program (--mend).
 BROADCASTS, WAKES_SLEEPERS = 1, 2
 
@@ -32,8 +34,9 @@ class Lesson(NamedTuple):
 class Facts:
     """What was seen in all runs."""
 
-    def __init__(self, cells: List[Cell], plain: Counts[str], mended: Dict[int, bool], unlocks: List[str]) -> None:
-        self.cells, self.plain, self.mended = cells, plain, mended
+    def __init__(self, cells: List[Cell], plain: Counts[str], mended: Dict[int, bool], unlocks: List[str],
+                 has_waits: bool) -> None:
+        self.cells, self.plain, self.mended, self.has_waits = cells, plain, mended, has_waits
         self.forgotten_unlocks = unlocks        # who ended inside, in a sentence each
         self.by_kind: Dict[str, Counts[str]] = {}
         for cell in cells:
@@ -62,6 +65,8 @@ def right(facts: Facts) -> Optional[Lesson]:
     relies = ": in these runs it relied neither on who goes on at a signal nor on who comes in first."
     if facts.plain[OK] < sum(facts.plain.values()):
         relies = ", though plain runs go wrong: the fault isn't one of waiting and signalling."
+    if not facts.has_waits:
+        relies += " But no thread waited in a monitor, so nothing was tried."
     return Lesson("right", f"Right under {' '.join(facts.fine())}{relies}")
 
 
@@ -94,39 +99,53 @@ def mesa(facts: Facts) -> Optional[Lesson]:
 
 
 def hand_over(facts: Facts) -> Optional[Lesson]:
-    bad, hoare = facts.bad(), [kind for kind in ("PB", "NPB") if kind in facts.bad()]
-    if not hoare or "PNB" in bad or "NPNB" in bad or "NPNB" not in facts.fine():
+    bad, given_up = facts.bad(), [kind for kind in GIVE_UP if kind in facts.bad()]
+    if not given_up or "PNB" in bad or "NPNB" in bad or "NPNB" not in facts.fine():
         return None
-    return Lesson("hand-over", "Right where the signaller goes on (PNB, NPNB: pthreads), wrong where it hands the"
-                  f" monitor over ({' '.join(hoare)}): the code behind a signal relies on what held before it, or the"
-                  " woken thread waits for the signaller to end. A program of pthreads may do so.")
+    goes_on = " ".join(kind for kind in ("PNB", "NPNB") if kind in facts.fine())
+    return Lesson("hand-over", f"Right where the signaller goes on ({goes_on}: pthreads), wrong where it hands the"
+                  f" monitor over ({' '.join(given_up)}): the code after a signal relies on what held before it, or"
+                  " the woken thread waits for the signaller to end. A program of pthreads may do so.")
+
+
+def wrong_under(facts: Facts) -> str:
+    return f"Wrong under {' '.join(facts.bad())}"
 
 
 def broadcast(facts: Facts) -> Optional[Lesson]:
-    return Lesson("broadcast", f"Wrong under each kind. {USE_BROADCAST}") if facts.mended.get(BROADCASTS) else None
+    return Lesson("broadcast", f"{wrong_under(facts)}. {USE_BROADCAST}") if facts.mended.get(BROADCASTS) else None
 
 
 def forgotten(facts: Facts) -> Optional[Lesson]:
     if not facts.mended.get(WAKES_SLEEPERS):
         return None
-    return Lesson("signal", "Wrong under each kind. It goes on when all are woken after all have gone to sleep: a"
+    return Lesson("signal", f"{wrong_under(facts)}. It goes on when all are woken after all have gone to sleep: a"
                   " thread slept though what it waits for held. A signal is forgotten, goes to the wrong condition, or"
                   " comes before its wait (a test without the lock).")
 
 
 def deadlock(facts: Facts) -> Optional[Lesson]:
-    if facts.having(WRONG):
+    if facts.having(WRONG) or not facts.mended:
         return None
     return Lesson("deadlock", f"It hangs under {' '.join(facts.bad())}, also when all are woken: what these threads"
                   " wait for doesn't come true. A deadlock, or a change that is forgotten, not only its signal.")
 
 
-def elsewhere(facts: Facts) -> Optional[Lesson]:
+def hoare(facts: Facts) -> Optional[Lesson]:
+    if "PB" not in facts.bad():
+        return None
     return Lesson("hoare", f"Wrong under Hoare's rule too ({' '.join(facts.bad())}): what a wait waits for need not"
                   " hold even at the signal; or the fault isn't one of waiting.")
 
 
-FINDERS = (untried, right, unlock, mesa, hand_over, broadcast, forgotten, deadlock, elsewhere)
+def elsewhere(facts: Facts) -> Optional[Lesson]:
+    """Too few kinds were tried to say more."""
+    right_under = f", right under {' '.join(facts.fine())}" if facts.fine() else ""
+    return Lesson("order", f"{wrong_under(facts)}{right_under}: it relies on an order that not all of these kinds keep;"
+                  " or the fault isn't one of waiting.")
+
+
+FINDERS = (untried, right, unlock, mesa, hand_over, broadcast, forgotten, deadlock, hoare, elsewhere)
 
 
 def lesson(facts: Facts) -> Lesson:

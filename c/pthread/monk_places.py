@@ -23,7 +23,7 @@ def said(words: List[str]) -> str:
 
 def symbols(program: str) -> List[Tuple[int, str]]:
     if program not in _symbols:
-        rows = [line.split() for line in said(["nm", "-n", program]).splitlines()]
+        rows = [line.split(maxsplit=2) for line in said(["nm", "-n", "-C", program]).splitlines()]
         _symbols[program] = [(int(row[0], 16), row[2]) for row in rows if len(row) == 3 and row[1] in DATA]
     return _symbols[program]
 
@@ -42,12 +42,15 @@ def name_of(place: str) -> str:
 
 
 def line_of(place: str) -> str:
-    """File and line of the code at PATH+0xOFFSET, behind a call; the place itself if the program doesn't tell."""
+    """File and line of the code at PATH+0xOFFSET, behind a call, or of what called that, if it stands in a header of
+    the system; the place itself if the program doesn't tell."""
     path, plus, offset = place.rpartition("+0x")
     if not plus:
         return place
-    found = said(["addr2line", "-e", path, hex(int(offset, 16) - 1)]).split(" ")[0].strip()
-    return place if not found or found.startswith("?") else os.path.basename(found)
+    rows = said(["addr2line", "-i", "-e", path, hex(int(offset, 16) - 1)]).splitlines()
+    lines = [row.split(" ")[0] for row in rows if row and not row.startswith("?")]
+    lines.sort(key=lambda line: line.startswith("/usr/include/"))
+    return os.path.basename(lines[0]) if lines else place
 
 
 class Names(NamedTuple):

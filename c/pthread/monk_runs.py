@@ -3,9 +3,10 @@ import os
 import re
 import signal
 import subprocess
+import threading
 from collections import Counter
 from concurrent.futures import ThreadPoolExecutor
-from typing import Counter as Counts, Dict, List, NamedTuple, Optional, Tuple
+from typing import Counter as Counts, Dict, List, NamedTuple, Optional, Set, Tuple
 
 HERE = os.path.dirname(os.path.realpath(__file__))
 OK, WRONG, HUNG, CANT = "ok", "wrong", "hung", "n/a"
@@ -51,18 +52,27 @@ def status_words(status: int) -> str:
     return f"ended by {signal.Signals(-status).name}" if status < 0 else f"status {status}"
 
 
+# The runs that go on, by their leaders; and whether no other may begin.
+_sessions: Set[int] = set()
+_is_over = threading.Event()
+
+
 def run(words: List[str], seconds: float) -> Ended:
     """Runs it in a session of its own, of which nothing is left behind it. STATUS_HUNG if the time is over."""
+    if _is_over.is_set():
+        return Ended(STATUS_HUNG, b"", "")
     process = subprocess.Popen(words, stdin=subprocess.DEVNULL, stdout=subprocess.PIPE, stderr=subprocess.PIPE,
                                start_new_session=True)
+    _sessions.add(process.pid)
     try:
-        output, errors = process.communicate(timeout=seconds)
+        output, errors = process.communicate(timeout=0 if _is_over.is_set() else seconds)
         status = process.returncode
     except subprocess.TimeoutExpired:
         end_session(process.pid)
         output, errors = process.communicate()
         status = STATUS_HUNG
     end_session(process.pid)
+    _sessions.discard(process.pid)
     return Ended(status, output, errors.decode(errors="replace"))
 
 
@@ -73,6 +83,13 @@ def end_session(leader: int) -> None:
         pass
 
 
+def end_all() -> None:
+    """Ends each run, and lets none begin."""
+    _is_over.set()
+    for leader in list(_sessions):
+        end_session(leader)
+
+
 def is_right_by(check: str, ended: Ended) -> bool:
     done = subprocess.run(["sh", "-c", check], input=ended.output, stdout=subprocess.DEVNULL, stderr=subprocess.DEVNULL,
                           env={**os.environ, "MONK_STATUS": str(ended.status)})
@@ -81,9 +98,10 @@ def is_right_by(check: str, ended: Ended) -> bool:
 
 def judged(ended: Ended, folder: str, expected: Expected) -> Result:
     refusal = re.search(r"^monk: (.*)$", ended.errors, re.M)
-    if ended.status == STATUS_CANT and refusal:
+    ends = {rows[0][1] for rows in reports(folder).values() if rows}    # also of a child, whose status a pipe hides
+    if refusal and (ended.status == STATUS_CANT or "cant" in ends):
         return Result(CANT, refusal[1], folder)
-    if ended.status == STATUS_HUNG:
+    if ended.status == STATUS_HUNG or ends & {"hung", "late"}:
         return Result(HUNG, "it hangs", folder)
     if expected.check is not None:
         what = OK if is_right_by(expected.check, ended) else WRONG
@@ -98,7 +116,7 @@ def judged(ended: Ended, folder: str, expected: Expected) -> Result:
 def run_under(job: Job, folder: str, options: List[str]) -> Result:
     """A run under the kind that the options name. Its histories and reports are in the folder."""
     os.makedirs(folder)
-    asked = ["--budget", BUDGET, "--seconds", str(job.seconds), "--history", os.path.join(folder, "history"),
+    asked = ["--budget", BUDGET, "--history", os.path.join(folder, "history"),
              "--report", os.path.join(folder, "report"), *options]
     ended = run([monk_run(), *asked, "--", *job.words], job.seconds + TO_WRITE)
     return judged(ended, folder, job.expected)
@@ -113,6 +131,17 @@ def reports(folder: str) -> Dict[str, List[List[str]]]:
         with open(os.path.join(folder, name)) as file:
             found[history.rstrip("/")] = [line.split() for line in file]
     return found
+
+
+def has_waits(folder: str) -> bool:
+    """Whether a thread waited in a monitor: then a report or a history's names have a line of its condition."""
+    paths = [os.path.join(at, name) for at, _, names in os.walk(folder) for name in names
+             if name.startswith("report") or name.endswith(".names")]
+    for path in paths:
+        with open(path) as file:
+            if any(line.startswith("condition ") for line in file):
+                return True
+    return False
 
 
 def usual(runs: List[Ended]) -> Ended:

@@ -79,8 +79,8 @@ class Scenes(unittest.TestCase):
         self.assertEqual(play(compare_buffer.buffer, "NPNB", run.schedule), run)
         self.assertEqual(run.audit(), "legal 8\n")
         data = run.page_data()
-        self.assertEqual((data["told0"], data["told"][3:6], len(data["told"])), ("items = []", 3 * ["items = ['tea']"], 8))
-        self.assertEqual(data["ends"], f" Then {run.fault}.")
+        self.assertEqual((data["data"][0], data["data"][4:7], len(data["data"])), ("items = []", 3 * ["items = ['tea']"], 9))
+        self.assertEqual(data["end"], f"Then {run.fault}.")
 
     def test_plain_functions(self) -> None:
         found = compare(staged, ["PB", "NPNB"], most=200)

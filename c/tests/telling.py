@@ -16,13 +16,19 @@ import threading
 import time
 import unittest
 import unittest.mock
-from typing import Callable, List, Type
+from pathlib import Path
+from typing import Callable, List, Tuple, Type
 
 import monk
+from monk.picture import picture
+from monk.program import ask
 
 SECONDS = 20
 PATIENCE = 0.3
 HERE = os.path.dirname(os.path.abspath(__file__))
+EXAMPLES = Path(HERE).parents[1] / "examples"
+# The words that ask for a picture of text, and its width.
+LAYOUTS: List[Tuple[int, Tuple[str, ...]]] = [(80, ()), (40, ("--ascii",))]
 
 
 def run(*works: Callable[[], None]) -> None:
@@ -33,6 +39,14 @@ def run(*works: Callable[[], None]) -> None:
     for thread in crew:
         thread.join(SECONDS)
         assert not thread.is_alive()
+
+
+def is_legal(text: str) -> bool:
+    """Whether this is the text of a history that an audit finds legal."""
+    try:
+        return ask("audit", text).startswith("legal")
+    except monk.MonkError:
+        return False
 
 
 class Telling(unittest.TestCase):
@@ -175,7 +189,7 @@ class Telling(unittest.TestCase):
             monitor.page(path + ".html")
             monitor.draw(path + ".svg")
             with open(path + ".told", encoding="utf-8") as told:
-                self.assertEqual(json.load(told), {"names": ["guest", "seat 1"], "conditionNames": ["tea hot"]})
+                self.assertEqual(json.load(told), {"seats": ["guest", "seat 1"], "conditions": ["tea hot"]})
             with open(path + ".html", encoding="utf-8") as page:
                 self.assertIn("<!doctype html>", page.read().lower())
         self.assertEqual(monitor.fit().count("legal 2"), 10)
@@ -183,6 +197,15 @@ class Telling(unittest.TestCase):
         self.assertIn("<svg", monitor._repr_html_())
         with unittest.mock.patch.dict(os.environ, {"MONK": "/none/monk"}):
             self.assertIn("<pre", monitor._repr_html_())
+
+    def test_pictures(self) -> None:
+        """The picture of text is the one that the program draws, of each legal example."""
+        legal = list(filter(is_legal, (path.read_text(encoding="ascii") for path in sorted(EXAMPLES.glob("*.history")))))
+        for text in legal:
+            for width, words in LAYOUTS:
+                drawn = ask("draw", text, "--text", "--width", str(width), *words)
+                self.assertEqual(picture(text, width=width, is_plain=bool(words)) + "\n", drawn)
+        self.assertGreater(len(legal), 20)
 
     def test_seats_that_are_lost(self) -> None:
         """At the end of a program the history is kept as well. So it is of the first ten seats."""

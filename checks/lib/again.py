@@ -1,17 +1,21 @@
 """A second function with the contract and the proof of another, in a copy of a crate, for a second wrong body of it."""
+from __future__ import annotations
+
 import os
 import re
 import shutil
+from typing import Any, Dict, List
 
-from functions import first_line, functions_of
+from functions import Function, first_line, functions_of, read
 
 # What the second function's name has more, once for the second and twice for the third.
 AGAIN = "_again"
 
 
-def put_again(crate, room, edits):
-    """Puts one more function like its own into the copy for each wrong body, and gives these functions by their wrong bodies."""
-    more = {}
+def put_again(crate: Any, room: str, edits: List[Any]) -> Dict[Any, Function]:
+    """Puts one more function like its own into the copy for each wrong body, and gives these functions by their wrong
+    bodies."""
+    more: Dict[Any, str] = {}
     for edit in edits:
         more[edit] = AGAIN * (1 + sum(it.function == edit.function for it in more))
         put_text(crate, room, edit, more[edit])
@@ -20,25 +24,23 @@ def put_again(crate, room, edits):
     return {it: made[it.function.asked + more[it]] for it in edits}
 
 
-def put_text(crate, room, edit, more):
+def put_text(crate: Any, room: str, edit: Any, more: str) -> None:
     """Puts the function's text, with the wrong body and under its new name, before the function."""
     function = edit.function
-    with open(f"{crate.folder}/{function.path}", encoding="utf-8") as it:
-        whole = it.read()
+    whole = read(f"{crate.folder}/{function.path}")
     start = len("".join(whole.splitlines(True)[: first_line(whole, function.start) - 1]))
     wrong = edit.texts[function.path]
     name = function.asked.split("::")[-1]
     own = re.sub(rf"\bfn {name}\b", f"fn {name}{more}", wrong[start : function.end + len(wrong) - len(whole)], count=1)
-    with open(f"{room}/{function.path}", encoding="utf-8") as it:
-        text = it.read()
+    text = read(f"{room}/{function.path}")
     at = text.index(whole[start : function.body])
     with open(f"{room}/{function.path}", "w", encoding="utf-8") as it:
         it.write(f"{text[:at]}{own}\n\n{text[at:]}")
 
 
-def put_proof(crate, room, function, more):
+def put_proof(crate: Any, room: str, function: Function, more: str) -> None:
     """Puts the function's proof under the new name."""
-    path = function.folder.split("::")
+    path = (function.folder or "").split("::")
     at = "/".join([room, "proofs", *path])
     if not os.path.isdir(at):
         return
@@ -46,7 +48,7 @@ def put_proof(crate, room, function, more):
     dotted = ".".join([crate.name, "proofs", *path])
     for folder, _, names in os.walk(at + more):
         for name in names:
-            with open(f"{folder}/{name}", encoding="utf-8") as it:
-                text = it.read().replace(f"{dotted}.", f"{dotted}{more}.").replace(f"{path[-1]}_spec", f"{path[-1]}{more}_spec")
+            text = read(f"{folder}/{name}").replace(f"{dotted}.", f"{dotted}{more}.")
+            text = text.replace(f"{path[-1]}_spec", f"{path[-1]}{more}_spec")
             with open(f"{folder}/{name}", "w", encoding="utf-8") as it:
                 it.write(text)

@@ -1,52 +1,54 @@
 """The functions of a crate: where each stands in its text, how a check is asked for it, and where its proof is."""
+from __future__ import annotations
+
 import glob
 import itertools
 import os
 import re
+from typing import Any, List, Match, Optional, Sequence, Tuple
 
-FUNCTION = re.compile(r"^( *)(?:pub(?:\([\w ]+\))? )?(?:const )?(?:unsafe )?(?:extern \"C\" )?fn (\w+)", re.M)
-OWNER = re.compile(r"^(?:unsafe )?impl(?:<[^{]*?>)? (?:(?P<trait>[\w:]+)(?:<(?P<of>[^{]*?)>)? for )?(?P<type>\w+)|^(?:pub(?:\([\w ]+\))? )?trait ", re.M)
-ITEM = re.compile(r"^ *(?:pub(?:\([\w ]+\))? )?(?:const (?P<name>[A-Z]\w*):|fn |impl\b|trait |struct |enum |use |mod |ghost )", re.M)
-TYPE = re.compile(r"^(?:pub(?:\([\w ]+\))? )?(?:struct|enum) (\w+)", re.M)
+PUB = r"(?:pub(?:\([\w ]+\))? )?"
+FUNCTION = re.compile(rf"^( *){PUB}(?:const )?(?:unsafe )?(?:extern \"C\" )?fn (\w+)", re.M)
+TRAIT = r"(?:(?P<trait>[\w:]+)(?:<(?P<of>[^{]*?)>)? for )?"
+OWNER = re.compile(rf"^(?:unsafe )?impl(?:<[^{{]*?>)? {TRAIT}(?P<type>\w+)|^{PUB}trait ", re.M)
+OTHER_ITEMS = r"fn |impl\b|trait |struct |enum |use |mod |ghost "
+ITEM = re.compile(rf"^ *{PUB}(?:const (?P<name>[A-Z]\w*):|{OTHER_ITEMS})", re.M)
+TYPE = re.compile(rf"^{PUB}(?:struct|enum) (\w+)", re.M)
+# What asks a check for a function, how a check names it, and the folder of its proof if that is sure.
+Names = Tuple[str, str, Optional[str]]
 
 
 class Function:
-    """A function of a crate: where it stands, how a check is asked for it and names it, and the folder of its proof, where that is sure."""
+    """A function of a crate: where it stands, how a check is asked for it and names it, and the folder of its proof if
+    that is sure."""
 
-    def __init__(self, crate, path, start, body, end, asked, named, folder, is_free=False):
-        self.path, self.start, self.body, self.end = path, start, body, end
-        self.asked, self.named = asked, re.compile(f"{re.escape(crate.name)}::{named}")
-        self.folder = folder
+    def __init__(self, crate: Any, path: str, span: Tuple[int, int, int], names: Names, is_free: bool) -> None:
+        self.path = path
+        self.start, self.body, self.end = span
+        self.asked, named, self.folder = names
+        self.named = re.compile(f"{re.escape(crate.name)}::{named}")
         # no second function can stand beside one that a trait asks for
-        self.may_stand_again = bool(folder) and is_free
+        self.may_stand_again = bool(self.folder) and is_free
 
 
-def module_of(path):
+def read(path: str) -> str:
+    with open(path, encoding="utf-8") as it:
+        return it.read()
+
+
+def module_of(path: str) -> str:
     module = re.sub(r"^src/|\.rt$", "", path).replace("/mod", "").replace("/", "::")
     return "" if module in ("lib", "main") else f"{module}::"
 
 
-def functions_of(crate, folder):
-    """The functions of the crate in this folder that have a body, but those of tests and those that a trait gives its types."""
-    texts = {}
-    for file in sorted(glob.glob(f"{folder}/src/**/*.rt", recursive=True)):
-        path = os.path.relpath(file, folder)
-        if "/tests" not in path:
-            with open(file, encoding="utf-8") as it:
-                texts[path] = it.read()
+def functions_of(crate: Any, folder: str) -> List[Function]:
+    """The functions of the crate in this folder that have a body, but those of tests and those that a trait gives its
+    types."""
+    files = sorted(glob.glob(f"{folder}/src/**/*.rt", recursive=True))
+    paths = [path for path in (os.path.relpath(file, folder) for file in files) if "/tests" not in path]
+    texts = {path: read(f"{folder}/{path}") for path in paths}
     types = [(found, module_of(path)) for path, text in texts.items() for found in TYPE.findall(text)]
-    made = []
-    for path, text in texts.items():
-        heads = list(FUNCTION.finditer(text))
-        for head, following in zip(heads, [*heads[1:], None]):
-            until = following.start() if following else len(text)
-            body = re.compile(rf"^{head[1]}\{{$|\{{$|\{{\}}$", re.M).search(text, head.end(), until)
-            ends = body and (body if body[0].endswith("}") else re.compile(rf"^{head[1]}\}}$", re.M).search(text, body.end()))
-            owners = [it for it in OWNER.finditer(text, 0, head.start())] if head[1] else []
-            names = names_of(head, owners[-1] if owners else None, module_of(path), types) if ends else None
-            if names:
-                is_free = not head[1] or not owners[-1]["trait"]
-                made.append(Function(crate, path, head.start(), body.start() + body[0].index("{"), ends.end(), *names, is_free))
+    made = [it for path, text in texts.items() for it in functions_in(crate, path, text, types)]
     folders = [it.folder for it in made]
     for function in made:
         # two impls of one trait for one type are told apart by a number
@@ -54,8 +56,24 @@ def functions_of(crate, folder):
     return made
 
 
-def names_of(head, owner, module, types):
-    """What asks a check for the function, how a check names it, and the folder of its proof; None for what a trait gives."""
+def functions_in(crate: Any, path: str, text: str, types: List[Tuple[str, str]]) -> List[Function]:
+    """Those of one file."""
+    made, heads = [], list(FUNCTION.finditer(text))
+    for head, until in zip(heads, [*(it.start() for it in heads[1:]), len(text)]):
+        body = re.compile(rf"^{head[1]}\{{$|\{{$|\{{\}}$", re.M).search(text, head.end(), until)
+        end = re.compile(rf"^{head[1]}\}}$", re.M)
+        ends = body and (body if body[0].endswith("}") else end.search(text, body.end()))
+        owners = list(OWNER.finditer(text, 0, head.start())) if head[1] else []
+        names = names_of(head, owners[-1] if owners else None, module_of(path), types)
+        if body and ends and names:
+            span = head.start(), body.start() + body[0].index("{"), ends.end()
+            made.append(Function(crate, path, span, names, not owners or not owners[-1]["trait"]))
+    return made
+
+
+def names_of(head: Match[str], owner: Optional[Match[str]], module: str,
+             types: Sequence[Tuple[str, str]]) -> Optional[Names]:
+    """None for what a trait gives."""
     name = head[2]
     if not head[1]:
         return f"{module}{name}", re.escape(f"{module}{name}"), f"{module}{name}"
@@ -75,41 +93,42 @@ def names_of(head, owner, module, types):
     return (whole or module[:-2], named, whole) if module else None
 
 
-def first_line(text, start):
+def first_line(text: str, start: int) -> int:
     """The line at which a function begins that stands there in the text, with its attributes."""
     lines = text[:start].split("\n")[:-1]
     above = itertools.takewhile(lambda it: it.strip() and not re.search(r"[;{}]$|^ *//", it), reversed(lines))
     return len(lines) + 1 - len(list(above))
 
 
-def changed_by(functions, crate, path, old):
+def changed_by(functions: List[Function], crate: Any, path: str, old: str) -> Optional[Function]:
     """The function in whose body the text stands, or None."""
-    with open(f"{crate.folder}/{path}", encoding="utf-8") as it:
-        at = it.read().find(old)
+    at = read(f"{crate.folder}/{path}").find(old)
     inside = [it for it in functions if it.path == path and it.start <= at and at + len(old) <= it.end]
     return inside[-1] if inside else None
 
 
-def is_named_alone(crate, path, old, function):
-    """Whether the text stands in a constant that only this function names, in the crate's code, contracts and definitions."""
-    with open(f"{crate.folder}/{path}", encoding="utf-8") as it:
-        text = it.read()
+def is_named_alone(crate: Any, path: str, old: str, function: Function) -> bool:
+    """Whether the text stands in a constant that only this function names, in the crate's code, contracts and
+    definitions."""
+    text = read(f"{crate.folder}/{path}")
     at = text.find(old)
-    head = next(reversed([it for it in ITEM.finditer(text, 0, at)]), None)
-    if not head or not head["name"]:
+    heads, owners = list(ITEM.finditer(text, 0, at)), list(OWNER.finditer(text, 0, at))
+    if not heads or not heads[-1]["name"]:
         return False
-    owner = next(reversed([it for it in OWNER.finditer(text, 0, at)]), None) if head[0].startswith(" ") else None
+    head = heads[-1]
+    owner = owners[-1] if owners and head[0].startswith(" ") else None
     named = rf"\b(?:Self|{owner['type']})(?:::|\.){head['name']}\b" if owner else rf"\b{head['name']}\b"
     spans = [(path, head.start(), text.find(";\n", at)), (function.path, function.start, function.end)]
-    for file in glob.glob(f"{crate.folder}/src/**/*.rt", recursive=True) + glob.glob(f"{crate.folder}/specs/**/*.antt", recursive=True):
-        of = os.path.relpath(file, crate.folder)
-        with open(file, encoding="utf-8") as it:
-            if any(not any(of == one and start <= place < end for one, start, end in spans) for place in named_at(it.read(), named)):
+    for kind in ("src/**/*.rt", "specs/**/*.antt"):
+        for file in glob.glob(f"{crate.folder}/{kind}", recursive=True):
+            own = [(start, end) for of, start, end in spans if of == os.path.relpath(file, crate.folder)]
+            places = named_at(read(file), named)
+            if any(not any(start <= place < end for start, end in own) for place in places):
                 return False
     return True
 
 
-def named_at(text, named):
+def named_at(text: str, named: str) -> List[int]:
     """Where a text names it, but in comments."""
     lines = [(it.start(), text[text.rfind("\n", 0, it.start()) + 1 : it.start()]) for it in re.finditer(named, text)]
     return [at for at, before in lines if not re.search(r"^ *(//|--)", before)]

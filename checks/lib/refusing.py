@@ -1,13 +1,16 @@
 """Runs a program with one of its requests for memory, or the start of one of its threads, refused (refuse.c)."""
+from __future__ import annotations
+
 import os
 import re
 import subprocess
+from typing import List, Tuple
 
 HERE = os.path.dirname(os.path.abspath(__file__))
 TOP = os.path.dirname(os.path.dirname(HERE))
 
-# How the tests mark that they ask for no memory from one line on up to another (tests/marks.rt); refuse.c writes in front of
-# such a line how many requests there were before it.
+# How the tests mark that they ask for no memory from one line on up to another (tests/marks.rt); refuse.c writes in
+# front of such a line how many requests there were before it.
 MARK = "no memory"
 MARKED = re.compile(r"(\d+) no memory (from|up to) here")
 
@@ -15,29 +18,32 @@ MARKED = re.compile(r"(\d+) no memory (from|up to) here")
 class Refusing:
     """The library that refuses, built in a folder, and how long a program may take with it."""
 
-    def __init__(self, folder, seconds=20):
+    def __init__(self, folder: str, seconds: float = 20) -> None:
         self.library = os.path.join(folder, "refuse.so")
         self.seconds = seconds
         source = os.path.join(HERE, "refuse.c")
         subprocess.run(["cc", "-shared", "-fPIC", "-O1", "-o", self.library, source, "-ldl"], check=True)
 
-    def run(self, words, request=0, thread=0, **more):
+    def run(self, words: List[str], request: int = 0, thread: int = 0,
+            **more: str) -> Tuple[Tuple[str, str, int], List[int]]:
         """What the program prints on both streams, its status, and how many requests and threads there were; nothing of
         these where it ended by a signal. Its request and its thread of these numbers are refused, counted from 1."""
-        read, write = os.pipe()
+        counted, write = os.pipe()
         refused = {"REFUSE": str(request), "REFUSE_THREAD": str(thread)}
-        how = {"env": dict(os.environ, LD_PRELOAD=self.library, TELL=str(write), **refused, **more), "pass_fds": [write]}
+        setting = {**os.environ, "LD_PRELOAD": self.library, "TELL": str(write), **refused, **more}
         try:
-            done = subprocess.run(words, capture_output=True, text=True, timeout=self.seconds, **how)
+            done = subprocess.run(words, capture_output=True, text=True, timeout=self.seconds, env=setting,
+                                  pass_fds=[write], check=False)
         finally:
             os.close(write)
-        counts = os.read(read, 64).split() or [0, 0]
-        os.close(read)
-        return (done.stdout, done.stderr, done.returncode), [int(count) for count in counts]
+        counts = [int(count) for count in os.read(counted, 64).split()] or [0, 0]
+        os.close(counted)
+        return (done.stdout, done.stderr, done.returncode), counts
 
-    def between_marks(self, words, **more):
-        """How many stretches the program has marked, and how many requests it made within them. It must end with status 0."""
-        (said, why, status), _ = self.run(words, MARK=MARK, **more)
+    def between_marks(self, words: List[str], **more: str) -> Tuple[int, int]:
+        """How many stretches the program has marked, and how many requests it made within them. It must end with status
+        0."""
+        (said, why, status), _ = self.run(words, 0, 0, MARK=MARK, **more)
         if status:
             raise ValueError(f"{words}: ends with {status}: {said[-1000:]}{why[-1000:]}")
         counts = [(found[2], int(found[1])) for found in map(MARKED.match, said.splitlines()) if found]

@@ -1,30 +1,36 @@
-/* More threads wait at one mutex than a monitor has seats. */
+/* Threads that all wait at one mutex at the same time: crowd THREADS CONDITIONS. */
 #include <pthread.h>
 #include <stdio.h>
+#include <stdlib.h>
 #include <unistd.h>
 
-enum { THREADS = 40, UNTIL_ALL_WAIT_US = 100000 };
+enum { MOST = 64, LOOK_US = 1000 };
 
 static pthread_mutex_t mutex = PTHREAD_MUTEX_INITIALIZER;
-static pthread_cond_t condition = PTHREAD_COND_INITIALIZER;
+static pthread_cond_t conditions[MOST];
 static int may_go;
+static _Atomic int waiting;
 
-static void *work(void *unused) {
+static void *work(void *condition) {
     pthread_mutex_lock(&mutex);
-    while (!may_go) pthread_cond_wait(&condition, &mutex);
+    waiting++;
+    while (!may_go) pthread_cond_wait(condition, &mutex);
     pthread_mutex_unlock(&mutex);
-    return unused;
+    return NULL;
 }
 
-int main(void) {
-    pthread_t threads[THREADS];
-    for (int i = 0; i < THREADS; i++) pthread_create(&threads[i], NULL, work, NULL);
-    usleep(UNTIL_ALL_WAIT_US);
+int main(int count, char **words) {
+    int threads = count > 1 ? atoi(words[1]) : 1, many = count > 2 ? atoi(words[2]) : 1;
+    pthread_t thread[MOST];
+    if (threads < 1 || threads > MOST || many < 1 || many > MOST) return 2;
+    for (int k = 0; k < many; k++) pthread_cond_init(&conditions[k], NULL);
+    for (int i = 0; i < threads; i++) pthread_create(&thread[i], NULL, work, &conditions[i % many]);
+    while (waiting < threads) usleep(LOOK_US);
     pthread_mutex_lock(&mutex);
     may_go = 1;
-    pthread_cond_broadcast(&condition);
+    for (int k = 0; k < many; k++) pthread_cond_broadcast(&conditions[k]);
     pthread_mutex_unlock(&mutex);
-    for (int i = 0; i < THREADS; i++) pthread_join(threads[i], NULL);
+    for (int i = 0; i < threads; i++) pthread_join(thread[i], NULL);
     puts("crowd: all went");
     return 0;
 }

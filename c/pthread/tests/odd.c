@@ -1,68 +1,15 @@
 /* Odd uses of pthreads and C11 threads, each with the answers that the standards give. Prints one line; 0 if all are
    right. */
 #define _GNU_SOURCE
-#include <errno.h>
-#include <pthread.h>
+#include "box.h"
 #include <stdint.h>
-#include <stdio.h>
 #include <stdlib.h>
 #include <sys/mman.h>
 #include <sys/wait.h>
 #include <threads.h>
-#include <time.h>
 #include <unistd.h>
 
-enum {
-    NS_A_SECOND = 1000000000,
-    MS = 1000000,
-    TURNS = 200,
-    CROWD = 80,
-    CONDITIONS = 20,
-    MUTEXES = 100000,
-    OBJECTS = 300
-};
-
-static int bad;
-static const char *now;
-
-#define CHECK(holds)                                                 \
-    do {                                                             \
-        if (holds) break;                                            \
-        bad++;                                                       \
-        fprintf(stderr, "%s: line %d: %s\n", now, __LINE__, #holds); \
-    } while (0)
-
-/* A counter that is posted and taken. */
-struct box {
-    pthread_mutex_t mutex;
-    pthread_cond_t posted, never;
-    int posts, visits;
-};
-
-static void init(struct box *b, int type) {
-    pthread_mutexattr_t attributes;
-    pthread_mutexattr_init(&attributes);
-    pthread_mutexattr_settype(&attributes, type);
-    pthread_mutex_init(&b->mutex, &attributes);
-    pthread_cond_init(&b->posted, NULL);
-    pthread_cond_init(&b->never, NULL);
-    b->posts = b->visits = 0;
-}
-
-static void end(struct box *b) {
-    CHECK(pthread_mutex_destroy(&b->mutex) == 0);
-    pthread_cond_destroy(&b->posted);
-    pthread_cond_destroy(&b->never);
-}
-
-static void *post(void *it) {
-    struct box *b = it;
-    pthread_mutex_lock(&b->mutex);
-    b->posts++;
-    pthread_cond_signal(&b->posted);
-    pthread_mutex_unlock(&b->mutex);
-    return NULL;
-}
+enum { TURNS = 200, CROWD = 80, MUTEXES = 100000, OBJECTS = 300 };
 
 static void *post_late(void *it) {
     struct box *b = it;
@@ -71,20 +18,6 @@ static void *post_late(void *it) {
     pthread_mutex_unlock(&b->mutex);
     pthread_cond_signal(&b->posted);
     return NULL;
-}
-
-/* From inside. */
-static void take(struct box *b) {
-    while (!b->posts) pthread_cond_wait(&b->posted, &b->mutex);
-    b->posts--;
-}
-
-static struct timespec in(clockid_t clock, long ns) {
-    struct timespec time;
-    clock_gettime(clock, &time);
-    time.tv_nsec += ns;
-    if (time.tv_nsec >= NS_A_SECOND) time.tv_sec++, time.tv_nsec -= NS_A_SECOND;
-    return time;
 }
 
 static void *try_lock(void *it) { return (void *)(intptr_t)pthread_mutex_trylock(&((struct box *)it)->mutex); }
@@ -351,23 +284,6 @@ static void crowd(void) {
     CHECK(b.visits == CROWD * 20);
 }
 
-static void many_conditions(void) {
-    static pthread_cond_t conditions[CONDITIONS];
-    struct box b;
-    init(&b, PTHREAD_MUTEX_NORMAL);
-    for (int i = 0; i < CONDITIONS; i++) {
-        struct timespec limit = in(CLOCK_REALTIME, MS);
-        pthread_cond_init(&conditions[i], NULL);
-        pthread_mutex_lock(&b.mutex);
-        int answer = i % 2 ? pthread_cond_timedwait(&conditions[i], &b.mutex, &limit)
-                           : pthread_cond_clockwait(&conditions[i], &b.mutex, CLOCK_REALTIME, &limit);
-        CHECK(answer == ETIMEDOUT);
-        limit.tv_nsec = NS_A_SECOND;
-        CHECK(pthread_cond_timedwait(&conditions[i], &b.mutex, &limit) == EINVAL);
-        pthread_mutex_unlock(&b.mutex);
-    }
-}
-
 static void many_mutexes(void) {
     pthread_mutex_t *mutexes = malloc(MUTEXES * sizeof *mutexes);
     for (int i = 0; i < MUTEXES; i++) pthread_mutex_init(&mutexes[i], NULL), pthread_mutex_lock(&mutexes[i]);
@@ -387,7 +303,6 @@ static const struct {
             {"between processes", shared},
             {"C11", c11},
             {"80 threads", crowd},
-            {"20 conditions", many_conditions},
             {"100,000 mutexes", many_mutexes}};
 
 int main(void) {

@@ -21,7 +21,7 @@ runs a scene without threads, in every order, under each kind (`scenes`); `Buffe
 this very class.
 
 The library behind it is libmonk (docs/C.md): the file that MONK_LIBRARY names, else libmonk.so in this folder, else
-the system's libmonk.so.0. A refused call raises an error named after the answer, and then nothing has changed. """
+the system's libmonk.so.1. A refused call raises an error named after the answer, and then nothing has changed. """
 
 from .calls import Call, Calls, condition, enter, leave, signal, signal_all, wait
 from .conditions import Condition, Flag

@@ -122,6 +122,8 @@ def _load(path: str) -> types.ModuleType:
 def main(name: str, checks_of: Callable[[Any], List[Check]]) -> None:
     """The check of the file that the command line names. Status 0 if all is met, 1 if not, 2 if the file can't be
     loaded."""
+    # (a reader that has seen enough, as `head`, ends the check)
+    signal.signal(signal.SIGPIPE, signal.SIG_DFL)
     if len(sys.argv) != 2:
         print("usage: python3 check.py FILE", file=sys.stderr)
         sys.exit(2)

@@ -14,7 +14,7 @@ FOREVER = -1
 AT_ONCE = ctypes.c_long(0)
 # The greatest numbers that C holds: ctypes hands over what is left of a greater one, and says nothing.
 MOST_UNSIGNED, MOST_LONG = 2**32 - 1, 2 ** (8 * ctypes.sizeof(ctypes.c_long) - 1) - 1
-SYSTEMS_LIBRARY = "libmonk.so.0"
+SYSTEMS_LIBRARY = "libmonk.so.1"
 # Calls with a pointer, and those with a pointer and the number of a condition or a flag.
 OF_A_POINTER = ("stop", "close", "free", "abandon", "place", "arrive", "poll", "leave")
 OF_A_NUMBER = ("start_wait", "start_signal", "start_wait_until", "broadcast", "signal_leave", "waiting")

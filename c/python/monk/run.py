@@ -56,9 +56,8 @@ class Run(Told):
         return self.conditions
 
     def page_data(self) -> Dict[str, Any]:
-        """What a page may show besides the history: names, the data before the first event and at each, and how it ended."""
-        ends = f" Then {self.fault}." if self.why else ""
-        return {**super().page_data(), "told0": self.told[0], "told": self.told[1:], "ends": ends}
+        """What a page shows besides the history: names, the data before the first event and after each, and how it ended."""
+        return {**super().page_data(), "data": self.told, "end": f"Then {self.fault}." if self.why else ""}
 
     def _repr_html_(self) -> str:
         """In a notebook: the picture as text, and the story."""

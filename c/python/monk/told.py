@@ -53,7 +53,7 @@ class Told:
         _write(path, self.svg())
 
     def page(self, path: str) -> None:
-        """Writes the page that `monk page` makes of the history, which a browser steps through, into a file."""
+        """Writes the page that `monk page` makes of the history and of `page_data`, which a browser steps through."""
         with tempfile.TemporaryDirectory() as folder:
             stored = os.path.join(folder, "run.history")
             self.save(stored)
@@ -61,13 +61,15 @@ class Told:
         _write(path, answer)
 
     def save(self, path: str) -> None:
-        """Writes the history into a file, and what `page_data` tells into another beside it, PATH.told, as JSON."""
+        """Writes the history into a file, and what `page_data` tells into another beside it, PATH.told, which `monk page`
+        reads."""
         _write(path, self._text())
-        _write(path + ".told", json.dumps(self.page_data(), indent=1) + "\n")
+        # a page can hold no `<`
+        _write(path + ".told", json.dumps(self.page_data(), indent=1).replace("<", "\\u003c") + "\n")
 
     def page_data(self) -> Dict[str, Any]:
-        """What a page may show besides the history: names of seats and conditions."""
-        return {"names": _usual(self._names()), "conditionNames": _usual(self._condition_names())}
+        """What a page shows besides the history: names of seats and conditions."""
+        return {"seats": _usual(self._names(), "seat"), "conditions": _usual(self._condition_names(), "condition")}
 
     def picture(self, width: Optional[int] = None, is_plain: bool = False) -> str:
         """The history as a picture of text, in strips as wide as the terminal, or `width` columns wide. If it is plain it
@@ -82,8 +84,9 @@ class Told:
             return f"<pre style='line-height:1.25;white-space:pre;overflow-x:auto'>{html.escape(self.picture(WIDTH_IN_A_NOTEBOOK))}</pre>"
 
 
-def _usual(names: List[str]) -> List[str]:
-    return [UNUSUAL.sub("", name)[:LONGEST_NAME] for name in names]
+def _usual(names: List[str], what: str) -> List[str]:
+    """The names as a page may have them; a number in place of one of which nothing is left."""
+    return [UNUSUAL.sub("", name)[:LONGEST_NAME] or f"{what} {number}" for number, name in enumerate(names)]
 
 
 def _write(path: str, text: str) -> None:

@@ -34,6 +34,7 @@ pub fn under(header: &Header, kind: KindName) -> Header
     let (seats, conds) = (header.seats(), header.conds());
     match Header::new(kind, seats, conds, header.object(), header.size()) {
         Some(header) => header,
+        // What stood in a header is in range.
         None => unreachable!(),
     }
 }

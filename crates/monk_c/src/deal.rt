@@ -132,6 +132,7 @@ impl<K: Kind> Deal<K> {
         let pass = self.passes.pop()?;
         match self.rooms.pop() {
             Some(room) => Some(Seat::new(room, SeatToken::Outside(pass))),
+            // There is a room for each pass.
             None => unreachable!(),
         }
     }

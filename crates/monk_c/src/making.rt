@@ -22,6 +22,7 @@ fn seat_all(deal: AnyDeal, handles: &mut [MonkSeat])
         at -= 1;
         match deal.deal() {
             Some(seat) => handles[at].put(seat),
+            // The deal has a seat left for each handle that is left.
             None => unreachable!(),
         }
     }

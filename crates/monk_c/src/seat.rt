@@ -167,6 +167,7 @@ impl<K: Kind> Seat<K> {
             Call::SignalLeave(cond) => self.signal_leave(cond, wish),
             Call::SetFlags(bits) => self.set_flags(bits),
             Call::WaitUntil(flag) => self.wait_until(flag, wish),
+            // A plain call is neither.
             Call::Broadcast(_) | Call::SignalWait(_, _) => unreachable!(),
         }
     }

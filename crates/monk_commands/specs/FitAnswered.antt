@@ -1,36 +1,58 @@
 -- The answer to a text that is judged: of a log a finding, of a history the verdict under one kind or under each
-use Rattle.std.specs.Prelude.{◌≡◌, ◌^◌, ℕ, true, false, List, ◌++◌, Option, Some, None, Result, Ok, Err, codes, nat_lt}
-use Rattle.std.specs.Prelude.{if◌then◌else◌}
+use Rattle.std.specs.Prelude.{◌≡◌, ◌==◌, ◌^◌, ℕ, Bool, true, false, List, ◌++◌, Option, Some, None, codes, if◌then◌else◌}
+use Rattle.std.specs.List.{flat_map, list_any}
+use Rattle.monk_kinds.specs.Names.{kind_word, kinds}
 use Rattle.monk_kinds.specs.declared.name.KindName.{KindName}
-use Rattle.monk_object.specs.Names.{most}
 use Rattle.monk_history.specs.declared.event.Event.{Event}
-use Rattle.monk_history.specs.declared.text.fault.ReadFault.{ReadFault}
+use Rattle.monk_history.specs.Meaning.Named.{named_monitor}
 use Rattle.monk_history.specs.Text.{Heading}
 use Rattle.monk_history.specs.Text.Reading.{History, text_at}
-use Rattle.monk_commands.specs.Answer.{LineAnswer, too_big, unreadable}
-use Rattle.monk_commands.specs.Fitted.{fit_line, fit_of, is_fit, verdict_under}
+use Rattle.monk_audit.specs.Under.{under}
+use Rattle.monk_audit.specs.Verdict.{verdict_of}
+use Rattle.monk_audit.specs.declared.verdict.Verdict.{Verdict}
+use Rattle.monk_commands.specs.Answer.{IsOf, IsReading, IsSized, LineAnswer, verdict_answer}
 use Rattle.monk_commands.specs.LogAnswered.{IsAnswerToLog, is_log_text}
 use Rattle.monk_commands.specs.declared.fit_form.FitForm.{FitForm}
 use Rattle.monk_commands.specs.declared.fit_form.FitForm.TheVariants.{Words, Json}
 use Rattle.monk_commands.specs.declared.logs.view.LogView.TheVariants as view
 use Rattle.monk_commands.specs.declared.question.Question.{Question}
 
--- ---- a history under one kind
+-- ---- a history
 
--- the verdict on the events under the kind, whatever kind the header names
-abbrev pub kind_fit_answer : KindName → Heading → List Event → LineAnswer
-kind_fit_answer k h events =
-    if nat_lt (most h.object) h.size then too_big
-    else record { status = if is_fit (verdict_under h events k) then 0 else 1; text = fit_line h events k }
+-- the verdict on the events under a kind, whatever kind the header names
+abbrev pub verdict_under : Heading → List Event → KindName → Verdict
+verdict_under h events k = verdict_of (named_monitor (under k h)) events
 
--- the same for what was read
-abbrev pub kind_fit_reading : KindName → Result History ReadFault → LineAnswer
-kind_fit_reading k (Ok h) = kind_fit_answer k h.0 h.1
-kind_fit_reading k (Err f) = unreadable f
+-- they fit a kind where they are legal under it
+abbrev pub is_fit : Verdict → Bool
+is_fit v = (verdict_answer v).status == 0
 
--- the same for a history as input
-abbrev pub kind_fit_of : KindName → List ℕ → LineAnswer
-kind_fit_of k input = kind_fit_reading k (text_at (2 ^ 25) input)
+-- the line of a kind: the verdict on the events under it
+abbrev pub fit_line : Heading → List Event → KindName → List ℕ
+fit_line h events k = kind_word k ++ codes " " ++ (verdict_answer (verdict_under h events k)).text
+
+-- the lines of these kinds
+abbrev pub fit_lines : Heading → List Event → List KindName → List ℕ
+fit_lines h events ks = flat_map (fit_line h events) ks
+
+-- whether the events are legal under one of the kinds
+abbrev pub fits_some : Heading → List Event → List KindName → Bool
+fits_some h events ks = list_any (λ k. is_fit (verdict_under h events k)) ks
+
+-- the answer under the kind that is named, or under each
+abbrev pub fit_answer : Option KindName → Heading → List Event → LineAnswer
+fit_answer None h events =
+    record { status = if fits_some h events kinds then 0 else 1; text = fit_lines h events kinds }
+fit_answer (Some k) h events =
+    record { status = if is_fit (verdict_under h events k) then 0 else 1; text = fit_line h events k }
+
+-- the answer to a history
+abbrev pub IsFit : Option KindName → History → ℕ → List ℕ → Type 0
+IsFit k h status text = IsSized h.0.object h.0.size (IsOf (fit_answer k h.0 h.1)) status text
+
+-- the answer to the text of a history
+abbrev pub IsFitText : Option KindName → List ℕ → ℕ → List ℕ → Type 0
+IsFitText k input status text = IsReading (IsFit k) (text_at (2 ^ 25) input) status text
 
 -- ---- a text
 
@@ -44,14 +66,10 @@ pub record IsNamed (Is : ℕ → List ℕ → Type 0) (name : List ℕ) (status 
   pub is : Is status line
   pub named : text ≡ named_line name line
 
--- of an answer, its status and its text
-abbrev pub IsOf : LineAnswer → ℕ → List ℕ → Type 0
-IsOf a status text = (status ≡ a.status) × (text ≡ a.text)
-
 -- the answer to a history: ten lines, or one line under the kind behind its name
 abbrev pub IsHistoryFit : Option KindName → List ℕ → List ℕ → ℕ → List ℕ → Type 0
-IsHistoryFit None name input status text = IsOf (fit_of input) status text
-IsHistoryFit (Some k) name input status text = IsNamed (IsOf (kind_fit_of k input)) name status text
+IsHistoryFit None name input status text = IsFitText None input status text
+IsHistoryFit (Some k) name input status text = IsNamed (IsFitText (Some k) input) name status text
 
 -- the answer to a log: one line, behind its name or in JSON
 abbrev pub IsLogFit : FitForm → Question → List ℕ → ℕ → List ℕ → Type 0

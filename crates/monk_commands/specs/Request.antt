@@ -1,6 +1,6 @@
 -- The command line of the program, as clap sees it, and what a line asks for
-use Rattle.std.specs.Prelude.{◌≡◌, ℕ, List, [], ◌∷◌, ◌++◌, Option, Some, None, IfSome, IsSomeAnd, true, false, map, option_map, codes, pos}
-use Rattle.std.specs.Prelude.{string_bytes}
+use Rattle.std.specs.Prelude.{◌≡◌, ℕ, Bool, List, [], ◌∷◌, ◌++◌, Option, Some, None, IfSome, IsSomeAnd, true, false, map, option_map, codes, pos}
+use Rattle.std.specs.Prelude.{string_bytes, unwrap_or}
 use Rattle.std.specs.Str.Parse.{IsNumeral, digits_value, without_leading_plus}
 use Rattle.std.specs.Borrow.{Bor}
 use Rattle.clap.specs.Words.{AddsSubcommand, App, Row, Rule, Text, all_of, app_of, first_of, one_of, new_app, new_rule, with_rule}
@@ -11,6 +11,7 @@ use Rattle.clap.specs.declared.builder.command.Command.TheViews.{out-Command}
 use Rattle.clap.specs.declared.builder.value_parser.ValueParser.TheVariants.{Signed, Names}
 use Rattle.clap.specs.declared.builder.value_parser.ValueParser.{ValueParser}
 use Rattle.monk_draw.specs.Asked.{numbers_meant, window_fault}
+use Rattle.monk_draw.specs.declared.text_form.TextLayout.{TextLayout}
 use Rattle.monk_draw.specs.declared.window.Window.{Window}
 use Rattle.monk_kinds.specs.Names.{kind_word, kinds as monitor_kinds}
 use Rattle.monk_kinds.specs.declared.name.KindName.{KindName}
@@ -24,7 +25,7 @@ use Rattle.monk_commands.specs.declared.fit_form.FitForm.TheVariants.{Words, Jso
 use Rattle.monk_commands.specs.declared.request.Judging.{Judging}
 use Rattle.monk_commands.specs.declared.request.Line.{Line}
 use Rattle.monk_commands.specs.declared.request.Line.TheVariants.{Classify, Audit, Play, Upgrade, Fit, Trace, Explain}
-use Rattle.monk_commands.specs.declared.request.Line.TheVariants.{Draw, Page, Complete, Run, Record, Hasty}
+use Rattle.monk_commands.specs.declared.request.Line.TheVariants.{Draw, DrawText, Page, Complete, Run, Record, Hasty}
 
 -- a word that must stand there, and that the parser takes
 abbrev pub required_rule : Text → ValueParser → Rule
@@ -110,11 +111,20 @@ abbrev pub number_rule : Text → Rule
 number_rule name =
     record (new_rule name) { long = Some name; parser = Some (Signed (pos 0) (pos 4294967295)); value_names = 1 }
 
--- a command of that name that takes the first and the last of the events that it shows, and a file
-abbrev pub window_app : Text → App
-window_app name =
-    with_rule (with_rule (with_rule (new_app name) (number_rule (codes "from"))) (number_rule (codes "to")))
+-- a command of that name that takes the first and the last of the events that it shows
+abbrev pub shown_app : Text → App
+shown_app name = with_rule (with_rule (new_app name) (number_rule (codes "from"))) (number_rule (codes "to"))
+
+-- the command that takes these, how a picture of text is laid out, and a file
+abbrev pub draw_app : App
+draw_app =
+    with_rule (with_rule (with_rule (with_rule (shown_app (codes "draw")) (flag_rule (codes "text")))
+    (chosen_rule (codes "width") (Signed (pos 40) (pos 1000000)))) (flag_rule (codes "ascii")))
     (new_rule (codes "FILE"))
+
+-- the command that takes these, and files
+abbrev pub page_app : App
+page_app = with_rule (shown_app (codes "page")) files_rule
 
 -- a command of that name that takes a kind or none, and what is waited for in a log
 abbrev pub judging_app : Text → KindNames → App
@@ -164,8 +174,8 @@ plain_app fitted =
 abbrev pub monk_app : KindNames → KindNames → KindNames → RunNames → RunNames → KindNames → App
 monk_app fitted explained completed run recorded hasty =
     with_subcommand (with_subcommand (with_subcommand (with_subcommand (with_subcommand (with_subcommand
-    (with_subcommand (plain_app fitted) (explain_app explained).top) (window_app (codes "draw")).top)
-    (window_app (codes "page")).top) (complete_app completed).top) (run_app (codes "run") run).top)
+    (with_subcommand (plain_app fitted) (explain_app explained).top) draw_app.top)
+    page_app.top) (complete_app completed).top) (run_app (codes "run") run).top)
     (run_app (codes "record") recorded).top) (hasty_app hasty).top
 
 -- the command line of the program
@@ -218,7 +228,8 @@ command_word (Fit files judging form) = codes "fit"
 command_word (Trace file) = codes "trace"
 command_word (Explain file judging) = codes "explain"
 command_word (Draw file window) = codes "draw"
-command_word (Page file window) = codes "page"
+command_word (DrawText file window layout) = codes "draw"
+command_word (Page files window) = codes "page"
 command_word (Complete file kind) = codes "complete"
 command_word (Run kind sample seats rounds) = codes "run"
 command_word (Record kind sample seats rounds) = codes "record"
@@ -245,6 +256,30 @@ pub record IsWindowIn (window : Option Window) (rows : List Row) : Type 0 where
   pub found_to : MayHaveNumber (codes "to") to rows
   pub meant : option_map (λ (w : Window). (w.from, w.to)) window ≡ numbers_meant from to
   pub fine : IfSome (numbers_meant from to) (λ n. window_fault n.0 n.1 ≡ None)
+
+-- the flag of that name that clap has found, if any, says whether it is set
+pub record IsFlag (name : Text) (is_set : Bool) (rows : List Row) : Type 0 where
+  pub none : one_of name rows ≡ None → is_set ≡ false
+  pub set : one_of name rows ≡ Some (codes "true") → is_set ≡ true
+  pub unset : one_of name rows ≡ Some (codes "false") → is_set ≡ false
+
+-- how wide a picture of text is where no width is told
+abbrev pub usual_width : ℕ
+usual_width = 80
+
+-- a picture of text is asked for, in this layout
+pub record IsLayout (layout : TextLayout) (rows : List Row) : Type 0 where
+  pub text : IsFlag (codes "text") true rows
+  pub width : Option ℕ
+  pub found_width : MayHaveNumber (codes "width") width rows
+  pub is_width : layout.width ≡ unwrap_or width usual_width
+  pub ascii : IsFlag (codes "ascii") layout.is_ascii rows
+
+-- no picture of text is asked for, and no layout of one
+pub record IsNoLayout (rows : List Row) : Type 0 where
+  pub text : IsFlag (codes "text") false rows
+  pub width : MayHaveNumber (codes "width") None rows
+  pub ascii : IsFlag (codes "ascii") false rows
 
 -- the flag `json` that clap has found, if any, says so
 pub record IsForm (form : FitForm) (rows : List Row) : Type 0 where
@@ -307,8 +342,10 @@ ValuesAre (Trace file) rows = first_of (codes "FILE") rows ≡ option_map string
 ValuesAre (Explain file judging) rows =
     (first_of (codes "FILE") rows ≡ option_map string_bytes file) × AreJudging judging rows
 ValuesAre (Draw file window) rows = (first_of (codes "FILE") rows ≡ option_map string_bytes file)
-    × IsWindowIn window rows
-ValuesAre (Page file window) rows = (first_of (codes "FILE") rows ≡ option_map string_bytes file)
+    × IsWindowIn window rows × IsNoLayout rows
+ValuesAre (DrawText file window layout) rows = (first_of (codes "FILE") rows ≡ option_map string_bytes file)
+    × IsWindowIn window rows × IsLayout layout rows
+ValuesAre (Page files window) rows = (words_or_none (all_of (codes "FILE") rows) ≡ map string_bytes files.items)
     × IsWindowIn window rows
 ValuesAre (Complete file kind) rows = (first_of (codes "FILE") rows ≡ option_map string_bytes file)
     × (first_of (codes "kind") rows ≡ option_map kind_word kind)
@@ -327,7 +364,8 @@ RunIsInRange (Fit files judging form) = Unit {0}
 RunIsInRange (Trace file) = Unit {0}
 RunIsInRange (Explain file judging) = Unit {0}
 RunIsInRange (Draw file window) = Unit {0}
-RunIsInRange (Page file window) = Unit {0}
+RunIsInRange (DrawText file window layout) = Unit {0}
+RunIsInRange (Page files window) = Unit {0}
 RunIsInRange (Complete file kind) = Unit {0}
 RunIsInRange (Run kind sample seats rounds) = IsInRange seats rounds
 RunIsInRange (Record kind sample seats rounds) = IsInRange seats rounds

@@ -1,10 +1,9 @@
 -- The text of a run that tells a log, and the answer to a log of which a run is asked for
-use Rattle.std.specs.Prelude.{◌≡◌, ◌^◌, ◌<◌, ◌≤◌, MatchOption, ℕ, List, ◌∷◌, [], ◌++◌, Result, Ok, Err, codes}
+use Rattle.std.specs.Prelude.{◌≡◌, ◌^◌, MatchOption, ℕ, List, ◌∷◌, [], ◌++◌, codes}
 use Rattle.std.specs.Fmt.{decimal}
 use Rattle.std.specs.List.{flat_map}
-use Rattle.monk_object.specs.Names.{meaning_named, most, object_word, opening_named}
+use Rattle.monk_object.specs.Names.{meaning_named, object_word, opening_named}
 use Rattle.monk_history.specs.Text.Lines.{line}
-use Rattle.monk_history.specs.declared.text.fault.ReadFault.{ReadFault}
 use Rattle.monk_judge.specs.Blame.{blame_word}
 use Rattle.monk_judge.specs.Reports.{IsRunOf}
 use Rattle.monk_judge.specs.Run.{setting}
@@ -15,8 +14,7 @@ use Rattle.monk_judge.specs.declared.step.Step.{Step}
 use Rattle.monk_logs.specs.Log.{LogHeading}
 use Rattle.monk_logs.specs.Log.Reading.{Log, log_at}
 use Rattle.monk_logs.specs.declared.text.line.LogLine.{LogLine}
-use Rattle.monk_commands.specs.Answer.{too_big, unreadable}
-use Rattle.monk_commands.specs.FitAnswered.{IsOf}
+use Rattle.monk_commands.specs.Answer.{IsReading, IsSized}
 use Rattle.monk_commands.specs.LogFound.{number}
 
 -- ---- the text
@@ -57,16 +55,10 @@ pub record IsSomeRun (h : LogHeading) (lines : List LogLine) (status : ℕ) (tex
   pub is : IsRunOfLog h lines run
   pub given : IsRunGiven h run status text
 
--- the answer to a log that was read
-pub record IsRunOrMisfit (h : LogHeading) (lines : List LogLine) (status : ℕ) (text : List ℕ) : Type 0 where
-  pub run : h.size ≤ most h.object → IsSomeRun h lines status text
-  pub too_big : most h.object < h.size → IsOf too_big status text
-
--- the answer to what was read as a log
-abbrev pub IsRunReading : Result Log ReadFault → ℕ → List ℕ → Type 0
-IsRunReading (Ok l) status text = IsRunOrMisfit l.0 l.1 status text
-IsRunReading (Err f) status text = IsOf (unreadable f) status text
+-- the answer to a log
+abbrev pub IsRunGivenTo : Log → ℕ → List ℕ → Type 0
+IsRunGivenTo l status text = IsSized l.0.object l.0.size (IsSomeRun l.0 l.1) status text
 
 -- the answer to a text
 abbrev pub IsRunAnswer : List ℕ → ℕ → List ℕ → Type 0
-IsRunAnswer input status text = IsRunReading (log_at (2 ^ 25) input) status text
+IsRunAnswer input status text = IsReading IsRunGivenTo (log_at (2 ^ 25) input) status text

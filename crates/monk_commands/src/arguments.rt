@@ -1,11 +1,12 @@
 //! The arguments of the commands.
 
-ghost use Rattle.std.specs.Prelude.{◌≡◌, codes, false};
+ghost use Rattle.std.specs.Prelude.{◌≡◌, codes, false, pos};
 ghost use Rattle.clap.specs.Words.{new_rule, rule_of};
+ghost use Rattle.clap.specs.declared.builder.value_parser.ValueParser.TheVariants.{Signed};
 ghost use Rattle.monk_commands.specs.Request.{chosen_rule, files_rule, flag_rule, number_rule, repeated_rule};
 ghost use Rattle.monk_commands.specs.Request.{required_rule};
 
-use crate::help::{FILE, FILES, HISTORY};
+use crate::help::{FILE, FILES, HISTORY, WIDTH};
 use clap::builder::ValueParser;
 use clap::{Arg, ArgAction, value_parser};
 use std::alloc::Global;
@@ -103,4 +104,13 @@ pub(crate) fn number<'a>(alloc: Global, name: &'a str, help: &'a str) -> Arg<'a>
         .long(name)
         .value_name("N")
         .value_parser(value_parser!(u32))
+}
+
+/// The option that says how wide a picture of text is. In 40 columns there is room for each event without names.
+pub(crate) fn width<'a>(alloc: Global) -> Arg<'a>
+    ensures rule { rule_of result ≡ chosen_rule (codes "width") (Signed (pos 40) (pos 1000000)) }
+    ensures local { result.global ≡ false }
+{
+    let parser = value_parser!(u32).range(40..=1_000_000);
+    chosen(alloc, "width", WIDTH, "N", parser)
 }

@@ -31,6 +31,7 @@ pub(crate) fn header_of(kind: KindName, header: &LogHeader) -> Header
     let (seats, conds) = (header.seats(), header.conds());
     match Header::new(kind, seats, conds, header.object(), header.size()) {
         Some(header) => header.upgraded(),
+        // What stood in the header of a log is in range.
         None => unreachable!(),
     }
 }

@@ -11,6 +11,12 @@ pub(crate) const FROM: &str = "The first event to show";
 
 pub(crate) const TO: &str = "The last event to show";
 
+pub(crate) const TEXT: &str = "Draw it as text, with the names that FILE.told has";
+
+pub(crate) const WIDTH: &str = "How many columns the text has, 40 or more; 80 where none is told";
+
+pub(crate) const ASCII: &str = "Draw the text in ASCII";
+
 /// What the help of a command says of it: what it does; then an example, its exit statuses, and the page to read.
 pub(crate) struct Help {
     pub(crate) about: &'static str,
@@ -83,6 +89,7 @@ pub(crate) static DRAW: Help = Help {
         up to the forbidden one; with --from alone the first 2000 from there on; with --to alone the\n\
         last 2000 up to there; with both at most 2000.\n\
         Example: monk draw examples/hoare_handover.history --from 4 --to 7\n\
+        Example: monk draw --text examples/mesa_barging.history\n\
         Example: monk draw examples/if_for_while.log\n\
         Status: 0 legal, 1 forbidden, 2 unreadable; 3 wrong words, 4 a failed file or no memory.\n\
         Of a log 0 fits, 1 misfits\n\
@@ -91,7 +98,8 @@ pub(crate) static DRAW: Help = Help {
 
 pub(crate) static PAGE: Help = Help {
     about: "Makes a page of a history or a log: its picture, and how things stand at each step",
-    example: "Events are numbered and chosen as by monk draw.\n\
+    example: "Events are numbered and chosen as by monk draw. Of 2 to 4 histories it makes one page.\n\
+        FILE.told beside a history has names and data that the page shows.\n\
         Example: monk page examples/hoare_handover.history > page.html\n\
         Example: monk page examples/if_for_while.log > page.html\n\
         Status: 0 legal, 1 forbidden, 2 unreadable; 3 wrong words, 4 a failed file or no memory.\n\

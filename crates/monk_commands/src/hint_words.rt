@@ -1,8 +1,5 @@
 //! The sentences of the hints.
 
-ghost use Rattle.std.specs.Prelude.{◌≡◌};
-ghost use Rattle.monk_commands.specs.Hint.{article, commands_that_read, header_form};
-
 use crate::hint::Hint;
 use crate::text_name::TextName;
 use monk_history::{MOST_CONDS, MOST_SEATS};
@@ -11,11 +8,6 @@ use std::fmt;
 
 /// One sentence, without a line's end: what is odd, and what to do.
 impl fmt::Display for Hint {
-    ghost use Rattle.std.specs.Prelude.{Some};
-    ghost use Rattle.monk_commands.specs.Hint.{sentence};
-
-    ghost output = { λ h. Some (sentence h) };
-
     fn fmt<W: fmt::Write>(&self, f: &mut fmt::Formatter<W>) -> fmt::Result {
         match *self {
             Hint::Empty(text) => {
@@ -85,9 +77,7 @@ impl fmt::Display for Hint {
 }
 
 /// How the text's first line is written in version 1.
-fn header_form(text: TextName) -> &'static str
-    ensures { result.now ≡ header_form text }
-{
+fn header_form(text: TextName) -> &'static str {
     match text {
         TextName::History => "monk 1 KIND SEATS CONDS OBJECT SIZE",
         TextName::Play => "play 1 KIND SEATS CONDS OBJECT SIZE BUDGET",
@@ -96,9 +86,7 @@ fn header_form(text: TextName) -> &'static str
 }
 
 /// The commands that read it.
-fn commands_that_read(text: TextName) -> &'static str
-    ensures { result.now ≡ commands_that_read text }
-{
+fn commands_that_read(text: TextName) -> &'static str {
     match text {
         TextName::History => "monk audit, explain, draw, page, fit or upgrade",
         TextName::Play => "monk play or trace",
@@ -107,9 +95,7 @@ fn commands_that_read(text: TextName) -> &'static str
 }
 
 /// What stands before the word of the object in a sentence: flags are many.
-fn article(object: ObjectName) -> &'static str
-    ensures { result.now ≡ article object }
-{
+fn article(object: ObjectName) -> &'static str {
     match object {
         ObjectName::Buffer | ObjectName::Book | ObjectName::Shop => "a ",
         ObjectName::Flags => "",

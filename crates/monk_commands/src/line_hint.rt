@@ -1,9 +1,6 @@
 //! What form a line should have that can't be read.
 
-ghost use Rattle.std.specs.Prelude.{◌≡◌, option_map};
-ghost use Rattle.monk_commands.specs.LineHint as hint;
-
-use crate::hint::{first_line, line_at};
+use crate::hint::line_at;
 use crate::line_form::LineSet;
 use crate::task::Task;
 use crate::text_name::TextName;
@@ -32,48 +29,22 @@ pub struct LineHint {
 /// # Cost
 ///
 /// At most three passes over the front. No memory is taken.
-pub fn line_hint_for(task: &Task<'_>, front: &[u8]) -> Option<LineHint>
-    ensures { option_map hint.said result ≡ hint.line_hint_of task.now front.now }
-{
-    let mut words = LineWords::of(first_line(front)?);
+pub fn line_hint_for(task: &Task<'_>, front: &[u8]) -> Option<LineHint> {
+    let mut words = LineWords::of(line_at(front, 0)?);
     let text = TextName::of_word(words.next()?)?;
     if !text.is_read_by(task) {
         return None;
     }
     let lines = LineSet::of(text, words.next()?);
-    hint_by(lines, front, fault_in(text, front)?)
-}
-
-/// The first fault of a text of that name.
-fn fault_in(text: TextName, front: &[u8]) -> Option<ReadFault>
-    ensures { result ≡ hint.fault_in text front.now }
-{
-    match text {
-        TextName::History => CheckedLines::<Header, Event>::check(front, MOST_LINES).err(),
-        TextName::Play => PlayLines::check(front).err(),
-        TextName::Log => LogLines::check(front).err(),
-    }
-}
-
-/// What is wrong within a line, by the number of the fault.
-fn flaw_numbered(number: u8) -> Option<Flaw>
-    ensures { result ≡ hint.flaw_numbered number }
-{
-    match number {
-        ReadFault::WORD => Some(Flaw::Word),
-        ReadFault::NUMBER => Some(Flaw::Number),
-        _ => None,
-    }
-}
-
-/// By the fault, if it is within a line behind the first.
-fn hint_by(lines: LineSet, front: &[u8], fault: ReadFault) -> Option<LineHint>
-    ensures { option_map hint.said result ≡ hint.said_by_fault lines front.now fault }
-{
+    let fault = fault_in(text, front)?;
+    let flaw = match fault.number {
+        ReadFault::WORD => Flaw::Word,
+        ReadFault::NUMBER => Flaw::Number,
+        _ => return None,
+    };
     if fault.line < 2 {
         return None;
     }
-    let flaw = flaw_numbered(fault.number)?;
     Some(LineHint {
         line: fault.line,
         lines,
@@ -82,21 +53,23 @@ fn hint_by(lines: LineSet, front: &[u8], fault: ReadFault) -> Option<LineHint>
     })
 }
 
+/// The first fault of a text of that name.
+fn fault_in(text: TextName, front: &[u8]) -> Option<ReadFault> {
+    match text {
+        TextName::History => CheckedLines::<Header, Event>::check(front, MOST_LINES).err(),
+        TextName::Play => PlayLines::check(front).err(),
+        TextName::Log => LogLines::check(front).err(),
+    }
+}
+
 /// The form that a line should have, by the word that names it. The first line has number 1.
-fn form_at(lines: LineSet, front: &[u8], line: u32) -> Option<&'static str>
-    ensures { option_map (λ x. x.now) result ≡ hint.form_at lines front.now line }
-{
+fn form_at(lines: LineSet, front: &[u8], line: u32) -> Option<&'static str> {
     let line = line_at(front, line.saturating_sub(1) as usize)?;
     lines.form(lines.naming_word(LineWords::of(line))?)
 }
 
 /// One sentence, without a line's end: which line it is, and what it should be.
 impl fmt::Display for LineHint {
-    ghost use Rattle.std.specs.Prelude.{Some};
-    ghost use Rattle.monk_commands.specs.LineHint.{line_sentence, said};
-
-    ghost output = { λ h. Some (line_sentence (said h)) };
-
     fn fmt<W: fmt::Write>(&self, f: &mut fmt::Formatter<W>) -> fmt::Result {
         write!(f, "line {} should ", self.line)?;
         match self.form {
@@ -108,9 +81,7 @@ impl fmt::Display for LineHint {
 }
 
 /// What is said of numbers, where one is wrong.
-fn number_words(flaw: Flaw) -> &'static str
-    ensures { result.now ≡ hint.number_words flaw }
-{
+fn number_words(flaw: Flaw) -> &'static str {
     match flaw {
         Flaw::Word => "",
         Flaw::Number => {

@@ -16,6 +16,7 @@ pub(crate) fn buffer(alloc: Global, size: u8) -> Result<Buffer, AllocError>
     match Buffer::make(alloc, size) {
         Ok(buffer) => Ok(buffer),
         Err(ObjectFault::Memory) => Err(AllocError),
+        // The size is in range.
         Err(_) => unreachable!(),
     }
 }
@@ -28,6 +29,7 @@ pub(crate) fn book(size: u8) -> Book
 {
     match Book::make(size) {
         Ok(book) => book,
+        // The size is in range.
         Err(_) => unreachable!(),
     }
 }
@@ -40,6 +42,7 @@ pub(crate) fn shop(size: u8) -> Shop
 {
     match Shop::make(size) {
         Ok(shop) => shop,
+        // The size is in range.
         Err(_) => unreachable!(),
     }
 }
@@ -52,6 +55,7 @@ pub(crate) fn flags(size: u8) -> Flags
 {
     match Flags::make(size) {
         Ok(flags) => flags,
+        // The size is in range.
         Err(_) => unreachable!(),
     }
 }

@@ -1,13 +1,6 @@
 //! What the options of `fit` and `explain` name that the input doesn't have.
 
-ghost use Rattle.std.specs.Prelude.{◌≡◌};
-ghost use Rattle.std.specs.Option.{option_map};
-ghost use Rattle.monk_object.specs.Names.{meaning_named};
-ghost use Rattle.monk_history.specs.Text.Words.{words_left, words_of};
-ghost use Rattle.monk_logs.specs.Log.Reading.{log_header_at};
-ghost use Rattle.monk_commands.specs.OptionHint.{fit_hint, heading_hint, history_hint, meaning_hint, means_hint, option_hint_of};
-
-use crate::hint::first_line;
+use crate::hint::line_at;
 use crate::task::Task;
 use crate::text_name::TextName;
 use monk_history::lines::{Head, LineWords};
@@ -47,84 +40,36 @@ pub enum OptionHint {
 /// # Cost
 ///
 /// One pass over the first line and one over the meanings. No memory is taken.
-pub fn option_hint_for(task: &Task<'_>, front: &[u8]) -> Option<OptionHint>
-    ensures { result ≡ option_hint_of task.now front.now }
-{
-    match *task {
-        Task::Fit(_, question) | Task::Explain(question) => {
-            fit_hint(question.means, first_line(front))
-        }
-        Task::Audit
-        | Task::Play
-        | Task::Upgrade
-        | Task::Trace
-        | Task::Draw(_)
-        | Task::Page(_)
-        | Task::Complete(_) => None,
-    }
-}
-
-/// By the first line, where it begins as a header.
-fn fit_hint(means: &[WaitsFor], line: Option<&[u8]>) -> Option<OptionHint>
-    ensures { result ≡ fit_hint means.now (words_left (option_map (λ x. x.now) line.entry)) }
-{
-    let line = line?;
+pub fn option_hint_for(task: &Task<'_>, front: &[u8]) -> Option<OptionHint> {
+    let (Task::Fit(_, question) | Task::Explain(question)) = *task else {
+        return None;
+    };
+    let line = line_at(front, 0)?;
     match TextName::of_word(LineWords::of(line).next()?)? {
-        TextName::History => history_hint(means),
-        TextName::Play => None,
-        TextName::Log => log_hint(means, line),
+        TextName::History if !question.means.is_empty() => Some(OptionHint::History),
+        TextName::History | TextName::Play => None,
+        TextName::Log => log_hint(question.means, line),
     }
 }
 
-/// By the options, where the input is a history.
-fn history_hint(means: &[WaitsFor]) -> Option<OptionHint>
-    ensures { result ≡ history_hint means.now }
-{
-    if means.is_empty() {
-        None
-    } else {
-        Some(OptionHint::History)
-    }
-}
-
-/// By the first line of a log.
-fn log_hint(means: &[WaitsFor], line: &[u8]) -> Option<OptionHint>
-    ensures { result ≡ heading_hint means.now (log_header_at (words_of line.entry.now)) }
-{
+/// By the first line of a log: it has no such condition, or its object no such predicate.
+fn log_hint(means: &[WaitsFor], line: &[u8]) -> Option<OptionHint> {
     let header = LogHeader::parse(&mut LineWords::of(line)).ok()?;
-    means_hint(&header, means)
-}
-
-/// By the header of a log.
-fn means_hint(header: &LogHeader, means: &[WaitsFor]) -> Option<OptionHint>
-    ensures { result ≡ means_hint header.now means.now }
-{
+    let (conds, object) = (header.conds(), header.object());
     for meaning in means {
-        if let Some(hint) = meaning_hint(header, *meaning) {
-            return Some(hint);
+        let meaning = *meaning;
+        if meaning.cond >= conds {
+            return Some(OptionHint::Condition { meaning, conds });
+        }
+        if meaning.pred >= predicates(object) {
+            return Some(OptionHint::Predicate { meaning, object });
         }
     }
     None
 }
 
-/// Where the log has no such condition, or its object no such predicate.
-fn meaning_hint(header: &LogHeader, meaning: WaitsFor) -> Option<OptionHint>
-    ensures { result ≡ meaning_hint header.now meaning }
-{
-    let (conds, object) = (header.conds(), header.object());
-    if meaning.cond >= conds {
-        Some(OptionHint::Condition { meaning, conds })
-    } else if meaning.pred >= predicates(object) {
-        Some(OptionHint::Predicate { meaning, object })
-    } else {
-        None
-    }
-}
-
 /// How many predicates the object has.
-pub(crate) fn predicates(object: ObjectName) -> u8
-    ensures { result ≡ (meaning_named object).predicates }
-{
+pub(crate) fn predicates(object: ObjectName) -> u8 {
     match object {
         ObjectName::Buffer => Buffer::PREDICATES,
         ObjectName::Book => Book::PREDICATES,

@@ -1,8 +1,5 @@
 //! The sentences of the hints about options.
 
-ghost use Rattle.std.specs.Prelude.{◌≡◌};
-ghost use Rattle.monk_commands.specs.OptionHint.{object_called};
-
 use crate::option_hint::{OptionHint, predicates};
 use monk_judge::WaitsFor;
 use monk_object::ObjectName;
@@ -10,11 +7,6 @@ use std::fmt;
 
 /// One sentence, without a line's end: what isn't there, and what is.
 impl fmt::Display for OptionHint {
-    ghost use Rattle.std.specs.Prelude.{Some};
-    ghost use Rattle.monk_commands.specs.OptionHint.{option_sentence};
-
-    ghost output = { λ h. Some (option_sentence h) };
-
     fn fmt<W: fmt::Write>(&self, f: &mut fmt::Formatter<W>) -> fmt::Result {
         match *self {
             OptionHint::Condition { meaning, conds } => write!(
@@ -42,11 +34,6 @@ impl fmt::Display for OptionHint {
 struct Meaning(WaitsFor);
 
 impl fmt::Display for Meaning {
-    ghost use Rattle.std.specs.Prelude.{Some};
-    ghost use Rattle.monk_commands.specs.OptionHint.{meaning_words};
-
-    ghost output = { λ m. Some (meaning_words m.0) };
-
     fn fmt<W: fmt::Write>(&self, f: &mut fmt::Formatter<W>) -> fmt::Result {
         write!(f, "--means {}={}", self.0.cond, self.0.pred)
     }
@@ -57,11 +44,6 @@ impl fmt::Display for Meaning {
 struct HowMany(u8);
 
 impl fmt::Display for HowMany {
-    ghost use Rattle.std.specs.Prelude.{Some};
-    ghost use Rattle.monk_commands.specs.OptionHint.{how_many};
-
-    ghost output = { λ h. Some (how_many h.0) };
-
     fn fmt<W: fmt::Write>(&self, f: &mut fmt::Formatter<W>) -> fmt::Result {
         match self.0 {
             0 => write!(f, "none"),
@@ -71,9 +53,7 @@ impl fmt::Display for HowMany {
 }
 
 /// The object, with its article.
-fn object_called(object: ObjectName) -> &'static str
-    ensures { result.now ≡ object_called object }
-{
+fn object_called(object: ObjectName) -> &'static str {
     match object {
         ObjectName::Buffer => "a buffer",
         ObjectName::Book => "a book",

@@ -55,6 +55,7 @@ fn play_as<K: Kind, T: Listed, W: Write>(
             Some(shown) => put_trace(alloc, &mut world, shown, play, writer),
         },
         Err(MakeFault::Memory) => Err(StreamFault::Memory),
+        // The numbers of a play that was read are in range.
         Err(_) => unreachable!(),
     }
 }

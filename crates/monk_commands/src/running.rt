@@ -135,6 +135,7 @@ pub(crate) fn ended(alloc: Global, fault: RunFault) -> Result<LineAnswer, Stream
         RunFault::Busy => "busy\n",
         RunFault::Memory => return Err(StreamFault::Memory),
         RunFault::Thread => return Err(StreamFault::File),
+        // The seats and rounds were in range.
         RunFault::Range => unreachable!(),
     };
     let text = String::from_str(alloc, word)?;

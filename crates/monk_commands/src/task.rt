@@ -6,24 +6,24 @@ ghost use Rattle.monk_commands.specs.Tasks.{IsTaskAnswer};
 
 use crate::auditing::audit_stream;
 use crate::completing::complete_stream;
-use crate::explaining::explain_stream;
 use crate::fault::StreamFault;
 use crate::fit_form::FitForm;
-use crate::fitting::fit_stream;
-use crate::logs::completing::complete_run_stream;
 use crate::playing::play_stream;
 use crate::question::Question;
 use crate::show::Show;
-use crate::showing::show_stream;
+use crate::text_task::TextTask;
 use crate::tracing::trace_stream;
 use crate::upgrading::upgrade_stream;
-use monk_draw::Window;
+use monk_draw::{Picture, TextForm, Window};
 use monk_history::Device;
 use monk_kinds::KindName;
 use std::alloc::Global;
 use std::io::{Read, Write};
 
 /// A command that reads an input: what is made of it.
+///
+/// Where the input isn't such a text, the line `unreadable LINE NUMBER WORD` is written with status 2, and where the
+/// size is above the object's greatest, `object` with status 2. docs/TEXT.md and docs/LOGS.md have the texts.
 #[derive(Clone, Copy)]
 pub enum Task<'a> {
     /// The verdict on a history, by [`audit_stream`].
@@ -32,18 +32,62 @@ pub enum Task<'a> {
     Play,
     /// The same history in a version that has every event, by [`upgrade_stream`].
     Upgrade,
-    /// How a history or a log is judged, by [`fit_stream`].
+    /// How a history or a log is judged.
+    ///
+    /// Of a log, whose first word is `log`, one line is written behind `NAME: `, or one line of JSON: whether it fits,
+    /// how its program ends, and what is counted and found beside ([`judge_log`](monk_judge::judge_log)). Lines are
+    /// counted as in the file. The status is 1 if the log misfits, misses a signal or ends busy, though its program
+    /// didn't end by itself; else 0. A log with another kind than NPNB, or with meanings but without acts, is refused
+    /// by a line with status 2.
+    ///
+    /// Of a history, whatever kind its header names, ten lines are written, in the order of [`KindName::ALL`]:
+    /// `KIND legal N` or `KIND forbidden STEP REASON WORD`. The status is 0 where the events are legal under one kind
+    /// at least, else 1. With a kind its line alone is written, behind `NAME: `, with status 0 if they are legal
+    /// under it.
+    ///
+    /// Of a log it takes one pass over the text and two over its lines, and memory for 24 bytes for each line and for
+    /// the text, or for 32 bytes for each line, whichever is more. Of a history it takes one pass over the text and
+    /// one over the events for each kind, and memory for the text, the events and the queues.
     Fit(FitForm, Question<'a>),
     /// Each command of a play with its answer, by [`trace_stream`].
     Trace,
-    /// How a history or a log is judged, and why, by [`explain_stream`].
+    /// How a history or a log is judged, and why.
+    ///
+    /// Of a history the line of an audit is written, with its status, under the kind if one is named. Of a legal one
+    /// the situation follows in which it ends: the kind, the turn, who is inside, the data, the acts that the object
+    /// refused and the queues. Of a forbidden one follow the event that is not allowed, the situation before it, the
+    /// object's own reply or what might have been chosen, and a sentence that says why.
+    ///
+    /// Of a log the line of `Fit` is written, with its status. Then come the lines to look at, each with where it
+    /// stands in the source if the recorder wrote that down, and a sentence: of a misfit that line and those that led
+    /// to it, else what is wrong at the end. Last it tells where each seat is, and since which line.
+    ///
+    /// Of a history it takes two passes over the events, of a log twice what `Fit` takes, and memory for the steps of a
+    /// run.
     Explain(Question<'a>),
-    /// The picture of a history or of a log, by [`show_stream`]: of the events that are asked for.
+    /// The picture of a history or of a log: of the events that are asked for.
+    ///
+    /// Of a log the run is shown that `Complete` writes: a column for each line up to the one that misfits, which is
+    /// framed, with the word for what is wrong and its number in the file. The status is 1 if the log misfits, else 0.
+    ///
+    /// Of a history the events are shown up to the first that is forbidden, or up to the end; without a window the last
+    /// 200. The status is that of an audit. Where the window begins behind the last event that can be shown, the line
+    /// `window LAST` is written with status 2 and the number of that event, which is 0 where there is none.
+    ///
+    /// It takes two passes over the events, and memory for the text, for the events and for what is written.
     Draw(Option<Window>),
-    /// The page of a history or of a log, by [`show_stream`]: of the events that are asked for.
+    /// The same picture as lines of text, by [`monk_draw::draw_text`].
+    DrawText(Option<Window>, TextForm<'a>),
+    /// The page of a history or of a log: that picture, and each step that is shown. It costs what
+    /// [`monk_page::article`] does.
     Page(Option<Window>),
-    /// A legal history of a monitor of the kind that tells a log, by [`complete_stream`]; with no kind, a run
-    /// of a mutex with condition variables, by [`complete_run_stream`].
+    /// A legal history of a monitor of the kind that tells a log, by [`complete_stream`]; with no kind, a run of a
+    /// mutex with condition variables that tells it, with status 0.
+    ///
+    /// A run begins with the line `run NPNB SEATS CONDS OBJECT SIZE`, and has a line for each step. A step is a line of
+    /// the log, with ` wakes SEAT` behind a signal that woke a thread; or `out SEAT`, where the thread's time ran out;
+    /// or `wake SEAT`, where it woke though nobody sent a signal. No run that tells the log has fewer of these. If no
+    /// run tells it, `misfit at LINE: WORD` is written with status 1: the first line of the file with which none does.
     Complete(Option<KindName>),
 }
 
@@ -81,13 +125,24 @@ impl Task<'_> {
             Task::Audit => audit_stream(alloc, reader, writer),
             Task::Play => play_stream(alloc, reader, writer),
             Task::Upgrade => upgrade_stream(alloc, reader, writer),
-            Task::Fit(form, question) => fit_stream(alloc, form, question, reader, writer),
+            Task::Fit(form, question) => {
+                TextTask::Fit(form, question).stream(alloc, reader, writer)
+            }
             Task::Trace => trace_stream(alloc, reader, writer),
-            Task::Explain(question) => explain_stream(alloc, question, reader, writer),
-            Task::Draw(window) => show_stream(alloc, Show::Picture, window, reader, writer),
-            Task::Page(window) => show_stream(alloc, Show::Page, window, reader, writer),
+            Task::Explain(question) => TextTask::Explain(question).stream(alloc, reader, writer),
+            Task::Draw(window) => {
+                let show = Show::Picture(Picture::Svg);
+                TextTask::Show(show, window).stream(alloc, reader, writer)
+            }
+            Task::DrawText(window, form) => {
+                let show = Show::Picture(Picture::Text(form));
+                TextTask::Show(show, window).stream(alloc, reader, writer)
+            }
+            Task::Page(window) => {
+                TextTask::Show(Show::Page, window).stream(alloc, reader, writer)
+            }
             Task::Complete(Some(kind)) => complete_stream(alloc, kind, reader, writer),
-            Task::Complete(None) => complete_run_stream(alloc, reader, writer),
+            Task::Complete(None) => TextTask::CompleteRun.stream(alloc, reader, writer),
         }
     }
 }

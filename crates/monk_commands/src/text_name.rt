@@ -1,8 +1,5 @@
 //! The texts that the commands read.
 
-ghost use Rattle.std.specs.Prelude.{◌≡◌};
-ghost use Rattle.monk_commands.specs.Hint.{newest, reads, text_named, wanted};
-
 use crate::task::Task;
 use std::fmt;
 
@@ -25,9 +22,7 @@ pub enum TextName {
 
 impl TextName {
     /// The text whose first word this is, byte for byte; `None` where it is the first word of none.
-    pub fn of_word(word: &[u8]) -> Option<TextName>
-        ensures { result ≡ text_named word.now }
-    {
+    pub fn of_word(word: &[u8]) -> Option<TextName> {
         match word {
             b"monk" => Some(TextName::History),
             b"play" => Some(TextName::Play),
@@ -37,9 +32,7 @@ impl TextName {
     }
 
     /// Its newest version.
-    pub(crate) fn newest_version(self) -> u8
-        ensures { result ≡ newest self }
-    {
+    pub(crate) fn newest_version(self) -> u8 {
         match self {
             TextName::History | TextName::Play => NEWEST,
             TextName::Log => NEWEST_OF_LOGS,
@@ -47,23 +40,18 @@ impl TextName {
     }
 
     /// Whether the task reads it.
-    pub fn is_read_by(self, task: &Task<'_>) -> bool
-        ensures { result ≡ reads task.now self }
-    {
+    pub fn is_read_by(self, task: &Task<'_>) -> bool {
         match task {
             Task::Audit | Task::Upgrade => self == TextName::History,
             Task::Play | Task::Trace => self == TextName::Play,
             Task::Complete(_) => self == TextName::Log,
-            Task::Fit(..) | Task::Explain(_) | Task::Draw(_) | Task::Page(_) => {
-                self != TextName::Play
-            }
+            Task::Fit(..) | Task::Explain(_) | Task::Draw(_) | Task::DrawText(..) | Task::Page(_) =>
+                self != TextName::Play,
         }
     }
 
     /// The text that the task reads; a history where it reads two.
-    pub fn wanted_by(task: &Task<'_>) -> TextName
-        ensures { result ≡ wanted task.now }
-    {
+    pub fn wanted_by(task: &Task<'_>) -> TextName {
         match task {
             Task::Play | Task::Trace => TextName::Play,
             Task::Complete(_) => TextName::Log,
@@ -74,11 +62,6 @@ impl TextName {
 
 /// With its article: `a history`.
 impl fmt::Display for TextName {
-    ghost use Rattle.std.specs.Prelude.{Some};
-    ghost use Rattle.monk_commands.specs.Hint.{text_called};
-
-    ghost output = { λ t. Some (text_called t) };
-
     fn fmt<W: fmt::Write>(&self, f: &mut fmt::Formatter<W>) -> fmt::Result {
         match *self {
             TextName::History => write!(f, "a history"),

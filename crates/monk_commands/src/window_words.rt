@@ -10,7 +10,11 @@ use monk_draw::{Window, WindowFault};
 use std::alloc::Global;
 
 /// The number that is told for a name, if one is. clap has tested that it is one, and has no contract that says so.
-fn number_of(alloc: Global, matches: &ArgMatches<'_>, name: &str) -> Result<Option<u32>, LineFault>
+pub(crate) fn number_of(
+    alloc: Global,
+    matches: &ArgMatches<'_>,
+    name: &str,
+) -> Result<Option<u32>, LineFault>
     ensures { IfOk result (λ n. MayHaveNumber name.now n (rows_of (found_of matches.now))) }
 {
     match matches.try_get_one::<u32>(name) {

@@ -9,14 +9,15 @@ ghost use Rattle.monk_commands.specs.Request.{IsExplainCommand};
 ghost use Rattle.monk_commands.specs.Request.{IsFitCommand};
 ghost use Rattle.monk_commands.specs.Request.{IsMonk, IsOwnApp, IsPlainMonk, IsRead, IsRunCommand, IsSubcommand};
 ghost use Rattle.monk_commands.specs.Request.{bare_app, classify_app, file_app, priority, required_rule};
-ghost use Rattle.monk_commands.specs.Request.{window_app};
+ghost use Rattle.monk_commands.specs.Request.{draw_app, page_app, shown_app};
 
-use crate::arguments::{chosen, file, files, flag, history, number, repeated, required};
-use crate::file_words::file_of;
+use crate::arguments::{chosen, file, files, flag, history, number, repeated, required, width};
+use crate::draw_words::line_to_draw;
+use crate::file_words::{file_of, files_of};
 use crate::fit_words::{line_to_explain, line_to_fit, one_kind};
 use crate::help::{
-    AUDIT, CLASSIFY, COMPLETE, COMPLETED_KIND, DRAW, EXPLAIN, FIT, FROM, HASTY, Help, JSON, MEANS,
-    ONE_KIND, PAGE, PLAY, PRIORITY, RECORD, RUN, TO, TRACE, UPGRADE,
+    ASCII, AUDIT, CLASSIFY, COMPLETE, COMPLETED_KIND, DRAW, EXPLAIN, FIT, FROM, HASTY, Help, JSON,
+    MEANS, ONE_KIND, PAGE, PLAY, PRIORITY, RECORD, RUN, TEXT, TO, TRACE, UPGRADE,
 };
 use crate::request::{Line, LineFault};
 use crate::run_words::{kind_of, line_to_hasty, line_to_record, line_to_run};
@@ -35,12 +36,15 @@ static SAMPLES: [&str; 3] = ["buffer", "book", "shop"];
 
 const VERSION: &str = "1.0.0";
 
+/// How many histories a page has at most.
+const MOST_PAGED: usize = 4;
+
 fn command<'a>(alloc: Global) -> Result<Command<'a>, AllocError>
     ensures { IfOk result (λ c. IsMonk (app_of c)) }
 {
     let program = adding(plain(alloc), explaining(alloc));
-    let program = adding(program, with_window(alloc, "draw", &DRAW));
-    let program = adding(program, with_window(alloc, "page", &PAGE));
+    let program = adding(program, drawing(alloc));
+    let program = adding(program, paging(alloc));
     let program = adding(program, completing(alloc));
     let program = adding(program, running(alloc, "run", &RUN));
     let program = adding(program, running(alloc, "record", &RECORD));
@@ -134,13 +138,29 @@ fn explaining<'a>(alloc: Global) -> Result<Command<'a>, AllocError>
     taking(command, file(alloc))
 }
 
-/// A command that shows some events of a file, or of standard input where none is named.
+/// A command that shows some events.
 fn with_window<'a>(alloc: Global, name: &'a str, help: &Help) -> Result<Command<'a>, AllocError>
-    ensures { IfOk result (λ c. IsSubcommand c (window_app name.entry.now)) }
+    ensures { IfOk result (IsOwnApp (shown_app name.entry.now)) }
 {
     let command = described(alloc, name, help).arg(number(alloc, "from", FROM));
-    let command = taking(command, number(alloc, "to", TO));
+    taking(command, number(alloc, "to", TO))
+}
+
+/// The command that shows them of a file, or of standard input where none is named.
+fn drawing<'a>(alloc: Global) -> Result<Command<'a>, AllocError>
+    ensures { IfOk result (λ c. IsSubcommand c draw_app) }
+{
+    let command = taking(with_window(alloc, "draw", &DRAW), flag(alloc, "text", TEXT));
+    let command = taking(command, width(alloc));
+    let command = taking(command, flag(alloc, "ascii", ASCII));
     taking(command, file(alloc))
+}
+
+/// The command that shows them of files, or of standard input where none is named.
+fn paging<'a>(alloc: Global) -> Result<Command<'a>, AllocError>
+    ensures { IfOk result (λ c. IsSubcommand c page_app) }
+{
+    taking(with_window(alloc, "page", &PAGE), files(alloc))
 }
 
 /// The command that takes a kind or none, and a file, or standard input where none is named.
@@ -252,17 +272,13 @@ fn priorities_of(matches: &ArgMatches<'_>) -> Option<Line>
 fn line_to_page(alloc: Global, matches: &ArgMatches<'_>) -> Result<Line, LineFault>
     ensures { IfOk result (λ l. IsRead (codes "page") l (rows_of (found_of matches.now))) }
 {
-    let file = file_of(alloc, matches)?;
+    let files = files_of(alloc, matches)?;
     let window = window_of(alloc, matches)?;
-    Ok(Line::Page(file, window))
-}
-
-fn line_to_draw(alloc: Global, matches: &ArgMatches<'_>) -> Result<Line, LineFault>
-    ensures { IfOk result (λ l. IsRead (codes "draw") l (rows_of (found_of matches.now))) }
-{
-    let file = file_of(alloc, matches)?;
-    let window = window_of(alloc, matches)?;
-    Ok(Line::Draw(file, window))
+    if files.len() > MOST_PAGED {
+        let text = "error: a page has at most four histories";
+        return Err(LineFault::Words(String::from_str(alloc, text)?));
+    }
+    Ok(Line::Page(files, window))
 }
 
 fn line_to_complete(alloc: Global, matches: &ArgMatches<'_>) -> Result<Line, LineFault>

@@ -1,73 +1,73 @@
--- Stretches put on a page, and which places the legend names by them
-use Rattle.std.specs.Prelude.{◌≡◌, ℕ, zero, suc, ◌+◌, Bool, true, false, Option, Some, None, List, [], ◌∷◌, ◌++◌, length}
-use Rattle.std.specs.Prelude.{nat_lt, if◌then◌else◌, slice_get, take}
-use Rattle.std.specs.List.{list_any}
-use Rattle.monk_history.specs.Meaning.Acts.{is_refused_act}
+-- What a picture shows: the events, who goes on behind each of them, and where each seat is in between
+use Rattle.std.specs.Prelude.{ℕ, zero, suc, ◌+◌, Option, Some, None, List, [], ◌∷◌, ◌++◌, length, map, slice_get}
+use Rattle.std.specs.declared.alloc.Global.{Global}
+use Rattle.std.specs.declared.vec.Vec.{Vec}
+use Rattle.monk_history.specs.Meaning.Events.{next_of}
 use Rattle.monk_history.specs.declared.event.Event.{Event}
-use Rattle.monk_draw.specs.Hand.{goes_on}
-use Rattle.monk_draw.specs.Stretch.{stretches_text}
-use Rattle.monk_draw.specs.declared.legend.Legend.{Legend}
+use Rattle.monk_history.specs.declared.event.Event.TheVariants as event
+use Rattle.monk_history.specs.declared.event.Via.{Via}
+use Rattle.monk_history.specs.declared.event.Via.TheVariants.{Free, Handed}
+use Rattle.monk_history.specs.declared.event.Next.{Next}
+use Rattle.monk_history.specs.declared.event.Next.TheVariants.{Stay, Entry, Waiter, Signaller, Until}
+use Rattle.monk_tell.specs.Steps.{ShownStep}
+use Rattle.monk_draw.specs.Place.{places_below}
 use Rattle.monk_draw.specs.declared.place.SeatPlace.{SeatPlace}
-use Rattle.monk_draw.specs.declared.place.SeatPlace.TheVariants.{Outside, Entry, Active, Condition, Waiter, Signaller, Until}
-use Rattle.monk_draw.specs.declared.stretch.Stretch.{Stretch}
+use Rattle.monk_draw.specs.declared.scene.Scene.{Scene}
 
--- the legend of nothing, and one with that place too
-abbrev pub empty_legend : Legend
-empty_legend = record {
-  entry = false;
-  active = false;
-  condition = false;
-  waiter = false;
-  signaller = false;
-  until = false;
-  hand = false;
-  refused = false;
+-- who comes in because it was handed the monitor
+abbrev pub if_handed : ℕ → Via → Option ℕ
+if_handed s Free = None
+if_handed s Handed = Some s
+
+-- the same by an event, if there is one
+abbrev pub handed : Option Event → Option ℕ
+handed (Some (event.Enter s via)) = if_handed s via
+handed _ = None
+
+-- who goes on by that choice: the seat that it names, or who comes in by the next event
+abbrev pub goes_on_by : Option Next → Option Event → Option ℕ
+goes_on_by None after = None
+goes_on_by (Some Stay) after = None
+goes_on_by (Some Entry) after = handed after
+goes_on_by (Some (Waiter j)) after = Some j
+goes_on_by (Some (Signaller j)) after = Some j
+goes_on_by (Some (Until j)) after = Some j
+
+-- who goes on after an event, the next one being that
+abbrev pub goes_on : Option Event → Option Event → Option ℕ
+goes_on None after = None
+goes_on (Some e) after = goes_on_by (next_of e) after
+
+-- behind each of the first so many events the arrow, which leads to who goes on
+unfoldable pub arrows_below : List Event → ℕ → List (Option ℕ)
+arrows_below es zero = []
+arrows_below es (suc k) = arrows_below es k ++ goes_on (slice_get es k) (slice_get es (k + 1)) ∷ []
+
+-- what is shown
+pub record ShownScene : Type 0 where
+  pub before : ℕ
+  pub places : List (List SeatPlace)
+  pub events : List Event
+  pub arrows : List (Option ℕ)
+
+-- the places as they are kept
+abbrev pub row_of : Vec SeatPlace Global → List SeatPlace
+row_of v = v.items
+
+-- a scene as data
+abbrev pub scene_of : Scene → ShownScene
+scene_of s = record {
+  before = s.before;
+  places = map row_of s.places.items;
+  events = s.events.items;
+  arrows = s.arrows.items;
 }
 
--- the legend with that place
-unfoldable pub noted : Legend → SeatPlace → Legend
-noted l Outside = l
-noted l Entry = record l { entry = true }
-noted l Active = record l { active = true }
-noted l (Condition c) = record l { condition = true }
-noted l Waiter = record l { waiter = true }
-noted l Signaller = record l { signaller = true }
-noted l (Until p) = record l { until = true }
-
--- the places of those stretches too
-unfoldable pub all_noted : Legend → List Stretch → Legend
-all_noted l [] = l
-all_noted l (s ∷ drawn) = all_noted (noted l s.place) drawn
-
--- an arrow too, of an event that is allowed
-abbrev pub hand_noted : Legend → ℕ → ℕ → Option ℕ → Legend
-hand_noted l allowed column None = l
-hand_noted l allowed column (Some to) = if nat_lt column allowed then record l { hand = true } else l
-
--- the legend with an arrow, if one leads from that event
-unfoldable pub hand_noted_behind : Legend → ℕ → ℕ → Option Event → Option Event → Legend
-hand_noted_behind l allowed column None after = l
-hand_noted_behind l allowed column (Some e) after = hand_noted l allowed column (goes_on e after)
-
--- the legend with the arrows of the columns below that number
-unfoldable pub hands_noted_below : Legend → ℕ → List Event → ℕ → Legend
-hands_noted_below l allowed es zero = l
-hands_noted_below l allowed es (suc column) =
-    hand_noted_behind (hands_noted_below l allowed es column) allowed column (slice_get es column)
-    (slice_get es (column + 1))
-
--- whether there is a refused act
-abbrev pub refused_noted : Legend → Bool → Legend
-refused_noted l some = record l { refused = some }
-
--- the legend of these stretches, and of the arrows and refused acts of these events, of which the
--- first so many are allowed
-abbrev pub legend_of : List Stretch → ℕ → List Event → Legend
-legend_of drawn allowed es =
-    refused_noted (hands_noted_below (all_noted empty_legend drawn) allowed es (length es))
-    (list_any is_refused_act (take allowed es))
-
--- behind the one text these stretches make the other, and their places are noted
-pub record PutsStretches (drawn : List Stretch) (old new : List ℕ) (before after : Legend) : Type 0 where
-  pub is : new ≡ old ++ stretches_text drawn
-  pub names : after ≡ all_noted before drawn
+-- the scene of a history of so many seats, from its steps behind so many events, and from the events that are shown
+abbrev pub history_scene : ℕ → List ShownStep → ℕ → List Event → ShownScene
+history_scene seats steps before es = record {
+  before = before;
+  places = map (λ t. places_below t.standing seats) steps;
+  events = es;
+  arrows = arrows_below es (length es);
+}

@@ -1,6 +1,5 @@
 -- Which events of a history are shown
 use Rattle.std.specs.Prelude.{ℕ, ◌-◌, Bool, false, Option, Some, None, List, length, nat_lt, if◌then◌else◌}
-use Rattle.std.specs.List.{slice_range}
 use Rattle.monk_history.specs.declared.event.Event.{Event}
 use Rattle.monk_draw.specs.declared.window.Window.{Window}
 
@@ -31,9 +30,3 @@ not_shown (Some w) last = if nat_lt (w.from - 1) last then w.from - 1 else last
 -- the last that is shown, counted from 1
 abbrev pub last_of : Option Window → Option ℕ → List Event → ℕ
 last_of w fault events = shown_last w (showable fault (length events))
-
--- the events that are shown
-abbrev pub shown_events : Option Window → Option ℕ → List Event → List Event
-shown_events w fault events =
-    let last = last_of w fault events in
-    slice_range events (not_shown w last) last

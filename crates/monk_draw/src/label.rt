@@ -1,25 +1,22 @@
-//! An event in words.
-
-ghost use Rattle.std.specs.Prelude.{◌≡◌, ◌++◌, OnOk, string_bytes};
-ghost use Rattle.monk_history.specs.Text.{via_word, from_word};
-ghost use Rattle.monk_draw.specs.Label.{act_note, act_word, event_note, event_text, event_word};
+//! An event in words, and endings of words.
 
 use monk_history::{Event, From3, Via};
 use monk_object::{Book, Buffer, Flags, ObjectName, Shop};
 use std::alloc::AllocError;
 
-fn via_word(via: Via) -> &'static str
-    ensures { result.now ≡ via_word via }
-{
+/// The ending of a word of which there are so many.
+pub(crate) fn plural(number: usize) -> &'static str {
+    if number == 1 { "" } else { "s" }
+}
+
+fn via_word(via: Via) -> &'static str {
     match via {
         Via::Free => "free",
         Via::Handed => "handed",
     }
 }
 
-fn from_word(queue: From3) -> &'static str
-    ensures { result.now ≡ from_word queue }
-{
+fn from_word(queue: From3) -> &'static str {
     match queue {
         From3::Waiter => "waiter",
         From3::Signaller => "signaller",
@@ -28,9 +25,7 @@ fn from_word(queue: From3) -> &'static str
 }
 
 /// What an operation of the object is called.
-fn act_word(object: ObjectName, code: u8) -> &'static str
-    ensures { result.now ≡ act_word object code }
-{
+pub(crate) fn act_word(object: ObjectName, code: u8) -> &'static str {
     match (object, code) {
         (ObjectName::Buffer, Buffer::PUT) => "put",
         (ObjectName::Buffer, Buffer::TAKE) => "take",
@@ -47,50 +42,52 @@ fn act_word(object: ObjectName, code: u8) -> &'static str
     }
 }
 
-/// What the event is, in a word or two.
-pub(crate) fn event_word(object: ObjectName, event: Event) -> &'static str
-    ensures { result.now ≡ event_word object event }
-{
+/// The word with which the event begins in a text.
+pub(crate) fn verb(event: Event) -> &'static str {
     match event {
         Event::Enter(..) => "enter",
-        Event::Act(_, op, _) => act_word(object, op.code),
+        Event::Act(..) => "act",
         Event::Leave(..) => "leave",
         Event::Wait(..) => "wait",
         Event::Signal(..) => "signal",
-        Event::SignalLeave(..) => "signal, leave",
+        Event::SignalLeave(..) => "signal-leave",
         Event::Until(..) => "until",
         Event::Resume(..) => "resume",
+        Event::SignalAll(..) => "signal-all",
+        Event::SignalWait(..) => "signal-wait",
+    }
+}
+
+/// What the event is, in a word or two.
+pub(crate) fn event_word(object: ObjectName, event: Event) -> &'static str {
+    match event {
+        Event::Act(_, op, _) => act_word(object, op.code),
+        Event::SignalLeave(..) => "signal, leave",
         Event::SignalAll(..) => "signal all",
         Event::SignalWait(..) => "signal, wait",
+        _ => verb(event),
     }
 }
 
 /// Puts the line of the event, as it stands in a text.
-pub(crate) fn put_text(page: &mut String, event: Event) -> Result<(), AllocError>
-    ensures { OnOk result (string_bytes page.new ≡ string_bytes page.old ++ event_text event) }
-{
+pub(crate) fn put_text(page: &mut String, event: Event) -> Result<(), AllocError> {
+    write!(page, "{} {} ", verb(event), event.seat())?;
     match event {
-        Event::Enter(seat, via) => write!(page, "enter {seat} {}", via_word(via)),
-        Event::Act(seat, op, reply) => { write!(page, "act {seat} {} {} {reply}", op.code, op.arg) }
-        Event::Leave(seat, next) => write!(page, "leave {seat} {next}"),
-        Event::Wait(seat, cond, next) => write!(page, "wait {seat} {cond} {next}"),
-        Event::Signal(seat, cond, next) => write!(page, "signal {seat} {cond} {next}"),
-        Event::SignalLeave(seat, cond, next) => {
-            write!(page, "signal-leave {seat} {cond} {next}")
-        }
-        Event::Until(seat, pred, next) => write!(page, "until {seat} {pred} {next}"),
-        Event::Resume(seat, queue) => write!(page, "resume {seat} {}", from_word(queue)),
-        Event::SignalAll(seat, cond) => write!(page, "signal-all {seat} {cond}"),
-        Event::SignalWait(seat, cond, wait_cond, next) => {
-            write!(page, "signal-wait {seat} {cond} {wait_cond} {next}")
-        }
+        Event::Enter(_, via) => page.push_str(via_word(via)),
+        Event::Act(_, op, reply) => write!(page, "{} {} {reply}", op.code, op.arg),
+        Event::Leave(_, next) => write!(page, "{next}"),
+        Event::Wait(_, number, next)
+        | Event::Signal(_, number, next)
+        | Event::SignalLeave(_, number, next)
+        | Event::Until(_, number, next) => write!(page, "{number} {next}"),
+        Event::Resume(_, queue) => page.push_str(from_word(queue)),
+        Event::SignalAll(_, cond) => write!(page, "{cond}"),
+        Event::SignalWait(_, cond, wait_cond, next) => write!(page, "{cond} {wait_cond} {next}"),
     }
 }
 
 /// Puts what an act was called with, unless that is 0, and its reply.
-fn put_reply(page: &mut String, arg: u32, reply: u64) -> Result<(), AllocError>
-    ensures { OnOk result (string_bytes page.new ≡ string_bytes page.old ++ act_note arg reply) }
-{
+fn put_reply(page: &mut String, arg: u32, reply: u64) -> Result<(), AllocError> {
     if arg == 0 {
         write!(page, "replied {reply}")
     } else {
@@ -99,9 +96,7 @@ fn put_reply(page: &mut String, arg: u32, reply: u64) -> Result<(), AllocError>
 }
 
 /// Puts the numbers that belong to the event.
-pub(crate) fn put_note(page: &mut String, event: Event) -> Result<(), AllocError>
-    ensures { OnOk result (string_bytes page.new ≡ string_bytes page.old ++ event_note event) }
-{
+pub(crate) fn put_note(page: &mut String, event: Event) -> Result<(), AllocError> {
     match event {
         Event::Enter(_, via) => page.push_str(via_word(via)),
         Event::Act(_, op, reply) => put_reply(page, op.arg, reply),

@@ -1,32 +1,25 @@
-//! A picture of a history, or of a run.
+//! A picture of a history, or of a run: what it shows, and that as an SVG text or as lines of text.
 #![tactic(auto)]
 
-mod frame;
-mod hand;
-mod heading;
 mod label;
-pub mod laws;
-mod layout;
-mod legend;
-mod mark;
+mod names;
 mod picture;
 mod place;
-mod queues;
-mod run_seats;
 mod scene;
-mod seats;
 mod span;
-mod standing;
-mod stay;
-mod stretch;
-mod style;
-mod surface;
-mod tags;
-mod view;
+mod svg;
+mod text;
+mod text_form;
 mod window;
 mod window_fault;
 
-pub use picture::{draw, draw_run};
+pub use names::Names;
+pub use picture::Picture;
+pub use place::SeatPlace;
+pub use scene::{Scene, history_scene};
 pub use span::{MOST_SHOWN, Span, is_behind, showable};
+pub use svg::draw;
+pub use text::draw_text;
+pub use text_form::{TextForm, TextLayout};
 pub use window::Window;
 pub use window_fault::WindowFault;

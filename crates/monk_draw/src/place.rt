@@ -1,118 +1,154 @@
 //! Where a seat is.
 
-ghost use Rattle.std.specs.Prelude.{◌≡◌, ◌==◌, false, not};
-ghost use Rattle.monk_draw.specs.Legend.{place_words};
-ghost use Rattle.monk_draw.specs.Stand.{if_served, left_by};
-ghost use Rattle.monk_draw.specs.Stretch.{is_outside, place_class};
+ghost use Rattle.std.specs.Prelude.{◌≡◌, IfOk, length};
+ghost use Rattle.monk_audit.specs.Replay.{has};
+ghost use Rattle.monk_tell.specs.Cause.{waits_at};
+ghost use Rattle.monk_tell.specs.Told.{condition_lists, queues_of, standing_of};
+ghost use Rattle.monk_draw.specs.Place.{by_turn, chosen_from, in_conditions, in_inner, in_queues, in_untils, place_in, places_below, queue_of};
 
-use monk_history::{Event, Next};
+use monk_history::{From3, Turn};
+use monk_tell::{Conditions, QueueLists, Standing};
+use std::alloc::{AllocError, Global};
 
 /// Where a seat is.
 #[derive(Clone, Copy, Debug, PartialEq, Eq)]
-pub(crate) enum SeatPlace {
+pub enum SeatPlace {
     /// Outside the monitor.
     Outside,
-    /// Outside, and next to come in.
-    Entry,
     /// Inside, and active.
     Active,
     /// Inside, waiting on that condition.
-    Condition(u8),
-    /// Inside, in the waiter queue.
+    Condition(usize),
+    /// Inside, in the waiter queue, or chosen from it.
     Waiter,
-    /// Inside, in the signaller queue.
+    /// Inside, in the signaller queue, or chosen from it.
     Signaller,
-    /// Inside, waiting until that predicate holds.
-    Until(u8),
+    /// Inside, waiting until that predicate holds; `None` if the seat is chosen, because it does.
+    Until(Option<u8>),
 }
 
 impl SeatPlace {
-    /// Where the event leaves its own seat.
-    pub(crate) fn left_by(event: Event) -> SeatPlace
-        ensures { result ≡ left_by event }
+    /// Where the seat is, as the monitor stands.
+    pub fn in_standing(standing: &Standing, seat: u8) -> SeatPlace
+        ensures { result ≡ place_in (standing_of standing.now) seat }
     {
-        match event {
-            Event::Enter(..) | Event::Act(..) | Event::Resume(..) | Event::SignalAll(..) => {
-                SeatPlace::Active
+        let waits = SeatPlace::in_queues(&standing.queues, seat);
+        SeatPlace::by_turn(standing.turn, seat, waits)
+    }
+
+    fn chosen_from(queue: From3) -> SeatPlace
+        ensures { result ≡ chosen_from queue }
+    {
+        match queue {
+            From3::Waiter => SeatPlace::Waiter,
+            From3::Signaller => SeatPlace::Signaller,
+            From3::Until => SeatPlace::Until(None),
+        }
+    }
+
+    /// By whose turn it is; `waits` is where the queues have the seat.
+    fn by_turn(turn: Turn, seat: u8, waits: SeatPlace) -> SeatPlace
+        ensures { result ≡ by_turn turn seat waits }
+    {
+        match turn {
+            Turn::Due(chosen, queue) if chosen == seat => SeatPlace::chosen_from(queue),
+            Turn::Owned(owner) if owner == seat => SeatPlace::Active,
+            _ => waits,
+        }
+    }
+
+    /// Where the queues have the seat.
+    fn in_queues(queues: &QueueLists, seat: u8) -> SeatPlace
+        ensures { result ≡ in_queues (queues_of queues.now) seat }
+    {
+        match queues {
+            QueueLists::Automatic(untils, _) => SeatPlace::in_untils(&untils.0, seat),
+            QueueLists::Returning(conditions, waiters) => {
+                in_conditions(conditions, seat, in_inner(&waiters.0, &[], seat))
             }
-            Event::Leave(..) | Event::SignalLeave(..) => SeatPlace::Outside,
-            Event::Wait(_, cond, _) | Event::SignalWait(_, _, cond, _) => SeatPlace::Condition(
-                cond,
-            ),
-            Event::Signal(_, _, Next::Stay) | Event::Until(_, _, Next::Stay) => SeatPlace::Active,
-            Event::Signal(..) => SeatPlace::Signaller,
-            Event::Until(_, pred, _) => SeatPlace::Until(pred),
-        }
-    }
-
-    /// Where a seat stands that an event serves.
-    pub(crate) fn served(self) -> SeatPlace
-        ensures { result ≡ if_served (λ c. false) self }
-    {
-        match self {
-            SeatPlace::Condition(_) => SeatPlace::Waiter,
-            place => place,
-        }
-    }
-
-    /// Where it stands, if an event serves all that wait on the condition.
-    pub(crate) fn served_on(self, cond: u8) -> SeatPlace
-        ensures { result ≡ if_served (λ c. not (cond == c)) self }
-    {
-        match self {
-            SeatPlace::Condition(own) => {
-                if cond == own {
-                    SeatPlace::Waiter
-                } else {
-                    SeatPlace::Condition(own)
-                }
+            QueueLists::Explicit(conditions, waiters, signallers) => {
+                let inner = in_inner(&waiters.0, &signallers.0, seat);
+                in_conditions(conditions, seat, inner)
             }
-            place => place,
         }
     }
 
-    /// The class of its stretches, by which the style gives them colour and hatching.
-    pub(crate) fn class(self) -> &'static str
-        ensures { result.now ≡ place_class self }
+    fn in_untils(waits: &[(u8, u8)], seat: u8) -> SeatPlace
+        ensures { result ≡ in_untils waits.now seat }
     {
-        match self {
-            SeatPlace::Outside => "outside",
-            SeatPlace::Entry => "entry",
-            SeatPlace::Active => "active",
-            SeatPlace::Condition(_) => "condition",
-            SeatPlace::Waiter => "waiter",
-            SeatPlace::Signaller => "signaller",
-            SeatPlace::Until(_) => "until",
+        let mut found = SeatPlace::Outside;
+        for wait in waits {
+            if wait.0 == seat {
+                found = SeatPlace::Until(Some(wait.1));
+            }
         }
+        found
     }
+}
 
-    /// What the legend calls it.
-    pub(crate) fn words(self) -> &'static str
-        ensures { result.now ≡ place_words self }
-    {
-        match self {
-            SeatPlace::Outside => "outside",
-            SeatPlace::Entry => "waits at the entry",
-            SeatPlace::Active => "active",
-            SeatPlace::Condition(_) => "waits on a condition",
-            SeatPlace::Waiter => "in the waiter queue",
-            SeatPlace::Signaller => "in the signaller queue",
-            SeatPlace::Until(_) => "waits until a predicate",
-        }
-    }
+fn has(queue: &[u8], seat: u8) -> bool
+    ensures { result ≡ has seat queue.now }
+{
+    queue.contains(&seat)
+}
 
-    /// Whether it is outside.
-    pub(crate) fn is_outside(self) -> bool
-        ensures { result ≡ is_outside self }
-    {
-        match self {
-            SeatPlace::Outside => true,
-            SeatPlace::Entry
-            | SeatPlace::Active
-            | SeatPlace::Condition(_)
-            | SeatPlace::Waiter
-            | SeatPlace::Signaller
-            | SeatPlace::Until(_) => false,
+/// Where the waiter queue or the signaller queue has the seat.
+fn in_inner(waiters: &[u8], signallers: &[u8], seat: u8) -> SeatPlace
+    ensures { result ≡ in_inner waiters.now signallers.now seat }
+{
+    if has(waiters, seat) {
+        SeatPlace::Waiter
+    } else if has(signallers, seat) {
+        SeatPlace::Signaller
+    } else {
+        SeatPlace::Outside
+    }
+}
+
+/// The condition on which the seat waits.
+fn on_condition(conditions: &Conditions, seat: u8) -> Option<usize>
+    ensures { result ≡ waits_at (queue_of (condition_lists conditions.now))
+        (length (condition_lists conditions.now)) seat }
+{
+    let mut waits = None;
+    for (cond, queue) in conditions.0.iter().enumerate() {
+        if has(&queue.0, seat) {
+            waits = Some(cond);
         }
     }
+    waits
+}
+
+/// The condition on which the seat waits, or where else it is.
+fn in_conditions(conditions: &Conditions, seat: u8, inner: SeatPlace) -> SeatPlace
+    ensures { result ≡ in_conditions (condition_lists conditions.now) seat inner }
+{
+    match on_condition(conditions, seat) {
+        Some(cond) => SeatPlace::Condition(cond),
+        None => inner,
+    }
+}
+
+/// Where each seat below that number is.
+///
+/// # Errors
+///
+/// `AllocError` if a request for memory was refused.
+///
+/// # Cost
+///
+/// For each seat one pass over the queues.
+#[tactic(auto, unfolding(crate::specs::Place::places_below))]
+pub(crate) fn places(
+    alloc: Global,
+    standing: &Standing,
+    seats: u8,
+) -> Result<Vec<SeatPlace>, AllocError>
+    ensures { IfOk result (λ v. v.items ≡ places_below (standing_of standing.now) seats) }
+{
+    let mut places = Vec::new(alloc);
+    for seat in 0..seats {
+        places.push(SeatPlace::in_standing(standing, seat))?;
+    }
+    Ok(places)
 }

@@ -1,186 +1,166 @@
-//! Which stretches there are.
+//! What a picture shows.
 
-ghost use Rattle.std.specs.Prelude.{◌≡◌, ℕ, ◌<◌, ◌≤◌, IfOk, OnOk, [], ◌∷◌, length, string_bytes};
-ghost use Rattle.monk_history.specs.Limits.{most_lines};
-ghost use Rattle.monk_draw.specs.Layout.{left_edge};
-ghost use Rattle.monk_draw.specs.Scene.{PutsStretches};
-ghost use Rattle.monk_draw.specs.Seats.{moved, stay_in};
-ghost use Rattle.monk_draw.specs.Stretches.{ended, ended_below, entry_stretch, entry_stretches, last_below, stretch_to, stretches};
+ghost use Rattle.std.specs.Prelude.{◌≡◌, ◌<◌, IfOk, length, map, slice_get};
+ghost use Rattle.monk_tell.specs.Steps.{step_of};
+ghost use Rattle.monk_tell.specs.Told.{standing_of};
+ghost use Rattle.monk_draw.specs.Place.{places_below};
+ghost use Rattle.monk_draw.specs.Scene.{arrows_below, goes_on, handed, history_scene, row_of, scene_of};
 
-use crate::hand::handed;
-use crate::layout::{COLUMN, LEFT, column_at, lane_of};
-use crate::legend::Legend;
-use crate::place::SeatPlace;
-use crate::standing::{Standing, after, named_at};
-use crate::stay::Stay;
-use crate::stretch::{Stretch, put_stretch};
-use crate::view::View;
-use monk_history::Event;
+use crate::place::{SeatPlace, places};
+use monk_history::{Event, Next, Via};
+use monk_tell::Step;
 use std::alloc::{AllocError, Global};
 
-/// Puts the stretch of a seat that has stayed so, up to there.
-fn put_stay(
-    page: &mut String,
-    legend: &mut Legend,
-    seat: u8,
-    stay: Stay,
-    to: u64,
-) -> Result<(), AllocError>
-    ensures { OnOk result (PutsStretches (stretch_to seat stay to ∷ []) (string_bytes page.old) (string_bytes page.new)
-        legend.old legend.new) }
-{
-    legend.note(stay.place);
-    let stretch = Stretch {
-        lane: seat,
-        place: stay.place,
-        from: stay.from,
-        to,
-    };
-    put_stretch(page, stretch)
+/// What a picture shows: some events, who goes on behind each of them, and where each seat is in between.
+#[derive(Debug, Drop)]
+pub struct Scene {
+    /// How many events there are before those that are shown.
+    pub before: usize,
+    /// Where each seat is, by its number: before the first event that is shown, and behind each that is allowed. Where
+    /// the last event is forbidden, nobody is anywhere behind it.
+    pub places: Vec<Vec<SeatPlace>>,
+    /// The events that are shown.
+    pub events: Vec<Event>,
+    /// Behind each event the seat that goes on by it.
+    pub arrows: Vec<Option<u8>>,
 }
 
-/// Puts the stretch of a seat that ends there, if the seat comes to another place. Gives how the seat stays then.
-fn put_change(
-    page: &mut String,
-    legend: &mut Legend,
-    seat: u8,
-    stay: Stay,
-    place: SeatPlace,
-    x: u64,
-) -> Result<Stay, AllocError>
-    ensures page { OnOk result (PutsStretches (ended seat stay place x) (string_bytes page.old) (string_bytes page.new)
-        legend.old legend.new) }
-    ensures stay { IfOk result (λ now. now ≡ moved stay place x) }
-{
-    if stay.place == place {
-        return Ok(Stay {
-            place,
-            from: stay.from,
-        });
+impl Scene {
+    /// Of these events, with where each seat is in between.
+    ///
+    /// # Errors
+    ///
+    /// `AllocError` if a request for memory was refused.
+    pub fn new(
+        alloc: Global,
+        before: usize,
+        places: Vec<Vec<SeatPlace>>,
+        shown: &[Event],
+    ) -> Result<Scene, AllocError>
+        ensures { IfOk result (λ s. scene_of s ≡ record {
+          before = before;
+          places = map row_of places.items;
+          events = shown.now;
+          arrows = arrows_below shown.now (length shown.now);
+        }) }
+    {
+        Ok(Scene {
+            before,
+            places,
+            events: shown.to_vec(alloc)?,
+            arrows: arrows(alloc, shown)?,
+        })
     }
-    put_stay(page, legend, seat, stay, x)?;
-    Ok(Stay { place, from: x })
-}
 
-/// Puts the stretches that end there, since seats come to where they stand now, and notes how they stay then.
-fn put_changes<S: Standing>(
-    page: &mut String,
-    legend: &mut Legend,
-    stays: &mut Vec<Stay>,
-    seats: &S,
-    count: u8,
-    x: u64,
-) -> Result<(), AllocError>
-    requires all { S.has_all seats.now }
-    requires count { length stays.old.items ≡ count }
-    ensures page { OnOk result (PutsStretches (ended_below (stay_in stays.old.items) (S.kept_place seats.now) x count)
-        (string_bytes page.old) (string_bytes page.new) legend.old legend.new) }
-    ensures stays { OnOk result ((s : ℕ) → s < count
-        → stay_in stays.new.items s ≡ moved (stay_in stays.old.items s) (S.kept_place seats.now s) x) }
-    ensures count { length stays.new.items ≡ count }
-{
-    for seat in 0..count {
-        let stay = stays[seat as usize];
-        stays[seat as usize] = put_change(page, legend, seat, stay, seats.place(seat), x)?;
+    /// How many of the events are allowed: all, or all but the last.
+    pub(crate) fn allowed(&self) -> usize {
+        self.places.len().saturating_sub(1)
     }
-    Ok(())
-}
 
-/// How the seat waited at the entry, up to there: for one column.
-fn entry_stretch(seats: u8, x: u64, seat: u8) -> Stretch
-    ensures { result ≡ entry_stretch seats x seat }
-{
-    let from = x.saturating_sub(COLUMN);
-    Stretch {
-        lane: lane_of(seats, seat),
-        place: SeatPlace::Entry,
-        from: if from < LEFT { LEFT } else { from },
-        to: x,
+    /// Whether the event of that index is forbidden.
+    pub(crate) fn is_forbidden(&self, index: usize) -> bool {
+        self.allowed() <= index && index < self.events.len()
+    }
+
+    /// The number of the step of that index.
+    pub(crate) fn step(&self, index: usize) -> usize {
+        self.before.saturating_add(index).saturating_add(1)
+    }
+
+    /// Where the seat is behind so many of the events that are allowed, or behind all of them.
+    pub(crate) fn place(&self, many: usize, seat: u8) -> SeatPlace {
+        let place = match self.places.get(many.min(self.allowed())) {
+            Some(row) => row.get(usize::from(seat)).copied(),
+            None => None,
+        };
+        place.unwrap_or(SeatPlace::Outside)
+    }
+
+    /// The seat that goes on by the event of that index.
+    pub(crate) fn arrow(&self, index: usize) -> Option<u8> {
+        self.arrows.get(index).copied().flatten()
     }
 }
 
-/// Puts how a seat that was handed the monitor waited at the entry.
-fn put_entry(
-    page: &mut String,
-    legend: &mut Legend,
-    seats: u8,
-    entered: Option<u8>,
-    x: u64,
-) -> Result<(), AllocError>
-    ensures { OnOk result (PutsStretches (entry_stretches seats x entered) (string_bytes page.old)
-        (string_bytes page.new) legend.old legend.new) }
+/// The lane of a seat: that of its number, or behind all of them that of the seats that aren't there.
+pub(crate) fn lane_of(seat: u8, seats: u8) -> u8 {
+    if seat < seats { seat } else { seats }
+}
+
+/// Who comes in by the event because it was handed the monitor.
+pub(crate) fn handed(event: Option<Event>) -> Option<u8>
+    ensures { result ≡ handed event }
 {
-    match entered {
-        Some(seat) => {
-            legend.note(SeatPlace::Entry);
-            put_stretch(page, entry_stretch(seats, x, seat))
-        }
-        None => Ok(()),
+    match event {
+        Some(Event::Enter(seat, Via::Handed)) => Some(seat),
+        _ => None,
     }
 }
 
-/// Puts the stretches that last to the end.
-fn put_last(
-    page: &mut String,
-    legend: &mut Legend,
-    stays: &[Stay],
-    count: u8,
-    end: u64,
-) -> Result<(), AllocError>
-    requires { length stays.now ≡ count }
-    ensures { OnOk result (PutsStretches (last_below (stay_in stays.now) end count) (string_bytes page.old)
-        (string_bytes page.new) legend.old legend.new) }
+/// The seat that goes on after the event: the one that it chose, or who comes in by the next event
+/// because it was handed the monitor.
+fn goes_on(event: Option<Event>, after: Option<Event>) -> Option<u8>
+    ensures { result ≡ goes_on event after }
 {
-    for seat in 0..count {
-        let stay = stays[seat as usize];
-        put_stay(page, legend, seat, stay, end)?;
+    match event?.choice()? {
+        Next::Waiter(seat) | Next::Signaller(seat) | Next::Until(seat) => Some(seat),
+        Next::Entry => handed(after),
+        Next::Stay => None,
     }
-    Ok(())
 }
 
-/// How the seats stay before the first event that is shown.
-fn first_stays<S: Standing>(alloc: Global, seats: &S, count: u8) -> Result<Vec<Stay>, AllocError>
-    requires { S.has_all seats.now }
-    ensures count { IfOk result (λ v. length v.items ≡ count) }
-    ensures stays { IfOk result
-        (λ v. (s : ℕ) → s < count → stay_in v.items s ≡ record { place = S.kept_place seats.now s; from = left_edge }) }
+fn event_at(events: &[Event], index: usize) -> Option<Event>
+    ensures { result ≡ slice_get events.now index }
 {
-    let mut stays = Vec::new(alloc);
-    for seat in 0..count {
-        stays.push(Stay {
-            place: seats.place(seat),
-            from: LEFT,
-        })?;
-    }
-    Ok(stays)
+    events.get(index).copied()
 }
 
-/// Puts the stretches of the allowed events that are shown, up to the end; `past` are the events before them. What is
-/// kept before any event is `seats`, and `served` has the seats that the events name.
-pub(crate) fn put_stretches<S: Standing>(
+/// Who goes on behind each of the events.
+#[tactic(auto, unfolding(crate::specs::Scene::arrows_below))]
+fn arrows(alloc: Global, events: &[Event]) -> Result<Vec<Option<u8>>, AllocError>
+    ensures { IfOk result (λ v. v.items ≡ arrows_below events.now (length events.now)) }
+{
+    let mut arrows = Vec::with_capacity(alloc, events.len())?;
+    for column in 0..events.len() {
+        let (event, after) = (event_at(events, column), event_at(events, column + 1));
+        arrows.push(goes_on(event, after))?;
+    }
+    Ok(arrows)
+}
+
+/// Where each seat is after each of the steps.
+fn places_after(alloc: Global, seats: u8, steps: &[Step]) -> Result<Vec<Vec<SeatPlace>>, AllocError>
+    ensures { IfOk result
+        (λ v. map row_of v.items ≡ map (λ s. places_below (standing_of s.standing) seats) steps.now) }
+{
+    let mut rows = Vec::with_capacity(alloc, steps.len())?;
+    for step in steps {
+        rows.push(places(alloc, &step.standing, seats)?)?;
+    }
+    Ok(rows)
+}
+
+/// The scene of a history, from its steps behind so many events ([`monk_tell::tell_steps`]); `shown` are the events
+/// that are shown.
+///
+/// # Errors
+///
+/// `AllocError` if a request for memory was refused.
+///
+/// # Cost
+///
+/// For each step one pass over the queues for each seat; two bytes for each step and seat.
+#[tactic(auto, using(crate::proofs::PlaceLaws::rows_told))]
+pub fn history_scene(
     alloc: Global,
-    page: &mut String,
-    legend: &mut Legend,
-    count: u8,
-    seats: S,
-    past: &[Event],
-    events: &[Event],
-    served: &[Option<u8>],
-    end: u64,
-) -> Result<(), AllocError>
-    requires before { S.is_of served.now [] seats }
-    requires few_past { length past.now ≤ most_lines }
-    requires few { length events.now ≤ most_lines }
-    ensures { OnOk result (PutsStretches (stretches (S.stands served.now) count past.now events.now end)
-        (string_bytes page.old) (string_bytes page.new) legend.old legend.new) }
+    seats: u8,
+    steps: &[Step],
+    before: usize,
+    shown: &[Event],
+) -> Result<Scene, AllocError>
+    ensures { IfOk result
+        (λ s. scene_of s ≡ history_scene seats (map step_of steps.now) before shown.now) }
 {
-    let mut seats = after(seats, past, served)?;
-    let mut stays = first_stays(alloc, &seats, count)?;
-    for (column, event) in events.iter().enumerate() {
-        let x = column_at(column as u32);
-        seats.follow(*event, named_at(served, past.len() + column))?;
-        put_entry(page, legend, count, handed(Some(*event)), x)?;
-        put_changes(page, legend, &mut stays, &seats, count, x)?;
-    }
-    put_last(page, legend, &stays, count, end)
+    let places = places_after(alloc, seats, steps)?;
+    Scene::new(alloc, before, places, shown)
 }

@@ -194,6 +194,7 @@ impl<K: Kind, T: Guarded> Floor<K, T> {
     {
         match self.ledger.turn {
             Turn::Due(_, queue) => queue,
+            // The turn is due to some seat.
             _ => unreachable!(),
         }
     }

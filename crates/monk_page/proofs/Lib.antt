@@ -1,3 +1,4 @@
+mod PlainTexts
 mod PlainWords
 mod PlainWhy
 mod PlainData
@@ -5,5 +6,4 @@ mod PlainLaws
 mod LogPlain
 mod LogLaws
 mod PageLaws
-mod CaptionLaws
-pub mod PublicLaws
+mod NameLaws

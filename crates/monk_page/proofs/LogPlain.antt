@@ -3,8 +3,8 @@ use Rattle.std.proofs.Common.{◌≡◌, ℕ, suc, true, List, ◌++◌, Option,
 use Rattle.std.specs.Fmt.{decimal}
 use Rattle.std.specs.Prelude.{codes, slice_get}
 use Rattle.std.specs.Option.{option_map_or}
-use Rattle.monk_draw.specs.Frame.{is_plain_text}
-use Rattle.monk_draw.proofs.PublicLaws.{plain-append, plain-decimal}
+use Rattle.monk_page.specs.Plain.{is_plain_text}
+use Rattle.monk_page.proofs.PlainTexts.{plain-append, plain-decimal}
 use Rattle.monk_object.specs.Names.{object_word}
 use Rattle.monk_object.specs.Object.{Object}
 use Rattle.monk_judge.specs.Blame.{blame_sentence, blame_word}

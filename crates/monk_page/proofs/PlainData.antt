@@ -7,8 +7,8 @@ use Rattle.json.specs.Print.{escape, escape_byte, escape_letter, quoted}
 use Rattle.serde_json.specs.Data.{Num, unsigned, negative, float, Data, null, boolean, number, string, array, object}
 use Rattle.serde_json.specs.Data.{Items, no_items, item, Members, no_members, member}
 use Rattle.serde_json.specs.Written.{comma_if, compact_text, items_text, members_text, number_text}
-use Rattle.monk_draw.specs.Frame.{is_plain_byte, is_plain_text}
-use Rattle.monk_draw.proofs.PublicLaws.{plain-append, plain-decimal}
+use Rattle.monk_page.specs.Plain.{is_plain_byte, is_plain_text}
+use Rattle.monk_page.proofs.PlainTexts.{plain-append, plain-decimal}
 
 -- ---- a value
 

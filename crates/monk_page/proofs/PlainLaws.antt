@@ -6,7 +6,8 @@ use Rattle.std.specs.Cmp.Lexicographic.{slice_cmp}
 use Rattle.std.specs.Ordering.{match_ordering}
 use Rattle.std.specs.Prelude.{codes}
 use Rattle.monk_audit.specs.Words.{verdict_text}
-use Rattle.monk_draw.specs.Frame.{is_plain_text}
+use Rattle.monk_audit.specs.declared.verdict.Verdict.{Verdict}
+use Rattle.monk_page.specs.Plain.{is_plain_text}
 use Rattle.monk_history.specs.Text.{Heading, from_word}
 use Rattle.monk_history.specs.declared.event.Event.{Event}
 use Rattle.monk_history.specs.declared.event.From3.{From3}
@@ -165,14 +166,7 @@ next_plain : (n : ℕ) (x : Next) → IsPlain n (next_json x)
 next_plain n x = string_plain n (next_text x) (words.next_plain x)
 
 choice_plain : (n : ℕ) (c : Chosen) → IsPlain (suc (suc (suc n))) (choice_json c)
-choice_plain n c =
-    let fronts = list_plain (suc n) front_json (front_plain n) c.fronts in
-    let may = list_plain (suc n) next_json (next_plain (suc n)) c.may in
-    within (suc (suc n)) (member (codes "fronts") (list_json front_json c.fronts)
-    (member (codes "may") (list_json next_json c.may) no_members))
-    (beside (suc (suc n)) (codes "fronts") (list_json front_json c.fronts)
-    (member (codes "may") (list_json next_json c.may) no_members) refl fronts
-    (beside (suc (suc n)) (codes "may") (list_json next_json c.may) no_members refl may (alone (suc (suc n)))))
+choice_plain n c = search (within, beside, alone, list_plain, front_plain, next_plain) depth 12
 
 event_plain : (n : ℕ) (e : Event) → IsPlain n (event_json e)
 event_plain n e = string_plain n (event_text e) (words.event_plain e)
@@ -211,18 +205,17 @@ queues_plain q ms p =
 
 standing_plain : (o : ObjectName) (s : ShownStanding) (ms : Members) → ArePlain 3 ms → ArePlain 3 (with_standing o s ms)
 standing_plain o s ms p =
-    queues_plain s.queues _
-    (with_member 3 (codes "turn") _ _ refl (string_plain 3 (turn_text s.turn) (words.turn_plain s.turn))
-    (with_member 3 (codes "state") _ _ refl (numbers_plain 2 s.state)
+    with_member 3 (codes "data") _ _ refl (string_plain 3 (state_in_words o s.state) (words.state_plain o s.state))
     (with_member 3 (codes "inside") _ _ refl (numbers_plain 2 s.inside)
-    (with_member 3 (codes "data") _ _ refl
-    (string_plain 3 (state_in_words o s.state) (words.state_plain o s.state)) p))))
+    (with_member 3 (codes "state") _ _ refl (numbers_plain 2 s.state)
+    (with_member 3 (codes "turn") _ _ refl (string_plain 3 (turn_text s.turn) (words.turn_plain s.turn))
+    (queues_plain s.queues _ p))))
 
 step_plain : (o : ObjectName) (s : ShownStep) → IsPlain 4 (step_json o s)
 step_plain o s =
-    within 3 _ (standing_plain o s.standing _
+    within 3 _ (with_member 3 (codes "choice") _ _ refl (option_plain 3 choice_json (choice_plain 0) s.choice)
     (with_member 3 (codes "event") _ _ refl (option_plain 3 event_json (event_plain 3) s.event)
-    (with_member 3 (codes "choice") _ _ refl (option_plain 3 choice_json (choice_plain 0) s.choice) (alone 3))))
+    (standing_plain o s.standing _ (alone 3))))
 
 blame_plain : (b : Blamed) → IsPlain 5 (blame_json b)
 blame_plain b =
@@ -236,16 +229,18 @@ forbidden_plain : (before last : ℕ) (a : Account) → IsPlain 5 (forbidden_jso
 forbidden_plain before last a =
     option_plain 5 (shown_blame_json before last) (λ b. if_plain 5 _ (blame_json b) (blame_plain b)) a.blame
 
-verdict_plain : (k : KindName) (a : Account) → IsPlain 4 (verdict_json k a)
-verdict_plain k a =
+verdict_plain : (k : KindName) (v : Verdict) (blame : Option Blamed) → IsPlain 4 (verdict_json k v blame)
+verdict_plain k v blame =
     within 3 _ (beside 3 (codes "kind") _ _ refl (string_plain 3 (kind_word k) (words.kind_plain k))
-    (beside 3 (codes "verdict") _ _ refl (string_plain 3 (verdict_text a.verdict) (words.verdict_plain a.verdict))
+    (beside 3 (codes "verdict") _ _ refl (string_plain 3 (verdict_text v) (words.verdict_plain v))
     (beside 3 (codes "why") _ _ refl (option_plain 3 (λ b. string (why_text b.why))
-    (λ b. string_plain 3 (why_text b.why) (why_plain b.why)) a.blame)
+    (λ b. string_plain 3 (why_text b.why) (why_plain b.why)) blame)
     (alone 3))))
 
 kinds_plain : (h : Heading) (es : List Event) → IsPlain 5 (kinds_json h es)
-kinds_plain h es = list_plain 4 (kind_json h es) (λ k. verdict_plain k (account (under k h) es)) kinds
+kinds_plain h es =
+    list_plain 4 (kind_json h es)
+    (λ k. let a = account (under k h) es in verdict_plain k a.verdict a.blame) kinds
 
 steps_plain : (h : Heading) (es : List Event) (before last : ℕ) → IsPlain 5 (steps_json h es before last)
 steps_plain h es before last = list_plain 4 (step_json h.object) (step_plain h.object) (steps_between h es before last)

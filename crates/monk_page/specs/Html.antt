@@ -1,32 +1,49 @@
 -- The text of a page: one HTML file, with a picture and its data
-use Rattle.std.specs.Prelude.{ℕ, List, ◌++◌, Option, option_map}
-use Rattle.monk_audit.specs.Words.{caption_by}
-use Rattle.monk_draw.specs.Picture.{picture}
+use Rattle.std.specs.Prelude.{◌≡◌, ℕ, List, ◌++◌, Option, codes}
 use Rattle.monk_draw.specs.Window.{last_of, not_shown}
 use Rattle.monk_draw.specs.declared.window.Window.{Window}
 use Rattle.monk_history.specs.Text.{Heading}
 use Rattle.monk_history.specs.declared.event.Event.{Event}
-use Rattle.monk_tell.specs.Told.{account}
+use Rattle.monk_tell.specs.Told.{account, forbidden_step}
 use Rattle.serde_json.specs.Data.{Data}
 use Rattle.serde_json.specs.Written.{compact_text}
 use Rattle.monk_page.specs.Page.{page_json}
+use Rattle.monk_page.specs.declared.template.beside.TheConstants.{BESIDE}
+use Rattle.monk_page.specs.declared.template.closing.TheConstants.{CLOSING}
 use Rattle.monk_page.specs.declared.template.front.TheConstants.{FRONT}
 use Rattle.monk_page.specs.declared.template.history.TheConstants.{HISTORY}
 use Rattle.monk_page.specs.declared.template.log.TheConstants.{LOG}
 use Rattle.monk_page.specs.declared.template.middle.TheConstants.{MIDDLE}
+use Rattle.monk_page.specs.declared.template.opening.TheConstants.{OPENING}
 use Rattle.monk_page.specs.declared.template.shared.TheConstants.{SHARED}
 
--- what stands before the picture: no proof looks at what it is, and so with the others
+-- what stands before the first history: no proof looks at what it is, and so with the others
 unfoldable pub front : List ℕ
 front = FRONT.now
+
+-- what stands before the picture of a history
+unfoldable pub opening : List ℕ
+opening = OPENING.now
 
 -- what stands between the picture and the data
 unfoldable pub middle : List ℕ
 middle = MIDDLE.now
 
--- what stands behind the data, whatever the page is of
+-- what stands between the data and what is told beside them
+unfoldable pub beside : List ℕ
+beside = BESIDE.now
+
+-- what stands behind that
+unfoldable pub closing : List ℕ
+closing = CLOSING.now
+
+-- what stands behind the last history, whatever the page is of
 unfoldable pub shared : List ℕ
 shared = SHARED.now
+
+-- what is told beside a history of which nothing is told
+abbrev pub nothing_told : List ℕ
+nothing_told = codes "null"
 
 -- the rest of the page of a history
 unfoldable pub history_end : List ℕ
@@ -36,22 +53,36 @@ history_end = HISTORY.now
 unfoldable pub log_end : List ℕ
 log_end = LOG.now
 
--- the step that is forbidden, if one is
-abbrev pub forbidden_step : Heading → List Event → Option ℕ
-forbidden_step h es = option_map (λ b. b.step) (account h es).blame
-
 -- the data of the events of the window
 abbrev pub window_json : Heading → List Event → Option Window → Data
 window_json h es w =
-    let last = last_of w (forbidden_step h es) es in
+    let last = last_of w (forbidden_step (account h es).verdict) es in
     page_json h es (not_shown w last) last
 
--- a picture and data as a page with that end
-abbrev pub page_around : List ℕ → List ℕ → List ℕ → List ℕ
-page_around drawn data_text end = front ++ (drawn ++ (middle ++ (data_text ++ (shared ++ end))))
+-- a picture and data, with what is told beside them
+abbrev pub article : List ℕ → List ℕ → List ℕ → List ℕ
+article drawn data_text told =
+    opening ++ (drawn ++ (middle ++ (data_text ++ (beside ++ (told ++ closing)))))
 
--- the page of those events; the picture says why one is forbidden, by the verdict on them
-abbrev pub page_text : Heading → List Event → Option Window → List ℕ
-page_text h es w =
-    page_around (picture h es w (forbidden_step h es) (caption_by (account h es).verdict))
-    (compact_text (window_json h es w)) history_end
+-- articles as a page with that end
+abbrev pub page_of : List ℕ → List ℕ → List ℕ
+page_of articles end = front ++ (articles ++ (shared ++ end))
+
+-- these bytes are a history or a run as one of a page: a picture, those data, and what is told beside them
+pub record IsArticleOf (json : Data) (told bytes : List ℕ) : Type 0 where
+  pub picture : List ℕ
+  pub is : bytes ≡ article picture (compact_text json) told
+
+-- these bytes are those events as one of the histories of a page, with what is told beside them
+abbrev pub IsArticle : Heading → List Event → Option Window → List ℕ → List ℕ → Type 0
+IsArticle h es w told bytes = IsArticleOf (window_json h es w) told bytes
+
+-- these bytes are a page with one article, beside which nothing is told, and with that end
+pub record IsPageOf (json : Data) (end bytes : List ℕ) : Type 0 where
+  pub article : List ℕ
+  pub one : IsArticleOf json nothing_told article
+  pub is : bytes ≡ page_of article end
+
+-- these bytes are a page of those events
+abbrev pub IsPage : Heading → List Event → Option Window → List ℕ → Type 0
+IsPage h es w bytes = IsPageOf (window_json h es w) history_end bytes

@@ -4,5 +4,8 @@ pub mod Html
 pub mod Json
 pub mod Kinds
 pub mod Log
+pub mod LogScene
 pub mod Page
+pub mod Plain
 pub mod Step
+pub mod Told

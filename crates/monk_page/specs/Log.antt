@@ -15,8 +15,7 @@ use Rattle.monk_judge.specs.declared.step.Step.{Step}
 use Rattle.monk_logs.specs.Log.{LogHeading}
 use Rattle.monk_logs.specs.declared.text.line.LogLine.{LogLine}
 use Rattle.serde_json.specs.Data.{Data, null, string, object, Members, no_members, put}
-use Rattle.serde_json.specs.Written.{compact_text}
-use Rattle.monk_page.specs.Html.{log_end, page_around}
+use Rattle.monk_page.specs.Html.{IsPageOf, log_end}
 use Rattle.monk_page.specs.Json.{list_json, number_json, numbers_json, option_json}
 
 -- ---- one step
@@ -74,7 +73,6 @@ log_json h o d run lines before last =
     object (put (codes "misfit") (misfit_json run.misfit lines)
     (with_run (setting h.seats h.conds o) (opening d) run.steps.items before last (with_header h no_members)))
 
--- the page, with that picture
-abbrev pub log_page_text : List ℕ → LogHeading → Object → List ℕ → Run → List LogLine → ℕ → ℕ → List ℕ
-log_page_text picture h o d run lines before last =
-    page_around picture (compact_text (log_json h o d run lines before last)) log_end
+-- these bytes are a page of it
+abbrev pub IsLogPage : LogHeading → Object → List ℕ → Run → List LogLine → ℕ → ℕ → List ℕ → Type 0
+IsLogPage h o d run lines before last bytes = IsPageOf (log_json h o d run lines before last) log_end bytes

@@ -52,11 +52,12 @@ with_queues q ms =
 -- how a monitor stands over the object of that name
 abbrev pub with_standing : ObjectName → ShownStanding → Members → Members
 with_standing o s ms =
-    with_queues s.queues (put (codes "turn") (string (turn_text s.turn)) (put (codes "state") (numbers_json s.state)
-    (put (codes "inside") (numbers_json s.inside) (put (codes "data") (string (state_in_words o s.state)) ms))))
+    put (codes "data") (string (state_in_words o s.state)) (put (codes "inside") (numbers_json s.inside)
+    (put (codes "state") (numbers_json s.state) (put (codes "turn") (string (turn_text s.turn))
+    (with_queues s.queues ms))))
 
 -- the step of a monitor over that object
 abbrev pub step_json : ObjectName → ShownStep → Data
 step_json o s =
-    object (with_standing o s.standing (put (codes "event") (option_json event_json s.event)
-    (put (codes "choice") (option_json choice_json s.choice) no_members)))
+    object (put (codes "choice") (option_json choice_json s.choice)
+    (put (codes "event") (option_json event_json s.event) (with_standing o s.standing no_members)))

@@ -1,58 +1,46 @@
 //! A history's page.
 
-ghost use Rattle.std.specs.Prelude.{◌≡◌, ◌≤◌, ◌<◌, ◌^◌, Some, IfOk, OnOk, IsErrOf, length, option_map, string_bytes};
+ghost use Rattle.std.specs.Prelude.{◌≡◌, ◌≤◌, ◌<◌, ◌^◌, Some, IfOk, OnOk, IsErrOf, length, string_bytes};
 ghost use Rattle.monk_object.specs.Names.{most};
-ghost use Rattle.monk_tell.specs.Told.{account, telling_of};
 ghost use Rattle.serde_json.specs.Read.{read};
 ghost use Rattle.serde_json.specs.Written.{compact_text};
-ghost use Rattle.monk_page.specs.Html.{page_text, window_json};
+ghost use Rattle.monk_page.specs.Html.{IsArticle, IsArticleOf, history_end, page_of, window_json};
+ghost use Rattle.monk_page.specs.Page.{IsTold, told_json};
 
 use crate::page_data::data_text;
-use crate::shell::{history_end, page_around};
-use monk_audit::AuditFault;
-use monk_draw::{Span, Window, draw, showable};
+use crate::shell::{article_around, history_end, page_with};
+use crate::told_history::ToldHistory;
+use monk_audit::{AuditFault, audit};
+use monk_draw::{Span, Window, draw, history_scene, showable};
 use monk_history::{Event, Header};
-use monk_tell::{Telling, tell};
-use std::alloc::Global;
+use monk_tell::{JudgedHistory, forbidden_step, tell_judged};
+use std::alloc::{AllocError, Global};
 
-/// The step that is forbidden, if one is.
-fn forbidden_step(telling: &Telling) -> Option<u32>
-    ensures { result ≡ option_map (λ b. b.step) (telling_of telling.now).blame }
+/// A history of which that is told, as one of a page.
+fn article_told(alloc: Global, told: ToldHistory, beside: &str) -> Result<String, AuditFault>
+    requires { IsTold told }
+    ensures article { IfOk result (λ text. IsArticleOf (told_json told.entry) beside.now (string_bytes text)) }
+    ensures reads_back { OnOk result (read (compact_text (told_json told.entry)) ≡ Some (told_json told.entry)) }
+    ensures object { IsErrOf result AuditFault.Object → most told.entry.header.now.object < told.entry.header.now.size }
 {
-    match &telling.blame {
-        Some(blame) => Some(blame.step),
-        None => None,
-    }
+    let data = data_text(alloc, told)?;
+    let shown = &told.events[told.span.before..told.span.last];
+    let scene = history_scene(
+        alloc,
+        told.header.seats(),
+        told.steps,
+        told.span.before,
+        shown,
+    )?;
+    let picture = draw(alloc, told.header, &scene, told.telling.verdict.caption())?;
+    Ok(article_around(alloc, picture.as_str(), data.as_str(), beside)?)
 }
 
-/// The page of a history of which that is told.
-fn page_told(
-    alloc: Global,
-    header: &Header,
-    events: &[Event],
-    telling: &Telling,
-    window: Option<Window>,
-) -> Result<String, AuditFault>
-    requires few { length events.now ≤ 2 ^ 25 }
-    requires told { telling_of telling.now ≡ account header.now events.now }
-    ensures text { IfOk result (λ page. string_bytes page ≡ page_text header.now events.now window) }
-    ensures reads_back { OnOk result
-        (read (compact_text (window_json header.now events.now window))
-        ≡ Some (window_json header.now events.now window)) }
-    ensures object { IsErrOf result AuditFault.Object → most header.now.object < header.now.size }
-{
-    let forbidden = forbidden_step(telling);
-    let span = Span::of(window, showable(forbidden, events.len()));
-    let data = data_text(alloc, header, events, telling, span)?;
-    let reason = telling.verdict.caption();
-    let picture = draw(alloc, header, events, window, forbidden, reason)?;
-    Ok(page_around(alloc, picture.as_str(), data.as_str(), history_end())?)
-}
-
-/// The page of a history, as one HTML text: a picture, and the data of each step that is shown, which its script reads.
-/// The data stand there unbroken ([`data_are_unbroken`](crate::laws::data_are_unbroken)).
+/// A history as one of a page: a picture, and the data of each step that is shown, which the page's script reads.
+/// [`page_of`] makes the page. The data stand there unbroken ([`data_are_unbroken`](crate::laws::data_are_unbroken)).
 ///
-/// `window` says which events are shown, as [`draw`] does.
+/// `window` says which events are shown, as [`draw`] does. `beside` is JSON that the program of the history tells, and
+/// that [`check_told`](crate::check_told) has let through, or `null`. It stands there as it is.
 ///
 /// # Errors
 ///
@@ -61,18 +49,19 @@ fn page_told(
 ///
 /// # Cost
 ///
-/// Some passes over the events for each of the ten kinds, each as [`monk_audit::audit`] takes one;
-/// memory for the page: some 1 kB for each event that is shown, and once more as much for the data
-/// as a value.
-pub fn page(
+/// An audit of the events under each of the ten kinds, and where another kind than their own forbids one, a replay of
+/// those before it; of their own kind one replay. Memory for the text: some 1 kB for each event that is shown,
+/// and once more as much for the data as a value.
+pub fn article(
     alloc: Global,
     header: &Header,
     events: &[Event],
     window: Option<Window>,
+    beside: &str,
 ) -> Result<String, AuditFault>
     requires { length events.now ≤ 2 ^ 25 }
-    // Byte for byte the page is its definition.
-    ensures text { IfOk result (λ page. string_bytes page ≡ page_text header.now events.now window) }
+    // It has these data, and a picture.
+    ensures article { IfOk result (λ text. IsArticle header.now events.now window beside.now (string_bytes text)) }
     // Whoever reads the data of that text finds the value of which it is made.
     ensures reads_back { OnOk result
         (read (compact_text (window_json header.now events.now window))
@@ -81,6 +70,35 @@ pub fn page(
     ensures object { IsErrOf result AuditFault.Object → most header.now.object < header.now.size }
     ensures too_big { most header.now.object < header.now.size → IsErrOf result AuditFault.Object }
 {
-    let telling = tell(alloc, header, events)?;
-    page_told(alloc, header, events, &telling, window)
+    let verdict = audit(alloc, header, events)?;
+    let span = Span::of(window, showable(forbidden_step(verdict), events.len()));
+    let history = JudgedHistory {
+        header,
+        events,
+        verdict,
+    };
+    let (telling, steps) = tell_judged(alloc, history, span.before, span.last)?;
+    let told = ToldHistory {
+        header,
+        events,
+        telling: &telling,
+        span,
+        steps: &steps,
+    };
+    article_told(alloc, told, beside)
+}
+
+/// The page of these histories, as one HTML text: each is what [`article`] makes, and they stand one after the other.
+///
+/// # Errors
+///
+/// A growth was refused.
+///
+/// # Cost
+///
+/// Memory for the page.
+pub fn page_of(alloc: Global, articles: &str) -> Result<String, AllocError>
+    ensures { IfOk result (λ page. string_bytes page ≡ page_of articles.now history_end) }
+{
+    page_with(alloc, articles, history_end())
 }

@@ -2,7 +2,7 @@
 //!
 //! The functions do nothing: their contracts are the laws.
 ghost use Rattle.std.specs.Prelude.{◌≡◌, true, ℕ, List, Option};
-ghost use Rattle.monk_draw.specs.Frame.{is_plain_text};
+ghost use Rattle.monk_page.specs.Plain.{is_plain_text};
 ghost use Rattle.monk_draw.specs.declared.window.Window.{Window};
 ghost use Rattle.monk_history.specs.Text.{Heading};
 ghost use Rattle.monk_history.specs.declared.event.Event.{Event};

@@ -11,11 +11,17 @@ pub mod laws;
 mod lists;
 mod log;
 mod log_data;
+mod log_scene;
 mod page_data;
 mod queues;
 mod shell;
 mod step;
 mod template;
+mod told;
+mod told_history;
 
-pub use html::page;
+pub use html::{article, page_of};
 pub use log::log_page;
+pub use log_scene::run_scene;
+pub use shell::NOTHING_TOLD;
+pub use told::{ToldFault, ToldNames, ToldWrong, check_told, told_names};

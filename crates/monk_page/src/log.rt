@@ -1,12 +1,12 @@
 //! A log's page.
 
-ghost use Rattle.std.specs.Prelude.{◌≡◌, ◌≤◌, IfOk, string_bytes};
+ghost use Rattle.std.specs.Prelude.{◌≡◌, IfOk, string_bytes};
 ghost use Rattle.serde_json.specs.View.{view};
 ghost use Rattle.monk_judge.specs.Run.{IsRun, opening, setting};
-ghost use Rattle.monk_page.specs.Log.{log_json, log_page_text};
+ghost use Rattle.monk_page.specs.Log.{IsLogPage, log_json};
 
 use crate::log_data::{put_header, put_misfit, put_run};
-use crate::shell::{log_end, page_around};
+use crate::shell::{NOTHING_TOLD, article_around, log_end, page_with};
 use monk_draw::Span;
 use monk_judge::{Judge, Run};
 use monk_logs::{LogHeader, LogLine};
@@ -23,9 +23,8 @@ fn log_data<T: Listed>(
     lines: &[LogLine],
     span: Span,
 ) -> Result<Value, AllocError>
-    requires run { IsRun (setting header.now.seats header.now.conds T.meaning) (opening (T.state object))
+    requires { IsRun (setting header.now.seats header.now.conds T.meaning) (opening (T.state object))
         run.now.steps.items }
-    requires span { span.before ≤ span.last }
     ensures { IfOk result (λ v. view v
         ≡ log_json header.now T.meaning (T.state object) run.now lines.now span.before span.last) }
 {
@@ -59,12 +58,12 @@ pub fn log_page<T: Listed>(
     lines: &[LogLine],
     span: Span,
 ) -> Result<String, AllocError>
-    requires run { IsRun (setting header.now.seats header.now.conds T.meaning) (opening (T.state object))
+    requires { IsRun (setting header.now.seats header.now.conds T.meaning) (opening (T.state object))
         run.now.steps.items }
-    requires span { span.before ≤ span.last }
-    ensures { IfOk result (λ page. string_bytes page
-        ≡ log_page_text picture.now header.now T.meaning (T.state object) run.now lines.now span.before span.last) }
+    ensures { IfOk result (λ page. IsLogPage header.now T.meaning (T.state object) run.now lines.now
+        span.before span.last (string_bytes page)) }
 {
     let data = log_data(alloc, header, object, run, lines, span)?.to_string(alloc)?;
-    page_around(alloc, picture, data.as_str(), log_end())
+    let article = article_around(alloc, picture, data.as_str(), NOTHING_TOLD)?;
+    page_with(alloc, article.as_str(), log_end())
 }

@@ -1,6 +1,6 @@
 //! The data of a log's page.
 
-ghost use Rattle.std.specs.Prelude.{◌≡◌, ◌≤◌, ◌-◌, IfOk, OnOk, codes, length};
+ghost use Rattle.std.specs.Prelude.{◌≡◌, ◌-◌, IfOk, OnOk, codes, length};
 ghost use Rattle.serde_json.specs.Data.{put};
 ghost use Rattle.serde_json.specs.View.{members_view, view};
 ghost use Rattle.monk_judge.specs.Followed.{followed};
@@ -88,14 +88,13 @@ pub(crate) fn put_run<T: Listed>(
     steps: &[Step],
     span: Span,
 ) -> Result<(), AllocError>
-    requires run { IsRun (setting_of judge.old T.meaning) (state_of judge.old) steps.now }
-    requires span { span.before ≤ span.last }
+    requires { IsRun (setting_of judge.old T.meaning) (state_of judge.old) steps.now }
     ensures { OnOk result (members_view map.new.entries
         ≡ with_run (setting_of judge.old T.meaning) (state_of judge.old) steps.now span.before span.last
         (members_view map.old.entries)) }
 {
     let (early, rest) = cut(steps, span.before);
-    let (shown, _behind) = cut(rest, span.last - span.before);
+    let (shown, _behind) = cut(rest, span.last.saturating_sub(span.before));
     judge.follow_all(early);
     put(map, alloc, "before", Value::from(span.before))?;
     put(map, alloc, "start", state(alloc, judge)?)?;

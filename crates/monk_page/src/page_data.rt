@@ -1,25 +1,27 @@
 //! The data of a page.
 
-ghost use Rattle.std.specs.Prelude.{◌≡◌, ◌≤◌, ◌<◌, ◌^◌, Some, IfOk, IsErrOf, OnOk, length, string_bytes};
+ghost use Rattle.std.specs.Prelude.{◌≡◌, ◌<◌, Some, IfOk, IsErrOf, OnOk, string_bytes};
 ghost use Rattle.monk_object.specs.Names.{most};
 ghost use Rattle.monk_tell.specs.Steps.{step_of};
-ghost use Rattle.monk_tell.specs.Told.{account, telling_of};
+ghost use Rattle.monk_tell.specs.Told.{telling_of};
 ghost use Rattle.serde_json.specs.Read.{read};
 ghost use Rattle.serde_json.specs.View.{members_view, view};
 ghost use Rattle.serde_json.specs.Written.{compact_text};
 ghost use Rattle.monk_page.specs.Json.{list_json};
-ghost use Rattle.monk_page.specs.Page.{forbidden_json, page_json, steps_json, with_counts, with_heading, with_kind, with_steps};
+ghost use Rattle.monk_page.specs.Page.{IsTold, forbidden_json, steps_json, told_json, with_counts, with_heading, with_kind};
+ghost use Rattle.monk_page.specs.Page.{with_steps};
 ghost use Rattle.monk_page.specs.Step.{step_json};
 
 use crate::in_json::InJson;
 use crate::kinds::kinds;
 use crate::step::step;
+use crate::told_history::ToldHistory;
 use monk_audit::{AuditFault, rules_by_name};
 use monk_draw::Span;
 use monk_history::{Event, Header};
 use monk_kinds::KindName;
 use monk_object::ObjectName;
-use monk_tell::{Ranks, Step, Telling, mode_word, tell_steps};
+use monk_tell::{Ranks, Step, Telling, mode_word};
 use serde_json::{Map, Value, put};
 use std::alloc::{AllocError, Global};
 
@@ -39,13 +41,12 @@ fn step_list(alloc: Global, object: ObjectName, steps: &[Step]) -> Result<Value,
 
 /// The values of the steps behind so many events, up to the last that is shown.
 #[tactic(auto, using(crate::proofs::PageLaws::steps_told))]
-fn steps(alloc: Global, header: &Header, events: &[Event], span: Span) -> Result<Value, AuditFault>
-    requires { length events.now ≤ 2 ^ 25 }
-    ensures json { IfOk result (λ v. view v ≡ steps_json header.now events.now span.before span.last) }
-    ensures object { IsErrOf result AuditFault.Object → most header.now.object < header.now.size }
+fn steps(alloc: Global, told: ToldHistory) -> Result<Value, AllocError>
+    requires { IsTold told }
+    ensures { IfOk result (λ v. view v
+        ≡ steps_json told.entry.header.now told.entry.events.now told.entry.span.before told.entry.span.last) }
 {
-    let steps = tell_steps(alloc, header, events, span.before, span.last)?;
-    Ok(step_list(alloc, header.object(), &steps)?)
+    Ok(step_list(alloc, told.header.object(), told.steps)?)
 }
 
 /// What is wrong with the forbidden event, if it is shown.
@@ -117,61 +118,47 @@ fn put_counts(
 fn put_steps(
     alloc: Global,
     map: &mut Map<String, Value>,
-    header: &Header,
-    events: &[Event],
-    telling: &Telling,
-    span: Span,
+    told: ToldHistory,
 ) -> Result<(), AuditFault>
-    requires few { length events.now ≤ 2 ^ 25 }
-    requires told { telling_of telling.now ≡ account header.now events.now }
-    ensures members { OnOk result (members_view map.new.entries
-        ≡ with_steps header.now events.now span.before span.last (members_view map.old.entries)) }
-    ensures object { IsErrOf result AuditFault.Object → most header.now.object < header.now.size }
+    requires { IsTold told }
+    ensures members { OnOk result (members_view map.new.entries ≡ with_steps told.entry.header.now told.entry.events.now
+        told.entry.span.before told.entry.span.last (members_view map.old.entries)) }
+    ensures object { IsErrOf result AuditFault.Object → most told.entry.header.now.object < told.entry.header.now.size }
 {
-    put(map, alloc, "kinds", kinds(alloc, header, events)?)?;
-    put(map, alloc, "steps", steps(alloc, header, events, span)?)?;
-    put(map, alloc, "forbidden", forbidden(alloc, telling, span)?)?;
+    let telling = told.telling;
+    put(map, alloc, "kinds", kinds(alloc, told)?)?;
+    put(map, alloc, "steps", steps(alloc, told)?)?;
+    put(
+        map,
+        alloc,
+        "forbidden",
+        forbidden(alloc, telling, told.span)?,
+    )?;
     let verdict = format!(in alloc; "{}", telling.verdict)?;
     put(map, alloc, "verdict", Value::String(verdict))?;
     Ok(())
 }
 
 /// The data of a page: the events behind so many up to the last that is shown, and how all are judged.
-fn page_data(
-    alloc: Global,
-    header: &Header,
-    events: &[Event],
-    telling: &Telling,
-    span: Span,
-) -> Result<Value, AuditFault>
-    requires few { length events.now ≤ 2 ^ 25 }
-    requires told { telling_of telling.now ≡ account header.now events.now }
-    ensures json { IfOk result (λ v. view v ≡ page_json header.now events.now span.before span.last) }
-    ensures object { IsErrOf result AuditFault.Object → most header.now.object < header.now.size }
+fn page_data(alloc: Global, told: ToldHistory) -> Result<Value, AuditFault>
+    requires { IsTold told }
+    ensures json { IfOk result (λ v. view v ≡ told_json told.entry) }
+    ensures object { IsErrOf result AuditFault.Object → most told.entry.header.now.object < told.entry.header.now.size }
 {
     let mut map = Map::new(alloc);
-    put_heading(alloc, &mut map, header)?;
-    put_counts(alloc, &mut map, events, span.before)?;
-    put_steps(alloc, &mut map, header, events, telling, span)?;
+    put_heading(alloc, &mut map, told.header)?;
+    put_counts(alloc, &mut map, told.events, told.span.before)?;
+    put_steps(alloc, &mut map, told)?;
     Ok(Value::Object(map))
 }
 
 /// The same as a text, from which it can be read.
-pub(crate) fn data_text(
-    alloc: Global,
-    header: &Header,
-    events: &[Event],
-    telling: &Telling,
-    span: Span,
-) -> Result<String, AuditFault>
-    requires few { length events.now ≤ 2 ^ 25 }
-    requires told { telling_of telling.now ≡ account header.now events.now }
-    ensures text { IfOk result
-        (λ s. string_bytes s ≡ compact_text (page_json header.now events.now span.before span.last)) }
-    ensures reads_back { OnOk result
-        (let json = page_json header.now events.now span.before span.last in read (compact_text json) ≡ Some json) }
-    ensures object { IsErrOf result AuditFault.Object → most header.now.object < header.now.size }
+pub(crate) fn data_text(alloc: Global, told: ToldHistory) -> Result<String, AuditFault>
+    requires { IsTold told }
+    ensures text { IfOk result (λ s. string_bytes s ≡ compact_text (told_json told.entry)) }
+    ensures reads_back { OnOk result (read (compact_text (told_json told.entry)) ≡ Some (told_json told.entry)) }
+    ensures object { IsErrOf result AuditFault.Object → most told.entry.header.now.object < told.entry.header.now.size }
 {
-    let value = page_data(alloc, header, events, telling, span)?;
+    let value = page_data(alloc, told)?;
     Ok(value.to_string(alloc)?)
 }

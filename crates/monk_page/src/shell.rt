@@ -1,14 +1,21 @@
-//! What stands around the picture and the data of a page.
+//! What stands around the pictures and the data of a page.
 
 ghost use Rattle.std.specs.Prelude.{◌≡◌, IfOk, string_bytes};
-ghost use Rattle.monk_page.specs.Html.{front, history_end, log_end, middle, page_around, shared};
+ghost use Rattle.monk_page.specs.Html.{article, beside, closing, front, history_end, log_end, middle, opening};
+ghost use Rattle.monk_page.specs.Html.{page_of, shared};
 
+use crate::template::beside::BESIDE;
+use crate::template::closing::CLOSING;
 use crate::template::front::FRONT;
 use crate::template::history::HISTORY;
 use crate::template::log::LOG;
 use crate::template::middle::MIDDLE;
+use crate::template::opening::OPENING;
 use crate::template::shared::SHARED;
 use std::alloc::{AllocError, Global};
+
+/// What is told beside a history of which nothing is told.
+pub const NOTHING_TOLD: &str = "null";
 
 #[tactic(auto, unfolding(crate::specs::Html::front))]
 fn front() -> &'static str
@@ -17,11 +24,32 @@ fn front() -> &'static str
     FRONT
 }
 
+#[tactic(auto, unfolding(crate::specs::Html::opening))]
+fn opening() -> &'static str
+    ensures { result.now ≡ opening }
+{
+    OPENING
+}
+
 #[tactic(auto, unfolding(crate::specs::Html::middle))]
 fn middle() -> &'static str
     ensures { result.now ≡ middle }
 {
     MIDDLE
+}
+
+#[tactic(auto, unfolding(crate::specs::Html::beside))]
+fn beside() -> &'static str
+    ensures { result.now ≡ beside }
+{
+    BESIDE
+}
+
+#[tactic(auto, unfolding(crate::specs::Html::closing))]
+fn closing() -> &'static str
+    ensures { result.now ≡ closing }
+{
+    CLOSING
 }
 
 #[tactic(auto, unfolding(crate::specs::Html::shared))]
@@ -47,20 +75,33 @@ pub(crate) fn log_end() -> &'static str
     LOG
 }
 
-/// A picture and data as a page with that end.
-pub(crate) fn page_around(
+/// A picture and data, with what is told beside them.
+pub(crate) fn article_around(
     alloc: Global,
     picture: &str,
     json: &str,
-    end: &str,
+    told: &str,
 ) -> Result<String, AllocError>
-    ensures { IfOk result (λ page. string_bytes page ≡ page_around picture.now json.now end.now) }
+    ensures { IfOk result (λ text. string_bytes text ≡ article picture.now json.now told.now) }
+{
+    let mut text = String::new(alloc);
+    text.push_str(opening())?;
+    text.push_str(picture)?;
+    text.push_str(middle())?;
+    text.push_str(json)?;
+    text.push_str(beside())?;
+    text.push_str(told)?;
+    text.push_str(closing())?;
+    Ok(text)
+}
+
+/// Articles as a page with that end.
+pub(crate) fn page_with(alloc: Global, articles: &str, end: &str) -> Result<String, AllocError>
+    ensures { IfOk result (λ page. string_bytes page ≡ page_of articles.now end.now) }
 {
     let mut page = String::new(alloc);
     page.push_str(front())?;
-    page.push_str(picture)?;
-    page.push_str(middle())?;
-    page.push_str(json)?;
+    page.push_str(articles)?;
     page.push_str(shared())?;
     page.push_str(end)?;
     Ok(page)

@@ -24,26 +24,26 @@ fn put_standing(
         (members_view map.new.entries ≡ with_standing object (standing_of standing.now)
         (members_view map.old.entries)) }
 {
+    put_queues(alloc, map, &standing.queues)?;
+    let turn = format!(in alloc; "{}", SaidTurn(standing.turn))?;
+    put(map, alloc, "turn", Value::String(turn))?;
+    put(map, alloc, "state", standing.data.value(alloc)?)?;
+    put(map, alloc, "inside", standing.inside.value(alloc)?)?;
     let words = InWords {
         object,
         state: &standing.data.0,
     };
     let data = format!(in alloc; "{words}")?;
-    put(map, alloc, "data", Value::String(data))?;
-    put(map, alloc, "inside", standing.inside.value(alloc)?)?;
-    put(map, alloc, "state", standing.data.value(alloc)?)?;
-    let turn = format!(in alloc; "{}", SaidTurn(standing.turn))?;
-    put(map, alloc, "turn", Value::String(turn))?;
-    put_queues(alloc, map, &standing.queues)
+    put(map, alloc, "data", Value::String(data))
 }
 
-/// The value of a step of a monitor over the object.
+/// The value of a step of a monitor over the object. (A key is put in fastest if it is less than those that are there.)
 pub(crate) fn step(alloc: Global, object: ObjectName, step: &Step) -> Result<Value, AllocError>
     ensures { IfOk result (λ v. view v ≡ step_json object (step_of step.now)) }
 {
     let mut map = Map::new(alloc);
-    put(&mut map, alloc, "choice", optional(alloc, &step.choice)?)?;
-    put(&mut map, alloc, "event", optional(alloc, &step.event)?)?;
     put_standing(alloc, &mut map, object, &step.standing)?;
+    put(&mut map, alloc, "event", optional(alloc, &step.event)?)?;
+    put(&mut map, alloc, "choice", optional(alloc, &step.choice)?)?;
     Ok(Value::Object(map))
 }

@@ -34,6 +34,7 @@ fn meet_all<K: Kind, T: Guarded>(
     let mut others = Vec::with_capacity(alloc, passes.len())?;
     let mut passes = passes.into_iter();
     let Some(mut first) = passes.next() else {
+        // There is at least one pass.
         unreachable!();
     };
     for pass in passes {

@@ -18,6 +18,7 @@ pub(crate) fn header_of<K: Kind>(rota: Rota) -> Header
         rota.scenario.size(),
     ) {
         Some(header) => header,
+        // The numbers of a run are in range.
         None => unreachable!(),
     }
 }

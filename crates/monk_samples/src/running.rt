@@ -214,6 +214,7 @@ fn run_buffer<K: Style, R: Threads + Wait + Sync, G: Gate>(
     let buffer = match Buffer::make(alloc, rota.scenario.size()) {
         Ok(buffer) => buffer,
         Err(ObjectFault::Memory) => return Err(CrewFault::Memory),
+        // The size is within the object's greatest.
         Err(ObjectFault::Size) => unreachable!(),
     };
     run_over::<K, Buffer, R, G>(rt, alloc, rota, gate, buffer)
@@ -233,6 +234,7 @@ fn run_book<K: Style, R: Threads + Wait + Sync, G: Gate>(
         (run_fault_of e)) }
 {
     let Ok(book) = Book::make(rota.scenario.size()) else {
+        // The size is within the object's greatest.
         unreachable!();
     };
     run_over::<K, Book, R, G>(rt, alloc, rota, gate, book)
@@ -252,6 +254,7 @@ fn run_shop<K: Style, R: Threads + Wait + Sync, G: Gate>(
         (run_fault_of e)) }
 {
     let Ok(shop) = Shop::make(rota.scenario.size()) else {
+        // The size is within the object's greatest.
         unreachable!();
     };
     run_over::<K, Shop, R, G>(rt, alloc, rota, gate, shop)

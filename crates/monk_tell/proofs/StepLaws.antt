@@ -1,15 +1,18 @@
 -- The steps of a legal history, with one event more
 use Rattle.std.proofs.Common.{◌≡◌, ℕ, ◌+◌, ◌-◌, ◌<◌, ◌≤◌, Bool, cond, List, [], ◌∷◌, ◌++◌}
-use Rattle.std.proofs.Common.{length, map, take, drop, get_or, min}
+use Rattle.std.proofs.Common.{length, map, take, drop, get_or}
 use Rattle.std.proofs.Common.{sym, ap, subst, arith, ◌∙◌}
 use Rattle.std.specs.List.{range_with_len}
-use Rattle.std.proofs.Math.Nat.{min-le_right}
 use Rattle.std.proofs.lemmas.Bool.{ne_eqb}
 use Rattle.std.proofs.lemmas.List.{get_or-drop, get_or-take, length-take-le, map-append, take-take}
 use Rattle.std.proofs.lemmas.List.FromFn.{map-range_with_len_more}
 use Rattle.std.proofs.lemmas.Option.{slice_get_within}
+use Rattle.monk_kinds.specs.Names.{rules_named}
 use Rattle.monk_kinds.specs.declared.mode.Rules.{Rules}
+use Rattle.monk_object.specs.Names.{meaning_named, opening_named}
 use Rattle.monk_object.specs.Object.{Object}
+use Rattle.monk_history.specs.Text.{Heading}
+use Rattle.monk_history.specs.Meaning.Named.{named_monitor}
 use Rattle.monk_history.specs.declared.event.Event.{Event}
 use Rattle.monk_history.specs.declared.event.Event.TheVariants.{Enter}
 use Rattle.monk_history.specs.declared.event.Via.TheVariants.{Free}
@@ -17,41 +20,36 @@ use Rattle.monk_history.specs.Meaning.Legal.{IsLegal}
 use Rattle.monk_history.specs.Meaning.Monitor.{Monitor, monitor}
 use Rattle.monk_history.specs.Meaning.Reasons.{reason_in, reason_of}
 use Rattle.monk_history.specs.Meaning.Situation.{Situation, situation}
-use Rattle.monk_audit.specs.Verdict.{IsVerdict}
+use Rattle.monk_audit.specs.Verdict.{IsVerdict, verdict_of}
 use Rattle.monk_audit.specs.declared.verdict.Verdict.{Verdict}
 use Rattle.monk_audit.specs.declared.verdict.Verdict.TheVariants.{Legal, Forbidden}
 use Rattle.monk_history.specs.Meaning.Step.{after}
-use Rattle.monk_audit.proofs.PublicLaws.{legal_take, no_reason, stands_more}
-use Rattle.monk_tell.specs.Steps.{ShownStep, allowed_events, event_step, opening_step, step_after, step_by, step_of}
+use Rattle.monk_audit.proofs.PublicLaws.{is_verdict, legal_take, no_reason, stands_more}
+use Rattle.monk_tell.specs.Told.{allowed_events}
+use Rattle.monk_tell.specs.Steps.{ShownStep, event_step, opening_step, step_after, step_by, step_of}
 use Rattle.monk_tell.specs.declared.step.Step.{Step}
 use Rattle.monk_tell.proofs.TellLaws.{reason_opening}
 
 -- so many events are there, and are legal
-pub allowed_there : (m : Monitor) (es : List Event) (v : Verdict) (n : ℕ) → IsVerdict m es v → n ≤ allowed_events v
+allowed_there : (m : Monitor) (es : List Event) (v : Verdict) (n : ℕ) → IsVerdict m es v → n ≤ allowed_events v
     → n ≤ length es
 allowed_there m es (Legal count) n is few = omega (arith, is.1, few)
 allowed_there m es (Forbidden step reason) n is few =
     omega (arith, few, is.is_step, slice_get_within es is.before is.fault is.is_there)
 
--- the last step is of one of them
-pub end_allowed : (v : Verdict) (last allowed end : ℕ) → allowed ≡ allowed_events v → end ≡ min last allowed
-    → end ≤ allowed_events v
-end_allowed v last allowed end is ends =
-    subst (λ (n : ℕ). n ≤ allowed_events v) (sym (ends ∙ ap (min last) is)) (min-le_right last (allowed_events v))
-
 -- fewer of legal events
-pub legal_shorter : (m : Monitor) (es : List Event) (n k : ℕ) → n ≤ k → IsLegal m (take k es) → IsLegal m (take n es)
+legal_shorter : (m : Monitor) (es : List Event) (n k : ℕ) → n ≤ k → IsLegal m (take k es) → IsLegal m (take n es)
 legal_shorter m es n k few legal =
     subst (λ (xs : List Event). IsLegal m xs) (take-take n k es few) (legal_take m (take k es) n legal)
 
-pub allowed_legal : (m : Monitor) (es : List Event) (v : Verdict) (n : ℕ) → IsVerdict m es v → n ≤ allowed_events v
+allowed_legal : (m : Monitor) (es : List Event) (v : Verdict) (n : ℕ) → IsVerdict m es v → n ≤ allowed_events v
     → IsLegal m (take n es)
 allowed_legal m es (Legal count) n is few = legal_take m es n is.0
 allowed_legal m es (Forbidden step reason) n is few =
     legal_shorter m es n is.before (omega (arith, few, is.is_step)) is.legal_before
 
 -- against an event of them is no reason, whatever the opening state is
-pub none_against : (k : Rules) (seats conds : ℕ) (o : Object) (d : List ℕ) (es : List Event) (end n : ℕ)
+none_against : (k : Rules) (seats conds : ℕ) (o : Object) (d : List ℕ) (es : List Event) (end n : ℕ)
     (e : Event) (t : Situation) → IsLegal (monitor k seats conds o d) (take end es) → end ≤ length es → n < end
     → e ≡ get_or es n (Enter 0 Free) → t ≡ situation (monitor k seats conds o d) (take n es)
     → reason_in (monitor k seats conds o []) t e ≡ 0
@@ -84,12 +82,45 @@ none_against k seats conds o d es end n e t legal ends few there stands =
         ∙ ap (λ (x : Event). reason_of m (take n es) x) there_is))
 
 -- where the event of that number leads
-pub reached : (m : Monitor) (es : List Event) (end n : ℕ) (e : Event) (t u : Situation) → IsLegal m (take end es)
+reached : (m : Monitor) (es : List Event) (end n : ℕ) (e : Event) (t u : Situation) → IsLegal m (take end es)
     → end ≤ length es → n < end → e ≡ get_or es n (Enter 0 Free) → t ≡ situation m (take n es) → u ≡ after m.object t e
     → u ≡ situation m (take (n + 1) es)
 reached m es end n e t u legal ends few there stands leads =
     stands_more m es n (Enter 0 Free) t u (omega (arith, few, ends))
     (legal_shorter m es n end (omega (arith, few)) legal) stands (leads ∙ ap (λ (x : Event). after m.object t x) there)
+
+-- of a history with that verdict
+verdict_is : (h : Heading) (es : List Event) (v : Verdict) → v ≡ verdict_of (named_monitor h) es
+    → IsVerdict (named_monitor h) es v
+verdict_is h es v is = subst (IsVerdict (named_monitor h) es) (sym is) (is_verdict (named_monitor h) es)
+
+pub judged_there : (h : Heading) (es : List Event) (v : Verdict) (n : ℕ) → v ≡ verdict_of (named_monitor h) es
+    → n ≤ allowed_events v → n ≤ length es
+judged_there h es v n is few = allowed_there (named_monitor h) es v n (verdict_is h es v is) few
+
+judged_legal : (h : Heading) (es : List Event) (v : Verdict) (n : ℕ) → v ≡ verdict_of (named_monitor h) es
+    → n ≤ allowed_events v → IsLegal (named_monitor h) (take n es)
+judged_legal h es v n is few = allowed_legal (named_monitor h) es v n (verdict_is h es v is) few
+
+-- against the next event that is allowed there is no reason, whatever the opening state is
+pub next_allowed : (h : Heading) (es : List Event) (v : Verdict) (end n : ℕ) (k : Rules) (seats conds : ℕ) (o : Object)
+    (e : Event) (t : Situation) → v ≡ verdict_of (named_monitor h) es → end ≤ allowed_events v → n < end
+    → e ≡ get_or es n (Enter 0 Free) → t ≡ situation (named_monitor h) (take n es)
+    → k ≡ rules_named h.kind → seats ≡ h.seats → conds ≡ h.conds → o ≡ meaning_named h.object
+    → reason_in (monitor k seats conds o []) t e ≡ 0
+next_allowed h es v end n k seats conds o e t is few before there stands kind as_seats as_conds named =
+    rw (kind, as_seats, as_conds, named)
+    (none_against (rules_named h.kind) h.seats h.conds (meaning_named h.object) (opening_named h.object h.size) es end n
+    e t (judged_legal h es v end is few) (judged_there h es v end is few) before there stands)
+
+-- where it leads
+pub next_reached : (h : Heading) (es : List Event) (v : Verdict) (end n : ℕ) (o : Object) (e : Event) (t u : Situation)
+    → v ≡ verdict_of (named_monitor h) es → end ≤ allowed_events v → n < end
+    → e ≡ get_or es n (Enter 0 Free) → t ≡ situation (named_monitor h) (take n es) → o ≡ meaning_named h.object
+    → u ≡ after o t e → u ≡ situation (named_monitor h) (take (n + 1) es)
+next_reached h es v end n o e t u is few before there stands named leads =
+    reached (named_monitor h) es end n e t u (judged_legal h es v end is few) (judged_there h es v end is few) before
+    there stands (leads ∙ ap (λ (x : Object). after x t e) named)
 
 -- the event at a place behind the first ones
 pub event_there : (es : List Event) (before last i : ℕ) (d : Event) → i < last - before

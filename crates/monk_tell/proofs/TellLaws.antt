@@ -1,17 +1,21 @@
 -- What a reason says of an event, and a first fault of a history
-use Rattle.std.proofs.Common.{◌≡◌, ◌≢◌, ℕ, Bool, true, false, cond, not, List, [], Some}
-use Rattle.std.proofs.Common.{◌⊎◌, ◌≤◌, inl, inr, refl, sym, ap, subst, arith, ◌∙◌}
+use Rattle.std.proofs.Common.{◌≡◌, ◌≢◌, ℕ, Bool, true, false, cond, not, List, []}
+use Rattle.std.proofs.Common.{◌⊎◌, ◌≤◌, ◌<◌, ◌-◌, Option, get_or, inl, inr, length, refl, sym, take, ap, subst, arith, ◌∙◌}
 use Rattle.std.specs.Prelude.{◌==◌}
 use Rattle.std.proofs.lemmas.Bool.{ne_eqb}
+use Rattle.std.proofs.lemmas.Option.{get_or_from_slice_get, slice_get_within}
 use Rattle.monk_kinds.specs.declared.mode.Rules.{Rules}
 use Rattle.monk_kinds.specs.declared.name.KindName.{KindName}
 use Rattle.monk_object.specs.Object.{Object}
 use Rattle.monk_history.specs.declared.event.Event.{Event}
+use Rattle.monk_history.specs.declared.event.Event.TheVariants.{Enter}
+use Rattle.monk_history.specs.declared.event.Via.TheVariants.{Free}
+use Rattle.monk_history.specs.Meaning.Legal.{IsFirstFault}
 use Rattle.monk_history.specs.declared.event.Turn.{Turn}
 use Rattle.monk_history.specs.Meaning.Events.{seat_of, via_of}
 use Rattle.monk_history.specs.Meaning.Monitor.{Monitor, monitor}
 use Rattle.monk_history.specs.Meaning.Reasons.{fits_object, is_in_range, reason_in}
-use Rattle.monk_history.specs.Meaning.Situation.{Situation}
+use Rattle.monk_history.specs.Meaning.Situation.{Situation, situation}
 use Rattle.monk_history.proofs.PublicLaws.Meaning.{and_right}
 use Rattle.monk_object.specs.Names.{meaning_named, opening_named}
 use Rattle.monk_object.specs.declared.name.ObjectName.{ObjectName}
@@ -19,13 +23,15 @@ use Rattle.monk_kinds.specs.Names.{rules_named}
 use Rattle.monk_history.specs.Text.{Heading}
 use Rattle.monk_history.specs.Meaning.Named.{named_monitor}
 use Rattle.monk_audit.specs.declared.verdict.Verdict.{Verdict}
+use Rattle.monk_audit.specs.declared.verdict.Verdict.TheVariants.{Forbidden}
 use Rattle.monk_audit.specs.declared.reason.Reason.{Reason}
 use Rattle.monk_audit.specs.declared.reason.Reason.TheVariants as reasons
 use Rattle.monk_audit.specs.Reasons.{number_of}
 use Rattle.monk_audit.specs.Verdict.{IsVerdict, verdict_of}
 use Rattle.monk_audit.proofs.PublicLaws.{is_verdict}
 use Rattle.monk_tell.specs.Cause.{early_cause, no_entry, out_of_turn, waits_at}
-use Rattle.monk_tell.specs.Told.{Blamed, Shown, ShownQueues, ShownStanding, ShownSteps, Account}
+use Rattle.monk_tell.specs.Told.{Account, Blamed, Shown, ShownQueues, ShownStanding, ShownSteps, account, account_by}
+use Rattle.monk_tell.specs.Told.{allowed_events, blame_by, shown_after}
 use Rattle.monk_tell.specs.declared.why.Why.{Why}
 use Rattle.monk_tell.specs.declared.why.Why.TheVariants.{Place}
 
@@ -71,29 +77,45 @@ pub same_shown : (k l : KindName) (rules : Rules) (n o : ObjectName) (s t : Show
     → n ≡ o → s ≡ t → r ≡ q → shown_by k rules n s r ≡ shown_by l rules o t q
 same_shown k l rules n o s t r q a b c d = λ i. shown_by (a i) rules (b i) (c i) (d i)
 
-abbrev pub told_as : Verdict → Shown → Blamed → Account
-told_as v s b = record { verdict = v; situation = s; blame = Some b }
+abbrev told_as : Verdict → Shown → Option Blamed → Account
+told_as v s b = record { verdict = v; situation = s; blame = b }
 
-pub same_told : (v : Verdict) (s t : Shown) (b d : Blamed) → s ≡ t → b ≡ d → told_as v s b ≡ told_as v t d
-same_told v s t b d e f = λ i. told_as v (e i) (f i)
+-- what is told of a history, from its parts
+pub account_is : (h : Heading) (es : List Event) (v : Verdict) (s : Shown) (b : Option Blamed)
+    → v ≡ verdict_of (named_monitor h) es
+    → s ≡ shown_after h.kind h.object (named_monitor h) (take (allowed_events v) es)
+    → b ≡ blame_by h.kind (named_monitor h) es v → told_as v s b ≡ account h es
+account_is h es v s b is stands blamed =
+    (λ i. told_as v (stands i) (blamed i)) ∙ ap (account_by h.kind h.object (named_monitor h) es) is
 
--- the monitor over an object that was made for the header is the one that the header names
-pub made_named : (h : Heading) (o : ObjectName) (size : ℕ) (d : List ℕ) → h.object ≡ o → size ≡ h.size
-    → d ≡ opening_named o size
-    → monitor (rules_named h.kind) h.seats h.conds (meaning_named o) d ≡ named_monitor h
-made_named h o size d is same made =
-    ap (λ (x : List ℕ). monitor (rules_named h.kind) h.seats h.conds (meaning_named o) x)
-    (made ∙ ap (opening_named o) same ∙ ap (λ (x : ObjectName). opening_named x h.size) (sym is))
-    ∙ ap (λ (x : ObjectName). monitor (rules_named h.kind) h.seats h.conds (meaning_named x)
-    (opening_named h.object h.size)) (sym is)
+-- the fault of a history with that verdict
+pub judged_fault : (h : Heading) (es : List Event) (v : Verdict) (step reason : ℕ) → v ≡ verdict_of (named_monitor h) es
+    → v ≡ Forbidden step reason → IsFirstFault (named_monitor h) es step reason
+judged_fault h es v step reason is forbids =
+    subst (IsVerdict (named_monitor h) es) (sym is ∙ forbids) (is_verdict (named_monitor h) es)
 
-pub over_is : (h : Heading) (o : ObjectName) (size : ℕ) (d : List ℕ) (es : List Event) (v : Verdict)
-    → h.object ≡ o → size ≡ h.size
-    → d ≡ opening_named o size → v ≡ verdict_of (named_monitor h) es
-    → IsVerdict (monitor (rules_named h.kind) h.seats h.conds (meaning_named o) d) es v
-over_is h o size d es v is same made found =
-    subst (λ (m : Monitor). IsVerdict m es v) (sym (made_named h o size d is same made))
-    (subst (IsVerdict (named_monitor h) es) (sym found) (is_verdict (named_monitor h) es))
+pub fault_there : (m : Monitor) (es : List Event) (step reason : ℕ) → IsFirstFault m es step reason
+    → (1 ≤ step) × (step - 1 < length es)
+fault_there m es step reason f =
+    let there : f.before < length es = slice_get_within es f.before f.fault f.is_there in
+    (omega (arith, f.is_step), omega (arith, f.is_step, there))
+
+-- the reason against its event, whatever the opening state is
+pub fault_reason : (h : Heading) (es : List Event) (step reason : ℕ) (k : Rules) (o : Object) (t : Situation)
+    → IsFirstFault (named_monitor h) es step reason → k ≡ rules_named h.kind → o ≡ meaning_named h.object
+    → t ≡ situation (named_monitor h) (take (step - 1) es)
+    → reason ≡ reason_in (monitor k h.seats h.conds o []) t (get_or es (step - 1) (Enter 0 Free))
+fault_reason h es step reason k o t f kind named stands =
+    let m = named_monitor h in
+    let at : f.before ≡ step - 1 = omega (arith, f.is_step) in
+    let there : f.fault ≡ get_or es (step - 1) (Enter 0 Free) =
+    sym (get_or_from_slice_get es f.before f.fault (Enter 0 Free) f.is_there)
+    ∙ ap (λ (n : ℕ). get_or es n (Enter 0 Free)) at in
+    sym f.applies ∙ (λ i. reason_in m (situation m (take (at i) es)) (there i))
+    ∙ reason_opening (rules_named h.kind) h.seats h.conds (meaning_named h.object) (opening_named h.object h.size)
+    (situation m (take (step - 1) es)) (get_or es (step - 1) (Enter 0 Free))
+    ∙ sym (λ i. reason_in (monitor (kind i) h.seats h.conds (named i) []) (stands i)
+    (get_or es (step - 1) (Enter 0 Free)))
 
 -- why it is not the turn of an event's seat, and why it may not enter, as causes by their reasons
 pub turn_caused : (kind : KindName) (seats conds : ℕ) (t : Situation) (reason : ℕ) (e : Event) (why : Why) → reason ≡ 3

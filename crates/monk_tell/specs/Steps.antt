@@ -1,5 +1,5 @@
 -- The steps of a history, as data: each event, what it chose from, and how the monitor stands after it
-use Rattle.std.specs.Prelude.{ℕ, ◌+◌, ◌-◌, ◌==◌, min, Option, Some, None, List, map, take, option_map, if◌then◌else◌}
+use Rattle.std.specs.Prelude.{◌≡◌, ℕ, ◌+◌, ◌-◌, ◌==◌, min, Option, Some, None, List, map, take, option_map, if◌then◌else◌}
 use Rattle.std.specs.List.{range_with_len}
 use Rattle.monk_kinds.specs.declared.mode.Rules.{Rules}
 use Rattle.monk_object.specs.Object.{Object}
@@ -10,9 +10,9 @@ use Rattle.monk_history.specs.Meaning.Named.{named_monitor}
 use Rattle.monk_history.specs.Meaning.Situation.{Situation, situation}
 use Rattle.monk_history.specs.declared.event.Event.{Event}
 use Rattle.monk_audit.specs.Verdict.{verdict_of}
-use Rattle.monk_audit.specs.declared.verdict.Verdict.{Verdict}
-use Rattle.monk_audit.specs.declared.verdict.Verdict.TheVariants.{Legal, Forbidden}
-use Rattle.monk_tell.specs.Told.{Chosen, ShownStanding, choice_of, chosen_at, event_at, events_before}
+use Rattle.monk_audit.specs.Replay.{IsReplayOf, replay_situation}
+use Rattle.monk_audit.specs.declared.replay.Replay.{Replay}
+use Rattle.monk_tell.specs.Told.{Chosen, ShownStanding, allowed_events, choice_of, chosen_at, event_at, events_before}
 use Rattle.monk_tell.specs.Told.{shown_standing, standing_of}
 use Rattle.monk_tell.specs.declared.step.Step.{Step}
 
@@ -58,13 +58,13 @@ step_after m es before n = if n == before then opening_step m (situation m (take
 abbrev pub steps_of : Monitor → List Event → ℕ → ℕ → List ShownStep
 steps_of m es before last = map (step_after m es before) (range_with_len before (last + 1 - before))
 
--- how many events stand before the first that is not allowed, or all
-abbrev pub allowed_events : Verdict → ℕ
-allowed_events (Legal n) = n
-allowed_events (Forbidden step reason) = step - 1
-
 -- the steps of a history up to the last event asked for, or the last that is allowed
 abbrev pub steps_between : Heading → List Event → ℕ → ℕ → List ShownStep
 steps_between h es before last =
     let m = named_monitor h in
     steps_of m es before (min last (allowed_events (verdict_of m es)))
+
+-- a replay, beside this state of the object, shows how the monitor stands after the first n events
+pub record IsAfter (h : Heading) (es : List Event) (n predicates : ℕ) (r : Replay) (state : List ℕ) : Type 0 where
+  pub stands : replay_situation r state ≡ situation (named_monitor h) (take n es)
+  pub sound : IsReplayOf h.seats h.conds predicates r

@@ -1,5 +1,5 @@
 -- What is told of a history, as data
-use Rattle.std.specs.Prelude.{ℕ, zero, suc, ◌-◌, ◌==◌, Bool, Option, Some, None, List, [], ◌∷◌, ◌++◌, length, map, take}
+use Rattle.std.specs.Prelude.{◌≡◌, ℕ, zero, suc, ◌-◌, ◌==◌, Bool, Option, Some, None, List, [], ◌∷◌, ◌++◌, length, map, take}
 use Rattle.std.specs.Prelude.{if◌then◌else◌, option_map, get_or}
 use Rattle.monk_kinds.specs.declared.mode.Mode.{Mode}
 use Rattle.monk_kinds.specs.declared.mode.Mode.TheVariants.{Blocking, NonBlocking}
@@ -27,6 +27,7 @@ use Rattle.monk_audit.specs.declared.verdict.Verdict.TheVariants.{Legal, Forbidd
 use Rattle.monk_tell.specs.Cause.{cause, own_reply}
 use Rattle.monk_tell.specs.Permitted.{fronts, permitted_nexts}
 use Rattle.monk_tell.specs.declared.forbidden.ForbiddenEvent.{ForbiddenEvent}
+use Rattle.monk_tell.specs.declared.judged.JudgedHistory.{JudgedHistory}
 use Rattle.monk_tell.specs.declared.choice.Choice.{Choice}
 use Rattle.monk_tell.specs.declared.lines.Lines.{Lines}
 use Rattle.monk_tell.specs.declared.queues.Conditions.{Conditions}
@@ -236,16 +237,35 @@ event_at es step = get_or es (step - 1) (Enter 0 Free)
 abbrev pub events_before : List Event → ℕ → List Event
 events_before es step = take (step - 1) es
 
+-- how many events stand before the first that is not allowed, or all
+abbrev pub allowed_events : Verdict → ℕ
+allowed_events (Legal n) = n
+allowed_events (Forbidden step reason) = step - 1
+
+-- the step that a verdict forbids, if it forbids one
+abbrev pub forbidden_step : Verdict → Option ℕ
+forbidden_step (Legal n) = None
+forbidden_step (Forbidden step reason) = Some step
+
+-- what is wrong with its event
+abbrev pub blame_by : KindName → Monitor → List Event → Verdict → Option Blamed
+blame_by kind m es (Legal n) = None
+blame_by kind m es (Forbidden step reason) =
+    Some (blame_of_event kind m.kind m.seats m.conds m.object (situation m (events_before es step)) step reason
+    (event_at es step))
+
 -- what is told of a history of a monitor of that kind over the object of that name, with that verdict
 abbrev pub account_by : KindName → ObjectName → Monitor → List Event → Verdict → Account
-account_by kind name m es (Legal n) = record { verdict = Legal n; situation = shown_after kind name m es; blame = None }
-account_by kind name m es (Forbidden step reason) = record {
-  verdict = Forbidden step reason;
-  situation = shown_after kind name m (events_before es step);
-  blame = Some (blame_of_event kind m.kind m.seats m.conds m.object (situation m (events_before es step)) step reason
-      (event_at es step));
+account_by kind name m es v = record {
+  verdict = v;
+  situation = shown_after kind name m (take (allowed_events v) es);
+  blame = blame_by kind m es v;
 }
 
 -- what is told of a history
 abbrev pub account : Heading → List Event → Account
 account h es = account_by h.kind h.object (named_monitor h) es (verdict_of (named_monitor h) es)
+
+-- the verdict is the one on these events
+abbrev pub IsJudged : JudgedHistory → Type 0
+IsJudged j = j.verdict ≡ verdict_of (named_monitor j.header.now) j.events.now

@@ -1,9 +1,5 @@
 //! What a release chooses from, and what it may choose.
 
-ghost use Rattle.std.specs.Prelude.{Some};
-ghost use Rattle.monk_tell.specs.Words.{choice_text};
-ghost use Rattle.monk_tell.specs.Told.{choice_of};
-
 use crate::lists::{FrontList, Nexts};
 use std::fmt;
 
@@ -19,8 +15,6 @@ pub struct Choice {
 
 /// In two lines.
 impl fmt::Display for Choice {
-    ghost output = { λ c. Some (choice_text (choice_of c)) };
-
     fn fmt<W: fmt::Write>(&self, f: &mut fmt::Formatter<W>) -> fmt::Result {
         let (fronts, may) = (&self.fronts, &self.may);
         write!(f, "fronts:{fronts}\n")?;

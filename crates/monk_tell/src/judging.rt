@@ -58,24 +58,39 @@ fn choice<T: Guarded>(
     ))
 }
 
-/// What is wrong with the event of that step, which is not allowed for that reason.
+/// The first event that is not allowed.
+#[derive(Clone, Copy)]
+pub(crate) struct FirstFault {
+    /// Its number, counted from 1.
+    pub(crate) step: u32,
+    /// The first reason against it.
+    pub(crate) reason: Reason,
+    /// The event.
+    pub(crate) event: Event,
+}
+
+/// What is wrong with it.
 pub(crate) fn blame<T: Guarded>(
     alloc: Global,
     header: &Header,
     rules: Rules,
     replay: &Replay,
     object: &mut T,
-    step: u32,
-    reason: Reason,
-    event: Event,
+    fault: FirstFault,
 ) -> Result<ForbiddenEvent, AllocError>
     requires preds { All (λ w. w.1 < T.PREDICATES) (replay_situation replay.now (T.state object.old)).untils }
-    requires reason { number_of reason ≡ reason_in (monitor rules header.now.seats header.now.conds T.meaning [])
-        (replay_situation replay.now (T.state object.old)) event }
+    requires reason { number_of fault.reason ≡ reason_in
+        (monitor rules header.now.seats header.now.conds T.meaning [])
+        (replay_situation replay.now (T.state object.old)) fault.event }
     ensures { IfOk result
         (λ b. blame_of b ≡ blame_of_event header.now.kind rules header.now.seats header.now.conds T.meaning
-        (replay_situation replay.now (T.state object.old)) step (number_of reason) event) }
+        (replay_situation replay.now (T.state object.old)) fault.step (number_of fault.reason) fault.event) }
 {
+    let FirstFault {
+        step,
+        reason,
+        event,
+    } = fault;
     match reason {
         Reason::Choice => {
             let (choice, why) = choice(alloc, header, rules, replay, object, event)?;

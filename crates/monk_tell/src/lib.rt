@@ -4,6 +4,7 @@
 mod choice;
 mod firsts;
 mod forbidden;
+mod judged;
 mod judging;
 pub mod laws;
 mod lines;
@@ -27,6 +28,7 @@ mod why;
 
 pub use choice::Choice;
 pub use forbidden::ForbiddenEvent;
+pub use judged::{JudgedHistory, forbidden_step};
 pub use lists::{FrontList, Nexts, NumberList, SeatList, Waits};
 pub use queues::{Conditions, QueueLists};
 pub use refused::Refused;
@@ -36,7 +38,6 @@ pub use situation::{Data, Situation};
 pub use stand::{Stand, stand_of};
 pub use standing::{Standing, data_numbers};
 pub use step::Step;
-pub use steps::tell_steps;
 pub use telling::Telling;
-pub use told::tell;
+pub use told::{tell, tell_judged, tell_steps};
 pub use why::{OutOfPlace, OutOfRange, OutOfTurn, Precedence, Staying, Why};

@@ -1,7 +1,7 @@
 //! Lists that print themselves.
 
 ghost use Rattle.std.specs.Prelude.{Some};
-ghost use Rattle.monk_tell.specs.Words.{fronts_text, nexts_text, numbers_text, seats_text, waits_text};
+ghost use Rattle.monk_tell.specs.Words.{numbers_text};
 
 use crate::said::queue_word;
 use monk_history::{From3, Next};
@@ -12,8 +12,6 @@ use std::fmt;
 pub struct SeatList(pub Vec<u8>);
 
 impl fmt::Display for SeatList {
-    ghost output = { λ s. Some (seats_text s.0.items) };
-
     fn fmt<W: fmt::Write>(&self, f: &mut fmt::Formatter<W>) -> fmt::Result {
         for seat in &self.0 {
             write!(f, " {seat}")?;
@@ -42,8 +40,6 @@ impl fmt::Display for NumberList {
 pub struct Waits(pub Vec<(u8, u8)>);
 
 impl fmt::Display for Waits {
-    ghost output = { λ s. Some (waits_text s.0.items) };
-
     fn fmt<W: fmt::Write>(&self, f: &mut fmt::Formatter<W>) -> fmt::Result {
         let Some((first, rest)) = self.0.split_first() else {
             return Ok(());
@@ -61,8 +57,6 @@ impl fmt::Display for Waits {
 pub struct FrontList(pub Vec<(From3, u8)>);
 
 impl fmt::Display for FrontList {
-    ghost output = { λ s. Some (fronts_text s.0.items) };
-
     fn fmt<W: fmt::Write>(&self, f: &mut fmt::Formatter<W>) -> fmt::Result {
         let Some((first, rest)) = self.0.split_first() else {
             return Ok(());
@@ -80,8 +74,6 @@ impl fmt::Display for FrontList {
 pub struct Nexts(pub Vec<Next>);
 
 impl fmt::Display for Nexts {
-    ghost output = { λ s. Some (nexts_text s.0.items) };
-
     fn fmt<W: fmt::Write>(&self, f: &mut fmt::Formatter<W>) -> fmt::Result {
         let Some((first, rest)) = self.0.split_first() else {
             return Ok(());

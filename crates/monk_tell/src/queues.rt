@@ -1,9 +1,5 @@
 //! The queues inside a monitor, by what its kind has.
 
-ghost use Rattle.std.specs.Prelude.{Some};
-ghost use Rattle.monk_tell.specs.Words.{conditions_text, queues_text};
-ghost use Rattle.monk_tell.specs.Told.{condition_lists, queues_of};
-
 use crate::lists::{SeatList, Waits};
 use std::fmt;
 
@@ -13,8 +9,6 @@ pub struct Conditions(pub Vec<SeatList>);
 
 /// A line for each condition: `condition 1: 0 2`.
 impl fmt::Display for Conditions {
-    ghost output = { λ c. Some (conditions_text (condition_lists c)) };
-
     fn fmt<W: fmt::Write>(&self, f: &mut fmt::Formatter<W>) -> fmt::Result {
         for (cond, seats) in self.0.iter().enumerate() {
             write!(f, "condition {cond}:{seats}\n")?;
@@ -36,8 +30,6 @@ pub enum QueueLists {
 
 /// A line for each queue.
 impl fmt::Display for QueueLists {
-    ghost output = { λ q. Some (queues_text (queues_of q)) };
-
     fn fmt<W: fmt::Write>(&self, f: &mut fmt::Formatter<W>) -> fmt::Result {
         match self {
             QueueLists::Automatic(untils, ready) => {

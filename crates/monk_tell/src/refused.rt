@@ -1,9 +1,8 @@
 //! The acts that the object refused, by their steps.
 
-ghost use Rattle.std.specs.Prelude.{◌≡◌, ◌+◌, ◌-◌, ◌<◌, ◌≤◌, ◌^◌, ◌++◌, [], ◌∷◌, ℕ, List, Some, IfOk, OnOk};
+ghost use Rattle.std.specs.Prelude.{◌≡◌, ◌+◌, ◌-◌, ◌<◌, ◌≤◌, ◌++◌, [], ◌∷◌, ℕ, List, ◌^◌, IfOk, OnOk};
 ghost use Rattle.monk_history.specs.Meaning.Acts.{refused_steps};
 ghost use Rattle.monk_tell.specs.Told.{refused_of, told_steps};
-ghost use Rattle.monk_tell.specs.Words.{more_text, refused_text};
 
 use crate::lists::NumberList;
 use monk_history::Event;
@@ -56,29 +55,16 @@ pub(crate) fn refused_acts(alloc: Global, events: &[Event]) -> Result<Refused, A
     Ok(refused)
 }
 
-/// How many more steps there are than are told.
-#[derive(Clone, Copy)]
-struct More(usize);
-
-impl fmt::Display for More {
-    ghost output = { λ m. Some (more_text m.0) };
-
-    fn fmt<W: fmt::Write>(&self, f: &mut fmt::Formatter<W>) -> fmt::Result {
-        match self.0 {
-            0 => Ok(()),
-            more => write!(f, " and {more} more"),
-        }
-    }
-}
-
 /// A line, where there is one: `refused: 3 11`.
 impl fmt::Display for Refused {
-    ghost output = { λ r. Some (refused_text (refused_of r)) };
-
     fn fmt<W: fmt::Write>(&self, f: &mut fmt::Formatter<W>) -> fmt::Result {
         if self.first.0.is_empty() {
             return Ok(());
         }
-        write!(f, "refused:{}{}\n", self.first, More(self.more))
+        write!(f, "refused:{}", self.first)?;
+        match self.more {
+            0 => write!(f, "\n"),
+            more => write!(f, " and {more} more\n"),
+        }
     }
 }

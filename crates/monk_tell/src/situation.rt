@@ -2,7 +2,7 @@
 
 ghost use Rattle.std.specs.Prelude.{◌≡◌, ◌<◌, All, IfOk, Some};
 ghost use Rattle.monk_audit.specs.Replay.{replay_situation};
-ghost use Rattle.monk_tell.specs.Words.{data_text, situation_text};
+ghost use Rattle.monk_tell.specs.Words.{data_text};
 ghost use Rattle.monk_tell.specs.Told.{shown_situation, situation_of};
 
 use crate::lists::NumberList;
@@ -77,8 +77,6 @@ impl fmt::Display for Data<'_> {
 /// In lines: the kind with its mode and priorities, the turn, who is inside, the data, also in
 /// words, the refused acts and the queues.
 impl fmt::Display for Situation {
-    ghost output = { λ s. Some (situation_text (situation_of s)) };
-
     fn fmt<W: fmt::Write>(&self, f: &mut fmt::Formatter<W>) -> fmt::Result {
         let (kind, mode) = (self.kind.as_str(), mode_word(self.rules.mode));
         let ranks = Ranks(self.rules);

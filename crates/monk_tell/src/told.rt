@@ -1,142 +1,146 @@
 //! What is told of a history.
 
-ghost use Rattle.std.specs.Prelude.{◌≡◌, ◌≤◌, ◌<◌, ◌^◌, All, IfOk, OnOk, IsErrOf, length};
-ghost use Rattle.monk_kinds.specs.Names.{rules_named};
-ghost use Rattle.monk_object.specs.Names.{most};
-ghost use Rattle.monk_history.specs.Meaning.Legal.{IsLegal, IsFirstFault};
-ghost use Rattle.monk_history.specs.Meaning.Monitor.{monitor};
-ghost use Rattle.monk_history.specs.Meaning.Situation.{situation};
-ghost use Rattle.monk_audit.specs.Replay.{replay_situation};
-ghost use Rattle.monk_audit.specs.Verdict.{IsVerdict};
-ghost use Rattle.monk_tell.specs.Told.{account, account_by, events_before, shown_after, situation_of, telling_of};
+ghost use Rattle.std.specs.Prelude.{◌≡◌, ◌≤◌, ◌<◌, ◌^◌, IfOk, OnOk, IsErrOf, length, map, option_map};
+ghost use Rattle.monk_object.specs.Names.{meaning_named, most, opening_named};
+ghost use Rattle.monk_history.specs.Meaning.Named.{named_monitor};
+ghost use Rattle.monk_tell.specs.Steps.{IsAfter, step_of, steps_between};
+ghost use Rattle.monk_tell.specs.Told.{IsJudged, account, allowed_events, blame_by, blame_of, telling_of};
 
-use crate::judging::blame;
+use crate::forbidden::ForbiddenEvent;
+use crate::judged::{JudgedHistory, allowed_events};
+use crate::judging::{FirstFault, blame};
 use crate::situation::Situation;
+use crate::step::Step;
+use crate::steps::{follow, steps_from};
 use crate::telling::Telling;
 use monk_audit::{AuditFault, Reason, Replay, Verdict, audit, rules_by_name};
 use monk_history::{Event, Header};
-use monk_object::{Book, Buffer, Flags, Listed, ObjectName, Shop};
+use monk_object::{Book, Buffer, Flags, Guarded, Listed, ObjectName, Shop};
 use std::alloc::{AllocError, Global};
 
-/// How the monitor stands after the events, which are legal, as a replay and for a reader.
-fn standing<T: Listed>(
+/// What is wrong with the first event that is not allowed, if there is one. The replay is that of the events before it.
+fn blamed<T: Guarded>(
     alloc: Global,
-    header: &Header,
+    history: JudgedHistory<'_>,
+    replay: &Replay,
     object: &mut T,
-    events: &[Event],
-) -> Result<(Replay, Situation), AllocError>
-    requires { IsLegal (monitor (rules_named header.now.kind) header.now.seats header.now.conds T.meaning
-        (T.state object.old)) events.now }
-    ensures stands { IfOk result
-        (λ r. replay_situation r.0 (T.state object.new) ≡ situation
-        (monitor (rules_named header.now.kind) header.now.seats header.now.conds T.meaning
-        (T.state object.old)) events.now) }
-    ensures preds { IfOk result (λ r. All (λ w. w.1 < T.PREDICATES)
-        (replay_situation r.0 (T.state object.new)).untils) }
-    ensures shown { IfOk result
-        (λ r. situation_of r.1 ≡ shown_after header.now.kind header.now.object
-        (monitor (rules_named header.now.kind) header.now.seats header.now.conds T.meaning
-        (T.state object.old)) events.now) }
+) -> Result<Option<ForbiddenEvent>, AllocError>
+    requires judged { IsJudged history }
+    requires named { T.meaning ≡ meaning_named history.header.now.object }
+    requires stands { IsAfter history.header.now history.events.now (allowed_events history.verdict) T.PREDICATES
+        replay.now (T.state object.old) }
+    ensures { IfOk result (λ b. option_map blame_of b ≡ blame_by history.entry.header.now.kind
+        (named_monitor history.entry.header.now) history.entry.events.now history.entry.verdict) }
 {
-    let rules = rules_by_name(header.kind());
-    let (seats, conds) = (header.seats(), header.conds());
-    let replay = Replay::after_all(alloc, object, rules, seats, conds, events)?;
-    let shown = Situation::of(alloc, header, rules, &replay, object, events)?;
-    Ok((replay, shown))
+    match history.verdict {
+        Verdict::Legal(_) => Ok(None),
+        Verdict::Forbidden { step, reason } => {
+            let rules = rules_by_name(history.header.kind());
+            let fault = FirstFault {
+                step,
+                reason: Reason::numbered(reason),
+                event: history.events[step as usize - 1],
+            };
+            let blame = blame(alloc, history.header, rules, replay, object, fault)?;
+            Ok(Some(blame))
+        }
+    }
 }
 
-/// What is told of a legal history.
-fn tell_legal<T: Listed>(
+/// What is told of a history, from the replay of the events before the first that is not allowed.
+fn telling<T: Listed>(
     alloc: Global,
-    header: &Header,
-    object: T,
-    count: u32,
-    events: &[Event],
+    history: JudgedHistory<'_>,
+    replay: &Replay,
+    object: &mut T,
 ) -> Result<Telling, AllocError>
-    requires { IsLegal (monitor (rules_named header.now.kind) header.now.seats header.now.conds T.meaning
-        (T.state object)) events.now }
-    ensures { IfOk result
-        (λ t. telling_of t ≡ account_by header.now.kind header.now.object
-        (monitor (rules_named header.now.kind) header.now.seats header.now.conds T.meaning (T.state object)) events.now
-        (Verdict.Legal count)) }
+    requires judged { IsJudged history }
+    requires named { T.meaning ≡ meaning_named history.header.now.object }
+    requires stands { IsAfter history.header.now history.events.now (allowed_events history.verdict) T.PREDICATES
+        replay.now (T.state object.old) }
+    ensures { IfOk result (λ t. telling_of t ≡ account history.entry.header.now history.entry.events.now) }
 {
-    let mut object = object;
-    let (_, situation) = standing(alloc, header, &mut object, events)?;
+    let header = history.header;
+    let rules = rules_by_name(header.kind());
+    let past = &history.events[..allowed_events(history.verdict)];
+    let situation = Situation::of(alloc, header, rules, replay, &*object, past)?;
+    let blame = blamed(alloc, history, replay, object)?;
     Ok(Telling {
-        verdict: Verdict::Legal(count),
+        verdict: history.verdict,
         situation,
-        blame: None,
+        blame,
     })
 }
 
-/// The events before that step.
-fn events_before(events: &[Event], step: u32) -> &[Event]
-    requires is_step { 1 ≤ step }
-    requires there { step ≤ length events.now }
-    ensures { result.now ≡ events_before events.now step }
-{
-    &events[..step as usize - 1]
-}
-
-/// What is told of a history whose first fault is known.
-fn tell_forbidden<T: Listed>(
-    alloc: Global,
-    header: &Header,
-    object: T,
-    step: u32,
-    reason: u8,
-    events: &[Event],
-) -> Result<Telling, AllocError>
-    requires { IsFirstFault
-        (monitor (rules_named header.now.kind) header.now.seats header.now.conds T.meaning (T.state object))
-        events.now step reason }
-    ensures { IfOk result
-        (λ t. telling_of t ≡ account_by header.now.kind header.now.object
-        (monitor (rules_named header.now.kind) header.now.seats header.now.conds T.meaning (T.state object)) events.now
-        (Verdict.Forbidden step reason)) }
-{
-    let mut object = object;
-    let past = events_before(events, step);
-    let (replay, situation) = standing(alloc, header, &mut object, past)?;
-    let rules = rules_by_name(header.kind());
-    let event = events[step as usize - 1];
-    let blame = blame(
-        alloc,
-        header,
-        rules,
-        &replay,
-        &mut object,
-        step,
-        Reason::numbered(reason),
-        event,
-    )?;
-    Ok(Telling {
-        verdict: Verdict::Forbidden { step, reason },
-        situation,
-        blame: Some(blame),
-    })
-}
-
-/// What is told of a history with that verdict, over the object in its opening state.
+/// What is told of a history, and its steps that are asked for, over the object in its opening state.
 fn tell_over<T: Listed>(
     alloc: Global,
-    header: &Header,
+    history: JudgedHistory<'_>,
     object: T,
-    verdict: Verdict,
-    events: &[Event],
-) -> Result<Telling, AllocError>
-    requires { IsVerdict
-        (monitor (rules_named header.now.kind) header.now.seats header.now.conds T.meaning (T.state object))
-        events.now verdict }
-    ensures { IfOk result
-        (λ t. telling_of t ≡ account_by header.now.kind header.now.object
-        (monitor (rules_named header.now.kind) header.now.seats header.now.conds T.meaning (T.state object)) events.now
-        verdict) }
+    before: usize,
+    last: usize,
+) -> Result<(Telling, Vec<Step>), AllocError>
+    requires judged { IsJudged history }
+    requires named { T.meaning ≡ meaning_named history.header.now.object }
+    requires opening { T.state object ≡ opening_named history.header.now.object history.header.now.size }
+    ensures told { IfOk result
+        (λ r. telling_of r.0 ≡ account history.entry.header.now history.entry.events.now) }
+    ensures steps { IfOk result
+        (λ r. map step_of r.1.items ≡ steps_between history.entry.header.now history.entry.events.now before last) }
 {
-    match verdict {
-        Verdict::Legal(count) => tell_legal(alloc, header, object, count, events),
-        Verdict::Forbidden { step, reason } => {
-            tell_forbidden(alloc, header, object, step, reason, events)
+    let mut object = object;
+    let allowed = allowed_events(history.verdict);
+    let end = last.min(allowed);
+    let begin = before.min(end);
+    let mut replay = Replay::opening(alloc, history.header.seats(), history.header.conds())?;
+    follow(alloc, history, &mut replay, &mut object, 0, begin)?;
+    let steps = steps_from(alloc, history, &mut replay, &mut object, before, end)?;
+    follow(alloc, history, &mut replay, &mut object, end, allowed)?;
+    let telling = telling(alloc, history, &replay, &mut object)?;
+    Ok((telling, steps))
+}
+
+/// Tells what [`tell`] and [`tell_steps`] do, by one replay, of a history whose verdict is known.
+///
+/// # Errors
+///
+/// [`AuditFault::Object`] only where the size is above the object's greatest. [`AuditFault::Memory`] if a request for
+/// memory was refused.
+///
+/// # Cost
+///
+/// One replay of the events before the first that is not allowed, and that of the steps.
+pub fn tell_judged(
+    alloc: Global,
+    history: JudgedHistory<'_>,
+    before: usize,
+    last: usize,
+) -> Result<(Telling, Vec<Step>), AuditFault>
+    requires { IsJudged history }
+    ensures told { IfOk result
+        (λ r. telling_of r.0 ≡ account history.entry.header.now history.entry.events.now) }
+    ensures steps { IfOk result
+        (λ r. map step_of r.1.items ≡ steps_between history.entry.header.now history.entry.events.now before last) }
+    ensures object { IsErrOf result AuditFault.Object
+        → most history.entry.header.now.object < history.entry.header.now.size }
+{
+    let size = history.header.size();
+    match history.header.object() {
+        ObjectName::Buffer => {
+            let buffer = Buffer::make(alloc, size)?;
+            Ok(tell_over(alloc, history, buffer, before, last)?)
+        }
+        ObjectName::Book => {
+            let book = Book::make(size)?;
+            Ok(tell_over(alloc, history, book, before, last)?)
+        }
+        ObjectName::Shop => {
+            let shop = Shop::make(size)?;
+            Ok(tell_over(alloc, history, shop, before, last)?)
+        }
+        ObjectName::Flags => {
+            let flags = Flags::make(size)?;
+            Ok(tell_over(alloc, history, flags, before, last)?)
         }
     }
 }
@@ -165,23 +169,48 @@ pub fn tell(alloc: Global, header: &Header, events: &[Event]) -> Result<Telling,
     ensures too_big { most header.now.object < header.now.size → IsErrOf result AuditFault.Object }
 {
     let verdict = audit(alloc, header, events)?;
-    let size = header.size();
-    match header.object() {
-        ObjectName::Buffer => {
-            let buffer = Buffer::make(alloc, size)?;
-            Ok(tell_over(alloc, header, buffer, verdict, events)?)
-        }
-        ObjectName::Book => {
-            let book = Book::make(size)?;
-            Ok(tell_over(alloc, header, book, verdict, events)?)
-        }
-        ObjectName::Shop => {
-            let shop = Shop::make(size)?;
-            Ok(tell_over(alloc, header, shop, verdict, events)?)
-        }
-        ObjectName::Flags => {
-            let flags = Flags::make(size)?;
-            Ok(tell_over(alloc, header, flags, verdict, events)?)
-        }
-    }
+    let history = JudgedHistory {
+        header,
+        events,
+        verdict,
+    };
+    // (no step is behind one event and up to none)
+    let (telling, _) = tell_judged(alloc, history, 1, 0)?;
+    Ok(telling)
+}
+
+/// Tells how the monitor stands after so many events (`before`). Then it tells of each event up to the last that is
+/// asked for (`last`, counted from 1) what it chose from, and how the monitor stands after it. The steps end before the
+/// first event that is not allowed, or with the last event of a legal history. Behind that there are none.
+///
+/// # Errors
+///
+/// [`AuditFault::Object`] exactly where the size is above the object's greatest.
+/// [`AuditFault::Memory`] if a request for memory was refused.
+///
+/// # Cost
+///
+/// That of [`tell`], and memory for the steps. A step takes time and memory by the seats, the conditions and the size
+/// of the object, however many events there are.
+pub fn tell_steps(
+    alloc: Global,
+    header: &Header,
+    events: &[Event],
+    before: usize,
+    last: usize,
+) -> Result<Vec<Step>, AuditFault>
+    requires { length events.now ≤ 2 ^ 25 }
+    ensures told { IfOk result (λ v. map step_of v.items ≡ steps_between header.now events.now before last) }
+    ensures fits { OnOk result (header.now.size ≤ most header.now.object) }
+    ensures object { IsErrOf result AuditFault.Object → most header.now.object < header.now.size }
+    ensures too_big { most header.now.object < header.now.size → IsErrOf result AuditFault.Object }
+{
+    let verdict = audit(alloc, header, events)?;
+    let history = JudgedHistory {
+        header,
+        events,
+        verdict,
+    };
+    let (_, steps) = tell_judged(alloc, history, before, last)?;
+    Ok(steps)
 }

@@ -1,6 +1,6 @@
 //! Pictures of known histories.
 
-use monk_commands::{Show, show_stream};
+use monk_commands::Task;
 use monk_draw::Window;
 use monk_history::Device;
 use std::alloc::{AllocError, Global};
@@ -142,7 +142,7 @@ fn is_drawn_from(alloc: Global, window: Option<Window>, drawing: &Drawing<'_>) -
     let mut page = Vec::new(alloc);
     let mut reader = Device::new(drawing.input);
     let mut writer = Device::new(&mut page);
-    let told = show_stream(alloc, Show::Picture, window, &mut reader, &mut writer);
+    let told = Task::Draw(window).stream(alloc, &mut reader, &mut writer);
     matches!(told, Ok(status) if status == drawing.status)
         && matches!(str::from_utf8(&page), Ok(page) if shows(page, drawing))
 }

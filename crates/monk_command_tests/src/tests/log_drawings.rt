@@ -1,7 +1,7 @@
 //! Pictures of logs: of a run that tells the log, up to the line that misfits.
 
 use super::drawings::{Drawing, shows};
-use monk_commands::{Show, show_stream};
+use monk_commands::Task;
 use monk_history::Device;
 use std::alloc::Global;
 use std::test::Fail;
@@ -58,7 +58,7 @@ fn is_drawn(alloc: Global, drawing: &Drawing<'static>) -> bool {
     let mut page = Vec::new(alloc);
     let mut reader = Device::new(drawing.input);
     let mut writer = Device::new(&mut page);
-    let told = show_stream(alloc, Show::Picture, None, &mut reader, &mut writer);
+    let told = Task::Draw(None).stream(alloc, &mut reader, &mut writer);
     matches!(told, Ok(status) if status == drawing.status)
         && matches!(str::from_utf8(&page), Ok(page) if shows(page, drawing))
 }

@@ -1,9 +1,10 @@
 //! The pages of known histories.
+ghost use Rattle.std.specs.Prelude.{◌≤◌, ◌^◌, length};
 
 use monk_audit::AuditFault;
 use monk_draw::Window;
-use monk_history::read;
-use monk_page::page;
+use monk_history::{Event, Header, read};
+use monk_page::{NOTHING_TOLD, article, page_of};
 use std::alloc::{AllocError, Global};
 use std::test::Fail;
 
@@ -82,8 +83,21 @@ static PAGES: [Page<'static>; 9] = [
     },
 ];
 
+/// The page of a history beside which nothing is told.
+pub(super) fn single_page(
+    alloc: Global,
+    header: &Header,
+    events: &[Event],
+    window: Option<Window>,
+) -> Result<String, AuditFault>
+    requires { length events.now ≤ 2 ^ 25 }
+{
+    let article = article(alloc, header, events, window, NOTHING_TOLD)?;
+    Ok(page_of(alloc, article.as_str())?)
+}
+
 /// The page of a text that can be read.
-fn page_of(
+fn read_page(
     alloc: Global,
     text: &[u8],
     window: Option<Window>,
@@ -94,7 +108,7 @@ fn page_of(
     if events.len() > 1 << 25 {
         return None;
     }
-    Some(page(alloc, &header, &events, window))
+    Some(single_page(alloc, &header, &events, window))
 }
 
 /// Whether the page says so, and is one.
@@ -110,7 +124,7 @@ fn is_paged(alloc: Global, asked: &Page<'_>) -> bool {
     let Ok(window) = Window::asked(asked.from, asked.to) else {
         return false;
     };
-    let paged = page_of(alloc, asked.input, window);
+    let paged = read_page(alloc, asked.input, window);
     matches!(&paged, Some(Ok(page)) if says(page.as_str(), asked.says))
 }
 
@@ -126,7 +140,7 @@ fn pages_have_their_data(rt: HostRuntime) -> Result<(), Fail> {
 
 #[test]
 fn size_is_too_big_for_a_page(rt: HostRuntime) {
-    let paged = page_of(rt.alloc(), b"monk 1 PB 1 0 buffer 65\n", None);
+    let paged = read_page(rt.alloc(), b"monk 1 PB 1 0 buffer 65\n", None);
     assert!(rt; matches!(&paged, Some(Err(AuditFault::Object))));
 }
 
@@ -144,7 +158,7 @@ fn pieces_of_widest(alloc: Global, text: &str) -> usize {
     let Ok(window) = Window::asked(Some(1), Some(2000)) else {
         return 0;
     };
-    match &page_of(alloc, text.as_bytes(), window) {
+    match &read_page(alloc, text.as_bytes(), window) {
         Some(Ok(page)) => page.as_str().split("\"turn\":").count(),
         _ => 0,
     }

@@ -4,6 +4,7 @@ mod halls;
 mod pages;
 mod steps;
 mod streams;
+mod texts;
 
 use super::jobs::is_answered;
 use std::test::Fail;
@@ -29,5 +30,8 @@ fn each_call(rt: HostRuntime) -> Result<(), Fail> {
     }
     assert!(rt; steps::steps(&rt)?);
     assert!(rt; pages::page_of_four(&rt)?);
+    assert!(rt; pages::page_of_two(&rt)?);
+    assert!(rt; pages::names_of_two(&rt)?);
+    assert!(rt; texts::picture_of_three(&rt)?);
     Ok(())
 }

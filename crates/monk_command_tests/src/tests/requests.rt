@@ -7,7 +7,7 @@ use std::test::Fail;
 /// Words, and what they ask for.
 type Asking = (&'static [&'static str], &'static str);
 
-static ASKING: [Asking; 29] = [
+static ASKING: [Asking; 32] = [
     (&["monk", "audit"], "Audit(None)"),
     (&["monk", "audit", "x.text"], "Audit(Some(\"x.text\"))"),
     (&["monk", "play"], "Play(None)"),
@@ -47,10 +47,24 @@ static ASKING: [Asking; 29] = [
         "Draw(None, Some(Window { from: 1, to: 7 }))",
     ),
     (
-        &["monk", "page", "--from", "7", "--to", "9", "x.text"],
-        "Page(Some(\"x.text\"), Some(Window { from: 7, to: 9 }))",
+        &["monk", "draw", "--text", "x.text"],
+        "DrawText(Some(\"x.text\"), None, TextLayout { width: 80, is_ascii: false })",
     ),
-    (&["monk", "page"], "Page(None, None)"),
+    (
+        &[
+            "monk", "draw", "--ascii", "--width", "40", "--to", "7", "--text",
+        ],
+        "DrawText(None, Some(Window { from: 1, to: 7 }), TextLayout { width: 40, is_ascii: true })",
+    ),
+    (
+        &["monk", "page", "--from", "7", "--to", "9", "x.text"],
+        "Page([\"x.text\"], Some(Window { from: 7, to: 9 }))",
+    ),
+    (&["monk", "page"], "Page([], None)"),
+    (
+        &["monk", "page", "a", "b", "c", "d"],
+        "Page([\"a\", \"b\", \"c\", \"d\"], None)",
+    ),
     (
         &["monk", "draw", "--to=4000"],
         "Draw(None, Some(Window { from: 2001, to: 4000 }))",
@@ -238,7 +252,7 @@ fn is_refused(alloc: Global, words: &[&str]) -> bool {
 
 /// Words that ask for nothing; of a picture also numbers of no events, of a run a number out of
 /// range, and another kind or sample.
-static NOTHING: [&[&str]; 60] = [
+static NOTHING: [&[&str]; 64] = [
     &["monk", "adit"],
     &["monk", "help"],
     &["monk", "--help"],
@@ -252,7 +266,7 @@ static NOTHING: [&[&str]; 60] = [
     &["monk", "explain", "--means", "1"],
     &["monk", "explain", "--kind", "npnb", "a"],
     &["monk", "draw", "a", "b"],
-    &["monk", "page", "a", "b"],
+    &["monk", "page", "a", "b", "c", "d", "e"],
     &["monk", "page", "--from", "8", "--to", "7"],
     &["monk", "draw", "--from", "0"],
     &["monk", "draw", "--to", "0"],
@@ -261,6 +275,10 @@ static NOTHING: [&[&str]; 60] = [
     &["monk", "draw", "--from", "x"],
     &["monk", "draw", "--to", "4294967296"],
     &["monk", "draw", "--from", "1", "--from", "2"],
+    &["monk", "draw", "--ascii"],
+    &["monk", "draw", "--width", "80"],
+    &["monk", "draw", "--text", "--width", "39"],
+    &["monk", "draw", "--text", "--width", "1000001"],
     &["monk", "fit", "--kind"],
     &["monk", "fit", "--kind", "ABC", "a"],
     &["monk", "fit", "--kind", "npnb", "a"],

@@ -143,7 +143,7 @@ fn end_of_run<R: Threads + Wait + Sync + AllocGlobal>(
 
 static SAMPLES: [Sample; 2] = [Sample::Buffer, Sample::Book];
 
-/// It is served; where something is in its way, `checks/refused_by_tests` compares what is printed here.
+/// It is served; where something is in its way, `checks/wrong_bodies --by tests` compares what is printed here.
 #[test]
 fn run_says_how_it_ends(rt: HostRuntime) -> Result<(), Fail> {
     for sample in SAMPLES.iter() {

@@ -1,69 +1,73 @@
-//! The page of a run, over the object that its log names.
+//! The scene and the page of a run, over the object that its log names.
 
-ghost use Rattle.std.specs.Prelude.{◌≡◌, ◌≤◌, IfOk, string_bytes};
-ghost use Rattle.monk_object.specs.Names.{most};
-ghost use Rattle.monk_commands.specs.LogDrawn.{HasRun, run_paged};
+ghost use Rattle.std.specs.Prelude.{◌≡◌, ◌≤◌, IfOk, length, string_bytes};
+ghost use Rattle.monk_object.specs.Names.{meaning_named, most, opening_named};
+ghost use Rattle.monk_draw.specs.Scene.{scene_of};
+ghost use Rattle.monk_judge.specs.Run.{opening, setting};
+ghost use Rattle.monk_page.specs.Log.{IsLogPage};
+ghost use Rattle.monk_page.specs.LogScene.{run_scene};
+ghost use Rattle.monk_commands.specs.LogDrawn.{HasRun};
 
 use crate::objects::{book, flags, shop};
-use monk_draw::{Span, Window};
+use monk_draw::{Scene, Span};
 use monk_judge::Run;
 use monk_logs::{LogHeader, LogLine};
 use monk_object::{Buffer, ObjectName};
-use monk_page::log_page;
+use monk_page::{log_page, run_scene};
 use std::alloc::{AllocError, Global};
+
+/// The scene of a run by the lines that are drawn.
+pub(crate) fn scene(
+    alloc: Global,
+    header: &LogHeader,
+    run: &Run,
+    lines: &[LogLine],
+    span: Span,
+) -> Result<Scene, AllocError>
+    requires size { header.now.size ≤ most header.now.object }
+    requires run { HasRun header.now run.now }
+    requires order { span.before ≤ span.last }
+    requires last { span.last ≤ length lines.now }
+    ensures { IfOk result (λ s. scene_of s ≡ run_scene
+        (setting header.now.seats header.now.conds (meaning_named header.now.object))
+        (opening (opening_named header.now.object header.now.size)) run.now.steps.items lines.now
+        span.before span.last) }
+{
+    let (size, steps) = (header.size(), &run.steps);
+    match header.object() {
+        ObjectName::Buffer => match Buffer::make(alloc, size) {
+            Ok(buffer) => run_scene(alloc, header, buffer, steps, lines, span),
+            Err(_) => Err(AllocError),
+        },
+        ObjectName::Book => run_scene(alloc, header, book(size), steps, lines, span),
+        ObjectName::Shop => run_scene(alloc, header, shop(size), steps, lines, span),
+        ObjectName::Flags => run_scene(alloc, header, flags(size), steps, lines, span),
+    }
+}
 
 /// The page of a run by the lines that are drawn, with that picture.
 pub(crate) fn page_around(
     alloc: Global,
     picture: &str,
-    window: Option<Window>,
     header: &LogHeader,
     run: &Run,
     lines: &[LogLine],
+    span: Span,
 ) -> Result<String, AllocError>
     requires size { header.now.size ≤ most header.now.object }
     requires run { HasRun header.now run.now }
-    ensures { IfOk result
-        (λ page. string_bytes page ≡ run_paged picture.now window header.now run.now lines.now) }
+    ensures { IfOk result (λ page. IsLogPage header.now (meaning_named header.now.object)
+        (opening_named header.now.object header.now.size) run.now lines.now span.before span.last
+        (string_bytes page)) }
 {
-    let span = Span::of(window, lines.len());
+    let size = header.size();
     match header.object() {
-        ObjectName::Buffer => match Buffer::make(alloc, header.size()) {
+        ObjectName::Buffer => match Buffer::make(alloc, size) {
             Ok(buffer) => log_page(alloc, picture, header, buffer, run, lines, span),
             Err(_) => Err(AllocError),
         },
-        ObjectName::Book => {
-            log_page(
-                alloc,
-                picture,
-                header,
-                book(header.size()),
-                run,
-                lines,
-                span,
-            )
-        }
-        ObjectName::Shop => {
-            log_page(
-                alloc,
-                picture,
-                header,
-                shop(header.size()),
-                run,
-                lines,
-                span,
-            )
-        }
-        ObjectName::Flags => {
-            log_page(
-                alloc,
-                picture,
-                header,
-                flags(header.size()),
-                run,
-                lines,
-                span,
-            )
-        }
+        ObjectName::Book => log_page(alloc, picture, header, book(size), run, lines, span),
+        ObjectName::Shop => log_page(alloc, picture, header, shop(size), run, lines, span),
+        ObjectName::Flags => log_page(alloc, picture, header, flags(size), run, lines, span),
     }
 }

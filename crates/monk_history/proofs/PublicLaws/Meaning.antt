@@ -8,8 +8,6 @@ pub use Rattle.monk_history.proofs.MeaningLaws.CallLaws.{may_leave}
 pub use Rattle.monk_history.proofs.MeaningLaws.CallLaws.{may_signal_leave, may_signal_on}
 pub use Rattle.monk_history.proofs.MeaningLaws.CallLaws.{may_signal_wait, may_until, may_wait}
 pub use Rattle.monk_history.proofs.MeaningLaws.CallLaws.{queued_is}
--- A condition's queue after one event more
-pub use Rattle.monk_history.proofs.MeaningLaws.ConditionLaws.{condition-push}
 -- One event more in what is counted seat by seat, and how long lists of few seats are
 pub use Rattle.monk_history.proofs.MeaningLaws.CountLaws.{enters_few, enters_none, enters_of-push, events_of-push}
 pub use Rattle.monk_history.proofs.MeaningLaws.CountLaws.{few_events, granted_few, granted_none, granted_of-push}

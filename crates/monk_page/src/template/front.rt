@@ -1,6 +1,6 @@
 //! A constant part of a page, which template/make makes.
 
-/// What stands before the picture.
+/// What stands before the first history.
 pub(crate) const FRONT: &str = "\
 <!DOCTYPE html>\n<html lang=\"en\">\n<head>\n<meta charset=\"utf-8\">\n<meta name=\"viewport\" \
 content=\"width=device-width, initial-scale=1\">\n<meta name=\"color-scheme\" content=\"light \
@@ -16,106 +16,157 @@ r-scheme: dark) {\n  :root {\n    --ink: #e6ebf0;\n    --soft: #a3afbb;\n    --l
 ;\n    --entry-ground: #20262d;\n    --condition: #f6c667;\n    --condition-ground: #322917;\n    \
 --waiter: #68c08b;\n    --waiter-ground: #16291f;\n    --signaller: #b9a1e6;\n    --signaller-\
 ground: #251f36;\n    --until: #5bb8b0;\n    --until-ground: #122a29;\n  }\n}\n\n* {\n  box-si\
-zing: border-box;\n}\n\nhtml {\n  font: clamp(16px, .5vw + 10.6px, 24px)/1.4 ui-sans-serif, sy\
-stem-ui, Helvetica, Arial, sans-serif;\n}\n\nbody {\n  margin: 0 auto;\n  max-width: 90rem;\n  \
-padding: .8rem 1.4rem 1.6rem;\n  color: var(--ink);\n  background: var(--ground);\n  font-vari\
-ant-numeric: tabular-nums;\n}\n\nh1, h2, h3, p, ol, ul {\n  margin: 0;\n  padding: 0;\n}\n\nol\
-, ul {\n  list-style: none;\n}\n\nbutton, input {\n  font: inherit;\n  color: inherit;\n}\n\nb\
-utton {\n  cursor: pointer;\n  border: 1px solid var(--line);\n  border-radius: .4rem;\n  back\
-ground: var(--card);\n  padding: .25rem .7rem;\n}\n\nbutton:hover:not(:disabled) {\n  border-c\
-olor: var(--soft);\n}\n\nbutton:disabled {\n  opacity: .4;\n  cursor: default;\n}\n\n:focus-vi\
-sible {\n  outline: 3px solid var(--accent);\n  outline-offset: 2px;\n}\n\n.unseen {\n  positi\
-on: absolute;\n  width: 1px;\n  height: 1px;\n  overflow: hidden;\n  clip-path: inset(50%);\n  \
-white-space: nowrap;\n}\n\n.quiet {\n  color: var(--soft);\n}\n\n.card {\n  background: var(--\
-card);\n  border: 1px solid var(--line);\n  border-radius: .5rem;\n}\n\n#top {\n  display: fle\
-x;\n  flex-wrap: wrap;\n  align-items: baseline;\n  gap: .1rem 1rem;\n  margin-bottom: .6rem;\n\
-}\n\n#top h1 {\n  font-size: 1.25rem;\n  line-height: 1.3;\n  overflow-wrap: anywhere;\n}\n\n#\
-verdict {\n  font-weight: 600;\n}\n\n#verdict.bad {\n  color: var(--wrong);\n}\n\n#about {\n  \
-flex-basis: 100%;\n  order: 1;\n  color: var(--soft);\n}\n\n#theme {\n  margin-left: auto;\n  \
-font-size: .9rem;\n}\n\n#picture {\n  position: relative;\n  overflow: auto;\n  max-height: 46\
-vh;\n}\n\n#picture svg {\n  display: block;\n}\n\n#scroll {\n  position: relative;\n}\n\n#hist\
-ory-picture {\n  cursor: pointer;\n}\n\n#lanes {\n  position: sticky;\n  left: 0;\n  float: le\
-ft;\n  z-index: 1;\n  pointer-events: none;\n}\n\n#numbers {\n  position: sticky;\n  top: 0;\n  \
-z-index: 1;\n  pointer-events: none;\n}\n\n.band {\n  fill: var(--now);\n  fill-opacity: .1;\n  \
-stroke: var(--now);\n  stroke-width: 1.5;\n  pointer-events: none;\n}\n\n.band.bad {\n  fill: \
-none;\n  stroke: none;\n}\n\n.veil {\n  fill: var(--card);\n  fill-opacity: .62;\n  pointer-ev\
-ents: none;\n}\n\n.hiding .veil {\n  fill-opacity: 1;\n}\n\n.hiding .later {\n  visibility: hi\
-dden;\n}\n\n#controls {\n  display: flex;\n  flex-wrap: wrap;\n  align-items: center;\n  gap: \
-.4rem .7rem;\n  margin: .5rem 0 .6rem;\n}\n\n#controls button {\n  font-size: 1.05rem;\n  min-\
-width: 2.6rem;\n}\n\n#slider {\n  flex: 1 1 12rem;\n  accent-color: var(--accent);\n  height: \
-1.6rem;\n  min-width: 6rem;\n}\n\n#count {\n  font-weight: 600;\n  min-width: 7.2em;\n  text-a\
-lign: right;\n}\n\n#controls label {\n  display: flex;\n  gap: .4rem;\n  align-items: center;\n  \
-color: var(--soft);\n}\n\n#stage {\n  display: grid;\n  grid-template-columns: minmax(20rem, 5\
-fr) 8fr;\n  gap: .8rem;\n  align-items: stretch;\n}\n\n#told {\n  padding: .8rem 1rem;\n  min-\
-height: 15rem;\n}\n\n#say {\n  font-size: 1.3rem;\n  line-height: 1.38;\n  text-wrap: pretty;\n\
-}\n\n#told.bad {\n  border: 2px solid var(--wrong);\n  padding: calc(.8rem - 1px) calc(1rem - \
-1px);\n}\n\n#say .bad {\n  display: block;\n  color: var(--wrong);\n  font-weight: 600;\n  mar\
-gin-top: .4rem;\n}\n\n#choices {\n  margin-top: .8rem;\n  border-top: 1px solid var(--line);\n  \
-padding-top: .6rem;\n}\n\nh2, h3 {\n  font-size: .9rem;\n  line-height: 1.3;\n  font-weight: 6\
-00;\n  color: var(--soft);\n}\n\n#choices li {\n  display: grid;\n  grid-template-columns: 1.4\
-em 1fr auto;\n  gap: .2rem;\n  padding: .12rem 0;\n}\n\n#choices li.took {\n  font-weight: 600\
-;\n}\n\n#choices li.barred .who {\n  color: var(--soft);\n}\n\n#choices li.barred .how {\n  co\
-lor: var(--soft);\n  font-weight: 400;\n}\n\n#choices li.took.barred .who, #choices li.took.ba\
-rred .how, #choices li.took.barred .sign {\n  color: var(--wrong);\n  font-weight: 600;\n}\n\n\
-#line {\n  margin-top: .7rem;\n  font: .85rem ui-monospace, Menlo, Consolas, monospace;\n  col\
-or: var(--soft);\n  overflow-wrap: anywhere;\n}\n\n#choices .story li {\n  grid-template-colum\
-ns: 4.4em 1fr;\n}\n\n#choices a {\n  color: inherit;\n}\n\n#boxes {\n  display: grid;\n  gap: \
-.6rem;\n  align-content: start;\n}\n\n.row {\n  grid-column: 1 / -1;\n  display: flex;\n  flex\
--wrap: wrap;\n  gap: .5rem;\n  align-items: stretch;\n}\n\n.box {\n  flex: 1 1 7.6rem;\n  padd\
-ing: .3rem .7rem .5rem;\n  min-height: 4.5rem;\n  border-top: 3px solid var(--line);\n}\n\n.bo\
-x h3 {\n  display: flex;\n  justify-content: space-between;\n  gap: .5rem;\n  white-space: now\
-rap;\n}\n\n.box h3 .quiet {\n  font-weight: 400;\n}\n\n.box.active {\n  border-top-color: var(\
---accent);\n}\n\n.box.entry {\n  border-top-color: var(--entry);\n}\n\n.box.condition {\n  bor\
-der-top-color: var(--condition);\n}\n\n.box.waiter {\n  border-top-color: var(--waiter);\n}\n\n\
-.box.signaller {\n  border-top-color: var(--signaller);\n}\n\n.box.until {\n  border-top-color\
-: var(--until);\n}\n\n.box.outside {\n  border-style: dashed;\n  border-top-width: 1px;\n  bac\
-kground: none;\n  display: flex;\n  align-items: center;\n  gap: 1rem;\n  min-height: 3.1rem;\n  \
-padding-top: .4rem;\n}\n\n.box.outside > * {\n  margin-top: 0;\n}\n\n.box.half {\n  flex-basis\
-: 13rem;\n}\n\n.box p {\n  margin-top: .2rem;\n}\n\n.rank {\n  align-self: center;\n  font-siz\
-e: 1.3rem;\n  font-weight: 600;\n  color: var(--soft);\n  padding: 0 .1rem;\n}\n\n.seats {\n  \
-display: flex;\n  flex-wrap: wrap;\n  gap: .35rem;\n  align-items: center;\n  margin-top: .25r\
-em;\n}\n\n.seat {\n  display: inline-grid;\n  place-items: center;\n  min-width: 2rem;\n  heig\
-ht: 2rem;\n  padding: 0 .3rem;\n  border-radius: .4rem;\n  border: 2px solid var(--line);\n  f\
-ont-weight: 700;\n  font-size: 1.05rem;\n}\n\n.seat.outside {\n  border-style: dashed;\n  colo\
-r: var(--soft);\n}\n\n.seat.active {\n  background: var(--accent);\n  border-color: var(--acce\
-nt);\n  color: var(--active-ink);\n}\n\n.seat.entry {\n  background: var(--entry-ground);\n  b\
-order-color: var(--entry);\n}\n\n.seat.condition {\n  background: var(--condition-ground);\n  \
-border-color: var(--condition);\n}\n\n.seat.waiter {\n  background: var(--waiter-ground);\n  b\
-order-color: var(--waiter);\n}\n\n.seat.signaller {\n  background: var(--signaller-ground);\n  \
-border-color: var(--signaller);\n}\n\n.seat.until {\n  background: var(--until-ground);\n  bor\
-der-color: var(--until);\n}\n\n.seat.moved {\n  box-shadow: 0 0 0 2px var(--card), 0 0 0 4px v\
-ar(--ink);\n}\n\n.seats > .moved + span {\n  margin-left: .3rem;\n}\n\n.waits {\n  margin-top: \
-.25rem;\n  display: grid;\n  gap: .3rem;\n}\n\n.waits li {\n  display: flex;\n  align-items: c\
-enter;\n  gap: .6rem;\n}\n\n.truth {\n  margin-left: auto;\n  font-weight: 600;\n}\n\n.truth.y\
-es {\n  color: var(--until);\n}\n\n.row > h2 {\n  flex-basis: 100%;\n  margin-bottom: -.15rem;\
-\n}\n\n#monitor {\n  border: 2px solid var(--soft);\n  border-radius: .7rem;\n  padding: .6rem \
-.7rem .7rem;\n  display: grid;\n  gap: .5rem;\n}\n\n#kinds {\n  margin-top: .8rem;\n}\n\n#chip\
-s {\n  display: grid;\n  grid-template-columns: repeat(10, 1fr);\n  gap: .4rem;\n  margin: .35\
-rem 0;\n}\n\n.chip {\n  display: block;\n  width: 100%;\n  text-align: left;\n  padding: .3rem \
-.5rem;\n  line-height: 1.25;\n}\n\n.chip b {\n  display: block;\n}\n\n.chip span:not(.unseen) \
-{\n  font-size: .88rem;\n  white-space: nowrap;\n}\n\n.chip.own {\n  box-shadow: 0 0 0 2px var\
-(--ground), 0 0 0 4px var(--ink);\n}\n\n.chip.no span {\n  color: var(--wrong);\n}\n\n.chip.no\
-.past {\n  background: var(--wrong-ground);\n  border-color: var(--wrong);\n}\n\n#notes {\n  m\
-in-height: 1.5rem;\n}\n\ndetails {\n  margin-top: .8rem;\n}\n\nsummary {\n  cursor: pointer;\n  \
-font-size: .9rem;\n  font-weight: 600;\n  color: var(--soft);\n}\n\n#table {\n  overflow-x: au\
-to;\n  margin-top: .5rem;\n}\n\ntable {\n  border-collapse: collapse;\n  width: 100%;\n  font-\
-size: .9rem;\n}\n\nth, td {\n  text-align: left;\n  vertical-align: top;\n  padding: .25rem .6\
-rem;\n  border-bottom: 1px solid var(--line);\n}\n\nth {\n  color: var(--soft);\n  white-space\
-: nowrap;\n}\n\ntd.short {\n  white-space: nowrap;\n}\n\ntd a {\n  color: inherit;\n}\n\ntr[ar\
-ia-current] td {\n  background: color-mix(in srgb, var(--accent) 14%, transparent);\n}\n\ntr.b\
-ad td {\n  color: var(--wrong);\n}\n\n#strips {\n  display: none;\n}\n\n@media (max-width: 100\
-0px) {\n  #stage {\n    grid-template-columns: 1fr;\n  }\n  #told {\n    min-height: 0;\n  }\n  \
-#chips {\n    grid-template-columns: repeat(5, 1fr);\n  }\n}\n\n@media (max-width: 520px) {\n  \
-#chips {\n    grid-template-columns: repeat(2, 1fr);\n  }\n  body {\n    padding: .6rem;\n  }\n\
-}\n\n@media print {\n  @page {\n    size: A4 landscape;\n    margin: 12mm;\n  }\n  html {\n    \
+zing: border-box;\n}\n\n/* The scrollbar is always there: a page that is filled mustn't get na\
+rrower than its pictures were fitted to. */\nhtml {\n  overflow-y: scroll;\n  font: clamp(16px\
+, .5vw + 10.6px, 24px)/1.4 ui-sans-serif, system-ui, Helvetica, Arial, sans-serif;\n}\n\nbody \
+{\n  margin: 0 auto;\n  max-width: 90rem;\n  padding: .8rem 1.4rem 1.6rem;\n  color: var(--ink\
+);\n  background: var(--ground);\n  font-variant-numeric: tabular-nums;\n}\n\nh1, h2, h3, p, o\
+l, ul {\n  margin: 0;\n  padding: 0;\n}\n\nol, ul {\n  list-style: none;\n}\n\nbutton, input {\
+\n  font: inherit;\n  color: inherit;\n}\n\nbutton {\n  cursor: pointer;\n  border: 1px solid \
+var(--line);\n  border-radius: .4rem;\n  background: var(--card);\n  padding: .25rem .7rem;\n}\
+\n\nbutton:hover:not(:disabled) {\n  border-color: var(--soft);\n}\n\nbutton:disabled {\n  opa\
+city: .4;\n  cursor: default;\n}\n\n:focus-visible {\n  outline: 3px solid var(--accent);\n  o\
+utline-offset: 2px;\n}\n\n.unseen {\n  position: absolute;\n  width: 1px;\n  height: 1px;\n  o\
+verflow: hidden;\n  clip-path: inset(50%);\n  white-space: nowrap;\n}\n\n.quiet {\n  color: va\
+r(--soft);\n}\n\n.card {\n  background: var(--card);\n  border: 1px solid var(--line);\n  bord\
+er-radius: .5rem;\n}\n\n[hidden], body:not(.several) .if-several, body:not(.asking) .if-asking \
+{\n  display: none !important;\n}\n\n#top {\n  display: flex;\n  flex-wrap: wrap;\n  align-ite\
+ms: baseline;\n  gap: .1rem 1rem;\n  margin-bottom: .4rem;\n}\n\n#top h1 {\n  font-size: 1.25r\
+em;\n  line-height: 1.3;\n  overflow-wrap: anywhere;\n}\n\n#parting {\n  color: var(--soft);\n\
+}\n\n#keys {\n  margin-left: auto;\n  font-weight: 600;\n}\n\n#keys, #theme {\n  font-size: .9\
+rem;\n}\n\n/* The parts of a history and the controls, which stand between its picture and its \
+sentence. */\nmain {\n  display: grid;\n  grid-template-columns: minmax(0, 1fr);\n}\n\n.histor\
+y {\n  display: contents;\n}\n\n#live {\n  order: 1;\n}\n\n.stage {\n  order: 2;\n}\n\n.kinds \
+{\n  order: 3;\n}\n\n.all {\n  order: 4;\n}\n\n.heading {\n  display: flex;\n  flex-wrap: wrap\
+;\n  gap: .1rem .8rem;\n  margin-bottom: .35rem;\n  font-size: 1rem;\n  line-height: 1.4;\n  f\
+ont-weight: 400;\n}\n\n.verdict {\n  font-weight: 600;\n  color: var(--ink);\n}\n\n.verdict.ba\
+d {\n  color: var(--wrong);\n}\n\n#help {\n  max-width: min(34rem, 92vw);\n  border: 1px solid \
+var(--line);\n  border-radius: .7rem;\n  padding: .9rem 1.2rem 1.1rem;\n  color: var(--ink);\n  \
+background: var(--card);\n}\n\n#help::backdrop {\n  background: rgb(0 0 0 / .35);\n}\n\n#help \
+form {\n  display: flex;\n  justify-content: space-between;\n  align-items: center;\n  margin-\
+bottom: .6rem;\n}\n\n#help dl {\n  display: grid;\n  grid-template-columns: auto 1fr;\n  gap: \
+.4rem 1rem;\n  margin: 0;\n}\n\n#help dd {\n  margin: 0;\n}\n\nkbd {\n  font: .82em ui-monospa\
+ce, Menlo, Consolas, monospace;\n  border: 1px solid var(--line);\n  border-bottom-width: 2px;\
+\n  border-radius: .3rem;\n  padding: .05rem .35rem;\n  background: var(--ground);\n}\n\n.pict\
+ure {\n  position: relative;\n  overflow: auto;\n  max-height: 46vh;\n}\n\n.fitting .picture {\
+\n  max-height: none;\n}\n\n.picture svg {\n  display: block;\n}\n\n.lane:hover {\n  text-deco\
+ration: underline;\n}\n\n.scroll {\n  position: relative;\n}\n\n.cropped {\n  cursor: pointer;\
+\n}\n\n.lanes {\n  position: sticky;\n  left: 0;\n  float: left;\n  z-index: 1;\n  pointer-eve\
+nts: none;\n}\n\n.numbers {\n  position: sticky;\n  top: 0;\n  z-index: 1;\n  pointer-events: \
+none;\n}\n\n.band {\n  fill: var(--now);\n  fill-opacity: .1;\n  stroke: var(--now);\n  stroke\
+-width: 1.5;\n  pointer-events: none;\n}\n\n.band.bad {\n  fill: none;\n  stroke: none;\n}\n\n\
+.veil {\n  fill: var(--card);\n  fill-opacity: .62;\n  pointer-events: none;\n}\n\n.hiding .ve\
+il {\n  fill-opacity: 1;\n}\n\n.hiding .later {\n  visibility: hidden;\n}\n\n#live {\n  displa\
+y: flex;\n  flex-wrap: wrap;\n  align-items: center;\n  gap: .3rem .7rem;\n  margin: .5rem 0 .\
+6rem;\n}\n\n#live button {\n  font-size: 1.05rem;\n  min-width: 2.6rem;\n}\n\n.buttons, .switc\
+hes {\n  display: flex;\n  flex-wrap: wrap;\n  gap: .3rem .4rem;\n}\n\n.switches {\n  column-g\
+ap: .9rem;\n}\n\n#slider {\n  flex: 1 1 12rem;\n  accent-color: var(--accent);\n  height: 1.6r\
+em;\n  min-width: 6rem;\n}\n\n#count {\n  font-weight: 600;\n  min-width: 7.2em;\n  text-align\
+: right;\n}\n\n#live label {\n  display: flex;\n  gap: .4rem;\n  align-items: center;\n  color\
+: var(--soft);\n}\n\n.stage {\n  display: grid;\n  grid-template-columns: minmax(20rem, 5fr) 8\
+fr;\n  gap: .8rem;\n  align-items: stretch;\n}\n\n.told {\n  padding: .8rem 1rem;\n  min-heigh\
+t: 15rem;\n}\n\n.say {\n  font-size: 1.3rem;\n  line-height: 1.38;\n  text-wrap: pretty;\n}\n\n\
+.told.bad {\n  border: 2px solid var(--wrong);\n  padding: calc(.8rem - 1px) calc(1rem - 1px);\
+\n}\n\n.say .bad {\n  display: block;\n  color: var(--wrong);\n  font-weight: 600;\n  margin-t\
+op: .4rem;\n}\n\n.choices {\n  margin-top: .8rem;\n  border-top: 1px solid var(--line);\n  pad\
+ding-top: .6rem;\n}\n\nh2, h3 {\n  font-size: .9rem;\n  line-height: 1.3;\n  font-weight: 600;\
+\n  color: var(--soft);\n}\n\n.choices li {\n  display: grid;\n  grid-template-columns: 1.4em \
+1fr auto;\n  gap: .2rem;\n  padding: .12rem 0;\n}\n\n.choices li.took {\n  font-weight: 600;\n\
+}\n\n.choices li.barred .who {\n  color: var(--soft);\n}\n\n.choices li.barred .how {\n  color\
+: var(--soft);\n  font-weight: 400;\n}\n\n.choices li.took.barred .who, .choices li.took.barre\
+d .how, .choices li.took.barred .sign {\n  color: var(--wrong);\n  font-weight: 600;\n}\n\n.li\
+ne {\n  margin-top: .7rem;\n  font: .85rem ui-monospace, Menlo, Consolas, monospace;\n  color: \
+var(--soft);\n  overflow-wrap: anywhere;\n}\n\n.choices .story li {\n  grid-template-columns: \
+4.4em 1fr;\n}\n\n.choices a {\n  color: inherit;\n}\n\n.data, .code {\n  font: .92rem/1.45 ui-\
+monospace, Menlo, Consolas, monospace;\n  overflow-wrap: anywhere;\n}\n\n.data {\n  margin-top\
+: .6rem;\n}\n\n.guesses {\n  display: grid;\n  gap: .4rem;\n  margin-top: .5rem;\n}\n\n.guess \
+{\n  display: flex;\n  align-items: center;\n  gap: .7rem;\n  text-align: left;\n  padding: .4\
+rem .7rem;\n}\n\n.guess:hover {\n  border-color: var(--accent);\n}\n\n.answer {\n  margin-top: \
+.5rem;\n  font-weight: 600;\n  color: var(--waiter);\n}\n\n.answer.bad {\n  color: var(--wrong\
+);\n}\n\n.answer:empty, .data:empty, #score:empty {\n  display: none;\n}\n\n#score {\n  font-w\
+eight: 600;\n}\n\n.boxes {\n  display: grid;\n  gap: .6rem;\n  align-content: start;\n}\n\n.ro\
+w {\n  grid-column: 1 / -1;\n  display: flex;\n  flex-wrap: wrap;\n  gap: .5rem;\n  align-item\
+s: stretch;\n}\n\n.box {\n  flex: 1 1 7.6rem;\n  padding: .3rem .7rem .5rem;\n  min-height: 4.\
+5rem;\n  border-top: 3px solid var(--line);\n}\n\n.box h3 {\n  display: flex;\n  justify-conte\
+nt: space-between;\n  gap: .5rem;\n  white-space: nowrap;\n}\n\n.box h3 .quiet {\n  font-weigh\
+t: 400;\n}\n\n.box.active {\n  border-top-color: var(--accent);\n}\n\n.box.entry {\n  border-t\
+op-color: var(--entry);\n}\n\n.box.condition {\n  border-top-color: var(--condition);\n}\n\n.b\
+ox.waiter {\n  border-top-color: var(--waiter);\n}\n\n.box.signaller {\n  border-top-color: va\
+r(--signaller);\n}\n\n.box.until {\n  border-top-color: var(--until);\n}\n\n.box.outside {\n  \
+border-style: dashed;\n  border-top-width: 1px;\n  background: none;\n  display: flex;\n  alig\
+n-items: center;\n  gap: 1rem;\n  min-height: 3.1rem;\n  padding-top: .4rem;\n}\n\n.box.outsid\
+e > * {\n  margin-top: 0;\n}\n\n.box.half {\n  flex-basis: 13rem;\n}\n\n.box p {\n  margin-top\
+: .2rem;\n}\n\n.rank {\n  align-self: center;\n  font-size: 1.3rem;\n  font-weight: 600;\n  co\
+lor: var(--soft);\n  padding: 0 .1rem;\n}\n\n.seats {\n  display: flex;\n  flex-wrap: wrap;\n  \
+gap: .35rem;\n  align-items: center;\n  margin-top: .25rem;\n}\n\n.seat {\n  display: inline-g\
+rid;\n  place-items: center;\n  min-width: 2rem;\n  height: 2rem;\n  padding: 0 .3rem;\n  bord\
+er-radius: .4rem;\n  border: 2px solid var(--line);\n  font-weight: 700;\n  font-size: 1.05rem\
+;\n}\n\n.seat.outside {\n  border-style: dashed;\n  color: var(--soft);\n}\n\n.seat.active {\n  \
+background: var(--accent);\n  border-color: var(--accent);\n  color: var(--active-ink);\n}\n\n\
+.seat.entry {\n  background: var(--entry-ground);\n  border-color: var(--entry);\n}\n\n.seat.c\
+ondition {\n  background: var(--condition-ground);\n  border-color: var(--condition);\n}\n\n.s\
+eat.waiter {\n  background: var(--waiter-ground);\n  border-color: var(--waiter);\n}\n\n.seat.\
+signaller {\n  background: var(--signaller-ground);\n  border-color: var(--signaller);\n}\n\n.\
+seat.until {\n  background: var(--until-ground);\n  border-color: var(--until);\n}\n\n.seat.mo\
+ved {\n  box-shadow: 0 0 0 2px var(--card), 0 0 0 4px var(--ink);\n}\n\n.seats > .moved + span \
+{\n  margin-left: .3rem;\n}\n\n.waits {\n  margin-top: .25rem;\n  display: grid;\n  gap: .3rem\
+;\n}\n\n.waits li {\n  display: flex;\n  align-items: center;\n  gap: .6rem;\n}\n\n.truth {\n  \
+margin-left: auto;\n  font-weight: 600;\n}\n\n.truth.yes {\n  color: var(--until);\n}\n\n.row \
+> h2 {\n  flex-basis: 100%;\n  margin-bottom: -.15rem;\n}\n\n.monitor {\n  border: 2px solid v\
+ar(--soft);\n  border-radius: .7rem;\n  padding: .6rem .7rem .7rem;\n  display: grid;\n  gap: \
+.5rem;\n}\n\n.kinds {\n  margin-top: .8rem;\n}\n\n.chips {\n  display: grid;\n  grid-template-\
+columns: repeat(10, 1fr);\n  gap: .4rem;\n  margin: .35rem 0;\n}\n\n.chip {\n  display: block;\
+\n  width: 100%;\n  text-align: left;\n  padding: .3rem .5rem;\n  line-height: 1.25;\n}\n\n.ch\
+ip b {\n  display: block;\n}\n\n.chip span:not(.unseen) {\n  font-size: .88rem;\n  white-space\
+: nowrap;\n}\n\n.chip.own {\n  box-shadow: 0 0 0 2px var(--ground), 0 0 0 4px var(--ink);\n}\n\
+\n.chip.no span {\n  color: var(--wrong);\n}\n\n.chip.no.past {\n  background: var(--wrong-gro\
+und);\n  border-color: var(--wrong);\n}\n\n.notes {\n  min-height: 1.5rem;\n}\n\ndetails {\n  \
+margin-top: .8rem;\n}\n\nsummary {\n  cursor: pointer;\n  font-size: .9rem;\n  font-weight: 60\
+0;\n  color: var(--soft);\n}\n\n.table {\n  overflow-x: auto;\n  margin-top: .5rem;\n}\n\ntabl\
+e {\n  border-collapse: collapse;\n  width: 100%;\n  font-size: .9rem;\n}\n\nth, td {\n  text-\
+align: left;\n  vertical-align: top;\n  padding: .25rem .6rem;\n  border-bottom: 1px solid var\
+(--line);\n}\n\nth {\n  color: var(--soft);\n  white-space: nowrap;\n}\n\ntd.short {\n  white-\
+space: nowrap;\n}\n\ntd a {\n  color: inherit;\n}\n\ntr[aria-current] td {\n  background: colo\
+r-mix(in srgb, var(--accent) 14%, transparent);\n}\n\ntr.bad td {\n  color: var(--wrong);\n}\n\
+\n.strips {\n  display: none;\n}\n\n/* Several histories: their pictures one above the other, \
+the rest of each in a column. */\n.several main {\n  grid-template-columns: repeat(var(--histo\
+ries), minmax(0, 1fr));\n  column-gap: .9rem;\n}\n\n.several .heading, .several .picture, .sev\
+eral .strips, .several #live, .several .all {\n  grid-column: 1 / -1;\n}\n\n.several .heading \
+{\n  flex-wrap: nowrap;\n  margin-bottom: .1rem;\n}\n\n.several .about {\n  min-width: 0;\n  o\
+verflow: hidden;\n  text-overflow: ellipsis;\n  white-space: nowrap;\n}\n\n.several .verdict {\
+\n  flex: none;\n}\n\n.several .picture {\n  max-height: calc(56vh / var(--histories));\n  mar\
+gin-bottom: .3rem;\n}\n\n.several .stage {\n  grid-template-columns: 1fr;\n  align-content: st\
+art;\n}\n\n.several .told {\n  min-height: 11rem;\n}\n\n.several .say {\n  font-size: 1.12rem;\
+\n}\n\n.several .chips {\n  grid-template-columns: repeat(auto-fill, minmax(6.5rem, 1fr));\n}\n\
+\n.alone > .picture, .alone > .stage .told {\n  outline: 2px solid var(--accent);\n}\n\n.over \
+> .stage, .over > .picture {\n  opacity: .55;\n}\n\n@media (max-width: 700px) {\n  .several ma\
+in {\n    grid-template-columns: minmax(0, 1fr);\n  }\n}\n\n@media (max-width: 1000px) {\n  #l\
+ive {\n    font-size: .85rem;\n    column-gap: .5rem;\n  }\n  #live button {\n    font-size: .\
+9rem;\n    min-width: 0;\n    padding: .25rem .5rem;\n  }\n  #slider {\n    flex-basis: 3rem;\n    \
+min-width: 3rem;\n  }\n  .switches {\n    column-gap: .5rem;\n  }\n  #live label {\n    gap: .\
+2rem;\n  }\n  .stage {\n    grid-template-columns: 1fr;\n  }\n  .told {\n    min-height: 0;\n  \
+}\n  .chips {\n    grid-template-columns: repeat(5, 1fr);\n  }\n}\n\n@media (max-width: 520px) \
+{\n  .chips {\n    grid-template-columns: repeat(2, 1fr);\n  }\n  body {\n    padding: .6rem;\n  \
+}\n}\n\n@media print {\n  @page {\n    size: A4 landscape;\n    margin: 12mm;\n  }\n  html {\n    \
 font-size: 10pt;\n  }\n  body {\n    max-width: none;\n    padding: 0;\n    background: none;\n  \
-}\n  #controls, #theme, #stage, summary {\n    display: none;\n  }\n  #picture {\n    height: \
-0;\n    max-height: 0;\n    overflow: hidden;\n    border: 0;\n  }\n  #strips {\n    display: \
-block;\n  }\n  #strips svg {\n    display: block;\n    width: 100%;\n    height: auto;\n    br\
-eak-inside: avoid;\n    margin-bottom: 2mm;\n  }\n  #kinds {\n    break-inside: avoid;\n  }\n  \
-#chips {\n    grid-template-columns: repeat(10, 1fr);\n  }\n  tr {\n    break-inside: avoid;\n  \
+}\n  #live, #theme, #keys, .stage, summary {\n    display: none;\n  }\n  .picture {\n    heigh\
+t: 0;\n    max-height: 0;\n    overflow: hidden;\n    border: 0;\n  }\n  .strips {\n    displa\
+y: block;\n  }\n  .strips svg {\n    display: block;\n    width: 100%;\n    height: auto;\n    \
+break-inside: avoid;\n    margin-bottom: 2mm;\n  }\n  .kinds {\n    break-inside: avoid;\n  }\n  \
+.chips {\n    grid-template-columns: repeat(10, 1fr);\n  }\n  tr {\n    break-inside: avoid;\n  \
 }\n  tr[aria-current] td {\n    background: none;\n  }\n  td a {\n    text-decoration: none;\n  \
 }\n}\n</style>\n</head>\n<body>\n<header id=\"top\">\n  <h1 id=\"name\">A history</h1>\n  <p i\
-d=\"verdict\"></p>\n  <button id=\"theme\" type=\"button\">Dark</button>\n  <p id=\"about\"></\
-p>\n</header>\n<main>\n<div id=\"picture\" class=\"card\" role=\"group\"\n  aria-label=\"Pictu\
-re of the history. The table at the end of the page tells the same.\">\n";
+d=\"parting\"></p>\n  <button id=\"keys\" type=\"button\" aria-label=\"Keys\" title=\"Keys (?)\
+\">?</button>\n  <button id=\"theme\" type=\"button\">Dark</button>\n</header>\n<main>\n<div i\
+d=\"live\" role=\"group\" aria-label=\"Steps\" hidden>\n  <span class=\"buttons\">\n    <butto\
+n id=\"first\" type=\"button\" aria-label=\"First\">|&#9664;</button>\n    <button id=\"back\" \
+type=\"button\" aria-label=\"Step back\">&#9664;</button>\n    <button id=\"on\" type=\"button\
+\" aria-label=\"Step on\">&#9654;</button>\n    <button id=\"last\" type=\"button\" aria-label\
+=\"Last\">&#9654;|</button>\n    <button id=\"play\" type=\"button\">Play</button>\n  </span>\n  \
+<input id=\"slider\" type=\"range\" step=\"1\" aria-label=\"Step\">\n  <span id=\"count\"></sp\
+an>\n  <span class=\"switches\">\n    <label class=\"if-asking\"><input id=\"ask\" type=\"chec\
+kbox\" autocomplete=\"off\"> ask first <span id=\"score\" role=\"status\"></span></label>\n    \
+<label><input id=\"hide\" type=\"checkbox\" autocomplete=\"off\"> hide what follows</label>\n    \
+<label><input id=\"fit\" type=\"checkbox\" autocomplete=\"off\"> fit</label>\n    <label class\
+=\"if-several\"><input id=\"together\" type=\"checkbox\" autocomplete=\"off\" checked> in step\
+</label>\n  </span>\n</div>\n";

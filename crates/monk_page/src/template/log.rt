@@ -79,34 +79,34 @@ r)} of the file: ${r.words.join(' ')}` : '';\n}\n\n// The program as boxes: who 
 the data, who sleeps, who is woken, and who is outside.\n\nfunction lockBox(r) {\n  const hold\
 er = make('p', 'quiet', 'free: whoever comes first takes it');\n  return box('active half', 'L\
 ock', '', r.lock === null ? holder : queueOf([r.lock], 'active'));\n}\n\nfunction topRow(r) {\n  \
-const data = dataWords(r.state).map((words) => make('p', '', words));\n  return make('div', 'r\
-ow', lockBox(r), box('half', 'Data', '', ...data));\n}\n\nfunction sleepersRow(r) {\n  const b\
-oxes = [];\n  for (let c = 0; c < H.conditions; c++) {\n    const sleepers = queueOf(seatsAt(r\
-, `waiting ${c}`), 'condition');\n    boxes.push(box('condition', `Sleep on condition ${c}`, '\
-', sleepers));\n  }\n  return make('div', 'row', ...boxes);\n}\n\nconst hasTimes = R.some((r) \
-=> r.hasRunOut || seatsThat(r, 'out ').length);\n\nfunction returningRow(r) {\n  const woken = \
-queueOf(seatsThat(r, 'woken'), 'waiter');\n  const boxes = [box('waiter', 'Woken', 'not back y\
-et', woken)];\n  if (hasTimes) {\n    boxes.push(box('until', 'Time is over', 'not back yet', \
-queueOf(seatsThat(r, 'out '), 'until')));\n  }\n  const head = make('h2', '', 'Whoever gets th\
-e lock first comes in: no queue, no order');\n  return make('div', 'row', head, ...boxes);\n}\n\
-\nfunction showBoxes(r) {\n  const monitor = make('div', '', topRow(r), sleepersRow(r), return\
-ingRow(r));\n  monitor.id = 'monitor';\n  if (r.bad) {\n    const head = `Before ${inFile(r)}, \
-which can\\u2019t be: the program as it stands`;\n    monitor.prepend(make('h2', '', head));\n  \
-}\n  const outside = box('outside', 'Without the lock', '', queueOf(seatsAt(r, 'outside'), 'ou\
-tside'));\n  $('boxes').replaceChildren(monitor, make('div', 'row', outside));\n  $('boxes').s\
-etAttribute('aria-label', `The program ${r.bad ? 'before' : 'after'} step ${r.step}`);\n}\n\n/\
-/ What the table says of a step, besides its sentence and the data.\n\nfunction headOf() {\n  \
-const conditions = Array.from({ length: H.conditions }, (_, c) => `c${c}`);\n  return ['Step', \
-'What happens', 'Lock', ...conditions, 'Woken', 'Data'];\n}\n\nfunction placeCells(r) {\n  con\
-st asleep = Array.from({ length: H.conditions }, (_, c) => seatsAt(r, `waiting ${c}`));\n  con\
-st cells = [...asleep, seatsThat(r, 'woken')].map((seats) => seats.join(', '));\n  return [r.l\
-ock === null ? 'free' : String(r.lock), ...cells];\n}\n\nconst isLongCell = () => false;\n\n// \
-The head of the page.\n\nfunction showVerdict() {\n  const misfit = H.misfit && `misfit at lin\
-e ${H.misfit.index + 2}: ${H.misfit.word}`;\n  $('verdict').textContent = isHiding() && now < \
-last ? '' : misfit || 'fits';\n  $('verdict').className = misfit ? 'bad' : '';\n}\n\nfunction \
-headWords() {\n  const rule = 'A run of a mutex with condition variables that tells this log.'\
-;\n  const numbers = `${plural(H.seats, 'thread')}, ${plural(H.conditions, 'condition')}`;\n  \
-const shown = ` The page shows lines ${first + 2} to ${last + 1} of the file.`;\n  return `${r\
-ule} ${numbers}, ${objectWords()}.${first > 0 && last > first ? shown : ''}`;\n}\n\n// A log i\
-s judged by one kind alone.\nfunction showKinds() {}\n\n$('kinds').hidden = true;\n$('name').t\
-extContent = 'A log of a program';\nbegin('log');\n})();\n</script>\n</body>\n</html>\n";
+return make('div', 'row', lockBox(r), dataBox(r));\n}\n\nfunction sleepersRow(r) {\n  const bo\
+xes = [];\n  for (let c = 0; c < H.conditions; c++) {\n    const sleepers = queueOf(seatsAt(r, \
+`waiting ${c}`), 'condition');\n    boxes.push(box('condition', `Sleep on condition ${c}`, '', \
+sleepers));\n  }\n  return make('div', 'row', ...boxes);\n}\n\nconst hasTimes = R.some((r) => \
+r.hasRunOut || seatsThat(r, 'out ').length);\n\nfunction returningRow(r) {\n  const woken = qu\
+eueOf(seatsThat(r, 'woken'), 'waiter');\n  const boxes = [box('waiter', 'Woken', 'not back yet\
+', woken)];\n  if (hasTimes) {\n    boxes.push(box('until', 'Time is over', 'not back yet', qu\
+eueOf(seatsThat(r, 'out '), 'until')));\n  }\n  const head = make('h2', '', 'Whoever gets the \
+lock first comes in: no queue, no order');\n  return make('div', 'row', head, ...boxes);\n}\n\n\
+function showBoxes(r) {\n  const monitor = make('div', 'monitor', topRow(r), sleepersRow(r), r\
+eturningRow(r));\n  if (r.bad) {\n    const head = `Before ${inFile(r)}, which can\\u2019t be: \
+the program as it stands`;\n    monitor.prepend(make('h2', '', head));\n  }\n  const outside = \
+box('outside', 'Without the lock', '', queueOf(seatsAt(r, 'outside'), 'outside'));\n  $('boxes\
+').replaceChildren(monitor, make('div', 'row', outside));\n  $('boxes').setAttribute('aria-lab\
+el', `The program ${r.bad ? 'before' : 'after'} step ${r.step}`);\n}\n\n// What the table says \
+of a step, besides its sentence and the data.\n\nfunction headOf() {\n  const conditions = Arr\
+ay.from({ length: H.conditions }, (_, c) => `c${c}`);\n  return ['Step', 'What happens', 'Lock\
+', ...conditions, 'Woken', 'Data'];\n}\n\nfunction placeCells(r) {\n  const asleep = Array.fro\
+m({ length: H.conditions }, (_, c) => seatsAt(r, `waiting ${c}`));\n  const cells = [...asleep\
+, seatsThat(r, 'woken')].map((seats) => seats.join(', '));\n  return [r.lock === null ? 'free' \
+: String(r.lock), ...cells];\n}\n\nconst isLongCell = () => false;\n\n// The head of the page.\
+\n\nfunction showVerdict() {\n  const misfit = H.misfit && `misfit at line ${H.misfit.index + \
+2}: ${H.misfit.word}`;\n  $('verdict').textContent = isKnown(last) ? misfit || 'fits' : '';\n  \
+$('verdict').classList.toggle('bad', Boolean(misfit));\n}\n\nfunction headWords() {\n  const r\
+ule = 'A run of a mutex with condition variables that tells this log.';\n  const numbers = `${\
+plural(H.seats, 'thread')}, ${plural(H.conditions, 'condition')}`;\n  const shown = ` The page \
+shows lines ${first + 2} to ${last + 1} of the file.`;\n  return `${rule} ${numbers}, ${object\
+Words()}.${first > 0 && last > first ? shown : ''}`;\n}\n\n// A log is judged by one kind alon\
+e.\nfunction showKinds() {}\n\nconst log = beginHistory({ kind: 'log', noun: 'A log of a progr\
+am' });\n$('kinds').hidden = true;\nreturn log;\n}\n\nbegin();\n})();\n</script>\n</body>\n</h\
+tml>\n";

@@ -143,6 +143,7 @@ fn may_begin<R: Wait>(rt: &R, start: &AtomicU8) -> bool {
             word => return word == BEGIN,
         }
     }
+    // The loop has no end but its `return`.
     unreachable!()
 }
 

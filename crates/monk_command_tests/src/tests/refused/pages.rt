@@ -1,8 +1,12 @@
 use super::begins;
-use monk_history::{Event, Header, Next, Via};
+use crate::tests::pages::single_page;
+use crate::tests::told_pages::FORBIDDEN_AND_LEGAL;
+use monk_commands::pages_stream;
+use monk_history::{Device, Event, Header, Next, Via};
 use monk_kinds::KindName;
 use monk_object::ObjectName;
-use monk_page::page;
+use monk_page::check_told;
+use std::io;
 use std::test::Fail;
 
 /// A signal that chooses entry over the waiter that it serves.
@@ -18,6 +22,18 @@ pub(super) fn page_of_four(rt: &HostRuntime) -> Result<bool, Fail> {
     let Some(header) = Header::new(KindName::Pb, 2, 1, ObjectName::Buffer, 1) else {
         return Err(Fail::new("no header"));
     };
-    let page = page(rt.alloc(), &header, &WRONG_CHOICE, None)?;
+    let page = single_page(rt.alloc(), &header, &WRONG_CHOICE, None)?;
     Ok(page.as_str().ends_with("</html>\n"))
+}
+
+pub(super) fn page_of_two(rt: &HostRuntime) -> Result<bool, Fail> {
+    begins(rt, "pages")?;
+    let mut nowhere = Device::new(io::sink());
+    Ok(pages_stream(rt.alloc(), &FORBIDDEN_AND_LEGAL, None, &mut nowhere)? == 1)
+}
+
+pub(super) fn names_of_two(rt: &HostRuntime) -> Result<bool, Fail> {
+    begins(rt, "told")?;
+    check_told(rt.alloc(), "{\"seats\": [\"taker\", \"putter\"]}")?;
+    Ok(true)
 }

@@ -1,13 +1,9 @@
-use Rattle.std.proofs.Common.{◌∙◌, refl, sym, codes}
-use Rattle.clap.specs.Words.{found_of}
-use Rattle.clap.proofs.WalkLemmas.{first_value-rows}
+use Rattle.std.proofs.Common.{refl}
 use Rattle.monk_commands.proofs.words.line_to_page.Goals as goal
 
 pub returns : goal.returns
-returns c =
-    let found = found_of c.args.matches.now in
-    record {
-      command = refl;
-      values = (sym (first_value-rows found (codes "FILE")) ∙ sym c.in_ok-file.ensures, c.in_ok-window.ensures);
-      in_range = tt;
-    }
+returns c = record {
+  command = refl;
+  values = (c.in_ok-files.ensures, c.in_ok-window.ensures);
+  in_range = tt;
+}

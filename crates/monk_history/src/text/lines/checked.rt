@@ -75,6 +75,7 @@ impl<'a, H: Head, A: Record<H>> CheckedLines<'a, H, A> {
     {
         match self.lines.next(&self.header) {
             Ok(item) => item,
+            // Each line was found right when the text was checked.
             Err(_) => unreachable!(),
         }
     }

@@ -1,11 +1,19 @@
-use Rattle.std.proofs.Common.{◌∙◌, ap}
+use Rattle.std.proofs.Common.{◌≡◌, ◌∙◌, List, ap, refl, rules, subst, sym}
+use Rattle.monk_kinds.specs.declared.name.KindName.{KindName}
+use Rattle.monk_audit.specs.Under.{under}
 use Rattle.monk_history.specs.Text.{Heading}
-use Rattle.monk_tell.specs.Told.{account}
+use Rattle.monk_history.specs.declared.event.Event.{Event}
+use Rattle.monk_tell.specs.Told.{Account, account}
 use Rattle.monk_page.specs.Kinds.{verdict_json}
 use Rattle.monk_page.proofs.kinds.kind_value.Goals as goal
 
+-- what is told under a history's own kind is what is told of it
+own_kind : (h : Heading) (es : List Event) (k : KindName) → k ≡ h.kind → account h es ≡ account (under k h) es
+own_kind h es k is = subst (λ (l : KindName). account h es ≡ account (under l h) es) (sym is) refl
+
 pub returns-clause-json : goal.returns-clause-json
 returns-clause-json c =
-    c.in_ok-verdict.ensures
-    ∙ ap (verdict_json c.args.kind) (c.in_ok-telling.ensures.told
-    ∙ ap (λ (h : Heading). account h c.args.events.now) c.under.ensures)
+    let own : c.args.kind ≡ c.args.told.header.now.kind = search rules in
+    c.in_ok-verdict_value.ensures
+    ∙ ap (λ (a : Account). verdict_json c.args.kind a.verdict a.blame)
+    (c.requires.telling ∙ own_kind c.args.told.header.now c.args.told.events.now c.args.kind own)

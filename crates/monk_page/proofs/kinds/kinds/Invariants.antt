@@ -6,4 +6,5 @@ use Rattle.monk_page.proofs.kinds.kinds.Given as goal
 
 -- the values of the kinds so far
 abbrev pub invariant-loop-kind : goal.invariant-loop-kind
-invariant-loop-kind l = map view l.values.items ≡ map (kind_json l.header l.events) (take l.kind-index kinds)
+invariant-loop-kind l =
+    map view l.values.items ≡ map (kind_json l.told.header.now l.told.events.now) (take l.kind-index kinds)

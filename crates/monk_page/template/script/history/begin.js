@@ -5,8 +5,8 @@ function showVerdict() {
   const isLegal = word === 'legal';
   const forbidden = `forbidden at step ${step}: ${reasonWord}`;
   const verdict = isLegal ? `legal, ${plural(H.events, 'event')}` : forbidden;
-  $('verdict').textContent = isHiding() && now < last ? '' : verdict;
-  $('verdict').className = isLegal ? '' : 'bad';
+  $('verdict').textContent = isKnown(last) ? verdict : '';
+  $('verdict').classList.toggle('bad', !isLegal);
 }
 
 function headWords() {
@@ -18,4 +18,4 @@ function headWords() {
   return `${kind} ${size}${isPart && last > first ? ` ${shownSteps}` : ''}`;
 }
 
-begin(H.kind);
+return beginHistory({ kind: H.kind, noun: 'A history', ask, answer });

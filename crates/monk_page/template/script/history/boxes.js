@@ -31,9 +31,7 @@ function activeWords(r) {
 }
 
 function topRow(r) {
-  const data = dataWords(r.state).map((words) => make('p', '', words));
-  const active = box('active half', 'Active', '', activeWords(r));
-  return make('div', 'row', active, box('half', 'Data', '', ...data));
+  return make('div', 'row', box('active half', 'Active', '', activeWords(r)), dataBox(r));
 }
 
 // The queues in the kind's order, with `>` or `=` between them.
@@ -60,9 +58,10 @@ function untilLine(r, [s, predicate]) {
 
 function waitersRow(r) {
   if (!automatic) {
-    const boxes = r.conditions.map((queue, c) =>
-      box('condition', `Condition ${c}`, '', queueOf(queue, 'condition')),
-    );
+    const boxes = r.conditions.map((queue, c) => {
+      const [title, note] = CONDITIONS[c] ? [CONDITIONS[c], 'condition'] : [`Condition ${c}`, ''];
+      return box('condition', title, note, queueOf(queue, 'condition'));
+    });
     return boxes.length ? [make('div', 'row', ...boxes)] : [];
   }
   const waits = r.until.map((wait) => untilLine(r, wait));
@@ -85,9 +84,7 @@ function showBoxes(r) {
     const head = `Before step ${r.step}, which can\u2019t be: the monitor as it stands`;
     parts.unshift(make('h2', '', head));
   }
-  const monitor = make('div', '', ...parts);
-  monitor.id = 'monitor';
-  $('boxes').replaceChildren(monitor, outsideRow(r));
+  $('boxes').replaceChildren(make('div', 'monitor', ...parts), outsideRow(r));
   const when = r.bad ? 'before' : 'after';
   $('boxes').setAttribute('aria-label', `The monitor ${when} step ${r.step}`);
 }

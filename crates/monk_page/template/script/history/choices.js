@@ -36,7 +36,7 @@ function choiceLine(r, [next, words], took) {
   sign.setAttribute('aria-hidden', 'true');
   const how = make('span', 'how', isTaken ? taken : notTaken);
   const cls = (isTaken ? 'took ' : '') + (may ? '' : 'barred');
-  return make('li', cls, sign, make('span', 'who', words), how);
+  return make('li', cls, sign, make('span', 'who', named(words)), how);
 }
 
 function showChoices(r) {
@@ -58,13 +58,15 @@ function showChoices(r) {
 
 function showSay(r) {
   const line = $('say');
-  line.replaceChildren(make('span', 'unseen', `Step ${r.step}. `), say(r));
-  if (r.bad) line.append(make('span', 'bad', wrongWords(r)));
+  const end = r.step === last && TOLD.end;
+  line.replaceChildren(make('span', 'unseen', `Step ${r.step}. `), named(say(r)));
+  if (r.bad) line.append(make('span', 'bad', named(wrongWords(r))));
+  if (end) line.append(make('span', 'bad', end));
   const others = H.kinds.filter((k) => k.kind !== H.kind && k.why && stepOf(k) === r.step);
   if (others.length) {
     const names = listed(others.map((k) => k.kind));
     line.append(make('span', 'unseen', ` ${names} would forbid this step.`));
   }
-  $('told').classList.toggle('bad', Boolean(r.bad));
+  $('told').classList.toggle('bad', Boolean(r.bad || end));
   $('line').textContent = r.event || '';
 }

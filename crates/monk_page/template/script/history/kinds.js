@@ -9,16 +9,13 @@ const stepOf = (k) => Number(k.verdict.split(' ')[1]);
 
 const chips = H.kinds.map((k) => {
   const isOwn = k.kind === H.kind;
-  const own = 'the kind of this history';
+  const ownWords = 'the kind of this history';
   const cls = `chip${k.why ? ' no' : ''}${isOwn ? ' own' : ''}`;
-  const words = make('span', 'unseen', isOwn ? `, ${own}` : '');
-  const chip = make('button', cls, make('b', '', k.kind), make('span', ''), words);
-  chip.type = 'button';
-  if (isOwn) chip.title = own;
-  chip.addEventListener('click', () => {
-    const step = k.why ? stepOf(k) : now;
-    show(step >= first && step <= last ? step : now, k);
-  });
+  const words = make('span', 'unseen', isOwn ? `, ${ownWords}` : '');
+  const isShown = k.why && stepOf(k) >= first && stepOf(k) <= last;
+  const toIt = () => go(isShown ? stepOf(k) : now, own, k);
+  const chip = button(cls, toIt, make('b', '', k.kind), make('span', ''), words);
+  if (isOwn) chip.title = ownWords;
   $('chips').append(make('li', '', chip));
   return chip;
 });
@@ -46,7 +43,7 @@ function noteOf(kinds) {
   const isMany = kinds.length > 1;
   const why = isMany ? ofMany(k.kind, k.why) : k.why;
   const forbids = isMany ? 'forbid' : 'forbids';
-  return make('p', '', names, ` ${forbids} step ${stepOf(k)}: ${why}.`);
+  return make('p', '', names, named(` ${forbids} step ${stepOf(k)}: ${why}.`));
 }
 
 function showKinds(r, all) {

@@ -2,8 +2,8 @@
 
 function showVerdict() {
   const misfit = H.misfit && `misfit at line ${H.misfit.index + 2}: ${H.misfit.word}`;
-  $('verdict').textContent = isHiding() && now < last ? '' : misfit || 'fits';
-  $('verdict').className = misfit ? 'bad' : '';
+  $('verdict').textContent = isKnown(last) ? misfit || 'fits' : '';
+  $('verdict').classList.toggle('bad', Boolean(misfit));
 }
 
 function headWords() {
@@ -16,6 +16,6 @@ function headWords() {
 // A log is judged by one kind alone.
 function showKinds() {}
 
+const log = beginHistory({ kind: 'log', noun: 'A log of a program' });
 $('kinds').hidden = true;
-$('name').textContent = 'A log of a program';
-begin('log');
+return log;

@@ -6,8 +6,7 @@ function lockBox(r) {
 }
 
 function topRow(r) {
-  const data = dataWords(r.state).map((words) => make('p', '', words));
-  return make('div', 'row', lockBox(r), box('half', 'Data', '', ...data));
+  return make('div', 'row', lockBox(r), dataBox(r));
 }
 
 function sleepersRow(r) {
@@ -32,8 +31,7 @@ function returningRow(r) {
 }
 
 function showBoxes(r) {
-  const monitor = make('div', '', topRow(r), sleepersRow(r), returningRow(r));
-  monitor.id = 'monitor';
+  const monitor = make('div', 'monitor', topRow(r), sleepersRow(r), returningRow(r));
   if (r.bad) {
     const head = `Before ${inFile(r)}, which can\u2019t be: the program as it stands`;
     monitor.prepend(make('h2', '', head));

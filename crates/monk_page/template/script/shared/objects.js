@@ -83,3 +83,20 @@ function flagsWords([size, bits]) {
 const dataWords = { buffer: bufferWords, book: bookWords, shop: shopWords, flags: flagsWords }[
   H.object
 ];
+
+// The data at a step: those of the program, if they are told, else the object's.
+const dataLines = (r) => (TOLD.data ? [TOLD.data[r.step] || ''] : dataWords(r.state));
+
+function dataBox(r) {
+  const cls = TOLD.data ? 'code' : '';
+  return box('half', 'Data', '', ...dataLines(r).map((words) => make('p', cls, words)));
+}
+
+function objectWords() {
+  return {
+    buffer: `a buffer of ${H.size}`,
+    book: `a book for ${plural(H.size, 'reader')}`,
+    shop: `a shop with ${plural(H.size, 'waiting chair')}`,
+    flags: plural(H.size, 'flag'),
+  }[H.object];
+}

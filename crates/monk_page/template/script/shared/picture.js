@@ -3,17 +3,18 @@
 const TOP = 44;
 const NAMES = 72;
 const LEFT = 84;
-const svg = document.querySelector('#picture svg');
+const svg = root.querySelector('.picture svg');
+const SCENE = `scene-${index}`;
 const columns = new Map(); // the middle of each column, by its step
 const view = { y: TOP, scale: 1 };
 let gap = 76;
-let marks = [];
 let bandBox;
 let veil;
 
-// Crops the picture's head and legend, which the page has itself.
+// Crops the picture's head and legend, which the page has itself. Its styles and patterns are those of the first.
 function cropPicture() {
-  svg.id = 'history-picture';
+  svg.classList.add('cropped');
+  if (index) svg.querySelectorAll('style, defs').forEach((it) => it.remove());
   svg.querySelectorAll('.step').forEach((t) => {
     columns.set(Number(t.textContent), Number(t.getAttribute('x')));
   });
@@ -24,7 +25,7 @@ function cropPicture() {
   if (xs.length > 1) gap = xs[1] - xs[0];
   const w = xs.length ? Math.min(wide, xs[xs.length - 1] + gap) : wide;
   Object.assign(view, { w, h: bottom + 4 - TOP, high });
-  const scene = draw('g', { id: 'scene' });
+  const scene = draw('g', { id: SCENE });
   const isDrawn = (node) => node.nodeName !== 'style' && node.nodeName !== 'defs';
   scene.append(...[...svg.childNodes].filter(isDrawn));
   svg.append(scene);
@@ -43,13 +44,12 @@ function addBand() {
 // The seats' names and the steps' numbers stay in view while the picture is scrolled.
 function addRulers() {
   const hidden = { 'aria-hidden': 'true' };
-  const lanes = draw('svg', { id: 'lanes', viewBox: `0 ${TOP} ${NAMES} ${view.h}`, ...hidden });
-  draw('use', { href: '#scene' }, lanes);
-  const numbers = draw('svg', { id: 'numbers', viewBox: `0 ${TOP} ${view.w} 24`, ...hidden });
+  const lanes = draw('svg', { class: 'lanes', viewBox: `0 ${TOP} ${NAMES} ${view.h}`, ...hidden });
+  draw('use', { href: `#${SCENE}` }, lanes);
+  const numbers = draw('svg', { class: 'numbers', viewBox: `0 ${TOP} ${view.w} 24`, ...hidden });
   const ground = svg.querySelector('.background').cloneNode();
   numbers.append(ground, ...[...svg.querySelectorAll('.step')].map((t) => t.cloneNode(true)));
-  const inner = make('div');
-  inner.id = 'scroll';
+  const inner = make('div', 'scroll');
   svg.before(inner);
   inner.append(numbers, lanes, svg);
   return { inner, lanes, numbers };
@@ -60,60 +60,34 @@ const setSize = (element, width, height) => {
   element.style.height = `${height}px`;
 };
 
-function fitPicture({ inner, lanes, numbers }) {
-  const room = $('picture').clientWidth;
-  const scale = Math.max(1.15, Math.min(1.35, room / view.w));
+function fitPicture(scale) {
+  const { inner, lanes, numbers } = rulers;
   setSize(svg, view.w * scale, view.h * scale);
   setSize(lanes, NAMES * scale, view.h * scale);
   setSize(numbers, view.w * scale, 24 * scale);
-  const isHigh = view.h * scale > $('picture').clientHeight + 1;
   numbers.style.marginBottom = `${-24 * scale}px`;
-  numbers.style.visibility = isHigh ? '' : 'hidden';
   lanes.style.marginRight = `${-NAMES * scale}px`;
-  lanes.style.visibility = view.w * scale > room + 1 ? '' : 'hidden';
   inner.style.width = `${view.w * scale}px`;
   view.scale = scale;
 }
 
-// Marks and numbers by step, so that those to come can be hidden.
-function collectMarks() {
-  const dots = [...svg.querySelectorAll('.mark')];
-  const numbers = [...document.querySelectorAll('#scene .step')];
-  marks = numbers.map((t, i) => ({ step: Number(t.textContent), parts: [t, dots[i]] }));
-  if (fault) {
-    marks.push({ step: last, parts: [...svg.querySelectorAll('.wrong, .frame, .wish')] });
-  }
+// A ruler is shown if the picture can be scrolled along the other.
+function showRulers({ clientWidth, clientHeight }) {
+  const isSeen = { lanes: view.w * view.scale > clientWidth + 1, numbers: view.h * view.scale > clientHeight + 1 };
+  for (const name in isSeen) rulers[name].style.visibility = isSeen[name] ? '' : 'hidden';
 }
 
-function nearestStep(event) {
-  const toPicture = svg.getScreenCTM().inverse();
-  const { x } = new DOMPoint(event.clientX, event.clientY).matrixTransform(toPicture);
-  const all = [...columns].map(([step, middle]) => [Math.abs(middle - x), step]);
-  const nearest = all.reduce((best, it) => (it[0] < best[0] ? it : best), [Infinity, first]);
-  return x < columns.values().next().value - gap / 2 ? first : nearest[1];
-}
-
-function beginPicture() {
-  cropPicture();
-  addBand();
-  const rulers = addRulers();
-  fitPicture(rulers);
-  collectMarks();
-  svg.addEventListener('click', (event) => show(nearestStep(event)));
-  addEventListener('resize', () => {
-    fitPicture(rulers);
-    show(now);
-  });
-}
-
-function scrollTo(r, x) {
+// Scrolls to the step that is shown.
+function scroll() {
+  const r = R[now - first];
+  const x = columns.get(r.step);
   const box = $('picture');
   const middle = (x === undefined ? 0 : x) * view.scale;
   const right = box.scrollLeft + box.clientWidth;
   if (middle < box.scrollLeft + 190 || middle > right - 150) {
     box.scrollLeft = middle - box.clientWidth / 2;
   }
-  const mark = x !== undefined && marks[r.step - first - 1].parts[1];
+  const mark = x !== undefined && marks[r.step - first - 1].dot;
   const dot = mark && mark.getAttribute('transform').match(/translate\(\S+ (\S+)\)/);
   if (!dot) return;
   const y = (Number(dot[1]) - TOP) * view.scale;
@@ -122,28 +96,26 @@ function scrollTo(r, x) {
   }
 }
 
-// Hides the marks of what follows; only those that change are touched.
-let markedUpTo = Infinity;
-function hideLater(step) {
-  const low = Math.min(step, markedUpTo);
-  const high = Math.max(step, markedUpTo);
-  const changed = marks.filter((mark) => mark.step > low && mark.step <= high);
-  changed.forEach((mark) => {
-    mark.parts.forEach((part) => part && part.classList.toggle('later', mark.step > step));
-  });
-  markedUpTo = step;
-}
-
-function showPicture(r) {
+// While its step is a question, the picture ends at the call, whose mark stands above the veil.
+let asked;
+function showPicture(r, isQuestion) {
+  if (asked) asked.remove();
   const x = columns.get(r.step);
   const leftmost = columns.size ? columns.values().next().value : gap;
   const left = x === undefined ? leftmost - gap : x - gap / 2;
   bandBox.setAttribute('x', left);
   bandBox.style.display = x === undefined ? 'none' : '';
-  const behind = r.step === last ? view.w : x + gap * 0.68;
+  const behind = isQuestion ? x - 1 : r.step === last ? view.w : x + gap * 0.68;
   const from = x === undefined ? Math.max(LEFT, left + gap / 2) : behind;
   veil.setAttribute('x', from);
   veil.setAttribute('width', Math.max(0, view.w - from));
-  hideLater(r.step);
-  scrollTo(r, x);
+  hideLater(r.step, isQuestion);
+  if (isQuestion) addAsked(marks[r.step - first - 1]);
+}
+
+// Without the mark's title, which has the whole event.
+function addAsked({ number, dot }) {
+  asked = draw('g', {}, svg);
+  asked.append(number.cloneNode(true), dot.cloneNode(true));
+  asked.querySelector('title').remove();
 }

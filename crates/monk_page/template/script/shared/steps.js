@@ -1,74 +1,85 @@
-// One step is shown; slider, buttons and keys go to others.
+// A step of this history is shown, or asked for.
 
 let now;
-let resting;
 let picked = null; // the kind whose verdict is asked for
+let question = null; // the record whose step is asked for
+let own; // this history, as the page steps it
+let rulers;
+let lanesAt;
 
-function showControls() {
-  $('slider').value = now;
-  $('slider').setAttribute('aria-valuetext', `step ${now} of ${last}`);
-  $('count').textContent = `step ${now} of ${last}`;
-  $('back').disabled = $('first').disabled = now === first;
-  $('on').disabled = $('last').disabled = now === last;
-}
-
-// The address follows where a step is rested on: browsers refuse too many changes in a row.
-function followAddress() {
-  clearTimeout(resting);
-  resting = setTimeout(() => {
-    const at = new URLSearchParams(location.hash.slice(1));
-    at.set('step', now);
-    try {
-      history.replaceState(null, '', `#${at}`);
-    } catch (_) {
-      // a place without addresses
-    }
-  }, 150);
+// Shows everything but the sentence.
+function showAround(r, isQuestion) {
+  shown = isQuestion ? r.was : r;
+  showPicture(r, isQuestion);
+  showBoxes(shown);
+  showKinds(shown);
+  markTable();
+  showVerdict();
+  // the boxes of several may be out of view
+  const isTold = TOLD.data && histories.length > 1;
+  $('data').textContent = isTold ? dataLines(shown).join(' ') : '';
 }
 
 function show(step, kind) {
   now = Math.max(first, Math.min(last, Number.isFinite(step) ? step : first));
   picked = kind || null;
+  question = null;
   const r = R[now - first];
-  shown = r;
-  showPicture(r);
-  showBoxes(r);
+  root.classList.toggle('over', step > last);
+  $('answer').textContent = '';
+  showAround(r);
   showChoices(r);
   showSay(r);
-  showKinds(r);
-  markTable();
-  showControls();
-  showVerdict();
-  followAddress();
 }
 
-function beginSteps() {
-  $('slider').min = first;
-  $('slider').max = last;
-  $('slider').addEventListener('input', (event) => show(Number(event.target.value)));
-  $('first').addEventListener('click', () => show(first));
-  $('back').addEventListener('click', () => show(now - 1));
-  $('on').addEventListener('click', () => show(now + 1));
-  $('last').addEventListener('click', () => show(last));
-  $('hide').addEventListener('change', (event) => {
-    document.body.classList.toggle('hiding', event.target.checked);
-    show(now, picked);
-  });
+// What is known: while a step is asked for, only those before it.
+const known = () => (question ? now - 1 : now);
+const isKnown = (step) => !isHiding() || step <= known();
+
+function showAgain() {
+  if (question && byId('ask').checked) own.ask(now);
+  else show(now, picked);
 }
 
-// PageUp and PageDown are what a presenter's remote control sends.
-const KEYS = {
-  ArrowLeft: () => now - 1,
-  PageUp: () => now - 1,
-  ArrowRight: () => now + 1,
-  PageDown: () => now + 1,
-  Home: () => first,
-  End: () => last,
-};
+function nextRefused() {
+  const isRefused = (r) => r.bad || (r.words[0] === 'act' && r.words[4] === '0');
+  const found = R.find((r) => r.step > now && isRefused(r));
+  return found && found.step;
+}
 
-addEventListener('keydown', (event) => {
-  const isOthers = event.altKey || event.ctrlKey || event.metaKey || event.defaultPrevented;
-  if (isOthers || event.target.id === 'slider' || !(event.key in KEYS)) return;
-  event.preventDefault();
-  show(KEYS[event.key]());
-});
+function nextOfThisSeat(way) {
+  const { words } = R[now - first];
+  return words.length ? eventOfSeat(Number(words[1]), way) : undefined;
+}
+
+function beginPicture() {
+  lanesAt = nameLanes();
+  nameConditions();
+  cropPicture();
+  addBand();
+  rulers = addRulers();
+  collectMarks();
+  svg.addEventListener('click', clickPicture);
+}
+
+// This history, and what it has that only its kind of page has.
+function beginHistory(more) {
+  $('about').textContent = headWords();
+  for (const cls of ['stage', 'kinds', 'all']) $(cls).hidden = false;
+  $('stage').addEventListener('click', () => isInStep() || go(now, own));
+  now = H.before ? last : first;
+  beginPicture();
+  own = {
+    ...{ root, view, first, last, show, showAgain, showAll, nextRefused, nextOfThisSeat },
+    ...{ scroll, showRulers, fit: fitPicture, box: $('picture') },
+    eventAt: (step) => (R[step - first] || {}).event,
+    get now() {
+      return now;
+    },
+    get isAsked() {
+      return Boolean(question);
+    },
+    ...more,
+  };
+  return own;
+}

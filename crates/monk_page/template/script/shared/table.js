@@ -3,8 +3,8 @@
 function rowOf(r) {
   const link = make('a', '', String(r.step));
   link.href = `#step=${r.step}`;
-  const happens = say(r) + (r.bad ? ` ${wrongWords(r)}` : '');
-  const cells = [link, happens, ...placeCells(r), dataWords(r.state).join(' ')];
+  const happens = named(say(r) + (r.bad ? ` ${wrongWords(r)}` : ''));
+  const cells = [link, happens, ...placeCells(r), dataLines(r).join(' ')];
   const isLong = (i) => i === 1 || i === cells.length - 1 || isLongCell(i);
   const tds = cells.map((cell, i) => make('td', isLong(i) ? '' : 'short', cell));
   const line = make('tr', r.bad ? 'bad' : '', ...tds);
@@ -18,18 +18,20 @@ function headCell(words) {
   return cell;
 }
 
+let rows = [];
 function fillTable() {
-  if ($('table').firstChild) return;
+  if (rows.length) return;
+  rows = R.map(rowOf);
   const head = make('thead', '', make('tr', '', ...headOf().map(headCell)));
-  $('table').append(make('table', '', head, make('tbody', '', ...R.map(rowOf))));
+  $('table').append(make('table', '', head, make('tbody', '', ...rows)));
 }
 
 function markTable() {
-  document.querySelectorAll('#table tr[data-step]').forEach((line) => {
+  rows.forEach((line) => {
     const step = Number(line.dataset.step);
-    if (step === now) line.setAttribute('aria-current', 'step');
+    if (step === known()) line.setAttribute('aria-current', 'step');
     else line.removeAttribute('aria-current');
-    line.hidden = isHiding() && step > now;
+    line.hidden = !isKnown(step);
   });
 }
 

@@ -6,7 +6,7 @@ const hasMoved = (s) => shown.was && shown.was.at[s] !== shown.at[s] && !shown.b
 
 function token(s, place, tag) {
   const element = make(tag || 'li', `seat ${place}${hasMoved(s) ? ' moved' : ''}`);
-  element.append(make('span', 'unseen', 'seat '), String(s));
+  element.append(make('span', 'unseen', SEATS[s] ? '' : 'seat '), SEATS[s] || String(s));
   return element;
 }
 

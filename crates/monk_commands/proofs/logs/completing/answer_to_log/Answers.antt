@@ -3,7 +3,7 @@ use Rattle.monk_commands.proofs.logs.completing.answer_to_log.Goals as goal
 
 pub returns-clause-answer : goal.returns-clause-answer
 returns-clause-answer c = record {
-  run = λ fits. record {
+  fits = λ fits. record {
     run = c.in_ok-run.run';
     is = c.in_ok-run.ensures;
     given = c.in_ok-given.ensures.answer;

@@ -1,0 +1,43 @@
+"""What monk-try has to say of runs that ended so."""
+import re
+from collections import Counter
+from typing import Dict, List, NamedTuple
+
+from monk_lessons import BROADCASTS, WAKES_SLEEPERS, Cell, Facts, Lesson, lesson
+from monk_runs import CANT, HUNG, OK, WRONG, Result
+
+
+class Case(NamedTuple):
+    """How runs under each kind ended, and whether each mend would be right, if they were tried; the lesson's name."""
+    ends: Dict[str, str]
+    mended: List[bool]
+    name: str
+
+
+CASES = (Case({"PB": OK, "NPNB": OK}, [], "right"),
+         Case({"PB": OK, "PNB": OK, "NPNB": WRONG}, [False, False], "if"),
+         Case({"PB": OK, "PNB": HUNG, "NPNB": HUNG}, [True, True], "broadcast"),
+         Case({"PB": HUNG, "NPNB": OK}, [], "hand-over"),
+         Case({"PB": OK, "NPNB": OK, "NPQB": HUNG}, [], "hand-over"),
+         Case({"PB": HUNG, "NPNB": HUNG}, [True, True], "broadcast"),
+         Case({"PB": HUNG, "NPNB": HUNG}, [False, True], "signal"),
+         Case({"PB": HUNG, "NPNB": HUNG}, [False, False], "deadlock"),
+         Case({"PB": WRONG, "NPNB": WRONG}, [False, False], "hoare"),
+         Case({"NPNB": WRONG}, [False, False], "order"),
+         Case({"NPNB": OK, "PIR": HUNG}, [], "order"),
+         Case({"PIR": CANT}, [], "not run"))
+
+
+def told_of(case: Case) -> Lesson:
+    cells = [Cell(kind, "any", [Result(what, "", "")]) for kind, what in case.ends.items()]
+    mended = dict(zip((BROADCASTS, WAKES_SLEEPERS), case.mended))
+    return lesson(Facts(cells, Counter({OK: 1}), mended, [], True))
+
+
+def first_wrong_lesson() -> str:
+    """The first that isn't as it has to be, or names a kind that wasn't run; nothing, if all are right."""
+    for case in CASES:
+        told = told_of(case)
+        if told.name != case.name or {*re.findall(r"\bN?P(?:N|Q|I)?[BR]\b", told.text)} - {*case.ends}:
+            return f"{case}: {told}"
+    return ""

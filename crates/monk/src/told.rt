@@ -1,0 +1,90 @@
+//! What is told in the file beside a history.
+
+use crate::{UNREADABLE, failed_file};
+use monk_commands::StreamFault;
+use monk_page::{ToldFault, ToldNames, check_told, told_names};
+use std::alloc::{AllocError, AllocFailed};
+use std::rt::Files;
+use std::{fs, io};
+
+/// Why nothing is made.
+#[derive(Drop)]
+pub(crate) enum Unmade {
+    /// Standard error has been told: the exit status.
+    Told(u8),
+    /// The stream's fault.
+    Fault(StreamFault),
+}
+
+impl From<AllocError> for Unmade {
+    fn from(_refused: AllocError) -> Unmade {
+        Unmade::Fault(StreamFault::Memory)
+    }
+}
+
+impl<T: Drop> From<AllocFailed<T>> for Unmade {
+    fn from(_refused: AllocFailed<T>) -> Unmade {
+        Unmade::Fault(StreamFault::Memory)
+    }
+}
+
+/// The file of that name can't be read.
+pub(crate) fn unread(rt: &impl Eprint, name: &str, error: &io::Error) -> Unmade {
+    if error.kind() == io::ErrorKind::OutOfMemory {
+        return Unmade::Fault(StreamFault::Memory);
+    }
+    Unmade::Told(failed_file(rt, name, error))
+}
+
+/// The file of that name has something else than what is told.
+fn unfit(rt: &impl Eprint, file: &str, fault: ToldFault) -> Unmade {
+    match fault {
+        ToldFault::Memory => Unmade::Fault(StreamFault::Memory),
+        ToldFault::At(line, column, wrong) => {
+            let _ = eprintln!(rt;
+                "monk: {file}, line {line}, column {column}: {}",
+                wrong.sentence()
+            );
+            Unmade::Told(UNREADABLE)
+        }
+    }
+}
+
+/// The text of the file of that name, if there is one.
+fn read<R: Files + Eprint + AllocGlobal>(rt: &R, file: &str) -> Result<Option<String>, Unmade> {
+    match fs::read_to_string(rt, file) {
+        Ok(text) => Ok(Some(text)),
+        Err(error) if error.kind() == io::ErrorKind::NotFound => Ok(None),
+        Err(error) => Err(unread(rt, file, &error)),
+    }
+}
+
+/// What is told in the file beside the history of that name, if there is one.
+pub(crate) fn told_beside<R: Files + Eprint + AllocGlobal>(
+    rt: &R,
+    name: &str,
+) -> Result<Option<String>, Unmade> {
+    let file = format!(in rt.alloc(); "{name}.told")?;
+    let Some(text) = read(rt, file.as_str())? else {
+        return Ok(None);
+    };
+    match check_told(rt.alloc(), text.as_str()) {
+        Ok(()) => Ok(Some(text)),
+        Err(fault) => Err(unfit(rt, file.as_str(), fault)),
+    }
+}
+
+/// The names that are told in the file beside the history of that name, if there is one.
+pub(crate) fn names_beside<R: Files + Eprint + AllocGlobal>(
+    rt: &R,
+    name: &str,
+) -> Result<Option<ToldNames>, Unmade> {
+    let file = format!(in rt.alloc(); "{name}.told")?;
+    let Some(text) = read(rt, file.as_str())? else {
+        return Ok(None);
+    };
+    match told_names(rt.alloc(), text.as_str()) {
+        Ok(names) => Ok(Some(names)),
+        Err(fault) => Err(unfit(rt, file.as_str(), fault)),
+    }
+}

@@ -1,0 +1,29 @@
+use super::begins;
+use monk_commands::Task;
+use monk_draw::{Names, TextForm, TextLayout};
+use monk_history::Device;
+use monk_page::told_names;
+use std::io;
+use std::test::Fail;
+
+/// A history whose last event is forbidden.
+const FORBIDDEN: &[u8] = b"monk 1 PB 2 1 buffer 1\nenter 0 free\nwait 0 0 entry\nenter 0 free\n";
+
+/// How a picture of text is laid out.
+const LAYOUT: TextLayout = TextLayout {
+    width: TextLayout::USUAL_WIDTH,
+    is_ascii: true,
+};
+
+pub(super) fn picture_of_three(rt: &HostRuntime) -> Result<bool, Fail> {
+    begins(rt, "text_drawn")?;
+    let told = told_names(rt.alloc(), "{\"seats\": [\"taker\"]}")?;
+    let form = TextForm {
+        layout: LAYOUT,
+        names: Names::NONE,
+    };
+    let mut reader = Device::new(FORBIDDEN);
+    let mut nowhere = Device::new(io::sink());
+    let status = Task::DrawText(None, form).stream(rt.alloc(), &mut reader, &mut nowhere)?;
+    Ok(status == 1 && told.seats.len() == 1)
+}

@@ -1,0 +1,131 @@
+//! The stream of a page of several histories: their texts in, one page out.
+
+ghost use Rattle.std.specs.Prelude.{◌≡◌, ◌≤◌, ◌^◌, false, length, IfOk, string_bytes};
+ghost use Rattle.std.specs.Io.KnownBytes.{Appends};
+ghost use Rattle.monk_history.specs.Text.Device.{inner_of, has_failed};
+ghost use Rattle.monk_page.specs.Html.{IsArticle};
+ghost use Rattle.monk_commands.specs.Paged.{IsPageOfAll, IsPart};
+ghost use Rattle.monk_commands.specs.Streams.{IsPut};
+
+use crate::answer::{LineAnswer, behind, put, too_big, unreadable};
+use crate::fault::StreamFault;
+use crate::fitting::named;
+use crate::showing::{forbidden_step, status_of};
+use monk_audit::{AuditFault, audit};
+use monk_draw::{Window, is_behind, showable};
+use monk_history::{Device, Event, Header, read};
+use monk_page::{article, page_of};
+use std::alloc::{AllocError, Global};
+use std::io::Write;
+
+/// A history as one of a page.
+#[derive(Clone, Copy)]
+pub struct Paged<'a> {
+    /// What it is called where it is refused.
+    pub name: &'a str,
+    /// Its text.
+    pub text: &'a [u8],
+    /// What its program tells, which [`monk_page::check_told`] has let through; `null` if it tells nothing.
+    pub beside: &'a str,
+}
+
+/// The answer to a history that was read: its part of the page, if its events can be shown.
+fn article_answer(
+    alloc: Global,
+    header: &Header,
+    events: &[Event],
+    window: Option<Window>,
+    beside: &str,
+) -> Result<LineAnswer, AllocError>
+    requires few { length events.now ≤ 2 ^ 25 }
+    ensures article { IfOk result
+        (λ a. a.status ≤ 1 → IsArticle header.now events.now window beside.now (string_bytes a.text)) }
+    ensures status { IfOk result (λ a. a.status ≤ 2) }
+{
+    let verdict = match audit(alloc, header, events) {
+        Ok(verdict) => verdict,
+        Err(AuditFault::Memory) => return Err(AllocError),
+        Err(AuditFault::Object) => return too_big(alloc),
+    };
+    let last = showable(forbidden_step(verdict), events.len());
+    if is_behind(window, last) {
+        return behind(alloc, last);
+    }
+    match article(alloc, header, events, window, beside) {
+        Ok(text) => Ok(LineAnswer {
+            status: status_of(verdict),
+            text,
+        }),
+        Err(AuditFault::Memory) => Err(AllocError),
+        Err(AuditFault::Object) => too_big(alloc),
+    }
+}
+
+/// The answer to the text of a history: its part of the page, or why it has none.
+fn text_answer(
+    alloc: Global,
+    history: Paged<'_>,
+    window: Option<Window>,
+) -> Result<LineAnswer, AllocError>
+    ensures article { IfOk result (λ a. a.status ≤ 1 → IsPart window history.entry (string_bytes a.text)) }
+    ensures status { IfOk result (λ a. a.status ≤ 2) }
+{
+    match read(alloc, history.text) {
+        Ok((header, events)) => article_answer(alloc, &header, &events, window, history.beside),
+        Err(fault) => unreadable(alloc, fault),
+    }
+}
+
+/// The page of the histories, or the answer to the first that has no part in it.
+fn page_answer(
+    alloc: Global,
+    histories: &[Paged<'_>],
+    window: Option<Window>,
+) -> Result<LineAnswer, AllocError>
+    ensures page { IfOk result
+        (λ a. a.status ≤ 1 → IsPageOfAll window histories.now (length histories.now) (string_bytes a.text)) }
+    ensures status { IfOk result (λ a. a.status ≤ 2) }
+{
+    let mut articles = String::new(alloc);
+    let mut status = 0;
+    for history in histories {
+        let answer = text_answer(alloc, *history, window)?;
+        if answer.status > 1 {
+            return named(alloc, history.name, answer);
+        }
+        articles.push_str(answer.text.as_str())?;
+        status = answer.status.max(status);
+    }
+    let text = page_of(alloc, articles.as_str())?;
+    Ok(LineAnswer { status, text })
+}
+
+/// Writes one page of several histories, in their order, each with what is told beside it. Of each the events of the
+/// window are shown, as [`Task::Page`](crate::Task::Page) shows them.
+///
+/// The status is 0 if all are legal, and 1 if one has an event that its kind forbids. If there is one of which
+/// [`Task::Page`](crate::Task::Page) would show nothing, its name and that answer are written in place of the page,
+/// with status 2.
+///
+/// # Errors
+///
+/// [`StreamFault::File`] where the writer failed. [`StreamFault::Memory`] where a growth was refused.
+///
+/// # Cost
+///
+/// That of each history's [`monk_page::article`], and memory for the page twice.
+pub fn pages_stream<W: Write>(
+    alloc: Global,
+    histories: &[Paged<'_>],
+    window: Option<Window>,
+    writer: &mut Device<W>,
+) -> Result<u8, StreamFault>
+    requires { has_failed writer.old ≡ false }
+    // With status 0 or 1 a page of these histories was written.
+    ensures page { IfOk result (λ status. status ≤ 1 → IsPut
+        (λ s text. IsPageOfAll window histories.now (length histories.now) text) status
+        (Appends (W.contents (inner_of writer.old)) (W.contents (inner_of writer.new)))) }
+    ensures statuses { IfOk result (λ status. status ≤ 2) }
+{
+    put(&page_answer(alloc, histories, window)?, writer)
+}

@@ -1,0 +1,113 @@
+//! Where what is drawn stands, in pixels.
+
+ghost use Rattle.std.specs.Prelude.{◌≤◌, ◌^◌};
+
+use crate::scene::{Scene, lane_of};
+use monk_history::Header;
+
+/// How far the middles of two columns are apart.
+pub(crate) const COLUMN: u64 = 76;
+/// How far the middles of two lanes are apart.
+pub(crate) const LANE: u64 = 62;
+/// The left edge of the first column.
+pub(crate) const LEFT: u64 = 84;
+/// Columns behind so many stand upon each other; a window has far fewer.
+const MOST_COLUMNS: usize = 1_000_000;
+/// The middle of the first lane.
+const FIRST_LANE: u64 = 107;
+/// The least width of a picture; its heading and its legend need as much.
+const LEAST_WIDTH: u64 = 760;
+/// The room at the right of the lanes, and again at the right of the picture.
+const MARGIN: u64 = 16;
+
+/// How large a picture is, and how many of its events are allowed.
+#[derive(Clone, Copy)]
+pub(crate) struct Layout {
+    /// How many seats there are.
+    pub(crate) seats: u8,
+    /// How many columns there are: one for each event.
+    pub(crate) columns: usize,
+    /// How many lanes there are: one for each seat, and one if the last event is of no seat.
+    pub(crate) lanes: u8,
+    /// How many of the events are allowed: all, or all but the last.
+    pub(crate) allowed: usize,
+}
+
+impl Layout {
+    pub(crate) fn of(header: &Header, scene: &Scene) -> Layout {
+        let seats = header.seats();
+        let lanes = match scene.events.last().copied() {
+            Some(event) if event.seat() >= seats => seats.saturating_add(1),
+            _ => seats,
+        };
+        Layout {
+            seats,
+            columns: scene.events.len(),
+            lanes,
+            allowed: scene.allowed(),
+        }
+    }
+
+    /// Where the lanes end, a little behind the last column.
+    pub(crate) fn end(self) -> u64
+        ensures { result ≤ 2 ^ 41 }
+    {
+        left_of(self.columns) + MARGIN
+    }
+
+    pub(crate) fn width(self) -> u64 {
+        let width = self.end() + MARGIN;
+        if width < LEAST_WIDTH {
+            LEAST_WIDTH
+        } else {
+            width
+        }
+    }
+
+    pub(crate) fn height(self) -> u64 {
+        self.base() + 70
+    }
+
+    /// The line below the last lane.
+    pub(crate) fn base(self) -> u64
+        ensures { result ≤ 2 ^ 20 }
+    {
+        lane_at(self.lanes)
+    }
+
+    /// The lane of a seat.
+    pub(crate) fn lane_of(self, seat: u8) -> u8 {
+        lane_of(seat, self.seats)
+    }
+
+    /// Whether the event in that column is forbidden.
+    pub(crate) fn is_forbidden(self, column: usize) -> bool {
+        self.allowed <= column
+    }
+}
+
+/// The left edge of a column, numbered from 0.
+pub(crate) fn left_of(column: usize) -> u64
+    ensures { result ≤ 2 ^ 40 }
+{
+    let column = if column < MOST_COLUMNS {
+        column
+    } else {
+        MOST_COLUMNS
+    };
+    LEFT + COLUMN * column as u64
+}
+
+/// The middle of a column, numbered from 0.
+pub(crate) fn column_at(column: usize) -> u64
+    ensures { result ≤ 2 ^ 41 }
+{
+    left_of(column) + COLUMN / 2
+}
+
+/// The middle of a lane, numbered from 0.
+pub(crate) fn lane_at(lane: u8) -> u64
+    ensures { result ≤ 2 ^ 20 }
+{
+    FIRST_LANE + LANE * u64::from(lane)
+}

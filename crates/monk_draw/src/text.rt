@@ -1,0 +1,66 @@
+//! A scene as lines of text: one for each seat. The layout has no contract but for the strips and the arrows: tests and
+//! the examples hold the rest.
+
+mod arrow;
+mod brush;
+mod column;
+mod fault;
+mod lane;
+mod signs;
+mod strip;
+mod words;
+
+use crate::scene::Scene;
+use crate::text_form::TextForm;
+use brush::Brush;
+use column::{columns, widths};
+use fault::put_fault;
+use lane::lanes;
+use monk_history::Header;
+use signs::Signs;
+use std::alloc::{AllocError, Global};
+use strip::strips;
+
+/// The picture of a scene as lines of text, in strips that are as wide as the form says. A strip has the numbers of its
+/// steps, and a line for each seat that comes.
+///
+/// A seat's line has what it does, and dots, dashes or double lines where it waits on a condition, in the waiter queue
+/// or in the signaller queue. An arrow leads from a release to the seat that goes on. An act with a question mark was
+/// refused. Where the last event is forbidden, `reason` says why.
+///
+/// # Errors
+///
+/// `AllocError` if a request for memory was refused.
+///
+/// # Cost
+///
+/// Time for each event and seat that is shown; memory for the picture: some 20 bytes for each of them.
+pub fn draw_text(
+    alloc: Global,
+    header: &Header,
+    scene: &Scene,
+    reason: &str,
+    form: TextForm<'_>,
+) -> Result<String, AllocError> {
+    let columns = columns(alloc, header, scene, form.names)?;
+    let lanes = lanes(alloc, header.seats(), scene, form.names)?;
+    let brush = Brush {
+        alloc,
+        scene,
+        columns: &columns,
+        lanes: &lanes,
+        seats: header.seats(),
+        signs: Signs::of(form.layout.is_ascii),
+    };
+    let mut page = String::new(alloc);
+    brush.put_heading(&mut page, header)?;
+    let room = brush.room(form.layout.width as usize);
+    for strip in strips(alloc, &widths(alloc, &columns)?, room)? {
+        brush.put_strip(&mut page, strip)?;
+        if scene.is_forbidden(strip.last.saturating_sub(1)) {
+            let at = brush.column_at(strip);
+            put_fault(&mut page, at, form.layout.width as usize, reason)?;
+        }
+    }
+    Ok(page)
+}

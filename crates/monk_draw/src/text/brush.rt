@@ -1,0 +1,210 @@
+//! The strips of a picture, line by line.
+
+use super::arrow::{Arrow, ArrowPart};
+use super::column::{Column, GAP};
+use super::lane::Lane;
+use super::signs::{Signs, put_padded, put_times};
+use super::strip::Strip;
+use crate::label::plural;
+use crate::scene::{Scene, lane_of};
+use monk_history::Header;
+use std::alloc::{AllocError, Global};
+
+/// What stands before the numbers of the steps.
+const STEPS: &str = "step";
+
+/// What draws the strips of a scene.
+#[derive(Clone, Copy)]
+pub(crate) struct Brush<'a> {
+    pub(crate) alloc: Global,
+    pub(crate) scene: &'a Scene,
+    pub(crate) columns: &'a [Column],
+    pub(crate) lanes: &'a [Lane],
+    pub(crate) seats: u8,
+    pub(crate) signs: &'static Signs,
+}
+
+/// Puts the line, without the blanks at its end.
+fn put_line(page: &mut String, line: &str) -> Result<(), AllocError> {
+    page.push_str(line.trim_end())?;
+    page.push_str("\n")
+}
+
+impl Brush<'_> {
+    /// How wide the titles of the lanes are, with a blank behind them.
+    fn margin(self) -> usize {
+        let mut widest = STEPS.len();
+        for lane in self.lanes {
+            widest = widest.max(lane.title.len());
+        }
+        widest.saturating_add(1)
+    }
+
+    /// How much room a strip of that width has for its columns.
+    pub(crate) fn room(self, width: usize) -> usize {
+        width.saturating_sub(self.margin()).saturating_sub(GAP)
+    }
+
+    /// Where the words of a strip's last event begin.
+    pub(crate) fn column_at(self, strip: Strip) -> usize {
+        let mut at = self.margin().saturating_add(GAP);
+        for index in strip.first..strip.last.saturating_sub(1) {
+            at = at.saturating_add(self.width(index)).saturating_add(GAP);
+        }
+        at
+    }
+
+    fn width(self, index: usize) -> usize {
+        match self.columns.get(index) {
+            Some(column) => column.width,
+            None => 0,
+        }
+    }
+
+    /// Puts what the picture is of: the kind, the events, and how many seats have no lane.
+    pub(crate) fn put_heading(self, page: &mut String, header: &Header) -> Result<(), AllocError> {
+        let (kind, count) = (header.kind(), self.columns.len());
+        let (kind, before) = (kind.as_str(), self.scene.before);
+        if before == 0 {
+            write!(page, "{kind}, {count} event{}", plural(count))?;
+        } else {
+            let (first, last) = (before.saturating_add(1), before.saturating_add(count));
+            write!(page, "{kind}, events {first} to {last}")?;
+        }
+        self.put_idle(page)?;
+        page.push_str("\n")
+    }
+
+    fn put_idle(self, page: &mut String) -> Result<(), AllocError> {
+        let there = self
+            .lanes
+            .iter()
+            .filter(|lane| lane.number < self.seats)
+            .count();
+        let idle = usize::from(self.seats).saturating_sub(there);
+        if idle == 0 {
+            return Ok(());
+        }
+        let what = if self.scene.before == 0 {
+            "never came"
+        } else {
+            "outside"
+        };
+        write!(page, ", {idle} seat{} {what}", plural(idle))
+    }
+
+    /// Puts a strip, with a blank line before each but the first.
+    pub(crate) fn put_strip(self, page: &mut String, strip: Strip) -> Result<(), AllocError> {
+        if strip.first > 0 {
+            page.push_str("\n")?;
+        }
+        self.put_steps(page, strip)?;
+        for lane in self.lanes {
+            self.put_lane(page, lane, strip)?;
+        }
+        Ok(())
+    }
+
+    /// Puts the numbers of the steps.
+    fn put_steps(self, page: &mut String, strip: Strip) -> Result<(), AllocError> {
+        let mut line = String::new(self.alloc);
+        put_padded(&mut line, STEPS, self.margin())?;
+        for index in strip.first..strip.last {
+            if let Some(column) = self.columns.get(index) {
+                put_times(&mut line, " ", GAP)?;
+                put_padded(&mut line, column.number.as_str(), column.width)?;
+            }
+        }
+        put_line(page, line.as_str())
+    }
+
+    /// Puts the line of a lane.
+    fn put_lane(self, page: &mut String, lane: &Lane, strip: Strip) -> Result<(), AllocError> {
+        let mut line = String::new(self.alloc);
+        put_padded(&mut line, lane.title.as_str(), self.margin())?;
+        for index in strip.first..strip.last {
+            self.put_gap(&mut line, lane.number, index)?;
+            self.put_cell(&mut line, lane.number, index)?;
+        }
+        self.put_end(&mut line, lane.number, strip.last)?;
+        put_line(page, line.as_str())
+    }
+
+    /// The lane of an event that is shown.
+    fn lane_at(self, index: usize) -> Option<u8> {
+        let event = self.scene.events.get(index)?;
+        Some(lane_of(event.seat(), self.seats))
+    }
+
+    /// The arrow that leads to an event, or out of the picture behind the last; none from a lane to itself.
+    fn arrow_to(self, index: usize) -> Option<Arrow> {
+        let before = index.checked_sub(1)?;
+        let from = self.lane_at(before)?;
+        let to = lane_of(self.scene.arrow(before)?, self.seats);
+        if from == to || self.scene.is_forbidden(before) {
+            return None;
+        }
+        Some(Arrow { from, to })
+    }
+
+    /// What fills a lane before an event.
+    fn fill(self, lane: u8, index: usize) -> &'static str {
+        self.signs.fill(self.scene.place(index, lane))
+    }
+
+    /// Puts what stands before an event, or behind the last: the part of the arrow that leads there.
+    fn put_gap(self, line: &mut String, lane: u8, index: usize) -> Result<(), AllocError> {
+        let fill = self.fill(lane, index);
+        let last = if self.lane_at(index) == Some(lane) {
+            " "
+        } else {
+            fill
+        };
+        let part = match self.arrow_to(index) {
+            Some(arrow) => arrow.part(lane),
+            None => ArrowPart::Nothing,
+        };
+        let signs = match part {
+            ArrowPart::Nothing => [fill, fill, last],
+            ArrowPart::Tail(way) => [self.signs.along, self.signs.tail(way), last],
+            ArrowPart::Head(way) => [fill, self.signs.head(way), self.signs.along],
+            ArrowPart::Through => [fill, self.signs.through, last],
+        };
+        for sign in signs {
+            line.push_str(sign)?;
+        }
+        Ok(())
+    }
+
+    /// Puts the words of an event in its lane, and how the seat waits in another.
+    fn put_cell(self, line: &mut String, lane: u8, index: usize) -> Result<(), AllocError> {
+        if self.lane_at(index) != Some(lane) {
+            return put_times(line, self.fill(lane, index), self.width(index));
+        }
+        let Some(column) = self.columns.get(index) else {
+            return Ok(());
+        };
+        line.push_str(column.words.as_str())?;
+        let rest = column.width.saturating_sub(column.words.len());
+        if rest > 0 {
+            line.push_str(" ")?;
+            put_times(line, self.fill(lane, index.saturating_add(1)), rest - 1)?;
+        }
+        Ok(())
+    }
+
+    /// Puts what stands behind the last event of a strip: the arrow that leads out of the picture, or the beginning of
+    /// one that goes on in the next strip.
+    fn put_end(self, line: &mut String, lane: u8, index: usize) -> Result<(), AllocError> {
+        if index >= self.columns.len() {
+            return self.put_gap(line, lane, index);
+        }
+        let leaves = matches!(self.arrow_to(index), Some(arrow) if arrow.from == lane);
+        let sign = if leaves {
+            self.signs.along
+        } else {
+            self.fill(lane, index)
+        };
+        put_times(line, sign, GAP)
+    }
+}

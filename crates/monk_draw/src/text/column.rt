@@ -1,0 +1,53 @@
+//! The columns of a picture of text: one for each event.
+
+use super::words::put_words;
+use crate::names::Names;
+use crate::scene::Scene;
+use monk_history::Header;
+use std::alloc::{AllocError, Global};
+
+/// How many columns of characters stand before each event: for the arrow that leads to it.
+pub(crate) const GAP: usize = 3;
+
+/// The column of an event.
+#[derive(Debug, Drop)]
+pub(crate) struct Column {
+    /// The number of its step.
+    pub(crate) number: String,
+    /// The event in words.
+    pub(crate) words: String,
+    /// How wide it is: as its words, or as that number.
+    pub(crate) width: usize,
+}
+
+/// The columns of the events that are shown.
+pub(crate) fn columns(
+    alloc: Global,
+    header: &Header,
+    scene: &Scene,
+    names: Names<'_>,
+) -> Result<Vec<Column>, AllocError> {
+    let mut columns = Vec::with_capacity(alloc, scene.events.len())?;
+    for (index, event) in scene.events.iter().enumerate() {
+        let mut words = String::new(alloc);
+        put_words(&mut words, header, names, *event)?;
+        let step = scene.step(index);
+        let number = format!(in alloc; "{step}")?;
+        let width = words.len().max(number.len());
+        columns.push(Column {
+            number,
+            words,
+            width,
+        })?;
+    }
+    Ok(columns)
+}
+
+/// How much room each column takes, with the gap before it.
+pub(crate) fn widths(alloc: Global, columns: &[Column]) -> Result<Vec<usize>, AllocError> {
+    let mut widths = Vec::with_capacity(alloc, columns.len())?;
+    for column in columns {
+        widths.push(column.width.saturating_add(GAP))?;
+    }
+    Ok(widths)
+}

@@ -1,0 +1,53 @@
+//! The lanes of a picture of text: one for each seat that comes.
+
+use crate::names::Names;
+use crate::place::SeatPlace;
+use crate::scene::{Scene, lane_of};
+use std::alloc::{AllocError, Global};
+
+/// The lane of a seat.
+#[derive(Debug, Drop)]
+pub(crate) struct Lane {
+    /// The seat's number; that of the seats that aren't there is how many there are.
+    pub(crate) number: u8,
+    /// What the seat is called.
+    pub(crate) title: String,
+}
+
+/// Whether the seat does something in the scene, or is inside from the beginning.
+fn comes(scene: &Scene, seats: u8, lane: u8) -> bool {
+    scene.place(0, lane) != SeatPlace::Outside
+        || scene
+            .events
+            .iter()
+            .any(|event| lane_of(event.seat(), seats) == lane)
+}
+
+fn title(alloc: Global, seats: u8, names: Names<'_>, lane: u8) -> Result<String, AllocError> {
+    let mut title = String::new(alloc);
+    match names.seats.get(usize::from(lane)) {
+        _ if lane >= seats => title.push_str("no seat")?,
+        Some(name) => title.push_str(name)?,
+        None => write!(title, "seat {lane}")?,
+    }
+    Ok(title)
+}
+
+/// The lanes of the seats that come, by their numbers.
+pub(crate) fn lanes(
+    alloc: Global,
+    seats: u8,
+    scene: &Scene,
+    names: Names<'_>,
+) -> Result<Vec<Lane>, AllocError> {
+    let mut lanes = Vec::new(alloc);
+    for number in 0..=seats {
+        if comes(scene, seats, number) {
+            lanes.push(Lane {
+                number,
+                title: title(alloc, seats, names, number)?,
+            })?;
+        }
+    }
+    Ok(lanes)
+}

@@ -1,0 +1,90 @@
+//! What the lines of a picture are made of.
+
+use super::arrow::Way;
+use crate::place::SeatPlace;
+use std::alloc::AllocError;
+
+/// The signs of a picture, each one column wide.
+#[derive(Clone, Copy)]
+pub(crate) struct Signs {
+    condition: &'static str,
+    waiter: &'static str,
+    signaller: &'static str,
+    /// The way of an arrow along a lane, and across one.
+    pub(crate) along: &'static str,
+    pub(crate) through: &'static str,
+    tail_down: &'static str,
+    tail_up: &'static str,
+    head_down: &'static str,
+    head_up: &'static str,
+}
+
+static UNICODE: Signs = Signs {
+    condition: "∙",
+    waiter: "╌",
+    signaller: "═",
+    along: "─",
+    through: "│",
+    tail_down: "┐",
+    tail_up: "┘",
+    head_down: "└",
+    head_up: "┌",
+};
+
+static ASCII: Signs = Signs {
+    condition: ".",
+    waiter: "~",
+    signaller: "=",
+    along: "-",
+    through: "|",
+    tail_down: "+",
+    tail_up: "+",
+    head_down: "+",
+    head_up: "+",
+};
+
+impl Signs {
+    pub(crate) fn of(is_ascii: bool) -> &'static Signs {
+        if is_ascii { &ASCII } else { &UNICODE }
+    }
+
+    /// What fills the line of a seat that is there.
+    pub(crate) fn fill(&self, place: SeatPlace) -> &'static str {
+        match place {
+            SeatPlace::Outside | SeatPlace::Active => " ",
+            SeatPlace::Condition(_) | SeatPlace::Until(_) => self.condition,
+            SeatPlace::Waiter => self.waiter,
+            SeatPlace::Signaller => self.signaller,
+        }
+    }
+
+    /// The corner at which an arrow leaves its first lane.
+    pub(crate) fn tail(&self, way: Way) -> &'static str {
+        match way {
+            Way::Down => self.tail_down,
+            Way::Up => self.tail_up,
+        }
+    }
+
+    /// The corner at which it reaches its last lane.
+    pub(crate) fn head(&self, way: Way) -> &'static str {
+        match way {
+            Way::Down => self.head_down,
+            Way::Up => self.head_up,
+        }
+    }
+}
+
+/// Puts the sign that often.
+pub(crate) fn put_times(line: &mut String, sign: &str, times: usize) -> Result<(), AllocError> {
+    for _ in 0..times {
+        line.push_str(sign)?;
+    }
+    Ok(())
+}
+
+/// Puts a text of ASCII, and blanks up to that width.
+pub(crate) fn put_padded(line: &mut String, text: &str, width: usize) -> Result<(), AllocError> {
+    line.push_str(text)?;
+    put_times(line, " ", width.saturating_sub(text.len()))
+}

@@ -1,0 +1,23 @@
+-- The names in a list of JSON values
+use Rattle.std.proofs.Common.{◌≡◌, ◌∙◌, ap, List, [], ◌∷◌, ℕ, Option, Some, map, refl, sym}
+use Rattle.std.specs.Prelude.{unwrap_or}
+use Rattle.serde_json.specs.Data.{Items, no_items}
+use Rattle.serde_json.specs.Find.{as_str}
+use Rattle.serde_json.specs.View.{items_view, view}
+use Rattle.serde_json.specs.declared.value.Value.{Value}
+use Rattle.monk_page.specs.Told.{texts_of}
+
+-- what a value has for a name
+abbrev pub text_in : Value → List ℕ
+text_in v = unwrap_or (as_str (view v)) []
+
+-- the texts of a list are those of its values
+pub texts_viewed : (vs : List Value) → texts_of (items_view vs) ≡ map text_in vs
+texts_viewed [] = refl
+texts_viewed (v ∷ vs) = ap (λ rest. text_in v ∷ rest) (texts_viewed vs)
+
+-- the names in a list that is there
+pub names_there : (vs : List Value) (found : Option Items) → Some (items_view vs) ≡ found
+    → map text_in vs ≡ texts_of (unwrap_or found no_items)
+names_there vs found is =
+    sym (texts_viewed vs) ∙ ap (λ (o : Option Items). texts_of (unwrap_or o no_items)) is

@@ -1,0 +1,21 @@
+use Rattle.std.proofs.Common.{◌≡◌, ◌++◌, map, drop}
+use Rattle.std.specs.List.{flat_map}
+use Rattle.monk_draw.specs.Scene.{row_of}
+use Rattle.monk_judge.specs.Followed.{followed}
+use Rattle.monk_judge.specs.Run.{IsRun}
+use Rattle.monk_judge.specs.Shown.{setting_of, state_of}
+use Rattle.monk_page.specs.LogScene.{rows, rows_behind}
+use Rattle.monk_page.proofs.log_scene.rows.Given as goal
+
+-- the rows so far and those of what is left, which is a run, are those of all steps
+abbrev pub invariant-loop-step : goal.invariant-loop-step
+invariant-loop-step g l =
+    let o = g.T.Guarded.meaning in
+    let m = setting_of l.fn.judge o in
+    let left = drop l.step-index l.steps in
+    record {
+      setting : setting_of l.judge o ≡ m;
+      run : IsRun m (state_of l.judge) left;
+      rows : map row_of l.rows.items ++ flat_map (rows_behind m.seats) (followed m (state_of l.judge) left)
+          ≡ rows m (state_of l.fn.judge) l.steps;
+    }

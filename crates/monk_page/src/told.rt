@@ -1,0 +1,275 @@
+//! What may be told beside a history, and where a text of it is at fault.
+
+ghost use Rattle.std.specs.Prelude.{◌≡◌, IfOk, OnOk, Some, map, option_and_then, option_map, string_bytes};
+ghost use Rattle.serde_json.specs.Data.{Data};
+ghost use Rattle.serde_json.specs.Read.{read};
+ghost use Rattle.serde_json.specs.View.{items_view, view};
+ghost use Rattle.serde_json.specs.Find.{as_array, get};
+ghost use Rattle.monk_page.specs.Told.{AreNames, names_in};
+
+use serde_json::Value;
+use std::alloc::{AllocError, AllocFailed, Global};
+
+/// How long the name of a seat or of a condition may be.
+const LONGEST_NAME: u8 = 16;
+
+/// What is wrong with a text of what is told, and where.
+#[derive(Clone, Copy, Debug, PartialEq, Eq)]
+pub enum ToldFault {
+    /// A request for memory was refused.
+    Memory,
+    /// It isn't as [`check_told`] says: the line and the column, which count from 1.
+    At(usize, usize, ToldWrong),
+}
+
+impl From<AllocError> for ToldFault {
+    fn from(_refused: AllocError) -> ToldFault {
+        ToldFault::Memory
+    }
+}
+
+impl<T: Drop> From<AllocFailed<T>> for ToldFault {
+    fn from(_refused: AllocFailed<T>) -> ToldFault {
+        ToldFault::Memory
+    }
+}
+
+/// The names that are told beside a history: that of number 0 first.
+#[derive(Debug, Drop)]
+pub struct ToldNames {
+    /// Those of the seats.
+    pub seats: Vec<String>,
+    /// Those of the conditions.
+    pub conditions: Vec<String>,
+}
+
+/// What is wrong there.
+#[derive(Clone, Copy, Debug, PartialEq, Eq)]
+pub enum ToldWrong {
+    /// It isn't JSON.
+    Json,
+    /// The text isn't one object.
+    Object,
+    /// The object has a member of another name.
+    Member,
+    /// A list must stand there.
+    List,
+    /// A text must stand there.
+    Text,
+    /// A name is empty, or longer than 16, or has something else than letters, digits, spaces, `_` and `-`.
+    Name,
+    /// A `<` stands there, which a page can't hold.
+    Less,
+}
+
+impl ToldWrong {
+    /// What must be there in its place.
+    pub fn sentence(self) -> &'static str {
+        match self {
+            ToldWrong::Json => "this isn't JSON",
+            ToldWrong::Object => "an object must stand here",
+            ToldWrong::Member => "the members are seats, conditions, data and end",
+            ToldWrong::List => "a list of texts must stand here",
+            ToldWrong::Text => "a text must stand here",
+            ToldWrong::Name => "a name has 1 to 16 letters, digits, spaces, _ and -",
+            ToldWrong::Less => "< must be written as \\u003c",
+        }
+    }
+}
+
+/// A member of what is told.
+#[derive(Clone, Copy)]
+enum Member {
+    /// Names of seats or of conditions.
+    Names,
+    /// The data of the program, in words.
+    Data,
+    /// How the run ended.
+    End,
+}
+
+fn member_of(key: Option<&[u8]>) -> Option<Member> {
+    match key {
+        Some(b"seats" | b"conditions") => Some(Member::Names),
+        Some(b"data") => Some(Member::Data),
+        Some(b"end") => Some(Member::End),
+        _ => None,
+    }
+}
+
+/// Where a reader of JSON stands that is told so.
+#[derive(Clone, Copy)]
+enum At {
+    /// Before the object.
+    Start,
+    /// In the object, before a member or its end.
+    Members,
+    /// In the name of a member.
+    Key,
+    /// Before the value of a member.
+    Value(Member),
+    /// In the list of a member.
+    List(Member),
+    /// In a text of a member, behind so many bytes.
+    Text(Member, u8),
+    /// Behind a `\` in such a text.
+    Escape(Member),
+    /// Behind the object.
+    Behind,
+}
+
+fn is_blank(byte: u8) -> bool {
+    matches!(byte, b' ' | b'\t' | b'\n' | b'\r')
+}
+
+fn is_of_name(byte: u8) -> bool {
+    byte.is_ascii_alphanumeric() || matches!(byte, b' ' | b'_' | b'-')
+}
+
+/// In a text, behind the byte.
+fn in_text(member: Member, length: u8, byte: u8) -> Result<At, ToldWrong> {
+    match (member, byte) {
+        (Member::Names, b'"') if length == 0 => Err(ToldWrong::Name),
+        (Member::End, b'"') => Ok(At::Members),
+        (_, b'"') => Ok(At::List(member)),
+        (Member::Names, _) if length >= LONGEST_NAME || !is_of_name(byte) => Err(ToldWrong::Name),
+        (Member::Names, _) => Ok(At::Text(member, length.saturating_add(1))),
+        (_, b'\\') => Ok(At::Escape(member)),
+        _ => Ok(At::Text(member, 0)),
+    }
+}
+
+/// Before a value, behind the byte.
+fn before_value(member: Member, byte: u8) -> Result<At, ToldWrong> {
+    match (member, byte) {
+        (_, b':') => Ok(At::Value(member)),
+        (Member::End, b'"') => Ok(At::Text(member, 0)),
+        (Member::End, _) => Err(ToldWrong::Text),
+        (_, b'[') => Ok(At::List(member)),
+        _ => Err(ToldWrong::List),
+    }
+}
+
+/// In an object or a list, behind the byte, of which JSON allows few there.
+fn in_brackets(at: At, byte: u8) -> Result<At, ToldWrong> {
+    match (at, byte) {
+        (At::Start, b'{') => Ok(At::Members),
+        (At::Start, _) => Err(ToldWrong::Object),
+        (At::Members, b'"') => Ok(At::Key),
+        (At::Members, b'}') => Ok(At::Behind),
+        (At::List(member), b'"') => Ok(At::Text(member, 0)),
+        (At::List(_), b']') => Ok(At::Members),
+        (At::List(_), b',') => Ok(at),
+        (At::List(_), _) => Err(ToldWrong::Text),
+        _ => Ok(at),
+    }
+}
+
+/// Behind the byte, which ends the name of a member if that is the key.
+fn behind(at: At, byte: u8, key: Option<&[u8]>) -> Result<At, ToldWrong> {
+    match at {
+        _ if byte == b'<' => Err(ToldWrong::Less),
+        At::Text(member, length) => in_text(member, length, byte),
+        At::Escape(member) => Ok(At::Text(member, 0)),
+        At::Key if byte == b'"' => match member_of(key) {
+            Some(member) => Ok(At::Value(member)),
+            None => Err(ToldWrong::Member),
+        },
+        At::Key => Ok(at),
+        _ if is_blank(byte) => Ok(at),
+        At::Value(member) => before_value(member, byte),
+        _ => in_brackets(at, byte),
+    }
+}
+
+/// Where a text that is JSON isn't as it must be.
+fn misshapen(text: &[u8]) -> Option<ToldFault> {
+    let mut at = At::Start;
+    let (mut line, mut column, mut key) = (1usize, 0usize, 0usize);
+    for (index, byte) in text.iter().enumerate() {
+        column = column.saturating_add(1);
+        if let (At::Members, b'"') = (at, *byte) {
+            key = index.saturating_add(1);
+        }
+        at = match behind(at, *byte, text.get(key..index)) {
+            Ok(at) => at,
+            Err(wrong) => return Some(ToldFault::At(line, column, wrong)),
+        };
+        if *byte == b'\n' {
+            line = line.saturating_add(1);
+            column = 0;
+        }
+    }
+    None
+}
+
+/// Whether a text can stand beside a history on a page. It is a JSON object whose members are, if they are there,
+/// `seats` and `conditions`, lists of names; `data`, a list of texts, the program's data before the first event and
+/// after each; and `end`, a text that says how the run ended. A name has 1 to 16 letters, digits, spaces, `_` and `-`.
+/// A `<` stands nowhere, so that no script ends there: JSON has `\u003c` for it.
+///
+/// # Errors
+///
+/// What is wrong first: it isn't JSON, or else it isn't such an object.
+pub fn check_told(alloc: Global, text: &str) -> Result<(), ToldFault>
+    // It is JSON.
+    ensures { OnOk result ((d : Data) × (read text.now ≡ Some d)) }
+{
+    told_value(alloc, text)?;
+    Ok(())
+}
+
+/// The names of seats and conditions in a text that can stand beside a history.
+///
+/// # Errors
+///
+/// Those of [`check_told`].
+pub fn told_names(alloc: Global, text: &str) -> Result<ToldNames, ToldFault>
+    ensures { IfOk result (AreNames text.now) }
+{
+    let told = told_value(alloc, text)?;
+    Ok(ToldNames {
+        seats: names_at(alloc, &told, "seats")?,
+        conditions: names_at(alloc, &told, "conditions")?,
+    })
+}
+
+/// The list that is the member of that name.
+fn list_at<'a>(told: &'a Value, member: &str) -> Option<&'a Vec<Value>>
+    ensures { option_map (λ list. items_view list.now.items) result
+        ≡ option_and_then as_array (get member.now (view told.now)) }
+{
+    told.get(member)?.as_array()
+}
+
+/// The names in the list of that member, none if there is no such member.
+fn names_at(alloc: Global, told: &Value, member: &str) -> Result<Vec<String>, AllocError>
+    ensures { IfOk result (λ names. map string_bytes names.items ≡ names_in member.now (view told.now)) }
+{
+    let mut names = Vec::new(alloc);
+    let Some(list) = list_at(told, member) else {
+        return Ok(names);
+    };
+    for name in list {
+        names.push(String::from_str(alloc, name.as_str().unwrap_or(""))?)?;
+    }
+    Ok(names)
+}
+
+/// The text as JSON, if it can stand beside a history.
+fn told_value(alloc: Global, text: &str) -> Result<Value, ToldFault>
+    ensures { IfOk result (λ told. read text.now ≡ Some (view told)) }
+{
+    match Value::from_str(alloc, text) {
+        Ok(told) => match misshapen(text.as_bytes()) {
+            Some(fault) => Err(fault),
+            None => Ok(told),
+        },
+        Err(error) if error.is_memory() => Err(ToldFault::Memory),
+        Err(error) => Err(ToldFault::At(
+            error.line().max(1),
+            error.column().max(1),
+            ToldWrong::Json,
+        )),
+    }
+}

@@ -1,0 +1,30 @@
+use Rattle.std.proofs.Common.{◌∙◌, ap, min, sym}
+use Rattle.monk_kinds.specs.Names.{rules_named}
+use Rattle.monk_object.specs.Names.{meaning_named}
+use Rattle.monk_history.specs.Meaning.Monitor.{monitor}
+use Rattle.monk_history.specs.Meaning.Named.{named_monitor}
+use Rattle.monk_history.specs.Meaning.Step.{opening_situation}
+use Rattle.monk_history.proofs.PublicLaws.Meaning.{situation-none}
+use Rattle.monk_tell.specs.Steps.{steps_of}
+use Rattle.monk_tell.specs.Told.{allowed_events}
+use Rattle.monk_tell.proofs.told.tell_over.Goals as goal
+
+pub follow-requires-clause-begins : goal.follow-requires-clause-begins
+follow-requires-clause-begins g c κs within =
+    let h = c.args.history.header.now in
+    record {
+      stands = c.in_ok-replay.ensures.stands (rules_named h.kind) (meaning_named h.object)
+          (g.T.Guarded.state c.args.object)
+          ∙ (λ i. opening_situation (monitor (rules_named h.kind) (c.seats.ensures i) (c.conds.ensures i)
+          (meaning_named h.object) (c.requires.opening i)))
+          ∙ sym (situation-none (named_monitor h));
+      sound = rw (sym c.seats.ensures, sym c.conds.ensures) (c.in_ok-replay.ensures.sound g.T.Guarded.PREDICATES);
+    }
+
+pub returns-clause-steps : goal.returns-clause-steps
+returns-clause-steps g c =
+    let h = c.args.history.header.now in
+    let es = c.args.history.events.now in
+    c.in_ok-steps.ensures.told
+    ∙ ap (steps_of (named_monitor h) es c.args.before)
+    (c.min-end.ensures ∙ ap (min c.args.last) (c.allowed_events-allowed.ensures ∙ ap allowed_events c.requires.judged))
