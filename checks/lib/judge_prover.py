@@ -1,5 +1,5 @@
-"""Wrong bodies that the prover must refuse: checks/wrong_bodies [--look | --compile | --after-ci] [--slowest]
-[CRATE | CRATE/BODY ..]
+"""Wrong bodies that the prover must refuse: checks/wrong_bodies [--look | --compile | --after-ci] [--changed]
+[--slowest] [CRATE | CRATE/BODY ..]
 
 Each crates/NAME/wrong-bodies/*.edit has one, in the form of the kit's must-fail edits, which are tried one by one.
 These are tried together: wrong bodies of different functions of a crate stand side by side in one copy, and one check
@@ -18,7 +18,8 @@ don't decide is tried alone, as the kit does it.
 
 --look tries none, and says which can't be put in. --compile says what the compiler refuses of them, and of those in
 must-fail/. --after-ci takes the libraries that `rt ci` has just built, where a clean clone has no others; else those of
-`rt check` are taken. --slowest says before the last line how long the bodies took that took longest; of bodies that
+`rt check` are taken. --changed leaves out each crate that checks/refused notes: all its wrong bodies were refused, and
+neither it nor a crate below has changed since. A run that refuses all of a crate notes it there. --slowest says before the last line how long the bodies took that took longest; of bodies that
 stand in one copy each. The last line is 'N passed, M failed'."""
 from __future__ import annotations
 
@@ -35,6 +36,7 @@ from typing import Any, Dict, List, Optional, Set, Tuple
 
 import edits
 import kit
+import noted
 import pieces
 from again import put_again
 from compiling import not_compiled
@@ -65,7 +67,7 @@ pub {name}_spec : {{M : Type 1}} → statement M
 TOOK: Dict[Tuple[str, str], float] = {}
 # How many of them --slowest names.
 SLOWEST = 30
-FLAGS = {"--look", "--compile", "--after-ci", "--slowest"}
+FLAGS = {"--look", "--compile", "--after-ci", "--changed", "--slowest"}
 Texts = Dict[str, str]
 
 
@@ -290,7 +292,8 @@ class Asked:
         self.names = [it for it in words if not it.startswith("--")]
         chosen = {name.partition("/")[0] for name in self.names}
         crates = [it for it in rt.rtlib.crates_below(TOP) if os.path.isdir(f"{it.folder}/wrong-bodies")]
-        self.crates = [it for it in crates if not chosen or it.name in chosen]
+        crates = [it for it in crates if not chosen or it.name in chosen]
+        self.crates = [it for it in crates if "--changed" not in self.flags or not noted.is_noted(it)]
         self.files = {it.name: self.files_of(it) for it in self.crates}
 
     def includes(self, crate: str, file: str) -> bool:
@@ -331,7 +334,11 @@ def main(words: List[str]) -> int:
         print(__doc__)
         return 2
     functions = {it.name: functions_of(it, it.folder) for it in asked.crates}
+    sums = {it.name: noted.sum_of(it) for it in asked.crates if not asked.names or it.name in asked.names}
     found = {it.name: [Edit(functions[it.name], it, file) for file in asked.files[it.name]] for it in asked.crates}
+    if not asked.crates:
+        say("no crate with wrong bodies has changed since all of them were refused")
+        return 0
     if "--look" in asked.flags:
         return told(f"{it.file}: {it.why}" for all_ in found.values() for it in all_ if it.why)
     unproved = first_unproved(asked)
@@ -343,6 +350,7 @@ def main(words: List[str]) -> int:
     if "--slowest" in asked.flags:
         for (crate, name), seconds in sorted(TOOK.items(), key=lambda it: -it[1])[:SLOWEST]:
             say(f"{seconds:5.1f} s {crate}/{name}")
+    noted.note({name: it for name, it in sums.items() if name not in {of.partition("/")[0] for of in failed}})
     if failed:
         say(f"FAILED: {' '.join(failed)}")
     print(f"{sum(map(len, found.values())) - len(failed)} passed, {len(failed)} failed")
