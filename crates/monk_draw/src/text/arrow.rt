@@ -1,24 +1,19 @@
 //! An arrow from a release to the seat that goes on, lane by lane.
 
 ghost use Rattle.std.specs.Prelude.{◌≡◌};
-ghost use Rattle.monk_draw.specs.Arrow.{is_between, part_at, way_of};
-
-/// Where an arrow leads.
-#[derive(Clone, Copy, Debug, PartialEq, Eq)]
-pub(crate) enum Way {
-    Down,
-    Up,
-}
+ghost use Rattle.monk_draw.specs.Arrow.{is_between, part_at};
 
 /// What a lane has of an arrow.
 #[derive(Clone, Copy, Debug, PartialEq, Eq)]
 pub(crate) enum ArrowPart {
     /// Nothing: the arrow doesn't come there.
     Nothing,
-    /// The arrow begins there.
-    Tail(Way),
-    /// The arrow ends there.
-    Head(Way),
+    /// The arrow begins there, and leads down or up.
+    TailDown,
+    TailUp,
+    /// The arrow ends there, and has led down or up.
+    HeadDown,
+    HeadUp,
     /// The arrow crosses the lane.
     Through,
 }
@@ -31,16 +26,6 @@ pub(crate) struct Arrow {
 }
 
 impl Arrow {
-    fn way(self) -> Way
-        ensures { result ≡ way_of self.from self.to }
-    {
-        if self.from < self.to {
-            Way::Down
-        } else {
-            Way::Up
-        }
-    }
-
     /// Whether it crosses the lane.
     fn crosses(self, lane: u8) -> bool
         ensures { result ≡ is_between self.from self.to lane }
@@ -57,10 +42,19 @@ impl Arrow {
     pub(crate) fn part(self, lane: u8) -> ArrowPart
         ensures { result ≡ part_at self.from self.to lane }
     {
+        let is_down = self.from < self.to;
         if lane == self.from {
-            ArrowPart::Tail(self.way())
+            if is_down {
+                ArrowPart::TailDown
+            } else {
+                ArrowPart::TailUp
+            }
         } else if lane == self.to {
-            ArrowPart::Head(self.way())
+            if is_down {
+                ArrowPart::HeadDown
+            } else {
+                ArrowPart::HeadUp
+            }
         } else if self.crosses(lane) {
             ArrowPart::Through
         } else {

@@ -166,8 +166,10 @@ impl Brush<'_> {
         };
         let signs = match part {
             ArrowPart::Nothing => [fill, fill, last],
-            ArrowPart::Tail(way) => [self.signs.along, self.signs.tail(way), last],
-            ArrowPart::Head(way) => [fill, self.signs.head(way), self.signs.along],
+            ArrowPart::TailDown => [self.signs.along, self.signs.tail_down, last],
+            ArrowPart::TailUp => [self.signs.along, self.signs.tail_up, last],
+            ArrowPart::HeadDown => [fill, self.signs.head_down, self.signs.along],
+            ArrowPart::HeadUp => [fill, self.signs.head_up, self.signs.along],
             ArrowPart::Through => [fill, self.signs.through, last],
         };
         for sign in signs {

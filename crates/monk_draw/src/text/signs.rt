@@ -1,6 +1,5 @@
 //! What the lines of a picture are made of.
 
-use super::arrow::Way;
 use crate::place::SeatPlace;
 use std::alloc::AllocError;
 
@@ -13,10 +12,12 @@ pub(crate) struct Signs {
     /// The way of an arrow along a lane, and across one.
     pub(crate) along: &'static str,
     pub(crate) through: &'static str,
-    tail_down: &'static str,
-    tail_up: &'static str,
-    head_down: &'static str,
-    head_up: &'static str,
+    /// The corners at which one that leads down or up leaves its first lane.
+    pub(crate) tail_down: &'static str,
+    pub(crate) tail_up: &'static str,
+    /// The corners at which it reaches its last lane.
+    pub(crate) head_down: &'static str,
+    pub(crate) head_up: &'static str,
 }
 
 static UNICODE: Signs = Signs {
@@ -55,22 +56,6 @@ impl Signs {
             SeatPlace::Condition(_) | SeatPlace::Until(_) => self.condition,
             SeatPlace::Waiter => self.waiter,
             SeatPlace::Signaller => self.signaller,
-        }
-    }
-
-    /// The corner at which an arrow leaves its first lane.
-    pub(crate) fn tail(&self, way: Way) -> &'static str {
-        match way {
-            Way::Down => self.tail_down,
-            Way::Up => self.tail_up,
-        }
-    }
-
-    /// The corner at which it reaches its last lane.
-    pub(crate) fn head(&self, way: Way) -> &'static str {
-        match way {
-            Way::Down => self.head_down,
-            Way::Up => self.head_up,
         }
     }
 }
