@@ -12,12 +12,10 @@ pub(crate) struct Signs {
     /// The way of an arrow along a lane, and across one.
     pub(crate) along: &'static str,
     pub(crate) through: &'static str,
-    /// The corners at which one that leads down or up leaves its first lane.
-    pub(crate) tail_down: &'static str,
-    pub(crate) tail_up: &'static str,
-    /// The corners at which it reaches its last lane.
-    pub(crate) head_down: &'static str,
-    pub(crate) head_up: &'static str,
+    tail_down: &'static str,
+    tail_up: &'static str,
+    head_down: &'static str,
+    head_up: &'static str,
 }
 
 static UNICODE: Signs = Signs {
@@ -56,6 +54,15 @@ impl Signs {
             SeatPlace::Condition(_) | SeatPlace::Until(_) => self.condition,
             SeatPlace::Waiter => self.waiter,
             SeatPlace::Signaller => self.signaller,
+        }
+    }
+
+    /// The corners at which an arrow that leads down, or else up, leaves its first lane, and reaches its last.
+    pub(crate) fn corners(&self, is_down: bool) -> (&'static str, &'static str) {
+        if is_down {
+            (self.tail_down, self.head_down)
+        } else {
+            (self.tail_up, self.head_up)
         }
     }
 }
