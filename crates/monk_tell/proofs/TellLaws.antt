@@ -57,9 +57,11 @@ pub judged_fault : (h : Heading) (es : List Event) (v : Verdict) (step reason : 
 judged_fault h es v step reason is forbids =
     subst (IsVerdict (named_monitor h) es) (sym is ∙ forbids) (is_verdict (named_monitor h) es)
 
-pub fault_there : (m : Monitor) (es : List Event) (step reason : ℕ) → IsFirstFault m es step reason
-    → (1 ≤ step) × (step - 1 < length es)
-fault_there m es step reason f =
+-- where that fault is
+pub fault_there : (h : Heading) (es : List Event) (v : Verdict) (step reason : ℕ) → v ≡ verdict_of (named_monitor h) es
+    → v ≡ Forbidden step reason → (1 ≤ step) × (step - 1 < length es)
+fault_there h es v step reason is forbids =
+    let f = judged_fault h es v step reason is forbids in
     let there : f.before < length es = slice_get_within es f.before f.fault f.is_there in
     (omega (arith, f.is_step), omega (arith, f.is_step, there))
 

@@ -1,12 +1,11 @@
 //! One step of a history.
 
-ghost use Rattle.std.specs.Prelude.{◌≡◌, ◌<◌, ◌+◌, [], true, All, IfOk, OnOk, option_map};
+ghost use Rattle.std.specs.Prelude.{◌≡◌, ◌<◌, ◌+◌, true, All, IfOk, OnOk, option_map};
 ghost use Rattle.monk_object.specs.Names.{meaning_named};
-ghost use Rattle.monk_history.specs.Meaning.Monitor.{monitor};
 ghost use Rattle.monk_history.specs.Meaning.Named.{named_monitor};
 ghost use Rattle.monk_history.specs.Meaning.Reasons.{fits_object};
 ghost use Rattle.monk_audit.specs.Replay.{replay_situation};
-ghost use Rattle.monk_tell.specs.Steps.{IsAfter, event_step, opening_step, release_choice, step_of};
+ghost use Rattle.monk_tell.specs.Steps.{IsAfter, event_step, release_choice, step_of};
 ghost use Rattle.monk_tell.specs.Told.{IsJudged, allowed_events, choice_of};
 
 use crate::choice::Choice;
@@ -32,26 +31,6 @@ pub struct Step {
 }
 
 impl Step {
-    /// A situation to which no event led.
-    pub(crate) fn opening<T: Listed>(
-        alloc: Global,
-        header: &Header,
-        rules: Rules,
-        replay: &Replay,
-        object: &T,
-    ) -> Result<Step, AllocError>
-        requires { All (λ w. w.1 < T.PREDICATES) (replay_situation replay.now (T.state object.now)).untils }
-        ensures { IfOk result
-            (λ s. step_of s ≡ opening_step (monitor rules header.now.seats header.now.conds T.meaning [])
-            (replay_situation replay.now (T.state object.now))) }
-    {
-        Ok(Step {
-            event: None,
-            choice: None,
-            standing: Standing::of(alloc, header, rules.mode, replay, object)?,
-        })
-    }
-
     /// That of the event behind so many, which is allowed: replay and object carry it out.
     pub(crate) fn behind<T: Listed>(
         alloc: Global,

@@ -7,6 +7,7 @@ ghost use Rattle.monk_tell.specs.Steps.{IsAfter, step_of, steps_of};
 ghost use Rattle.monk_tell.specs.Told.{IsJudged, allowed_events};
 
 use crate::judged::JudgedHistory;
+use crate::standing::Standing;
 use crate::step::{Step, carry_out};
 use monk_audit::{Replay, rules_by_name};
 use monk_object::{Guarded, Listed};
@@ -60,7 +61,11 @@ pub(crate) fn steps_from<T: Listed>(
         return Ok(steps);
     }
     let rules = rules_by_name(history.header.kind());
-    steps.push(Step::opening(alloc, history.header, rules, &*replay, &*object)?)?;
+    steps.push(Step {
+        event: None,
+        choice: None,
+        standing: Standing::of(alloc, history.header, rules.mode, &*replay, &*object)?,
+    })?;
     for index in 0..end - before {
         let step = Step::behind(alloc, history, replay, object, before + index)?;
         steps.push(step)?;
