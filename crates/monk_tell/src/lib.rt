@@ -2,7 +2,6 @@
 #![tactic(auto)]
 
 mod choice;
-mod firsts;
 mod forbidden;
 mod judged;
 mod judging;

@@ -8,7 +8,7 @@ ghost use Rattle.monk_tell.specs.Cause.{behind_first, call_beyond, early_cause, 
 ghost use Rattle.monk_tell.specs.Cause.{may_not_continue, may_not_recall, may_not_stay, may_not_wake, no_entry};
 ghost use Rattle.monk_tell.specs.Cause.{number_beyond, other_choice, other_reply, other_turn, out_of_turn};
 
-use crate::firsts::Firsts;
+use crate::lines::Firsts;
 use crate::waiting::waits_at;
 use crate::why::{OutOfPlace, OutOfRange, OutOfTurn, Precedence, Staying, Why};
 use monk_audit::{Reason, Replay};
