@@ -1,2 +1,1 @@
 mod PlaceLaws
-mod StripLaws

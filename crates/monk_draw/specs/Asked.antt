@@ -1,6 +1,5 @@
 -- Which numbers ask for events of a history, which count from 1
-use Rattle.std.specs.Prelude.{ℕ, ◌+◌, ◌-◌, ◌==◌, Option, Some, None, List, ◌++◌, nat_lt, if◌then◌else◌, codes}
-use Rattle.std.specs.Fmt.{decimal}
+use Rattle.std.specs.Prelude.{ℕ, ◌+◌, ◌-◌, ◌==◌, Option, Some, None, nat_lt, if◌then◌else◌}
 use Rattle.monk_draw.specs.declared.window_fault.WindowFault.{WindowFault}
 use Rattle.monk_draw.specs.declared.window_fault.WindowFault.TheVariants.{Zero, Backward, Wide}
 
@@ -24,11 +23,3 @@ window_fault from to =
     else if nat_lt to from then Some (Backward from to)
     else if nat_lt to (from + most_asked) then None
     else Some (Wide from to)
-
--- what is said of it
-abbrev pub fault_text : WindowFault → List ℕ
-fault_text Zero = codes "0 is no event: they count from 1"
-fault_text (Backward from to) =
-    codes "from " ++ (decimal from ++ (codes " to " ++ (decimal to ++ codes ": the first is above the last")))
-fault_text (Wide from to) =
-    codes "from " ++ (decimal from ++ (codes " to " ++ (decimal to ++ codes ": more than 2000 events")))

@@ -2,5 +2,3 @@ pub mod Asked
 pub mod Window
 pub mod Place
 pub mod Scene
-pub mod Arrow
-pub mod Strips

@@ -38,9 +38,13 @@ abbrev pub in_inner : List ℕ → List ℕ → ℕ → SeatPlace
 in_inner waiters signallers s =
     if has s waiters then Waiter else if has s signallers then Signaller else Outside
 
+-- of those who wait on the first so many conditions, or are in the others
+abbrev pub in_first : List (List ℕ) → ℕ → ℕ → SeatPlace → SeatPlace
+in_first queues conds s inner = option_map_or (λ c. Condition c) (waits_at (queue_of queues) conds s) inner
+
 -- of those who wait on conditions, or are in the others
 abbrev pub in_conditions : List (List ℕ) → ℕ → SeatPlace → SeatPlace
-in_conditions queues s inner = option_map_or (λ c. Condition c) (waits_at (queue_of queues) (length queues) s) inner
+in_conditions queues s inner = in_first queues (length queues) s inner
 
 -- the same of all queues of a kind that has conditions
 abbrev pub in_conditional : ShownConditions → ℕ → SeatPlace

@@ -1,5 +1,5 @@
 -- Which events of a history are shown
-use Rattle.std.specs.Prelude.{ℕ, ◌-◌, Bool, false, Option, Some, None, List, length, nat_lt, if◌then◌else◌}
+use Rattle.std.specs.Prelude.{ℕ, ◌-◌, Bool, false, Option, Some, None, List, length, min, nat_lt, if◌then◌else◌}
 use Rattle.monk_history.specs.declared.event.Event.{Event}
 use Rattle.monk_draw.specs.declared.window.Window.{Window}
 
@@ -20,12 +20,12 @@ is_behind (Some w) count = nat_lt count w.from
 -- of so many that can be shown those up to the one that is shown last
 abbrev pub shown_last : Option Window → ℕ → ℕ
 shown_last None count = count
-shown_last (Some w) count = if nat_lt w.to count then w.to else count
+shown_last (Some w) count = min w.to count
 
 -- those up to it that are not shown: where none are asked for, all but the last so many
 abbrev pub not_shown : Option Window → ℕ → ℕ
 not_shown None last = last - most_shown
-not_shown (Some w) last = if nat_lt (w.from - 1) last then w.from - 1 else last
+not_shown (Some w) last = min (w.from - 1) last
 
 -- the last that is shown, counted from 1
 abbrev pub last_of : Option Window → Option ℕ → List Event → ℕ

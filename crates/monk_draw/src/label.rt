@@ -1,27 +1,13 @@
 //! An event in words, and endings of words.
 
-use monk_history::{Event, From3, Via};
+use monk_history::Event;
 use monk_object::{Book, Buffer, Flags, ObjectName, Shop};
+use monk_tell::{queue_word, via_word};
 use std::alloc::AllocError;
 
 /// The ending of a word of which there are so many.
 pub(crate) fn plural(number: usize) -> &'static str {
     if number == 1 { "" } else { "s" }
-}
-
-fn via_word(via: Via) -> &'static str {
-    match via {
-        Via::Free => "free",
-        Via::Handed => "handed",
-    }
-}
-
-fn from_word(queue: From3) -> &'static str {
-    match queue {
-        From3::Waiter => "waiter",
-        From3::Signaller => "signaller",
-        From3::Until => "until",
-    }
 }
 
 /// What an operation of the object is called.
@@ -69,23 +55,6 @@ pub(crate) fn event_word(object: ObjectName, event: Event) -> &'static str {
     }
 }
 
-/// Puts the line of the event, as it stands in a text.
-pub(crate) fn put_text(page: &mut String, event: Event) -> Result<(), AllocError> {
-    write!(page, "{} {} ", verb(event), event.seat())?;
-    match event {
-        Event::Enter(_, via) => page.push_str(via_word(via)),
-        Event::Act(_, op, reply) => write!(page, "{} {} {reply}", op.code, op.arg),
-        Event::Leave(_, next) => write!(page, "{next}"),
-        Event::Wait(_, number, next)
-        | Event::Signal(_, number, next)
-        | Event::SignalLeave(_, number, next)
-        | Event::Until(_, number, next) => write!(page, "{number} {next}"),
-        Event::Resume(_, queue) => page.push_str(from_word(queue)),
-        Event::SignalAll(_, cond) => write!(page, "{cond}"),
-        Event::SignalWait(_, cond, wait_cond, next) => write!(page, "{cond} {wait_cond} {next}"),
-    }
-}
-
 /// Puts what an act was called with, unless that is 0, and its reply.
 fn put_reply(page: &mut String, arg: u32, reply: u64) -> Result<(), AllocError> {
     if arg == 0 {
@@ -106,7 +75,7 @@ pub(crate) fn put_note(page: &mut String, event: Event) -> Result<(), AllocError
         | Event::SignalLeave(_, cond, _)
         | Event::SignalAll(_, cond) => write!(page, "c{cond}"),
         Event::Until(_, pred, _) => write!(page, "p{pred}"),
-        Event::Resume(_, queue) => page.push_str(from_word(queue)),
+        Event::Resume(_, queue) => page.push_str(queue_word(queue)),
         Event::SignalWait(_, cond, wait_cond, _) => write!(page, "c{cond}, c{wait_cond}"),
     }
 }

@@ -11,7 +11,7 @@ use crate::text_form::TextForm;
 use crate::window::Window;
 use monk_audit::{AuditFault, Verdict};
 use monk_history::{Event, Header};
-use monk_tell::tell_steps;
+use monk_tell::{forbidden_step, tell_steps};
 use std::alloc::{AllocError, Global};
 
 /// What a picture is written as.
@@ -69,11 +69,7 @@ impl Picture<'_> {
         requires { length events.now ≤ 2 ^ 25 }
         ensures { IsErrOf result AuditFault.Object → most header.now.object < header.now.size }
     {
-        let forbidden = match verdict {
-            Verdict::Legal(_) => None,
-            Verdict::Forbidden { step, .. } => Some(step),
-        };
-        let span = Span::of(window, showable(forbidden, events.len()));
+        let span = Span::of(window, showable(forbidden_step(verdict), events.len()));
         let steps = tell_steps(alloc, header, events, span.before, span.last)?;
         let shown = &events[span.before..span.last];
         let scene = history_scene(alloc, header.seats(), &steps, span.before, shown)?;

@@ -1,10 +1,9 @@
 //! Where a seat is.
 
-ghost use Rattle.std.specs.Prelude.{◌≡◌, IfOk, length};
+ghost use Rattle.std.specs.Prelude.{◌≡◌, IfOk};
 ghost use Rattle.monk_audit.specs.Replay.{has};
-ghost use Rattle.monk_tell.specs.Cause.{waits_at};
 ghost use Rattle.monk_tell.specs.Told.{condition_lists, queues_of, standing_of};
-ghost use Rattle.monk_draw.specs.Place.{by_turn, chosen_from, in_conditions, in_inner, in_queues, in_untils, place_in, places_below, queue_of};
+ghost use Rattle.monk_draw.specs.Place.{by_turn, chosen_from, in_conditions, in_inner, in_queues, in_untils, place_in, places_below};
 
 use monk_history::{From3, Turn};
 use monk_tell::{Conditions, QueueLists, Standing};
@@ -105,28 +104,17 @@ fn in_inner(waiters: &[u8], signallers: &[u8], seat: u8) -> SeatPlace
     }
 }
 
-/// The condition on which the seat waits.
-fn on_condition(conditions: &Conditions, seat: u8) -> Option<usize>
-    ensures { result ≡ waits_at (queue_of (condition_lists conditions.now))
-        (length (condition_lists conditions.now)) seat }
-{
-    let mut waits = None;
-    for (cond, queue) in conditions.0.iter().enumerate() {
-        if has(&queue.0, seat) {
-            waits = Some(cond);
-        }
-    }
-    waits
-}
-
 /// The condition on which the seat waits, or where else it is.
 fn in_conditions(conditions: &Conditions, seat: u8, inner: SeatPlace) -> SeatPlace
     ensures { result ≡ in_conditions (condition_lists conditions.now) seat inner }
 {
-    match on_condition(conditions, seat) {
-        Some(cond) => SeatPlace::Condition(cond),
-        None => inner,
+    let mut place = inner;
+    for (cond, queue) in conditions.0.iter().enumerate() {
+        if has(&queue.0, seat) {
+            place = SeatPlace::Condition(cond);
+        }
     }
+    place
 }
 
 /// Where each seat below that number is.

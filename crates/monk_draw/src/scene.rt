@@ -62,6 +62,12 @@ impl Scene {
         self.allowed() <= index && index < self.events.len()
     }
 
+    /// Whether the event of that index is an act that is allowed, and that the object refused.
+    pub(crate) fn is_refused(&self, index: usize) -> bool {
+        let event = self.events.get(index);
+        event.is_some_and(|event| event.is_refused()) && !self.is_forbidden(index)
+    }
+
     /// The number of the step of that index.
     pub(crate) fn step(&self, index: usize) -> usize {
         self.before.saturating_add(index).saturating_add(1)
@@ -84,7 +90,7 @@ impl Scene {
 
 /// The lane of a seat: that of its number, or behind all of them that of the seats that aren't there.
 pub(crate) fn lane_of(seat: u8, seats: u8) -> u8 {
-    if seat < seats { seat } else { seats }
+    seat.min(seats)
 }
 
 /// Who comes in by the event because it was handed the monitor.

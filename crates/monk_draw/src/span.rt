@@ -1,6 +1,6 @@
 //! Which events are shown.
 
-ghost use Rattle.std.specs.Prelude.{◌≡◌, ◌≤◌, nat_lt, if◌then◌else◌};
+ghost use Rattle.std.specs.Prelude.{◌≡◌, ◌≤◌};
 ghost use Rattle.monk_draw.specs.Window.{is_behind, not_shown, showable, shown_last};
 
 use crate::window::Window;
@@ -29,12 +29,6 @@ pub fn is_behind(window: Option<Window>, count: usize) -> bool
     }
 }
 
-fn lesser(number: usize, bound: usize) -> usize
-    ensures { result ≡ (if nat_lt number bound then number else bound) }
-{
-    if number < bound { number } else { bound }
-}
-
 /// The events that are shown: those up to the last of them, but for those before.
 #[derive(Clone, Copy, Debug)]
 pub struct Span {
@@ -58,9 +52,9 @@ impl Span {
                 last: count,
             },
             Some(window) => {
-                let last = lesser(window.to(), count);
+                let last = window.to().min(count);
                 Span {
-                    before: lesser(window.from().saturating_sub(1), last),
+                    before: window.from().saturating_sub(1).min(last),
                     last,
                 }
             }

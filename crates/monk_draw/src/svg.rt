@@ -2,26 +2,28 @@
 
 mod arrows;
 mod bars;
-mod fault;
 mod ground;
 mod layout;
 mod legend;
-mod look;
 mod marks;
 mod style;
-mod tags;
 
 use crate::scene::Scene;
-use arrows::put_arrows;
-use bars::put_bars;
-use fault::put_fault;
-use ground::put_ground;
 use layout::Layout;
-use legend::{note_refused, put_legend};
-use marks::put_marks;
+use legend::Look;
 use monk_history::Header;
 use std::alloc::{AllocError, Global};
-use tags::put_tags;
+
+/// A picture that is being drawn.
+#[derive(Drop)]
+struct Canvas<'a> {
+    /// Its text so far.
+    page: String,
+    /// What the legend has to explain.
+    looks: Vec<Look>,
+    scene: &'a Scene,
+    layout: Layout,
+}
 
 /// The picture of a scene as an SVG text: a lane for each seat, a column for each event, to the right. Where the last
 /// event is forbidden, `reason` says why; it may hold no markup.
@@ -39,17 +41,20 @@ pub fn draw(
     scene: &Scene,
     reason: &str,
 ) -> Result<String, AllocError> {
-    let layout = Layout::of(header, scene);
-    let mut page = String::new(alloc);
-    let mut looks = Vec::new(alloc);
-    put_ground(&mut page, header, layout)?;
-    put_bars(alloc, &mut page, &mut looks, scene, layout)?;
-    put_arrows(&mut page, &mut looks, scene, layout)?;
-    note_refused(&mut looks, scene, layout)?;
-    put_tags(&mut page, layout)?;
-    put_fault(&mut page, scene, layout, reason)?;
-    put_legend(&mut page, &looks, layout)?;
-    put_marks(&mut page, header.object(), scene, layout)?;
-    page.push_str("</svg>\n")?;
-    Ok(page)
+    let mut canvas = Canvas {
+        page: String::new(alloc),
+        looks: Vec::new(alloc),
+        scene,
+        layout: Layout::of(header, scene),
+    };
+    canvas.put_ground(header)?;
+    canvas.put_bars(alloc)?;
+    canvas.put_arrows()?;
+    canvas.note_refused()?;
+    canvas.put_tags()?;
+    canvas.put_fault(reason)?;
+    canvas.put_legend()?;
+    canvas.put_marks(header.object())?;
+    canvas.page.push_str("</svg>\n")?;
+    Ok(canvas.page)
 }

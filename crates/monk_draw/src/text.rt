@@ -1,7 +1,5 @@
-//! A scene as lines of text: one for each seat. The layout has no contract but for the strips and the arrows: tests and
-//! the examples hold the rest.
+//! A scene as lines of text: one for each seat. Its layout has no contract: tests and the examples hold it.
 
-mod arrow;
 mod brush;
 mod column;
 mod fault;

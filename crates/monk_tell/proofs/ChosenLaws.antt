@@ -1,14 +1,12 @@
 -- What is found of a choice is what is so of it
 use Rattle.std.specs.Prelude.{◌≡◌, ℕ, Bool, List, filter}
-use Rattle.std.proofs.Common.{refl, ap, ◌∙◌}
+use Rattle.std.proofs.Common.{ap, arith, ◌∙◌}
 use Rattle.monk_kinds.specs.declared.mode.Rules.{Rules}
 use Rattle.monk_object.specs.Object.{Object}
 use Rattle.monk_history.specs.Meaning.Choice.{Queues, must_stay, queues_at}
 use Rattle.monk_history.specs.Meaning.Release.{with_next}
 use Rattle.monk_history.specs.Meaning.Situation.{Situation}
 use Rattle.monk_history.specs.declared.event.Event.{Event}
-use Rattle.monk_history.specs.declared.event.Event.TheVariants.{Enter, Act, Leave, Wait, Signal, SignalLeave, Until, Resume}
-use Rattle.monk_history.specs.declared.event.Event.TheVariants.{SignalAll, SignalWait}
 use Rattle.monk_history.specs.declared.event.From3.{From3}
 use Rattle.monk_history.specs.declared.event.Next.{Next}
 use Rattle.monk_audit.specs.Settled.{permits}
@@ -18,16 +16,7 @@ use Rattle.monk_tell.specs.Told.{chosen_at}
 -- another choice changes neither the queues nor whether the caller has to stay
 permitted_same : (k : Rules) (o : Object) (t : Situation) (e : Event) (x : Next)
     → permits k (queues_at o t e) (must_stay o t e) (with_next x e) ≡ may_be k o t e x
-permitted_same k o t (Enter s via) x = refl
-permitted_same k o t (Act s op r) x = refl
-permitted_same k o t (Leave s y) x = refl
-permitted_same k o t (Wait s c y) x = refl
-permitted_same k o t (Signal s c y) x = refl
-permitted_same k o t (SignalLeave s c y) x = refl
-permitted_same k o t (Until s p y) x = refl
-permitted_same k o t (Resume s q) x = refl
-permitted_same k o t (SignalAll s c) x = refl
-permitted_same k o t (SignalWait s c d y) x = refl
+permitted_same k o t e x = grind arith
 
 pub chosen_found : (k : Rules) (o : Object) (t : Situation) (e : Event) (q : Queues) (stays : Bool)
     (first : List (From3 × ℕ))

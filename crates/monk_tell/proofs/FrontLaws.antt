@@ -9,8 +9,6 @@ use Rattle.std.specs.Prelude.{◌==◌, is_some, filter, slice_index_or}
 use Rattle.monk_kinds.specs.declared.mode.Rules.{Rules}
 use Rattle.monk_object.specs.Object.{Object}
 use Rattle.monk_history.specs.declared.event.Event.{Event}
-use Rattle.monk_history.specs.declared.event.Event.TheVariants.{Enter, Act, Leave, Wait, Signal, SignalLeave, Until, Resume}
-use Rattle.monk_history.specs.declared.event.Event.TheVariants.{SignalAll, SignalWait}
 use Rattle.monk_history.specs.declared.event.Next.{Next}
 use Rattle.monk_history.specs.declared.event.Next.TheVariants as next
 use Rattle.monk_history.specs.Meaning.Choice.{Queues, queues_at, is_front, may_choose, may_signal, must_stay}
@@ -45,28 +43,10 @@ filter_has p (y ∷ ys) x c h =
 -- ---- the release with another choice
 
 named : (e : Event) (x : Next) → is_some (next_of e) ≡ true → next_of (with_next x e) ≡ Some x
-named (Enter s via) x h = absurd cc
-named (Act s op r) x h = absurd cc
-named (Leave s y) x h = refl
-named (Wait s c y) x h = refl
-named (Signal s c y) x h = refl
-named (SignalLeave s c y) x h = refl
-named (Until s p y) x h = refl
-named (Resume s q) x h = absurd cc
-named (SignalAll s c) x h = absurd cc
-named (SignalWait s c d y) x h = refl
+named e x h = grind arith
 
 same_queues : (o : Object) (t : Situation) (e : Event) (x : Next) → queues_at o t (with_next x e) ≡ queues_at o t e
-same_queues o t (Enter s via) x = refl
-same_queues o t (Act s op r) x = refl
-same_queues o t (Leave s y) x = refl
-same_queues o t (Wait s c y) x = refl
-same_queues o t (Signal s c y) x = refl
-same_queues o t (SignalLeave s c y) x = refl
-same_queues o t (Until s p y) x = refl
-same_queues o t (Resume s q) x = refl
-same_queues o t (SignalAll s c) x = refl
-same_queues o t (SignalWait s c d y) x = refl
+same_queues o t e x = grind arith
 
 -- ---- fronts
 

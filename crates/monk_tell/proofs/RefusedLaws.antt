@@ -1,7 +1,7 @@
 -- The steps of refused acts, one more at a time
-use Rattle.std.proofs.Common.{◌≡◌, ℕ, zero, suc, ◌+◌, ◌-◌, ◌<◌, ◌≤◌, Bool, cond, List, [], ◌∷◌, ◌++◌, length, take, get_or}
+use Rattle.std.proofs.Common.{◌≡◌, ℕ, ◌+◌, ◌-◌, ◌<◌, ◌≤◌, Bool, cond, List, [], ◌∷◌, ◌++◌, length, take, get_or}
 use Rattle.std.proofs.Common.{sym, ap, arith, ◌∙◌, append_assoc}
-use Rattle.std.proofs.lemmas.List.{append-nil, length-append, length-take-le, take_all, take-append-le, take_more}
+use Rattle.std.proofs.lemmas.List.{append-nil, length-append, length-take, length-take-le, take_all, take-append-le, take_more}
 use Rattle.monk_history.specs.declared.event.Event.{Event}
 use Rattle.monk_history.specs.Meaning.Acts.{is_refused_act, refused_from, refused_steps}
 use Rattle.monk_tell.specs.Told.{ShownSteps, most_told, told_steps}
@@ -31,21 +31,8 @@ refused_more es i d b there is =
 
 -- ---- of these the first ten, and how many more there are
 
-take_short : (n : ℕ) (l : List ℕ) → length (take n l) < n → length l < n
-take_short zero l h = absurd (omega (arith, h))
-take_short (suc n) [] h = omega arith
-take_short (suc n) (x ∷ l) h = let less = take_short n l (omega (arith, h)) in omega (arith, less)
-
-take_no_longer : (n : ℕ) (l : List ℕ) → length (take n l) ≤ length l
-take_no_longer zero l = omega arith
-take_no_longer (suc n) [] = omega arith
-take_no_longer (suc n) (x ∷ l) = let less = take_no_longer n l in omega (arith, less)
-
 abbrev pub shown : List ℕ → ℕ → ShownSteps
 shown first more = record { first = first; more = more }
-
-same_steps : (f g : List ℕ) (m n : ℕ) → f ≡ g → m ≡ n → shown f m ≡ shown g n
-same_steps f g m n a b = λ i. shown (a i) (b i)
 
 -- one more step is told while there are fewer
 pub told_within : (first : List ℕ) (more step : ℕ) (steps : List ℕ) → length first < most_told
@@ -53,14 +40,13 @@ pub told_within : (first : List ℕ) (more step : ℕ) (steps : List ℕ) → le
 told_within first more step steps few is =
     let held : first ≡ take 10 steps = ap (λ (s : ShownSteps). s.first) is in
     let counted : more ≡ length steps - 10 = ap (λ (s : ShownSteps). s.more) is in
-    let long : length first ≡ length (take 10 steps) = ap (λ (l : List ℕ). length l) held in
-    let less : length steps < 10 = take_short 10 steps (omega (arith, few, long)) in
-    let whole : take 10 steps ≡ steps = take_all 10 steps (omega (arith, less)) in
+    let long = ap (λ (l : List ℕ). length l) held ∙ length-take 10 steps in
+    let less : length steps < 10 = omega (arith, few, long) in
     let longer : length (steps ++ step ∷ []) ≡ length steps + 1 = length-append steps (step ∷ []) in
-    same_steps (first ++ step ∷ []) (take 10 (steps ++ step ∷ [])) more (length (steps ++ step ∷ []) - 10)
-    (ap (λ (l : List ℕ). l ++ step ∷ []) (held ∙ whole)
-    ∙ sym (take_all 10 (steps ++ step ∷ []) (omega (arith, longer, less))))
-    (omega (arith, counted, longer, less))
+    let told = ap (λ (l : List ℕ). l ++ step ∷ []) (held ∙ take_all 10 steps (omega (arith, less)))
+    ∙ sym (take_all 10 (steps ++ step ∷ []) (omega (arith, longer, less))) in
+    let none : more ≡ length (steps ++ step ∷ []) - 10 = omega (arith, counted, longer, less) in
+    λ i. shown (told i) (none i)
 
 -- and else counted
 pub told_past : (first : List ℕ) (more step : ℕ) (steps : List ℕ) → most_told ≤ length first
@@ -68,10 +54,9 @@ pub told_past : (first : List ℕ) (more step : ℕ) (steps : List ℕ) → most
 told_past first more step steps many is =
     let held : first ≡ take 10 steps = ap (λ (s : ShownSteps). s.first) is in
     let counted : more ≡ length steps - 10 = ap (λ (s : ShownSteps). s.more) is in
-    let long : length first ≡ length (take 10 steps) = ap (λ (l : List ℕ). length l) held in
-    let no_longer = take_no_longer 10 steps in
-    let enough : 10 ≤ length steps = omega (arith, many, long, no_longer) in
+    let long = ap (λ (l : List ℕ). length l) held ∙ length-take 10 steps in
+    let enough : 10 ≤ length steps = omega (arith, many, long) in
     let longer : length (steps ++ step ∷ []) ≡ length steps + 1 = length-append steps (step ∷ []) in
-    same_steps first (take 10 (steps ++ step ∷ [])) (more + 1) (length (steps ++ step ∷ []) - 10)
-    (held ∙ sym (take-append-le 10 steps (step ∷ []) enough))
-    (omega (arith, counted, longer, enough))
+    let told = held ∙ sym (take-append-le 10 steps (step ∷ []) enough) in
+    let one_more : more + 1 ≡ length (steps ++ step ∷ []) - 10 = omega (arith, counted, longer, enough) in
+    λ i. shown (told i) (one_more i)

@@ -1,10 +1,10 @@
 -- The steps of a legal history, with one event more
 use Rattle.std.proofs.Common.{◌≡◌, ℕ, ◌+◌, ◌-◌, ◌<◌, ◌≤◌, Bool, cond, List, [], ◌∷◌, ◌++◌}
-use Rattle.std.proofs.Common.{length, map, take, drop, get_or}
+use Rattle.std.proofs.Common.{length, map, take, get_or}
 use Rattle.std.proofs.Common.{sym, ap, subst, arith, ◌∙◌}
 use Rattle.std.specs.List.{range_with_len}
 use Rattle.std.proofs.lemmas.Bool.{ne_eqb}
-use Rattle.std.proofs.lemmas.List.{get_or-drop, get_or-take, length-take-le, map-append, take-take}
+use Rattle.std.proofs.lemmas.List.{get_or-take, length-take-le, map-append, take-take}
 use Rattle.std.proofs.lemmas.List.FromFn.{map-range_with_len_more}
 use Rattle.std.proofs.lemmas.Option.{slice_get_within}
 use Rattle.monk_kinds.specs.Names.{rules_named}
@@ -37,57 +37,12 @@ allowed_there m es (Legal count) n is few = omega (arith, is.1, few)
 allowed_there m es (Forbidden step reason) n is few =
     omega (arith, few, is.is_step, slice_get_within es is.before is.fault is.is_there)
 
--- fewer of legal events
-legal_shorter : (m : Monitor) (es : List Event) (n k : ℕ) → n ≤ k → IsLegal m (take k es) → IsLegal m (take n es)
-legal_shorter m es n k few legal =
-    subst (λ (xs : List Event). IsLegal m xs) (take-take n k es few) (legal_take m (take k es) n legal)
-
 allowed_legal : (m : Monitor) (es : List Event) (v : Verdict) (n : ℕ) → IsVerdict m es v → n ≤ allowed_events v
     → IsLegal m (take n es)
 allowed_legal m es (Legal count) n is few = legal_take m es n is.0
 allowed_legal m es (Forbidden step reason) n is few =
-    legal_shorter m es n is.before (omega (arith, few, is.is_step)) is.legal_before
-
--- against an event of them is no reason, whatever the opening state is
-none_against : (k : Rules) (seats conds : ℕ) (o : Object) (d : List ℕ) (es : List Event) (end n : ℕ)
-    (e : Event) (t : Situation) → IsLegal (monitor k seats conds o d) (take end es) → end ≤ length es → n < end
-    → e ≡ get_or es n (Enter 0 Free) → t ≡ situation (monitor k seats conds o d) (take n es)
-    → reason_in (monitor k seats conds o []) t e ≡ 0
-none_against k seats conds o d es end n e t legal ends few there stands =
-    sym (reason_opening k seats conds o d t e) ∙ (ap (λ (x : Situation). reason_in m x e) stands
-    ∙ (ap (λ (x : Event). reason_of m (take n es) x) there ∙ none))
-  where
-    m : Monitor
-    m = monitor k seats conds o d
-
-    first : Event
-    first = Enter 0 Free
-
-    within : n + 1 ≤ length es
-    within = omega (arith, few, ends)
-
-    front : List Event
-    front = take (n + 1) es
-
-    there_is : get_or front n first ≡ get_or es n first
-    there_is = get_or-take (n + 1) es n first (omega arith)
-
-    before_is : take n front ≡ take n es
-    before_is = take-take n (n + 1) es (omega arith)
-
-    none : reason_of m (take n es) (get_or es n first) ≡ 0
-    none = no_reason m front n first _ (subst (λ (x : ℕ). n < x) (sym (length-take-le (n + 1) es within)) (omega arith))
-        (legal_shorter m es (n + 1) end (omega (arith, few)) legal)
-        (sym (ap (λ (xs : List Event). reason_of m xs (get_or front n first)) before_is
-        ∙ ap (λ (x : Event). reason_of m (take n es) x) there_is))
-
--- where the event of that number leads
-reached : (m : Monitor) (es : List Event) (end n : ℕ) (e : Event) (t u : Situation) → IsLegal m (take end es)
-    → end ≤ length es → n < end → e ≡ get_or es n (Enter 0 Free) → t ≡ situation m (take n es) → u ≡ after m.object t e
-    → u ≡ situation m (take (n + 1) es)
-reached m es end n e t u legal ends few there stands leads =
-    stands_more m es n (Enter 0 Free) t u (omega (arith, few, ends))
-    (legal_shorter m es n end (omega (arith, few)) legal) stands (leads ∙ ap (λ (x : Event). after m.object t x) there)
+    subst (λ (xs : List Event). IsLegal m xs) (take-take n is.before es (omega (arith, few, is.is_step)))
+    (legal_take m (take is.before es) n is.legal_before)
 
 -- of a history with that verdict
 verdict_is : (h : Heading) (es : List Event) (v : Verdict) → v ≡ verdict_of (named_monitor h) es
@@ -98,35 +53,63 @@ pub judged_there : (h : Heading) (es : List Event) (v : Verdict) (n : ℕ) → v
     → n ≤ allowed_events v → n ≤ length es
 judged_there h es v n is few = allowed_there (named_monitor h) es v n (verdict_is h es v is) few
 
+pub judged_before : (h : Heading) (es : List Event) (v : Verdict) (n : ℕ) → v ≡ verdict_of (named_monitor h) es
+    → n < allowed_events v → n < length es
+judged_before h es v n is few = let there = judged_there h es v (n + 1) is (omega (arith, few)) in omega (arith, there)
+
 judged_legal : (h : Heading) (es : List Event) (v : Verdict) (n : ℕ) → v ≡ verdict_of (named_monitor h) es
     → n ≤ allowed_events v → IsLegal (named_monitor h) (take n es)
 judged_legal h es v n is few = allowed_legal (named_monitor h) es v n (verdict_is h es v is) few
 
+abbrev event_of : List Event → ℕ → Event
+event_of es n = get_or es n (Enter 0 Free)
+
+-- against an event of legal ones is no reason, whatever the opening state is
+none_against : (k : Rules) (seats conds : ℕ) (o : Object) (d : List ℕ) (es : List Event) (n : ℕ) (t : Situation)
+    → IsLegal (monitor k seats conds o d) (take (n + 1) es) → n < length es
+    → t ≡ situation (monitor k seats conds o d) (take n es)
+    → reason_in (monitor k seats conds o []) t (event_of es n) ≡ 0
+none_against k seats conds o d es n t legal within stands =
+    sym (reason_opening k seats conds o d t (event_of es n))
+    ∙ (ap (λ (x : Situation). reason_in m x (event_of es n)) stands ∙ none)
+  where
+    m : Monitor
+    m = monitor k seats conds o d
+
+    front : List Event
+    front = take (n + 1) es
+
+    there_is : event_of front n ≡ event_of es n
+    there_is = get_or-take (n + 1) es n (Enter 0 Free) (omega arith)
+
+    before_is : take n front ≡ take n es
+    before_is = take-take n (n + 1) es (omega arith)
+
+    none : reason_of m (take n es) (event_of es n) ≡ 0
+    none = no_reason m front n (Enter 0 Free) _
+        (subst (λ (x : ℕ). n < x) (sym (length-take-le (n + 1) es (omega (arith, within)))) (omega arith)) legal
+        (sym (ap (λ (xs : List Event). reason_of m xs (event_of front n)) before_is
+        ∙ ap (λ (x : Event). reason_of m (take n es) x) there_is))
+
 -- against the next event that is allowed there is no reason, whatever the opening state is
-pub next_allowed : (h : Heading) (es : List Event) (v : Verdict) (end n : ℕ) (k : Rules) (seats conds : ℕ) (o : Object)
-    (e : Event) (t : Situation) → v ≡ verdict_of (named_monitor h) es → end ≤ allowed_events v → n < end
-    → e ≡ get_or es n (Enter 0 Free) → t ≡ situation (named_monitor h) (take n es)
+pub next_allowed : (h : Heading) (es : List Event) (v : Verdict) (n : ℕ) (k : Rules) (seats conds : ℕ) (o : Object)
+    (t : Situation) → v ≡ verdict_of (named_monitor h) es → n < allowed_events v
+    → t ≡ situation (named_monitor h) (take n es)
     → k ≡ rules_named h.kind → seats ≡ h.seats → conds ≡ h.conds → o ≡ meaning_named h.object
-    → reason_in (monitor k seats conds o []) t e ≡ 0
-next_allowed h es v end n k seats conds o e t is few before there stands kind as_seats as_conds named =
+    → reason_in (monitor k seats conds o []) t (event_of es n) ≡ 0
+next_allowed h es v n k seats conds o t is few stands kind as_seats as_conds named =
     rw (kind, as_seats, as_conds, named)
-    (none_against (rules_named h.kind) h.seats h.conds (meaning_named h.object) (opening_named h.object h.size) es end n
-    e t (judged_legal h es v end is few) (judged_there h es v end is few) before there stands)
+    (none_against (rules_named h.kind) h.seats h.conds (meaning_named h.object) (opening_named h.object h.size) es n t
+    (judged_legal h es v (n + 1) is (omega (arith, few))) (judged_before h es v n is few) stands)
 
 -- where it leads
-pub next_reached : (h : Heading) (es : List Event) (v : Verdict) (end n : ℕ) (o : Object) (e : Event) (t u : Situation)
-    → v ≡ verdict_of (named_monitor h) es → end ≤ allowed_events v → n < end
-    → e ≡ get_or es n (Enter 0 Free) → t ≡ situation (named_monitor h) (take n es) → o ≡ meaning_named h.object
-    → u ≡ after o t e → u ≡ situation (named_monitor h) (take (n + 1) es)
-next_reached h es v end n o e t u is few before there stands named leads =
-    reached (named_monitor h) es end n e t u (judged_legal h es v end is few) (judged_there h es v end is few) before
-    there stands (leads ∙ ap (λ (x : Object). after x t e) named)
-
--- the event at a place behind the first ones
-pub event_there : (es : List Event) (before last i : ℕ) (d : Event) → i < last - before
-    → get_or (take (last - before) (drop before es)) i d ≡ get_or es (before + i) d
-event_there es before last i d within =
-    get_or-take (last - before) (drop before es) i d within ∙ get_or-drop before es i d
+pub next_reached : (h : Heading) (es : List Event) (v : Verdict) (n : ℕ) (o : Object) (t u : Situation)
+    → v ≡ verdict_of (named_monitor h) es → n < allowed_events v → t ≡ situation (named_monitor h) (take n es)
+    → o ≡ meaning_named h.object → u ≡ after o t (event_of es n) → u ≡ situation (named_monitor h) (take (n + 1) es)
+next_reached h es v n o t u is few stands named leads =
+    stands_more (named_monitor h) es n (Enter 0 Free) t u (judged_before h es v n is few)
+    (judged_legal h es v n is (omega (arith, few))) stands
+    (leads ∙ ap (λ (x : Object). after x t (event_of es n)) named)
 
 -- one step more
 pub step_told : (m : Monitor) (es : List Event) (before i : ℕ) (xs : List Step) (x : Step)
@@ -145,13 +128,11 @@ step_told m es before i xs x told is =
         (ne_eqb n before (λ same. omega (arith, same)))
 
 -- an event's step, from the situations before it and after it
-pub event_told : (m : Monitor) (es : List Event) (n : ℕ) (t u : Situation) (e : Event) → t ≡ situation m (take n es)
-    → e ≡ get_or es n (Enter 0 Free) → u ≡ situation m (take (n + 1) es) → step_by m t e u ≡ event_step m es (n + 1)
-event_told m es n t u e stands there reached =
-    ap (λ (x : Situation). step_by m x e u) stands ∙ (ap (λ (x : Event). step_by m (situation m (take n es)) x u) there
-    ∙ (ap (λ (x : Situation). step_by m (situation m (take n es)) (get_or es n (Enter 0 Free)) x) reached
-    ∙ ap (λ (k : ℕ). step_by m (situation m (take k es)) (get_or es k (Enter 0 Free)) (situation m (take (n + 1) es)))
-    before))
+pub event_told : (m : Monitor) (es : List Event) (n : ℕ) (t u : Situation) → t ≡ situation m (take n es)
+    → u ≡ situation m (take (n + 1) es) → step_by m t (event_of es n) u ≡ event_step m es (n + 1)
+event_told m es n t u stands reached =
+    (λ i. step_by m (stands i) (event_of es n) (reached i))
+    ∙ ap (λ (k : ℕ). step_by m (situation m (take k es)) (event_of es k) (situation m (take (n + 1) es))) before
   where
     before : n ≡ n + 1 - 1
     before = omega arith

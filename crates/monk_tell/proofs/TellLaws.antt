@@ -1,8 +1,6 @@
 -- What a reason says of an event, and a first fault of a history
 use Rattle.std.proofs.Common.{◌≡◌, ◌≢◌, ℕ, Bool, true, false, cond, not, List, []}
-use Rattle.std.proofs.Common.{◌⊎◌, ◌≤◌, ◌<◌, ◌-◌, Option, get_or, inl, inr, length, refl, sym, take, ap, subst, arith, ◌∙◌}
-use Rattle.std.specs.Prelude.{◌==◌}
-use Rattle.std.proofs.lemmas.Bool.{ne_eqb}
+use Rattle.std.proofs.Common.{◌⊎◌, ◌≤◌, ◌<◌, ◌-◌, get_or, inl, inr, length, refl, sym, take, ap, subst, arith, ◌∙◌}
 use Rattle.std.proofs.lemmas.Option.{get_or_from_slice_get, slice_get_within}
 use Rattle.monk_kinds.specs.declared.mode.Rules.{Rules}
 use Rattle.monk_kinds.specs.declared.name.KindName.{KindName}
@@ -11,14 +9,12 @@ use Rattle.monk_history.specs.declared.event.Event.{Event}
 use Rattle.monk_history.specs.declared.event.Event.TheVariants.{Enter}
 use Rattle.monk_history.specs.declared.event.Via.TheVariants.{Free}
 use Rattle.monk_history.specs.Meaning.Legal.{IsFirstFault}
-use Rattle.monk_history.specs.declared.event.Turn.{Turn}
 use Rattle.monk_history.specs.Meaning.Events.{seat_of, via_of}
 use Rattle.monk_history.specs.Meaning.Monitor.{Monitor, monitor}
 use Rattle.monk_history.specs.Meaning.Reasons.{fits_object, is_in_range, reason_in}
 use Rattle.monk_history.specs.Meaning.Situation.{Situation, situation}
 use Rattle.monk_history.proofs.PublicLaws.Meaning.{and_right}
 use Rattle.monk_object.specs.Names.{meaning_named, opening_named}
-use Rattle.monk_object.specs.declared.name.ObjectName.{ObjectName}
 use Rattle.monk_kinds.specs.Names.{rules_named}
 use Rattle.monk_history.specs.Text.{Heading}
 use Rattle.monk_history.specs.Meaning.Named.{named_monitor}
@@ -29,9 +25,7 @@ use Rattle.monk_audit.specs.declared.reason.Reason.TheVariants as reasons
 use Rattle.monk_audit.specs.Reasons.{number_of}
 use Rattle.monk_audit.specs.Verdict.{IsVerdict, verdict_of}
 use Rattle.monk_audit.proofs.PublicLaws.{is_verdict}
-use Rattle.monk_tell.specs.Cause.{early_cause, no_entry, out_of_turn, waits_at}
-use Rattle.monk_tell.specs.Told.{Account, Blamed, Shown, ShownQueues, ShownStanding, ShownSteps, account, account_by}
-use Rattle.monk_tell.specs.Told.{allowed_events, blame_by, shown_after}
+use Rattle.monk_tell.specs.Cause.{early_cause, no_entry}
 use Rattle.monk_tell.specs.declared.why.Why.{Why}
 use Rattle.monk_tell.specs.declared.why.Why.TheVariants.{Place}
 
@@ -57,46 +51,17 @@ pub reason_opening : (k : Rules) (seats conds : ℕ) (o : Object) (d : List ℕ)
 unfolding reason_in
 reason_opening k seats conds o d t e = refl
 
-abbrev pub stands_by : Turn → List ℕ → List ℕ → ShownQueues → ShownStanding
-stands_by turn inside state queues = record { turn = turn; inside = inside; state = state; queues = queues }
-
-pub same_standing : (t u : Turn) (is js ds es : List ℕ) (p q : ShownQueues) → t ≡ u → is ≡ js → ds ≡ es → p ≡ q
-    → stands_by t is ds p ≡ stands_by u js es q
-same_standing t u is js ds es p q a b c d = λ i. stands_by (a i) (b i) (c i) (d i)
-
-abbrev pub shown_by : KindName → Rules → ObjectName → ShownStanding → ShownSteps → Shown
-shown_by kind rules object standing refused = record {
-  kind = kind;
-  rules = rules;
-  object = object;
-  standing = standing;
-  refused = refused;
-}
-
-pub same_shown : (k l : KindName) (rules : Rules) (n o : ObjectName) (s t : ShownStanding) (r q : ShownSteps) → k ≡ l
-    → n ≡ o → s ≡ t → r ≡ q → shown_by k rules n s r ≡ shown_by l rules o t q
-same_shown k l rules n o s t r q a b c d = λ i. shown_by (a i) rules (b i) (c i) (d i)
-
-abbrev told_as : Verdict → Shown → Option Blamed → Account
-told_as v s b = record { verdict = v; situation = s; blame = b }
-
--- what is told of a history, from its parts
-pub account_is : (h : Heading) (es : List Event) (v : Verdict) (s : Shown) (b : Option Blamed)
-    → v ≡ verdict_of (named_monitor h) es
-    → s ≡ shown_after h.kind h.object (named_monitor h) (take (allowed_events v) es)
-    → b ≡ blame_by h.kind (named_monitor h) es v → told_as v s b ≡ account h es
-account_is h es v s b is stands blamed =
-    (λ i. told_as v (stands i) (blamed i)) ∙ ap (account_by h.kind h.object (named_monitor h) es) is
-
 -- the fault of a history with that verdict
 pub judged_fault : (h : Heading) (es : List Event) (v : Verdict) (step reason : ℕ) → v ≡ verdict_of (named_monitor h) es
     → v ≡ Forbidden step reason → IsFirstFault (named_monitor h) es step reason
 judged_fault h es v step reason is forbids =
     subst (IsVerdict (named_monitor h) es) (sym is ∙ forbids) (is_verdict (named_monitor h) es)
 
-pub fault_there : (m : Monitor) (es : List Event) (step reason : ℕ) → IsFirstFault m es step reason
-    → (1 ≤ step) × (step - 1 < length es)
-fault_there m es step reason f =
+-- where that fault is
+pub fault_there : (h : Heading) (es : List Event) (v : Verdict) (step reason : ℕ) → v ≡ verdict_of (named_monitor h) es
+    → v ≡ Forbidden step reason → (1 ≤ step) × (step - 1 < length es)
+fault_there h es v step reason is forbids =
+    let f = judged_fault h es v step reason is forbids in
     let there : f.before < length es = slice_get_within es f.before f.fault f.is_there in
     (omega (arith, f.is_step), omega (arith, f.is_step, there))
 
@@ -117,23 +82,13 @@ fault_reason h es step reason k o t f kind named stands =
     ∙ sym (λ i. reason_in (monitor (kind i) h.seats h.conds (named i) []) (stands i)
     (get_or es (step - 1) (Enter 0 Free)))
 
--- why it is not the turn of an event's seat, and why it may not enter, as causes by their reasons
-pub turn_caused : (kind : KindName) (seats conds : ℕ) (t : Situation) (reason : ℕ) (e : Event) (why : Why) → reason ≡ 3
-    → why ≡ out_of_turn (waits_at t.condition conds (seat_of e)) t.turn (seat_of e)
-    → why ≡ early_cause kind seats conds t reason e
-turn_caused kind seats conds t reason e why three is =
-    is ∙ ap (λ (r : ℕ). early_cause kind seats conds t r e) (sym three)
+abbrev early_by : KindName → ℕ → ℕ → Situation → Event → Reason → Why
+early_by kind seats conds t e r = early_cause kind seats conds t (number_of r) e
 
-pub at_place : (r : Reason) → (r ≡ reasons.Place) ⊎ ((r ≡ reasons.Reply) ⊎ (r ≡ reasons.Choice)) → 4 ≤ number_of r
-at_place r (inl a) = let n : number_of r ≡ 4 = ap number_of a in omega (arith, n)
-at_place r (inr (inl a)) = let n : number_of r ≡ 5 = ap number_of a in omega (arith, n)
-at_place r (inr (inr a)) = let n : number_of r ≡ 6 = ap number_of a in omega (arith, n)
-
-pub place_caused : (kind : KindName) (seats conds : ℕ) (t : Situation) (reason : ℕ) (e : Event) (why : Why) → reason ≢ 1
-    → reason ≢ 2 → reason ≢ 3 → why ≡ Place (no_entry (t.inside (seat_of e)) (via_of e) (seat_of e))
-    → why ≡ early_cause kind seats conds t reason e
-place_caused kind seats conds t reason e why a b c is =
-    let one : (reason == 1) ≡ false = ne_eqb reason 1 a in
-    let two : (reason == 2) ≡ false = ne_eqb reason 2 b in
-    let three : (reason == 3) ≡ false = ne_eqb reason 3 c in
-    rw (one, two, three) is
+-- why the seat of an event may not enter, as the cause by its reason
+pub place_caused : (kind : KindName) (seats conds : ℕ) (t : Situation) (e : Event) (r : Reason) (why : Why)
+    → (r ≡ reasons.Place) ⊎ ((r ≡ reasons.Reply) ⊎ (r ≡ reasons.Choice))
+    → why ≡ Place (no_entry (t.inside (seat_of e)) (via_of e) (seat_of e)) → why ≡ early_by kind seats conds t e r
+place_caused kind seats conds t e r why (inl a) is = is ∙ ap (early_by kind seats conds t e) (sym a)
+place_caused kind seats conds t e r why (inr (inl a)) is = is ∙ ap (early_by kind seats conds t e) (sym a)
+place_caused kind seats conds t e r why (inr (inr a)) is = is ∙ ap (early_by kind seats conds t e) (sym a)

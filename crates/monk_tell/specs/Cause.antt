@@ -20,7 +20,7 @@ use Rattle.monk_history.specs.declared.event.Turn.TheVariants as turn
 use Rattle.monk_history.specs.declared.event.Via.{Via}
 use Rattle.monk_history.specs.declared.event.Via.TheVariants.{Free, Handed}
 use Rattle.monk_audit.specs.Replay.{has}
-use Rattle.monk_tell.specs.declared.firsts.Firsts.{Firsts}
+use Rattle.monk_tell.specs.declared.lines.Firsts.{Firsts}
 use Rattle.monk_tell.specs.declared.why.out_of_range.OutOfRange.{OutOfRange}
 use Rattle.monk_tell.specs.declared.why.out_of_range.OutOfRange.TheVariants as range
 use Rattle.monk_tell.specs.declared.why.out_of_turn.OutOfTurn.{OutOfTurn}

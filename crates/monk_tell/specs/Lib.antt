@@ -1,6 +1,5 @@
 pub mod Cause
 pub mod Permitted
-pub mod Sentence
 pub mod Standing
 pub mod Steps
 pub mod Told

@@ -2,7 +2,6 @@
 #![tactic(auto)]
 
 mod choice;
-mod firsts;
 mod forbidden;
 mod judged;
 mod judging;
@@ -14,7 +13,6 @@ mod queues;
 mod refused;
 mod rules;
 mod said;
-mod sentence;
 mod sentences;
 mod situation;
 mod stand;
@@ -33,7 +31,7 @@ pub use lists::{FrontList, Nexts, NumberList, SeatList, Waits};
 pub use queues::{Conditions, QueueLists};
 pub use refused::Refused;
 pub use rules::{Ranks, mode_word};
-pub use said::{SaidEvent, SaidTurn, queue_word};
+pub use said::{SaidEvent, SaidTurn, queue_word, via_word};
 pub use situation::{Data, Situation};
 pub use stand::{Stand, stand_of};
 pub use standing::{Standing, data_numbers};

@@ -1,6 +1,6 @@
 //! The queues that a release chooses from.
 
-ghost use Rattle.std.specs.Prelude.{◌≡◌, ◌<◌, [], ◌∷◌, true, All, IfOk, take, if◌then◌else◌};
+ghost use Rattle.std.specs.Prelude.{◌≡◌, ◌<◌, [], true, All, IfOk, take};
 ghost use Rattle.monk_history.specs.Meaning.Choice as choice;
 ghost use Rattle.monk_history.specs.Meaning.Reasons.{fits_object};
 ghost use Rattle.monk_history.specs.Meaning.Signallers.{is_empty, signals};
@@ -10,11 +10,21 @@ ghost use Rattle.monk_audit.specs.Replay.{replay_situation};
 ghost use Rattle.monk_tell.specs.Cause.{firsts_of};
 ghost use Rattle.monk_tell.specs.Told.{lines_of};
 
-use crate::firsts::Firsts;
 use monk_audit::Replay;
 use monk_history::Event;
 use monk_object::Guarded;
 use std::alloc::{AllocError, Global};
+
+/// The first seat of each queue that a release chooses from.
+#[derive(Clone, Copy)]
+pub(crate) struct Firsts {
+    /// The first waiter.
+    pub(crate) waiter: Option<u8>,
+    /// The first signaller.
+    pub(crate) signaller: Option<u8>,
+    /// The first of those whose predicate holds.
+    pub(crate) ready: Option<u8>,
+}
 
 /// The queues that a release chooses from, after its own moves.
 #[derive(Drop)]
@@ -113,24 +123,14 @@ fn served(alloc: Global, replay: &Replay, event: Event) -> Result<Vec<u8>, Alloc
     }
 }
 
-/// The seat, unless nobody waits on the condition.
-fn unless_empty(alloc: Global, replay: &Replay, seat: u8, cond: u8) -> Result<Vec<u8>, AllocError>
-    ensures { IfOk result
-        (λ v. v.items ≡ (if is_empty ((replay_situation replay.now []).condition cond) then [] else seat ∷ [])) }
-{
-    if is_empty_at(alloc, replay, cond)? {
-        Ok(Vec::new(alloc))
-    } else {
-        Ok(vec![in alloc; seat]?)
-    }
-}
-
-/// The seat that steps back by the event.
+/// The seat that steps back by the event, unless nobody waits on its condition.
 fn stepping_back(alloc: Global, replay: &Replay, event: Event) -> Result<Vec<u8>, AllocError>
     ensures { IfOk result (λ v. v.items ≡ signals (replay_situation replay.now []).condition event) }
 {
     match event {
-        Event::Signal(seat, cond, _) => unless_empty(alloc, replay, seat, cond),
+        Event::Signal(seat, cond, _) if !is_empty_at(alloc, replay, cond)? => {
+            Ok(vec![in alloc; seat]?)
+        }
         _ => Ok(Vec::new(alloc)),
     }
 }

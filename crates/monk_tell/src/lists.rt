@@ -41,12 +41,9 @@ pub struct Waits(pub Vec<(u8, u8)>);
 
 impl fmt::Display for Waits {
     fn fmt<W: fmt::Write>(&self, f: &mut fmt::Formatter<W>) -> fmt::Result {
-        let Some((first, rest)) = self.0.split_first() else {
-            return Ok(());
-        };
-        write!(f, " {} {}", first.0, first.1)?;
-        for wait in rest {
-            write!(f, ", {} {}", wait.0, wait.1)?;
+        for (index, wait) in self.0.iter().enumerate() {
+            let comma = if index > 0 { "," } else { "" };
+            write!(f, "{comma} {} {}", wait.0, wait.1)?;
         }
         Ok(())
     }
@@ -58,12 +55,9 @@ pub struct FrontList(pub Vec<(From3, u8)>);
 
 impl fmt::Display for FrontList {
     fn fmt<W: fmt::Write>(&self, f: &mut fmt::Formatter<W>) -> fmt::Result {
-        let Some((first, rest)) = self.0.split_first() else {
-            return Ok(());
-        };
-        write!(f, " {} {}", queue_word(first.0), first.1)?;
-        for front in rest {
-            write!(f, ", {} {}", queue_word(front.0), front.1)?;
+        for (index, front) in self.0.iter().enumerate() {
+            let comma = if index > 0 { "," } else { "" };
+            write!(f, "{comma} {} {}", queue_word(front.0), front.1)?;
         }
         Ok(())
     }
@@ -75,12 +69,9 @@ pub struct Nexts(pub Vec<Next>);
 
 impl fmt::Display for Nexts {
     fn fmt<W: fmt::Write>(&self, f: &mut fmt::Formatter<W>) -> fmt::Result {
-        let Some((first, rest)) = self.0.split_first() else {
-            return Ok(());
-        };
-        write!(f, "{first}")?;
-        for next in rest {
-            write!(f, ", {next}")?;
+        for (index, next) in self.0.iter().enumerate() {
+            let comma = if index > 0 { ", " } else { "" };
+            write!(f, "{comma}{next}")?;
         }
         Ok(())
     }

@@ -18,7 +18,8 @@ pub fn queue_word(queue: From3) -> &'static str
     }
 }
 
-fn via_word(via: Via) -> &'static str
+/// How a seat came in, as a text has it: `free` or `handed`.
+pub fn via_word(via: Via) -> &'static str
     ensures { result.now ≡ via_word via }
 {
     match via {

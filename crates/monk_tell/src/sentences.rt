@@ -4,12 +4,11 @@ ghost use Rattle.std.specs.Prelude.{◌≡◌, [], IfOk};
 ghost use Rattle.monk_history.specs.Meaning.Events.{seat_of, via_of};
 ghost use Rattle.monk_audit.specs.Reasons.{number_of};
 ghost use Rattle.monk_audit.specs.Replay.{replay_situation};
-ghost use Rattle.monk_tell.specs.Cause.{behind_first, call_beyond, caller_or_none, chosen_beyond, early_cause, has_to_stay};
-ghost use Rattle.monk_tell.specs.Cause.{is_first, may_not_admit, may_not_choose, may_not_continue, may_not_recall};
-ghost use Rattle.monk_tell.specs.Cause.{may_not_stay, may_not_wake, no_entry, number_beyond, other_choice, other_reply};
-ghost use Rattle.monk_tell.specs.Cause.{other_turn, out_of_turn, signaller_yields};
+ghost use Rattle.monk_tell.specs.Cause.{behind_first, call_beyond, early_cause, has_to_stay, is_first, may_not_admit};
+ghost use Rattle.monk_tell.specs.Cause.{may_not_continue, may_not_recall, may_not_stay, may_not_wake, no_entry};
+ghost use Rattle.monk_tell.specs.Cause.{number_beyond, other_choice, other_reply, other_turn, out_of_turn};
 
-use crate::firsts::Firsts;
+use crate::lines::Firsts;
 use crate::waiting::waits_at;
 use crate::why::{OutOfPlace, OutOfRange, OutOfTurn, Precedence, Staying, Why};
 use monk_audit::{Reason, Replay};
@@ -37,27 +36,16 @@ fn call_beyond(seats: u8, conds: u8, event: Event) -> OutOfRange
     }
 }
 
-/// The seat that was chosen, where it is out of range, or that other number.
-fn chosen_beyond(seats: u8, other: OutOfRange, choice: Option<Next>) -> OutOfRange
-    ensures { result ≡ chosen_beyond seats other choice }
-{
-    match choice {
-        Some(Next::Waiter(seat) | Next::Signaller(seat) | Next::Until(seat)) if seat >= seats => {
-            OutOfRange::Seat(seat, seats)
-        }
-        _ => other,
-    }
-}
-
 /// Of the numbers of an event the first that is out of range.
 fn number_beyond(seats: u8, conds: u8, event: Event) -> OutOfRange
     ensures { result ≡ number_beyond seats conds event }
 {
     let seat = event.seat();
-    if seat >= seats {
-        OutOfRange::Seat(seat, seats)
-    } else {
-        chosen_beyond(seats, call_beyond(seats, conds, event), event.choice())
+    match event.choice() {
+        _ if seat >= seats => OutOfRange::Seat(seat, seats),
+        Some(Next::Waiter(chosen) | Next::Signaller(chosen) | Next::Until(chosen))
+            if chosen >= seats => { OutOfRange::Seat(chosen, seats) }
+        _ => call_beyond(seats, conds, event),
     }
 }
 
@@ -143,24 +131,15 @@ fn has_to_stay(event: Event) -> Staying
     }
 }
 
-/// Why the caller of a signal may not stay, before whom that signaller is the first.
-fn signaller_yields(kind: KindName, rules: Rules, first: Option<u8>, seat: u8) -> Staying
-    ensures { result ≡ signaller_yields kind rules first seat }
-{
-    match first {
-        _ if rules.waiter > rules.signaller => Staying::MustYield(seat, kind),
-        Some(first) => Staying::StepsBehind(seat, first),
-        None => Staying::GivesUp(seat),
-    }
-}
-
 /// Why the seat may not stay.
 fn may_not_stay(kind: KindName, rules: Rules, firsts: Firsts, event: Event) -> Staying
     ensures { result ≡ may_not_stay kind rules firsts event }
 {
-    match event {
-        Event::Signal(seat, ..) => signaller_yields(kind, rules, firsts.signaller, seat),
-        _ => Staying::GivesUp(event.seat()),
+    let seat = event.seat();
+    match (event, firsts.signaller) {
+        (Event::Signal(..), _) if rules.waiter > rules.signaller => Staying::MustYield(seat, kind),
+        (Event::Signal(..), Some(first)) => Staying::StepsBehind(seat, first),
+        _ => Staying::GivesUp(seat),
     }
 }
 
@@ -222,17 +201,6 @@ fn may_not_wake(kind: KindName, firsts: Firsts, waits: Option<u8>, seat: u8, cho
     }
 }
 
-/// Why the first signaller may not be chosen past no waiter: it is the caller.
-fn caller_or_none(seat: u8, chosen: u8) -> Why
-    ensures { result ≡ caller_or_none seat chosen }
-{
-    if chosen == seat {
-        Why::Stay(Staying::OwnSignal(seat))
-    } else {
-        Why::Stay(Staying::GivesUp(seat))
-    }
-}
-
 /// Why that signaller may not be chosen.
 fn may_not_recall(kind: KindName, rules: Rules, firsts: Firsts, seat: u8, chosen: u8) -> Why
     ensures { result ≡ may_not_recall kind rules firsts seat chosen }
@@ -244,7 +212,8 @@ fn may_not_recall(kind: KindName, rules: Rules, firsts: Firsts, seat: u8, chosen
         Some(first) if rules.waiter > rules.signaller => {
             Why::Order(Precedence::WaitersFirst(first, kind))
         }
-        _ => caller_or_none(seat, chosen),
+        _ if chosen == seat => Why::Stay(Staying::OwnSignal(seat)),
+        _ => Why::Stay(Staying::GivesUp(seat)),
     }
 }
 
@@ -256,27 +225,6 @@ fn may_not_continue(kind: KindName, rules: Rules, first: Option<u8>, chosen: u8)
         (Mode::Automatic, Some(_)) => Why::Order(Precedence::NotReady(chosen)),
         (Mode::Automatic, None) => Why::Order(Precedence::NobodyReady),
         _ => Why::Order(Precedence::NoUntils(kind)),
-    }
-}
-
-/// Why an event that need not stay may not choose that.
-fn may_not_choose(
-    kind: KindName,
-    rules: Rules,
-    firsts: Firsts,
-    waits: Option<u8>,
-    event: Event,
-    choice: Option<Next>,
-) -> Why
-    ensures { result ≡ may_not_choose kind rules firsts waits event choice }
-{
-    let seat = event.seat();
-    match choice {
-        None | Some(Next::Stay) => Why::Stay(may_not_stay(kind, rules, firsts, event)),
-        Some(Next::Entry) => may_not_admit(kind, rules, firsts, seat),
-        Some(Next::Waiter(chosen)) => may_not_wake(kind, firsts, waits, seat, chosen),
-        Some(Next::Signaller(chosen)) => may_not_recall(kind, rules, firsts, seat, chosen),
-        Some(Next::Until(chosen)) => may_not_continue(kind, rules, firsts.ready, chosen),
     }
 }
 
@@ -292,9 +240,13 @@ pub(crate) fn wrong_choice(
 ) -> Why
     ensures { result ≡ other_choice kind rules firsts waits stays event }
 {
-    if stays {
-        Why::Stay(has_to_stay(event))
-    } else {
-        may_not_choose(kind, rules, firsts, waits, event, event.choice())
+    let seat = event.seat();
+    match event.choice() {
+        _ if stays => Why::Stay(has_to_stay(event)),
+        None | Some(Next::Stay) => Why::Stay(may_not_stay(kind, rules, firsts, event)),
+        Some(Next::Entry) => may_not_admit(kind, rules, firsts, seat),
+        Some(Next::Waiter(chosen)) => may_not_wake(kind, firsts, waits, seat, chosen),
+        Some(Next::Signaller(chosen)) => may_not_recall(kind, rules, firsts, seat, chosen),
+        Some(Next::Until(chosen)) => may_not_continue(kind, rules, firsts.ready, chosen),
     }
 }

@@ -1,18 +1,19 @@
 //! One step of a history.
 
-ghost use Rattle.std.specs.Prelude.{◌≡◌, ◌<◌, [], true, All, IfOk, OnOk, option_map};
-ghost use Rattle.monk_history.specs.Meaning.Monitor.{monitor};
-ghost use Rattle.monk_history.specs.Meaning.Reasons.{fits_object, reason_in};
-ghost use Rattle.monk_history.specs.Meaning.Step.{after};
-ghost use Rattle.monk_audit.specs.Replay.{IsReplayOf, replay_situation};
-ghost use Rattle.monk_tell.specs.Steps.{opening_step, release_choice, step_by, step_of};
-ghost use Rattle.monk_tell.specs.Told.{choice_of};
+ghost use Rattle.std.specs.Prelude.{◌≡◌, ◌<◌, ◌+◌, true, All, IfOk, OnOk, option_map};
+ghost use Rattle.monk_object.specs.Names.{meaning_named};
+ghost use Rattle.monk_history.specs.Meaning.Named.{named_monitor};
+ghost use Rattle.monk_history.specs.Meaning.Reasons.{fits_object};
+ghost use Rattle.monk_audit.specs.Replay.{replay_situation};
+ghost use Rattle.monk_tell.specs.Steps.{IsAfter, event_step, release_choice, step_of};
+ghost use Rattle.monk_tell.specs.Told.{IsJudged, allowed_events, choice_of};
 
 use crate::choice::Choice;
+use crate::judged::JudgedHistory;
 use crate::lines::{line_up, must_stay};
 use crate::permitted::choice_from;
 use crate::standing::Standing;
-use monk_audit::Replay;
+use monk_audit::{Replay, rules_by_name};
 use monk_history::{Event, Header};
 use monk_kinds::Rules;
 use monk_object::{Guarded, Listed};
@@ -30,49 +31,28 @@ pub struct Step {
 }
 
 impl Step {
-    /// A situation to which no event led.
-    pub(crate) fn opening<T: Listed>(
+    /// That of the event behind so many, which is allowed: replay and object carry it out.
+    pub(crate) fn behind<T: Listed>(
         alloc: Global,
-        header: &Header,
-        rules: Rules,
-        replay: &Replay,
-        object: &T,
-    ) -> Result<Step, AllocError>
-        requires { All (λ w. w.1 < T.PREDICATES) (replay_situation replay.now (T.state object.now)).untils }
-        ensures { IfOk result
-            (λ s. step_of s ≡ opening_step (monitor rules header.now.seats header.now.conds T.meaning [])
-            (replay_situation replay.now (T.state object.now))) }
-    {
-        Ok(Step {
-            event: None,
-            choice: None,
-            standing: Standing::of(alloc, header, rules.mode, replay, object)?,
-        })
-    }
-
-    /// An event that is allowed: replay and object carry it out.
-    pub(crate) fn by<T: Listed>(
-        alloc: Global,
-        header: &Header,
-        rules: Rules,
+        history: JudgedHistory<'_>,
         replay: &mut Replay,
         object: &mut T,
-        event: Event,
+        before: usize,
     ) -> Result<Step, AllocError>
-        requires sound { IsReplayOf header.now.seats header.now.conds T.PREDICATES replay.old }
-        requires allowed { reason_in (monitor rules header.now.seats header.now.conds T.meaning [])
-            (replay_situation replay.old (T.state object.old)) event ≡ 0 }
-        ensures step { IfOk result
-            (λ s. step_of s ≡ step_by (monitor rules header.now.seats header.now.conds T.meaning [])
-            (replay_situation replay.old (T.state object.old)) event
-            (replay_situation replay.new (T.state object.new))) }
-        ensures after { OnOk result
-            (replay_situation replay.new (T.state object.new) ≡ after T.meaning
-            (replay_situation replay.old (T.state object.old)) event) }
-        ensures sound { OnOk result (IsReplayOf header.now.seats header.now.conds T.PREDICATES replay.new) }
+        requires judged { IsJudged history }
+        requires named { T.meaning ≡ meaning_named history.header.now.object }
+        requires allowed { before < allowed_events history.verdict }
+        requires stands { IsAfter history.header.now history.events.now before T.PREDICATES replay.old
+            (T.state object.old) }
+        ensures step { IfOk result (λ s. step_of s ≡ event_step (named_monitor history.entry.header.now)
+            history.entry.events.now (before + 1)) }
+        ensures after { OnOk result (IsAfter history.entry.header.now history.entry.events.now (before + 1)
+            T.PREDICATES replay.new (T.state object.new)) }
     {
+        let (header, event) = (history.header, history.events[before]);
+        let rules = rules_by_name(header.kind());
         let choice = release_choice(alloc, rules, replay, object, event)?;
-        replay.carry_out(alloc, rules, object, header.conds(), event)?;
+        carry_out(alloc, history, replay, object, before)?;
         let standing = Standing::of(alloc, header, rules.mode, replay, object)?;
         Ok(Step {
             event: Some(event),
@@ -80,6 +60,28 @@ impl Step {
             standing,
         })
     }
+}
+
+/// Carries out the event behind so many, which is allowed.
+pub(crate) fn carry_out<T: Guarded>(
+    alloc: Global,
+    history: JudgedHistory<'_>,
+    replay: &mut Replay,
+    object: &mut T,
+    before: usize,
+) -> Result<(), AllocError>
+    requires judged { IsJudged history }
+    requires named { T.meaning ≡ meaning_named history.header.now.object }
+    requires allowed { before < allowed_events history.verdict }
+    requires stands { IsAfter history.header.now history.events.now before T.PREDICATES replay.old
+        (T.state object.old) }
+    ensures { OnOk result (IsAfter history.entry.header.now history.entry.events.now (before + 1) T.PREDICATES
+        replay.new (T.state object.new)) }
+{
+    let rules = rules_by_name(history.header.kind());
+    let event = history.events[before];
+    replay.carry_out(alloc, rules, object, history.header.conds(), event)?;
+    Ok(())
 }
 
 /// What the event chooses from and what it might choose, if it is a release.

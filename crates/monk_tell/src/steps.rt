@@ -7,7 +7,8 @@ ghost use Rattle.monk_tell.specs.Steps.{IsAfter, step_of, steps_of};
 ghost use Rattle.monk_tell.specs.Told.{IsJudged, allowed_events};
 
 use crate::judged::JudgedHistory;
-use crate::step::Step;
+use crate::standing::Standing;
+use crate::step::{Step, carry_out};
 use monk_audit::{Replay, rules_by_name};
 use monk_object::{Guarded, Listed};
 use std::alloc::{AllocError, Global};
@@ -29,9 +30,8 @@ pub(crate) fn follow<T: Guarded>(
     ensures { OnOk result (IsAfter history.entry.header.now history.entry.events.now to T.PREDICATES replay.new
         (T.state object.new)) }
 {
-    let rules = rules_by_name(history.header.kind());
-    for event in &history.events[from..to] {
-        replay.carry_out(alloc, rules, object, history.header.conds(), *event)?;
+    for before in from..to {
+        carry_out(alloc, history, replay, object, before)?;
     }
     Ok(())
 }
@@ -60,11 +60,14 @@ pub(crate) fn steps_from<T: Listed>(
     if before > end {
         return Ok(steps);
     }
-    let header = history.header;
-    let rules = rules_by_name(header.kind());
-    steps.push(Step::opening(alloc, header, rules, &*replay, &*object)?)?;
-    for event in &history.events[before..end] {
-        let step = Step::by(alloc, header, rules, replay, object, *event)?;
+    let rules = rules_by_name(history.header.kind());
+    steps.push(Step {
+        event: None,
+        choice: None,
+        standing: Standing::of(alloc, history.header, rules.mode, &*replay, &*object)?,
+    })?;
+    for index in 0..end - before {
+        let step = Step::behind(alloc, history, replay, object, before + index)?;
         steps.push(step)?;
     }
     Ok(steps)

@@ -130,18 +130,9 @@ pub fn tell_judged(
             let buffer = Buffer::make(alloc, size)?;
             Ok(tell_over(alloc, history, buffer, before, last)?)
         }
-        ObjectName::Book => {
-            let book = Book::make(size)?;
-            Ok(tell_over(alloc, history, book, before, last)?)
-        }
-        ObjectName::Shop => {
-            let shop = Shop::make(size)?;
-            Ok(tell_over(alloc, history, shop, before, last)?)
-        }
-        ObjectName::Flags => {
-            let flags = Flags::make(size)?;
-            Ok(tell_over(alloc, history, flags, before, last)?)
-        }
+        ObjectName::Book => Ok(tell_over(alloc, history, Book::make(size)?, before, last)?),
+        ObjectName::Shop => Ok(tell_over(alloc, history, Shop::make(size)?, before, last)?),
+        ObjectName::Flags => Ok(tell_over(alloc, history, Flags::make(size)?, before, last)?),
     }
 }
 

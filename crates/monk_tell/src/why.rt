@@ -1,7 +1,6 @@
 //! Why an event is not allowed, in a sentence.
 
-ghost use Rattle.std.specs.Prelude.{◌≡◌, Some};
-ghost use Rattle.monk_tell.specs.Sentence.{sentence_text};
+ghost use Rattle.std.specs.Prelude.{Some};
 ghost use Rattle.monk_tell.specs.Why.{why_text};
 
 mod out_of_place;
@@ -10,7 +9,6 @@ mod out_of_turn;
 mod precedence;
 mod staying;
 
-use crate::sentence::{Gap, Sentence};
 use monk_kinds::KindName;
 pub use out_of_place::OutOfPlace;
 pub use out_of_range::OutOfRange;
@@ -40,44 +38,22 @@ pub enum Why {
     Order(Precedence),
 }
 
-impl Why {
-    /// One sentence for each.
-    fn sentence(self) -> Sentence
-        ensures { sentence_text result ≡ why_text self }
-    {
-        match self {
-            Why::Range(found) => found.sentence(),
-            Why::Call(kind) => Sentence::of_one(
-                "",
-                Gap::Word(kind.as_str()),
-                " monitors have no such call",
-            ),
-            Why::Turn(found) => found.sentence(),
-            Why::Unsignalled(seat, cond) => Sentence::of_two(
-                "seat ",
-                Gap::number(seat),
-                " waits on condition ",
-                Gap::number(cond),
-                ", and nobody has signalled it",
-            ),
-            Why::Place(found) => found.sentence(),
-            Why::Reply(right, wrong) => Sentence::of_two(
-                "the object replies ",
-                Gap::Number(right),
-                " and not ",
-                Gap::Number(wrong),
-                "",
-            ),
-            Why::Stay(found) => found.sentence(),
-            Why::Order(found) => found.sentence(),
-        }
-    }
-}
-
 impl fmt::Display for Why {
     ghost output = { λ w. Some (why_text w) };
 
     fn fmt<W: fmt::Write>(&self, f: &mut fmt::Formatter<W>) -> fmt::Result {
-        write!(f, "{}", self.sentence())
+        match *self {
+            Why::Range(found) => write!(f, "{found}"),
+            Why::Call(kind) => write!(f, "{} monitors have no such call", kind.as_str()),
+            Why::Turn(found) => write!(f, "{found}"),
+            Why::Unsignalled(seat, cond) => write!(
+                f,
+                "seat {seat} waits on condition {cond}, and nobody has signalled it"
+            ),
+            Why::Place(found) => write!(f, "{found}"),
+            Why::Reply(right, wrong) => write!(f, "the object replies {right} and not {wrong}"),
+            Why::Stay(found) => write!(f, "{found}"),
+            Why::Order(found) => write!(f, "{found}"),
+        }
     }
 }

@@ -20,7 +20,7 @@ const LEAST_WIDTH: u64 = 760;
 /// The room at the right of the lanes, and again at the right of the picture.
 const MARGIN: u64 = 16;
 
-/// How large a picture is, and how many of its events are allowed.
+/// How large a picture is.
 #[derive(Clone, Copy)]
 pub(crate) struct Layout {
     /// How many seats there are.
@@ -29,8 +29,6 @@ pub(crate) struct Layout {
     pub(crate) columns: usize,
     /// How many lanes there are: one for each seat, and one if the last event is of no seat.
     pub(crate) lanes: u8,
-    /// How many of the events are allowed: all, or all but the last.
-    pub(crate) allowed: usize,
 }
 
 impl Layout {
@@ -44,7 +42,6 @@ impl Layout {
             seats,
             columns: scene.events.len(),
             lanes,
-            allowed: scene.allowed(),
         }
     }
 
@@ -56,12 +53,7 @@ impl Layout {
     }
 
     pub(crate) fn width(self) -> u64 {
-        let width = self.end() + MARGIN;
-        if width < LEAST_WIDTH {
-            LEAST_WIDTH
-        } else {
-            width
-        }
+        (self.end() + MARGIN).max(LEAST_WIDTH)
     }
 
     pub(crate) fn height(self) -> u64 {
@@ -79,23 +71,13 @@ impl Layout {
     pub(crate) fn lane_of(self, seat: u8) -> u8 {
         lane_of(seat, self.seats)
     }
-
-    /// Whether the event in that column is forbidden.
-    pub(crate) fn is_forbidden(self, column: usize) -> bool {
-        self.allowed <= column
-    }
 }
 
 /// The left edge of a column, numbered from 0.
 pub(crate) fn left_of(column: usize) -> u64
     ensures { result ≤ 2 ^ 40 }
 {
-    let column = if column < MOST_COLUMNS {
-        column
-    } else {
-        MOST_COLUMNS
-    };
-    LEFT + COLUMN * column as u64
+    LEFT + COLUMN * column.min(MOST_COLUMNS) as u64
 }
 
 /// The middle of a column, numbered from 0.

@@ -1,9 +1,21 @@
 //! What the colours, hatchings and signs mean, of those that occur.
 
-use super::layout::Layout;
-use super::look::Look;
-use crate::scene::Scene;
+use super::Canvas;
 use std::alloc::AllocError;
+
+/// What a picture shows by a colour, a hatching or a sign.
+#[derive(Clone, Copy, Debug, PartialEq, Eq)]
+pub(super) enum Look {
+    Active,
+    Entry,
+    Condition,
+    Waiter,
+    Signaller,
+    Until,
+    Outside,
+    Arrow,
+    Refused,
+}
 
 /// Each look, in the order of the legend.
 const LOOKS: [Look; 9] = [
@@ -18,76 +30,79 @@ const LOOKS: [Look; 9] = [
     Look::Refused,
 ];
 
-/// Notes that it occurs.
-pub(crate) fn note(looks: &mut Vec<Look>, look: Look) -> Result<(), AllocError> {
-    if !looks.contains(&look) {
-        looks.push(look)?;
-    }
-    Ok(())
-}
-
-/// Notes whether the object refused an act.
-pub(crate) fn note_refused(
-    looks: &mut Vec<Look>,
-    scene: &Scene,
-    layout: Layout,
-) -> Result<(), AllocError> {
-    for (column, event) in scene.events.iter().enumerate() {
-        if event.is_refused() && !layout.is_forbidden(column) {
-            note(looks, Look::Refused)?;
+impl Look {
+    /// The class by which the style gives it colour and hatching, and what the legend calls it.
+    pub(super) fn named(self) -> (&'static str, &'static str) {
+        match self {
+            Look::Active => ("active", "active"),
+            Look::Entry => ("entry", "waits at the entry"),
+            Look::Condition => ("condition", "waits on a condition"),
+            Look::Waiter => ("waiter", "in the waiter queue"),
+            Look::Signaller => ("signaller", "in the signaller queue"),
+            Look::Until => ("until", "waits until a predicate"),
+            Look::Outside => ("rail", "outside"),
+            Look::Arrow => ("hand", "goes on by a release"),
+            Look::Refused => ("mark refused", "refused by the object"),
         }
     }
-    Ok(())
 }
 
-/// Puts a sample of how it looks.
-fn put_sample(page: &mut String, look: Look) -> Result<(), AllocError> {
-    let class = look.class();
-    match look {
-        Look::Outside => write!(page, "<path class=\"{class}\" d=\"M0 6h22\"/>"),
-        Look::Arrow => write!(
-            page,
-            "<path class=\"{class}\" marker-end=\"url(#{class}-tip)\" d=\"M0 6h20\"/>"
-        ),
-        Look::Refused => write!(
-            page,
-            "<g class=\"{class}\" transform=\"translate(11 6)\"><circle r=\"6\"/>\
-            <path d=\"M-4 -4L4 4M-4 4L4 -4\"/></g>"
-        ),
-        _ => write!(
-            page,
-            "<rect class=\"{class}\" width=\"22\" height=\"12\" rx=\"3\"/>"
-        ),
+impl Canvas<'_> {
+    /// Notes that it occurs.
+    pub(super) fn note(&mut self, look: Look) -> Result<(), AllocError> {
+        if !self.looks.contains(&look) {
+            self.looks.push(look)?;
+        }
+        Ok(())
     }
-}
 
-/// Puts the entry behind so many, four of them in a row.
-fn put_entry(page: &mut String, at: u8, top: u64, look: Look) -> Result<(), AllocError> {
-    let (x, y) = (
-        16 + 180 * u64::from(at % 4),
-        top.saturating_add(22 * u64::from(at / 4)),
-    );
-    write!(page, "<g transform=\"translate({x} {y})\">")?;
-    put_sample(page, look)?;
-    let words = look.words();
-    write!(
-        page,
-        "<text class=\"soft\" x=\"28\" y=\"10\">{words}</text></g>\n"
-    )
-}
+    /// Notes whether the object refused an act.
+    pub(super) fn note_refused(&mut self) -> Result<(), AllocError> {
+        for column in 0..self.layout.columns {
+            if self.scene.is_refused(column) {
+                self.note(Look::Refused)?;
+            }
+        }
+        Ok(())
+    }
 
-/// Puts the legend of what occurs; outside does in each picture.
-pub(crate) fn put_legend(
-    page: &mut String,
-    looks: &[Look],
-    layout: Layout,
-) -> Result<(), AllocError> {
-    let mut at: u8 = 0;
-    for look in LOOKS.iter() {
-        if *look == Look::Outside || looks.contains(look) {
-            put_entry(page, at, layout.base(), *look)?;
-            at = at.saturating_add(1);
+    /// Puts the legend of what occurs, four in a row; outside does in each picture.
+    pub(super) fn put_legend(&mut self) -> Result<(), AllocError> {
+        let (mut at, base) = (0u8, self.layout.base());
+        for look in LOOKS.iter() {
+            if *look == Look::Outside || self.looks.contains(look) {
+                let (x, y) = (16 + 180 * u64::from(at % 4), base + 22 * u64::from(at / 4));
+                write!(self.page, "<g transform=\"translate({x} {y})\">")?;
+                self.put_sample(*look)?;
+                let (_, words) = look.named();
+                write!(
+                    self.page,
+                    "<text class=\"soft\" x=\"28\" y=\"10\">{words}</text></g>\n"
+                )?;
+                at = at.saturating_add(1);
+            }
+        }
+        Ok(())
+    }
+
+    /// Puts a sample of how it looks.
+    fn put_sample(&mut self, look: Look) -> Result<(), AllocError> {
+        let (class, _) = look.named();
+        match look {
+            Look::Outside => write!(self.page, "<path class=\"{class}\" d=\"M0 6h22\"/>"),
+            Look::Arrow => write!(
+                self.page,
+                "<path class=\"{class}\" marker-end=\"url(#{class}-tip)\" d=\"M0 6h20\"/>"
+            ),
+            Look::Refused => write!(
+                self.page,
+                "<g class=\"{class}\" transform=\"translate(11 6)\"><circle r=\"6\"/>\
+                <path d=\"M-4 -4L4 4M-4 4L4 -4\"/></g>"
+            ),
+            _ => write!(
+                self.page,
+                "<rect class=\"{class}\" width=\"22\" height=\"12\" rx=\"3\"/>"
+            ),
         }
     }
-    Ok(())
 }

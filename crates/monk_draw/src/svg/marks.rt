@@ -1,66 +1,87 @@
-//! The marks of events.
+//! The marks of events, and a frame round the one that is forbidden.
 
-use super::layout::{Layout, column_at, lane_at};
-use crate::label::{event_word, put_note, put_text};
-use crate::scene::Scene;
+use super::Canvas;
+use super::layout::{column_at, lane_at};
+use crate::label::{event_word, put_note};
 use monk_history::Event;
 use monk_object::ObjectName;
+use monk_tell::SaidEvent;
 use std::alloc::AllocError;
 
-/// Puts the number of the step above its column, and a dot in its seat's lane; a crossed one for an act that the object
-/// refused.
-fn put_dot(
-    page: &mut String,
-    x: u64,
-    y: u64,
-    step: usize,
-    crossed: bool,
-) -> Result<(), AllocError> {
-    write!(
-        page,
-        "<text class=\"step\" x=\"{x}\" y=\"60\">{step}</text>\n\
-        <g class=\"mark\" transform=\"translate({x} {y})\"><circle r=\"4\"/>\n"
-    )?;
-    if crossed {
-        page.push_str(
-            "<g class=\"refused\"><circle r=\"7\"/><path d=\"M-4 -4L4 4M-4 4L4 -4\"/></g>\n",
+/// From where on the caption doesn't reach to the one at the left.
+const FAR: u64 = 1400;
+
+impl Canvas<'_> {
+    /// Puts the marks of the events in order, the first of them in the first column.
+    pub(super) fn put_marks(&mut self, object: ObjectName) -> Result<(), AllocError> {
+        let scene = self.scene;
+        for (column, event) in scene.events.iter().enumerate() {
+            self.put_dot(column, event.seat())?;
+            self.put_words(object, scene.step(column), *event)?;
+        }
+        Ok(())
+    }
+
+    /// Puts the number of the step above its column, and a dot in its seat's lane; a crossed one for an act that the
+    /// object refused.
+    fn put_dot(&mut self, column: usize, seat: u8) -> Result<(), AllocError> {
+        let (x, y) = (column_at(column), lane_at(self.layout.lane_of(seat)));
+        let step = self.scene.step(column);
+        write!(
+            self.page,
+            "<text class=\"step\" x=\"{x}\" y=\"60\">{step}</text>\n\
+            <g class=\"mark\" transform=\"translate({x} {y})\"><circle r=\"4\"/>\n"
         )?;
+        if self.scene.is_refused(column) {
+            self.page.push_str(
+                "<g class=\"refused\"><circle r=\"7\"/><path d=\"M-4 -4L4 4M-4 4L4 -4\"/></g>\n",
+            )?;
+        }
+        Ok(())
     }
-    Ok(())
-}
 
-/// Puts the line of the event, which shows where its mark is pointed at, its word above the dot, and what belongs to it
-/// below.
-fn put_words(
-    page: &mut String,
-    object: ObjectName,
-    step: usize,
-    event: Event,
-) -> Result<(), AllocError> {
-    write!(page, "<title>{step}: ")?;
-    put_text(page, event)?;
-    let word = event_word(object, event);
-    write!(
-        page,
-        "</title>\n<text class=\"act\" y=\"-17\">{word}</text>\n<text class=\"note\" y=\"25\">"
-    )?;
-    put_note(page, event)?;
-    page.push_str("</text></g>\n")
-}
-
-/// Puts the marks of the events in order, the first of them in the first column.
-pub(crate) fn put_marks(
-    page: &mut String,
-    object: ObjectName,
-    scene: &Scene,
-    layout: Layout,
-) -> Result<(), AllocError> {
-    for (column, event) in scene.events.iter().enumerate() {
-        let step = scene.step(column);
-        let (x, lane) = (column_at(column), layout.lane_of(event.seat()));
-        let crossed = event.is_refused() && !layout.is_forbidden(column);
-        put_dot(page, x, lane_at(lane), step, crossed)?;
-        put_words(page, object, step, *event)?;
+    /// Puts the line of the event, which shows where its mark is pointed at, its word above the dot, and what belongs
+    /// to it below.
+    fn put_words(
+        &mut self,
+        object: ObjectName,
+        step: usize,
+        event: Event,
+    ) -> Result<(), AllocError> {
+        let (line, word) = (SaidEvent(event), event_word(object, event));
+        write!(
+            self.page,
+            "<title>{step}: {line}</title>\n\
+            <text class=\"act\" y=\"-17\">{word}</text>\n<text class=\"note\" y=\"25\">"
+        )?;
+        put_note(&mut self.page, event)?;
+        self.page.push_str("</text></g>\n")
     }
-    Ok(())
+
+    /// Marks the last event as forbidden, if it is: by a frame round it, and by which step that is and why, at the
+    /// left, and above its column too where that is far from there.
+    pub(super) fn put_fault(&mut self, reason: &str) -> Result<(), AllocError> {
+        let column = self.scene.allowed();
+        let Some(event) = self.scene.events.get(column) else {
+            return Ok(());
+        };
+        let (x, y) = (
+            column_at(column),
+            lane_at(self.layout.lane_of(event.seat())),
+        );
+        let (left, top) = (x.saturating_sub(33), y.saturating_sub(31));
+        let step = self.scene.step(column);
+        write!(
+            self.page,
+            "<rect class=\"frame\" x=\"{left}\" y=\"{top}\" width=\"66\" height=\"62\" rx=\"6\"/>\n\
+            <text class=\"wrong\" x=\"300\" y=\"28\">{step} is forbidden: {reason}</text>\n"
+        )?;
+        if x < FAR {
+            return Ok(());
+        }
+        write!(
+            self.page,
+            "<text class=\"wrong far\" x=\"{x}\" y=\"28\">{step} is forbidden: {reason}</text>\n"
+        )
+    }
 }

@@ -1,6 +1,5 @@
 //! The strips of a picture, line by line.
 
-use super::arrow::{Arrow, ArrowPart};
 use super::column::{Column, GAP};
 use super::lane::Lane;
 use super::signs::{Signs, put_padded, put_times};
@@ -12,6 +11,20 @@ use std::alloc::{AllocError, Global};
 
 /// What stands before the numbers of the steps.
 const STEPS: &str = "step";
+
+/// An arrow from the lane of a release to that of the seat that goes on.
+#[derive(Clone, Copy)]
+struct Arrow {
+    from: u8,
+    to: u8,
+}
+
+impl Arrow {
+    /// Whether it crosses the lane.
+    fn crosses(self, lane: u8) -> bool {
+        self.from.min(self.to) < lane && lane < self.from.max(self.to)
+    }
+}
 
 /// What draws the strips of a scene.
 #[derive(Clone, Copy)]
@@ -160,16 +173,17 @@ impl Brush<'_> {
         } else {
             fill
         };
-        let part = match self.arrow_to(index) {
-            Some(arrow) => arrow.part(lane),
-            None => ArrowPart::Nothing,
-        };
-        let signs = match part {
-            ArrowPart::Nothing => [fill, fill, last],
-            ArrowPart::Tail(way) => [self.signs.along, self.signs.tail(way), last],
-            ArrowPart::Head(way) => [fill, self.signs.head(way), self.signs.along],
-            ArrowPart::Through => [fill, self.signs.through, last],
-        };
+        let mut signs = [fill, fill, last];
+        if let Some(arrow) = self.arrow_to(index) {
+            let (tail, head) = self.signs.corners(arrow.from < arrow.to);
+            if lane == arrow.from {
+                signs = [self.signs.along, tail, last];
+            } else if lane == arrow.to {
+                signs = [fill, head, self.signs.along];
+            } else if arrow.crosses(lane) {
+                signs = [fill, self.signs.through, last];
+            }
+        }
         for sign in signs {
             line.push_str(sign)?;
         }

@@ -1,6 +1,5 @@
 //! What the lines of a picture are made of.
 
-use super::arrow::Way;
 use crate::place::SeatPlace;
 use std::alloc::AllocError;
 
@@ -58,19 +57,12 @@ impl Signs {
         }
     }
 
-    /// The corner at which an arrow leaves its first lane.
-    pub(crate) fn tail(&self, way: Way) -> &'static str {
-        match way {
-            Way::Down => self.tail_down,
-            Way::Up => self.tail_up,
-        }
-    }
-
-    /// The corner at which it reaches its last lane.
-    pub(crate) fn head(&self, way: Way) -> &'static str {
-        match way {
-            Way::Down => self.head_down,
-            Way::Up => self.head_up,
+    /// The corners at which an arrow that leads down, or else up, leaves its first lane, and reaches its last.
+    pub(crate) fn corners(&self, is_down: bool) -> (&'static str, &'static str) {
+        if is_down {
+            (self.tail_down, self.head_down)
+        } else {
+            (self.tail_up, self.head_up)
         }
     }
 }

@@ -1,10 +1,9 @@
 //! Why the seat may not enter.
 
-ghost use Rattle.std.specs.Prelude.{◌≡◌};
-ghost use Rattle.monk_tell.specs.Sentence.{sentence_text};
+ghost use Rattle.std.specs.Prelude.{Some};
 ghost use Rattle.monk_tell.specs.Why.{out_of_place_text};
 
-use crate::sentence::{Gap, Sentence};
+use std::fmt;
 
 /// Why the seat may not enter.
 #[derive(Clone, Copy, Debug)]
@@ -17,26 +16,19 @@ pub enum OutOfPlace {
     FirstOfAll(u8),
 }
 
-impl OutOfPlace {
-    /// One sentence for each.
-    pub(super) fn sentence(self) -> Sentence
-        ensures { sentence_text result ≡ out_of_place_text self }
-    {
-        match self {
-            OutOfPlace::Inside(seat) => Sentence::of_one(
-                "seat ",
-                Gap::number(seat),
-                " is inside already",
+impl fmt::Display for OutOfPlace {
+    ghost output = { λ w. Some (out_of_place_text w) };
+
+    fn fmt<W: fmt::Write>(&self, f: &mut fmt::Formatter<W>) -> fmt::Result {
+        match *self {
+            OutOfPlace::Inside(seat) => write!(f, "seat {seat} is inside already"),
+            OutOfPlace::NotFree(seat) => write!(
+                f,
+                "seat {seat} can't find the monitor free, since somebody inside could go on"
             ),
-            OutOfPlace::NotFree(seat) => Sentence::of_one(
-                "seat ",
-                Gap::number(seat),
-                " can't find the monitor free, since somebody inside could go on",
-            ),
-            OutOfPlace::FirstOfAll(seat) => Sentence::of_one(
-                "nobody came before seat ",
-                Gap::number(seat),
-                " who could hand the monitor over",
+            OutOfPlace::FirstOfAll(seat) => write!(
+                f,
+                "nobody came before seat {seat} who could hand the monitor over"
             ),
         }
     }

@@ -1,10 +1,9 @@
 //! A number of the event that is out of range.
 
-ghost use Rattle.std.specs.Prelude.{◌≡◌};
-ghost use Rattle.monk_tell.specs.Sentence.{sentence_text};
+ghost use Rattle.std.specs.Prelude.{Some};
 ghost use Rattle.monk_tell.specs.Why.{out_of_range_text};
 
-use crate::sentence::{Gap, Sentence};
+use std::fmt;
 
 /// A number of the event that is out of range.
 #[derive(Clone, Copy, Debug)]
@@ -19,36 +18,21 @@ pub enum OutOfRange {
     Predicate(u8),
 }
 
-impl OutOfRange {
-    /// One sentence for each.
-    pub(super) fn sentence(self) -> Sentence
-        ensures { sentence_text result ≡ out_of_range_text self }
-    {
-        match self {
-            OutOfRange::Seat(seat, seats) => Sentence::of_two(
-                "there is no seat ",
-                Gap::number(seat),
-                ", since the ",
-                Gap::number(seats),
-                " seats are counted from 0",
+impl fmt::Display for OutOfRange {
+    ghost output = { λ w. Some (out_of_range_text w) };
+
+    fn fmt<W: fmt::Write>(&self, f: &mut fmt::Formatter<W>) -> fmt::Result {
+        match *self {
+            OutOfRange::Seat(seat, seats) => write!(
+                f,
+                "there is no seat {seat}, since the {seats} seats are counted from 0"
             ),
-            OutOfRange::Condition(cond, conds) => Sentence::of_two(
-                "there is no condition ",
-                Gap::number(cond),
-                ", since the ",
-                Gap::number(conds),
-                " conditions are counted from 0",
+            OutOfRange::Condition(cond, conds) => write!(
+                f,
+                "there is no condition {cond}, since the {conds} conditions are counted from 0"
             ),
-            OutOfRange::Operation(code) => Sentence::of_one(
-                "the object has no operation ",
-                Gap::number(code),
-                "",
-            ),
-            OutOfRange::Predicate(pred) => Sentence::of_one(
-                "the object has no predicate ",
-                Gap::number(pred),
-                "",
-            ),
+            OutOfRange::Operation(code) => write!(f, "the object has no operation {code}"),
+            OutOfRange::Predicate(pred) => write!(f, "the object has no predicate {pred}"),
         }
     }
 }

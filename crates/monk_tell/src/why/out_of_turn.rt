@@ -1,12 +1,11 @@
 //! Whose turn it is, where the seat may not make the call.
 
-ghost use Rattle.std.specs.Prelude.{◌≡◌};
-ghost use Rattle.monk_tell.specs.Sentence.{sentence_text};
+ghost use Rattle.std.specs.Prelude.{Some};
 ghost use Rattle.monk_tell.specs.Why.{out_of_turn_text};
 
 use crate::said::queue_word;
-use crate::sentence::{Gap, Sentence};
 use monk_history::From3;
+use std::fmt;
 
 /// Whose turn it is, where the seat may not make the call.
 #[derive(Clone, Copy, Debug)]
@@ -23,45 +22,30 @@ pub enum OutOfTurn {
     Already(u8),
 }
 
-impl OutOfTurn {
-    /// One sentence for each.
-    pub(super) fn sentence(self) -> Sentence
-        ensures { sentence_text result ≡ out_of_turn_text self }
-    {
-        match self {
-            OutOfTurn::Open(seat) => Sentence::of_one(
-                "seat ",
-                Gap::number(seat),
-                " isn't active, since the monitor is open to whoever enters next",
+impl fmt::Display for OutOfTurn {
+    ghost output = { λ w. Some (out_of_turn_text w) };
+
+    fn fmt<W: fmt::Write>(&self, f: &mut fmt::Formatter<W>) -> fmt::Result {
+        match *self {
+            OutOfTurn::Open(seat) => write!(
+                f,
+                "seat {seat} isn't active, since the monitor is open to whoever enters next"
             ),
-            OutOfTurn::Due(seat, other, queue) => Sentence::of_three(
-                "seat ",
-                Gap::number(seat),
-                " isn't next, since seat ",
-                Gap::number(other),
-                " has to resume from ",
-                Gap::Word(queue_word(queue)),
-                " first",
+            OutOfTurn::Due(seat, other, queue) => write!(
+                f,
+                "seat {seat} isn't next, since seat {other} has to resume from {} first",
+                queue_word(queue)
             ),
-            OutOfTurn::Resumes(seat, queue) => Sentence::of_two(
-                "seat ",
-                Gap::number(seat),
-                " has to resume from ",
-                Gap::Word(queue_word(queue)),
-                " first",
+            OutOfTurn::Resumes(seat, queue) => write!(
+                f,
+                "seat {seat} has to resume from {} first",
+                queue_word(queue)
             ),
-            OutOfTurn::Active(seat, other) => Sentence::of_two(
-                "seat ",
-                Gap::number(seat),
-                " isn't next, since seat ",
-                Gap::number(other),
-                " is active",
+            OutOfTurn::Active(seat, other) => write!(
+                f,
+                "seat {seat} isn't next, since seat {other} is active"
             ),
-            OutOfTurn::Already(seat) => Sentence::of_one(
-                "seat ",
-                Gap::number(seat),
-                " is active already",
-            ),
+            OutOfTurn::Already(seat) => write!(f, "seat {seat} is active already"),
         }
     }
 }

@@ -1,13 +1,12 @@
 //! Who goes on first, by the priorities and the queues.
 
-ghost use Rattle.std.specs.Prelude.{◌≡◌};
-ghost use Rattle.monk_tell.specs.Sentence.{sentence_text};
+ghost use Rattle.std.specs.Prelude.{Some};
 ghost use Rattle.monk_tell.specs.Why.{precedence_text};
 
 use crate::said::queue_word;
-use crate::sentence::{Gap, Sentence};
 use monk_history::From3;
 use monk_kinds::KindName;
+use std::fmt;
 
 /// Who goes on first, by the priorities and the queues.
 #[derive(Clone, Copy, Debug)]
@@ -34,69 +33,51 @@ pub enum Precedence {
     ReadyBeforeEntry(u8, KindName),
 }
 
-impl Precedence {
-    /// One sentence for each.
-    pub(super) fn sentence(self) -> Sentence
-        ensures { sentence_text result ≡ precedence_text self }
-    {
-        match self {
-            Precedence::NotFirst(seat, queue) => Sentence::of_two(
-                "seat ",
-                Gap::number(seat),
-                " isn't the first of the ",
-                Gap::Word(queue_word(queue)),
-                " queue",
+impl fmt::Display for Precedence {
+    ghost output = { λ w. Some (precedence_text w) };
+
+    fn fmt<W: fmt::Write>(&self, f: &mut fmt::Formatter<W>) -> fmt::Result {
+        match *self {
+            Precedence::NotFirst(seat, queue) => write!(
+                f,
+                "seat {seat} isn't the first of the {} queue",
+                queue_word(queue)
             ),
-            Precedence::NobodyIn(queue) => {
-                Sentence::of_one("the ", Gap::Word(queue_word(queue)), " queue is empty")
-            }
-            Precedence::NotReady(seat) => Sentence::of_one(
-                "seat ",
-                Gap::number(seat),
-                " isn't the first of those whose predicate holds",
+            Precedence::NobodyIn(queue) => write!(f, "the {} queue is empty", queue_word(queue)),
+            Precedence::NotReady(seat) => write!(
+                f,
+                "seat {seat} isn't the first of those whose predicate holds"
             ),
-            Precedence::NobodyReady => {
-                Sentence::of_one("there is nobody whose predicate holds", Gap::Nothing, "")
-            }
-            Precedence::NoUntils(kind) => Sentence::of_one(
-                "",
-                Gap::Word(kind.as_str()),
-                " monitors have nobody who waits until a predicate holds",
+            Precedence::NobodyReady => write!(f, "there is nobody whose predicate holds"),
+            Precedence::NoUntils(kind) => write!(
+                f,
+                "{} monitors have nobody who waits until a predicate holds",
+                kind.as_str()
             ),
-            Precedence::WaitersFirst(seat, kind) => Sentence::of_two(
-                "waiter ",
-                Gap::number(seat),
-                " has to go on first, since ",
-                Gap::Word(kind.as_str()),
-                " puts waiters above signallers",
+            Precedence::WaitersFirst(seat, kind) => write!(
+                f,
+                "waiter {seat} has to go on first, since {} puts waiters above signallers",
+                kind.as_str()
             ),
-            Precedence::SignallersFirst(seat, kind) => Sentence::of_two(
-                "signaller ",
-                Gap::number(seat),
-                " has to go on first, since ",
-                Gap::Word(kind.as_str()),
-                " puts signallers above waiters",
+            Precedence::SignallersFirst(seat, kind) => write!(
+                f,
+                "signaller {seat} has to go on first, since {} puts signallers above waiters",
+                kind.as_str()
             ),
-            Precedence::WaitersBeforeEntry(seat, kind) => Sentence::of_two(
-                "waiter ",
-                Gap::number(seat),
-                " has to go on first, since ",
-                Gap::Word(kind.as_str()),
-                " puts waiters above entry",
+            Precedence::WaitersBeforeEntry(seat, kind) => write!(
+                f,
+                "waiter {seat} has to go on first, since {} puts waiters above entry",
+                kind.as_str()
             ),
-            Precedence::SignallersBeforeEntry(seat, kind) => Sentence::of_two(
-                "signaller ",
-                Gap::number(seat),
-                " has to go on first, since ",
-                Gap::Word(kind.as_str()),
-                " puts signallers above entry",
+            Precedence::SignallersBeforeEntry(seat, kind) => write!(
+                f,
+                "signaller {seat} has to go on first, since {} puts signallers above entry",
+                kind.as_str()
             ),
-            Precedence::ReadyBeforeEntry(seat, kind) => Sentence::of_two(
-                "seat ",
-                Gap::number(seat),
-                " has to go on first, since its predicate holds and ",
-                Gap::Word(kind.as_str()),
-                " puts it above entry",
+            Precedence::ReadyBeforeEntry(seat, kind) => write!(
+                f,
+                "seat {seat} has to go on first, since its predicate holds and {} puts it above entry",
+                kind.as_str()
             ),
         }
     }

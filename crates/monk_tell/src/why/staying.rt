@@ -1,11 +1,10 @@
 //! Why the seat may not stay active, or has to.
 
-ghost use Rattle.std.specs.Prelude.{◌≡◌};
-ghost use Rattle.monk_tell.specs.Sentence.{sentence_text};
+ghost use Rattle.std.specs.Prelude.{Some};
 ghost use Rattle.monk_tell.specs.Why.{staying_text};
 
-use crate::sentence::{Gap, Sentence};
 use monk_kinds::KindName;
+use std::fmt;
 
 /// Why the seat may not stay active, or has to.
 #[derive(Clone, Copy, Debug)]
@@ -26,56 +25,40 @@ pub enum Staying {
     OwnSignal(u8),
 }
 
-impl Staying {
-    /// One sentence for each.
-    pub(super) fn sentence(self) -> Sentence
-        ensures { sentence_text result ≡ staying_text self }
-    {
-        match self {
-            Staying::NobodyWaits(cond, seat) => Sentence::of_two(
-                "seat ",
-                Gap::number(seat),
-                " has to stay active, since nobody waits on condition ",
-                Gap::number(cond),
-                "",
+impl fmt::Display for Staying {
+    ghost output = { λ w. Some (staying_text w) };
+
+    fn fmt<W: fmt::Write>(&self, f: &mut fmt::Formatter<W>) -> fmt::Result {
+        match *self {
+            Staying::NobodyWaits(cond, seat) => write!(
+                f,
+                "seat {seat} has to stay active, since nobody waits on condition {cond}"
             ),
-            Staying::HoldsAlready(pred, seat) => Sentence::of_two(
-                "seat ",
-                Gap::number(seat),
-                " has to stay active, since predicate ",
-                Gap::number(pred),
-                " holds already",
+            Staying::HoldsAlready(pred, seat) => write!(
+                f,
+                "seat {seat} has to stay active, since predicate {pred} holds already"
             ),
-            Staying::GivesUp(seat) => Sentence::of_one(
-                "seat ",
-                Gap::number(seat),
-                " can't stay active, since its call gives the monitor up",
+            Staying::GivesUp(seat) => write!(
+                f,
+                "seat {seat} can't stay active, since its call gives the monitor up"
             ),
-            Staying::MustYield(seat, kind) => Sentence::of_two(
-                "seat ",
-                Gap::number(seat),
-                " can't stay active, since ",
-                Gap::Word(kind.as_str()),
-                " puts waiters above signallers",
+            Staying::MustYield(seat, kind) => write!(
+                f,
+                "seat {seat} can't stay active, since {} puts waiters above signallers",
+                kind.as_str()
             ),
-            Staying::MustStay(seat, kind) => Sentence::of_two(
-                "seat ",
-                Gap::number(seat),
-                " has to stay active, since ",
-                Gap::Word(kind.as_str()),
-                " puts signallers above waiters",
+            Staying::MustStay(seat, kind) => write!(
+                f,
+                "seat {seat} has to stay active, since {} puts signallers above waiters",
+                kind.as_str()
             ),
-            Staying::StepsBehind(seat, other) => Sentence::of_two(
-                "seat ",
-                Gap::number(seat),
-                " can't stay active, since seat ",
-                Gap::number(other),
-                " is before it in the signaller queue",
+            Staying::StepsBehind(seat, other) => write!(
+                f,
+                "seat {seat} can't stay active, since seat {other} is before it in the signaller queue"
             ),
-            Staying::OwnSignal(seat) => Sentence::of_one(
-                "seat ",
-                Gap::number(seat),
-                " goes on after its own signal by staying active",
+            Staying::OwnSignal(seat) => write!(
+                f,
+                "seat {seat} goes on after its own signal by staying active"
             ),
         }
     }

@@ -1,10 +1,9 @@
-use Rattle.std.proofs.Common.{◌≡◌, ◌∙◌, ◌≤◌, ◌+◌, ℕ, true, false, List, take, sym, ap, subst, arith}
+use Rattle.std.proofs.Common.{◌∙◌, ℕ, true, false, List, take, sym, ap, arith}
 use Rattle.std.proofs.lemmas.List.{append-nil}
 use Rattle.monk_history.specs.declared.event.Event.TheVariants.{Enter}
 use Rattle.monk_history.specs.declared.event.Via.TheVariants.{Free}
 use Rattle.monk_history.specs.Meaning.Acts.{refused_from, refused_steps}
-use Rattle.monk_tell.specs.Told.{told_steps, refused_of}
-use Rattle.monk_tell.specs.declared.refused.Refused.{Refused}
+use Rattle.monk_tell.specs.Told.{told_steps}
 use Rattle.monk_tell.proofs.RefusedLaws.{refused_more, shown}
 use Rattle.monk_tell.proofs.refused.refused_acts.Goals as goal
 use Rattle.monk_tell.proofs.refused.refused_acts.Goals.{then-is_refused+in_ok-note, else-is_refused}
@@ -23,16 +22,15 @@ loop-index-preserved c =
       | then-is_refused+in_ok-note w ↦
           let more =
           refused_more es i some true c.loop-index-test.true (sym c.is_refused.ensures ∙ w.if-is_refused.true) in
-          let noted = w.in_ok-note.ensures.noted steps c.loop-index.invariant.0 in
-          subst (λ (r : Refused). (refused_of r ≡ told_steps (refused_steps (take (i + 1) es)))
-          × (r.more ≤ i + 1)) (sym w.refused-is)
-          (noted ∙ ap told_steps (sym more), omega (arith, w.note.ensures.few, c.loop-index.invariant.1))
+          rw w.refused-is (
+            w.in_ok-note.ensures.noted steps c.loop-index.invariant.0 ∙ ap told_steps (sym more),
+            omega (arith, w.note.ensures.few, c.loop-index.invariant.1),
+          )
       | else-is_refused w ↦
           let more =
           refused_more es i some false c.loop-index-test.true (sym c.is_refused.ensures ∙ w.if-is_refused.false) in
-          let held : refused_of c.loop-index.refused ≡ told_steps (refused_steps (take (i + 1) es)) =
-          c.loop-index.invariant.0 ∙ ap told_steps (sym (more ∙ append-nil steps)) in
-          subst (λ (r : Refused). (refused_of r ≡ told_steps (refused_steps (take (i + 1) es)))
-          × (r.more ≤ i + 1)) (sym w.refused-is)
-          (held, omega (arith, c.loop-index.invariant.1))
+          rw w.refused-is (
+            c.loop-index.invariant.0 ∙ ap told_steps (sym (more ∙ append-nil steps)),
+            omega (arith, c.loop-index.invariant.1),
+          )
     ]

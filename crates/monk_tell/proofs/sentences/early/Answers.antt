@@ -1,10 +1,11 @@
-use Rattle.std.proofs.Common.{◌≡◌, ◌∙◌, ap, ℕ, [], arith}
+use Rattle.std.proofs.Common.{◌≡◌, ◌∙◌, ap, sym, ℕ, []}
 use Rattle.monk_history.specs.Meaning.Events.{seat_of, via_of}
 use Rattle.monk_audit.specs.Reasons.{number_of}
 use Rattle.monk_audit.specs.Replay.{replay_situation}
-use Rattle.monk_tell.specs.Cause.{no_entry, out_of_turn, waits_at}
+use Rattle.monk_audit.specs.declared.reason.Reason.{Reason}
+use Rattle.monk_tell.specs.Cause.{early_cause, no_entry, out_of_turn, waits_at}
 use Rattle.monk_tell.specs.declared.why.Why.TheVariants.{Place}
-use Rattle.monk_tell.proofs.TellLaws.{at_place, place_caused, turn_caused}
+use Rattle.monk_tell.proofs.TellLaws.{place_caused}
 use Rattle.monk_tell.proofs.sentences.early.Goals as goal
 
 pub returns-in_ok-waits-in-Turn : goal.returns-in_ok-waits-in-Turn
@@ -16,9 +17,9 @@ returns-in_ok-waits-in-Turn c =
     let waits = c.in_ok-waits-in-Turn.ensures
     ∙ ap (λ (n : ℕ). waits_at t.condition n c.seat-seat.result) c.conds-in-Turn.ensures in
     let turn = c.turn.ensures [] in
-    turn_caused h.kind h.seats h.conds t (number_of c.args.reason) e c.out_of_turn.result (ap number_of c.in-Turn.is)
-    (c.out_of_turn.ensures ∙ (λ i. out_of_turn (waits i) (turn i) c.seat-seat.result)
-    ∙ ap (λ (s : ℕ). out_of_turn (waits_at t.condition h.conds s) t.turn s) seat)
+    c.out_of_turn.ensures ∙ (λ i. out_of_turn (waits i) (turn i) c.seat-seat.result)
+    ∙ ap (λ (s : ℕ). out_of_turn (waits_at t.condition h.conds s) t.turn s) seat
+    ∙ ap (λ (r : Reason). early_cause h.kind h.seats h.conds t (number_of r) e) (sym c.in-Turn.is)
 
 pub returns-in-Place : goal.returns-in-Place
 returns-in-Place c =
@@ -26,7 +27,5 @@ returns-in-Place c =
     let t = replay_situation c.args.replay.now [] in
     let e = c.args.event in
     let inside = c.is_inside.ensures [] ∙ ap t.inside c.seat-seat.ensures in
-    let at = at_place c.args.reason c.in-Place.is in
-    place_caused h.kind h.seats h.conds t (number_of c.args.reason) e (Place c.no_entry.result)
-    (λ z. omega (arith, at, z)) (λ z. omega (arith, at, z)) (λ z. omega (arith, at, z))
+    place_caused h.kind h.seats h.conds t e c.args.reason (Place c.no_entry.result) c.in-Place.is
     (λ i. Place ((c.no_entry.ensures ∙ ap (λ b. no_entry b (via_of e) (seat_of e)) inside) i))

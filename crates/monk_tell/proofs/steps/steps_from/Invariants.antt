@@ -5,12 +5,12 @@ use Rattle.monk_tell.specs.Steps.{IsAfter, step_after, step_of}
 use Rattle.monk_tell.proofs.steps.steps_from.Given as goal
 
 -- the steps so far
-abbrev pub invariant-loop-event : goal.invariant-loop-event
-invariant-loop-event g l =
+abbrev pub invariant-loop-index : goal.invariant-loop-index
+invariant-loop-index g l =
     let h = l.history.header.now in
     let es = l.history.events.now in
     record {
-      after : IsAfter h es (l.before + l.event-index) g.T.Guarded.PREDICATES l.replay (g.T.Guarded.state l.object);
+      after : IsAfter h es (l.before + l.index) g.T.Guarded.PREDICATES l.replay (g.T.Guarded.state l.object);
       told : map step_of l.steps.items
-          ≡ map (step_after (named_monitor h) es l.before) (range_with_len l.before (l.event-index + 1));
+          ≡ map (step_after (named_monitor h) es l.before) (range_with_len l.before (l.index + 1));
     }

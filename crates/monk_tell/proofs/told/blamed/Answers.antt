@@ -13,17 +13,13 @@ use Rattle.monk_tell.proofs.told.blamed.Goals as goal
 
 pub overflow_sub-fault : goal.overflow_sub-fault
 overflow_sub-fault g c =
-    let h = c.args.history.header.now in
-    let es = c.args.history.events.now in
-    (fault_there (named_monitor h) es c.in-Forbidden.step c.in-Forbidden.reason
-    (judged_fault h es c.args.history.verdict _ _ c.requires.judged c.in-Forbidden.is)).0
+    (fault_there c.args.history.header.now c.args.history.events.now c.args.history.verdict _ _ c.requires.judged
+    c.in-Forbidden.is).0
 
 pub bounds-history-step : goal.bounds-history-step
 bounds-history-step g c =
-    let h = c.args.history.header.now in
-    let es = c.args.history.events.now in
-    (fault_there (named_monitor h) es c.in-Forbidden.step c.in-Forbidden.reason
-    (judged_fault h es c.args.history.verdict _ _ c.requires.judged c.in-Forbidden.is)).1
+    (fault_there c.args.history.header.now c.args.history.events.now c.args.history.verdict _ _ c.requires.judged
+    c.in-Forbidden.is).1
 
 pub blame-requires-clause-reason : goal.blame-requires-clause-reason
 blame-requires-clause-reason g c κs within =
