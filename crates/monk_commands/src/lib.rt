@@ -25,6 +25,7 @@ mod input;
 mod line_form;
 mod line_hint;
 mod logs;
+mod matched;
 mod meaning_words;
 mod objects;
 mod option_hint;
