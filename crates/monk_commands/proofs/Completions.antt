@@ -1,7 +1,7 @@
 -- A log is completed exactly where it is open under the kind, and what is written then an audit finds legal
-use Rattle.std.proofs.Common.{◌≡◌, ℕ, ◌≤◌, ◌^◌, inl, inr, List, length, Option, Some, None, Result, Ok, Err}
+use Rattle.std.proofs.Common.{◌≡◌, ℕ, ◌≤◌, ◌^◌, inl, inr, List, length, Some, None, Result, Ok, Err}
 use Rattle.std.proofs.Common.{refl, ap, subst, ◌∙◌, arith}
-use Rattle.std.specs.Prelude.{IfSome, ◌↔◌}
+use Rattle.std.specs.Prelude.{◌↔◌}
 use Rattle.monk_kinds.specs.declared.name.KindName.{KindName}
 use Rattle.monk_object.specs.Names.{most}
 use Rattle.monk_history.specs.declared.text.fault.ReadFault.{ReadFault}
@@ -124,37 +124,14 @@ module _ (kind : KindName) (input : List ℕ) (status : ℕ) (Puts : List ℕ �
   pub found_legal : IsAnswerToLog kind input status Puts → status ≡ 0 → IsFoundLegal Puts
   found_legal a none = is_legal (log_at (2 ^ 25) input) refl a none
 
-  exactly_open : IsAnswerToLog kind input status Puts → (status ≡ 0) ↔ IsOpenText kind input
+  pub exactly_open : IsAnswerToLog kind input status Puts → (status ≡ 0) ↔ IsOpenText kind input
   exactly_open a = (
     is_open (log_at (2 ^ 25) input) refl a,
     λ t. zero_by kind t.0 t.1.0 status Puts _ refl (answer_of t.0 t.1.0 t.1.1.0 a) t.1.1.1,
   )
 
-  exactly_misfit : IsAnswerToLog kind input status Puts → (status ≡ 1) ↔ IsMisfitText kind input
+  pub exactly_misfit : IsAnswerToLog kind input status Puts → (status ≡ 1) ↔ IsMisfitText kind input
   exactly_misfit a = (
     is_misfit (log_at (2 ^ 25) input) refl a,
     λ t. one_by kind t.0 t.1.0 status Puts _ refl (answer_of t.0 t.1.0 t.1.1.0 a) t.1.1.1.0 t.1.1.1.1,
   )
-
--- of all that a reader had
-module _ (kind : KindName) (known : Option (List ℕ)) (bytes : List ℕ) (status : ℕ) (Puts : List ℕ → Type 0) where
-  on_known : (F : List ℕ → Type 0) → IfSome known (λ input. bytes ≡ input) → F bytes → IfSome known F
-  on_known F same x = by known same
-    where
-      by : (o : Option (List ℕ)) → IfSome o (λ input. bytes ≡ input) → IfSome o F
-      by None e = tt
-      by (Some input) e = subst F e x
-
-  pub answer_known : IfSome known (λ input. bytes ≡ input) → IsAnswerToLog kind bytes status Puts
-      → IfSome known (λ input. IsAnswerToLog kind input status Puts)
-  answer_known same a = on_known (λ input. IsAnswerToLog kind input status Puts) same a
-
-  pub zero_exactly : IfSome known (λ input. bytes ≡ input) → IsAnswerToLog kind bytes status Puts
-      → IfSome known (λ input. (status ≡ 0) ↔ IsOpenText kind input)
-  zero_exactly same a =
-      on_known (λ input. (status ≡ 0) ↔ IsOpenText kind input) same (exactly_open kind bytes status Puts a)
-
-  pub one_exactly : IfSome known (λ input. bytes ≡ input) → IsAnswerToLog kind bytes status Puts
-      → IfSome known (λ input. (status ≡ 1) ↔ IsMisfitText kind input)
-  one_exactly same a =
-      on_known (λ input. (status ≡ 1) ↔ IsMisfitText kind input) same (exactly_misfit kind bytes status Puts a)

@@ -1,7 +1,7 @@
 -- A play is played exactly where the bytes are its text, and what is written then.
-use Rattle.std.proofs.Common.{◌≡◌, ℕ, ◌≤◌, ◌^◌, inl, inr, List, length, Option, Some, None, Result, Ok, Err}
+use Rattle.std.proofs.Common.{◌≡◌, ℕ, ◌≤◌, ◌^◌, inl, inr, List, length, Result, Ok, Err}
 use Rattle.std.proofs.Common.{refl, sym, ap, subst, ◌∙◌, arith}
-use Rattle.std.specs.Prelude.{IfSome, ◌↔◌}
+use Rattle.std.specs.Prelude.{◌↔◌}
 use Rattle.monk_kinds.specs.declared.mode.Rules.{Rules}
 use Rattle.monk_object.specs.Object.{Object}
 use Rattle.monk_object.specs.Names.{most}
@@ -45,36 +45,14 @@ module _ (report : Report) (input : List ℕ) (status : ℕ) (Puts : List ℕ �
   of_play h budget cs size (inl a) = (a.1, a.2)
   of_play h budget cs size (inr a) = absurd (omega (arith, size, a.0))
 
-  answer_of : (h : Heading) (budget : ℕ) (cs : List (ℕ × Command)) → IsPlayOf input h budget cs
+  pub answer_of : (h : Heading) (budget : ℕ) (cs : List (ℕ × Command)) → IsPlayOf input h budget cs
       → IsAnswerTo report input status Puts → (status ≡ 0) × IsReported report h budget cs Puts
   answer_of h budget cs t a =
       of_play h budget cs t.size
       (subst (λ (r : Result Play ReadFault). IsAnswer report r status Puts) (found_again input h budget cs t) a)
 
-  exactly : IsAnswerTo report input status Puts → (status ≡ 0) ↔ IsPlayText input
+  pub exactly : IsAnswerTo report input status Puts → (status ≡ 0) ↔ IsPlayText input
   exactly a = (is_text (play_at (2 ^ 25) input) refl a, λ t. (answer_of t.0 t.1.0 t.1.1.0 t.1.1.1 a).0)
-
--- of all that a reader had
-module _ (report : Report) (known : Option (List ℕ)) (bytes : List ℕ) (status : ℕ) (Puts : List ℕ → Type 0) where
-  on_known : (F : List ℕ → Type 0) → IfSome known (λ input. bytes ≡ input) → F bytes → IfSome known F
-  on_known F same x = by known same
-    where
-      by : (o : Option (List ℕ)) → IfSome o (λ input. bytes ≡ input) → IfSome o F
-      by None e = tt
-      by (Some input) e = subst F e x
-
-  pub zero_exactly : IfSome known (λ input. bytes ≡ input) → IsAnswerTo report bytes status Puts
-      → IfSome known (λ input. (status ≡ 0) ↔ IsPlayText input)
-  zero_exactly same a = on_known (λ input. (status ≡ 0) ↔ IsPlayText input) same (exactly report bytes status Puts a)
-
-  pub reported_known : IfSome known (λ input. bytes ≡ input) → IsAnswerTo report bytes status Puts
-      → IfSome known (λ input. (h : Heading) (budget : ℕ) (cs : List (ℕ × Command)) → IsPlayOf input h budget cs
-      → IsReported report h budget cs Puts)
-  reported_known same a =
-      on_known
-      (λ input. (h : Heading) (budget : ℕ) (cs : List (ℕ × Command)) → IsPlayOf input h budget cs
-      → IsReported report h budget cs Puts) same
-      (λ h budget cs t. (answer_of report bytes status Puts h budget cs t a).1)
 
 -- what a world that was made and run has come to
 pub led_to : (k : Rules) (o : Object) (opening : List ℕ) (h : Heading) (budget : ℕ) (commands : List (ℕ × Command))

@@ -6,13 +6,12 @@ use Rattle.std.specs.Str.Parse.{ParsesUnsigned}
 use Rattle.clap.specs.declared.parser.matches.Found.{Found}
 use Rattle.clap.proofs.WalkLemmas.{one_text-rows, raw_values-rows}
 use Rattle.monk_commands.specs.declared.request.Line.{Line}
-use Rattle.std.specs.Prelude.{◌↔◌, IfSome, option_map}
+use Rattle.std.specs.Prelude.{IfSome, option_map}
 use Rattle.clap.specs.Words.{Row, Text, TriesOne, all_of, matched_of, one_text, raw_values, rows_of, is_simple}
 use Rattle.clap.proofs.OnLiterals.{clap_on_literals}
 use Rattle.monk_judge.specs.declared.waits_for.WaitsFor.{WaitsFor}
-use Rattle.monk_commands.specs.Request.{AreMeanings, HasNumber, IsAsked, IsMeaning, IsRead, KindNames}
-use Rattle.monk_commands.specs.Request.{MayHaveNumber}
-use Rattle.monk_commands.specs.Request.{RunNames, monk_app, words_or_none}
+use Rattle.monk_commands.specs.Request.{AreMeanings, HasNumber, IsAsked, IsMeaning, IsRead, MayHaveNumber, NameList}
+use Rattle.monk_commands.specs.Request.{monk_app, words_or_none}
 
 -- what is read in the rows of a command is asked for where that command was found
 pub asked_in : (o : Option (Text × List Row)) (word : Text) (rows : List Row) (l : Line)
@@ -42,7 +41,11 @@ number_read E G bits v name f only none value = go (one_text f name) refl
     go None e = absurd (let no : Some v ≡ None = none e in cc)
     go (Some t) e =
         let read = only t (Ok v) (value t e) in
-        record { text = t; found = sym (one_text-rows f name) ∙ e; digits = read.0.0; number = read.1 }
+        record {
+          text = t;
+          found = sym (one_text-rows f name) ∙ e;
+          is = record { digits = read.0.0; number = read.1 };
+        }
 
 -- the number that is read by `try_get_one`, if one is
 pub number_tried : (E : Type 0) (G : List ℕ → Result ℕ E → Type 0) (bits : ℕ) (o : Option ℕ)
@@ -58,19 +61,15 @@ number_tried E G bits o r name f only is none value = go (one_text f name) refl 
     go (Some t) e None told = absurd (subst (TriesOne G t) told (value t e))
     go (Some t) e (Some v) told =
         let read = only t (Ok v) (subst (TriesOne G t) told (value t e)) in
-        record { text = t; found = sym (one_text-rows f name) ∙ e; digits = read.0.0; number = read.1 }
+        record {
+          text = t;
+          found = sym (one_text-rows f name) ∙ e;
+          is = record { digits = read.0.0; number = read.1 };
+        }
 
-pub monk_is_simple : (fitted explained completed : KindNames) (run recorded : RunNames) (hasty : KindNames)
-    → is_simple (monk_app fitted explained completed run recorded hasty) ≡ true
+pub monk_is_simple : (kinds samples : NameList) → is_simple (monk_app kinds samples) ≡ true
 unfolding clap_on_literals
-monk_is_simple fitted explained completed run recorded hasty = refl
-
--- what a test that is exact says of what it has found
-pub found_exactly : (A : Type 0) (o : Option A) (F G : A → Type 0) → ((x : A) → (o ≡ Some x) ↔ F x)
-    → ((x : A) → F x → G x)
-    → IfSome o G
-found_exactly A None F G exact leads = tt
-found_exactly A (Some x) F G exact leads = leads x ((exact x).0 refl)
+monk_is_simple kinds samples = refl
 
 -- ---- what those wait for who wait on a condition
 

@@ -1,6 +1,5 @@
 -- Traces grow by a line for each command
 use Rattle.std.proofs.Common.{◌≡◌, ℕ, suc, ◌+◌, List, [], ◌∷◌, ◌++◌, refl, sym, ap, subst, ◌∙◌, append_assoc, arith}
-use Rattle.std.specs.Prelude.{Result, Ok, Err, OnOk, is_ok, if◌then◌else◌}
 use Rattle.std.proofs.lemmas.List.{append-nil}
 use Rattle.monk_object.specs.declared.name.ObjectName.{ObjectName}
 use Rattle.monk_history.specs.Meaning.Monitor.{Monitor}
@@ -16,17 +15,6 @@ pub places_more : (s : State) (stands : ℕ → Stand) (j : ℕ)
     → places_text s stands (j + 1) ≡ places_text s stands j ++ seat_text s stands j
 unfolding places_text
 places_more s stands j = let on : j + 1 ≡ suc j = omega arith in ap (λ n. places_text s stands n) on
-
--- what is so where it went well
-pub on_ok_if : {T E : Type 0} (r : Result T E) (found well badly : List ℕ) → found ≡ (if is_ok r then well else badly)
-    → OnOk r (found ≡ well)
-on_ok_if (Ok x) found well badly e = e
-on_ok_if (Err x) found well badly e = tt
-
--- what stood on a page, a front, the data, the places and an end
-pub in_line : (page front shown places end : List ℕ)
-    → page ++ front ++ shown ++ places ++ end ≡ page ++ (front ++ shown ++ places ++ end)
-in_line page front shown places end = simp append_assoc
 
 -- what stood on a page, and the seats so far with one more
 pub with_seat : (page places seat more : List ℕ) → more ≡ places ++ seat → (page ++ places) ++ seat ≡ page ++ more

@@ -1,7 +1,7 @@
 -- A text is upgraded exactly where it is of a history, and then by the text of the same events
-use Rattle.std.proofs.Common.{◌≡◌, ℕ, ◌^◌, ◌⊎◌, inl, inr, Bool, true, false, cond, List, Option, Some, None, Result, Ok, Err}
+use Rattle.std.proofs.Common.{◌≡◌, ℕ, ◌^◌, ◌⊎◌, inl, inr, Bool, true, false, cond, List, Result, Ok, Err}
 use Rattle.std.proofs.Common.{refl, sym, ap, subst, ◌∙◌, arith}
-use Rattle.std.specs.Prelude.{IfSome, ◌↔◌, nat_le}
+use Rattle.std.specs.Prelude.{◌↔◌, nat_le}
 use Rattle.monk_history.specs.Limits.{all_events_version}
 use Rattle.monk_history.specs.declared.event.Event.{Event}
 use Rattle.monk_history.specs.declared.text.fault.ReadFault.{ReadFault}
@@ -34,26 +34,17 @@ pub statuses : (status : ℕ) (bytes : List ℕ) → status ≡ (upgrade_of byte
 statuses status bytes h =
     subst (λ (n : ℕ). (n ≡ 0) ⊎ (n ≡ 2)) (sym h) (status_is (text_at (2 ^ 25) bytes))
 
-pub zero_exactly : (known : Option (List ℕ)) (status : ℕ) (bytes : List ℕ) → IfSome known (λ input. bytes ≡ input)
-    → status ≡ (upgrade_of bytes).status → IfSome known (λ input. (status ≡ 0) ↔ IsHistoryText input)
-zero_exactly None status bytes same h = tt
-zero_exactly (Some input) status bytes same h =
-    subst (λ (x : List ℕ). (status ≡ 0) ↔ IsHistoryText x) same (
-      λ e. is_read bytes (text_at (2 ^ 25) bytes) refl (sym h ∙ e),
-      λ t.
-          h ∙ ap (λ (a : LineAnswer). a.status) (text_upgraded bytes t.0 t.1.0 t.1.1),
-    )
+pub exactly : (status : ℕ) (bytes : List ℕ) → status ≡ (upgrade_of bytes).status → (status ≡ 0) ↔ IsHistoryText bytes
+exactly status bytes h = (
+  λ e. is_read bytes (text_at (2 ^ 25) bytes) refl (sym h ∙ e),
+  λ t. h ∙ ap (λ (a : LineAnswer). a.status) (text_upgraded bytes t.0 t.1.0 t.1.1),
+)
 
-pub upgraded_known : (known : Option (List ℕ)) (bytes : List ℕ) (Puts : List ℕ → Type 0)
-    → IfSome known (λ input. bytes ≡ input)
-    → Puts (upgrade_of bytes).text
-    → IfSome known (λ input. (h : Heading) (events : List Event) → IsHistoryOf input h events
-    → Puts (text (upgraded_heading h) events))
-upgraded_known None bytes Puts same puts = tt
-upgraded_known (Some input) bytes Puts same puts =
-    subst (λ (x : List ℕ). (h : Heading) (events : List Event) → IsHistoryOf x h events
-    → Puts (text (upgraded_heading h) events)) same
-    (λ h events t. subst (λ (a : LineAnswer). Puts a.text) (text_upgraded bytes h events t) puts)
+pub upgraded : (bytes : List ℕ) (Puts : List ℕ → Type 0) → Puts (upgrade_of bytes).text → (h : Heading)
+    (events : List Event)
+    → IsHistoryOf bytes h events → Puts (text (upgraded_heading h) events)
+upgraded bytes Puts puts h events t =
+    subst (λ (a : LineAnswer). Puts a.text) (text_upgraded bytes h events t) puts
 
 -- what was upgraded stays as it is
 twice_by : (v : ℕ) (b : Bool) → nat_le all_events_version v ≡ b → let u = cond b v all_events_version in

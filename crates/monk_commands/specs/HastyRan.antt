@@ -1,5 +1,6 @@
 -- What is answered to a hasty run
 use Rattle.std.specs.Prelude.{◌≡◌, ℕ, ◌⊎◌, List, [], ◌++◌, Option, Some, None, codes, slice_index}
+use Rattle.std.specs.Fmt.{decimal}
 use Rattle.monk_kinds.specs.Names.{rules_named}
 use Rattle.monk_kinds.specs.declared.name.KindName.{KindName}
 use Rattle.monk_history.specs.Text.{Heading, HasText, text}
@@ -8,17 +9,19 @@ use Rattle.monk_samples.specs.Runs.{HasLeft}
 use Rattle.monk_samples.specs.Samples.{IsOutcome, in_haste}
 use Rattle.monk_samples.specs.Totals.{HasTotals, first_missed, missed_in}
 use Rattle.monk_samples.specs.declared.sample.Sample.TheVariants.{Buffer}
-use Rattle.monk_commands.specs.Ran.{IsEnd, count_line, lets_in, pair_line}
+use Rattle.monk_commands.specs.Ran.{IsEnd, lets_in}
 
 -- the line of the first act that was refused, by its step
 abbrev pub first_line : Option ℕ → List ℕ
 first_line None = codes "first none\n"
-first_line (Some step) = count_line (codes "first") step
+first_line (Some step) = codes "first " ++ (decimal step ++ codes "\n")
 
 -- the totals of a buffer, and how many acts were refused
 abbrev pub counts_text : List ℕ → ℕ → List ℕ
-counts_text t missed = pair_line (codes "put") (slice_index t 0) (slice_index t 1)
-    ++ pair_line (codes "taken") (slice_index t 2) (slice_index t 3) ++ count_line (codes "missed") missed
+counts_text t missed =
+    codes "put " ++ (decimal (slice_index t 0) ++ (codes " " ++ (decimal (slice_index t 1)
+    ++ (codes "\ntaken " ++ (decimal (slice_index t 2) ++ (codes " " ++ (decimal (slice_index t 3)
+    ++ (codes "\nmissed " ++ (decimal missed ++ codes "\n")))))))))
 
 -- and the first of them
 abbrev pub hasty_text : List ℕ → ℕ → Option ℕ → List ℕ

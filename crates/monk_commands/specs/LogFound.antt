@@ -197,12 +197,9 @@ remark_words f =
     placed (codes "; missed at ") f.report.missed ++ (crossed_words f.crossed
     ++ never_words f f.report.tally.first_not_again)
 
--- whether it fits and how it ends
-abbrev pub front_words : Finding → List ℕ
-front_words f =
-    verdict_words f.report.misfit f ++ (ending_words f.report.misfit f
-    ++ spurious_words f.report.misfit f.report.tally.spurious f.report.tally.first_spurious)
-
--- the line of a finding
+-- the line of a finding: whether the log fits, how it ends, and what is counted and found beside
 abbrev pub finding_line : Finding → List ℕ
-finding_line f = front_words f ++ (tally_words f.report.tally ++ (remark_words f ++ codes "\n"))
+finding_line f =
+    verdict_words f.report.misfit f ++ (ending_words f.report.misfit f
+    ++ (spurious_words f.report.misfit f.report.tally.spurious f.report.tally.first_spurious
+    ++ (tally_words f.report.tally ++ (remark_words f ++ codes "\n"))))

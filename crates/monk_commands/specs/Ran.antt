@@ -13,30 +13,26 @@ use Rattle.monk_samples.specs.declared.run_fault.RunFault.TheVariants.{Range, Me
 use Rattle.monk_samples.specs.declared.sample.Sample.{Sample}
 use Rattle.monk_samples.specs.declared.sample.Sample.TheVariants.{Buffer, Book, Shop}
 
--- a word and a number, or two
-abbrev pub count_line : List ℕ → ℕ → List ℕ
-count_line word n = word ++ codes " " ++ decimal n ++ codes "\n"
-
--- a line of a word and two numbers
-abbrev pub pair_line : List ℕ → ℕ → ℕ → List ℕ
-pair_line word n m = word ++ codes " " ++ decimal n ++ codes " " ++ decimal m ++ codes "\n"
-
 -- the lines that tell the totals of a legal run
 abbrev pub buffer_text : List ℕ → List ℕ
-buffer_text t = pair_line (codes "put") (slice_index t 0) (slice_index t 1)
-    ++ pair_line (codes "taken") (slice_index t 2) (slice_index t 3) ++ codes "legal\n"
+buffer_text t =
+    codes "put " ++ (decimal (slice_index t 0) ++ (codes " " ++ (decimal (slice_index t 1)
+    ++ (codes "\ntaken " ++ (decimal (slice_index t 2) ++ (codes " " ++ (decimal (slice_index t 3)
+    ++ codes "\nlegal\n")))))))
 
 -- the totals of readers and writers
 abbrev pub book_text : List ℕ → List ℕ
-book_text t = pair_line (codes "reads") (slice_index t 0) (slice_index t 1)
-    ++ pair_line (codes "writes") (slice_index t 2) (slice_index t 3) ++ codes "legal\n"
+book_text t =
+    codes "reads " ++ (decimal (slice_index t 0) ++ (codes " " ++ (decimal (slice_index t 1)
+    ++ (codes "\nwrites " ++ (decimal (slice_index t 2) ++ (codes " " ++ (decimal (slice_index t 3)
+    ++ codes "\nlegal\n")))))))
 
 -- the totals of a barber's shop
 abbrev pub shop_text : List ℕ → List ℕ
 shop_text t =
-    count_line (codes "sat") (slice_index t 0) ++ count_line (codes "called") (slice_index t 1)
-    ++ count_line (codes "finished") (slice_index t 2) ++ count_line (codes "departed") (slice_index t 3)
-    ++ codes "legal\n"
+    codes "sat " ++ (decimal (slice_index t 0) ++ (codes "\ncalled " ++ (decimal (slice_index t 1)
+    ++ (codes "\nfinished " ++ (decimal (slice_index t 2) ++ (codes "\ndeparted " ++ (decimal (slice_index t 3)
+    ++ codes "\nlegal\n")))))))
 
 -- the totals of a sample
 abbrev pub totals_text : Sample → List ℕ → List ℕ

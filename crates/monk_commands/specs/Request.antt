@@ -3,8 +3,9 @@ use Rattle.std.specs.Prelude.{◌≡◌, ℕ, Bool, List, [], ◌∷◌, ◌++�
 use Rattle.std.specs.Prelude.{string_bytes, unwrap_or}
 use Rattle.std.specs.Str.Parse.{IsNumeral, digits_value, without_leading_plus}
 use Rattle.std.specs.Borrow.{Bor}
-use Rattle.clap.specs.Words.{AddsSubcommand, App, Row, Rule, Text, all_of, app_of, first_of, one_of, new_app, new_rule, with_rule}
+use Rattle.clap.specs.Words.{App, Row, Rule, Text, all_of, app_of, first_of, new_app, new_rule, one_of, rule_of, with_rule}
 use Rattle.clap.specs.Words.{with_subcommand}
+use Rattle.clap.specs.declared.builder.arg.Arg.{Arg}
 use Rattle.clap.specs.declared.builder.action.ArgAction.TheVariants.{Append, SetTrue}
 use Rattle.clap.specs.declared.builder.command.Command.{Command}
 use Rattle.clap.specs.declared.builder.command.Command.TheViews.{out-Command}
@@ -49,11 +50,6 @@ NameList = Bor (List (Bor Text))
 abbrev pub words_in : NameList → List Text
 words_in w = map (λ x. x.now) w.now
 
--- a list that has exactly the names of the kinds
-pub record KindNames : Type 0 where
-  pub kinds : NameList
-  pub all_kinds : words_in kinds ≡ map kind_word monitor_kinds
-
 -- a sample is called as its object is
 abbrev pub sample_word : Sample → Text
 sample_word sample = object_word (sample_object sample)
@@ -62,26 +58,19 @@ sample_word sample = object_word (sample_object sample)
 abbrev pub every_sample : List Sample
 every_sample = Buffer ∷ Book ∷ Shop ∷ []
 
--- lists that have exactly the names of the kinds and of the samples
-pub record RunNames : Type 0 where
-  pub kinds : NameList
-  pub samples : NameList
-  pub all_kinds : words_in kinds ≡ map kind_word monitor_kinds
-  pub all_samples : words_in samples ≡ map sample_word every_sample
-
 -- a command of that name that takes a kind, a sample, and how many seats and rounds
-abbrev pub run_app : Text → RunNames → App
-run_app name n =
-    with_rule (with_rule (with_rule (with_rule (new_app name) (required_rule (codes "KIND") (Names n.kinds)))
-    (required_rule (codes "SAMPLE") (Names n.samples)))
+abbrev pub run_app : Text → NameList → NameList → App
+run_app name kinds samples =
+    with_rule (with_rule (with_rule (with_rule (new_app name) (required_rule (codes "KIND") (Names kinds)))
+    (required_rule (codes "SAMPLE") (Names samples)))
     (required_rule (codes "SEATS") (Signed (pos 2) (pos 16))))
     (required_rule (codes "ROUNDS") (Signed (pos 1) (pos 1000)))
 
 -- the command that takes a kind, how many seats and rounds, and a file or none
-abbrev pub hasty_app : KindNames → App
-hasty_app n =
+abbrev pub hasty_app : NameList → App
+hasty_app kinds =
     with_rule (with_rule (with_rule (with_rule (new_app (codes "hasty"))
-    (required_rule (codes "KIND") (Names n.kinds)))
+    (required_rule (codes "KIND") (Names kinds)))
     (required_rule (codes "SEATS") (Signed (pos 2) (pos 16))))
     (required_rule (codes "ROUNDS") (Signed (pos 1) (pos 1000))))
     (new_rule (codes "FILE"))
@@ -127,32 +116,33 @@ abbrev pub page_app : App
 page_app = with_rule (shown_app (codes "page")) files_rule
 
 -- a command of that name that takes a kind or none, and what is waited for in a log
-abbrev pub judging_app : Text → KindNames → App
-judging_app name n =
-    with_rule (with_rule (new_app name) (chosen_rule (codes "kind") (Names n.kinds))) (repeated_rule (codes "means"))
+abbrev pub judging_app : Text → NameList → App
+judging_app name kinds =
+    with_rule (with_rule (new_app name) (chosen_rule (codes "kind") (Names kinds))) (repeated_rule (codes "means"))
 
 -- the command that takes a kind or none, what is waited for in a log, a flag, and files
-abbrev pub fit_app : KindNames → App
-fit_app n = with_rule (with_rule (judging_app (codes "fit") n) (flag_rule (codes "json"))) files_rule
+abbrev pub fit_app : NameList → App
+fit_app kinds = with_rule (with_rule (judging_app (codes "fit") kinds) (flag_rule (codes "json"))) files_rule
 
 -- the command that takes a kind or none, what is waited for in a log, and a file
-abbrev pub explain_app : KindNames → App
-explain_app n = with_rule (judging_app (codes "explain") n) (new_rule (codes "FILE"))
+abbrev pub explain_app : NameList → App
+explain_app kinds = with_rule (judging_app (codes "explain") kinds) (new_rule (codes "FILE"))
 
 -- the command that takes a kind or none, and a file
-abbrev pub complete_app : KindNames → App
-complete_app n =
-    with_rule (with_rule (new_app (codes "complete")) (chosen_rule (codes "kind") (Names n.kinds)))
+abbrev pub complete_app : NameList → App
+complete_app kinds =
+    with_rule (with_rule (new_app (codes "complete")) (chosen_rule (codes "kind") (Names kinds)))
     (new_rule (codes "FILE"))
+
+-- the argument has this rule, and isn't for subcommands too
+pub record IsOwnArg (rule : Rule) (arg : Arg) : Type 0 where
+  pub rule_is : rule_of arg ≡ rule
+  pub own : arg.global ≡ false
 
 -- the command has these rules, and none that is for its subcommands too
 pub record IsOwnApp (a : App) (c : Command) : Type 0 where
   pub is : app_of c ≡ a
   pub own : (out-Command c).has_globals ≡ false
-
--- where the command is added to another, it is a subcommand like this
-abbrev pub IsSubcommand : Command → App → Type 0
-IsSubcommand c a = (old new : Command) → AddsSubcommand old c new → app_of new ≡ with_subcommand (app_of old) a.top
 
 -- the program without its commands
 abbrev pub bare_app : App
@@ -162,61 +152,24 @@ bare_app =
           record (new_app (codes "monk")).top { has_version = true; subcommand_required = true };
     }
 
--- with the commands that need no kind
-abbrev pub plain_app : KindNames → App
-plain_app fitted =
-    with_subcommand (with_subcommand (with_subcommand (with_subcommand (with_subcommand
-    (with_subcommand bare_app classify_app.top) (file_app (codes "audit")).top)
-    (file_app (codes "play")).top) (file_app (codes "upgrade")).top) (fit_app fitted).top)
-    (file_app (codes "trace")).top
-
--- the program with its commands
-abbrev pub monk_app : KindNames → KindNames → KindNames → RunNames → RunNames → KindNames → App
-monk_app fitted explained completed run recorded hasty =
+-- the program with its commands, by the names of the kinds and of the samples
+abbrev pub monk_app : NameList → NameList → App
+monk_app kinds samples =
     with_subcommand (with_subcommand (with_subcommand (with_subcommand (with_subcommand (with_subcommand
-    (with_subcommand (plain_app fitted) (explain_app explained).top) draw_app.top)
-    page_app.top) (complete_app completed).top) (run_app (codes "run") run).top)
-    (run_app (codes "record") recorded).top) (hasty_app hasty).top
+    (with_subcommand (with_subcommand (with_subcommand (with_subcommand (with_subcommand (with_subcommand
+    (with_subcommand bare_app classify_app.top) (file_app (codes "audit")).top)
+    (file_app (codes "play")).top) (file_app (codes "upgrade")).top) (fit_app kinds).top)
+    (file_app (codes "trace")).top) (explain_app kinds).top) draw_app.top)
+    page_app.top) (complete_app kinds).top) (run_app (codes "run") kinds samples).top)
+    (run_app (codes "record") kinds samples).top) (hasty_app kinds).top
 
 -- the command line of the program
 pub record IsMonk (a : App) : Type 0 where
-  pub fitted : KindNames
-  pub explained : KindNames
-  pub completed : KindNames
-  pub run : RunNames
-  pub recorded : RunNames
-  pub hasty : KindNames
-  pub is : a ≡ monk_app fitted explained completed run recorded hasty
-
--- the command is the program with the commands that need no kind
-pub record IsPlainMonk (c : Command) : Type 0 where
-  pub fitted : KindNames
-  pub is : app_of c ≡ plain_app fitted
-
--- the command is `fit`
-pub record IsFitCommand (c : Command) : Type 0 where
-  pub names : KindNames
-  pub is : IsSubcommand c (fit_app names)
-
--- the command is `explain`
-pub record IsExplainCommand (c : Command) : Type 0 where
-  pub names : KindNames
-  pub is : IsSubcommand c (explain_app names)
-
--- the command is `complete`
-pub record IsCompleteCommand (c : Command) : Type 0 where
-  pub names : KindNames
-  pub is : IsSubcommand c (complete_app names)
-
--- the command is one that runs a sample
-pub record IsRunCommand (name : Text) (c : Command) : Type 0 where
-  pub names : RunNames
-  pub is : IsSubcommand c (run_app name names)
-
--- the command is `hasty`
-pub record IsHastyCommand (c : Command) : Type 0 where
-  pub names : KindNames
-  pub is : IsSubcommand c (hasty_app names)
+  pub kinds : NameList
+  pub samples : NameList
+  pub all_kinds : words_in kinds ≡ map kind_word monitor_kinds
+  pub all_samples : words_in samples ≡ map sample_word every_sample
+  pub is : a ≡ monk_app kinds samples
 
 -- the command that a line is for
 abbrev pub command_word : Line → Text
@@ -235,12 +188,16 @@ command_word (Run kind sample seats rounds) = codes "run"
 command_word (Record kind sample seats rounds) = codes "record"
 command_word (Hasty kind seats rounds file) = codes "hasty"
 
+-- a whole number in digits
+pub record IsInDigits (text : Text) (n : ℕ) : Type 0 where
+  pub digits : IsNumeral 10 (without_leading_plus text)
+  pub number : n ≡ digits_value 10 (without_leading_plus text)
+
 -- a whole number in digits that clap has found for a name, in the rows of a command
 pub record HasNumber (name : Text) (n : ℕ) (rows : List Row) : Type 0 where
   pub text : Text
   pub found : one_of name rows ≡ Some text
-  pub digits : IsNumeral 10 (without_leading_plus text)
-  pub number : n ≡ digits_value 10 (without_leading_plus text)
+  pub is : IsInDigits text n
 
 -- the same where clap may have found none
 abbrev pub MayHaveNumber : Text → Option ℕ → List Row → Type 0
@@ -281,16 +238,10 @@ pub record IsNoLayout (rows : List Row) : Type 0 where
   pub width : MayHaveNumber (codes "width") None rows
   pub ascii : IsFlag (codes "ascii") false rows
 
--- the flag `json` that clap has found, if any, says so
-pub record IsForm (form : FitForm) (rows : List Row) : Type 0 where
-  pub none : one_of (codes "json") rows ≡ None → form ≡ Words
-  pub set : one_of (codes "json") rows ≡ Some (codes "true") → form ≡ Json
-  pub unset : one_of (codes "json") rows ≡ Some (codes "false") → form ≡ Words
-
--- a whole number in digits
-pub record IsInDigits (text : Text) (n : ℕ) : Type 0 where
-  pub digits : IsNumeral 10 (without_leading_plus text)
-  pub number : n ≡ digits_value 10 (without_leading_plus text)
+-- whether findings are written as JSON
+abbrev pub is_json : FitForm → Bool
+is_json Words = false
+is_json Json = true
 
 -- a word COND=PRED says what is waited for there: two numbers, with the sign `=` between them
 pub record IsMeaning (word : Text) (w : WaitsFor) : Type 0 where
@@ -337,7 +288,7 @@ ValuesAre (Play file) rows = first_of (codes "FILE") rows ≡ option_map string_
 ValuesAre (Upgrade file) rows = first_of (codes "FILE") rows ≡ option_map string_bytes file
 ValuesAre (Fit files judging form) rows =
     (words_or_none (all_of (codes "FILE") rows) ≡ map string_bytes files.items) × AreJudging judging rows
-    × IsForm form rows
+    × IsFlag (codes "json") (is_json form) rows
 ValuesAre (Trace file) rows = first_of (codes "FILE") rows ≡ option_map string_bytes file
 ValuesAre (Explain file judging) rows =
     (first_of (codes "FILE") rows ≡ option_map string_bytes file) × AreJudging judging rows

@@ -1,10 +1,10 @@
 //! The arguments of the commands.
 
-ghost use Rattle.std.specs.Prelude.{◌≡◌, codes, false, pos};
-ghost use Rattle.clap.specs.Words.{new_rule, rule_of};
+ghost use Rattle.std.specs.Prelude.{codes, pos};
+ghost use Rattle.clap.specs.Words.{new_rule};
 ghost use Rattle.clap.specs.declared.builder.value_parser.ValueParser.TheVariants.{Signed};
-ghost use Rattle.monk_commands.specs.Request.{chosen_rule, files_rule, flag_rule, number_rule, repeated_rule};
-ghost use Rattle.monk_commands.specs.Request.{required_rule};
+ghost use Rattle.monk_commands.specs.Request.{IsOwnArg, chosen_rule, files_rule, flag_rule, number_rule};
+ghost use Rattle.monk_commands.specs.Request.{repeated_rule, required_rule};
 
 use crate::help::{FILE, FILES, HISTORY, WIDTH};
 use clap::builder::ValueParser;
@@ -13,24 +13,21 @@ use std::alloc::Global;
 
 /// The file that a command reads.
 pub(crate) fn file<'a>(alloc: Global) -> Arg<'a>
-    ensures rule { rule_of result ≡ new_rule (codes "FILE") }
-    ensures local { result.global ≡ false }
+    ensures { IsOwnArg (new_rule (codes "FILE")) result }
 {
     Arg::new(alloc, "FILE").help(FILE)
 }
 
 /// The file that a command writes.
 pub(crate) fn history<'a>(alloc: Global) -> Arg<'a>
-    ensures rule { rule_of result ≡ new_rule (codes "FILE") }
-    ensures local { result.global ≡ false }
+    ensures { IsOwnArg (new_rule (codes "FILE")) result }
 {
     Arg::new(alloc, "FILE").help(HISTORY)
 }
 
 /// The files that a command reads.
 pub(crate) fn files<'a>(alloc: Global) -> Arg<'a>
-    ensures rule { rule_of result ≡ files_rule }
-    ensures local { result.global ≡ false }
+    ensures { IsOwnArg files_rule result }
 {
     Arg::new(alloc, "FILE")
         .help(FILES)
@@ -44,8 +41,7 @@ pub(crate) fn required<'a>(
     help: &'a str,
     parser: ValueParser<'a>,
 ) -> Arg<'a>
-    ensures rule { rule_of result ≡ required_rule name.entry.now parser.entry }
-    ensures local { result.global ≡ false }
+    ensures { IsOwnArg (required_rule name.entry.now parser.entry) result }
 {
     Arg::new(alloc, name)
         .help(help)
@@ -55,8 +51,7 @@ pub(crate) fn required<'a>(
 
 /// A flag.
 pub(crate) fn flag<'a>(alloc: Global, name: &'a str, help: &'a str) -> Arg<'a>
-    ensures rule { rule_of result ≡ flag_rule name.entry.now }
-    ensures local { result.global ≡ false }
+    ensures { IsOwnArg (flag_rule name.entry.now) result }
 {
     Arg::new(alloc, name)
         .help(help)
@@ -66,8 +61,7 @@ pub(crate) fn flag<'a>(alloc: Global, name: &'a str, help: &'a str) -> Arg<'a>
 
 /// An option that may stand more than once, and takes a value.
 pub(crate) fn repeated<'a>(alloc: Global, name: &'a str, help: &'a str, value: &'a str) -> Arg<'a>
-    ensures rule { rule_of result ≡ repeated_rule name.entry.now }
-    ensures local { result.global ≡ false }
+    ensures { IsOwnArg (repeated_rule name.entry.now) result }
 {
     Arg::new(alloc, name)
         .help(help)
@@ -84,8 +78,7 @@ pub(crate) fn chosen<'a>(
     value: &'a str,
     parser: ValueParser<'a>,
 ) -> Arg<'a>
-    ensures rule { rule_of result ≡ chosen_rule name.entry.now parser.entry }
-    ensures local { result.global ≡ false }
+    ensures { IsOwnArg (chosen_rule name.entry.now parser.entry) result }
 {
     Arg::new(alloc, name)
         .help(help)
@@ -96,8 +89,7 @@ pub(crate) fn chosen<'a>(
 
 /// An option that takes a whole number.
 pub(crate) fn number<'a>(alloc: Global, name: &'a str, help: &'a str) -> Arg<'a>
-    ensures rule { rule_of result ≡ number_rule name.entry.now }
-    ensures local { result.global ≡ false }
+    ensures { IsOwnArg (number_rule name.entry.now) result }
 {
     Arg::new(alloc, name)
         .help(help)
@@ -108,8 +100,7 @@ pub(crate) fn number<'a>(alloc: Global, name: &'a str, help: &'a str) -> Arg<'a>
 
 /// The option that says how wide a picture of text is. In 40 columns there is room for each event without names.
 pub(crate) fn width<'a>(alloc: Global) -> Arg<'a>
-    ensures rule { rule_of result ≡ chosen_rule (codes "width") (Signed (pos 40) (pos 1000000)) }
-    ensures local { result.global ≡ false }
+    ensures { IsOwnArg (chosen_rule (codes "width") (Signed (pos 40) (pos 1000000))) result }
 {
     let parser = value_parser!(u32).range(40..=1_000_000);
     chosen(alloc, "width", WIDTH, "N", parser)

@@ -1,10 +1,9 @@
 //! The completing stream: the text of a log in, the text of a legal history that tells it out, or why there is none.
 
-ghost use Rattle.std.specs.Prelude.{◌≡◌, ◌≤◌, ◌^◌, ◌↔◌, false, true, length, IfOk, IfSome, Err, OnErr};
-ghost use Rattle.std.specs.Prelude.{IsTrue, List};
+ghost use Rattle.std.specs.Prelude.{◌≡◌, ◌≤◌, ◌^◌, ◌↔◌, false, length, IfOk, IfSome, IsTrue, List, string_bytes};
 ghost use Rattle.std.specs.Io.KnownBytes.{Appends};
 ghost use Rattle.monk_history.specs.declared.event.Event.{Event};
-ghost use Rattle.monk_history.specs.Text.{HasText, is_writable, text};
+ghost use Rattle.monk_history.specs.Text.{is_writable};
 ghost use Rattle.monk_history.specs.Text.Device.{inner_of, has_failed};
 ghost use Rattle.monk_logs.specs.Log.Reading.{log};
 ghost use Rattle.monk_commands.specs.Completed.{IsAnswerToLog, IsLogAnswer, IsMisfitText, IsOpenText};
@@ -12,12 +11,13 @@ ghost use Rattle.monk_commands.specs.Completed.{completed_heading, misfit_answer
 ghost use Rattle.monk_commands.specs.Played.{IsFoundLegal};
 ghost use Rattle.monk_commands.specs.Streams.{IsStreamOutcome, IsWriting};
 
-use crate::answer::{put, too_big, unreadable};
+use crate::answer::{LineAnswer, put, too_big, unreadable};
 use crate::fault::StreamFault;
 use crate::input::read_all;
+use crate::recording::put_history;
 use monk_audit::AuditFault;
 use monk_completion::{Blame, Completion, complete};
-use monk_history::{Device, Event, Header, write};
+use monk_history::{Device, Header};
 use monk_kinds::KindName;
 use monk_logs::{LogHeader, LogLine, read_log};
 use std::alloc::{AllocError, Global};
@@ -36,56 +36,18 @@ pub(crate) fn header_of(kind: KindName, header: &LogHeader) -> Header
     }
 }
 
-/// The line of a misfit.
-pub(crate) fn misfit_line(
+/// The answer to a misfit.
+fn misfit_answer(
     alloc: Global,
     kind: KindName,
     line: u32,
     blame: Blame,
-) -> Result<Vec<u8>, AllocError>
-    ensures line { IfOk result (λ page. page.items ≡ (misfit_answer kind line blame).text) }
+) -> Result<LineAnswer, AllocError>
+    ensures { IfOk result (λ a. (a.status ≡ 1) × (string_bytes a.text ≡ (misfit_answer kind line blame).text)) }
 {
-    let (number, word) = (blame.number(), blame.text());
-    let told = format!(in alloc; " misfit {line} {number} {word}\n")?;
-    let mut page = Vec::new(alloc);
-    page.extend_from_slice(kind.text())?;
-    page.extend_from_slice(told.as_bytes())?;
-    Ok(page)
-}
-
-/// Writes the line of a misfit; the result is the exit status.
-fn put_misfit<W: Write>(line: &[u8], writer: &mut Device<W>) -> Result<u8, StreamFault>
-    requires { has_failed writer.old ≡ false }
-    ensures told { IfOk result
-        (λ status. (status ≡ 1)
-        × Appends (W.contents (inner_of writer.old)) (W.contents (inner_of writer.new)) line.now) }
-    ensures fails { OnErr result ((result ≡ Err StreamFault.File) × (has_failed writer.new ≡ true)) }
-{
-    match writer.write_all(line) {
-        Ok(()) => Ok(1),
-        Err(_) => Err(StreamFault::File),
-    }
-}
-
-/// Writes the text of the history; the result is the exit status.
-fn put_history<W: Write>(
-    header: &Header,
-    events: &[Event],
-    writer: &mut Device<W>,
-) -> Result<u8, StreamFault>
-    requires works { has_failed writer.old ≡ false }
-    requires writable { IsTrue (is_writable header.now events.now) }
-    ensures zero { IfOk result (λ status. status ≡ 0) }
-    ensures has_text { IfOk result (λ status. HasText header.now events.now) }
-    ensures told { IfOk result
-        (λ status. Appends (W.contents (inner_of writer.old)) (W.contents (inner_of writer.new))
-        (text header.now events.now)) }
-    ensures fails { OnErr result ((result ≡ Err StreamFault.File) × (has_failed writer.new ≡ true)) }
-{
-    match write(header, events, writer) {
-        Ok(()) => Ok(0),
-        Err(_) => Err(StreamFault::File),
-    }
+    let (kind, number, word) = (kind.as_str(), blame.number(), blame.text());
+    let text = format!(in alloc; "{kind} misfit {line} {number} {word}\n")?;
+    Ok(LineAnswer { status: 1, text })
 }
 
 /// Answers a log that was read.
@@ -104,9 +66,12 @@ fn complete_log<W: Write>(
     ensures writing { IsWriting writer.old writer.new result }
 {
     match complete(alloc, header, lines, kind) {
-        Ok(Completion::History(events)) => put_history(&header_of(kind, header), &events, writer),
+        Ok(Completion::History(events)) => {
+            put_history(&header_of(kind, header), &events, writer)?;
+            Ok(0)
+        }
         Ok(Completion::Misfit { line, blame }) => {
-            put_misfit(&misfit_line(alloc, kind, line, blame)?, writer)
+            put(&misfit_answer(alloc, kind, line, blame)?, writer)
         }
         Err(AuditFault::Object) => put(&too_big(alloc)?, writer),
         Err(AuditFault::Memory) => Err(StreamFault::Memory),
@@ -117,16 +82,16 @@ fn complete_log<W: Write>(
 fn complete_text<W: Write>(
     alloc: Global,
     kind: KindName,
-    bytes: &[u8],
+    bytes: Vec<u8>,
     writer: &mut Device<W>,
 ) -> Result<u8, StreamFault>
     requires { has_failed writer.old ≡ false }
     ensures answer { IfOk result
-        (λ status. IsAnswerToLog kind bytes.now status
+        (λ status. IsAnswerToLog kind bytes.items status
         (Appends (W.contents (inner_of writer.old)) (W.contents (inner_of writer.new)))) }
     ensures writing { IsWriting writer.old writer.new result }
 {
-    match read_log(alloc, bytes) {
+    match read_log(alloc, &bytes) {
         Ok((header, lines)) => complete_log(alloc, kind, &header, &lines, writer),
         Err(fault) => put(&unreadable(alloc, fault)?, writer),
     }
@@ -186,5 +151,5 @@ pub fn complete_stream<R: Read, W: Write>(
     ensures outcome { IsStreamOutcome R.remaining reader.old reader.new writer.old writer.new result }
 {
     let bytes = read_all(alloc, reader)?;
-    complete_text(alloc, kind, &bytes, writer)
+    complete_text(alloc, kind, bytes, writer)
 }

@@ -2,21 +2,15 @@
 
 ghost use Rattle.std.specs.Prelude.{IfOk, codes};
 ghost use Rattle.clap.specs.Words.{found_of, rows_of};
-ghost use Rattle.monk_commands.specs.Request.{IsFlag, IsRead};
+ghost use Rattle.monk_commands.specs.Request.{IsRead};
 
 use crate::file_words::file_of;
+use crate::matched::{is_set, number_of};
 use crate::request::{Line, LineFault};
-use crate::window_words::{number_of, window_of};
+use crate::window_words::window_of;
 use clap::ArgMatches;
 use monk_draw::TextLayout;
 use std::alloc::{AllocError, Global};
-
-/// Whether the flag is set.
-fn is_set(matches: &ArgMatches<'_>, name: &str) -> bool
-    ensures { IsFlag name.now result (rows_of (found_of matches.now)) }
-{
-    matches.get_flag(name)
-}
 
 /// A picture as SVG is told how it shall be laid out as text.
 fn not_as_text(alloc: Global) -> LineFault {

@@ -1,18 +1,20 @@
 //! The words that name files.
 
 ghost use Rattle.std.specs.Prelude.{◌≡◌, IfOk, codes, map, option_map, string_bytes};
-ghost use Rattle.clap.specs.Words.{all_of, first_value, found_of, rows_of};
+ghost use Rattle.clap.specs.Words.{all_of, first_of, found_of, rows_of};
 ghost use Rattle.monk_commands.specs.Request.{words_or_none};
 
+use crate::matched::word_of;
 use crate::request::LineFault;
 use clap::ArgMatches;
 use std::alloc::{AllocError, Global};
 
 /// The file that is named first, if one is.
 pub(crate) fn file_of(alloc: Global, matches: &ArgMatches<'_>) -> Result<Option<String>, LineFault>
-    ensures { IfOk result (λ file. option_map string_bytes file ≡ first_value (found_of matches.now) (codes "FILE")) }
+    ensures { IfOk result
+        (λ file. first_of (codes "FILE") (rows_of (found_of matches.now)) ≡ option_map string_bytes file) }
 {
-    match matches.get_str("FILE") {
+    match word_of(matches, "FILE") {
         Some(name) => Ok(Some(String::from_str(alloc, name)?)),
         None => Ok(None),
     }

@@ -1,34 +1,28 @@
 //! What the words of `fit` and of `explain` ask for.
 
-ghost use Rattle.std.specs.Prelude.{◌≡◌, IfOk, codes, if◌then◌else◌, option_map};
+ghost use Rattle.std.specs.Prelude.{◌≡◌, IfOk, codes, option_map};
 ghost use Rattle.clap.specs.Words.{first_of, found_of, rows_of};
 ghost use Rattle.monk_kinds.specs.Names.{kind_word};
-ghost use Rattle.monk_commands.specs.Request.{AreJudging, IsForm, IsRead};
-ghost use Rattle.monk_commands.specs.declared.fit_form.FitForm.{FitForm};
+ghost use Rattle.monk_commands.specs.Request.{AreJudging, IsFlag, IsRead, is_json};
 
 use crate::file_words::{file_of, files_of};
 use crate::fit_form::FitForm;
+use crate::matched::{is_set, word_of};
 use crate::meaning_words::meanings_of;
 use crate::request::{Judging, Line, LineFault};
 use clap::ArgMatches;
 use monk_kinds::KindName;
 use std::alloc::Global;
 
-/// How findings are written, by whether the flag is set.
-fn form_by(is_set: bool) -> FitForm
-    ensures { result ≡ (if is_set then FitForm.Json else FitForm.Words) }
+/// How findings are written.
+fn form_of(matches: &ArgMatches<'_>) -> FitForm
+    ensures { IsFlag (codes "json") (is_json result) (rows_of (found_of matches.now)) }
 {
-    if is_set {
+    if is_set(matches, "json") {
         FitForm::Json
     } else {
         FitForm::Words
     }
-}
-
-fn form_of(matches: &ArgMatches<'_>) -> FitForm
-    ensures { IsForm result (rows_of (found_of matches.now)) }
-{
-    form_by(matches.get_flag("json"))
 }
 
 /// The kind that is named, if one is.
@@ -39,7 +33,7 @@ pub(crate) fn one_kind(
     ensures { IfOk result
         (λ kind. first_of (codes "kind") (rows_of (found_of matches.now)) ≡ option_map kind_word kind) }
 {
-    let Some(word) = matches.get_str("kind") else {
+    let Some(word) = word_of(matches, "kind") else {
         return Ok(None);
     };
     match KindName::of_text(word.as_bytes()) {

@@ -8,7 +8,7 @@ ghost use Rattle.monk_kinds.specs.Names.{rules_named};
 ghost use Rattle.monk_samples.specs.Runs.{HasLeft, IsFaultOfRun};
 ghost use Rattle.monk_samples.specs.Samples.{IsInRange, IsOutcome, in_haste};
 ghost use Rattle.monk_samples.specs.Totals.{HasTotals, first_missed, missed_in};
-ghost use Rattle.monk_commands.specs.HastyRan.{IsHastyAnswer, counts_text, hasty_text};
+ghost use Rattle.monk_commands.specs.HastyRan.{IsHastyAnswer, counts_text, first_line, hasty_text};
 ghost use Rattle.monk_commands.specs.Ran.{IsUnstarted, lets_in};
 
 use crate::answer::put;
@@ -61,9 +61,17 @@ fn told(alloc: Global, outcome: &HastyOutcome) -> Result<String, AllocError>
         ≡ hasty_text outcome.now.totals outcome.now.missed outcome.now.first) }
 {
     let counts = told_counts(alloc, &outcome.totals, outcome.missed)?;
-    match outcome.first {
-        Some(step) => format!(in alloc; "{counts}first {step}\nlegal\n"),
-        None => format!(in alloc; "{counts}first none\nlegal\n"),
+    let first = told_first(alloc, outcome.first)?;
+    Ok(format!(in alloc; "{counts}{first}legal\n")?)
+}
+
+/// The step of the first of them, if there is one.
+fn told_first(alloc: Global, first: Option<u32>) -> Result<String, AllocError>
+    ensures { IfOk result (λ text. string_bytes text ≡ first_line first) }
+{
+    match first {
+        Some(step) => Ok(format!(in alloc; "first {step}\n")?),
+        None => String::from_str(alloc, "first none\n"),
     }
 }
 
@@ -72,7 +80,7 @@ fn told_counts(alloc: Global, totals: &[u64; 4], missed: u64) -> Result<String, 
     ensures { IfOk result (λ text. string_bytes text ≡ counts_text totals.now missed) }
 {
     let [puts, put, takes, taken] = *totals;
-    format!(in alloc; "put {puts} {put}\ntaken {takes} {taken}\nmissed {missed}\n")
+    Ok(format!(in alloc; "put {puts} {put}\ntaken {takes} {taken}\nmissed {missed}\n")?)
 }
 
 /// Writes the history of a hasty run into the file, and then what is told of it.

@@ -6,40 +6,64 @@ use monk_history::lines::{Flaw, LineWords};
 use monk_history::{MOST_CONDS, MOST_SEATS};
 use monk_kinds::KindName;
 use monk_object::ObjectName;
+use thiserror::Error;
 
 /// What is odd about an input that a command can't read. It prints itself as one sentence that says what to do.
-#[derive(Clone, Copy, Debug, PartialEq, Eq)]
+#[derive(Clone, Copy, Debug, PartialEq, Eq, Error)]
 pub enum Hint {
     /// There is nothing; this text is wanted.
+    #[error("the input is empty: {} begins with `{}`", .0, .0.first_line())]
     Empty(TextName),
     /// It begins with a byte-order mark, of UTF-8 or UTF-16.
+    #[error("a byte-order mark stands in front: save the text as UTF-8 without one")]
     Mark,
     /// It has a control character, and so is no text.
+    #[error("the input is binary: a text has printable characters alone")]
     Binary,
     /// A line ends in a carriage return.
+    #[error("a line ends in CR LF: end each line in LF alone")]
     Return,
     /// The text is another one than the command reads.
+    #[error("this is {}: give it to {}", .0, .0.commands())]
     Another(TextName),
     /// The version in the header is none of this text.
+    #[error("there is no such version: {} begins with `{}`", .0, .0.first_line())]
     Version(TextName),
     /// The kind in the header is in small letters: this one is meant.
+    #[error("a kind has capital letters: did you mean {}?", .0.as_str())]
     Capitals(KindName),
     /// The header names no kind.
+    #[error("there is no such kind: the kinds are PB, NPB, PNB, NPNB, PQB, NPQB, PIR, NPIR, PIS, NPIS")]
     NoKind,
     /// The number of seats in the header is out of range.
+    #[error("the number of seats is out of range: 1 to {}", MOST_SEATS)]
     Seats,
     /// The number of conditions in the header is out of range.
+    #[error("the number of conditions is out of range: 0 to {}", MOST_CONDS)]
     Conds,
     /// The header names no object.
+    #[error("there is no such object: the objects are buffer, book, shop, flags")]
     NoObject,
     /// The size in the header is out of the range of this object.
+    #[error("the size is out of range: that of {}{} is 1 to {}", article(*.0), .0.as_str(), .0.greatest_size())]
     Size(ObjectName),
     /// A line begins with `#`.
+    #[error("a line begins with #: a text has no comments")]
     Comment,
     /// A line has no bytes.
+    #[error("a line is blank: a text has no blank lines")]
     Blank,
     /// The first line is no header; this text is wanted.
+    #[error("the first line is no header: {} begins with `{}`", .0, .0.first_line())]
     NoHeader(TextName),
+}
+
+/// What stands before the word of the object in a sentence: flags are many.
+fn article(object: ObjectName) -> &'static str {
+    match object {
+        ObjectName::Buffer | ObjectName::Book | ObjectName::Shop => "a ",
+        ObjectName::Flags => "",
+    }
 }
 
 /// The hint for an input that the task can't read, by the front of the input; `None` where the

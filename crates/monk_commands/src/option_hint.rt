@@ -7,12 +7,15 @@ use monk_history::lines::{Head, LineWords};
 use monk_judge::WaitsFor;
 use monk_logs::LogHeader;
 use monk_object::{Book, Buffer, Flags, Guarded, ObjectName, Shop};
+use std::fmt;
+use thiserror::Error;
 
 /// What the options of `fit` and `explain` name that the input doesn't have. It prints itself as one
 /// sentence.
-#[derive(Clone, Copy, Debug, PartialEq, Eq)]
+#[derive(Clone, Copy, Debug, PartialEq, Eq, Error)]
 pub enum OptionHint {
     /// The log has no such condition.
+    #[error("{}: the log has no condition {}; it has {}", Meant(*.meaning), .meaning.cond, HowMany(*.conds))]
     Condition {
         /// What is said of the condition.
         meaning: WaitsFor,
@@ -20,6 +23,7 @@ pub enum OptionHint {
         conds: u8,
     },
     /// The object of the log has no such predicate.
+    #[error("{}: {}", Meant(*.meaning), NoPredicate(*.object, .meaning.pred))]
     Predicate {
         /// What is said of the predicate.
         meaning: WaitsFor,
@@ -27,7 +31,52 @@ pub enum OptionHint {
         object: ObjectName,
     },
     /// The input is a history, and the options are for logs.
+    #[error("--means is for logs, and this is a history")]
     History,
+}
+
+/// What is said of a condition, as it stands in the command line.
+#[derive(Clone, Copy)]
+struct Meant(WaitsFor);
+
+impl fmt::Display for Meant {
+    fn fmt<W: fmt::Write>(&self, f: &mut fmt::Formatter<W>) -> fmt::Result {
+        write!(f, "--means {}={}", self.0.cond, self.0.pred)
+    }
+}
+
+/// That the object has no such predicate.
+#[derive(Clone, Copy)]
+struct NoPredicate(ObjectName, u8);
+
+impl fmt::Display for NoPredicate {
+    fn fmt<W: fmt::Write>(&self, f: &mut fmt::Formatter<W>) -> fmt::Result {
+        let (object, many) = (called(self.0), HowMany(predicates(self.0)));
+        write!(f, "{object} has no predicate {}; it has {many}", self.1)
+    }
+}
+
+/// How many there are.
+#[derive(Clone, Copy)]
+struct HowMany(u8);
+
+impl fmt::Display for HowMany {
+    fn fmt<W: fmt::Write>(&self, f: &mut fmt::Formatter<W>) -> fmt::Result {
+        match self.0 {
+            0 => write!(f, "none"),
+            number => write!(f, "{number}, counted from 0"),
+        }
+    }
+}
+
+/// The object, with its article.
+fn called(object: ObjectName) -> &'static str {
+    match object {
+        ObjectName::Buffer => "a buffer",
+        ObjectName::Book => "a book",
+        ObjectName::Shop => "a shop",
+        ObjectName::Flags => "an object of flags",
+    }
 }
 
 /// The hint for an input that the task has read, by the front of the input; `None` where the task has
@@ -69,7 +118,7 @@ fn log_hint(means: &[WaitsFor], line: &[u8]) -> Option<OptionHint> {
 }
 
 /// How many predicates the object has.
-pub(crate) fn predicates(object: ObjectName) -> u8 {
+fn predicates(object: ObjectName) -> u8 {
     match object {
         ObjectName::Buffer => Buffer::PREDICATES,
         ObjectName::Book => Book::PREDICATES,

@@ -61,5 +61,5 @@ pub fn play_stream<R: Read, W: Write>(
     ensures outcome { IsStreamOutcome R.remaining reader.old reader.new writer.old writer.new result }
 {
     let bytes = read_all(alloc, reader)?;
-    play_text(alloc, Report::History, &bytes, writer)
+    play_text(alloc, Report::History, bytes, writer)
 }

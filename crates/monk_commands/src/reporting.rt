@@ -193,16 +193,16 @@ fn play_lines<W: Write>(
 pub(crate) fn play_text<W: Write>(
     alloc: Global,
     report: Report,
-    bytes: &[u8],
+    bytes: Vec<u8>,
     writer: &mut Device<W>,
 ) -> Result<u8, StreamFault>
     requires { has_failed writer.old ≡ false }
     ensures answer { IfOk result
-        (λ status. IsAnswerTo report bytes.now status
+        (λ status. IsAnswerTo report bytes.items status
         (Appends (W.contents (inner_of writer.old)) (W.contents (inner_of writer.new)))) }
     ensures writing { IsWriting writer.old writer.new result }
 {
-    match PlayLines::check(bytes) {
+    match PlayLines::check(&bytes) {
         Ok(play) => play_lines(alloc, report, play, writer),
         Err(fault) => put(&unreadable(alloc, fault)?, writer),
     }

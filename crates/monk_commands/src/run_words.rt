@@ -7,6 +7,7 @@ ghost use Rattle.monk_samples.specs.Samples.{IsInRange};
 ghost use Rattle.monk_commands.specs.Request.{AreRunValues, AreSizes, IsRead, sample_word};
 
 use crate::file_words::file_of;
+use crate::matched::{byte_of, word_of};
 use crate::request::{Line, LineFault};
 use clap::ArgMatches;
 use monk_kinds::KindName;
@@ -18,7 +19,7 @@ use std::alloc::Global;
 pub(crate) fn kind_of(matches: &ArgMatches<'_>) -> Option<KindName>
     ensures { IfSome result (λ kind. first_of (codes "KIND") (rows_of (found_of matches.now)) ≡ Some (kind_word kind)) }
 {
-    KindName::of_text(matches.get_str("KIND")?.as_bytes())
+    KindName::of_text(word_of(matches, "KIND")?.as_bytes())
 }
 
 fn sample_of(name: &str) -> Option<Sample>
@@ -38,7 +39,7 @@ fn sizes_of(matches: &ArgMatches<'_>) -> Option<(u8, u32)>
     ensures values { IfSome result (λ r. AreSizes r.0 r.1 (rows_of (found_of matches.now))) }
     ensures in_range { IfSome result (λ r. IsInRange r.0 r.1) }
 {
-    let seats = matches.get_one::<u8>("SEATS")?;
+    let seats = byte_of(matches, "SEATS")?;
     let rounds = matches.get_one::<u32>("ROUNDS")?;
     if !(2..=16).contains(&seats) || !(1..=1000).contains(&rounds) {
         return None;
@@ -52,7 +53,7 @@ fn run_of(matches: &ArgMatches<'_>) -> Option<(KindName, Sample, u8, u32)>
     ensures in_range { IfSome result (λ r. IsInRange r.2 r.3) }
 {
     let kind = kind_of(matches)?;
-    let sample = sample_of(matches.get_str("SAMPLE")?)?;
+    let sample = sample_of(word_of(matches, "SAMPLE")?)?;
     let (seats, rounds) = sizes_of(matches)?;
     Some((kind, sample, seats, rounds))
 }

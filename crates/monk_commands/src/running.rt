@@ -104,23 +104,23 @@ fn of_buffer(alloc: Global, totals: &[u64; 4]) -> Result<String, AllocError>
     ensures { IfOk result (λ text. string_bytes text ≡ buffer_text totals.now) }
 {
     let [puts, put, takes, taken] = *totals;
-    format!(in alloc; "put {puts} {put}\ntaken {takes} {taken}\nlegal\n")
+    Ok(format!(in alloc; "put {puts} {put}\ntaken {takes} {taken}\nlegal\n")?)
 }
 
 fn of_book(alloc: Global, totals: &[u64; 4]) -> Result<String, AllocError>
     ensures { IfOk result (λ text. string_bytes text ≡ book_text totals.now) }
 {
     let [read, ended, written, finished] = *totals;
-    format!(in alloc; "reads {read} {ended}\nwrites {written} {finished}\nlegal\n")
+    Ok(format!(in alloc; "reads {read} {ended}\nwrites {written} {finished}\nlegal\n")?)
 }
 
 fn of_shop(alloc: Global, totals: &[u64; 4]) -> Result<String, AllocError>
     ensures { IfOk result (λ text. string_bytes text ≡ shop_text totals.now) }
 {
     let [sat, called, finished, departed] = *totals;
-    format!(in alloc;
+    Ok(format!(in alloc;
         "sat {sat}\ncalled {called}\nfinished {finished}\ndeparted {departed}\nlegal\n"
-    )
+    )?)
 }
 
 /// The answer to a run without an outcome, of which this is the end.

@@ -39,6 +39,24 @@ impl TextName {
         }
     }
 
+    /// How its first line is written in version 1.
+    pub(crate) fn first_line(self) -> &'static str {
+        match self {
+            TextName::History => "monk 1 KIND SEATS CONDS OBJECT SIZE",
+            TextName::Play => "play 1 KIND SEATS CONDS OBJECT SIZE BUDGET",
+            TextName::Log => "log 1 SEATS CONDS OBJECT SIZE",
+        }
+    }
+
+    /// The commands that read it.
+    pub(crate) fn commands(self) -> &'static str {
+        match self {
+            TextName::History => "monk audit, explain, draw, page, fit or upgrade",
+            TextName::Play => "monk play or trace",
+            TextName::Log => "monk fit, explain, draw, page or complete",
+        }
+    }
+
     /// Whether the task reads it.
     pub fn is_read_by(self, task: &Task<'_>) -> bool {
         match task {

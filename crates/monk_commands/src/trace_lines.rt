@@ -153,7 +153,8 @@ fn put_line<K: Kind, T: Listed>(
     put_front(page, number, told, world)?;
     put_data(alloc, page, name, object)?;
     put_places(alloc, page, world, replay, conds)?;
-    page.push_str("\n")
+    page.push_str("\n")?;
+    Ok(())
 }
 
 /// Carries out the commands that are left of the play, in order, and gives the lines of all of

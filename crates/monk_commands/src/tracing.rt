@@ -68,5 +68,5 @@ pub fn trace_stream<R: Read, W: Write>(
     ensures outcome { IsStreamOutcome R.remaining reader.old reader.new writer.old writer.new result }
 {
     let bytes = read_all(alloc, reader)?;
-    play_text(alloc, Report::Trace, &bytes, writer)
+    play_text(alloc, Report::Trace, bytes, writer)
 }

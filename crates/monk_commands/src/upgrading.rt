@@ -5,6 +5,7 @@ ghost use Rattle.std.specs.Io.KnownBytes.{Appends};
 ghost use Rattle.monk_history.specs.declared.event.Event.{Event};
 ghost use Rattle.monk_history.specs.Text.{Heading, text, upgraded_heading};
 ghost use Rattle.monk_history.specs.Text.Device.{inner_of, has_failed};
+ghost use Rattle.monk_commands.specs.Given.{IsGiven};
 ghost use Rattle.monk_commands.specs.Streams.{Answers, IsStreamOutcome, IsWriting};
 ghost use Rattle.monk_commands.specs.Upgraded.{IsHistoryOf, IsHistoryText, IsUpgraded, upgrade_of};
 
@@ -19,16 +20,16 @@ use std::io::{Read, Write};
 /// Answers a text.
 fn upgrade_text<W: Write>(
     alloc: Global,
-    bytes: &[u8],
+    bytes: Vec<u8>,
     writer: &mut Device<W>,
 ) -> Result<u8, StreamFault>
     requires { has_failed writer.old ≡ false }
     ensures answer { IfOk result
-        (λ status. (status ≡ (upgrade_of bytes.now).status)
-        × Appends (W.contents (inner_of writer.old)) (W.contents (inner_of writer.new)) (upgrade_of bytes.now).text) }
+        (λ status. IsGiven (upgrade_of bytes.items) status
+        (Appends (W.contents (inner_of writer.old)) (W.contents (inner_of writer.new)))) }
     ensures writing { IsWriting writer.old writer.new result }
 {
-    match CheckedLines::<Header, Event>::check(bytes, MOST_EVENTS) {
+    match CheckedLines::<Header, Event>::check(&bytes, MOST_EVENTS) {
         Ok(lines) => match write_lines(&lines.header().upgraded(), lines, writer) {
             Ok(()) => Ok(0),
             Err(_) => Err(StreamFault::File),
@@ -81,5 +82,5 @@ pub fn upgrade_stream<R: Read, W: Write>(
     ensures outcome { IsStreamOutcome R.remaining reader.old reader.new writer.old writer.new result }
 {
     let bytes = read_all(alloc, reader)?;
-    upgrade_text(alloc, &bytes, writer)
+    upgrade_text(alloc, bytes, writer)
 }

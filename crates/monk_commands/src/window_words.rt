@@ -2,26 +2,13 @@
 
 ghost use Rattle.std.specs.Prelude.{IfOk};
 ghost use Rattle.clap.specs.Words.{found_of, rows_of};
-ghost use Rattle.monk_commands.specs.Request.{IsWindowIn, MayHaveNumber};
+ghost use Rattle.monk_commands.specs.Request.{IsWindowIn};
 
+use crate::matched::number_of;
 use crate::request::LineFault;
 use clap::ArgMatches;
 use monk_draw::{Window, WindowFault};
 use std::alloc::Global;
-
-/// The number that is told for a name, if one is. clap has tested that it is one, and has no contract that says so.
-pub(crate) fn number_of(
-    alloc: Global,
-    matches: &ArgMatches<'_>,
-    name: &str,
-) -> Result<Option<u32>, LineFault>
-    ensures { IfOk result (λ n. MayHaveNumber name.now n (rows_of (found_of matches.now))) }
-{
-    match matches.try_get_one::<u32>(name) {
-        Ok(number) => Ok(number),
-        Err(_) => Err(LineFault::Words(String::new(alloc))),
-    }
-}
 
 fn fault_of(alloc: Global, fault: WindowFault) -> LineFault {
     match format!(in alloc; "error: {fault}") {

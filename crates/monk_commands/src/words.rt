@@ -1,15 +1,12 @@
 //! The program's words, read with `clap`.
 
-ghost use Rattle.std.specs.Prelude.{◌≡◌, false, IfOk, IfSome, IsOkAnd, Some, codes, map, pos};
-ghost use Rattle.clap.specs.Words.{AddsArg, AddsSubcommand, App, app_of, found_of, new_app, rows_of, rule_of, subcommand_of};
-ghost use Rattle.clap.specs.Words.{subcommand_rows_of};
-ghost use Rattle.clap.specs.declared.builder.value_parser.ValueParser.TheVariants.{Signed};
-ghost use Rattle.monk_commands.specs.Request.{IsAsked, IsCompleteCommand, IsHastyCommand};
-ghost use Rattle.monk_commands.specs.Request.{IsExplainCommand};
-ghost use Rattle.monk_commands.specs.Request.{IsFitCommand};
-ghost use Rattle.monk_commands.specs.Request.{IsMonk, IsOwnApp, IsPlainMonk, IsRead, IsRunCommand, IsSubcommand};
-ghost use Rattle.monk_commands.specs.Request.{bare_app, classify_app, file_app, priority, required_rule};
-ghost use Rattle.monk_commands.specs.Request.{draw_app, page_app, shown_app};
+ghost use Rattle.std.specs.Prelude.{◌≡◌, IfOk, IfSome, codes, map, pos};
+ghost use Rattle.clap.specs.Words.{App, app_of, found_of, new_app, rows_of, subcommand_of, subcommand_rows_of, with_rule};
+ghost use Rattle.clap.specs.Words.{Rule, with_subcommand};
+ghost use Rattle.clap.specs.declared.builder.value_parser.ValueParser.TheVariants.{Names, Signed};
+ghost use Rattle.monk_commands.specs.Request.{IsAsked, IsMonk, IsOwnApp, IsOwnArg, IsRead, bare_app, classify_app};
+ghost use Rattle.monk_commands.specs.Request.{complete_app, draw_app, explain_app, file_app, fit_app, hasty_app};
+ghost use Rattle.monk_commands.specs.Request.{judging_app, page_app, priority, required_rule, run_app, shown_app};
 
 use crate::arguments::{chosen, file, files, flag, history, number, repeated, required, width};
 use crate::draw_words::line_to_draw;
@@ -19,6 +16,7 @@ use crate::help::{
     ASCII, AUDIT, CLASSIFY, COMPLETE, COMPLETED_KIND, DRAW, EXPLAIN, FIT, FROM, HASTY, Help, JSON,
     MEANS, ONE_KIND, PAGE, PLAY, PRIORITY, RECORD, RUN, TEXT, TO, TRACE, UPGRADE,
 };
+use crate::matched::byte_of;
 use crate::request::{Line, LineFault};
 use crate::run_words::{kind_of, line_to_hasty, line_to_record, line_to_run};
 use crate::window_words::window_of;
@@ -42,25 +40,20 @@ const MOST_PAGED: usize = 4;
 fn command<'a>(alloc: Global) -> Result<Command<'a>, AllocError>
     ensures { IfOk result (λ c. IsMonk (app_of c)) }
 {
-    let program = adding(plain(alloc), explaining(alloc));
-    let program = adding(program, drawing(alloc));
-    let program = adding(program, paging(alloc));
-    let program = adding(program, completing(alloc));
-    let program = adding(program, running(alloc, "run", &RUN));
-    let program = adding(program, running(alloc, "record", &RECORD));
-    adding(program, hurrying(alloc))
-}
-
-/// The program with the commands that need no kind.
-fn plain<'a>(alloc: Global) -> Result<Command<'a>, AllocError>
-    ensures { IfOk result IsPlainMonk }
-{
+    let (kinds, samples) = (KINDS.as_slice(), SAMPLES.as_slice());
     let program = adding(bare(alloc), classify(alloc));
     let program = adding(program, with_file(alloc, "audit", &AUDIT));
     let program = adding(program, with_file(alloc, "play", &PLAY));
     let program = adding(program, with_file(alloc, "upgrade", &UPGRADE));
-    let program = adding(program, fitting(alloc));
-    adding(program, with_file(alloc, "trace", &TRACE))
+    let program = adding(program, fitting(alloc, kinds));
+    let program = adding(program, with_file(alloc, "trace", &TRACE));
+    let program = adding(program, explaining(alloc, kinds));
+    let program = adding(program, drawing(alloc));
+    let program = adding(program, paging(alloc));
+    let program = adding(program, completing(alloc, kinds));
+    let program = adding(program, running(alloc, "run", &RUN, kinds, samples));
+    let program = adding(program, running(alloc, "record", &RECORD, kinds, samples));
+    adding(program, hurrying(alloc, kinds))
 }
 
 /// The program without commands.
@@ -76,10 +69,12 @@ fn adding<'a>(
     program: Result<Command<'a>, AllocError>,
     made: Result<Command<'a>, AllocError>,
 ) -> Result<Command<'a>, AllocError>
-    ensures { IfOk result
-        (λ r. IsOkAnd program.entry (λ p. IsOkAnd made.entry (λ c. AddsSubcommand p c r))) }
+    ensures { (a x : App) → IfOk program.entry (λ p. app_of p ≡ a) → IfOk made.entry (IsOwnApp x)
+        → IfOk result (λ r. app_of r ≡ with_subcommand a x.top) }
 {
-    program?.subcommand(made?)
+    let program = program?;
+    let made = made?;
+    program.subcommand(made)
 }
 
 /// The command with one argument more, if it was made.
@@ -87,68 +82,83 @@ fn taking<'a>(
     command: Result<Command<'a>, AllocError>,
     arg: Arg<'a>,
 ) -> Result<Command<'a>, AllocError>
-    ensures { IfOk result (λ r. IsOkAnd command.entry (λ c. AddsArg c arg.entry r)) }
+    ensures { (a : App) (rule : Rule) → IfOk command.entry (IsOwnApp a) → IsOwnArg rule arg.entry
+        → IfOk result (IsOwnApp (with_rule a rule)) }
 {
-    command?.arg(arg)
+    let command = command?;
+    command.arg(arg)
 }
 
 /// A command of that name, with its help.
-fn described<'a>(alloc: Global, name: &'a str, help: &Help) -> Command<'a>
-    ensures { IsOwnApp (new_app name.entry.now) result }
+fn described<'a>(alloc: Global, name: &'a str, help: &Help) -> Result<Command<'a>, AllocError>
+    ensures { IfOk result (IsOwnApp (new_app name.entry.now)) }
 {
-    Command::new(alloc, name)
-        .about(help.about)
-        .after_help(help.example)
+    Ok(
+        Command::new(alloc, name)
+            .about(help.about)
+            .after_help(help.example),
+    )
 }
 
 /// A priority that must stand there.
 fn priority<'a>(alloc: Global, name: &'a str) -> Arg<'a>
-    ensures rule { rule_of result ≡ required_rule name.entry.now priority }
-    ensures local { result.global ≡ false }
+    ensures { IsOwnArg (required_rule name.entry.now priority) result }
 {
     required(alloc, name, PRIORITY, value_parser!(u8))
 }
 
 fn classify<'a>(alloc: Global) -> Result<Command<'a>, AllocError>
-    ensures { IfOk result (λ c. IsSubcommand c classify_app) }
+    ensures { IfOk result (IsOwnApp classify_app) }
 {
-    let command = described(alloc, "classify", &CLASSIFY).arg(priority(alloc, "ENTRY"));
+    let command = taking(
+        described(alloc, "classify", &CLASSIFY),
+        priority(alloc, "ENTRY"),
+    );
     let command = taking(command, priority(alloc, "WAITER"));
     taking(command, priority(alloc, "SIGNALLER"))
 }
 
-fn fitting<'a>(alloc: Global) -> Result<Command<'a>, AllocError>
-    ensures { IfOk result IsFitCommand }
+/// A command that takes a kind or none, and what is waited for in a log.
+fn judging<'a>(
+    alloc: Global,
+    name: &'a str,
+    help: &Help,
+    kinds: &'a [&'a str],
+) -> Result<Command<'a>, AllocError>
+    ensures { IfOk result (IsOwnApp (judging_app name.entry.now kinds.entry)) }
 {
-    let kinds = ValueParser::Names(KINDS.as_slice());
-    let kind = chosen(alloc, "kind", ONE_KIND, "KIND", kinds);
-    let command = described(alloc, "fit", &FIT).arg(kind);
-    let command = taking(command, repeated(alloc, "means", MEANS, "COND=PRED"));
-    let command = taking(command, flag(alloc, "json", JSON));
+    let kind = chosen(alloc, "kind", ONE_KIND, "KIND", ValueParser::Names(kinds));
+    let command = taking(described(alloc, name, help), kind);
+    taking(command, repeated(alloc, "means", MEANS, "COND=PRED"))
+}
+
+fn fitting<'a>(alloc: Global, kinds: &'a [&'a str]) -> Result<Command<'a>, AllocError>
+    ensures { IfOk result (IsOwnApp (fit_app kinds.entry)) }
+{
+    let command = taking(
+        judging(alloc, "fit", &FIT, kinds),
+        flag(alloc, "json", JSON),
+    );
     taking(command, files(alloc))
 }
 
-fn explaining<'a>(alloc: Global) -> Result<Command<'a>, AllocError>
-    ensures { IfOk result IsExplainCommand }
+fn explaining<'a>(alloc: Global, kinds: &'a [&'a str]) -> Result<Command<'a>, AllocError>
+    ensures { IfOk result (IsOwnApp (explain_app kinds.entry)) }
 {
-    let kinds = ValueParser::Names(KINDS.as_slice());
-    let kind = chosen(alloc, "kind", ONE_KIND, "KIND", kinds);
-    let command = described(alloc, "explain", &EXPLAIN).arg(kind);
-    let command = taking(command, repeated(alloc, "means", MEANS, "COND=PRED"));
-    taking(command, file(alloc))
+    taking(judging(alloc, "explain", &EXPLAIN, kinds), file(alloc))
 }
 
 /// A command that shows some events.
 fn with_window<'a>(alloc: Global, name: &'a str, help: &Help) -> Result<Command<'a>, AllocError>
     ensures { IfOk result (IsOwnApp (shown_app name.entry.now)) }
 {
-    let command = described(alloc, name, help).arg(number(alloc, "from", FROM));
+    let command = taking(described(alloc, name, help), number(alloc, "from", FROM));
     taking(command, number(alloc, "to", TO))
 }
 
 /// The command that shows them of a file, or of standard input where none is named.
 fn drawing<'a>(alloc: Global) -> Result<Command<'a>, AllocError>
-    ensures { IfOk result (λ c. IsSubcommand c draw_app) }
+    ensures { IfOk result (IsOwnApp draw_app) }
 {
     let command = taking(with_window(alloc, "draw", &DRAW), flag(alloc, "text", TEXT));
     let command = taking(command, width(alloc));
@@ -158,25 +168,37 @@ fn drawing<'a>(alloc: Global) -> Result<Command<'a>, AllocError>
 
 /// The command that shows them of files, or of standard input where none is named.
 fn paging<'a>(alloc: Global) -> Result<Command<'a>, AllocError>
-    ensures { IfOk result (λ c. IsSubcommand c page_app) }
+    ensures { IfOk result (IsOwnApp page_app) }
 {
     taking(with_window(alloc, "page", &PAGE), files(alloc))
 }
 
 /// The command that takes a kind or none, and a file, or standard input where none is named.
-fn completing<'a>(alloc: Global) -> Result<Command<'a>, AllocError>
-    ensures { IfOk result IsCompleteCommand }
+fn completing<'a>(alloc: Global, kinds: &'a [&'a str]) -> Result<Command<'a>, AllocError>
+    ensures { IfOk result (IsOwnApp (complete_app kinds.entry)) }
 {
-    let kinds = ValueParser::Names(KINDS.as_slice());
-    let kind = chosen(alloc, "kind", COMPLETED_KIND, "KIND", kinds);
-    let command = described(alloc, "complete", &COMPLETE).arg(kind);
+    let kind = chosen(
+        alloc,
+        "kind",
+        COMPLETED_KIND,
+        "KIND",
+        ValueParser::Names(kinds),
+    );
+    let command = taking(described(alloc, "complete", &COMPLETE), kind);
     taking(command, file(alloc))
+}
+
+/// The kind that must stand there.
+fn kind<'a>(alloc: Global, kinds: &'a [&'a str]) -> Arg<'a>
+    ensures { IsOwnArg (required_rule (codes "KIND") (Names kinds.entry)) result }
+{
+    let names = ValueParser::Names(kinds);
+    required(alloc, "KIND", "The kind of monitor", names)
 }
 
 /// How many seats there must be.
 fn seats<'a>(alloc: Global) -> Arg<'a>
-    ensures rule { rule_of result ≡ required_rule (codes "SEATS") (Signed (pos 2) (pos 16)) }
-    ensures local { result.global ≡ false }
+    ensures { IsOwnArg (required_rule (codes "SEATS") (Signed (pos 2) (pos 16))) result }
 {
     let parser = value_parser!(u8).range(2..=16);
     required(alloc, "SEATS", "How many seats, 2 to 16", parser)
@@ -184,34 +206,35 @@ fn seats<'a>(alloc: Global) -> Arg<'a>
 
 /// How many rounds there must be.
 fn rounds<'a>(alloc: Global) -> Arg<'a>
-    ensures rule { rule_of result ≡ required_rule (codes "ROUNDS") (Signed (pos 1) (pos 1000)) }
-    ensures local { result.global ≡ false }
+    ensures { IsOwnArg (required_rule (codes "ROUNDS") (Signed (pos 1) (pos 1000))) result }
 {
     let parser = value_parser!(u32).range(1..=1000);
     required(alloc, "ROUNDS", "How often, 1 to 1000", parser)
 }
 
 /// A command that takes a kind, a sample, and how many seats and rounds.
-fn running<'a>(alloc: Global, name: &'a str, help: &Help) -> Result<Command<'a>, AllocError>
-    ensures { IfOk result (IsRunCommand name.entry.now) }
+fn running<'a>(
+    alloc: Global,
+    name: &'a str,
+    help: &Help,
+    kinds: &'a [&'a str],
+    samples: &'a [&'a str],
+) -> Result<Command<'a>, AllocError>
+    ensures { IfOk result (IsOwnApp (run_app name.entry.now kinds.entry samples.entry)) }
 {
-    let kinds = ValueParser::Names(KINDS.as_slice());
-    let samples = ValueParser::Names(SAMPLES.as_slice());
-    let kind = required(alloc, "KIND", "The kind of monitor", kinds);
-    let sample = required(alloc, "SAMPLE", "What the threads do", samples);
-    let command = described(alloc, name, help).arg(kind);
+    let names = ValueParser::Names(samples);
+    let sample = required(alloc, "SAMPLE", "What the threads do", names);
+    let command = taking(described(alloc, name, help), kind(alloc, kinds));
     let command = taking(command, sample);
     let command = taking(command, seats(alloc));
     taking(command, rounds(alloc))
 }
 
 /// The command that takes a kind, how many seats and rounds, and a file or none.
-fn hurrying<'a>(alloc: Global) -> Result<Command<'a>, AllocError>
-    ensures { IfOk result IsHastyCommand }
+fn hurrying<'a>(alloc: Global, kinds: &'a [&'a str]) -> Result<Command<'a>, AllocError>
+    ensures { IfOk result (IsOwnApp (hasty_app kinds.entry)) }
 {
-    let kinds = ValueParser::Names(KINDS.as_slice());
-    let kind = required(alloc, "KIND", "The kind of monitor", kinds);
-    let command = described(alloc, "hasty", &HASTY).arg(kind);
+    let command = taking(described(alloc, "hasty", &HASTY), kind(alloc, kinds));
     let command = taking(command, seats(alloc));
     let command = taking(command, rounds(alloc));
     taking(command, history(alloc))
@@ -219,9 +242,9 @@ fn hurrying<'a>(alloc: Global) -> Result<Command<'a>, AllocError>
 
 /// A command that takes a file, or standard input where none is named.
 fn with_file<'a>(alloc: Global, name: &'a str, help: &Help) -> Result<Command<'a>, AllocError>
-    ensures { IfOk result (λ c. IsSubcommand c (file_app name.entry.now)) }
+    ensures { IfOk result (IsOwnApp (file_app name.entry.now)) }
 {
-    described(alloc, name, help).arg(file(alloc))
+    taking(described(alloc, name, help), file(alloc))
 }
 
 fn fault_of(alloc: Global, words: &[&str], error: &clap::Error) -> LineFault {
@@ -263,9 +286,9 @@ fn priorities_of(matches: &ArgMatches<'_>) -> Option<Line>
     ensures { IfSome result (λ l. IsRead (codes "classify") l (rows_of (found_of matches.now))) }
 {
     Some(Line::Classify(
-        matches.get_one::<u8>("ENTRY")?,
-        matches.get_one::<u8>("WAITER")?,
-        matches.get_one::<u8>("SIGNALLER")?,
+        byte_of(matches, "ENTRY")?,
+        byte_of(matches, "WAITER")?,
+        byte_of(matches, "SIGNALLER")?,
     ))
 }
 
@@ -307,24 +330,6 @@ fn line_to_read(
     }
 }
 
-/// What a command of that name asks for that takes a file and more, or a file alone, if there is one.
-fn line_of_text(
-    alloc: Global,
-    name: &str,
-    matches: &ArgMatches<'_>,
-) -> Result<Option<Line>, LineFault>
-    ensures { IfOk result (λ found. IfSome found (λ l. IsRead name.now l (rows_of (found_of matches.now)))) }
-{
-    match name {
-        "fit" => Ok(Some(line_to_fit(alloc, matches)?)),
-        "explain" => Ok(Some(line_to_explain(alloc, matches)?)),
-        "draw" => Ok(Some(line_to_draw(alloc, matches)?)),
-        "page" => Ok(Some(line_to_page(alloc, matches)?)),
-        "complete" => Ok(Some(line_to_complete(alloc, matches)?)),
-        _ => line_to_read(alloc, name, matches),
-    }
-}
-
 /// What a command of that name asks for, if it is one of the program with all its values.
 fn line_of(alloc: Global, name: &str, matches: &ArgMatches<'_>) -> Result<Option<Line>, LineFault>
     ensures { IfOk result (λ found. IfSome found (λ l. IsRead name.now l (rows_of (found_of matches.now)))) }
@@ -334,7 +339,12 @@ fn line_of(alloc: Global, name: &str, matches: &ArgMatches<'_>) -> Result<Option
         "run" => Ok(line_to_run(matches)),
         "record" => Ok(line_to_record(matches)),
         "hasty" => line_to_hasty(alloc, matches),
-        _ => line_of_text(alloc, name, matches),
+        "fit" => Ok(Some(line_to_fit(alloc, matches)?)),
+        "explain" => Ok(Some(line_to_explain(alloc, matches)?)),
+        "draw" => Ok(Some(line_to_draw(alloc, matches)?)),
+        "page" => Ok(Some(line_to_page(alloc, matches)?)),
+        "complete" => Ok(Some(line_to_complete(alloc, matches)?)),
+        _ => line_to_read(alloc, name, matches),
     }
 }
 

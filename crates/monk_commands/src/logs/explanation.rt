@@ -48,12 +48,12 @@ fn sentences(
 {
     let run = run(alloc, header, lines)?;
     let trails = Trails::behind(alloc, header.seats(), &run.steps)?;
-    let told = LinesTold {
+    let mut told = LinesTold {
+        page: String::new(alloc),
         lines,
         sites: Sites::in_file(beside),
     };
-    let mut page = String::new(alloc);
-    put_cause(&mut page, told, &trails, finding)?;
-    put_places(&mut page, told, &trails)?;
-    Ok(page)
+    put_cause(&mut told, &trails, finding)?;
+    put_places(&mut told, &trails)?;
+    Ok(told.page)
 }

@@ -58,6 +58,22 @@ impl Finding {
         tally.again == 0 && tally.overtaken >= ENOUGH_OVERTAKEN
     }
 
+    /// The line since which the lock is held at the end, if it is, by its index behind the header.
+    pub(crate) fn held_since(&self) -> Option<usize> {
+        match self.report.holder {
+            Some(holder) => Some(holder.since),
+            None => None,
+        }
+    }
+
+    /// The line of the last signal that crossed a thread, if one did, by its index behind the header.
+    pub(crate) fn crossed_at(&self) -> Option<usize> {
+        match self.crossed {
+            Some(crossed) => Some(crossed.line.saturating_sub(1)),
+            None => None,
+        }
+    }
+
     /// The word for how the run of the lines that fit ends.
     pub(crate) fn end_name(&self) -> &'static str {
         let report = &self.report;

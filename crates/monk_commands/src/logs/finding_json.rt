@@ -2,7 +2,7 @@
 
 use crate::logs::finding::Finding;
 use crate::logs::verdict_words::number;
-use serde_json::{Map, Value, put};
+use serde_json::{Map, Value, json, put};
 use std::alloc::{AllocError, Global};
 
 /// A finding as one line of JSON, for other programs. Lines are counted as in the file; what is not there is null.
@@ -24,11 +24,8 @@ pub(crate) fn finding_json(
 
 /// Why nothing is found, as one line of JSON.
 pub(crate) fn fault_json(alloc: Global, name: &str, line: &str) -> Result<String, AllocError> {
-    let mut map = Map::new(alloc);
-    put(&mut map, alloc, "file", Value::try_from_str(alloc, name)?)?;
-    let error = Value::try_from_str(alloc, line.trim_end())?;
-    put(&mut map, alloc, "error", error)?;
-    let mut line = Value::Object(map).to_string(alloc)?;
+    let error = line.trim_end();
+    let mut line = json!(in alloc; {"file": name, "error": error})?.to_string(alloc)?;
     line.push_str("\n")?;
     Ok(line)
 }
@@ -90,16 +87,11 @@ fn put_tally(
     put(map, alloc, "spurious", spurious)?;
     let unheard = counted(alloc, tally.unheard, "last", tally.last_unheard)?;
     put(map, alloc, "unheard", unheard)?;
-    let mut overtaken = Map::new(alloc);
-    put(&mut overtaken, alloc, "count", Value::from(tally.overtaken))?;
-    put(&mut overtaken, alloc, "again", Value::from(tally.again))?;
-    put(
-        &mut overtaken,
-        alloc,
-        "first",
-        line_value(tally.first_not_again),
+    let first = line_value(tally.first_not_again);
+    let overtaken = json!(in alloc;
+        {"count": tally.overtaken, "again": tally.again, "first": first}
     )?;
-    put(map, alloc, "overtaken", Value::Object(overtaken))
+    put(map, alloc, "overtaken", overtaken)
 }
 
 /// A number, and the line that goes with it.
@@ -109,10 +101,7 @@ fn counted(
     name: &str,
     index: Option<usize>,
 ) -> Result<Value, AllocError> {
-    let mut map = Map::new(alloc);
-    put(&mut map, alloc, "count", Value::from(many))?;
-    put(&mut map, alloc, name, line_value(index))?;
-    Ok(Value::Object(map))
+    json!(in alloc; {"count": many, name: line_value(index)})
 }
 
 /// Puts what was found beside.
@@ -122,9 +111,10 @@ fn put_remarks(
     finding: &Finding,
 ) -> Result<(), AllocError> {
     put(map, alloc, "missed", line_value(finding.report.missed))?;
-    let (many, last) = match finding.crossed {
-        Some(crossed) => (crossed.seats as u64, Some(crossed.line.saturating_sub(1))),
-        None => (0, None),
+    let many = match finding.crossed {
+        Some(crossed) => crossed.seats as u64,
+        None => 0,
     };
-    put(map, alloc, "crossed", counted(alloc, many, "last", last)?)
+    let crossed = counted(alloc, many, "last", finding.crossed_at())?;
+    put(map, alloc, "crossed", crossed)
 }

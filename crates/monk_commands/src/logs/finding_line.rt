@@ -9,23 +9,15 @@ use crate::logs::tally_words::{remark_words, tally_words};
 use crate::logs::verdict_words::verdict_words;
 use std::alloc::{AllocError, Global};
 
-/// Whether the log fits, and how it ends.
-fn front_words(alloc: Global, finding: &Finding) -> Result<String, AllocError>
-    ensures { IfOk result (λ text. string_bytes text ≡ found.front_words finding.now) }
+/// The line of a finding: whether the log fits, how it ends, and what is counted and found beside.
+pub(crate) fn finding_line(alloc: Global, finding: &Finding) -> Result<String, AllocError>
+    ensures { IfOk result (λ text. string_bytes text ≡ found.finding_line finding.now) }
 {
     let (report, tally) = (&finding.report, &finding.report.tally);
     let verdict = verdict_words(alloc, finding)?;
     let ending = ending_words(alloc, finding)?;
     let spurious = spurious_words(alloc, report.misfit, tally.spurious, tally.first_spurious)?;
-    Ok(format!(in alloc; "{verdict}{ending}{spurious}")?)
-}
-
-/// The line of a finding.
-pub(crate) fn finding_line(alloc: Global, finding: &Finding) -> Result<String, AllocError>
-    ensures { IfOk result (λ text. string_bytes text ≡ found.finding_line finding.now) }
-{
-    let front = front_words(alloc, finding)?;
-    let tally = tally_words(alloc, &finding.report.tally)?;
+    let counts = tally_words(alloc, tally)?;
     let remark = remark_words(alloc, finding)?;
-    Ok(format!(in alloc; "{front}{tally}{remark}\n")?)
+    Ok(format!(in alloc; "{verdict}{ending}{spurious}{counts}{remark}\n")?)
 }

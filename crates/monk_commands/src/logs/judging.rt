@@ -5,10 +5,10 @@ ghost use Rattle.monk_object.specs.Names.{most};
 ghost use Rattle.monk_commands.specs.LogFound.{IsReportOf};
 ghost use Rattle.monk_commands.specs.RunText.{IsRunOfLog};
 
-use crate::objects::{book, flags, shop};
+use crate::objects::{book, buffer, flags, shop};
 use monk_judge::{Report, Run, WaitsFor, judge_log, run_of_log};
 use monk_logs::{LogHeader, LogLine};
-use monk_object::{Buffer, ObjectName};
+use monk_object::ObjectName;
 use std::alloc::{AllocError, Global};
 
 /// What the log tells of its program.
@@ -24,10 +24,7 @@ pub(crate) fn report(
 {
     let (seats, conds, size) = (header.seats(), header.conds(), header.size());
     match header.object() {
-        ObjectName::Buffer => match Buffer::make(alloc, size) {
-            Ok(buffer) => judge_log(alloc, seats, conds, buffer, lines, means),
-            Err(_) => Err(AllocError),
-        },
+        ObjectName::Buffer => judge_log(alloc, seats, conds, buffer(alloc, size)?, lines, means),
         ObjectName::Book => judge_log(alloc, seats, conds, book(size), lines, means),
         ObjectName::Shop => judge_log(alloc, seats, conds, shop(size), lines, means),
         ObjectName::Flags => judge_log(alloc, seats, conds, flags(size), lines, means),
@@ -42,10 +39,7 @@ pub(crate) fn run(alloc: Global, header: &LogHeader, lines: &[LogLine]) -> Resul
 {
     let (seats, conds, size) = (header.seats(), header.conds(), header.size());
     match header.object() {
-        ObjectName::Buffer => match Buffer::make(alloc, size) {
-            Ok(buffer) => run_of_log(alloc, seats, conds, buffer, lines),
-            Err(_) => Err(AllocError),
-        },
+        ObjectName::Buffer => run_of_log(alloc, seats, conds, buffer(alloc, size)?, lines),
         ObjectName::Book => run_of_log(alloc, seats, conds, book(size), lines),
         ObjectName::Shop => run_of_log(alloc, seats, conds, shop(size), lines),
         ObjectName::Flags => run_of_log(alloc, seats, conds, flags(size), lines),

@@ -6,34 +6,41 @@ use monk_judge::Step;
 use monk_logs::LogLine;
 use std::alloc::AllocError;
 
-/// The lines of a log, with where they stand in the source of its program.
-#[derive(Clone, Copy)]
+/// What is told of the lines of a log, with where they stand in the source of its program.
+#[derive(Drop)]
 pub(crate) struct LinesTold<'a> {
+    /// What is told so far.
+    pub(crate) page: String,
     pub(crate) lines: &'a [LogLine],
     pub(crate) sites: Sites<'a>,
 }
 
 impl LinesTold<'_> {
-    /// Puts the line with that index, as in `line 13: act 0 1 0 8 (buffer.c:41)`, and a sentence about it.
-    pub(crate) fn put(
-        &self,
-        page: &mut String,
-        index: usize,
-        sentence: &str,
-    ) -> Result<(), AllocError> {
+    /// Puts the line with that index, if there is one, as in `line 13: act 0 1 0 8 (buffer.c:41)`, and a sentence
+    /// about it.
+    pub(crate) fn put(&mut self, index: Option<usize>, sentence: &str) -> Result<(), AllocError> {
+        let Some(index) = index else {
+            return Ok(());
+        };
         let Some(line) = self.lines.get(index) else {
             return Ok(());
         };
+        let page = &mut self.page;
         write!(page, "line {}: {}", number(index), Step::Tells(*line, None))?;
-        if let Some(place) = self.place(index) {
-            write!(page, " ({place})")?;
-        }
-        writeln!(page, ": {sentence}")?;
-        Ok(())
+        self.put_place(index)?;
+        let page = &mut self.page;
+        writeln!(page, ": {sentence}")
     }
 
-    /// Where the line stands in the source, if that is known and is text.
-    pub(crate) fn place(&self, index: usize) -> Option<&str> {
-        std::str::from_utf8(self.sites.of_line(index)?).ok()
+    /// Puts where the line stands in the source, if that is known and is text.
+    pub(crate) fn put_place(&mut self, index: usize) -> Result<(), AllocError> {
+        let Some(place) = self.sites.of_line(index) else {
+            return Ok(());
+        };
+        let page = &mut self.page;
+        match std::str::from_utf8(place) {
+            Ok(place) => write!(page, " ({place})"),
+            Err(_) => Ok(()),
+        }
     }
 }

@@ -37,14 +37,9 @@ impl Trail {
     };
 
     /// It is there since that line.
-    fn go(&mut self, place: Place, line: usize) {
+    pub(crate) fn go(&mut self, place: Place, line: usize) {
         self.place = place;
         self.since = Some(line);
-    }
-
-    /// It takes the lock.
-    pub(crate) fn take(&mut self, line: usize) {
-        self.go(Place::Active, line);
     }
 
     /// It lets the lock go, and is outside.
@@ -62,24 +57,10 @@ impl Trail {
         self.signals = 0;
     }
 
-    /// A signal or a broadcast comes to the condition.
-    pub(crate) fn hear(&mut self, cond: u8) {
-        if self.place == Place::Waiting(cond) {
-            self.signals = self.signals.saturating_add(1);
-        }
-    }
-
-    /// A signal to the condition wakes it.
+    /// A signal or a broadcast to the condition wakes it.
     pub(crate) fn wake(&mut self, cond: u8, by: WokenBy) {
         self.go(Place::Woken(cond), by.line);
         self.woken = Some(by);
-    }
-
-    /// A broadcast to the condition wakes it, if it waits there.
-    pub(crate) fn wake_on(&mut self, cond: u8, by: WokenBy) {
-        if self.place == Place::Waiting(cond) {
-            self.wake(cond, by);
-        }
     }
 
     /// Its wait ends though nobody sent a signal: it runs out, or the thread wakes unasked.

@@ -1,7 +1,7 @@
 //! Where the threads of a log are, step by step.
 
 use crate::logs::trail::{Trail, WokenBy};
-use monk_judge::Step;
+use monk_judge::{Place, Step};
 use monk_logs::LogLine;
 use std::alloc::{AllocError, Global};
 
@@ -14,17 +14,10 @@ pub(crate) struct Trails {
 }
 
 impl Trails {
-    /// Before any step.
-    pub(crate) fn start(alloc: Global, seats: u8) -> Result<Trails, AllocError> {
-        Ok(Trails {
-            trails: vec![in alloc; Trail::START; usize::from(seats)]?,
-            lines: 0,
-        })
-    }
-
     /// Behind the steps.
     pub(crate) fn behind(alloc: Global, seats: u8, steps: &[Step]) -> Result<Trails, AllocError> {
-        let mut trails = Trails::start(alloc, seats)?;
+        let trails = vec![in alloc; Trail::START; usize::from(seats)]?;
+        let mut trails = Trails { trails, lines: 0 };
         for step in steps {
             trails.follow(*step);
         }
@@ -45,7 +38,7 @@ impl Trails {
     }
 
     /// Goes on by a step.
-    pub(crate) fn follow(&mut self, step: Step) {
+    fn follow(&mut self, step: Step) {
         match step {
             Step::Tells(line, woken) => self.tell(line, woken),
             Step::RunsOut(seat) => self.end_wait(seat, true),
@@ -70,7 +63,10 @@ impl Trails {
             return;
         };
         match line {
-            LogLine::Enter(_) | LogLine::Resume(_) | LogLine::Lapse(_) => trail.take(index),
+            LogLine::Enter(_) | LogLine::Resume(_) | LogLine::Lapse(_) => trail.go(
+                Place::Active,
+                index,
+            ),
             LogLine::Leave(_) => trail.leave(index),
             LogLine::Wait(_, cond) => trail.wait(cond, index),
             LogLine::Signal(..) | LogLine::Broadcast(..) | LogLine::Until(..) | LogLine::Act(..) =>
@@ -81,7 +77,9 @@ impl Trails {
     /// A signal comes to the condition, and wakes that thread.
     fn signal(&mut self, cond: u8, by: WokenBy, woken: Option<u8>) {
         for trail in self.trails.iter_mut() {
-            trail.hear(cond);
+            if trail.place == Place::Waiting(cond) {
+                trail.signals = trail.signals.saturating_add(1);
+            }
         }
         let Some(seat) = woken else {
             return;
@@ -94,7 +92,9 @@ impl Trails {
     /// A broadcast comes to the condition.
     fn broadcast(&mut self, cond: u8, by: WokenBy) {
         for trail in self.trails.iter_mut() {
-            trail.wake_on(cond, by);
+            if trail.place == Place::Waiting(cond) {
+                trail.wake(cond, by);
+            }
         }
     }
 

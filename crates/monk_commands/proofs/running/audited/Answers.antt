@@ -1,5 +1,13 @@
-use Rattle.monk_commands.proofs.Totals.{never_forbidden}
+use Rattle.std.proofs.Common.{◌≡◌, ◌∙◌, ℕ, sym}
+use Rattle.monk_audit.specs.declared.verdict.Verdict.{Verdict}
+use Rattle.monk_audit.specs.declared.verdict.Verdict.TheVariants.{Legal, Forbidden}
 use Rattle.monk_commands.proofs.running.audited.Goals as goal
+
+-- a legal history is never found forbidden
+never_forbidden : (v : Verdict) (n step reason : ℕ) → v ≡ Legal n → v ≡ Forbidden step reason → ⊥
+never_forbidden v n step reason legal forbidden =
+    let both : Legal n ≡ Forbidden step reason = sym legal ∙ forbidden in
+    absurd cc
 
 pub returns-in-Ok-Forbidden : goal.returns-in-Ok-Forbidden
 returns-in-Ok-Forbidden c =

@@ -1,32 +1,19 @@
-use Rattle.std.proofs.Common.{◌≡◌, ℕ, List, sym, subst}
-use Rattle.std.specs.Prelude.{IfSome}
-use Rattle.std.specs.Io.KnownBytes.{Appends}
 use Rattle.std.proofs.lemmas.Result.{IfOk-weaker}
-use Rattle.monk_history.specs.Text.Device.{inner_of}
-use Rattle.monk_commands.proofs.PlayExact.{zero_exactly, reported_known}
 use Rattle.monk_commands.specs.declared.report.Report.TheVariants.{Trace}
+use Rattle.monk_commands.proofs.Known.{on_known}
+use Rattle.monk_commands.proofs.PlayExact.{answer_of, exactly}
 use Rattle.monk_commands.proofs.tracing.trace_stream.Goals as goal
 
 pub returns-clause-played : goal.returns-clause-played
 returns-clause-played g c =
-    let known = g.R.Read.remaining (inner_of c.args.reader.now) in
-    let puts =
-    Appends (g.W.Write.contents (inner_of c.args.writer.now))
-    (g.W.Write.contents (inner_of c.play_text.new.writer)) in
     IfOk-weaker c.play_text.result _ _ (λ status a.
-    zero_exactly Trace known c.deref.result.now status puts
-    (subst (λ (bytes : List ℕ). IfSome known (λ input. bytes ≡ input)) (sym c.deref.ensures.value)
-    c.in_ok-bytes.ensures.bytes) a)
+    on_known _ c.in_ok-bytes.bytes.items _ c.in_ok-bytes.ensures.bytes
+    (exactly Trace c.in_ok-bytes.bytes.items status _ a))
     c.play_text.ensures.answer
 
 pub returns-clause-traced : goal.returns-clause-traced
 returns-clause-traced g c =
-    let known = g.R.Read.remaining (inner_of c.args.reader.now) in
-    let puts =
-    Appends (g.W.Write.contents (inner_of c.args.writer.now))
-    (g.W.Write.contents (inner_of c.play_text.new.writer)) in
     IfOk-weaker c.play_text.result _ _ (λ status a.
-    reported_known Trace known c.deref.result.now status puts
-    (subst (λ (bytes : List ℕ). IfSome known (λ input. bytes ≡ input)) (sym c.deref.ensures.value)
-    c.in_ok-bytes.ensures.bytes) a)
+    on_known _ c.in_ok-bytes.bytes.items _ c.in_ok-bytes.ensures.bytes
+    (λ h budget cs t. (answer_of Trace c.in_ok-bytes.bytes.items status _ h budget cs t a).1))
     c.play_text.ensures.answer

@@ -8,7 +8,7 @@ pub returns-in-Some : goal.returns-in-Some
 returns-in-Some c =
     let monk = c.in_ok-command.ensures in
     let simple = ap is_simple monk.is
-    ∙ monk_is_simple monk.fitted monk.explained monk.completed monk.run monk.recorded monk.hasty in (
+    ∙ monk_is_simple monk.kinds monk.samples in (
       app_of c.in_ok-command.field-0,
       (
         monk,

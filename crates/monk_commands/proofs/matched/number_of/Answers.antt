@@ -1,7 +1,7 @@
 use Rattle.std.specs.Str.Parse.{ParsesUnsigned, ExplainsUnsignedError, HasUnsignedDigitsIfOk}
 use Rattle.clap.specs.Words.{found_of}
 use Rattle.monk_commands.proofs.Requests.{number_tried}
-use Rattle.monk_commands.proofs.window_words.number_of.Goals as goal
+use Rattle.monk_commands.proofs.matched.number_of.Goals as goal
 
 pub returns-in-Ok : goal.returns-in-Ok
 returns-in-Ok c =

@@ -1,7 +1,7 @@
 use Rattle.std.proofs.Common.{◌∙◌}
 use Rattle.clap.specs.Words.{found_of}
 use Rattle.clap.proofs.WalkLemmas.{one_text-rows}
-use Rattle.monk_commands.proofs.draw_words.is_set.Goals as goal
+use Rattle.monk_commands.proofs.matched.is_set.Goals as goal
 
 pub returns : goal.returns
 returns c =
