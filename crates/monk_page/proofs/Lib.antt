@@ -5,5 +5,6 @@ mod PlainData
 mod PlainLaws
 mod LogPlain
 mod LogLaws
+mod WriteLaws
 mod PageLaws
 mod NameLaws

@@ -1,12 +1,13 @@
 -- The text of a value whose strings and keys markup shows as they stand is such a text too
-use Rattle.std.proofs.Common.{◌≡◌, ◌==◌, ◌&&◌, ◌||◌, ◌≤◌, ℕ, Bool, true, false, not, cond, List, [], ◌∷◌, ◌++◌, nat_lt, refl, arith}
+use Rattle.std.proofs.Common.{◌≡◌, ◌==◌, ◌&&◌, ◌||◌, ◌≤◌, ℕ, zero, suc, Bool, true, false, not, cond, List, [], ◌∷◌, ◌++◌, nat_lt, refl, arith}
 use Rattle.std.specs.Prelude.{nat_le}
 use Rattle.std.proofs.lemmas.Bool.{and_parts, false≢true, le-ltb, leb-true, lt-ltb}
 use Rattle.std.proofs.lemmas.Bool.Decides.{nat_tests}
+use Rattle.json.specs.Tree.{depth, items_depth, members_depth}
 use Rattle.json.specs.Print.{escape, escape_byte, escape_letter, quoted}
 use Rattle.serde_json.specs.Data.{Num, unsigned, negative, float, Data, null, boolean, number, string, array, object}
 use Rattle.serde_json.specs.Data.{Items, no_items, item, Members, no_members, member}
-use Rattle.serde_json.specs.Written.{comma_if, compact_text, items_text, members_text, number_text}
+use Rattle.serde_json.specs.Written.{comma_if, compact_text, items_outline, items_text, members_outline, members_text, number_text, outline}
 use Rattle.monk_page.specs.Plain.{is_plain_byte, is_plain_text}
 use Rattle.monk_page.proofs.PlainTexts.{plain-append, plain-decimal}
 
@@ -17,22 +18,57 @@ is_whole (unsigned n) = true
 is_whole (negative z) = false
 is_whole (float x) = false
 
+-- whole numbers and strings that markup shows as they stand, at most so deep
 abbrev mutual
-  pub is_plain : Data → Bool
-  is_plain null = true
-  is_plain (boolean b) = true
-  is_plain (number n) = is_whole n
-  is_plain (string s) = is_plain_text s
-  is_plain (array ds) = items_are_plain ds
-  is_plain (object ms) = members_are_plain ms
+  pub is_plain : ℕ → Data → Bool
+  is_plain n null = true
+  is_plain n (boolean b) = true
+  is_plain n (number m) = is_whole m
+  is_plain n (string s) = is_plain_text s
+  is_plain zero (array ds) = false
+  is_plain (suc n) (array ds) = items_are_plain n ds
+  is_plain zero (object ms) = false
+  is_plain (suc n) (object ms) = members_are_plain n ms
 
-  pub items_are_plain : Items → Bool
-  items_are_plain no_items = true
-  items_are_plain (item d ds) = is_plain d && items_are_plain ds
+  pub items_are_plain : ℕ → Items → Bool
+  items_are_plain n no_items = true
+  items_are_plain n (item d ds) = is_plain n d && items_are_plain n ds
 
-  pub members_are_plain : Members → Bool
-  members_are_plain no_members = true
-  members_are_plain (member k d ms) = is_plain_text k && (is_plain d && members_are_plain ms)
+  pub members_are_plain : ℕ → Members → Bool
+  members_are_plain n no_members = true
+  members_are_plain n (member k d ms) = is_plain_text k && (is_plain n d && members_are_plain n ms)
+
+-- the parts of an object
+member_parts : (n : ℕ) (k : List ℕ) (d : Data) (ms : Members) → members_are_plain n (member k d ms) ≡ true
+    → (is_plain_text k ≡ true) × (is_plain n d ≡ true) × (members_are_plain n ms ≡ true)
+member_parts n k d ms p =
+    let q = and_parts (is_plain_text k) (is_plain n d && members_are_plain n ms) p in
+    let r = and_parts (is_plain n d) (members_are_plain n ms) q.1 in
+    (q.0, r.0, r.1)
+
+-- it isn't deeper
+mutual
+  pub shallow : (n : ℕ) (d : Data) → is_plain n d ≡ true → depth (outline d) ≤ n
+  shallow n null p = omega arith
+  shallow n (boolean b) p = omega arith
+  shallow n (number m) p = omega arith
+  shallow n (string s) p = omega arith
+  shallow zero (array ds) p = absurd (false≢true p)
+  shallow (suc n) (array ds) p = omega (arith, items_shallow n ds p)
+  shallow zero (object ms) p = absurd (false≢true p)
+  shallow (suc n) (object ms) p = omega (arith, members_shallow n ms p)
+
+  items_shallow : (n : ℕ) (ds : Items) → items_are_plain n ds ≡ true → items_depth (items_outline ds) ≤ n
+  items_shallow n no_items p = omega arith
+  items_shallow n (item d ds) p =
+      let q = and_parts (is_plain n d) (items_are_plain n ds) p in
+      omega (arith, shallow n d q.0, items_shallow n ds q.1)
+
+  members_shallow : (n : ℕ) (ms : Members) → members_are_plain n ms ≡ true → members_depth (members_outline ms) ≤ n
+  members_shallow n no_members p = omega arith
+  members_shallow n (member k d ms) p =
+      let q = member_parts n k d ms p in
+      omega (arith, shallow n d q.1, members_shallow n ms q.2)
 
 -- ---- what stands in quotes
 
@@ -84,28 +120,29 @@ boolean_plain true = refl
 boolean_plain false = refl
 
 mutual
-  pub text_plain : (d : Data) → is_plain d ≡ true → is_plain_text (compact_text d) ≡ true
-  text_plain null p = refl
-  text_plain (boolean b) p = boolean_plain b
-  text_plain (number n) p = number_plain n p
-  text_plain (string s) p = plain-append (escape s) (34 ∷ []) (escape_plain s p) refl
-  text_plain (array ds) p = items_text_plain ds false p
-  text_plain (object ms) p = members_text_plain ms false p
+  pub text_plain : (n : ℕ) (d : Data) → is_plain n d ≡ true → is_plain_text (compact_text d) ≡ true
+  text_plain n null p = refl
+  text_plain n (boolean b) p = boolean_plain b
+  text_plain n (number m) p = number_plain m p
+  text_plain n (string s) p = plain-append (escape s) (34 ∷ []) (escape_plain s p) refl
+  text_plain zero (array ds) p = absurd (false≢true p)
+  text_plain (suc n) (array ds) p = items_text_plain n ds false p
+  text_plain zero (object ms) p = absurd (false≢true p)
+  text_plain (suc n) (object ms) p = members_text_plain n ms false p
 
-  items_text_plain : (ds : Items) (later : Bool) → items_are_plain ds ≡ true
+  items_text_plain : (n : ℕ) (ds : Items) (later : Bool) → items_are_plain n ds ≡ true
       → is_plain_text (items_text later ds) ≡ true
-  items_text_plain no_items later p = refl
-  items_text_plain (item d ds) later p =
-      let q = and_parts (is_plain d) (items_are_plain ds) p in
+  items_text_plain n no_items later p = refl
+  items_text_plain n (item d ds) later p =
+      let q = and_parts (is_plain n d) (items_are_plain n ds) p in
       plain-append (comma_if later) (compact_text d ++ items_text true ds) (comma_plain later)
-      (plain-append (compact_text d) (items_text true ds) (text_plain d q.0) (items_text_plain ds true q.1))
+      (plain-append (compact_text d) (items_text true ds) (text_plain n d q.0) (items_text_plain n ds true q.1))
 
-  members_text_plain : (ms : Members) (later : Bool) → members_are_plain ms ≡ true
+  members_text_plain : (n : ℕ) (ms : Members) (later : Bool) → members_are_plain n ms ≡ true
       → is_plain_text (members_text later ms) ≡ true
-  members_text_plain no_members later p = refl
-  members_text_plain (member k d ms) later p =
-      let q = and_parts (is_plain_text k) (is_plain d && members_are_plain ms) p in
-      let r = and_parts (is_plain d) (members_are_plain ms) q.1 in
+  members_text_plain n no_members later p = refl
+  members_text_plain n (member k d ms) later p =
+      let q = member_parts n k d ms p in
       plain-append (comma_if later) (quoted k ++ 58 ∷ (compact_text d ++ members_text true ms)) (comma_plain later)
       (quoted_then k (58 ∷ (compact_text d ++ members_text true ms)) q.0
-      (plain-append (compact_text d) (members_text true ms) (text_plain d r.0) (members_text_plain ms true r.1)))
+      (plain-append (compact_text d) (members_text true ms) (text_plain n d q.1) (members_text_plain n ms true q.2)))

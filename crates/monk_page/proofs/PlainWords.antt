@@ -1,9 +1,7 @@
 -- The words of a page's data hold no byte that markup reads
-use Rattle.std.proofs.Common.{◌≡◌, ℕ, zero, suc, true, List, [], ◌∷◌, ◌++◌, arith, get_or, refl}
+use Rattle.std.proofs.Common.{◌≡◌, ℕ, zero, suc, true, List, [], ◌∷◌, ◌++◌, arith, refl}
 use Rattle.std.specs.Fmt.{decimal}
 use Rattle.std.specs.List.{join_with_byte, list_all}
-use Rattle.std.specs.Prelude.{codes}
-use Rattle.std.proofs.lemmas.Bool.{and_parts}
 use Rattle.monk_kinds.specs.Names.{kind_word}
 use Rattle.monk_kinds.specs.declared.mode.Mode.{Mode}
 use Rattle.monk_kinds.specs.declared.mode.Rules.{Rules}
@@ -11,7 +9,6 @@ use Rattle.monk_kinds.specs.declared.name.KindName.{KindName}
 use Rattle.monk_object.specs.InWords.{how_many, spaced, items_in_words, bits_below, chair_in_words, state_in_words}
 use Rattle.monk_object.specs.Names.{object_word}
 use Rattle.monk_object.specs.declared.name.ObjectName.{ObjectName}
-use Rattle.monk_object.specs.declared.name.ObjectName.TheVariants.{Buffer, Book, Shop, Flags}
 use Rattle.monk_history.specs.Text.{event_words, from_word, next_words, via_word}
 use Rattle.monk_history.specs.declared.event.Event.{Event}
 use Rattle.monk_history.specs.declared.event.From3.{From3}
@@ -33,10 +30,8 @@ number_then n s p = plain-append (decimal n) s (plain-decimal n) p
 
 joined_plain : (ws : List (List ℕ)) → list_all is_plain_text ws ≡ true → is_plain_text (join_with_byte 32 ws) ≡ true
 joined_plain [] p = refl
-joined_plain (w ∷ []) p = (and_parts (is_plain_text w) true p).0
-joined_plain (w ∷ v ∷ ws) p =
-    let q = and_parts (is_plain_text w) (list_all is_plain_text (v ∷ ws)) p in
-    plain-append w (32 ∷ join_with_byte 32 (v ∷ ws)) q.0 (joined_plain (v ∷ ws) q.1)
+joined_plain (w ∷ []) p = grind arith
+joined_plain (w ∷ v ∷ ws) p = grind (arith, plain-append, joined_plain (v ∷ ws))
 
 -- ---- names
 
@@ -103,19 +98,6 @@ unfolding bits_below
 bits_plain bits zero = refl
 bits_plain bits (suc place) = grind (arith, plain-append, plain-decimal, bits_plain bits place)
 
-state_of_buffer_plain : (state : List ℕ) → is_plain_text (state_in_words Buffer state) ≡ true
-state_of_buffer_plain [] = refl
-state_of_buffer_plain (size ∷ items) = number_then size (codes ":" ++ items_in_words items) (items_plain items)
-
 pub state_plain : (o : ObjectName) (state : List ℕ) → is_plain_text (state_in_words o state) ≡ true
-state_plain Buffer state = state_of_buffer_plain state
-state_plain Book state =
-    plain-append (how_many (get_or state 1 0) (codes "reads") (codes "read"))
-    (codes ", " ++ how_many (get_or state 2 0) (codes "writes") (codes "write"))
-    (how_many_plain (get_or state 1 0) (codes "reads") (codes "read") refl refl)
-    (how_many_plain (get_or state 2 0) (codes "writes") (codes "write") refl refl)
-state_plain Shop state =
-    plain-append (how_many (get_or state 1 0) (codes "sits") (codes "sit"))
-    (codes ", " ++ chair_in_words (get_or state 2 0))
-    (how_many_plain (get_or state 1 0) (codes "sits") (codes "sit") refl refl) (chair_plain (get_or state 2 0))
-state_plain Flags state = grind (arith, bits_plain (get_or state 1 0) 32)
+state_plain o state =
+    grind (arith, plain-append, number_then, items_plain, how_many_plain, chair_plain, bits_plain)

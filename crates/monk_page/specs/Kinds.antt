@@ -8,8 +8,8 @@ use Rattle.monk_history.specs.Text.{Heading}
 use Rattle.monk_history.specs.declared.event.Event.{Event}
 use Rattle.monk_audit.specs.declared.verdict.Verdict.{Verdict}
 use Rattle.monk_tell.specs.Told.{Blamed, account}
-use Rattle.monk_tell.specs.Why.{why_text}
 use Rattle.serde_json.specs.Data.{Data, string, object, member, no_members}
+use Rattle.monk_page.specs.Blame.{why_json}
 use Rattle.monk_page.specs.Json.{list_json, option_json}
 
 -- the verdict, and why an event is forbidden
@@ -17,7 +17,7 @@ abbrev pub verdict_json : KindName → Verdict → Option Blamed → Data
 verdict_json k v blame =
     object (member (codes "kind") (string (kind_word k))
     (member (codes "verdict") (string (verdict_text v))
-    (member (codes "why") (option_json (λ b. string (why_text b.why)) blame) no_members)))
+    (member (codes "why") (option_json (λ b. why_json b.why) blame) no_members)))
 
 -- what an audit finds if the monitor is of that kind
 abbrev pub kind_json : Heading → List Event → KindName → Data

@@ -9,3 +9,4 @@ pub mod Page
 pub mod Plain
 pub mod Step
 pub mod Told
+pub mod Writes

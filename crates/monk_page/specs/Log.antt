@@ -14,7 +14,7 @@ use Rattle.monk_judge.specs.declared.run.Run.{Run}
 use Rattle.monk_judge.specs.declared.step.Step.{Step}
 use Rattle.monk_logs.specs.Log.{LogHeading}
 use Rattle.monk_logs.specs.declared.text.line.LogLine.{LogLine}
-use Rattle.serde_json.specs.Data.{Data, null, string, object, Members, no_members, put}
+use Rattle.serde_json.specs.Data.{Data, null, string, object, Members, member, no_members}
 use Rattle.monk_page.specs.Html.{IsPageOf, log_end}
 use Rattle.monk_page.specs.Json.{list_json, number_json, numbers_json, option_json}
 
@@ -27,9 +27,9 @@ place_json p = string (place_text p)
 -- who holds the lock, where so many threads are, and the data
 abbrev pub with_state : ℕ → State → Members → Members
 with_state seats x ms =
-    put (codes "state") (numbers_json x.data_now)
-    (put (codes "places") (list_json place_json (places_below seats x.place))
-    (put (codes "lock") (option_json number_json x.lock) ms))
+    member (codes "lock") (option_json number_json x.lock)
+    (member (codes "places") (list_json place_json (places_below seats x.place))
+    (member (codes "state") (numbers_json x.data_now) ms))
 
 -- a state
 abbrev pub state_json : ℕ → State → Data
@@ -37,15 +37,16 @@ state_json seats x = object (with_state seats x no_members)
 
 -- a step, with the state behind it
 abbrev pub told_json : ℕ → Step × State → Data
-told_json seats t = object (put (codes "told") (string (step_text t.0)) (with_state seats t.1 no_members))
+told_json seats t = object (with_state seats t.1 (member (codes "told") (string (step_text t.0)) no_members))
 
 -- ---- the line that misfits
 
 -- the line, and why it can't stand
 abbrev pub wrong_json : Misfit → LogLine → Data
 wrong_json f l =
-    object (put (codes "word") (string (blame_word f.why)) (put (codes "why") (string (blame_sentence f.why))
-    (put (codes "told") (string (line_text l)) (put (codes "index") (number_json f.line) no_members))))
+    object (member (codes "index") (number_json f.line) (member (codes "told") (string (line_text l))
+    (member (codes "why") (string (blame_sentence f.why))
+    (member (codes "word") (string (blame_word f.why)) no_members))))
 
 -- the misfit, if there is one
 abbrev pub misfit_json : Option Misfit → List LogLine → Data
@@ -53,25 +54,26 @@ misfit_json found lines = option_map_or (λ f. option_map_or (wrong_json f) (sli
 
 -- ---- all
 
--- what the header says
-abbrev pub with_header : LogHeading → Members → Members
-with_header h ms =
-    put (codes "size") (number_json h.size) (put (codes "seats") (number_json h.seats)
-    (put (codes "object") (string (object_word h.object)) (put (codes "conditions") (number_json h.conds) ms)))
-
--- the steps that tell the lines behind the first so many up to the last that is shown, from the state before them on
+-- the steps that tell the lines behind the first so many up to the last that is shown, and the state before them
 abbrev pub with_run : Setting → State → List Step → ℕ → ℕ → Members → Members
 with_run m x steps before last ms =
     let start = after_all m x (telling before steps) in
     let shown = telling (last - before) (behind_lines before steps) in
-    put (codes "steps") (list_json (told_json m.seats) (followed m start shown))
-    (put (codes "start") (state_json m.seats start) (put (codes "before") (number_json before) ms))
+    member (codes "start") (state_json m.seats start)
+    (member (codes "steps") (list_json (told_json m.seats) (followed m start shown)) ms)
+
+-- what the header says, how many lines stand before those that are shown, and the misfit
+abbrev pub with_header : LogHeading → Run → List LogLine → ℕ → Members → Members
+with_header h run lines before ms =
+    member (codes "before") (number_json before) (member (codes "conditions") (number_json h.conds)
+    (member (codes "misfit") (misfit_json run.misfit lines) (member (codes "object") (string (object_word h.object))
+    (member (codes "seats") (number_json h.seats) (member (codes "size") (number_json h.size) ms)))))
 
 -- the data of the page
 abbrev pub log_json : LogHeading → Object → List ℕ → Run → List LogLine → ℕ → ℕ → Data
 log_json h o d run lines before last =
-    object (put (codes "misfit") (misfit_json run.misfit lines)
-    (with_run (setting h.seats h.conds o) (opening d) run.steps.items before last (with_header h no_members)))
+    object (with_header h run lines before
+    (with_run (setting h.seats h.conds o) (opening d) run.steps.items before last no_members))
 
 -- these bytes are a page of it
 abbrev pub IsLogPage : LogHeading → Object → List ℕ → Run → List LogLine → ℕ → ℕ → List ℕ → Type 0

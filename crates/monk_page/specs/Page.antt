@@ -2,7 +2,6 @@
 use Rattle.std.specs.Prelude.{◌≡◌, ◌≤◌, ◌^◌, ℕ, List, length, map, codes, nat_le, nat_lt, ◌&&◌, if◌then◌else◌}
 use Rattle.std.specs.Option.{option_map_or}
 use Rattle.monk_kinds.specs.Names.{kind_word, rules_named}
-use Rattle.monk_kinds.specs.declared.name.KindName.{KindName}
 use Rattle.monk_object.specs.Names.{object_word}
 use Rattle.monk_audit.specs.Words.{verdict_text}
 use Rattle.monk_history.specs.Text.{Heading}
@@ -10,7 +9,7 @@ use Rattle.monk_history.specs.declared.event.Event.{Event}
 use Rattle.monk_tell.specs.Steps.{step_of, steps_between}
 use Rattle.monk_tell.specs.Told.{Account, Blamed, account, telling_of}
 use Rattle.monk_tell.specs.Words.{mode_word, ranks_text}
-use Rattle.serde_json.specs.Data.{Data, null, string, object, Members, no_members, put}
+use Rattle.serde_json.specs.Data.{Data, null, string, object, Members, member, no_members}
 use Rattle.monk_page.specs.Blame.{blame_json}
 use Rattle.monk_page.specs.Json.{list_json, number_json}
 use Rattle.monk_page.specs.Kinds.{kinds_json}
@@ -29,37 +28,27 @@ forbidden_json before last a = option_map_or (shown_blame_json before last) a.bl
 abbrev pub steps_json : Heading → List Event → ℕ → ℕ → Data
 steps_json h es before last = list_json (step_json h.object) (steps_between h es before last)
 
--- the kind, and its priorities
-abbrev pub with_kind : KindName → Members → Members
-with_kind k ms =
-    put (codes "ranks") (string (ranks_text (rules_named k)))
-    (put (codes "mode") (string (mode_word (rules_named k).mode))
-    (put (codes "kind") (string (kind_word k)) ms))
+-- how many events there are, and how many before those that are shown; what is forbidden; and the kind
+abbrev pub with_counts : Heading → List Event → ℕ → ℕ → Members → Members
+with_counts h es before last ms =
+    member (codes "before") (number_json before) (member (codes "conditions") (number_json h.conds)
+    (member (codes "events") (number_json (length es))
+    (member (codes "forbidden") (forbidden_json before last (account h es))
+    (member (codes "kind") (string (kind_word h.kind)) (member (codes "kinds") (kinds_json h es)
+    (member (codes "mode") (string (mode_word (rules_named h.kind).mode)) ms))))))
 
--- the parts of the heading
-abbrev pub with_heading : Heading → Members → Members
-with_heading h ms =
-    with_kind h.kind (put (codes "version") (number_json h.version) (put (codes "size") (number_json h.size)
-    (put (codes "object") (string (object_word h.object)) (put (codes "seats") (number_json h.seats)
-    (put (codes "conditions") (number_json h.conds) ms)))))
-
--- how many events there are, and how many before those that are shown; and the version of this data
-abbrev pub with_counts : List Event → ℕ → Members → Members
-with_counts es before ms =
-    put (codes "page") (number_json 1) (put (codes "events") (number_json (length es))
-    (put (codes "before") (number_json before) ms))
-
--- how the events are judged, and the steps that are shown
-abbrev pub with_steps : Heading → List Event → ℕ → ℕ → Members → Members
-with_steps h es before last ms =
-    let a = account h es in
-    put (codes "verdict") (string (verdict_text a.verdict)) (put (codes "forbidden") (forbidden_json before last a)
-    (put (codes "steps") (steps_json h es before last) (put (codes "kinds") (kinds_json h es) ms)))
+-- the rest of the header, the version of this data, the steps that are shown, and how all events are judged
+abbrev pub with_judged : Heading → List Event → ℕ → ℕ → Members → Members
+with_judged h es before last ms =
+    member (codes "object") (string (object_word h.object)) (member (codes "page") (number_json 1)
+    (member (codes "ranks") (string (ranks_text (rules_named h.kind))) (member (codes "seats") (number_json h.seats)
+    (member (codes "size") (number_json h.size) (member (codes "steps") (steps_json h es before last)
+    (member (codes "verdict") (string (verdict_text (account h es).verdict))
+    (member (codes "version") (number_json h.version) ms)))))))
 
 -- what is shown of a history: the events behind so many up to the last, and how the whole is judged
 abbrev pub page_json : Heading → List Event → ℕ → ℕ → Data
-page_json h es before last =
-    object (with_steps h es before last (with_counts es before (with_heading h no_members)))
+page_json h es before last = object (with_counts h es before last (with_judged h es before last no_members))
 
 -- what is told of these events is so
 pub record IsTold (t : ToldHistory) : Type 0 where

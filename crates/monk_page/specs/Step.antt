@@ -6,7 +6,7 @@ use Rattle.monk_object.specs.declared.name.ObjectName.{ObjectName}
 use Rattle.monk_tell.specs.Steps.{ShownStep}
 use Rattle.monk_tell.specs.Told.{ShownQueues, ShownStanding}
 use Rattle.monk_tell.specs.Words.{event_text, turn_text}
-use Rattle.serde_json.specs.Data.{Data, string, object, Members, no_members, put}
+use Rattle.serde_json.specs.Data.{Data, string, object, Members, member, no_members}
 use Rattle.monk_page.specs.Choice.{choice_json}
 use Rattle.monk_page.specs.Json.{list_json, number_json, numbers_json, option_json, pair_json}
 
@@ -40,24 +40,24 @@ untils_json q = option_json (λ u. list_json wait_json u.untils) q.automatic
 abbrev pub ready_json : ShownQueues → Data
 ready_json q = option_json (λ u. numbers_json u.ready) q.automatic
 
--- all of them
-abbrev pub with_queues : ShownQueues → Members → Members
-with_queues q ms =
-    put (codes "conditions") (conditions_json q) (put (codes "ready") (ready_json q)
-    (put (codes "signaller") (signallers_json q) (put (codes "until") (untils_json q)
-    (put (codes "waiter") (waiters_json q) ms))))
-
 -- ---- all
 
--- how a monitor stands over the object of that name
-abbrev pub with_standing : ObjectName → ShownStanding → Members → Members
-with_standing o s ms =
-    put (codes "data") (string (state_in_words o s.state)) (put (codes "inside") (numbers_json s.inside)
-    (put (codes "state") (numbers_json s.state) (put (codes "turn") (string (turn_text s.turn))
-    (with_queues s.queues ms))))
+-- the members of a step over the object of that name up to who is inside
+abbrev pub with_event : ObjectName → ShownStep → Members → Members
+with_event o s ms =
+    member (codes "choice") (option_json choice_json s.choice)
+    (member (codes "conditions") (conditions_json s.standing.queues)
+    (member (codes "data") (string (state_in_words o s.standing.state))
+    (member (codes "event") (option_json event_json s.event)
+    (member (codes "inside") (numbers_json s.standing.inside) ms))))
 
--- the step of a monitor over that object
-abbrev pub step_json : ObjectName → ShownStep → Data
-step_json o s =
-    object (put (codes "choice") (option_json choice_json s.choice)
-    (put (codes "event") (option_json event_json s.event) (with_standing o s.standing no_members)))
+-- those behind them
+abbrev pub with_queues : ShownStanding → Members → Members
+with_queues s ms =
+    member (codes "ready") (ready_json s.queues) (member (codes "signaller") (signallers_json s.queues)
+    (member (codes "state") (numbers_json s.state) (member (codes "turn") (string (turn_text s.turn))
+    (member (codes "until") (untils_json s.queues) (member (codes "waiter") (waiters_json s.queues) ms)))))
+
+-- the step of a monitor over that object: no proof of a list looks into it
+unfoldable pub step_json : ObjectName → ShownStep → Data
+step_json o s = object (with_event o s (with_queues s.standing no_members))

@@ -3,37 +3,40 @@
 ghost use Rattle.monk_tell.specs.Told.{choice_of};
 ghost use Rattle.monk_page.specs.Choice.{choice_json, front_json, next_json};
 
-use crate::in_json::{InJson, list};
+use crate::in_json::{InJson, JsonText, member};
 use monk_history::{From3, Next};
 use monk_tell::{Choice, queue_word};
-use serde_json::{Value, json};
-use std::alloc::{AllocError, Global};
+use std::alloc::AllocError;
 
 impl InJson for (From3, u8) {
     ghost json = { front_json };
 
-    fn value(&self, alloc: Global) -> Result<Value, AllocError> {
-        let mut pair = Vec::new(alloc);
-        pair.push(Value::try_from_str(alloc, queue_word(self.0))?)?;
-        pair.push(Value::from(self.1))?;
-        Ok(Value::Array(pair))
+    fn write(&self, out: &mut JsonText) -> Result<(), AllocError> {
+        out.writer.begin_array()?;
+        out.writer.string(queue_word(self.0))?;
+        self.1.write(out)?;
+        out.writer.end_array()?;
+        Ok(())
     }
 }
 
 impl InJson for Next {
     ghost json = { next_json };
 
-    fn value(&self, alloc: Global) -> Result<Value, AllocError> {
-        Ok(Value::String(format!(in alloc; "{self}")?))
+    fn write(&self, out: &mut JsonText) -> Result<(), AllocError> {
+        let said = format!(in out.alloc; "{self}")?;
+        out.writer.string(said.as_str())
     }
 }
 
 impl InJson for Choice {
     ghost json = { λ c. choice_json (choice_of c) };
 
-    fn value(&self, alloc: Global) -> Result<Value, AllocError> {
-        let fronts = list(alloc, &self.fronts.0)?;
-        let may = list(alloc, &self.may.0)?;
-        json!(in alloc; {"fronts": fronts, "may": may})
+    fn write(&self, out: &mut JsonText) -> Result<(), AllocError> {
+        out.writer.begin_object()?;
+        member(out, "fronts", &self.fronts.0)?;
+        member(out, "may", &self.may.0)?;
+        out.writer.end_object()?;
+        Ok(())
     }
 }

@@ -51,7 +51,7 @@ fn article_told(alloc: Global, told: ToldHistory, beside: &str) -> Result<String
 ///
 /// An audit of the events under each of the ten kinds, and where another kind than their own forbids one, a replay of
 /// those before it; of their own kind one replay. Memory for the text: some 1 kB for each event that is shown,
-/// and once more as much for the data as a value.
+/// and more for the data while they are written.
 pub fn article(
     alloc: Global,
     header: &Header,

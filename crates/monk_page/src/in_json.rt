@@ -1,60 +1,127 @@
-//! What has a JSON value.
+//! What has a JSON value, which it writes.
 
-ghost use Rattle.std.specs.Prelude.{◌≡◌, IfOk};
-ghost use Rattle.serde_json.specs.Data.{Data};
-ghost use Rattle.serde_json.specs.View.{view};
+ghost use Rattle.std.specs.Prelude.{◌≡◌, [], IfOk, OnOk, string_bytes};
+ghost use Rattle.json.specs.Lex.{tokens};
+ghost use Rattle.json.specs.Print.{print};
+ghost use Rattle.serde_json.specs.Data.{Data, string};
 ghost use Rattle.monk_page.specs.Json.{list_json, number_json, option_json};
+ghost use Rattle.monk_page.specs.Writes.{AddsMember, AddsValue};
 
-use serde_json::Value;
+use json::Writer;
 use std::alloc::{AllocError, Global};
+
+/// A JSON text that is being written.
+#[derive(Drop)]
+pub struct JsonText {
+    /// Gives memory for what is put together before it is written.
+    pub(crate) alloc: Global,
+    /// What was written.
+    pub(crate) writer: Writer,
+}
+
+impl JsonText {
+    /// None is written.
+    pub(crate) fn new(alloc: Global) -> JsonText
+        ensures before { result.writer.before ≡ [] }
+        ensures tokens { result.writer.tokens ≡ [] }
+    {
+        JsonText {
+            alloc,
+            writer: Writer::new(Vec::new(alloc)),
+        }
+    }
+
+    /// The text, of which all is written.
+    pub(crate) fn text(self) -> Result<String, AllocError>
+        requires { self.writer.before ≡ [] }
+        ensures text { IfOk result (λ s. string_bytes s ≡ print self.writer.tokens) }
+        ensures reads_back { tokens (print self.writer.tokens) ≡ self.writer.tokens }
+    {
+        let JsonText { alloc, writer } = self;
+        let bytes = writer.into_inner();
+        match simdutf8::compat::from_utf8(&bytes) {
+            Ok(text) => String::from_str(alloc, text),
+            // A writer writes UTF-8.
+            Err(_) => unreachable!(),
+        }
+    }
+}
 
 /// What has a JSON value.
 pub trait InJson {
     // The value, as data.
     ghost json: { Self → Data };
 
-    /// The value.
+    /// Writes the value.
     ///
     /// # Errors
     ///
     /// `AllocError` where a growth was refused.
-    fn value(&self, alloc: Global) -> Result<Value, AllocError>
-        ensures { IfOk result (λ v. view v ≡ json self.now) };
+    fn write(&self, out: &mut JsonText) -> Result<(), AllocError>
+        ensures { OnOk result (AddsValue (json self.now) out.old.writer out.new.writer) };
 }
 
 impl InJson for u8 {
     ghost json = { number_json };
 
-    fn value(&self, _alloc: Global) -> Result<Value, AllocError> {
-        Ok(Value::from(*self))
+    #[tactic(auto, using(crate::proofs::WriteLaws::number_reads))]
+    fn write(&self, out: &mut JsonText) -> Result<(), AllocError> {
+        out.writer.u64(u64::from(*self))
     }
 }
 
 impl InJson for u64 {
     ghost json = { number_json };
 
-    fn value(&self, _alloc: Global) -> Result<Value, AllocError> {
-        Ok(Value::from(*self))
+    #[tactic(auto, using(crate::proofs::WriteLaws::number_reads))]
+    fn write(&self, out: &mut JsonText) -> Result<(), AllocError> {
+        out.writer.u64(*self)
     }
 }
 
-/// The list of the values of these.
-pub(crate) fn list<T: InJson>(alloc: Global, items: &[T]) -> Result<Value, AllocError>
-    ensures { IfOk result (λ v. view v ≡ list_json T.json items.now) }
+impl InJson for &str {
+    ghost json = { λ s. string s.now };
+
+    fn write(&self, out: &mut JsonText) -> Result<(), AllocError> {
+        out.writer.string(*self)
+    }
+}
+
+/// Null, if there is none.
+impl<T: InJson> InJson for Option<T> {
+    ghost json = { option_json T.json };
+
+    fn write(&self, out: &mut JsonText) -> Result<(), AllocError> {
+        match self {
+            Some(some) => some.write(out),
+            None => out.writer.null(),
+        }
+    }
+}
+
+impl<T: InJson> InJson for Vec<T> {
+    ghost json = { λ v. list_json T.json v.items };
+
+    fn write(&self, out: &mut JsonText) -> Result<(), AllocError> {
+        write_list(out, self)
+    }
+}
+
+/// Writes the list of the values of these.
+pub(crate) fn write_list<T: InJson>(out: &mut JsonText, items: &[T]) -> Result<(), AllocError>
+    ensures { OnOk result (AddsValue (list_json T.json items.now) out.old.writer out.new.writer) }
 {
-    let mut values = Vec::new(alloc);
+    out.writer.begin_array()?;
     for item in items {
-        values.push(item.value(alloc)?)?;
+        item.write(out)?;
     }
-    Ok(Value::Array(values))
+    out.writer.end_array()
 }
 
-/// The value of that, or null.
-pub(crate) fn optional<T: InJson>(alloc: Global, option: &Option<T>) -> Result<Value, AllocError>
-    ensures { IfOk result (λ v. view v ≡ option_json T.json option.now) }
+/// Writes a member of an object.
+pub(crate) fn member<T: InJson>(out: &mut JsonText, name: &str, value: &T) -> Result<(), AllocError>
+    ensures { OnOk result (AddsMember name.now (T.json value.now) out.old.writer out.new.writer) }
 {
-    match option {
-        Some(some) => some.value(alloc),
-        None => Ok(Value::Null),
-    }
+    out.writer.key(name)?;
+    value.write(out)
 }

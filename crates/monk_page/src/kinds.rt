@@ -1,66 +1,66 @@
 //! The same events under each kind.
 
-ghost use Rattle.std.specs.Prelude.{◌≡◌, ◌<◌, IfOk, IsErrOf, option_map};
+ghost use Rattle.std.specs.Prelude.{◌<◌, IsErrOf, OnOk, codes, option_map};
 ghost use Rattle.monk_object.specs.Names.{most};
 ghost use Rattle.monk_tell.specs.Told.{blame_of};
-ghost use Rattle.monk_tell.specs.Why.{why_text};
-ghost use Rattle.serde_json.specs.Data.{string};
-ghost use Rattle.serde_json.specs.View.{view};
-ghost use Rattle.monk_page.specs.Json.{option_json};
-ghost use Rattle.monk_page.specs.Kinds.{kind_json, kinds_json, verdict_json};
+ghost use Rattle.monk_page.specs.Blame.{why_json};
+ghost use Rattle.monk_page.specs.Json.{list_json, option_json};
+ghost use Rattle.monk_page.specs.Kinds.{kind_json, verdict_json};
 ghost use Rattle.monk_page.specs.Page.{IsTold};
+ghost use Rattle.monk_page.specs.Writes.{AddsMember, AddsValue};
 
+use crate::in_json::{JsonText, member};
 use crate::told_history::ToldHistory;
 use monk_audit::{AuditFault, Verdict, audit, under};
 use monk_kinds::KindName;
 use monk_tell::{ForbiddenEvent, JudgedHistory, tell_judged};
-use serde_json::{Map, Value, put};
 use std::alloc::{AllocError, Global};
 
-/// Why an event is forbidden, if one is.
-fn why(alloc: Global, blame: &Option<ForbiddenEvent>) -> Result<Value, AllocError>
-    ensures { IfOk result
-        (λ v. view v ≡ option_json (λ b. string (why_text b.why)) (option_map blame_of blame.now)) }
+/// Writes why an event is forbidden, if one is.
+fn write_why(out: &mut JsonText, blame: &Option<ForbiddenEvent>) -> Result<(), AllocError>
+    ensures { OnOk result (AddsMember (codes "why")
+        (option_json (λ b. why_json b.why) (option_map blame_of blame.now)) out.old.writer out.new.writer) }
 {
     match blame {
-        Some(blame) => Ok(Value::String(format!(in alloc; "{}", blame.why)?)),
-        None => Ok(Value::Null),
+        Some(blame) => member(out, "why", &blame.why),
+        None => {
+            out.writer.key("why")?;
+            out.writer.null()
+        }
     }
 }
 
-/// The verdict on a monitor of that kind, and why an event is forbidden.
-fn verdict_value(
-    alloc: Global,
+/// Writes the verdict on a monitor of that kind, and why an event is forbidden.
+fn write_verdict(
+    out: &mut JsonText,
     kind: KindName,
     verdict: Verdict,
     blame: &Option<ForbiddenEvent>,
-) -> Result<Value, AllocError>
-    ensures { IfOk result (λ v. view v ≡ verdict_json kind verdict (option_map blame_of blame.now)) }
+) -> Result<(), AllocError>
+    ensures { OnOk result (AddsValue (verdict_json kind verdict (option_map blame_of blame.now))
+        out.old.writer out.new.writer) }
 {
-    let mut map = Map::new(alloc);
-    put(
-        &mut map,
-        alloc,
-        "kind",
-        Value::try_from_str(alloc, kind.as_str())?,
-    )?;
-    let said = format!(in alloc; "{verdict}")?;
-    put(&mut map, alloc, "verdict", Value::String(said))?;
-    put(&mut map, alloc, "why", why(alloc, blame)?)?;
-    Ok(Value::Object(map))
+    out.writer.begin_object()?;
+    member(out, "kind", &kind.as_str())?;
+    let said = format!(in out.alloc; "{verdict}")?;
+    member(out, "verdict", &said.as_str())?;
+    write_why(out, blame)?;
+    out.writer.end_object()?;
+    Ok(())
 }
 
-/// What an audit of the events finds if the monitor is of another kind. Only where that forbids an event are those
-/// before it replayed.
-fn other_kind(alloc: Global, told: ToldHistory, kind: KindName) -> Result<Value, AuditFault>
+/// Writes what an audit of the events finds if the monitor is of another kind. Only where that forbids an event are
+/// those before it replayed.
+fn write_other(out: &mut JsonText, told: ToldHistory, kind: KindName) -> Result<(), AuditFault>
     requires { IsTold told }
-    ensures json { IfOk result (λ v. view v ≡ kind_json told.entry.header.now told.entry.events.now kind) }
+    ensures json { OnOk result
+        (AddsValue (kind_json told.entry.header.now told.entry.events.now kind) out.old.writer out.new.writer) }
     ensures object { IsErrOf result AuditFault.Object → most told.entry.header.now.object < told.entry.header.now.size }
 {
     let header = under(told.header, kind);
-    let verdict = audit(alloc, &header, told.events)?;
+    let verdict = audit(out.alloc, &header, told.events)?;
     if let Verdict::Legal(_) = verdict {
-        return Ok(verdict_value(alloc, kind, verdict, &None)?);
+        return Ok(write_verdict(out, kind, verdict, &None)?);
     }
     let history = JudgedHistory {
         header: &header,
@@ -68,33 +68,40 @@ fn other_kind(alloc: Global, told: ToldHistory, kind: KindName) -> Result<Value,
         verdict,
     };
     // (no step is behind one event and up to none)
-    let (telling, _) = tell_judged(alloc, history, 1, 0)?;
-    Ok(verdict_value(alloc, kind, verdict, &telling.blame)?)
+    let (telling, _) = tell_judged(out.alloc, history, 1, 0)?;
+    Ok(write_verdict(out, kind, verdict, &telling.blame)?)
 }
 
-/// What an audit of the events finds if the monitor is of that kind.
-fn kind_value(alloc: Global, told: ToldHistory, kind: KindName) -> Result<Value, AuditFault>
+/// Writes what an audit of the events finds if the monitor is of that kind.
+fn write_kind(out: &mut JsonText, told: ToldHistory, kind: KindName) -> Result<(), AuditFault>
     requires { IsTold told }
-    ensures json { IfOk result (λ v. view v ≡ kind_json told.entry.header.now told.entry.events.now kind) }
+    ensures json { OnOk result
+        (AddsValue (kind_json told.entry.header.now told.entry.events.now kind) out.old.writer out.new.writer) }
     ensures object { IsErrOf result AuditFault.Object → most told.entry.header.now.object < told.entry.header.now.size }
 {
     if kind != told.header.kind() {
-        return other_kind(alloc, told, kind);
+        return write_other(out, told, kind);
     }
     let telling = told.telling;
-    Ok(verdict_value(alloc, kind, telling.verdict, &telling.blame)?)
+    Ok(write_verdict(out, kind, telling.verdict, &telling.blame)?)
 }
 
-/// The values of all kinds.
-pub(crate) fn kinds(alloc: Global, told: ToldHistory) -> Result<Value, AuditFault>
+/// Writes the values of these kinds.
+pub(crate) fn write_kinds(
+    out: &mut JsonText,
+    told: ToldHistory,
+    kinds: &[KindName],
+) -> Result<(), AuditFault>
     requires { IsTold told }
-    ensures json { IfOk result (λ v. view v ≡ kinds_json told.entry.header.now told.entry.events.now) }
+    ensures json { OnOk result
+        (AddsValue (list_json (kind_json told.entry.header.now told.entry.events.now) kinds.now)
+        out.old.writer out.new.writer) }
     ensures object { IsErrOf result AuditFault.Object → most told.entry.header.now.object < told.entry.header.now.size }
 {
-    let mut values = Vec::new(alloc);
-    for kind in KindName::ALL.iter() {
-        let value = kind_value(alloc, told, *kind)?;
-        serde_json::push(&mut values, value)?;
+    out.writer.begin_array()?;
+    for kind in kinds {
+        write_kind(out, told, *kind)?;
     }
-    Ok(Value::Array(values))
+    out.writer.end_array()?;
+    Ok(())
 }

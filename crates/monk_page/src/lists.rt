@@ -4,24 +4,23 @@ ghost use Rattle.monk_tell.specs.Told.{condition_lists};
 ghost use Rattle.monk_page.specs.Json.{list_json, numbers_json};
 ghost use Rattle.monk_page.specs.Step.{wait_json};
 
-use crate::in_json::{InJson, list};
+use crate::in_json::{InJson, JsonText};
 use monk_tell::{Conditions, NumberList, SeatList};
-use serde_json::{Value, json};
-use std::alloc::{AllocError, Global};
+use std::alloc::AllocError;
 
 impl InJson for SeatList {
     ghost json = { λ s. numbers_json s.0.items };
 
-    fn value(&self, alloc: Global) -> Result<Value, AllocError> {
-        list(alloc, &self.0)
+    fn write(&self, out: &mut JsonText) -> Result<(), AllocError> {
+        self.0.write(out)
     }
 }
 
 impl InJson for NumberList {
     ghost json = { λ n. numbers_json n.0.items };
 
-    fn value(&self, alloc: Global) -> Result<Value, AllocError> {
-        list(alloc, &self.0)
+    fn write(&self, out: &mut JsonText) -> Result<(), AllocError> {
+        self.0.write(out)
     }
 }
 
@@ -29,8 +28,8 @@ impl InJson for Conditions {
     ghost json = { λ c. list_json numbers_json (condition_lists c) };
 
     #[tactic(auto, using(crate::proofs::PageLaws::conditions_told))]
-    fn value(&self, alloc: Global) -> Result<Value, AllocError> {
-        list(alloc, &self.0)
+    fn write(&self, out: &mut JsonText) -> Result<(), AllocError> {
+        self.0.write(out)
     }
 }
 
@@ -38,7 +37,11 @@ impl InJson for Conditions {
 impl InJson for (u8, u8) {
     ghost json = { wait_json };
 
-    fn value(&self, alloc: Global) -> Result<Value, AllocError> {
-        json!(in alloc; [self.0, self.1])
+    fn write(&self, out: &mut JsonText) -> Result<(), AllocError> {
+        out.writer.begin_array()?;
+        self.0.write(out)?;
+        self.1.write(out)?;
+        out.writer.end_array()?;
+        Ok(())
     }
 }

@@ -1,39 +1,61 @@
 //! A log's page.
 
-ghost use Rattle.std.specs.Prelude.{◌≡◌, IfOk, string_bytes};
-ghost use Rattle.serde_json.specs.View.{view};
+ghost use Rattle.std.specs.Prelude.{IfOk, OnOk, string_bytes};
+ghost use Rattle.serde_json.specs.Data.{no_members};
 ghost use Rattle.monk_judge.specs.Run.{IsRun, opening, setting};
-ghost use Rattle.monk_page.specs.Log.{IsLogPage, log_json};
+ghost use Rattle.monk_page.specs.Log.{IsLogPage, log_json, with_header};
+ghost use Rattle.monk_page.specs.Writes.{AddsMembers, AddsValue};
 
-use crate::log_data::{put_header, put_misfit, put_run};
+use crate::in_json::{JsonText, member};
+use crate::log_data::{write_misfit, write_run};
 use crate::shell::{NOTHING_TOLD, article_around, log_end, page_with};
 use monk_draw::Span;
 use monk_judge::{Judge, Run};
 use monk_logs::{LogHeader, LogLine};
 use monk_object::Listed;
-use serde_json::{Map, Value};
 use std::alloc::{AllocError, Global};
 
-/// The data of a page.
-fn log_data<T: Listed>(
-    alloc: Global,
+/// Writes what the header says, how many lines stand before those that are shown, and the misfit.
+fn write_header(
+    out: &mut JsonText,
+    header: &LogHeader,
+    run: &Run,
+    lines: &[LogLine],
+    before: usize,
+) -> Result<(), AllocError>
+    ensures { OnOk result (AddsMembers (with_header header.now run.now lines.now before no_members)
+        out.old.writer out.new.writer) }
+{
+    member(out, "before", &(before as u64))?;
+    member(out, "conditions", &header.conds())?;
+    write_misfit(out, run.misfit, lines)?;
+    member(out, "object", &header.object().as_str())?;
+    member(out, "seats", &header.seats())?;
+    member(out, "size", &header.size())?;
+    Ok(())
+}
+
+/// Writes the data of a page.
+fn write_log<T: Listed>(
+    out: &mut JsonText,
     header: &LogHeader,
     object: T,
     run: &Run,
     lines: &[LogLine],
     span: Span,
-) -> Result<Value, AllocError>
+) -> Result<(), AllocError>
     requires { IsRun (setting header.now.seats header.now.conds T.meaning) (opening (T.state object))
         run.now.steps.items }
-    ensures { IfOk result (λ v. view v
-        ≡ log_json header.now T.meaning (T.state object) run.now lines.now span.before span.last) }
+    ensures { OnOk result (AddsValue
+        (log_json header.now T.meaning (T.state object) run.now lines.now span.before span.last)
+        out.old.writer out.new.writer) }
 {
-    let mut judge = Judge::opening(alloc, header.seats(), header.conds(), object)?;
-    let mut map = Map::new(alloc);
-    put_header(alloc, &mut map, header)?;
-    put_run(alloc, &mut map, &mut judge, &run.steps, span)?;
-    put_misfit(alloc, &mut map, run.misfit, lines)?;
-    Ok(Value::Object(map))
+    let mut judge = Judge::opening(out.alloc, header.seats(), header.conds(), object)?;
+    out.writer.begin_object()?;
+    write_header(out, header, run, lines, span.before)?;
+    write_run(out, &mut judge, &run.steps, span)?;
+    out.writer.end_object()?;
+    Ok(())
 }
 
 /// The page of a log, as one HTML text: the picture of a run that tells it, and that run step by step, which its script
@@ -63,7 +85,9 @@ pub fn log_page<T: Listed>(
     ensures { IfOk result (λ page. IsLogPage header.now T.meaning (T.state object) run.now lines.now
         span.before span.last (string_bytes page)) }
 {
-    let data = log_data(alloc, header, object, run, lines, span)?.to_string(alloc)?;
+    let mut out = JsonText::new(alloc);
+    write_log(&mut out, header, object, run, lines, span)?;
+    let data = out.text()?;
     let article = article_around(alloc, picture, data.as_str(), NOTHING_TOLD)?;
     page_with(alloc, article.as_str(), log_end())
 }

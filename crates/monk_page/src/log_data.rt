@@ -1,162 +1,136 @@
 //! The data of a log's page.
 
-ghost use Rattle.std.specs.Prelude.{◌≡◌, ◌-◌, IfOk, OnOk, codes, length};
-ghost use Rattle.serde_json.specs.Data.{put};
-ghost use Rattle.serde_json.specs.View.{members_view, view};
+ghost use Rattle.std.specs.Prelude.{OnOk, codes, length};
+ghost use Rattle.serde_json.specs.Data.{no_members};
 ghost use Rattle.monk_judge.specs.Followed.{followed};
 ghost use Rattle.monk_judge.specs.Run.{IsRun};
 ghost use Rattle.monk_judge.specs.Shown.{setting_of, state_of};
 ghost use Rattle.monk_page.specs.Json.{list_json};
-ghost use Rattle.monk_page.specs.Log.{misfit_json, place_json, state_json, told_json, with_header, with_run, with_state, wrong_json};
+ghost use Rattle.monk_page.specs.Log.{misfit_json, place_json, state_json, told_json, with_run, with_state, wrong_json};
+ghost use Rattle.monk_page.specs.Writes.{AddsMember, AddsMembers, AddsValue};
 
-use crate::in_json::{InJson, list, optional};
+use crate::in_json::{InJson, JsonText, member, write_list};
 use monk_draw::Span;
 use monk_judge::{Judge, Misfit, Place, Step, cut};
-use monk_logs::{LogHeader, LogLine};
+use monk_logs::LogLine;
 use monk_object::Listed;
 use monk_tell::data_numbers;
-use serde_json::{Map, Value, put};
 use std::alloc::{AllocError, Global};
 
 impl InJson for Place {
     ghost json = { place_json };
 
-    fn value(&self, alloc: Global) -> Result<Value, AllocError> {
-        Ok(Value::String(format!(in alloc; "{self}")?))
+    fn write(&self, out: &mut JsonText) -> Result<(), AllocError> {
+        let said = format!(in out.alloc; "{self}")?;
+        out.writer.string(said.as_str())
     }
 }
 
-/// Puts who holds the lock, where the threads are, and the data into the map.
-fn put_state<T: Listed>(
-    alloc: Global,
-    map: &mut Map<String, Value>,
-    judge: &Judge<T>,
-) -> Result<(), AllocError>
-    ensures { OnOk result (members_view map.new.entries
-        ≡ with_state (length judge.now.places) (state_of judge.now) (members_view map.old.entries)) }
+/// Writes who holds the lock, where the threads are, and the data.
+fn write_members<T: Listed>(out: &mut JsonText, judge: &Judge<T>) -> Result<(), AllocError>
+    ensures { OnOk result (AddsMembers (with_state (length judge.now.places) (state_of judge.now) no_members)
+        out.old.writer out.new.writer) }
 {
-    put(map, alloc, "lock", optional(alloc, &judge.lock())?)?;
-    put(map, alloc, "places", list(alloc, judge.places())?)?;
-    let data = data_numbers(alloc, judge.object())?;
-    put(map, alloc, "state", list(alloc, &data)?)
+    member(out, "lock", &judge.lock())?;
+    out.writer.key("places")?;
+    write_list(out, judge.places())?;
+    let data = data_numbers(out.alloc, judge.object())?;
+    member(out, "state", &data)?;
+    Ok(())
 }
 
-/// The same as a value.
-fn state<T: Listed>(alloc: Global, judge: &Judge<T>) -> Result<Value, AllocError>
-    ensures { IfOk result (λ v. view v ≡ state_json (length judge.now.places) (state_of judge.now)) }
+/// Writes the same as a value.
+fn write_state<T: Listed>(out: &mut JsonText, judge: &Judge<T>) -> Result<(), AllocError>
+    ensures { OnOk result
+        (AddsValue (state_json (length judge.now.places) (state_of judge.now)) out.old.writer out.new.writer) }
 {
-    let mut map = Map::new(alloc);
-    put_state(alloc, &mut map, judge)?;
-    Ok(Value::Object(map))
+    out.writer.begin_object()?;
+    write_members(out, judge)?;
+    out.writer.end_object()?;
+    Ok(())
 }
 
-/// A step, with the state behind it, in which the judge is.
-fn told<T: Listed>(alloc: Global, judge: &Judge<T>, step: Step) -> Result<Value, AllocError>
-    ensures { IfOk result
-        (λ v. view v ≡ told_json (length judge.now.places) (step, state_of judge.now)) }
+/// Writes a step, with the state behind it, in which the judge is.
+fn write_told<T: Listed>(out: &mut JsonText, judge: &Judge<T>, step: Step) -> Result<(), AllocError>
+    ensures { OnOk result
+        (AddsValue (told_json (length judge.now.places) (step, state_of judge.now)) out.old.writer out.new.writer) }
 {
-    let mut map = Map::new(alloc);
-    put_state(alloc, &mut map, judge)?;
-    let text = format!(in alloc; "{step}")?;
-    put(&mut map, alloc, "told", Value::String(text))?;
-    Ok(Value::Object(map))
+    out.writer.begin_object()?;
+    write_members(out, judge)?;
+    let text = format!(in out.alloc; "{step}")?;
+    member(out, "told", &text.as_str())?;
+    out.writer.end_object()?;
+    Ok(())
 }
 
-/// The steps, each with the state behind it.
-fn steps_told<T: Listed>(
-    alloc: Global,
+/// Writes the steps, each with the state behind it.
+fn write_steps<T: Listed>(
+    out: &mut JsonText,
     judge: &mut Judge<T>,
     steps: &[Step],
-) -> Result<Value, AllocError>
+) -> Result<(), AllocError>
     requires { IsRun (setting_of judge.old T.meaning) (state_of judge.old) steps.now }
-    ensures { IfOk result (λ v. view v ≡ list_json (told_json (length judge.old.places))
-        (followed (setting_of judge.old T.meaning) (state_of judge.old) steps.now)) }
+    ensures { OnOk result (AddsValue (list_json (told_json (length judge.old.places))
+        (followed (setting_of judge.old T.meaning) (state_of judge.old) steps.now)) out.old.writer out.new.writer) }
 {
-    let mut values = Vec::new(alloc);
+    out.writer.begin_array()?;
     for step in steps {
         judge.follow(*step);
-        values.push(told(alloc, judge, *step)?)?;
+        write_told(out, judge, *step)?;
     }
-    Ok(Value::Array(values))
+    out.writer.end_array()?;
+    Ok(())
 }
 
-/// Puts the steps that tell the lines of the span into the map, and the state before them.
-pub(crate) fn put_run<T: Listed>(
-    alloc: Global,
-    map: &mut Map<String, Value>,
+/// Writes the steps that tell the lines of the span, and the state before them.
+pub(crate) fn write_run<T: Listed>(
+    out: &mut JsonText,
     judge: &mut Judge<T>,
     steps: &[Step],
     span: Span,
 ) -> Result<(), AllocError>
     requires { IsRun (setting_of judge.old T.meaning) (state_of judge.old) steps.now }
-    ensures { OnOk result (members_view map.new.entries
-        ≡ with_run (setting_of judge.old T.meaning) (state_of judge.old) steps.now span.before span.last
-        (members_view map.old.entries)) }
+    ensures { OnOk result (AddsMembers (with_run (setting_of judge.old T.meaning) (state_of judge.old) steps.now
+        span.before span.last no_members) out.old.writer out.new.writer) }
 {
     let (early, rest) = cut(steps, span.before);
     let (shown, _behind) = cut(rest, span.last.saturating_sub(span.before));
     judge.follow_all(early);
-    put(map, alloc, "before", Value::from(span.before))?;
-    put(map, alloc, "start", state(alloc, judge)?)?;
-    put(map, alloc, "steps", steps_told(alloc, judge, shown)?)
+    out.writer.key("start")?;
+    write_state(out, judge)?;
+    out.writer.key("steps")?;
+    write_steps(out, judge, shown)?;
+    Ok(())
 }
 
-/// Puts what the header says into the map.
-pub(crate) fn put_header(
-    alloc: Global,
-    map: &mut Map<String, Value>,
-    header: &LogHeader,
-) -> Result<(), AllocError>
-    ensures { OnOk result (members_view map.new.entries ≡ with_header header.now (members_view map.old.entries)) }
+/// Writes the line that misfits, and why.
+fn write_wrong(out: &mut JsonText, misfit: Misfit, line: LogLine) -> Result<(), AllocError>
+    ensures { OnOk result (AddsValue (wrong_json misfit line) out.old.writer out.new.writer) }
 {
-    put(map, alloc, "conditions", Value::from(header.conds()))?;
-    let object = Value::try_from_str(alloc, header.object().as_str())?;
-    put(map, alloc, "object", object)?;
-    put(map, alloc, "seats", Value::from(header.seats()))?;
-    put(map, alloc, "size", Value::from(header.size()))
+    out.writer.begin_object()?;
+    member(out, "index", &(misfit.line as u64))?;
+    let text = format!(in out.alloc; "{}", Step::Tells(line, None))?;
+    member(out, "told", &text.as_str())?;
+    member(out, "why", &misfit.why.sentence())?;
+    member(out, "word", &misfit.why.text())?;
+    out.writer.end_object()?;
+    Ok(())
 }
 
-/// The line that misfits, and why.
-fn wrong(alloc: Global, misfit: Misfit, line: LogLine) -> Result<Value, AllocError>
-    ensures { IfOk result (λ v. view v ≡ wrong_json misfit line) }
-{
-    let mut map = Map::new(alloc);
-    put(&mut map, alloc, "index", Value::from(misfit.line))?;
-    let text = format!(in alloc; "{}", Step::Tells(line, None))?;
-    put(&mut map, alloc, "told", Value::String(text))?;
-    let why = Value::try_from_str(alloc, misfit.why.sentence())?;
-    put(&mut map, alloc, "why", why)?;
-    let word = Value::try_from_str(alloc, misfit.why.text())?;
-    put(&mut map, alloc, "word", word)?;
-    Ok(Value::Object(map))
-}
-
-/// The misfit, if there is one.
-fn misfit_value(
-    alloc: Global,
+/// Writes the misfit; null, if there is none.
+pub(crate) fn write_misfit(
+    out: &mut JsonText,
     misfit: Option<Misfit>,
     lines: &[LogLine],
-) -> Result<Value, AllocError>
-    ensures { IfOk result (λ v. view v ≡ misfit_json misfit lines.now) }
+) -> Result<(), AllocError>
+    ensures { OnOk result (AddsMember (codes "misfit") (misfit_json misfit lines.now) out.old.writer out.new.writer) }
 {
+    out.writer.key("misfit")?;
     let Some(misfit) = misfit else {
-        return Ok(Value::Null);
+        return out.writer.null();
     };
     match lines.get(misfit.line) {
-        Some(line) => wrong(alloc, misfit, *line),
-        None => Ok(Value::Null),
+        Some(line) => write_wrong(out, misfit, *line),
+        None => out.writer.null(),
     }
-}
-
-/// Puts it into the map.
-pub(crate) fn put_misfit(
-    alloc: Global,
-    map: &mut Map<String, Value>,
-    misfit: Option<Misfit>,
-    lines: &[LogLine],
-) -> Result<(), AllocError>
-    ensures { OnOk result (members_view map.new.entries
-        ≡ put (codes "misfit") (misfit_json misfit lines.now) (members_view map.old.entries)) }
-{
-    put(map, alloc, "misfit", misfit_value(alloc, misfit, lines)?)
 }

@@ -8,4 +8,4 @@ use Rattle.monk_page.proofs.laws.data_are_unbroken.Goals as goal
 pub returns : goal.returns
 returns c h es w =
     let last = last_of w (forbidden_step (account h es).verdict) es in
-    text_plain (window_json h es w) (page_plain h es (not_shown w last) last).shown
+    text_plain 6 (window_json h es w) (page_plain h es (not_shown w last) last)

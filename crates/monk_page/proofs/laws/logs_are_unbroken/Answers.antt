@@ -5,4 +5,4 @@ use Rattle.monk_page.proofs.laws.logs_are_unbroken.Goals as goal
 
 pub returns : goal.returns
 returns c h o d run lines before last =
-    text_plain (log_json h o d run lines before last) (log_plain h o d run lines before last).shown
+    text_plain 5 (log_json h o d run lines before last) (log_plain h o d run lines before last)

@@ -4,8 +4,10 @@ use Rattle.monk_audit.specs.Under.{under}
 use Rattle.monk_history.specs.Text.{Heading}
 use Rattle.monk_history.specs.declared.event.Event.{Event}
 use Rattle.monk_tell.specs.Told.{Account, account}
+use Rattle.serde_json.specs.Data.{Data}
 use Rattle.monk_page.specs.Kinds.{verdict_json}
-use Rattle.monk_page.proofs.kinds.kind_value.Goals as goal
+use Rattle.monk_page.specs.Writes.{AddsValue}
+use Rattle.monk_page.proofs.kinds.write_kind.Goals as goal
 
 -- what is told under a history's own kind is what is told of it
 own_kind : (h : Heading) (es : List Event) (k : KindName) → k ≡ h.kind → account h es ≡ account (under k h) es
@@ -14,6 +16,7 @@ own_kind h es k is = subst (λ (l : KindName). account h es ≡ account (under l
 pub returns-clause-json : goal.returns-clause-json
 returns-clause-json c =
     let own : c.args.kind ≡ c.args.told.header.now.kind = search rules in
-    c.in_ok-verdict_value.ensures
-    ∙ ap (λ (a : Account). verdict_json c.args.kind a.verdict a.blame)
-    (c.requires.telling ∙ own_kind c.args.told.header.now c.args.told.events.now c.args.kind own)
+    subst (λ (d : Data). AddsValue d c.args.out.now.writer c.write_verdict.new.out.writer)
+    (ap (λ (a : Account). verdict_json c.args.kind a.verdict a.blame)
+    (c.requires.telling ∙ own_kind c.args.told.header.now c.args.told.events.now c.args.kind own))
+    c.in_ok-write_verdict.ensures
