@@ -60,13 +60,14 @@ def functions_in(crate: Any, path: str, text: str, types: List[Tuple[str, str]])
     """Those of one file."""
     made, heads = [], list(FUNCTION.finditer(text))
     for head, until in zip(heads, [*(it.start() for it in heads[1:]), len(text)]):
-        body = re.compile(rf"^{head[1]}\{{$|\{{$|\{{\}}$", re.M).search(text, head.end(), until)
+        # a line of a contract may end with a brace too, and stands further in
+        body = re.compile(rf"^{head[1]}(?:\S.*)?\{{\}}?$", re.M).search(text, head.start(), until)
         end = re.compile(rf"^{head[1]}\}}$", re.M)
         ends = body and (body if body[0].endswith("}") else end.search(text, body.end()))
         owners = list(OWNER.finditer(text, 0, head.start())) if head[1] else []
         names = names_of(head, owners[-1] if owners else None, module_of(path), types)
         if body and ends and names:
-            span = head.start(), body.start() + body[0].index("{"), ends.end()
+            span = head.start(), body.start() + body[0].rindex("{"), ends.end()
             made.append(Function(crate, path, span, names, not owners or not owners[-1]["trait"]))
     return made
 
