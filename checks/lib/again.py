@@ -25,17 +25,23 @@ def put_again(crate: Any, room: str, edits: List[Any]) -> Dict[Any, Function]:
 
 
 def put_text(crate: Any, room: str, edit: Any, more: str) -> None:
-    """Puts the function's text, with the wrong body and under its new name, before the function."""
+    """Puts the function's text, with the wrong body and under its new name, before the function, whose contract may be
+    another wrong body's in the copy."""
     function = edit.function
     whole = read(f"{crate.folder}/{function.path}")
-    start = len("".join(whole.splitlines(True)[: first_line(whole, function.start) - 1]))
     wrong = edit.texts[function.path]
     name = function.asked.split("::")[-1]
-    own = re.sub(rf"\bfn {name}\b", f"fn {name}{more}", wrong[start : function.end + len(wrong) - len(whole)], count=1)
+    own = wrong[start_of(whole, function) : function.end + len(wrong) - len(whole)]
+    own = re.sub(rf"\bfn {name}\b", f"fn {name}{more}", own, count=1)
     text = read(f"{room}/{function.path}")
-    at = text.index(whole[start : function.body])
+    at = start_of(text, next(it for it in functions_of(crate, room) if it.asked == function.asked))
     with open(f"{room}/{function.path}", "w", encoding="utf-8") as it:
         it.write(f"{text[:at]}{own}\n\n{text[at:]}")
+
+
+def start_of(text: str, function: Function) -> int:
+    """Where the function begins in the text, with its attributes."""
+    return len("".join(text.splitlines(True)[: first_line(text, function.start) - 1]))
 
 
 def put_proof(crate: Any, room: str, function: Function, more: str) -> None:

@@ -1,5 +1,5 @@
 -- Status 0 is answered exactly to the texts of legal histories, and 1 to those of histories with a first fault.
-use Rattle.std.proofs.Common.{◌≡◌, ℕ, ◌≤◌, ◌<◌, ◌^◌, Bool, true, false, cond, ltb, List, length, Option, Some, None}
+use Rattle.std.proofs.Common.{◌≡◌, ℕ, ◌≤◌, ◌<◌, ◌^◌, Bool, true, false, cond, ltb, List, Option, Some, None}
 use Rattle.std.proofs.Common.{Result, Ok, Err, refl, sym, ap, subst, ◌∙◌, arith}
 use Rattle.std.specs.Prelude.{IfSome, ◌↔◌}
 use Rattle.std.proofs.lemmas.Bool.{ltb-false, le-ltb}
@@ -9,7 +9,6 @@ use Rattle.monk_history.specs.declared.text.fault.ReadFault.{ReadFault}
 use Rattle.monk_history.specs.Text.{Heading}
 use Rattle.monk_history.specs.Text.Reading.{History, history, text_at}
 use Rattle.monk_history.specs.Meaning.Legal.{IsLegal}
-use Rattle.monk_history.specs.Meaning.Monitor.{Monitor}
 use Rattle.monk_history.specs.Meaning.Named.{named_monitor}
 use Rattle.monk_history.proofs.PublicLaws.Texts.{text_again, text_read}
 use Rattle.monk_audit.proofs.PublicLaws.{is_legal, is_fault, is_verdict}
@@ -29,54 +28,11 @@ judged_by : (h : History) (b : Bool) (v : Verdict) (n : ℕ) → ltb (most h.0.o
 judged_by h true v n is e l = absurd (omega (arith, l, e))
 judged_by h false v n is e l = (ltb-false _ _ is, e)
 
-zero_is : (m : Monitor) (h : List Event) (v : Verdict) → IsVerdict m h v → (verdict_answer v).status ≡ 0 → IsLegal m h
-zero_is m h (Legal n) w e = w.0
-zero_is m h (Forbidden s r) w e = absurd (omega (arith, e))
-
-one_is : (h : Heading) (es : List Event) (v : Verdict) → IsVerdict (named_monitor h) es v
-    → (verdict_answer v).status ≡ 1 → HasFault h es
-one_is h es (Legal n) w e = absurd (omega (arith, e))
-one_is h es (Forbidden s r) w e = record { step = s; reason = r; first = w }
-
 text_is : (input : List ℕ) (x : History) → text_at (2 ^ 25) input ≡ Ok x → x.0.size ≤ most x.0.object
     → IsTextOf input x.0 x.1
 text_is input x is size =
     let t = text_read (2 ^ 25) input x is in
     record { has_text = t.has_text; few = t.few; whole = t.whole; size = size }
-
-legal_read : (input : List ℕ) (r : Result History ReadFault) → text_at (2 ^ 25) input ≡ r
-    → (reading_answer r).status ≡ 0 → IsLegalText input
-legal_read input (Ok x) is e =
-    let j = judged_by x (ltb (most x.0.object) x.0.size) (verdict_of (named_monitor x.0) x.1) 0 refl e
-    (omega arith) in (
-      x.0,
-      (
-        x.1,
-        (
-          text_is input x is j.0,
-          zero_is (named_monitor x.0) x.1 (verdict_of (named_monitor x.0) x.1)
-              (is_verdict (named_monitor x.0) x.1) j.1,
-        ),
-      ),
-    )
-legal_read input (Err f) is e = absurd (omega (arith, e))
-
-forbidden_read : (input : List ℕ) (r : Result History ReadFault) → text_at (2 ^ 25) input ≡ r
-    → (reading_answer r).status ≡ 1 → IsForbiddenText input
-forbidden_read input (Ok x) is e =
-    let j =
-    judged_by x (ltb (most x.0.object) x.0.size) (verdict_of (named_monitor x.0) x.1) 1 refl e (omega arith) in (
-      x.0,
-      (
-        x.1,
-        (
-          text_is input x is j.0,
-          one_is x.0 x.1 (verdict_of (named_monitor x.0) x.1)
-              (is_verdict (named_monitor x.0) x.1) j.1,
-        ),
-      ),
-    )
-forbidden_read input (Err f) is e = absurd (omega (arith, e))
 
 -- the answer to the text of a history with that verdict
 answered_by : (input : List ℕ) (h : Heading) (es : List Event) (v : Verdict) → IsTextOf input h es
@@ -88,22 +44,44 @@ answered_by input h es v t is =
     subst (λ (r : Result History ReadFault). reading_answer r ≡ verdict_answer v) (sym read_is)
     (rw size (ap verdict_answer is))
 
-pub legal_found : (input : List ℕ) (h : Heading) (es : List Event) → IsTextOf input h es → IsLegal (named_monitor h) es
-    → answer_of input ≡ verdict_answer (Legal (length es))
-legal_found input h es t legal =
-    answered_by input h es (Legal (length es)) t
-    (is_legal (named_monitor h) es (verdict_of (named_monitor h) es) (is_verdict (named_monitor h) es) legal)
+-- a status below 2 is answered exactly to the histories of which that holds
+exactly : (P : Heading → List Event → Type 0) (n : ℕ) → n < 2
+    → ((h : Heading) (es : List Event) (v : Verdict) → IsVerdict (named_monitor h) es v
+    → ((verdict_answer v).status ≡ n) ↔ P h es)
+    → (input : List ℕ)
+    → ((answer_of input).status ≡ n) ↔ ((h : Heading) × ((es : List Event) × (IsTextOf input h es × P h es)))
+exactly P n low by input = (
+  read (text_at (2 ^ 25) input) refl,
+  λ t. ap (λ (a : LineAnswer). a.status) (answered_by input t.0 t.1.0 _ t.1.1.0 refl) ∙ (judged t.0 t.1.0).1 t.1.1.1,
+)
+  where
+    judged : (h : Heading) (es : List Event)
+        → ((verdict_answer (verdict_of (named_monitor h) es)).status ≡ n) ↔ P h es
+    judged h es = by h es (verdict_of (named_monitor h) es) (is_verdict (named_monitor h) es)
 
-legal_answer : (input : List ℕ) → IsLegalText input → (answer_of input).status ≡ 0
-legal_answer input t = ap (λ (a : LineAnswer). a.status) (legal_found input t.0 t.1.0 t.1.1.0 t.1.1.1)
+    read : (r : Result History ReadFault) → text_at (2 ^ 25) input ≡ r → (reading_answer r).status ≡ n
+        → (h : Heading) × ((es : List Event) × (IsTextOf input h es × P h es))
+    read (Ok x) is e =
+        let j = judged_by x (ltb (most x.0.object) x.0.size) (verdict_of (named_monitor x.0) x.1) n refl e low in
+        (x.0, (x.1, (text_is input x is j.0, (judged x.0 x.1).0 j.1)))
+    read (Err f) is e = absurd (omega (arith, e, low))
 
-forbidden_answer : (input : List ℕ) → IsForbiddenText input → (answer_of input).status ≡ 1
-forbidden_answer input t =
-    let f = t.1.1.1 in
-    ap (λ (a : LineAnswer). a.status)
-    (answered_by input t.0 t.1.0 (Forbidden f.step f.reason) t.1.1.0
-    (is_fault (named_monitor t.0) t.1.0 (verdict_of (named_monitor t.0) t.1.0) f.step f.reason
-    (is_verdict (named_monitor t.0) t.1.0) f.first))
+legal_by : (h : Heading) (es : List Event) (v : Verdict) → IsVerdict (named_monitor h) es v
+    → ((verdict_answer v).status ≡ 0) ↔ IsLegal (named_monitor h) es
+legal_by h es (Legal n) w = (λ e. w.0, λ l. refl)
+legal_by h es (Forbidden s r) w = (
+  λ e. absurd (omega (arith, e)),
+  λ l. ap (λ (v : Verdict). (verdict_answer v).status) (is_legal (named_monitor h) es (Forbidden s r) w l),
+)
+
+fault_by : (h : Heading) (es : List Event) (v : Verdict) → IsVerdict (named_monitor h) es v
+    → ((verdict_answer v).status ≡ 1) ↔ HasFault h es
+fault_by h es (Legal n) w = (
+  λ e. absurd (omega (arith, e)),
+  λ f. ap (λ (v : Verdict). (verdict_answer v).status)
+      (is_fault (named_monitor h) es (Legal n) f.step f.reason w f.first),
+)
+fault_by h es (Forbidden s r) w = (λ e. record { step = s; reason = r; first = w }, λ f. refl)
 
 -- the status that was given of what was found is that of the text
 pub status_is : (known : Option (List ℕ)) (found : Result TextVerdict ReadFault) (given status : ℕ) → status ≡ given
@@ -113,14 +91,18 @@ pub status_is : (known : Option (List ℕ)) (found : Result TextVerdict ReadFaul
 status_is None found given status is gives says = tt
 status_is (Some input) found given status is gives says = is ∙ says input gives
 
+-- where a status is the answer's, it stands for exactly what it stands for of the answer
+known_exactly : (n : ℕ) (Is : List ℕ → Type 0) → ((input : List ℕ) → ((answer_of input).status ≡ n) ↔ Is input)
+    → (known : Option (List ℕ)) (status : ℕ) → IfSome known (λ input. status ≡ (answer_of input).status)
+    → IfSome known (λ input. (status ≡ n) ↔ Is input)
+known_exactly n Is exactly_is None status h = tt
+known_exactly n Is exactly_is (Some input) status h =
+    (λ e. (exactly_is input).0 (sym h ∙ e), λ t. h ∙ (exactly_is input).1 t)
+
 pub zero_exactly : (known : Option (List ℕ)) (status : ℕ) → IfSome known (λ input. status ≡ (answer_of input).status)
     → IfSome known (λ input. (status ≡ 0) ↔ IsLegalText input)
-zero_exactly None status h = tt
-zero_exactly (Some input) status h =
-    (λ e. legal_read input (text_at (2 ^ 25) input) refl (sym h ∙ e), λ t. h ∙ legal_answer input t)
+zero_exactly = known_exactly 0 IsLegalText (exactly (λ h es. IsLegal (named_monitor h) es) 0 (omega arith) legal_by)
 
 pub one_exactly : (known : Option (List ℕ)) (status : ℕ) → IfSome known (λ input. status ≡ (answer_of input).status)
     → IfSome known (λ input. (status ≡ 1) ↔ IsForbiddenText input)
-one_exactly None status h = tt
-one_exactly (Some input) status h =
-    (λ e. forbidden_read input (text_at (2 ^ 25) input) refl (sym h ∙ e), λ t. h ∙ forbidden_answer input t)
+one_exactly = known_exactly 1 IsForbiddenText (exactly HasFault 1 (omega arith) fault_by)

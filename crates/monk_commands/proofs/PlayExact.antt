@@ -9,7 +9,7 @@ use Rattle.monk_history.specs.declared.event.Event.{Event}
 use Rattle.monk_history.specs.declared.text.fault.ReadFault.{ReadFault}
 use Rattle.monk_history.specs.Meaning.Legal.{IsLegal}
 use Rattle.monk_history.specs.Meaning.Monitor.{Monitor, monitor}
-use Rattle.monk_history.specs.Text.{Heading, HasText, text}
+use Rattle.monk_history.specs.Text.{Heading, HasText}
 use Rattle.monk_world.specs.declared.command.Command.{Command}
 use Rattle.monk_world.specs.Play.Reading.{Play, play, play_at}
 use Rattle.monk_floor.specs.View.{monitor_of}
@@ -18,22 +18,19 @@ use Rattle.monk_world.specs.Runs.{opening_state}
 use Rattle.monk_world.specs.State.{State}
 use Rattle.monk_world.specs.Telling.{IsLed}
 use Rattle.monk_world.proofs.PublicLaws.{same_monitor, play_again, play_found}
-use Rattle.monk_commands.specs.Played.{IsPlayOf, IsPlayText, IsPlayed, IsReported, IsLedTo, IsAnswer, IsAnswerTo, IsFoundLegal}
-use Rattle.monk_commands.specs.declared.report.Report.{Report}
-use Rattle.monk_commands.specs.declared.report.Report.TheVariants.{History}
-use Rattle.monk_commands.proofs.Exact.{legal_found}
+use Rattle.monk_commands.specs.Played.{IsAnswer, IsAnswerTo, IsLedTo, IsPlayOf, IsPlayText, Telling}
 
 found_again : (input : List ℕ) (h : Heading) (budget : ℕ) (cs : List (ℕ × Command)) → IsPlayOf input h budget cs
     → play_at (2 ^ 25) input ≡ Ok (play h budget cs)
 found_again input h budget cs t = ap (play_at (2 ^ 25)) t.whole ∙ play_again (2 ^ 25) h budget cs t.has_text t.few
 
-module _ (report : Report) (input : List ℕ) (status : ℕ) (Puts : List ℕ → Type 0) where
+module _ (Tells : Telling) (input : List ℕ) (status : ℕ) (Puts : List ℕ → Type 0) where
   text_is : (p : Play) → play_at (2 ^ 25) input ≡ Ok p → p.0.size ≤ most p.0.object → IsPlayOf input p.0 p.1 p.2
   text_is p is size =
       let t = play_found (2 ^ 25) input p is in
       record { has_text = t.has_text; few = t.few; whole = t.whole; size = size }
 
-  is_text : (r : Result Play ReadFault) → play_at (2 ^ 25) input ≡ r → IsAnswer report r status Puts
+  is_text : (r : Result Play ReadFault) → play_at (2 ^ 25) input ≡ r → IsAnswer Tells r status Puts
       → status ≡ 0 → IsPlayText input
   is_text (Ok p) is (inl a) none = (p.0, (p.1, (p.2, text_is p is a.0)))
   is_text (Ok p) is (inr a) none = absurd (omega (arith, a.1, none))
@@ -41,17 +38,17 @@ module _ (report : Report) (input : List ℕ) (status : ℕ) (Puts : List ℕ �
 
   -- the answer to the text of a play
   of_play : (h : Heading) (budget : ℕ) (cs : List (ℕ × Command)) → h.size ≤ most h.object
-      → IsAnswer report (Ok (play h budget cs)) status Puts → (status ≡ 0) × IsReported report h budget cs Puts
+      → IsAnswer Tells (Ok (play h budget cs)) status Puts → (status ≡ 0) × Tells h budget cs Puts
   of_play h budget cs size (inl a) = (a.1, a.2)
   of_play h budget cs size (inr a) = absurd (omega (arith, size, a.0))
 
   pub answer_of : (h : Heading) (budget : ℕ) (cs : List (ℕ × Command)) → IsPlayOf input h budget cs
-      → IsAnswerTo report input status Puts → (status ≡ 0) × IsReported report h budget cs Puts
+      → IsAnswerTo Tells input status Puts → (status ≡ 0) × Tells h budget cs Puts
   answer_of h budget cs t a =
       of_play h budget cs t.size
-      (subst (λ (r : Result Play ReadFault). IsAnswer report r status Puts) (found_again input h budget cs t) a)
+      (subst (λ (r : Result Play ReadFault). IsAnswer Tells r status Puts) (found_again input h budget cs t) a)
 
-  pub exactly : IsAnswerTo report input status Puts → (status ≡ 0) ↔ IsPlayText input
+  pub exactly : IsAnswerTo Tells input status Puts → (status ≡ 0) ↔ IsPlayText input
   exactly a = (is_text (play_at (2 ^ 25) input) refl a, λ t. (answer_of t.0 t.1.0 t.1.1.0 t.1.1.1 a).0)
 
 -- what a world that was made and run has come to
@@ -80,26 +77,3 @@ led_to k o opening h budget commands events seats conds s t seats_are conds_are 
       has_text = has_text;
       few = subst (λ (es : List Event). length es ≤ 2 ^ 25) (sym is) few;
     }
-
--- the text of a history that a play has led to is found legal
-legal_played : (h : Heading) (budget : ℕ) (cs : List (ℕ × Command)) (Puts : List ℕ → Type 0) → h.size ≤ most h.object
-    → IsPlayed h budget cs Puts → IsFoundLegal Puts
-legal_played h budget cs Puts size p =
-    let led = p.1.0 in
-    record {
-      written = text h p.0;
-      count = length p.0;
-      puts = p.1.1;
-      answer = legal_found (text h p.0) h p.0
-          (record { has_text = led.has_text; few = led.few; whole = refl; size = size }) led.legal;
-    }
-
-legal_answered : (r : Result Play ReadFault) (status : ℕ) (Puts : List ℕ → Type 0) → IsAnswer History r status Puts
-    → status ≡ 0 → IsFoundLegal Puts
-legal_answered (Ok p) status Puts (inl a) none = legal_played p.0 p.1 p.2 Puts a.0 a.2
-legal_answered (Ok p) status Puts (inr a) none = absurd (omega (arith, a.1, none))
-legal_answered (Err f) status Puts a none = absurd (omega (arith, a.0, none))
-
-pub legal_written : (bytes : List ℕ) (status : ℕ) (Puts : List ℕ → Type 0) → IsAnswerTo History bytes status Puts
-    → status ≡ 0 → IsFoundLegal Puts
-legal_written bytes = legal_answered (play_at (2 ^ 25) bytes)

@@ -6,11 +6,11 @@ use Rattle.std.specs.Str.Parse.{ParsesUnsigned}
 use Rattle.clap.specs.declared.parser.matches.Found.{Found}
 use Rattle.clap.proofs.WalkLemmas.{one_text-rows, raw_values-rows}
 use Rattle.monk_commands.specs.declared.request.Line.{Line}
-use Rattle.std.specs.Prelude.{IfSome, option_map}
+use Rattle.std.specs.Prelude.{option_map}
 use Rattle.clap.specs.Words.{Row, Text, TriesOne, all_of, matched_of, one_text, raw_values, rows_of, is_simple}
 use Rattle.clap.proofs.OnLiterals.{clap_on_literals}
 use Rattle.monk_judge.specs.declared.waits_for.WaitsFor.{WaitsFor}
-use Rattle.monk_commands.specs.Request.{AreMeanings, HasNumber, IsAsked, IsMeaning, IsRead, MayHaveNumber, NameList}
+use Rattle.monk_commands.specs.Request.{AreMeanings, IsAsked, IsMeaning, IsRead, MayHaveNumber, NameList}
 use Rattle.monk_commands.specs.Request.{monk_app, words_or_none}
 
 -- what is read in the rows of a command is asked for where that command was found
@@ -22,30 +22,6 @@ asked_in (Some p) word rows l w r is =
     let same_word : word ≡ p.0 = cc in
     let same_rows : rows ≡ p.1 = cc in
     subst (λ (x : Text). IsRead x l p.1) same_word (subst (λ (x : List Row). IsRead word l x) same_rows is)
-
--- the same of what may have been read
-pub asked_in_some : (o : Option (Text × List Row)) (word : Text) (rows : List Row) (found : Option Line)
-    → option_map (λ p. p.0) o ≡ Some word → option_map (λ p. p.1) o ≡ Some rows
-    → IfSome found (λ l. IsRead word l rows) → IfSome found (λ l. IsAsked l o)
-asked_in_some o word rows None w r is = tt
-asked_in_some o word rows (Some l) w r is = asked_in o word rows l w r is
-
--- the number that is read by `get_one`
-pub number_read : (E : Type 0) (G : List ℕ → Result ℕ E → Type 0) (bits v : ℕ) (name : Text) (f : Found)
-    → ((u : List ℕ) (x : Result ℕ E) → G u x → ParsesUnsigned bits 10 u x) → (one_text f name ≡ None → Some v ≡ None)
-    → ((t : List ℕ) → one_text f name ≡ Some t → G t (Ok v))
-    → HasNumber name v (rows_of f)
-number_read E G bits v name f only none value = go (one_text f name) refl
-  where
-    go : (o : Option Text) → one_text f name ≡ o → HasNumber name v (rows_of f)
-    go None e = absurd (let no : Some v ≡ None = none e in cc)
-    go (Some t) e =
-        let read = only t (Ok v) (value t e) in
-        record {
-          text = t;
-          found = sym (one_text-rows f name) ∙ e;
-          is = record { digits = read.0.0; number = read.1 };
-        }
 
 -- the number that is read by `try_get_one`, if one is
 pub number_tried : (E : Type 0) (G : List ℕ → Result ℕ E → Type 0) (bits : ℕ) (o : Option ℕ)
@@ -71,7 +47,8 @@ pub monk_is_simple : (kinds samples : NameList) → is_simple (monk_app kinds sa
 unfolding clap_on_literals
 monk_is_simple kinds samples = refl
 
--- ---- what those wait for who wait on a condition
+abbrev pub texts : List (Bor Text) → List Text
+texts words = map (λ w. w.now) words
 
 words_more : (ts : List Text) (ws : List WaitsFor) (t : Text) (w : WaitsFor) → AreMeanings ts ws → IsMeaning t w
     → AreMeanings (ts ++ t ∷ []) (ws ++ w ∷ [])
@@ -79,9 +56,6 @@ words_more [] [] t w are is = (is, tt)
 words_more [] (v ∷ ws) t w are is = absurd are
 words_more (s ∷ ts) [] t w are is = absurd are
 words_more (s ∷ ts) (v ∷ ws) t w are is = (are.0, words_more ts ws t w are.1 is)
-
-abbrev pub texts : List (Bor Text) → List Text
-texts words = map (λ w. w.now) words
 
 -- with the meaning of one word more
 pub meanings_more : (words : List (Bor Text)) (i : ℕ) (t : Bor Text) (ws new : List WaitsFor) (w : WaitsFor)
@@ -94,20 +68,6 @@ meanings_more words i t ws new w within are is more =
     (sym (ap texts (take_more words i t within)
     ∙ map-append (λ (x : Bor Text). x.now) (take i words) (get_or words i t ∷ [])))
     (words_more (texts (take i words)) ws (get_or words i t).now w are is))
-
--- ---- words that are kept
-
--- with one word more
-pub kept_more : (S : Type 0) (bytes : S → Text) (words : List (Bor Text)) (i : ℕ) (t : Bor Text) (kept new : List S)
-    (s : S)
-    → i < length words → texts (take i words) ≡ map bytes kept → bytes s ≡ (get_or words i t).now
-    → new ≡ kept ++ s ∷ [] → texts (take (i + 1) words) ≡ map bytes new
-kept_more S bytes words i t kept new s within so_far is more =
-    ap texts (take_more words i t within)
-    ∙ (map-append (λ (x : Bor Text). x.now) (take i words) (get_or words i t ∷ [])
-    ∙ (ap (λ (ts : List Text). ts ++ (get_or words i t).now ∷ []) so_far
-    ∙ (ap (λ (b : Text). map bytes kept ++ b ∷ []) (sym is)
-    ∙ (sym (map-append bytes kept (s ∷ [])) ∙ ap (map bytes) (sym more)))))
 
 -- what clap has found for a name, and what it gives of it
 pub found_words : (id : Text) (f : Found) (words : List Text) → Some words ≡ option_map raw_values (matched_of f id)

@@ -1,14 +1,12 @@
--- The answer to a text whose verdict is explained
-use Rattle.std.specs.Prelude.{◌≡◌, ◌^◌, ℕ, List, true, false, Option, Some, None}
+-- The answer to a history whose verdict is explained
+use Rattle.std.specs.Prelude.{◌≡◌, ℕ, List, Option, Some, None}
 use Rattle.monk_kinds.specs.declared.name.KindName.{KindName}
 use Rattle.monk_history.specs.Text.{Heading}
-use Rattle.monk_history.specs.Text.Reading.{History, text_at}
-use Rattle.monk_tell.specs.Told.{Account, account}
+use Rattle.monk_history.specs.Text.Reading.{History}
 use Rattle.monk_audit.specs.Under.{under}
-use Rattle.monk_commands.specs.Answer.{IsReading, IsSized, verdict_answer}
-use Rattle.monk_commands.specs.LogAnswered.{BeginsWith, IsAnswerToLog, is_log_text}
-use Rattle.monk_commands.specs.declared.logs.view.LogView.TheVariants.{Explanation}
-use Rattle.monk_commands.specs.declared.question.Question.{Question}
+use Rattle.monk_tell.specs.Told.{Account, account}
+use Rattle.monk_commands.specs.Answer.{IsSized, verdict_answer}
+use Rattle.monk_commands.specs.LogAnswered.{BeginsWith}
 
 -- the status and the line of an audit; nothing is said of the lines behind it
 pub record IsTold (t : Account) (status : ℕ) (text : List ℕ) : Type 0 where
@@ -24,8 +22,3 @@ judged_under (Some k) h = under k h
 abbrev pub IsExplained : Option KindName → History → ℕ → List ℕ → Type 0
 IsExplained k h status text =
     IsSized h.0.object h.0.size (IsTold (account (judged_under k h.0) h.1)) status text
-
--- the explanation of a text
-pub record IsExplainAnswer (q : Question) (input : List ℕ) (status : ℕ) (text : List ℕ) : Type 0 where
-  pub log : is_log_text input ≡ true → IsAnswerToLog Explanation q input status text
-  pub history : is_log_text input ≡ false → IsReading (IsExplained q.kind) (text_at (2 ^ 25) input) status text

@@ -1,5 +1,5 @@
 -- The answer to a text that is judged: of a log a finding, of a history the verdict under one kind or under each
-use Rattle.std.specs.Prelude.{◌≡◌, ◌==◌, ◌^◌, ℕ, Bool, true, false, List, ◌++◌, Option, Some, None, codes, if◌then◌else◌}
+use Rattle.std.specs.Prelude.{◌≡◌, ◌==◌, ◌^◌, ℕ, Bool, List, [], ◌∷◌, ◌++◌, Option, Some, None, codes, if◌then◌else◌}
 use Rattle.std.specs.List.{flat_map, list_any}
 use Rattle.monk_kinds.specs.Names.{kind_word, kinds}
 use Rattle.monk_kinds.specs.declared.name.KindName.{KindName}
@@ -11,7 +11,7 @@ use Rattle.monk_audit.specs.Under.{under}
 use Rattle.monk_audit.specs.Verdict.{verdict_of}
 use Rattle.monk_audit.specs.declared.verdict.Verdict.{Verdict}
 use Rattle.monk_commands.specs.Answer.{IsOf, IsReading, IsSized, LineAnswer, verdict_answer}
-use Rattle.monk_commands.specs.LogAnswered.{IsAnswerToLog, is_log_text}
+use Rattle.monk_commands.specs.LogAnswered.{IsAnswerToLog}
 use Rattle.monk_commands.specs.declared.fit_form.FitForm.{FitForm}
 use Rattle.monk_commands.specs.declared.fit_form.FitForm.TheVariants.{Words, Json}
 use Rattle.monk_commands.specs.declared.logs.view.LogView.TheVariants as view
@@ -39,20 +39,18 @@ fit_lines h events ks = flat_map (fit_line h events) ks
 abbrev pub fits_some : Heading → List Event → List KindName → Bool
 fits_some h events ks = list_any (λ k. is_fit (verdict_under h events k)) ks
 
--- the answer under the kind that is named, or under each
-abbrev pub fit_answer : Option KindName → Heading → List Event → LineAnswer
-fit_answer None h events =
-    record { status = if fits_some h events kinds then 0 else 1; text = fit_lines h events kinds }
-fit_answer (Some k) h events =
-    record { status = if is_fit (verdict_under h events k) then 0 else 1; text = fit_line h events k }
+-- the answer under these kinds
+abbrev pub fit_answer : List KindName → Heading → List Event → LineAnswer
+fit_answer ks h events =
+    record { status = if fits_some h events ks then 0 else 1; text = fit_lines h events ks }
 
 -- the answer to a history
-abbrev pub IsFit : Option KindName → History → ℕ → List ℕ → Type 0
-IsFit k h status text = IsSized h.0.object h.0.size (IsOf (fit_answer k h.0 h.1)) status text
+abbrev pub IsFit : List KindName → History → ℕ → List ℕ → Type 0
+IsFit ks h status text = IsSized h.0.object h.0.size (IsOf (fit_answer ks h.0 h.1)) status text
 
 -- the answer to the text of a history
-abbrev pub IsFitText : Option KindName → List ℕ → ℕ → List ℕ → Type 0
-IsFitText k input status text = IsReading (IsFit k) (text_at (2 ^ 25) input) status text
+abbrev pub IsFitText : List KindName → List ℕ → ℕ → List ℕ → Type 0
+IsFitText ks input status text = IsReading (IsFit ks) (text_at (2 ^ 25) input) status text
 
 -- ---- a text
 
@@ -68,15 +66,10 @@ pub record IsNamed (Is : ℕ → List ℕ → Type 0) (name : List ℕ) (status 
 
 -- the answer to a history: ten lines, or one line under the kind behind its name
 abbrev pub IsHistoryFit : Option KindName → List ℕ → List ℕ → ℕ → List ℕ → Type 0
-IsHistoryFit None name input status text = IsFitText None input status text
-IsHistoryFit (Some k) name input status text = IsNamed (IsFitText (Some k) input) name status text
+IsHistoryFit None name input status text = IsFitText kinds input status text
+IsHistoryFit (Some k) name input status text = IsNamed (IsFitText (k ∷ []) input) name status text
 
 -- the answer to a log: one line, behind its name or in JSON
 abbrev pub IsLogFit : FitForm → Question → List ℕ → ℕ → List ℕ → Type 0
 IsLogFit Words q input status text = IsNamed (IsAnswerToLog view.Line q input) q.name.now status text
 IsLogFit Json q input status text = IsAnswerToLog view.Json q input status text
-
--- the answer to a text
-pub record IsFitAnswer (form : FitForm) (q : Question) (input : List ℕ) (status : ℕ) (text : List ℕ) : Type 0 where
-  pub log : is_log_text input ≡ true → IsLogFit form q input status text
-  pub history : is_log_text input ≡ false → IsHistoryFit q.kind q.name.now input status text

@@ -3,9 +3,12 @@ use Rattle.std.specs.Prelude.{◌≡◌, ℕ, List}
 use Rattle.monk_history.specs.Meaning.Monitor.{Monitor}
 use Rattle.monk_history.specs.Meaning.Situation.{situation}
 use Rattle.monk_history.specs.declared.event.Event.{Event}
-use Rattle.monk_audit.specs.Replay.{replay_situation}
+use Rattle.monk_audit.specs.Replay.{IsReplayOf, replay_situation}
 use Rattle.monk_audit.specs.declared.replay.Replay.{Replay}
 
--- the replay, beside this state of the object, is that of the events
-abbrev pub IsBehind : Monitor → Replay → List ℕ → List Event → Type 0
-IsBehind m r state events = replay_situation r state ≡ situation m events
+-- the replay, with so many predicates and conditions, and beside this state of the object, is that of the events
+pub record IsBehind (m : Monitor) (predicates conds : ℕ) (r : Replay) (state : List ℕ) (events : List Event)
+    : Type 0 where
+  pub stands : replay_situation r state ≡ situation m events
+  pub sound : IsReplayOf m.seats m.conds predicates r
+  pub conds_are : conds ≡ m.conds

@@ -70,21 +70,46 @@ wake_up_words n = if n == 1 then codes " spurious wake-up" else codes " spurious
 abbrev pub wake_ups : ℕ → ℕ → List ℕ
 wake_ups n k = decimal n ++ (wake_up_words n ++ (codes ", first at " ++ decimal (number k)))
 
--- a log that fits
-abbrev pub fitting_words : ℕ → Option ℕ → List ℕ
-fitting_words n None = codes "fits"
-fitting_words n (Some k) = codes "fits with " ++ wake_ups n k
+-- the same behind these words, if there are some
+abbrev pub spurious_words : List ℕ → ℕ → Option ℕ → List ℕ
+spurious_words front n None = []
+spurious_words front n (Some k) = front ++ wake_ups n k
 
--- that a seat takes the lock which another holds
-abbrev pub held_words : ℕ → Option Holder → List ℕ
-held_words s None = codes "seat " ++ (decimal s ++ codes " takes the lock that another seat holds")
-held_words s (Some h) =
-    codes "seat " ++ (decimal s ++ (codes " takes the lock, but seat " ++ (decimal h.seat
-    ++ (codes " holds it since " ++ decimal (number h.since)))))
+-- who holds the lock at the end
+abbrev pub busy_words : Bool → Holder → List ℕ
+busy_words ended h =
+    (if ended then codes "; busy at the end" else codes "; busy")
+    ++ (codes ", seat " ++ (decimal h.seat ++ (codes " holds the lock since " ++ decimal (number h.since))))
+
+-- how a log of so many seats ends in which nobody holds the lock, by how many sleep and how many were woken
+abbrev pub idle_words : ℕ → ℕ → ℕ → List ℕ
+idle_words seats asleep woken =
+    if nat_lt 0 woken then codes "; owed, " ++ (decimal woken ++ codes " woken and not back")
+    else if asleep == 0 then codes "; free"
+    else if asleep == seats then codes "; dead, all " ++ (decimal asleep ++ codes " sleep")
+    else codes "; open, " ++ (decimal asleep ++ (if asleep == 1 then codes " sleeps" else codes " sleep"))
+
+-- how the program ends
+abbrev pub end_words : Option Holder → Finding → List ℕ
+end_words None f = idle_words f.seats f.report.asleep f.report.woken
+end_words (Some h) f = busy_words f.has_ended h
+
+-- a log that fits, and how its program ends
+abbrev pub fitting_words : Finding → List ℕ
+fitting_words f =
+    codes "fits" ++ (spurious_words (codes " with ") f.report.tally.spurious f.report.tally.first_spurious
+    ++ end_words f.report.holder f)
 
 -- a sentence about a seat
 abbrev pub about : ℕ → List ℕ → List ℕ
 about s words = codes "seat " ++ (decimal s ++ words)
+
+-- that a seat takes the lock which another holds
+abbrev pub held_words : ℕ → Option Holder → List ℕ
+held_words s None = about s (codes " takes the lock that another seat holds")
+held_words s (Some h) =
+    about s (codes " takes the lock, but seat " ++ (decimal h.seat
+    ++ (codes " holds it since " ++ decimal (number h.since))))
 
 -- what is wrong with a line of that seat
 abbrev pub blame_words : Blame → ℕ → Option Holder → List ℕ
@@ -96,54 +121,17 @@ blame_words Asleep s holder = about s (codes " comes in, but it has not come bac
 blame_words Awake s holder = about s (codes " comes back, but it does not wait")
 blame_words Reply s holder = about s (codes " relied on what no longer held")
 
--- a log that misfits
-abbrev pub misfit_words : Misfit → ℕ → Option Holder → List ℕ
-misfit_words f s holder =
-    codes "misfit at " ++ (decimal (number f.line) ++ (codes ": " ++ (blame_word f.why
-    ++ (codes ", " ++ blame_words f.why s holder))))
+-- a log that misfits, and the spurious wake-ups before that
+abbrev pub misfit_words : Misfit → Finding → List ℕ
+misfit_words wrong f =
+    codes "misfit at " ++ (decimal (number wrong.line) ++ (codes ": " ++ (blame_word wrong.why
+    ++ (codes ", " ++ (blame_words wrong.why f.wrong_seat f.report.holder
+    ++ spurious_words (codes "; ") f.report.tally.spurious f.report.tally.first_spurious)))))
 
 -- whether it fits
 abbrev pub verdict_words : Option Misfit → Finding → List ℕ
-verdict_words None f = fitting_words f.report.tally.spurious f.report.tally.first_spurious
-verdict_words (Some wrong) f = misfit_words wrong f.wrong_seat f.report.holder
-
--- how it is told that somebody holds the lock
-abbrev pub busy_front : Bool → List ℕ
-busy_front ended = if ended then codes "; busy at the end" else codes "; busy"
-
--- who holds the lock at the end
-abbrev pub busy_words : Bool → Holder → List ℕ
-busy_words ended h =
-    busy_front ended
-    ++ (codes ", seat " ++ (decimal h.seat ++ (codes " holds the lock since " ++ decimal (number h.since))))
-
--- so many sleep
-abbrev pub sleep_words : ℕ → List ℕ
-sleep_words n = if n == 1 then codes " sleeps" else codes " sleep"
-
--- how a log of so many seats ends in which nobody holds the lock, by how many sleep and how many were woken
-abbrev pub idle_words : ℕ → ℕ → ℕ → List ℕ
-idle_words seats asleep woken =
-    if nat_lt 0 woken then codes "; owed, " ++ (decimal woken ++ codes " woken and not back")
-    else if asleep == 0 then codes "; free"
-    else if asleep == seats then codes "; dead, all " ++ (decimal asleep ++ codes " sleep")
-    else codes "; open, " ++ (decimal asleep ++ sleep_words asleep)
-
--- how the program ends
-abbrev pub end_words : Option Holder → Finding → List ℕ
-end_words None f = idle_words f.seats f.report.asleep f.report.woken
-end_words (Some h) f = busy_words f.has_ended h
-
--- the end of a log that fits
-abbrev pub ending_words : Option Misfit → Finding → List ℕ
-ending_words None f = end_words f.report.holder f
-ending_words (Some wrong) f = []
-
--- the spurious wake-ups before a misfit
-abbrev pub spurious_words : Option Misfit → ℕ → Option ℕ → List ℕ
-spurious_words None n first = []
-spurious_words (Some wrong) n None = []
-spurious_words (Some wrong) n (Some k) = codes "; " ++ wake_ups n k
+verdict_words None f = fitting_words f
+verdict_words (Some wrong) f = misfit_words wrong f
 
 -- a number behind a word, if it isn't 0
 abbrev pub counted : List ℕ → ℕ → List ℕ
@@ -178,12 +166,10 @@ abbrev pub with_first : List ℕ → ℕ → List ℕ
 with_first words k = words ++ (codes ", first at " ++ decimal (number k))
 
 -- the same, if there are enough of them, and none waited again
-abbrev pub never_words : Finding → Option ℕ → List ℕ
-never_words f None = []
-never_words f (Some k) =
-    if never_again f.report.tally.overtaken f.report.tally.again
-    then with_first (overtaken_words f.report.tally.overtaken) k
-    else []
+abbrev pub never_words : Tally → Option ℕ → List ℕ
+never_words t None = []
+never_words t (Some k) =
+    if never_again t.overtaken t.again then with_first (overtaken_words t.overtaken) k else []
 
 -- what is counted of signals
 abbrev pub tally_words : Tally → List ℕ
@@ -191,15 +177,9 @@ tally_words t =
     counted (codes "; served ") t.served ++ (counted (codes ", passed ") t.passed
     ++ (counted (codes "; unheard ") t.unheard ++ placed (codes ", last at ") t.last_unheard))
 
--- what was found beside
-abbrev pub remark_words : Finding → List ℕ
-remark_words f =
-    placed (codes "; missed at ") f.report.missed ++ (crossed_words f.crossed
-    ++ never_words f f.report.tally.first_not_again)
-
--- the line of a finding: whether the log fits, how it ends, and what is counted and found beside
+-- the line of a finding: whether the log fits, what is counted in it, and what else was found
 abbrev pub finding_line : Finding → List ℕ
 finding_line f =
-    verdict_words f.report.misfit f ++ (ending_words f.report.misfit f
-    ++ (spurious_words f.report.misfit f.report.tally.spurious f.report.tally.first_spurious
-    ++ (tally_words f.report.tally ++ (remark_words f ++ codes "\n"))))
+    verdict_words f.report.misfit f ++ (tally_words f.report.tally
+    ++ (placed (codes "; missed at ") f.report.missed ++ (crossed_words f.crossed
+    ++ (never_words f.report.tally f.report.tally.first_not_again ++ codes "\n"))))

@@ -1,6 +1,6 @@
 -- The command line of the program, as clap sees it, and what a line asks for
-use Rattle.std.specs.Prelude.{◌≡◌, ℕ, Bool, List, [], ◌∷◌, ◌++◌, Option, Some, None, IfSome, IsSomeAnd, true, false, map, option_map, codes, pos}
-use Rattle.std.specs.Prelude.{string_bytes, unwrap_or}
+use Rattle.std.specs.Prelude.{◌≡◌, ℕ, Bool, List, [], ◌∷◌, ◌++◌, Option, Some, None, IfSome, IsSomeAnd, true, false, fold, map, option_map, codes, pos}
+use Rattle.std.specs.Prelude.{String, string_bytes, unwrap_or}
 use Rattle.std.specs.Str.Parse.{IsNumeral, digits_value, without_leading_plus}
 use Rattle.std.specs.Borrow.{Bor}
 use Rattle.clap.specs.Words.{App, Row, Rule, Text, all_of, app_of, first_of, new_app, new_rule, one_of, rule_of, with_rule}
@@ -21,26 +21,71 @@ use Rattle.monk_object.specs.Names.{object_word}
 use Rattle.monk_samples.specs.Samples.{IsInRange, sample_object}
 use Rattle.monk_samples.specs.declared.sample.Sample.{Sample}
 use Rattle.monk_samples.specs.declared.sample.Sample.TheVariants.{Buffer, Book, Shop}
+use Rattle.monk_commands.specs.declared.commands.CommandWords.{CommandWords}
 use Rattle.monk_commands.specs.declared.fit_form.FitForm.{FitForm}
 use Rattle.monk_commands.specs.declared.fit_form.FitForm.TheVariants.{Words, Json}
 use Rattle.monk_commands.specs.declared.request.Judging.{Judging}
 use Rattle.monk_commands.specs.declared.request.Line.{Line}
 use Rattle.monk_commands.specs.declared.request.Line.TheVariants.{Classify, Audit, Play, Upgrade, Fit, Trace, Explain}
 use Rattle.monk_commands.specs.declared.request.Line.TheVariants.{Draw, DrawText, Page, Complete, Run, Record, Hasty}
+use Rattle.monk_commands.specs.declared.word.Form.{Form}
+use Rattle.monk_commands.specs.declared.word.Form.TheVariants.{Optional, Several, Required, Flag, Repeated, Chosen}
+use Rattle.monk_commands.specs.declared.word.Word.{Word}
 
--- a word that must stand there, and that the parser takes
-abbrev pub required_rule : Text → ValueParser → Rule
-required_rule name parser = record (new_rule name) { required = true; parser = Some parser }
+-- ---- the words of a command
 
--- a priority: a whole number from 0 to 255
-abbrev pub priority : ValueParser
-priority = Signed (pos 0) (pos 255)
+-- an option with a value that the parser takes
+abbrev pub chosen_rule : Text → ValueParser → Rule
+chosen_rule name parser = record (new_rule name) { long = Some name; parser = Some parser; value_names = 1 }
 
--- the words of `classify`
-abbrev pub classify_app : App
-classify_app = with_rule
-    (with_rule (with_rule (new_app (codes "classify")) (required_rule (codes "ENTRY") priority))
-    (required_rule (codes "WAITER") priority)) (required_rule (codes "SIGNALLER") priority)
+-- an option with a value, any number of times
+abbrev pub repeated_rule : Text → Rule
+repeated_rule name = record (new_rule name) { long = Some name; action = Some Append; value_names = 1 }
+
+-- the rule of a word of that name and form
+abbrev pub form_rule : Text → Form → Rule
+form_rule name Optional = new_rule name
+form_rule name Several = record (new_rule name) { action = Some Append }
+form_rule name (Required parser) = record (new_rule name) { required = true; parser = Some parser }
+form_rule name Flag = record (new_rule name) { long = Some name; action = Some SetTrue }
+form_rule name (Repeated value) = repeated_rule name
+form_rule name (Chosen value parser) = chosen_rule name parser
+
+-- the rule of a word
+abbrev pub word_rule : Word → Rule
+word_rule w = form_rule w.0.now w.1
+
+-- the argument has this rule, and isn't for subcommands too
+pub record IsOwnArg (rule : Rule) (arg : Arg) : Type 0 where
+  pub rule_is : rule_of arg ≡ rule
+  pub own : arg.global ≡ false
+
+-- ---- the commands
+
+-- a command of that name with these rules
+abbrev pub app_with : Text → List Rule → App
+app_with name rules = fold with_rule (new_app name) rules
+
+-- the command of these words
+abbrev pub command_app : CommandWords → App
+command_app c = app_with c.name.now (map word_rule c.words.now)
+
+-- the command has these rules, and none that is for its subcommands too
+pub record IsOwnApp (a : App) (c : Command) : Type 0 where
+  pub is : app_of c ≡ a
+  pub own : (out-Command c).has_globals ≡ false
+
+-- the program without its commands
+abbrev pub bare_app : App
+bare_app =
+    record (new_app (codes "monk")) {
+      top =
+          record (new_app (codes "monk")).top { has_version = true; subcommand_required = true };
+    }
+
+-- the program with these commands more
+abbrev pub with_commands : App → List CommandWords → App
+with_commands a cs = fold (λ b c. with_subcommand b (command_app c).top) a cs
 
 -- a list of names, as clap holds it
 abbrev pub NameList : Type 0
@@ -58,110 +103,73 @@ sample_word sample = object_word (sample_object sample)
 abbrev pub every_sample : List Sample
 every_sample = Buffer ∷ Book ∷ Shop ∷ []
 
--- a command of that name that takes a kind, a sample, and how many seats and rounds
-abbrev pub run_app : Text → NameList → NameList → App
-run_app name kinds samples =
-    with_rule (with_rule (with_rule (with_rule (new_app name) (required_rule (codes "KIND") (Names kinds)))
-    (required_rule (codes "SAMPLE") (Names samples)))
-    (required_rule (codes "SEATS") (Signed (pos 2) (pos 16))))
-    (required_rule (codes "ROUNDS") (Signed (pos 1) (pos 1000)))
+-- a file or none
+abbrev pub file_rule : Rule
+file_rule = form_rule (codes "FILE") Optional
 
--- the command that takes a kind, how many seats and rounds, and a file or none
-abbrev pub hasty_app : NameList → App
-hasty_app kinds =
-    with_rule (with_rule (with_rule (with_rule (new_app (codes "hasty"))
-    (required_rule (codes "KIND") (Names kinds)))
-    (required_rule (codes "SEATS") (Signed (pos 2) (pos 16))))
-    (required_rule (codes "ROUNDS") (Signed (pos 1) (pos 1000))))
-    (new_rule (codes "FILE"))
-
--- a command of that name that takes a file
-abbrev pub file_app : Text → App
-file_app name = with_rule (new_app name) (new_rule (codes "FILE"))
-
--- the files that a command takes, any number
+-- any number of files
 abbrev pub files_rule : Rule
-files_rule = record (new_rule (codes "FILE")) { action = Some Append }
+files_rule = form_rule (codes "FILE") Several
 
--- a flag, and an option that may stand more than once and takes a value of that name
-abbrev pub flag_rule : Text → Rule
-flag_rule name = record (new_rule name) { long = Some name; action = Some SetTrue }
+-- a whole number in that range, which must stand there
+abbrev pub number_rule : Text → ℕ → ℕ → Rule
+number_rule name least greatest = form_rule name (Required (Signed (pos least) (pos greatest)))
 
--- the rule of an option that may stand several times
-abbrev pub repeated_rule : Text → Rule
-repeated_rule name = record (new_rule name) { long = Some name; action = Some Append; value_names = 1 }
+-- a kind that must stand there
+abbrev pub kind_rule : NameList → Rule
+kind_rule kinds = form_rule (codes "KIND") (Required (Names kinds))
 
--- an option that takes a value that the parser takes
-abbrev pub chosen_rule : Text → ValueParser → Rule
-chosen_rule name parser = record (new_rule name) { long = Some name; parser = Some parser; value_names = 1 }
+-- a kind or none
+abbrev pub one_kind_rule : NameList → Rule
+one_kind_rule kinds = chosen_rule (codes "kind") (Names kinds)
 
--- an option that takes a whole number
-abbrev pub number_rule : Text → Rule
-number_rule name =
-    record (new_rule name) { long = Some name; parser = Some (Signed (pos 0) (pos 4294967295)); value_names = 1 }
+-- the first and the last of the events that are shown
+abbrev pub window_rules : List Rule
+window_rules =
+    chosen_rule (codes "from") (Signed (pos 0) (pos 4294967295))
+    ∷ chosen_rule (codes "to") (Signed (pos 0) (pos 4294967295)) ∷ []
 
--- a command of that name that takes the first and the last of the events that it shows
-abbrev pub shown_app : Text → App
-shown_app name = with_rule (with_rule (new_app name) (number_rule (codes "from"))) (number_rule (codes "to"))
+-- a kind or none, and what is waited for in a log
+abbrev pub judging_rules : NameList → List Rule
+judging_rules kinds = one_kind_rule kinds ∷ repeated_rule (codes "means") ∷ []
 
--- the command that takes these, how a picture of text is laid out, and a file
-abbrev pub draw_app : App
-draw_app =
-    with_rule (with_rule (with_rule (with_rule (shown_app (codes "draw")) (flag_rule (codes "text")))
-    (chosen_rule (codes "width") (Signed (pos 40) (pos 1000000)))) (flag_rule (codes "ascii")))
-    (new_rule (codes "FILE"))
+-- how many seats and rounds
+abbrev pub size_rules : List Rule
+size_rules = number_rule (codes "SEATS") 2 16 ∷ number_rule (codes "ROUNDS") 1 1000 ∷ []
 
--- the command that takes these, and files
-abbrev pub page_app : App
-page_app = with_rule (shown_app (codes "page")) files_rule
+-- a kind, a sample, and how many seats and rounds
+abbrev pub run_rules : NameList → NameList → List Rule
+run_rules kinds samples = kind_rule kinds ∷ form_rule (codes "SAMPLE") (Required (Names samples)) ∷ size_rules
 
--- a command of that name that takes a kind or none, and what is waited for in a log
-abbrev pub judging_app : Text → NameList → App
-judging_app name kinds =
-    with_rule (with_rule (new_app name) (chosen_rule (codes "kind") (Names kinds))) (repeated_rule (codes "means"))
-
--- the command that takes a kind or none, what is waited for in a log, a flag, and files
-abbrev pub fit_app : NameList → App
-fit_app kinds = with_rule (with_rule (judging_app (codes "fit") kinds) (flag_rule (codes "json"))) files_rule
-
--- the command that takes a kind or none, what is waited for in a log, and a file
-abbrev pub explain_app : NameList → App
-explain_app kinds = with_rule (judging_app (codes "explain") kinds) (new_rule (codes "FILE"))
-
--- the command that takes a kind or none, and a file
-abbrev pub complete_app : NameList → App
-complete_app kinds =
-    with_rule (with_rule (new_app (codes "complete")) (chosen_rule (codes "kind") (Names kinds)))
-    (new_rule (codes "FILE"))
-
--- the argument has this rule, and isn't for subcommands too
-pub record IsOwnArg (rule : Rule) (arg : Arg) : Type 0 where
-  pub rule_is : rule_of arg ≡ rule
-  pub own : arg.global ≡ false
-
--- the command has these rules, and none that is for its subcommands too
-pub record IsOwnApp (a : App) (c : Command) : Type 0 where
-  pub is : app_of c ≡ a
-  pub own : (out-Command c).has_globals ≡ false
-
--- the program without its commands
-abbrev pub bare_app : App
-bare_app =
-    record (new_app (codes "monk")) {
-      top =
-          record (new_app (codes "monk")).top { has_version = true; subcommand_required = true };
-    }
+-- the commands by their names, with the rules of their words
+abbrev pub every_command : NameList → NameList → List (Text × List Rule)
+every_command kinds samples = (
+  codes "classify",
+  number_rule (codes "ENTRY") 0 255 ∷ number_rule (codes "WAITER") 0 255 ∷ number_rule (codes "SIGNALLER") 0 255
+      ∷ [],
+)
+    ∷ (codes "audit", file_rule ∷ [])
+    ∷ (codes "play", file_rule ∷ [])
+    ∷ (codes "upgrade", file_rule ∷ [])
+    ∷ (codes "fit", judging_rules kinds ++ form_rule (codes "json") Flag ∷ files_rule ∷ [])
+    ∷ (codes "trace", file_rule ∷ [])
+    ∷ (codes "explain", judging_rules kinds ++ file_rule ∷ [])
+    ∷ (
+      codes "draw",
+      window_rules ++ form_rule (codes "text") Flag ∷ chosen_rule (codes "width") (Signed (pos 40) (pos 1000000))
+          ∷ form_rule (codes "ascii") Flag ∷ file_rule ∷ [],
+    )
+    ∷ (codes "page", window_rules ++ files_rule ∷ [])
+    ∷ (codes "complete", one_kind_rule kinds ∷ file_rule ∷ [])
+    ∷ (codes "run", run_rules kinds samples)
+    ∷ (codes "record", run_rules kinds samples)
+    ∷ (codes "hasty", kind_rule kinds ∷ (size_rules ++ file_rule ∷ []))
+    ∷ []
 
 -- the program with its commands, by the names of the kinds and of the samples
 abbrev pub monk_app : NameList → NameList → App
 monk_app kinds samples =
-    with_subcommand (with_subcommand (with_subcommand (with_subcommand (with_subcommand (with_subcommand
-    (with_subcommand (with_subcommand (with_subcommand (with_subcommand (with_subcommand (with_subcommand
-    (with_subcommand bare_app classify_app.top) (file_app (codes "audit")).top)
-    (file_app (codes "play")).top) (file_app (codes "upgrade")).top) (fit_app kinds).top)
-    (file_app (codes "trace")).top) (explain_app kinds).top) draw_app.top)
-    page_app.top) (complete_app kinds).top) (run_app (codes "run") kinds samples).top)
-    (run_app (codes "record") kinds samples).top) (hasty_app kinds).top
+    fold (λ a c. with_subcommand a (app_with c.0 c.1).top) bare_app (every_command kinds samples)
 
 -- the command line of the program
 pub record IsMonk (a : App) : Type 0 where
@@ -171,22 +179,7 @@ pub record IsMonk (a : App) : Type 0 where
   pub all_samples : words_in samples ≡ map sample_word every_sample
   pub is : a ≡ monk_app kinds samples
 
--- the command that a line is for
-abbrev pub command_word : Line → Text
-command_word (Classify e w s) = codes "classify"
-command_word (Audit file) = codes "audit"
-command_word (Play file) = codes "play"
-command_word (Upgrade file) = codes "upgrade"
-command_word (Fit files judging form) = codes "fit"
-command_word (Trace file) = codes "trace"
-command_word (Explain file judging) = codes "explain"
-command_word (Draw file window) = codes "draw"
-command_word (DrawText file window layout) = codes "draw"
-command_word (Page files window) = codes "page"
-command_word (Complete file kind) = codes "complete"
-command_word (Run kind sample seats rounds) = codes "run"
-command_word (Record kind sample seats rounds) = codes "record"
-command_word (Hasty kind seats rounds file) = codes "hasty"
+-- ---- what a line asks for
 
 -- a whole number in digits
 pub record IsInDigits (text : Text) (n : ℕ) : Type 0 where
@@ -263,9 +256,21 @@ abbrev pub words_or_none : Option (List Text) → List Text
 words_or_none None = []
 words_or_none (Some words) = words
 
+-- the file that is named first, if one is
+abbrev pub IsFile : {A : Type 0} → Option (String A) → List Row → Type 0
+IsFile file rows = first_of (codes "FILE") rows ≡ option_map string_bytes file
+
+-- the files that are named
+abbrev pub AreFiles : {A : Type 0} → List (String A) → List Row → Type 0
+AreFiles files rows = words_or_none (all_of (codes "FILE") rows) ≡ map string_bytes files
+
+-- the kind that is named by an option, if one is
+abbrev pub IsOneKind : Option KindName → List Row → Type 0
+IsOneKind kind rows = first_of (codes "kind") rows ≡ option_map kind_word kind
+
 -- how to judge is what clap has found: a kind, and what is waited for
 pub record AreJudging (j : Judging) (rows : List Row) : Type 0 where
-  pub kind : first_of (codes "kind") rows ≡ option_map kind_word j.kind
+  pub kind : IsOneKind j.kind rows
   pub means : AreMeanings (words_or_none (all_of (codes "means") rows)) j.means.items
 
 -- seats and rounds are those that clap has found
@@ -279,31 +284,28 @@ AreRunValues kind sample seats rounds rows =
     × (first_of (codes "SAMPLE") rows ≡ Some (sample_word sample))
     × AreSizes seats rounds rows
 
--- the values of the line are those that clap has found, in the rows of its command
-abbrev pub ValuesAre : Line → List Row → Type 0
-ValuesAre (Classify e w s) rows = HasNumber (codes "ENTRY") e rows × HasNumber (codes "WAITER") w rows
-    × HasNumber (codes "SIGNALLER") s rows
-ValuesAre (Audit file) rows = first_of (codes "FILE") rows ≡ option_map string_bytes file
-ValuesAre (Play file) rows = first_of (codes "FILE") rows ≡ option_map string_bytes file
-ValuesAre (Upgrade file) rows = first_of (codes "FILE") rows ≡ option_map string_bytes file
-ValuesAre (Fit files judging form) rows =
-    (words_or_none (all_of (codes "FILE") rows) ≡ map string_bytes files.items) × AreJudging judging rows
-    × IsFlag (codes "json") (is_json form) rows
-ValuesAre (Trace file) rows = first_of (codes "FILE") rows ≡ option_map string_bytes file
-ValuesAre (Explain file judging) rows =
-    (first_of (codes "FILE") rows ≡ option_map string_bytes file) × AreJudging judging rows
-ValuesAre (Draw file window) rows = (first_of (codes "FILE") rows ≡ option_map string_bytes file)
-    × IsWindowIn window rows × IsNoLayout rows
-ValuesAre (DrawText file window layout) rows = (first_of (codes "FILE") rows ≡ option_map string_bytes file)
+-- the line is for the command of that name, with the values that clap has found in its rows
+abbrev pub IsFor : Line → Text → List Row → Type 0
+IsFor (Classify e w s) name rows = (name ≡ codes "classify") × HasNumber (codes "ENTRY") e rows
+    × HasNumber (codes "WAITER") w rows × HasNumber (codes "SIGNALLER") s rows
+IsFor (Audit file) name rows = (name ≡ codes "audit") × IsFile file rows
+IsFor (Play file) name rows = (name ≡ codes "play") × IsFile file rows
+IsFor (Upgrade file) name rows = (name ≡ codes "upgrade") × IsFile file rows
+IsFor (Fit files judging form) name rows = (name ≡ codes "fit") × AreFiles files.items rows
+    × AreJudging judging rows × IsFlag (codes "json") (is_json form) rows
+IsFor (Trace file) name rows = (name ≡ codes "trace") × IsFile file rows
+IsFor (Explain file judging) name rows = (name ≡ codes "explain") × IsFile file rows × AreJudging judging rows
+IsFor (Draw file window) name rows = (name ≡ codes "draw") × IsFile file rows × IsWindowIn window rows
+    × IsNoLayout rows
+IsFor (DrawText file window layout) name rows = (name ≡ codes "draw") × IsFile file rows
     × IsWindowIn window rows × IsLayout layout rows
-ValuesAre (Page files window) rows = (words_or_none (all_of (codes "FILE") rows) ≡ map string_bytes files.items)
-    × IsWindowIn window rows
-ValuesAre (Complete file kind) rows = (first_of (codes "FILE") rows ≡ option_map string_bytes file)
-    × (first_of (codes "kind") rows ≡ option_map kind_word kind)
-ValuesAre (Run kind sample seats rounds) rows = AreRunValues kind sample seats rounds rows
-ValuesAre (Record kind sample seats rounds) rows = AreRunValues kind sample seats rounds rows
-ValuesAre (Hasty kind seats rounds file) rows = (first_of (codes "KIND") rows ≡ Some (kind_word kind))
-    × AreSizes seats rounds rows × (first_of (codes "FILE") rows ≡ option_map string_bytes file)
+IsFor (Page files window) name rows = (name ≡ codes "page") × AreFiles files.items rows × IsWindowIn window rows
+IsFor (Complete file kind) name rows = (name ≡ codes "complete") × IsFile file rows × IsOneKind kind rows
+IsFor (Run kind sample seats rounds) name rows = (name ≡ codes "run") × AreRunValues kind sample seats rounds rows
+IsFor (Record kind sample seats rounds) name rows =
+    (name ≡ codes "record") × AreRunValues kind sample seats rounds rows
+IsFor (Hasty kind seats rounds file) name rows = (name ≡ codes "hasty")
+    × (first_of (codes "KIND") rows ≡ Some (kind_word kind)) × AreSizes seats rounds rows × IsFile file rows
 
 -- a run is asked for within its ranges alone
 abbrev pub RunIsInRange : Line → Type 0
@@ -323,9 +325,8 @@ RunIsInRange (Record kind sample seats rounds) = IsInRange seats rounds
 RunIsInRange (Hasty kind seats rounds file) = IsInRange seats rounds
 
 -- the line is what the rows of this command ask for
-pub record IsRead (word : Text) (l : Line) (rows : List Row) : Type 0 where
-  pub command : command_word l ≡ word
-  pub values : ValuesAre l rows
+pub record IsRead (name : Text) (l : Line) (rows : List Row) : Type 0 where
+  pub is_for : IsFor l name rows
   pub in_range : RunIsInRange l
 
 -- the line is for the command that clap has found in the words, with the values that it has found there

@@ -18,11 +18,6 @@ pub record IsPut (Is : ℕ → List ℕ → Type 0) (status : ℕ) (Puts : List 
   pub is : Is status text
   pub puts : Puts text
 
--- known input and output: the status and the appended text are an answer to the input
-abbrev pub HasAnswered : (List ℕ → ℕ → List ℕ → Type 0) → Option (List ℕ) → Option (List ℕ) → Option (List ℕ) → ℕ
-    → Type 0
-HasAnswered Is input before after status = IfSome input (λ bytes. IsPut (Is bytes) status (Appends before after))
-
 -- its counters are far from their end
 pub record IsYoung {R : Type 0} (d : Device R) : Type 0 where
   pub reads : reads_of d < 2 ^ 63

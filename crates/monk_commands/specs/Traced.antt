@@ -3,15 +3,18 @@
 use Rattle.std.specs.Prelude.{◌≡◌, ℕ, zero, suc, ◌+◌, ◌==◌, List, [], ◌∷◌, ◌++◌, if◌then◌else◌, codes}
 use Rattle.std.specs.List.{join_with_byte}
 use Rattle.std.specs.Fmt.{decimal}
+use Rattle.monk_kinds.specs.Names.{rules_named}
 use Rattle.monk_kinds.specs.declared.mode.Rules.{Rules}
+use Rattle.monk_object.specs.Names.{meaning_named, opening_named}
 use Rattle.monk_object.specs.Object.{Object}
 use Rattle.monk_object.specs.declared.name.ObjectName.{ObjectName}
 use Rattle.monk_history.specs.Meaning.Monitor.{Monitor, monitor}
 use Rattle.monk_history.specs.Meaning.Situation.{Situation, situation}
 use Rattle.monk_history.specs.Text.{Heading}
-use Rattle.monk_tell.specs.Standing.{stand, stand_text}
+use Rattle.monk_tell.specs.Place.{in_queues, place_text}
+use Rattle.monk_tell.specs.Told.{queues_shown}
 use Rattle.monk_tell.specs.Words.{data_text}
-use Rattle.monk_tell.specs.declared.stand.Stand.{Stand}
+use Rattle.monk_tell.specs.declared.place.SeatPlace.{SeatPlace}
 use Rattle.monk_world.specs.declared.answer.Answer.{Answer}
 use Rattle.monk_world.specs.declared.answer.Answer.TheVariants.{Arrived, Looked, Found, Now, Chose, GrantedTicket, GrantedSeat}
 use Rattle.monk_world.specs.declared.answer.Answer.TheVariants.{Reply, Woke, Range, NoCall, NotNow, Tired}
@@ -24,13 +27,13 @@ use Rattle.monk_world.specs.StepTable.{IsStep}
 
 -- where seat j stands, on which queue if it waits inside, and whether the grant is there that it
 -- looks for; a comma before each but the first
-abbrev pub seat_text : State → (ℕ → Stand) → ℕ → List ℕ
+abbrev pub seat_text : State → (ℕ → SeatPlace) → ℕ → List ℕ
 seat_text s stands j =
-    (if j == 0 then [] else codes ", ") ++ join_with_byte 32 (place_words (s.world.place j)) ++ stand_text (stands j)
+    (if j == 0 then [] else codes ", ") ++ join_with_byte 32 (place_words (s.world.place j)) ++ place_text (stands j)
     ++ (if is_granted s j then codes " granted" else [])
 
 -- of the seats below that
-unfoldable pub places_text : State → (ℕ → Stand) → ℕ → List ℕ
+unfoldable pub places_text : State → (ℕ → SeatPlace) → ℕ → List ℕ
 places_text s stands zero = []
 places_text s stands (suc j) = places_text s stands j ++ seat_text s stands j
 
@@ -50,25 +53,27 @@ refusal_text NoCall = []
 refusal_text NotNow = []
 refusal_text Tired = []
 
--- what a seat was told, and what it answered
-abbrev pub told_text : ℕ × Command → Answer → List ℕ
-told_text c a =
-    join_with_byte 32 (command_words c) ++ codes " | " ++ join_with_byte 32 (answer_words a) ++ refusal_text a
+-- the number of a command, what it told a seat, and what that answered
+abbrev pub told_text : ℕ → ℕ × Command → Answer → List ℕ
+told_text number c a =
+    decimal number ++ codes " | " ++ join_with_byte 32 (command_words c) ++ codes " | "
+    ++ join_with_byte 32 (answer_words a) ++ refusal_text a
 
 -- the line of the command of that number, after which the world stands so: what stands before the places, and all of it
 unfoldable pub line_front : ℕ → ℕ × Command → Answer → State → List ℕ
 line_front number c a s =
-    decimal number ++ codes " | " ++ told_text c a
+    told_text number c a
     ++ codes " | t=" ++ decimal s.world.drawn ++ codes " n=" ++ decimal s.world.unpassed ++ codes " | "
 
 -- the data of an object of that name
 unfoldable pub data_part : ObjectName → List ℕ → List ℕ
 data_part name state = codes "data:" ++ (data_text name state ++ codes " | ")
 
--- by the situation of a monitor with so many conditions over the object of that name
-abbrev pub trace_line : ObjectName → ℕ → ℕ → ℕ × Command → Answer → State → Situation → List ℕ
-trace_line name conds number c a s t =
-    line_front number c a s ++ data_part name t.state ++ places_text s (stand conds t) s.floor.seats ++ codes "\n"
+-- by the situation of the monitor over the object of that name
+abbrev pub trace_line : ObjectName → Monitor → ℕ → ℕ × Command → Answer → State → Situation → List ℕ
+trace_line name m number c a s t =
+    line_front number c a s ++ data_part name t.state
+    ++ places_text s (in_queues (queues_shown m.kind.mode m.conds m.object t)) s.floor.seats ++ codes "\n"
 
 -- the commands in turn, behind so many others, from state to state, each with its line, by the situation of the monitor
 -- after its history
@@ -76,7 +81,7 @@ abbrev pub AreTraced : ObjectName → Monitor → ℕ → State → List (ℕ ×
 AreTraced name m before s [] t text = (t ≡ s) × (text ≡ [])
 AreTraced name m before s (c ∷ cs) t text =
     (a : Answer) × ((u : State) × ((rest : List ℕ) × (IsStep m.kind m.object s c.0 c.1 a u
-    × ((text ≡ trace_line name m.conds (before + 1) c a u (situation m u.floor.history) ++ rest)
+    × ((text ≡ trace_line name m (before + 1) c a u (situation m u.floor.history) ++ rest)
     × AreTraced name m (before + 1) u cs t rest))))
 
 -- with what writing these bytes means: the lines of all commands, from the start, are written
@@ -86,3 +91,8 @@ IsTracedBy k o opening h budget commands Puts =
     × (AreTraced h.object (monitor k h.seats h.conds o opening) 0
     (opening_state opening h.seats h.conds budget) commands last
     text × Puts text))
+
+-- the same by the kind and over the object that the header names
+abbrev pub IsTraced : Heading → ℕ → List (ℕ × Command) → (List ℕ → Type 0) → Type 0
+IsTraced h budget commands Puts =
+    IsTracedBy (rules_named h.kind) (meaning_named h.object) (opening_named h.object h.size) h budget commands Puts

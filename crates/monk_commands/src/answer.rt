@@ -14,11 +14,13 @@ use monk_history::{Device, ReadFault};
 use std::alloc::{AllocError, Global};
 use std::io::Write;
 
-/// A line, and the status that goes with it.
+/// What a command answers to an input.
 #[derive(Drop)]
-pub(crate) struct LineAnswer {
-    pub(crate) status: u8,
-    pub(crate) text: String,
+pub struct LineAnswer {
+    /// The exit status, 0 to 2.
+    pub status: u8,
+    /// What is written on standard output.
+    pub text: String,
 }
 
 /// The answer to what was found of a text: its verdict, or why there is none.
@@ -52,7 +54,6 @@ pub(crate) fn unreadable(alloc: Global, fault: ReadFault) -> Result<LineAnswer, 
     Ok(LineAnswer { status: 2, text })
 }
 
-/// The answer to a size above the object's greatest.
 pub(crate) fn too_big(alloc: Global) -> Result<LineAnswer, AllocError>
     ensures answer { IfOk result (λ a. (a.status ≡ too_big.status) × (string_bytes a.text ≡ too_big.text)) }
     ensures status { IfOk result (λ a. a.status ≤ 2) }

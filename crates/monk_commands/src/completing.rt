@@ -8,7 +8,6 @@ ghost use Rattle.monk_history.specs.Text.Device.{inner_of, has_failed};
 ghost use Rattle.monk_logs.specs.Log.Reading.{log};
 ghost use Rattle.monk_commands.specs.Completed.{IsAnswerToLog, IsLogAnswer, IsMisfitText, IsOpenText};
 ghost use Rattle.monk_commands.specs.Completed.{completed_heading, misfit_answer};
-ghost use Rattle.monk_commands.specs.Played.{IsFoundLegal};
 ghost use Rattle.monk_commands.specs.Streams.{IsStreamOutcome, IsWriting};
 
 use crate::answer::{LineAnswer, put, too_big, unreadable};
@@ -36,7 +35,6 @@ pub(crate) fn header_of(kind: KindName, header: &LogHeader) -> Header
     }
 }
 
-/// The answer to a misfit.
 fn misfit_answer(
     alloc: Global,
     kind: KindName,
@@ -50,7 +48,6 @@ fn misfit_answer(
     Ok(LineAnswer { status: 1, text })
 }
 
-/// Answers a log that was read.
 fn complete_log<W: Write>(
     alloc: Global,
     kind: KindName,
@@ -78,7 +75,6 @@ fn complete_log<W: Write>(
     }
 }
 
-/// Answers a text.
 fn complete_text<W: Write>(
     alloc: Global,
     kind: KindName,
@@ -112,9 +108,7 @@ fn complete_text<W: Write>(
 ///
 /// # Errors
 ///
-/// [`StreamFault::File`] where the reader or the writer failed, or where the input has more than
-/// 2^31 bytes or takes more than 2^31 reads. [`StreamFault::Memory`] if a request for memory was
-/// refused.
+/// Those of [`audit_stream`](crate::audit_stream).
 ///
 /// # Cost
 ///
@@ -143,10 +137,6 @@ pub fn complete_stream<R: Read, W: Write>(
     // The status is 1 exactly for the text of a log that has a first line with which none does.
     ensures misfit { IfOk result
         (λ status. IfSome (R.remaining (inner_of reader.old)) (λ input. (status ≡ 1) ↔ IsMisfitText kind input)) }
-    // What is written with status 0, an audit finds legal.
-    ensures found_legal { IfOk result
-        (λ status. status ≡ 0
-        → IsFoundLegal (Appends (W.contents (inner_of writer.old)) (W.contents (inner_of writer.new)))) }
     ensures statuses { IfOk result (λ status. status ≤ 2) }
     ensures outcome { IsStreamOutcome R.remaining reader.old reader.new writer.old writer.new result }
 {

@@ -4,10 +4,11 @@ ghost use Rattle.std.specs.Prelude.{◌≡◌, ◌≤◌, ◌^◌, length, IfOk,
 ghost use Rattle.monk_history.specs.Text.Reading.{history, text_at};
 ghost use Rattle.monk_tell.specs.Told.{telling_of};
 ghost use Rattle.monk_commands.specs.Answer.{IsReading};
-ghost use Rattle.monk_commands.specs.Explained.{IsExplainAnswer, IsExplained, IsTold, judged_under};
+ghost use Rattle.monk_commands.specs.Explained.{IsExplained, IsTold, judged_under};
+ghost use Rattle.monk_commands.specs.LogAnswered.{IsAnswerToLog};
 
 use crate::answer::{LineAnswer, too_big, unreadable, verdict_answer};
-use crate::logs::answering::{answer_to_log, is_log};
+use crate::logs::answering::answer_to_log;
 use crate::logs::view::LogView;
 use crate::question::Question;
 use monk_audit::{AuditFault, under};
@@ -59,8 +60,9 @@ fn judged_under(kind: Option<KindName>, header: &Header) -> Header
     }
 }
 
-/// The answer to the text of a history.
-fn answer_to_history(
+/// How the text of a history is judged, by the kind that is named or its own, and why. See
+/// [`Task::Explain`](crate::Task::Explain). It fails only for want of memory.
+pub fn explain_history(
     alloc: Global,
     kind: Option<KindName>,
     bytes: &[u8],
@@ -75,17 +77,16 @@ fn answer_to_history(
     }
 }
 
-/// The answer to a text.
-pub(crate) fn explain_text(
+/// How the text of a log is judged, and why. See [`Task::Explain`](crate::Task::Explain). It fails only for want of
+/// memory.
+pub fn explain_log(
     alloc: Global,
     question: Question<'_>,
     bytes: Vec<u8>,
 ) -> Result<LineAnswer, AllocError>
-    ensures answer { IfOk result (λ a. IsExplainAnswer question.entry bytes.items a.status (string_bytes a.text)) }
+    ensures answer { IfOk result
+        (λ a. IsAnswerToLog LogView.Explanation question.entry bytes.items a.status (string_bytes a.text)) }
     ensures status { IfOk result (λ a. a.status ≤ 2) }
 {
-    if is_log(&bytes) {
-        return answer_to_log(alloc, LogView::Explanation, question, bytes);
-    }
-    answer_to_history(alloc, question.kind, &bytes)
+    answer_to_log(alloc, LogView::Explanation, question, bytes)
 }

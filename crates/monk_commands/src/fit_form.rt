@@ -1,7 +1,5 @@
 //! How a finding is written.
 
-use crate::logs::view::LogView;
-
 /// How a finding of a log is written. Of a history lines for a reader are written, whatever is asked for.
 #[derive(Clone, Copy, Debug, PartialEq, Eq)]
 pub enum FitForm {

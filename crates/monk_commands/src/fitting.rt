@@ -3,11 +3,12 @@
 ghost use Rattle.std.specs.Prelude.{◌≡◌, ◌≤◌, ◌^◌, ◌++◌, length, IfOk, OnOk, string_bytes};
 ghost use Rattle.monk_object.specs.Names.{most};
 ghost use Rattle.monk_history.specs.Text.Reading.{history};
+ghost use Rattle.monk_commands.specs.Answer.{IsOf};
 ghost use Rattle.monk_commands.specs.FitAnswered as answered;
 
 use crate::answer::{LineAnswer, too_big, unreadable, verdict_answer};
 use crate::fit_form::FitForm;
-use crate::logs::answering::{answer_to_log, is_log};
+use crate::logs::answering::answer_to_log;
 use crate::logs::view::LogView;
 use crate::question::Question;
 use monk_audit::{AuditFault, Verdict, audit, under};
@@ -62,57 +63,47 @@ fn lines_under(
     kinds: &[KindName],
     header: &Header,
     events: &[Event],
-) -> Result<(String, bool), AllocError>
+) -> Result<LineAnswer, AllocError>
     requires few { length events.now ≤ 2 ^ 25 }
     requires fits { header.now.size ≤ most header.now.object }
-    ensures lines { IfOk result (λ r. string_bytes r.0 ≡ answered.fit_lines header.now events.now kinds.now) }
-    ensures fit { IfOk result (λ r. r.1 ≡ answered.fits_some header.now events.now kinds.now) }
+    ensures answer { IfOk result
+        (λ a. IsOf (answered.fit_answer kinds.now header.now events.now) a.status (string_bytes a.text)) }
+    ensures status { IfOk result (λ a. a.status ≤ 2) }
 {
-    let mut page = String::new(alloc);
+    let mut text = String::new(alloc);
     let mut is_fit = false;
     for kind in kinds {
-        is_fit |= put_line(alloc, &mut page, header, events, *kind)?;
+        is_fit |= put_line(alloc, &mut text, header, events, *kind)?;
     }
-    Ok((page, is_fit))
+    let status = if is_fit { 0 } else { 1 };
+    Ok(LineAnswer { status, text })
 }
 
-/// The answer to a history under the kind that is named, or under each.
+/// The answer to a history that was read, under these kinds.
 fn fit(
     alloc: Global,
-    kind: Option<KindName>,
+    kinds: &[KindName],
     header: &Header,
     events: &[Event],
 ) -> Result<LineAnswer, AllocError>
     requires few { length events.now ≤ 2 ^ 25 }
     ensures answer { IfOk result
-        (λ a. answered.IsFit kind (history header.now events.now) a.status (string_bytes a.text)) }
+        (λ a. answered.IsFit kinds.now (history header.now events.now) a.status (string_bytes a.text)) }
     ensures status { IfOk result (λ a. a.status ≤ 2) }
 {
     if header.size() > header.object().greatest_size() {
         return too_big(alloc);
     }
-    match kind {
-        Some(kind) => {
-            let mut text = String::new(alloc);
-            let is_legal = put_line(alloc, &mut text, header, events, kind)?;
-            let status = if is_legal { 0 } else { 1 };
-            Ok(LineAnswer { status, text })
-        }
-        None => {
-            let (text, is_fit) = lines_under(alloc, &KindName::ALL, header, events)?;
-            let status = if is_fit { 0 } else { 1 };
-            Ok(LineAnswer { status, text })
-        }
-    }
+    lines_under(alloc, kinds, header, events)
 }
 
-/// The answer to the text of a history under the kind that is named, or under each.
-fn fit_bytes(alloc: Global, kind: Option<KindName>, bytes: &[u8]) -> Result<LineAnswer, AllocError>
-    ensures answer { IfOk result (λ a. answered.IsFitText kind bytes.now a.status (string_bytes a.text)) }
+/// The answer to the text of a history under these kinds.
+fn fit_bytes(alloc: Global, kinds: &[KindName], bytes: &[u8]) -> Result<LineAnswer, AllocError>
+    ensures answer { IfOk result (λ a. answered.IsFitText kinds.now bytes.now a.status (string_bytes a.text)) }
     ensures status { IfOk result (λ a. a.status ≤ 2) }
 {
     match read(alloc, bytes) {
-        Ok((header, events)) => fit(alloc, kind, &header, &events),
+        Ok((header, events)) => fit(alloc, kinds, &header, &events),
         Err(fault) => unreadable(alloc, fault),
     }
 }
@@ -127,8 +118,9 @@ pub(crate) fn named(alloc: Global, name: &str, answer: LineAnswer) -> Result<Lin
     Ok(LineAnswer { status, text })
 }
 
-/// The answer to a history.
-fn fit_history(
+/// Under which kinds the text of a history is legal, or why that isn't known. See [`Task::Fit`](crate::Task::Fit). It
+/// fails only for want of memory.
+pub fn fit_history(
     alloc: Global,
     question: Question<'_>,
     bytes: &[u8],
@@ -138,13 +130,14 @@ fn fit_history(
     ensures status { IfOk result (λ a. a.status ≤ 2) }
 {
     match question.kind {
-        Some(kind) => named(alloc, question.name, fit_bytes(alloc, Some(kind), bytes)?),
-        None => fit_bytes(alloc, None, bytes),
+        Some(kind) => named(alloc, question.name, fit_bytes(alloc, &[kind], bytes)?),
+        None => fit_bytes(alloc, &KindName::ALL, bytes),
     }
 }
 
-/// The answer to a log.
-fn fit_log(
+/// How the text of a log is judged, or why it isn't. See [`Task::Fit`](crate::Task::Fit). It fails only for want of
+/// memory.
+pub fn fit_log(
     alloc: Global,
     form: FitForm,
     question: Question<'_>,
@@ -160,23 +153,5 @@ fn fit_log(
             named(alloc, question.name, answer)
         }
         FitForm::Json => answer_to_log(alloc, LogView::Json, question, bytes),
-    }
-}
-
-/// The answer to a text.
-pub(crate) fn fit_text(
-    alloc: Global,
-    form: FitForm,
-    question: Question<'_>,
-    bytes: Vec<u8>,
-) -> Result<LineAnswer, AllocError>
-    ensures answer { IfOk result
-        (λ a. answered.IsFitAnswer form question.entry bytes.items a.status (string_bytes a.text)) }
-    ensures status { IfOk result (λ a. a.status ≤ 2) }
-{
-    if is_log(&bytes) {
-        fit_log(alloc, form, question, bytes)
-    } else {
-        fit_history(alloc, question, &bytes)
     }
 }

@@ -5,16 +5,16 @@ ghost use Rattle.std.specs.Io.KnownBytes.{Appends};
 ghost use Rattle.monk_history.specs.Text.{HasText, text};
 ghost use Rattle.monk_history.specs.Text.Device.{inner_of, has_failed};
 ghost use Rattle.monk_kinds.specs.Names.{rules_named};
-ghost use Rattle.monk_samples.specs.Runs.{HasLeft, IsFaultOfRun};
+ghost use Rattle.monk_samples.specs.Runs.{IsFaultOfRun};
 ghost use Rattle.monk_samples.specs.Samples.{IsInRange, IsOutcome, in_haste};
-ghost use Rattle.monk_samples.specs.Totals.{HasTotals, first_missed, missed_in};
-ghost use Rattle.monk_commands.specs.HastyRan.{IsHastyAnswer, counts_text, first_line, hasty_text};
-ghost use Rattle.monk_commands.specs.Ran.{IsUnstarted, lets_in};
+ghost use Rattle.monk_samples.specs.Totals.{first_missed, missed_in};
+ghost use Rattle.monk_commands.specs.Ran.{HasServed, IsHastyAnswer, IsUnstarted, first_line, hasty_text, lets_in};
 
 use crate::answer::put;
+use crate::crew::Crew;
 use crate::fault::StreamFault;
 use crate::recording::put_history;
-use crate::running::{audited, ended};
+use crate::running::{audited, ended, rows};
 use monk_history::Device;
 use monk_kinds::{KindName, Npb, Npir, Npis, Npnb, Npqb, Pb, Pir, Pis, Pnb, Pqb};
 use monk_samples::{HastyOutcome, OpenGate, RunFault, Sample, run_hasty};
@@ -32,10 +32,9 @@ fn hasty_named<R: Threads + Wait + Sync>(
     rounds: u32,
 ) -> Result<HastyOutcome, RunFault>
     requires { IsInRange seats rounds }
-    ensures outcome { IfOk result (λ o. IsOutcome kind in_haste seats o.header o.history.items o.totals) }
+    ensures served { IfOk result (λ o. HasServed kind in_haste Sample.Buffer seats rounds o.header
+        o.history.items o.totals) }
     ensures in_range { IsErrOf result RunFault.Range → ⊥ }
-    ensures served { IfOk result (λ o. HasLeft (rules_named kind) lets_in in_haste seats rounds o.history.items) }
-    ensures totals { IfOk result (λ o. HasTotals Sample.Buffer seats rounds o.totals) }
     ensures missed { IfOk result (λ o. o.missed ≡ missed_in o.history.items) }
     ensures first { IfOk result (λ o. o.first ≡ first_missed o.history.items) }
     ensures fault { IfErr result (IsFaultOfRun (rules_named kind) lets_in in_haste seats rounds) }
@@ -60,12 +59,13 @@ fn told(alloc: Global, outcome: &HastyOutcome) -> Result<String, AllocError>
     ensures { IfOk result (λ text. string_bytes text
         ≡ hasty_text outcome.now.totals outcome.now.missed outcome.now.first) }
 {
-    let counts = told_counts(alloc, &outcome.totals, outcome.missed)?;
+    let rows = rows(alloc, Sample::Buffer, &outcome.totals)?;
     let first = told_first(alloc, outcome.first)?;
-    Ok(format!(in alloc; "{counts}{first}legal\n")?)
+    let missed = outcome.missed;
+    Ok(format!(in alloc; "{rows}missed {missed}\n{first}legal\n")?)
 }
 
-/// The step of the first of them, if there is one.
+/// The step of the first act that was refused, if there is one.
 fn told_first(alloc: Global, first: Option<u32>) -> Result<String, AllocError>
     ensures { IfOk result (λ text. string_bytes text ≡ first_line first) }
 {
@@ -73,14 +73,6 @@ fn told_first(alloc: Global, first: Option<u32>) -> Result<String, AllocError>
         Some(step) => Ok(format!(in alloc; "first {step}\n")?),
         None => String::from_str(alloc, "first none\n"),
     }
-}
-
-/// Its totals, and how many acts were refused.
-fn told_counts(alloc: Global, totals: &[u64; 4], missed: u64) -> Result<String, AllocError>
-    ensures { IfOk result (λ text. string_bytes text ≡ counts_text totals.now missed) }
-{
-    let [puts, put, takes, taken] = *totals;
-    Ok(format!(in alloc; "put {puts} {put}\ntaken {takes} {taken}\nmissed {missed}\n")?)
 }
 
 /// Writes the history of a hasty run into the file, and then what is told of it.
@@ -131,28 +123,26 @@ fn put_hasty<F: Write, W: Write>(
 pub fn hasty_stream<R: Threads + Wait + Sync, F: Write, W: Write>(
     rt: &R,
     alloc: Global,
-    kind: KindName,
-    seats: u8,
-    rounds: u32,
+    crew: Crew,
     file: &mut Device<F>,
     writer: &mut Device<W>,
 ) -> Result<u8, StreamFault>
-    requires in_range { IsInRange seats rounds }
+    requires in_range { IsInRange crew.seats crew.rounds }
     requires files { has_failed file.old ≡ false }
     requires works { has_failed writer.old ≡ false }
 
     // The file gets the text of the legal history that a hasty run of this kind has left, and what is told is its own.
     ensures answer { IfOk result
-        (λ status. IsHastyAnswer kind seats rounds status
+        (λ status. IsHastyAnswer crew.kind crew.seats crew.rounds status
         (Appends (F.contents (inner_of file.old)) (F.contents (inner_of file.new)))
         (Appends (W.contents (inner_of writer.old)) (W.contents (inner_of writer.new)))) }
     // The writer has failed; or it is as it was, and the file has failed, or a thread was not started.
     ensures file { IsErrOf result StreamFault.File → (has_failed writer.new ≡ true)
         ⊎ ((writer.new ≡ writer.old) × ((has_failed file.new ≡ true)
-        ⊎ ((file.new ≡ file.old) × IsUnstarted kind in_haste seats rounds))) }
+        ⊎ ((file.new ≡ file.old) × IsUnstarted crew.kind in_haste crew.seats crew.rounds))) }
     ensures memory { IsErrOf result StreamFault.Memory → (writer.new ≡ writer.old) × (file.new ≡ file.old) }
 {
-    match hasty_named(rt, alloc, kind, seats, rounds) {
+    match hasty_named(rt, alloc, crew.kind, crew.seats, crew.rounds) {
         Ok(outcome) => put_hasty(alloc, &outcome, file, writer),
         Err(fault) => put(&ended(alloc, fault)?, writer),
     }

@@ -43,7 +43,6 @@ const LATER_COMMANDS: [&str; 2] = [
     "SEAT signal-wait COND COND (entry | waiter | signaller)",
 ];
 
-/// The lines of a log.
 const LOG_LINES: [&str; 9] = [
     "enter SEAT",
     "resume SEAT",
@@ -59,57 +58,51 @@ const LOG_LINES: [&str; 9] = [
 /// The lines that a text may have behind its first: those of a history and of a play depend on the
 /// version.
 #[derive(Clone, Copy, Debug, PartialEq, Eq)]
-pub enum LineSet {
-    /// Those of a history of version 1.
-    FirstHistory,
-    /// Those of a history of a later version.
-    LaterHistory,
-    /// Those of a play of version 1.
-    FirstPlay,
-    /// Those of a play of a later version.
-    LaterPlay,
-    /// Those of a log.
-    Log,
+pub struct LineSet {
+    text: TextName,
+    is_of_version_1: bool,
 }
 
 impl LineSet {
     /// Those of a text of that name, where this word stands for the version.
     pub(crate) fn of(text: TextName, version: &[u8]) -> LineSet {
-        match (text, version == b"1".as_slice()) {
-            (TextName::History, true) => LineSet::FirstHistory,
-            (TextName::History, false) => LineSet::LaterHistory,
-            (TextName::Play, true) => LineSet::FirstPlay,
-            (TextName::Play, false) => LineSet::LaterPlay,
-            (TextName::Log, _) => LineSet::Log,
+        let is_of_version_1 = version == b"1".as_slice();
+        LineSet {
+            text,
+            is_of_version_1,
         }
     }
 
     /// The word that names a line of these words: of a play the one behind the seat.
     pub(crate) fn naming_word<'a>(self, words: LineWords<'a>) -> Option<&'a [u8]> {
         let mut words = words;
-        match self {
-            LineSet::FirstPlay | LineSet::LaterPlay => {
-                words.next()?;
-                words.next()
-            }
-            LineSet::FirstHistory | LineSet::LaterHistory | LineSet::Log => words.next(),
+        if self.text == TextName::Play {
+            words.next()?;
         }
+        words.next()
     }
 
     /// The form of the lines that the word names, if it names one.
     pub(crate) fn form(self, word: &[u8]) -> Option<&'static str> {
-        match self {
-            LineSet::FirstHistory => self.form_in(&EVENTS, word),
-            LineSet::LaterHistory => self
-                .form_in(&EVENTS, word)
-                .or(self.form_in(&LATER_EVENTS, word)),
-            LineSet::FirstPlay => self.form_in(&COMMANDS, word),
-            LineSet::LaterPlay => {
-                self.form_in(&COMMANDS, word)
-                    .or(self.form_in(&LATER_COMMANDS, word))
-            }
-            LineSet::Log => self.form_in(&LOG_LINES, word),
+        match self.text {
+            TextName::History => self.form_among(&EVENTS, &LATER_EVENTS, word),
+            TextName::Play => self.form_among(&COMMANDS, &LATER_COMMANDS, word),
+            TextName::Log => self.form_in(&LOG_LINES, word),
         }
+    }
+
+    /// The form among those of every version, or those of the later ones.
+    fn form_among(
+        self,
+        forms: &[&'static str],
+        later: &[&'static str],
+        word: &[u8],
+    ) -> Option<&'static str> {
+        let form = self.form_in(forms, word);
+        if self.is_of_version_1 || form.is_some() {
+            return form;
+        }
+        self.form_in(later, word)
     }
 
     /// The form among these that the word names.
@@ -124,20 +117,20 @@ impl LineSet {
 
     /// What stands where no line has the word that should name it.
     pub(crate) fn beginnings(self) -> &'static str {
-        match self {
-            LineSet::FirstHistory => {
+        match (self.text, self.is_of_version_1) {
+            (TextName::History, true) => {
                 "begin with enter, act, leave, wait, signal, signal-leave, until or resume"
             }
-            LineSet::LaterHistory => {
+            (TextName::History, false) => {
                 "begin with enter, act, leave, wait, signal, signal-leave, until, resume, signal-all or signal-wait"
             }
-            LineSet::FirstPlay => {
+            (TextName::Play, true) => {
                 "be SEAT and then arrive, look, out, peek, drop, grant, act, leave, wait, signal, signal-leave or until"
             }
-            LineSet::LaterPlay => {
+            (TextName::Play, false) => {
                 "be SEAT and then arrive, look, out, peek, drop, grant, act, leave, wait, signal, signal-leave, until, signal-all or signal-wait"
             }
-            LineSet::Log => {
+            (TextName::Log, _) => {
                 "begin with enter, resume, lapse, leave, wait, signal, broadcast, until or act"
             }
         }

@@ -53,7 +53,6 @@ pub fn line_hint_for(task: &Task<'_>, front: &[u8]) -> Option<LineHint> {
     })
 }
 
-/// The first fault of a text of that name.
 fn fault_in(text: TextName, front: &[u8]) -> Option<ReadFault> {
     match text {
         TextName::History => CheckedLines::<Header, Event>::check(front, MOST_LINES).err(),

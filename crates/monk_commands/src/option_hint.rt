@@ -15,7 +15,7 @@ use thiserror::Error;
 #[derive(Clone, Copy, Debug, PartialEq, Eq, Error)]
 pub enum OptionHint {
     /// The log has no such condition.
-    #[error("{}: the log has no condition {}; it has {}", Meant(*.meaning), .meaning.cond, HowMany(*.conds))]
+    #[error("--means {}={}: the log has no condition {}; it has {}", .meaning.cond, .meaning.pred, .meaning.cond, HowMany(*.conds))]
     Condition {
         /// What is said of the condition.
         meaning: WaitsFor,
@@ -23,7 +23,7 @@ pub enum OptionHint {
         conds: u8,
     },
     /// The object of the log has no such predicate.
-    #[error("{}: {}", Meant(*.meaning), NoPredicate(*.object, .meaning.pred))]
+    #[error("--means {}={}: {} has no predicate {}; it has {}", .meaning.cond, .meaning.pred, called(*.object), .meaning.pred, HowMany(predicates(*.object)))]
     Predicate {
         /// What is said of the predicate.
         meaning: WaitsFor,
@@ -33,27 +33,6 @@ pub enum OptionHint {
     /// The input is a history, and the options are for logs.
     #[error("--means is for logs, and this is a history")]
     History,
-}
-
-/// What is said of a condition, as it stands in the command line.
-#[derive(Clone, Copy)]
-struct Meant(WaitsFor);
-
-impl fmt::Display for Meant {
-    fn fmt<W: fmt::Write>(&self, f: &mut fmt::Formatter<W>) -> fmt::Result {
-        write!(f, "--means {}={}", self.0.cond, self.0.pred)
-    }
-}
-
-/// That the object has no such predicate.
-#[derive(Clone, Copy)]
-struct NoPredicate(ObjectName, u8);
-
-impl fmt::Display for NoPredicate {
-    fn fmt<W: fmt::Write>(&self, f: &mut fmt::Formatter<W>) -> fmt::Result {
-        let (object, many) = (called(self.0), HowMany(predicates(self.0)));
-        write!(f, "{object} has no predicate {}; it has {many}", self.1)
-    }
 }
 
 /// How many there are.
@@ -117,7 +96,6 @@ fn log_hint(means: &[WaitsFor], line: &[u8]) -> Option<OptionHint> {
     None
 }
 
-/// How many predicates the object has.
 fn predicates(object: ObjectName) -> u8 {
     match object {
         ObjectName::Buffer => Buffer::PREDICATES,

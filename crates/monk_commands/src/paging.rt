@@ -1,20 +1,19 @@
 //! The stream of a page of several histories: their texts in, one page out.
 
-ghost use Rattle.std.specs.Prelude.{◌≡◌, ◌≤◌, ◌^◌, false, length, IfOk, string_bytes};
+ghost use Rattle.std.specs.Prelude.{◌≡◌, ◌≤◌, false, length, IfOk, string_bytes};
 ghost use Rattle.std.specs.Io.KnownBytes.{Appends};
 ghost use Rattle.monk_history.specs.Text.Device.{inner_of, has_failed};
-ghost use Rattle.monk_page.specs.Html.{IsArticle};
 ghost use Rattle.monk_commands.specs.Paged.{IsPageOfAll, IsPart};
 ghost use Rattle.monk_commands.specs.Streams.{IsPut};
 
-use crate::answer::{LineAnswer, behind, put, too_big, unreadable};
+use crate::answer::{LineAnswer, put};
 use crate::fault::StreamFault;
 use crate::fitting::named;
-use crate::showing::{forbidden_step, status_of};
-use monk_audit::{AuditFault, audit};
-use monk_draw::{Window, is_behind, showable};
-use monk_history::{Device, Event, Header, read};
-use monk_page::{article, page_of};
+use crate::show::HistoryForm;
+use crate::showing::shown_in_form;
+use monk_draw::Window;
+use monk_history::Device;
+use monk_page::page_of;
 use std::alloc::{AllocError, Global};
 use std::io::Write;
 
@@ -29,38 +28,6 @@ pub struct Paged<'a> {
     pub beside: &'a str,
 }
 
-/// The answer to a history that was read: its part of the page, if its events can be shown.
-fn article_answer(
-    alloc: Global,
-    header: &Header,
-    events: &[Event],
-    window: Option<Window>,
-    beside: &str,
-) -> Result<LineAnswer, AllocError>
-    requires few { length events.now ≤ 2 ^ 25 }
-    ensures article { IfOk result
-        (λ a. a.status ≤ 1 → IsArticle header.now events.now window beside.now (string_bytes a.text)) }
-    ensures status { IfOk result (λ a. a.status ≤ 2) }
-{
-    let verdict = match audit(alloc, header, events) {
-        Ok(verdict) => verdict,
-        Err(AuditFault::Memory) => return Err(AllocError),
-        Err(AuditFault::Object) => return too_big(alloc),
-    };
-    let last = showable(forbidden_step(verdict), events.len());
-    if is_behind(window, last) {
-        return behind(alloc, last);
-    }
-    match article(alloc, header, events, window, beside) {
-        Ok(text) => Ok(LineAnswer {
-            status: status_of(verdict),
-            text,
-        }),
-        Err(AuditFault::Memory) => Err(AllocError),
-        Err(AuditFault::Object) => too_big(alloc),
-    }
-}
-
 /// The answer to the text of a history: its part of the page, or why it has none.
 fn text_answer(
     alloc: Global,
@@ -70,10 +37,12 @@ fn text_answer(
     ensures article { IfOk result (λ a. a.status ≤ 1 → IsPart window history.entry (string_bytes a.text)) }
     ensures status { IfOk result (λ a. a.status ≤ 2) }
 {
-    match read(alloc, history.text) {
-        Ok((header, events)) => article_answer(alloc, &header, &events, window, history.beside),
-        Err(fault) => unreadable(alloc, fault),
-    }
+    shown_in_form(
+        alloc,
+        HistoryForm::Article(history.beside),
+        window,
+        history.text,
+    )
 }
 
 /// The page of the histories, or the answer to the first that has no part in it.

@@ -5,7 +5,7 @@ ghost use Rattle.std.specs.Io.KnownBytes.{Appends};
 ghost use Rattle.monk_history.specs.Text.{Heading};
 ghost use Rattle.monk_history.specs.Text.Device.{inner_of, has_failed};
 ghost use Rattle.monk_world.specs.declared.command.Command.{Command};
-ghost use Rattle.monk_commands.specs.Played.{IsAnswerTo, IsFoundLegal, IsPlayOf, IsPlayText, IsPlayed};
+ghost use Rattle.monk_commands.specs.Played.{IsAnswerTo, IsPlayOf, IsPlayText, IsPlayed};
 ghost use Rattle.monk_commands.specs.Streams.{IsStreamOutcome};
 
 use crate::fault::StreamFault;
@@ -24,8 +24,7 @@ use std::io::{Read, Write};
 ///
 /// # Errors
 ///
-/// [`StreamFault::File`] where the reader or the writer failed, or where the input has more than 2^31 bytes or takes
-/// more than 2^31 reads. [`StreamFault::Memory`] where a growth was refused.
+/// Those of [`audit_stream`](crate::audit_stream).
 ///
 /// # Cost
 ///
@@ -43,7 +42,7 @@ pub fn play_stream<R: Read, W: Write>(
     // What is written, and its status, are the answer to what the reader had.
     ensures answer { IfOk result
         (λ status. IfSome (R.remaining (inner_of reader.old))
-        (λ input. IsAnswerTo Report.History input status
+        (λ input. IsAnswerTo IsPlayed input status
         (Appends (W.contents (inner_of writer.old)) (W.contents (inner_of writer.new))))) }
     // The status is 0 exactly for the text of a play.
     ensures played { IfOk result (λ status. IfSome (R.remaining (inner_of reader.old))
@@ -53,10 +52,6 @@ pub fn play_stream<R: Read, W: Write>(
         (λ status. IfSome (R.remaining (inner_of reader.old))
         (λ input. (h : Heading) (budget : ℕ) (commands : List (ℕ × Command)) → IsPlayOf input h budget commands
         → IsPlayed h budget commands (Appends (W.contents (inner_of writer.old)) (W.contents (inner_of writer.new))))) }
-    // What is written to a play, an audit finds legal.
-    ensures plays_are_legal { IfOk result
-        (λ status. status ≡ 0
-        → IsFoundLegal (Appends (W.contents (inner_of writer.old)) (W.contents (inner_of writer.new)))) }
     ensures statuses { IfOk result (λ status. (status ≡ 0) ⊎ (status ≡ 2)) }
     ensures outcome { IsStreamOutcome R.remaining reader.old reader.new writer.old writer.new result }
 {

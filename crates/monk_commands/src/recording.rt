@@ -5,22 +5,20 @@ ghost use Rattle.std.specs.Io.KnownBytes.{Appends};
 ghost use Rattle.monk_history.specs.Text.{HasText, is_writable, text};
 ghost use Rattle.monk_history.specs.Text.Device.{inner_of, has_failed};
 ghost use Rattle.monk_samples.specs.Samples.{IsInRange, patiently};
-ghost use Rattle.monk_commands.specs.Played.{IsFoundLegal};
-ghost use Rattle.monk_commands.specs.Ran.{IsUnstarted};
-ghost use Rattle.monk_commands.specs.Recorded.{IsRecordAnswer};
+ghost use Rattle.monk_commands.specs.Ran.{IsRecordAnswer, IsUnstarted};
 
 use crate::answer::put;
+use crate::crew::Crew;
 use crate::fault::StreamFault;
 use crate::running::{ended, run_named};
 use monk_history::{Device, Event, Header, write};
-use monk_kinds::KindName;
 use monk_samples::Sample;
 use std::alloc::Global;
 use std::io::Write;
 use std::sync::Wait;
 use std::thread::Threads;
 
-/// Writes the text of the history that a run left.
+/// Writes the text of a history.
 pub(crate) fn put_history<W: Write>(
     header: &Header,
     history: &[Event],
@@ -40,34 +38,6 @@ pub(crate) fn put_history<W: Write>(
     }
 }
 
-/// Runs the sample, and writes the text of the history that it left, or why there is none.
-fn recorded<R: Threads + Wait + Sync, W: Write>(
-    rt: &R,
-    alloc: Global,
-    kind: KindName,
-    sample: Sample,
-    seats: u8,
-    rounds: u32,
-    writer: &mut Device<W>,
-) -> Result<u8, StreamFault>
-    requires in_range { IsInRange seats rounds }
-    requires works { has_failed writer.old ≡ false }
-    ensures answer { IfOk result
-        (λ status. IsRecordAnswer kind sample seats rounds status
-        (Appends (W.contents (inner_of writer.old)) (W.contents (inner_of writer.new)))) }
-    ensures file { IsErrOf result StreamFault.File → (has_failed writer.new ≡ true)
-        ⊎ ((writer.new ≡ writer.old) × IsUnstarted kind (patiently sample) seats rounds) }
-    ensures memory { IsErrOf result StreamFault.Memory → writer.new ≡ writer.old }
-{
-    match run_named(rt, alloc, kind, sample, seats, rounds) {
-        Ok(outcome) => match put_history(&outcome.header, &outcome.history, writer) {
-            Ok(()) => Ok(0),
-            Err(fault) => Err(fault),
-        },
-        Err(fault) => put(&ended(alloc, fault)?, writer),
-    }
-}
-
 /// Runs the sample under the kind, with 2 to 16 seats at work for 1 to 1000 rounds each in threads of their own, and
 /// writes the text of the history that they left, in version 1, with status 0. An audit finds it legal.
 ///
@@ -76,9 +46,7 @@ fn recorded<R: Threads + Wait + Sync, W: Write>(
 ///
 /// # Errors
 ///
-/// [`StreamFault::File`] where a thread was not started, or the writer failed.
-/// [`StreamFault::Memory`] if a request for memory was refused. The writer has changed only where
-/// it failed.
+/// Those of [`run_stream`](crate::run_stream).
 ///
 /// # Cost
 ///
@@ -86,27 +54,27 @@ fn recorded<R: Threads + Wait + Sync, W: Write>(
 pub fn record_stream<R: Threads + Wait + Sync, W: Write>(
     rt: &R,
     alloc: Global,
-    kind: KindName,
     sample: Sample,
-    seats: u8,
-    rounds: u32,
+    crew: Crew,
     writer: &mut Device<W>,
 ) -> Result<u8, StreamFault>
-    requires in_range { IsInRange seats rounds }
+    requires in_range { IsInRange crew.seats crew.rounds }
     requires works { has_failed writer.old ≡ false }
 
     // With status 0 the text is that of the legal history that a run of this kind and sample has left.
     ensures answer { IfOk result
-        (λ status. IsRecordAnswer kind sample seats rounds status
+        (λ status. IsRecordAnswer crew.kind sample crew.seats crew.rounds status
         (Appends (W.contents (inner_of writer.old)) (W.contents (inner_of writer.new)))) }
-    // What is written with status 0, an audit finds legal.
-    ensures found_legal { IfOk result
-        (λ status. status ≡ 0
-        → IsFoundLegal (Appends (W.contents (inner_of writer.old)) (W.contents (inner_of writer.new)))) }
     // The writer has failed; or it is as it was, and a thread was not started.
     ensures file { IsErrOf result StreamFault.File → (has_failed writer.new ≡ true)
-        ⊎ ((writer.new ≡ writer.old) × IsUnstarted kind (patiently sample) seats rounds) }
+        ⊎ ((writer.new ≡ writer.old) × IsUnstarted crew.kind (patiently sample) crew.seats crew.rounds) }
     ensures memory { IsErrOf result StreamFault.Memory → writer.new ≡ writer.old }
 {
-    recorded(rt, alloc, kind, sample, seats, rounds, writer)
+    match run_named(rt, alloc, crew.kind, sample, crew.seats, crew.rounds) {
+        Ok(outcome) => match put_history(&outcome.header, &outcome.history, writer) {
+            Ok(()) => Ok(0),
+            Err(fault) => Err(fault),
+        },
+        Err(fault) => put(&ended(alloc, fault)?, writer),
+    }
 }

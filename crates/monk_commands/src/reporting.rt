@@ -7,8 +7,8 @@ ghost use Rattle.monk_kinds.specs.Names.{rules_named};
 ghost use Rattle.monk_object.specs.Names.{meaning_named, most, opening_named};
 ghost use Rattle.monk_object.specs.declared.name.ObjectName.TheVariants as object;
 ghost use Rattle.monk_history.specs.Text.Device.{inner_of, has_failed};
-ghost use Rattle.monk_commands.specs.Played.{IsPlayAnswer, IsAnswerTo};
-ghost use Rattle.monk_commands.specs.Played.{IsReported, IsPlayable, IsReportedBy, report_with};
+ghost use Rattle.monk_commands.specs.Played.{IsAnswerTo, IsPlayAnswer, IsPlayable};
+ghost use Rattle.monk_commands.specs.Reported.{IsReported, IsReportedBy, report_with};
 ghost use Rattle.monk_commands.specs.Streams.{IsWriting};
 
 use crate::answer::{put, too_big, unreadable};
@@ -177,7 +177,7 @@ fn play_lines<W: Write>(
     requires works { has_failed writer.old ≡ false }
     requires playable { IsPlayable play }
     ensures answer { IfOk result
-        (λ status. IsPlayAnswer report play.entry status
+        (λ status. IsPlayAnswer (IsReported report) play.entry status
         (Appends (W.contents (inner_of writer.old)) (W.contents (inner_of writer.new)))) }
     ensures writing { IsWriting writer.old writer.new result }
 {
@@ -198,7 +198,7 @@ pub(crate) fn play_text<W: Write>(
 ) -> Result<u8, StreamFault>
     requires { has_failed writer.old ≡ false }
     ensures answer { IfOk result
-        (λ status. IsAnswerTo report bytes.items status
+        (λ status. IsAnswerTo (IsReported report) bytes.items status
         (Appends (W.contents (inner_of writer.old)) (W.contents (inner_of writer.new)))) }
     ensures writing { IsWriting writer.old writer.new result }
 {

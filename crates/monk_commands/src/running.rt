@@ -7,11 +7,9 @@ ghost use Rattle.monk_history.specs.Meaning.Legal.{IsLegal};
 ghost use Rattle.monk_history.specs.Meaning.Named.{named_monitor};
 ghost use Rattle.monk_history.specs.Text.Device.{inner_of, has_failed};
 ghost use Rattle.monk_kinds.specs.Names.{rules_named};
-ghost use Rattle.monk_samples.specs.Runs.{HasLeft, IsFaultOfRun};
+ghost use Rattle.monk_samples.specs.Runs.{IsFaultOfRun};
 ghost use Rattle.monk_samples.specs.Samples.{IsInRange, IsOutcome, patiently};
-ghost use Rattle.monk_samples.specs.Totals.{HasTotals};
-ghost use Rattle.monk_commands.specs.Ran.{IsRunAnswer, IsUnstarted, end_word, lets_in, totals_text};
-ghost use Rattle.monk_commands.specs.Ran.{book_text, buffer_text, shop_text};
+ghost use Rattle.monk_commands.specs.Ran.{HasServed, IsRunAnswer, IsUnstarted, end_word, lets_in, rows_text, totals_text};
 
 use crate::answer::{LineAnswer, put, verdict_answer};
 use crate::fault::StreamFault;
@@ -34,11 +32,9 @@ pub(crate) fn run_named<R: Threads + Wait + Sync>(
     rounds: u32,
 ) -> Result<Outcome, RunFault>
     requires { IsInRange seats rounds }
-    ensures outcome { IfOk result (λ o. IsOutcome kind (patiently sample) seats o.header o.history.items o.totals) }
+    ensures served { IfOk result (λ o. HasServed kind (patiently sample) sample seats rounds o.header
+        o.history.items o.totals) }
     ensures in_range { IsErrOf result RunFault.Range → ⊥ }
-    ensures served { IfOk result (λ o. HasLeft (rules_named kind) lets_in (patiently sample) seats rounds
-        o.history.items) }
-    ensures totals { IfOk result (λ o. HasTotals sample seats rounds o.totals) }
     ensures fault { IfErr result (IsFaultOfRun (rules_named kind) lets_in (patiently sample) seats rounds) }
 {
     let gate = OpenGate;
@@ -85,42 +81,22 @@ fn audited_run(alloc: Global, sample: Sample, outcome: &Outcome) -> Result<LineA
         outcome.now.history.items outcome.now.totals }
     ensures answer { IfOk result (λ a. (a.status ≡ 0) × (string_bytes a.text ≡ totals_text sample outcome.now.totals)) }
 {
-    let text = told(alloc, sample, &outcome.totals)?;
+    let rows = rows(alloc, sample, &outcome.totals)?;
+    let text = format!(in alloc; "{rows}legal\n")?;
     audited(alloc, &outcome.header, &outcome.history, text)
 }
 
-/// The totals of a legal run.
-fn told(alloc: Global, sample: Sample, totals: &[u64; 4]) -> Result<String, AllocError>
-    ensures { IfOk result (λ text. string_bytes text ≡ totals_text sample totals.now) }
+pub(crate) fn rows(alloc: Global, sample: Sample, totals: &[u64; 4]) -> Result<String, AllocError>
+    ensures { IfOk result (λ text. string_bytes text ≡ rows_text sample totals.now) }
 {
+    let [a, b, c, d] = *totals;
     match sample {
-        Sample::Buffer => of_buffer(alloc, totals),
-        Sample::Book => of_book(alloc, totals),
-        Sample::Shop => of_shop(alloc, totals),
+        Sample::Buffer => Ok(format!(in alloc; "put {a} {b}\ntaken {c} {d}\n")?),
+        Sample::Book => Ok(format!(in alloc; "reads {a} {b}\nwrites {c} {d}\n")?),
+        Sample::Shop => {
+            Ok(format!(in alloc; "sat {a}\ncalled {b}\nfinished {c}\ndeparted {d}\n")?)
+        }
     }
-}
-
-fn of_buffer(alloc: Global, totals: &[u64; 4]) -> Result<String, AllocError>
-    ensures { IfOk result (λ text. string_bytes text ≡ buffer_text totals.now) }
-{
-    let [puts, put, takes, taken] = *totals;
-    Ok(format!(in alloc; "put {puts} {put}\ntaken {takes} {taken}\nlegal\n")?)
-}
-
-fn of_book(alloc: Global, totals: &[u64; 4]) -> Result<String, AllocError>
-    ensures { IfOk result (λ text. string_bytes text ≡ book_text totals.now) }
-{
-    let [read, ended, written, finished] = *totals;
-    Ok(format!(in alloc; "reads {read} {ended}\nwrites {written} {finished}\nlegal\n")?)
-}
-
-fn of_shop(alloc: Global, totals: &[u64; 4]) -> Result<String, AllocError>
-    ensures { IfOk result (λ text. string_bytes text ≡ shop_text totals.now) }
-{
-    let [sat, called, finished, departed] = *totals;
-    Ok(format!(in alloc;
-        "sat {sat}\ncalled {called}\nfinished {finished}\ndeparted {departed}\nlegal\n"
-    )?)
 }
 
 /// The answer to a run without an outcome, of which this is the end.

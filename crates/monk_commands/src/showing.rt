@@ -1,33 +1,21 @@
-//! The picture or the page of a history or of a log.
+//! The picture or the page of a history, or its part of a page of several.
 
-ghost use Rattle.std.specs.Prelude.{◌≡◌, ◌<◌, ◌≤◌, ◌^◌, length, IfOk, IsErrOf, string_bytes};
+ghost use Rattle.std.specs.Prelude.{◌≡◌, ◌≤◌, ◌^◌, length, IfOk, string_bytes};
 ghost use Rattle.monk_object.specs.Names.{most};
 ghost use Rattle.monk_history.specs.Text.Reading.{history, text_at};
-ghost use Rattle.monk_page.specs.Html.{IsPage};
 ghost use Rattle.monk_commands.specs.Answer.{IsReading, verdict_answer};
-ghost use Rattle.monk_commands.specs.Shown.{IsAnsweredBy, IsShowAnswer, IsShown, IsShownAs, forbidden_step};
+ghost use Rattle.monk_commands.specs.Shown.{IsAnsweredBy, IsShown, IsShownAs, form_of};
 
 use crate::answer::{LineAnswer, behind, too_big, unreadable};
-use crate::logs::answering::is_log;
-use crate::logs::drawing::show_log;
-use crate::show::Show;
+use crate::show::{HistoryForm, Show};
 use monk_audit::{AuditFault, Verdict, audit};
 use monk_draw::{Window, is_behind, showable};
 use monk_history::{Event, Header, read};
 use monk_page::{NOTHING_TOLD, article, page_of};
+use monk_tell::forbidden_step;
 use std::alloc::{AllocError, Global};
 
-/// The step that the verdict forbids.
-pub(crate) fn forbidden_step(verdict: Verdict) -> Option<u32>
-    ensures { result ≡ forbidden_step verdict }
-{
-    match verdict {
-        Verdict::Legal(_) => None,
-        Verdict::Forbidden { step, .. } => Some(step),
-    }
-}
-
-pub(crate) fn status_of(verdict: Verdict) -> u8
+fn status_of(verdict: Verdict) -> u8
     ensures { result ≡ (verdict_answer verdict).status }
 {
     match verdict {
@@ -36,25 +24,10 @@ pub(crate) fn status_of(verdict: Verdict) -> u8
     }
 }
 
-/// The page of a history beside which nothing is told.
-fn page(
-    alloc: Global,
-    header: &Header,
-    events: &[Event],
-    window: Option<Window>,
-) -> Result<String, AuditFault>
-    requires { length events.now ≤ 2 ^ 25 }
-    ensures page { IfOk result (λ page. IsPage header.now events.now window (string_bytes page)) }
-    ensures object { IsErrOf result AuditFault.Object → most header.now.object < header.now.size }
-{
-    let article = article(alloc, header, events, window, NOTHING_TOLD)?;
-    Ok(page_of(alloc, article.as_str())?)
-}
-
-/// The picture or the page of a history on which there is this verdict.
+/// What shows a history on which there is this verdict.
 fn shown_text(
     alloc: Global,
-    show: Show<'_>,
+    form: HistoryForm<'_>,
     header: &Header,
     events: &[Event],
     window: Option<Window>,
@@ -62,11 +35,17 @@ fn shown_text(
 ) -> Result<String, AllocError>
     requires few { length events.now ≤ 2 ^ 25 }
     requires fits { header.now.size ≤ most header.now.object }
-    ensures { IfOk result (λ text. IsShownAs show.entry window header.now events.now (string_bytes text)) }
+    ensures { IfOk result (λ text. IsShownAs form.entry window header.now events.now (string_bytes text)) }
 {
-    let shown = match show {
-        Show::Picture(picture) => picture.of_history(alloc, header, events, window, verdict),
-        Show::Page => page(alloc, header, events, window),
+    let shown = match form {
+        HistoryForm::Picture(picture) => {
+            picture.of_history(alloc, header, events, window, verdict)
+        }
+        HistoryForm::Page => match article(alloc, header, events, window, NOTHING_TOLD) {
+            Ok(article) => return Ok(page_of(alloc, article.as_str())?),
+            Err(fault) => Err(fault),
+        },
+        HistoryForm::Article(beside) => article(alloc, header, events, window, beside),
     };
     match shown {
         Ok(text) => Ok(text),
@@ -79,7 +58,7 @@ fn shown_text(
 /// The answer that shows it, if the events that are asked for begin with one that can be shown.
 fn shown_if_there(
     alloc: Global,
-    show: Show<'_>,
+    form: HistoryForm<'_>,
     header: &Header,
     events: &[Event],
     window: Option<Window>,
@@ -88,7 +67,7 @@ fn shown_if_there(
     requires few { length events.now ≤ 2 ^ 25 }
     requires fits { header.now.size ≤ most header.now.object }
     ensures answer { IfOk result
-        (λ a. IsAnsweredBy show.entry window verdict header.now events.now a.status (string_bytes a.text)) }
+        (λ a. IsAnsweredBy form.entry window verdict header.now events.now a.status (string_bytes a.text)) }
     ensures status { IfOk result (λ a. a.status ≤ 2) }
 {
     let last = showable(forbidden_step(verdict), events.len());
@@ -97,60 +76,63 @@ fn shown_if_there(
     }
     Ok(LineAnswer {
         status: status_of(verdict),
-        text: shown_text(alloc, show, header, events, window, verdict)?,
+        text: shown_text(alloc, form, header, events, window, verdict)?,
     })
 }
 
 /// The answer to a history that was read.
-fn show_history(
+fn shown(
     alloc: Global,
-    show: Show<'_>,
+    form: HistoryForm<'_>,
     header: &Header,
     events: &[Event],
     window: Option<Window>,
 ) -> Result<LineAnswer, AllocError>
     requires few { length events.now ≤ 2 ^ 25 }
     ensures answer { IfOk result
-        (λ a. IsShown show.entry window (history header.now events.now) a.status (string_bytes a.text)) }
+        (λ a. IsShown form.entry window (history header.now events.now) a.status (string_bytes a.text)) }
     ensures status { IfOk result (λ a. a.status ≤ 2) }
 {
     match audit(alloc, header, events) {
-        Ok(verdict) => shown_if_there(alloc, show, header, events, window, verdict),
+        Ok(verdict) => shown_if_there(alloc, form, header, events, window, verdict),
         Err(AuditFault::Memory) => Err(AllocError),
         Err(AuditFault::Object) => too_big(alloc),
     }
 }
 
 /// The answer to the text of a history.
-fn show_history_text(
+pub(crate) fn shown_in_form(
     alloc: Global,
-    show: Show<'_>,
-    bytes: &[u8],
+    form: HistoryForm<'_>,
     window: Option<Window>,
+    bytes: &[u8],
 ) -> Result<LineAnswer, AllocError>
     ensures answer { IfOk result
-        (λ a. IsReading (IsShown show.entry window) (text_at (2 ^ 25) bytes.now) a.status (string_bytes a.text)) }
+        (λ a. IsReading (IsShown form.entry window) (text_at (2 ^ 25) bytes.now) a.status (string_bytes a.text)) }
     ensures status { IfOk result (λ a. a.status ≤ 2) }
 {
     match read(alloc, bytes) {
-        Ok((header, events)) => show_history(alloc, show, &header, &events, window),
+        Ok((header, events)) => shown(alloc, form, &header, &events, window),
         Err(fault) => unreadable(alloc, fault),
     }
 }
 
-/// The answer to a text.
-pub(crate) fn show_text(
+/// The picture or the page of a history, from its text, or why there is none. See [`Task::Draw`](crate::Task::Draw).
+/// It fails only for want of memory.
+pub fn show_history(
     alloc: Global,
     show: Show<'_>,
-    bytes: &[u8],
     window: Option<Window>,
+    bytes: &[u8],
 ) -> Result<LineAnswer, AllocError>
-    ensures answer { IfOk result (λ a. IsShowAnswer show.entry window bytes.now a.status (string_bytes a.text)) }
+    ensures answer { IfOk result (λ a. IsReading (IsShown (form_of show.entry) window) (text_at (2 ^ 25) bytes.now)
+        a.status (string_bytes a.text)) }
     ensures status { IfOk result (λ a. a.status ≤ 2) }
 {
-    if is_log(bytes) {
-        show_log(alloc, show, window, bytes)
-    } else {
-        show_history_text(alloc, show, bytes, window)
+    match show {
+        Show::Picture(picture) => {
+            shown_in_form(alloc, HistoryForm::Picture(picture), window, bytes)
+        }
+        Show::Page => shown_in_form(alloc, HistoryForm::Page, window, bytes),
     }
 }

@@ -1,8 +1,6 @@
-ghost use Rattle.std.specs.Prelude.{◌≡◌, ◌≤◌, false, IfOk, IfSome};
-ghost use Rattle.std.specs.Io.KnownBytes.{Appends};
-ghost use Rattle.monk_history.specs.Text.Device.{inner_of, has_failed};
+ghost use Rattle.std.specs.Prelude.{◌≡◌, ◌≤◌, false, IfOk};
+ghost use Rattle.monk_history.specs.Text.Device.{has_failed};
 ghost use Rattle.monk_commands.specs.Streams.{IsStreamOutcome};
-ghost use Rattle.monk_commands.specs.Tasks.{IsTaskAnswer};
 
 use crate::auditing::audit_stream;
 use crate::completing::complete_stream;
@@ -35,35 +33,29 @@ pub enum Task<'a> {
     /// How a history or a log is judged.
     ///
     /// Of a log, whose first word is `log`, one line is written behind `NAME: `, or one line of JSON: whether it fits,
-    /// how its program ends, and what is counted and found beside ([`judge_log`](monk_judge::judge_log)). Lines are
-    /// counted as in the file. The status is 1 if the log misfits, misses a signal or ends busy, though its program
-    /// didn't end by itself; else 0. A log with another kind than NPNB, or with meanings but without acts, is refused
-    /// by a line with status 2.
+    /// how its program ends, and what is counted and found beside ([`judge_log`](monk_judge::judge_log)). The status is
+    /// 1 if the log misfits, misses a signal or ends busy, though its program didn't end by itself; else 0. A log with
+    /// another kind than NPNB, or with meanings but without acts, is refused by a line with status 2.
     ///
-    /// Of a history, whatever kind its header names, ten lines are written, in the order of [`KindName::ALL`]:
-    /// `KIND legal N` or `KIND forbidden STEP REASON WORD`. The status is 0 where the events are legal under one kind
-    /// at least, else 1. With a kind its line alone is written, behind `NAME: `, with status 0 if they are legal
-    /// under it.
+    /// Of a history ten lines are written, in the order of [`KindName::ALL`]: `KIND legal N` or `KIND forbidden STEP
+    /// REASON WORD`; with a kind its line alone, behind `NAME: `. The status is 0 if one of them says `legal`, else 1.
     ///
-    /// Of a log it takes one pass over the text and two over its lines, and memory for 24 bytes for each line and for
-    /// the text, or for 32 bytes for each line, whichever is more. Of a history it takes one pass over the text and
-    /// one over the events for each kind, and memory for the text, the events and the queues.
+    /// A log takes one pass over its text and two over its lines, and memory for 24 bytes a line and the text, or for
+    /// 32 bytes a line, whichever is more. A history takes one pass over the text, and one over the events for each
+    /// kind.
     Fit(FitForm, Question<'a>),
     /// Each command of a play with its answer, by [`trace_stream`].
     Trace,
     /// How a history or a log is judged, and why.
     ///
-    /// Of a history the line of an audit is written, with its status, under the kind if one is named. Of a legal one
-    /// the situation follows in which it ends: the kind, the turn, who is inside, the data, the acts that the object
-    /// refused and the queues. Of a forbidden one follow the event that is not allowed, the situation before it, the
-    /// object's own reply or what might have been chosen, and a sentence that says why.
+    /// Of a history the line of an audit is written, with its status, under the kind if one is named. Behind it stands
+    /// how things are at the end, or before the forbidden event; then that event, the object's own reply or what might
+    /// have been chosen, and a sentence that says why.
     ///
-    /// Of a log the line of `Fit` is written, with its status. Then come the lines to look at, each with where it
-    /// stands in the source if the recorder wrote that down, and a sentence: of a misfit that line and those that led
-    /// to it, else what is wrong at the end. Last it tells where each seat is, and since which line.
+    /// Of a log the line of `Fit` is written, with its status. Then come the lines to look at, each with its place in
+    /// the source if the recorder wrote that down, and a sentence; last where each seat is, and since which line.
     ///
-    /// Of a history it takes two passes over the events, of a log twice what `Fit` takes, and memory for the steps of a
-    /// run.
+    /// A history takes two passes over the events. A log takes twice what `Fit` does, and memory for a run.
     Explain(Question<'a>),
     /// The picture of a history or of a log: of the events that are asked for.
     ///
@@ -97,9 +89,7 @@ impl Task<'_> {
     ///
     /// # Errors
     ///
-    /// [`StreamFault::File`] where the reader or the writer failed, or where the input has more
-    /// than 2^31 bytes or takes more than 2^31 reads. [`StreamFault::Memory`] if a request for
-    /// memory was refused.
+    /// Those of [`audit_stream`].
     ///
     /// # Cost
     ///
@@ -112,12 +102,6 @@ impl Task<'_> {
     ) -> Result<u8, StreamFault>
         requires reader_works { has_failed reader.old ≡ false }
         requires writer_works { has_failed writer.old ≡ false }
-
-        // What is written, and its status, are what the command answers to what the reader had.
-        ensures answer { IfOk result
-            (λ status. IfSome (R.remaining (inner_of reader.old))
-            (λ input. IsTaskAnswer self.entry input status
-            (Appends (W.contents (inner_of writer.old)) (W.contents (inner_of writer.new))))) }
         ensures statuses { IfOk result (λ status. status ≤ 2) }
         ensures outcome { IsStreamOutcome R.remaining reader.old reader.new writer.old writer.new result }
     {

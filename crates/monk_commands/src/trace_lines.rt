@@ -1,27 +1,28 @@
 //! The lines of a trace: one for each command of a play, with where all seats stand after it.
 
-ghost use Rattle.std.specs.Prelude.{◌≡◌, ◌≤◌, ◌^◌, ◌++◌, false, IfOk, OnOk, ℕ, List, [], length};
+ghost use Rattle.std.specs.Prelude.{◌≡◌, ◌<◌, ◌≤◌, ◌^◌, ◌++◌, false, All, IfOk, OnOk, ℕ, List, [], length};
 ghost use Rattle.std.specs.Prelude.{string_bytes};
 ghost use Rattle.std.specs.Io.KnownBytes.{Appends};
 ghost use Rattle.monk_history.specs.Text.Device.{inner_of, has_failed};
 ghost use Rattle.monk_world.specs.WorldViews.{state_of_view};
 ghost use Rattle.monk_commands.specs.Streams.{IsWriting};
 ghost use Rattle.monk_history.specs.Meaning.Monitor.{monitor};
-ghost use Rattle.monk_audit.specs.Replay.{IsReplayOf, replay_situation};
+ghost use Rattle.monk_audit.specs.Replay.{replay_situation};
 ghost use Rattle.monk_floor.specs.View.{empty_floor, monitor_of};
-ghost use Rattle.monk_tell.specs.Standing.{stand};
-ghost use Rattle.monk_tell.specs.declared.stand.Stand.{Stand};
+ghost use Rattle.monk_tell.specs.Place.{in_queues};
+ghost use Rattle.monk_tell.specs.Told.{queues_of};
+ghost use Rattle.monk_tell.specs.declared.place.SeatPlace.{SeatPlace};
 ghost use Rattle.monk_commands.specs.Following.{IsBehind};
 ghost use Rattle.monk_commands.specs.Traced.{AreTraced, data_part, line_front, places_text, refusal_text};
 ghost use Rattle.monk_commands.specs.Traced.{seat_text, trace_line};
 
 use crate::fault::StreamFault;
-use crate::following::step_followed;
+use crate::following::Follower;
 use monk_audit::Replay;
 use monk_history::Device;
-use monk_kinds::Kind;
+use monk_kinds::{Kind, rules_of};
 use monk_object::{Guarded, Listed, ObjectName};
-use monk_tell::{Data, NumberList, Stand, data_numbers, stand_of};
+use monk_tell::{Data, NumberList, QueueLists, SeatPlace, data_numbers};
 use monk_world::{Answer, Command, PlayLines, World};
 use std::alloc::{AllocError, Global};
 use std::fmt;
@@ -37,9 +38,10 @@ fn refusal(answer: Answer) -> &'static str
     }
 }
 
-/// What a seat was told, and what it answered.
+/// The number of a command, what it told a seat, and what that answered.
 #[derive(Drop)]
 struct Told {
+    number: usize,
     seat: u8,
     command: Command,
     answer: Answer,
@@ -49,14 +51,14 @@ impl fmt::Display for Told {
     ghost use Rattle.std.specs.Prelude.{Some};
     ghost use Rattle.monk_commands.specs.Traced.{told_text};
 
-    ghost output = { λ t. Some (told_text (t.seat, t.command) t.answer) };
+    ghost output = { λ t. Some (told_text t.number (t.seat, t.command) t.answer) };
 
     fn fmt<W: fmt::Write>(&self, f: &mut fmt::Formatter<W>) -> fmt::Result {
         let refusal = refusal(self.answer);
         write!(
             f,
-            "{} {} | {}{refusal}",
-            self.seat, self.command, self.answer
+            "{} | {} {} | {}{refusal}",
+            self.number, self.seat, self.command, self.answer
         )
     }
 }
@@ -65,11 +67,11 @@ impl fmt::Display for Told {
 fn put_place<K: Kind, T: Guarded>(
     page: &mut String,
     world: &World<K, T>,
-    stand: Stand,
+    stand: SeatPlace,
     seat: u8,
 ) -> Result<(), AllocError>
     ensures { OnOk result
-        ((stands : ℕ → Stand) → stand ≡ stands seat
+        ((stands : ℕ → SeatPlace) → stand ≡ stands seat
         → string_bytes page.new ≡ string_bytes page.old ++ seat_text (state_of_view world.now) stands seat) }
 {
     if seat > 0 {
@@ -82,28 +84,23 @@ fn put_place<K: Kind, T: Guarded>(
     Ok(())
 }
 
-/// The same of each seat.
 #[tactic(auto, unfolding(crate::specs::Traced::places_text))]
 fn put_places<K: Kind, T: Guarded>(
-    alloc: Global,
     page: &mut String,
     world: &World<K, T>,
-    replay: &Replay,
-    conds: u8,
+    queues: &QueueLists,
 ) -> Result<(), AllocError>
     ensures { OnOk result
         (string_bytes page.new ≡ string_bytes page.old
-        ++ places_text (state_of_view world.now) (stand conds (replay_situation replay.now []))
+        ++ places_text (state_of_view world.now) (in_queues (queues_of queues.now))
         (state_of_view world.now).floor.seats) }
 {
     for seat in 0..world.seats() {
-        let stand = stand_of(alloc, replay, conds, seat)?;
-        put_place(page, world, stand, seat)?;
+        put_place(page, world, SeatPlace::in_queues(queues, seat), seat)?;
     }
     Ok(())
 }
 
-/// The data.
 #[tactic(auto, unfolding(crate::specs::Traced::data_part))]
 fn put_data<T: Listed>(
     alloc: Global,
@@ -117,82 +114,80 @@ fn put_data<T: Listed>(
     write!(page, "data:{} | ", Data(name, &numbers))
 }
 
-/// What stands in a line before the places: the command's number, what it came to, and the words after it.
+/// What stands in a line before the places: what the command came to, and the words after it.
 #[tactic(auto, unfolding(crate::specs::Traced::line_front))]
 fn put_front<K: Kind, T: Guarded>(
     page: &mut String,
-    number: usize,
     told: &Told,
     world: &World<K, T>,
 ) -> Result<(), AllocError>
     ensures { OnOk result
         (string_bytes page.new ≡ string_bytes page.old
-        ++ line_front number (told.now.seat, told.now.command) told.now.answer (state_of_view world.now)) }
+        ++ line_front told.now.number (told.now.seat, told.now.command) told.now.answer (state_of_view world.now)) }
 {
     let (drawn, unpassed) = (world.drawn(), world.unpassed());
-    write!(page, "{number} | {told} | t={drawn} n={unpassed} | ")
+    write!(page, "{told} | t={drawn} n={unpassed} | ")
 }
 
-/// The line of the command of that number, which has brought the world to where it is.
+/// The line of a command, which has brought the world to where it is.
 fn put_line<K: Kind, T: Listed>(
     alloc: Global,
     page: &mut String,
-    number: usize,
     told: &Told,
     world: &World<K, T>,
-    replay: &Replay,
-    object: &T,
+    follower: &Follower<T>,
     name: ObjectName,
-    conds: u8,
 ) -> Result<(), AllocError>
+    requires { All (λ w. w.1 < T.PREDICATES)
+        (replay_situation follower.now.replay (T.state follower.now.object)).untils }
     ensures { OnOk result
         (string_bytes page.new ≡ string_bytes page.old
-        ++ trace_line name conds number (told.now.seat, told.now.command) told.now.answer (state_of_view world.now)
-        (replay_situation replay.now (T.state object.now))) }
+        ++ trace_line name (monitor K.rules 0 follower.now.conds T.meaning []) told.now.number
+        (told.now.seat, told.now.command) told.now.answer (state_of_view world.now)
+        (replay_situation follower.now.replay (T.state follower.now.object))) }
 {
-    put_front(page, number, told, world)?;
-    put_data(alloc, page, name, object)?;
-    put_places(alloc, page, world, replay, conds)?;
+    put_front(page, told, world)?;
+    put_data(alloc, page, name, &follower.object)?;
+    let queues = QueueLists::of(
+        alloc,
+        rules_of::<K>().mode,
+        follower.conds,
+        &follower.replay,
+        &follower.object,
+    )?;
+    put_places(page, world, &queues)?;
     page.push_str("\n")?;
     Ok(())
 }
 
-/// Carries out the commands that are left of the play, in order, and gives the lines of all of
-/// them. The replay follows the world, over an object of its own.
+/// Carries out the commands that are left of the play, in order, and gives the lines of all of them.
 fn lines_of<K: Kind, T: Listed>(
     alloc: Global,
     world: &mut World<K, T>,
-    replay: &mut Replay,
-    object: &mut T,
+    follower: &mut Follower<T>,
     name: ObjectName,
-    conds: u8,
     play: PlayLines<'_>,
 ) -> Result<String, AllocError>
-    requires behind { IsBehind (monitor_of K.rules T.meaning (state_of_view world.old).floor) replay.old
-        (T.state object.old)
-        (state_of_view world.old).floor.history }
-    requires sound { IsReplayOf (state_of_view world.old).floor.seats conds T.PREDICATES replay.old }
-    requires conds { conds ≡ (state_of_view world.old).floor.conds }
+    requires behind { IsBehind (monitor_of K.rules T.meaning (state_of_view world.old).floor) T.PREDICATES
+        follower.old.conds follower.old.replay (T.state follower.old.object) (state_of_view world.old).floor.history }
     requires few { length play.2 ≤ 2 ^ 25 }
     ensures { IfOk result
         (λ page. AreTraced name (monitor_of K.rules T.meaning (state_of_view world.old).floor) 0
-        (state_of_view world.old)
-        play.entry.2 (state_of_view world.new) (string_bytes page)) }
+        (state_of_view world.old) play.entry.2 (state_of_view world.new) (string_bytes page)) }
 {
     let mut play = play;
     let mut page = String::new(alloc);
     let mut number = 0;
     while let Some((seat, command)) = play.next() {
         number += 1;
-        let answer = step_followed(alloc, world, replay, object, conds, seat, command)?;
+        let answer = follower.step(alloc, world, seat, command)?;
         let told = Told {
+            number,
             seat,
             command,
             answer,
         };
-        put_line(
-            alloc, &mut page, number, &told, world, replay, object, name, conds,
-        )?;
+        put_line(alloc, &mut page, &told, world, follower, name)?;
     }
     Ok(page)
 }
@@ -218,10 +213,14 @@ pub(crate) fn put_trace<K: Kind, T: Listed, W: Write>(
     ensures writing { IsWriting writer.old writer.new result }
 {
     let header = play.header();
-    let mut object = object;
-    let (name, seats, conds) = (header.object(), header.seats(), header.conds());
-    let mut replay = Replay::opening(alloc, seats, conds)?;
-    let page = lines_of(alloc, world, &mut replay, &mut object, name, conds, play)?;
+    let (seats, conds) = (header.seats(), header.conds());
+    let replay = Replay::opening(alloc, seats, conds)?;
+    let mut follower = Follower {
+        replay,
+        object,
+        conds,
+    };
+    let page = lines_of(alloc, world, &mut follower, header.object(), play)?;
     match writer.write_all(page.as_bytes()) {
         Ok(()) => Ok(()),
         Err(_) => Err(StreamFault::File),

@@ -5,8 +5,9 @@ ghost use Rattle.std.specs.Io.KnownBytes.{Appends};
 ghost use Rattle.monk_history.specs.Text.{Heading};
 ghost use Rattle.monk_history.specs.Text.Device.{inner_of, has_failed};
 ghost use Rattle.monk_world.specs.declared.command.Command.{Command};
-ghost use Rattle.monk_commands.specs.Played.{IsAnswerTo, IsPlayOf, IsPlayText, IsTraced};
+ghost use Rattle.monk_commands.specs.Played.{IsAnswerTo, IsPlayOf, IsPlayText};
 ghost use Rattle.monk_commands.specs.Streams.{IsStreamOutcome};
+ghost use Rattle.monk_commands.specs.Traced.{IsTraced};
 
 use crate::fault::StreamFault;
 use crate::input::read_all;
@@ -34,9 +35,7 @@ use std::io::{Read, Write};
 ///
 /// # Errors
 ///
-/// [`StreamFault::File`] where the reader or the writer failed, or where the input has more than
-/// 2^31 bytes or takes more than 2^31 reads. [`StreamFault::Memory`] if a request for memory was
-/// refused.
+/// Those of [`play_stream`](crate::play_stream).
 ///
 /// # Cost
 ///
@@ -54,7 +53,7 @@ pub fn trace_stream<R: Read, W: Write>(
     // What is written, and its status, are the answer to what the reader had.
     ensures answer { IfOk result
         (λ status. IfSome (R.remaining (inner_of reader.old))
-        (λ input. IsAnswerTo Report.Trace input status
+        (λ input. IsAnswerTo IsTraced input status
         (Appends (W.contents (inner_of writer.old)) (W.contents (inner_of writer.new))))) }
     // The status is 0 exactly for the text of a play.
     ensures played { IfOk result (λ status. IfSome (R.remaining (inner_of reader.old))

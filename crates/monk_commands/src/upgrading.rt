@@ -45,9 +45,7 @@ fn upgrade_text<W: Write>(
 ///
 /// # Errors
 ///
-/// [`StreamFault::File`] where the reader or the writer failed, or where the input has more than
-/// 2^31 bytes or takes more than 2^31 reads. [`StreamFault::Memory`] if a request for memory was
-/// refused.
+/// Those of [`audit_stream`](crate::audit_stream).
 ///
 /// # Cost
 ///

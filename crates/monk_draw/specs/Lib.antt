@@ -1,4 +1,3 @@
 pub mod Asked
 pub mod Window
-pub mod Place
 pub mod Scene

@@ -1,27 +1,23 @@
 -- What a picture shows: the events, who goes on behind each of them, and where each seat is in between
-use Rattle.std.specs.Prelude.{ℕ, zero, suc, ◌+◌, Option, Some, None, List, [], ◌∷◌, ◌++◌, length, map, slice_get}
+use Rattle.std.specs.Prelude.{ℕ, ◌+◌, Option, Some, None, List, length, map, slice_get}
+use Rattle.std.specs.List.{range_with_len}
 use Rattle.std.specs.declared.alloc.Global.{Global}
 use Rattle.std.specs.declared.vec.Vec.{Vec}
 use Rattle.monk_history.specs.Meaning.Events.{next_of}
 use Rattle.monk_history.specs.declared.event.Event.{Event}
 use Rattle.monk_history.specs.declared.event.Event.TheVariants as event
-use Rattle.monk_history.specs.declared.event.Via.{Via}
-use Rattle.monk_history.specs.declared.event.Via.TheVariants.{Free, Handed}
+use Rattle.monk_history.specs.declared.event.Via.TheVariants.{Handed}
 use Rattle.monk_history.specs.declared.event.Next.{Next}
 use Rattle.monk_history.specs.declared.event.Next.TheVariants.{Stay, Entry, Waiter, Signaller, Until}
 use Rattle.monk_tell.specs.Steps.{ShownStep}
-use Rattle.monk_draw.specs.Place.{places_below}
-use Rattle.monk_draw.specs.declared.place.SeatPlace.{SeatPlace}
+use Rattle.monk_tell.specs.Told.{ShownStanding}
+use Rattle.monk_tell.specs.Place.{place_in}
+use Rattle.monk_tell.specs.declared.place.SeatPlace.{SeatPlace}
 use Rattle.monk_draw.specs.declared.scene.Scene.{Scene}
 
--- who comes in because it was handed the monitor
-abbrev pub if_handed : ℕ → Via → Option ℕ
-if_handed s Free = None
-if_handed s Handed = Some s
-
--- the same by an event, if there is one
+-- who comes in by an event because it was handed the monitor
 abbrev pub handed : Option Event → Option ℕ
-handed (Some (event.Enter s via)) = if_handed s via
+handed (Some (event.Enter s Handed)) = Some s
 handed _ = None
 
 -- who goes on by that choice: the seat that it names, or who comes in by the next event
@@ -39,9 +35,12 @@ goes_on None after = None
 goes_on (Some e) after = goes_on_by (next_of e) after
 
 -- behind each of the first so many events the arrow, which leads to who goes on
-unfoldable pub arrows_below : List Event → ℕ → List (Option ℕ)
-arrows_below es zero = []
-arrows_below es (suc k) = arrows_below es k ++ goes_on (slice_get es k) (slice_get es (k + 1)) ∷ []
+abbrev pub arrows_below : List Event → ℕ → List (Option ℕ)
+arrows_below es count = map (λ k. goes_on (slice_get es k) (slice_get es (k + 1))) (range_with_len 0 count)
+
+-- where each seat below that number is
+abbrev pub places_below : ShownStanding → ℕ → List SeatPlace
+places_below t seats = map (place_in t) (range_with_len 0 seats)
 
 -- what is shown
 pub record ShownScene : Type 0 where

@@ -55,20 +55,12 @@ pub(crate) fn event_word(object: ObjectName, event: Event) -> &'static str {
     }
 }
 
-/// Puts what an act was called with, unless that is 0, and its reply.
-fn put_reply(page: &mut String, arg: u32, reply: u64) -> Result<(), AllocError> {
-    if arg == 0 {
-        write!(page, "replied {reply}")
-    } else {
-        write!(page, "{arg}, replied {reply}")
-    }
-}
-
-/// Puts the numbers that belong to the event.
+/// Puts the numbers that belong to the event; of an act what it was called with, unless that is 0, and its reply.
 pub(crate) fn put_note(page: &mut String, event: Event) -> Result<(), AllocError> {
     match event {
         Event::Enter(_, via) => page.push_str(via_word(via)),
-        Event::Act(_, op, reply) => put_reply(page, op.arg, reply),
+        Event::Act(_, op, reply) if op.arg == 0 => write!(page, "replied {reply}"),
+        Event::Act(_, op, reply) => write!(page, "{}, replied {reply}", op.arg),
         Event::Leave(..) => Ok(()),
         Event::Wait(_, cond, _)
         | Event::Signal(_, cond, _)

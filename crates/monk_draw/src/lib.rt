@@ -4,7 +4,6 @@
 mod label;
 mod names;
 mod picture;
-mod place;
 mod scene;
 mod span;
 mod svg;
@@ -15,7 +14,6 @@ mod window_fault;
 
 pub use names::Names;
 pub use picture::Picture;
-pub use place::SeatPlace;
 pub use scene::{Scene, history_scene};
 pub use span::{MOST_SHOWN, Span, is_behind, showable};
 pub use svg::draw;

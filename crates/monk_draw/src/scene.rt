@@ -3,12 +3,10 @@
 ghost use Rattle.std.specs.Prelude.{◌≡◌, ◌<◌, IfOk, length, map, slice_get};
 ghost use Rattle.monk_tell.specs.Steps.{step_of};
 ghost use Rattle.monk_tell.specs.Told.{standing_of};
-ghost use Rattle.monk_draw.specs.Place.{places_below};
-ghost use Rattle.monk_draw.specs.Scene.{arrows_below, goes_on, handed, history_scene, row_of, scene_of};
+ghost use Rattle.monk_draw.specs.Scene.{arrows_below, goes_on, handed, history_scene, places_below, row_of, scene_of};
 
-use crate::place::{SeatPlace, places};
 use monk_history::{Event, Next, Via};
-use monk_tell::Step;
+use monk_tell::{SeatPlace, Standing, Step};
 use std::alloc::{AllocError, Global};
 
 /// What a picture shows: some events, who goes on behind each of them, and where each seat is in between.
@@ -75,10 +73,8 @@ impl Scene {
 
     /// Where the seat is behind so many of the events that are allowed, or behind all of them.
     pub(crate) fn place(&self, many: usize, seat: u8) -> SeatPlace {
-        let place = match self.places.get(many.min(self.allowed())) {
-            Some(row) => row.get(usize::from(seat)).copied(),
-            None => None,
-        };
+        let row = self.places.get(many.min(self.allowed()));
+        let place = row.and_then(|row| row.get(usize::from(seat)).copied());
         place.unwrap_or(SeatPlace::Outside)
     }
 
@@ -122,16 +118,21 @@ fn event_at(events: &[Event], index: usize) -> Option<Event>
 }
 
 /// Who goes on behind each of the events.
-#[tactic(auto, unfolding(crate::specs::Scene::arrows_below))]
 fn arrows(alloc: Global, events: &[Event]) -> Result<Vec<Option<u8>>, AllocError>
     ensures { IfOk result (λ v. v.items ≡ arrows_below events.now (length events.now)) }
 {
-    let mut arrows = Vec::with_capacity(alloc, events.len())?;
-    for column in 0..events.len() {
-        let (event, after) = (event_at(events, column), event_at(events, column + 1));
-        arrows.push(goes_on(event, after))?;
-    }
-    Ok(arrows)
+    (0..events.len())
+        .map(|column| goes_on(event_at(events, column), event_at(events, column + 1)))
+        .collect(alloc)
+}
+
+/// Where each seat below that number is.
+fn places(alloc: Global, standing: &Standing, seats: u8) -> Result<Vec<SeatPlace>, AllocError>
+    ensures { IfOk result (λ v. v.items ≡ places_below (standing_of standing.now) seats) }
+{
+    (0..seats)
+        .map(|seat| SeatPlace::in_standing(standing, seat))
+        .collect(alloc)
 }
 
 /// Where each seat is after each of the steps.
@@ -156,7 +157,7 @@ fn places_after(alloc: Global, seats: u8, steps: &[Step]) -> Result<Vec<Vec<Seat
 /// # Cost
 ///
 /// For each step one pass over the queues for each seat; two bytes for each step and seat.
-#[tactic(auto, using(crate::proofs::PlaceLaws::rows_told))]
+#[tactic(auto, using(crate::proofs::SceneLaws::rows_told))]
 pub fn history_scene(
     alloc: Global,
     seats: u8,

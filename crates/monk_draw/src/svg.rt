@@ -10,7 +10,6 @@ mod style;
 
 use crate::scene::Scene;
 use layout::Layout;
-use legend::Look;
 use monk_history::Header;
 use std::alloc::{AllocError, Global};
 
@@ -19,8 +18,8 @@ use std::alloc::{AllocError, Global};
 struct Canvas<'a> {
     /// Its text so far.
     page: String,
-    /// What the legend has to explain.
-    looks: Vec<Look>,
+    /// The classes of the looks that the legend has to explain.
+    looks: Vec<&'static str>,
     scene: &'a Scene,
     layout: Layout,
 }

@@ -11,7 +11,7 @@ mod words;
 use crate::scene::Scene;
 use crate::text_form::TextForm;
 use brush::Brush;
-use column::{columns, widths};
+use column::columns;
 use fault::put_fault;
 use lane::lanes;
 use monk_history::Header;
@@ -53,7 +53,7 @@ pub fn draw_text(
     let mut page = String::new(alloc);
     brush.put_heading(&mut page, header)?;
     let room = brush.room(form.layout.width as usize);
-    for strip in strips(alloc, &widths(alloc, &columns)?, room)? {
+    for strip in strips(alloc, &columns, room)? {
         brush.put_strip(&mut page, strip)?;
         if scene.is_forbidden(strip.last.saturating_sub(1)) {
             let at = brush.column_at(strip);

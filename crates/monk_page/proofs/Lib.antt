@@ -1,10 +1,8 @@
 mod PlainTexts
 mod PlainWords
-mod PlainWhy
 mod PlainData
 mod PlainLaws
 mod LogPlain
-mod LogLaws
 mod WriteLaws
 mod PageLaws
 mod NameLaws

@@ -1,34 +1,26 @@
--- The text of a value whose strings and keys markup shows as they stand is such a text too
-use Rattle.std.proofs.Common.{◌≡◌, ◌==◌, ◌&&◌, ◌||◌, ◌≤◌, ℕ, zero, suc, Bool, true, false, not, cond, List, [], ◌∷◌, ◌++◌, nat_lt, refl, arith}
-use Rattle.std.specs.Prelude.{nat_le}
-use Rattle.std.proofs.lemmas.Bool.{and_parts, false≢true, le-ltb, leb-true, lt-ltb}
-use Rattle.std.proofs.lemmas.Bool.Decides.{nat_tests}
+-- The text of a value whose strings and keys are bare is one that markup shows as it stands
+use Rattle.std.proofs.Common.{◌≡◌, ◌&&◌, ◌≤◌, ℕ, suc, Bool, true, false, cond, List, [], ◌∷◌, ◌++◌, Option, Some, None, map, refl, arith}
+use Rattle.std.specs.Fmt.{decimal}
+use Rattle.std.specs.Option.{option_map_or}
+use Rattle.std.proofs.lemmas.Bool.{and_parts, false≢true}
 use Rattle.json.specs.Tree.{depth, items_depth, members_depth}
-use Rattle.json.specs.Print.{escape, escape_byte, escape_letter, quoted}
-use Rattle.serde_json.specs.Data.{Num, unsigned, negative, float, Data, null, boolean, number, string, array, object}
+use Rattle.json.specs.Print.{quoted}
+use Rattle.serde_json.specs.Data.{unsigned, Data, null, number, string, array, object}
 use Rattle.serde_json.specs.Data.{Items, no_items, item, Members, no_members, member}
-use Rattle.serde_json.specs.Written.{comma_if, compact_text, items_outline, items_text, members_outline, members_text, number_text, outline}
+use Rattle.serde_json.specs.View.{items_of}
+use Rattle.serde_json.specs.Written.{comma_if, compact_text, items_outline, items_text, members_outline, members_text, outline}
 use Rattle.monk_page.specs.Plain.{is_plain_byte, is_plain_text}
-use Rattle.monk_page.proofs.PlainTexts.{plain-append, plain-decimal}
+use Rattle.monk_page.proofs.PlainTexts.{all_append, bare_decimal, bare_text, is_bare}
 
--- ---- a value
-
-abbrev pub is_whole : Num → Bool
-is_whole (unsigned n) = true
-is_whole (negative z) = false
-is_whole (float x) = false
-
--- whole numbers and strings that markup shows as they stand, at most so deep
+-- null, whole numbers and bare strings, in lists and in objects with bare keys, at most so deep
 abbrev mutual
   pub is_plain : ℕ → Data → Bool
   is_plain n null = true
-  is_plain n (boolean b) = true
-  is_plain n (number m) = is_whole m
-  is_plain n (string s) = is_plain_text s
-  is_plain zero (array ds) = false
+  is_plain n (number (unsigned m)) = true
+  is_plain n (string s) = is_bare s
   is_plain (suc n) (array ds) = items_are_plain n ds
-  is_plain zero (object ms) = false
   is_plain (suc n) (object ms) = members_are_plain n ms
+  is_plain n d = false
 
   pub items_are_plain : ℕ → Items → Bool
   items_are_plain n no_items = true
@@ -36,113 +28,73 @@ abbrev mutual
 
   pub members_are_plain : ℕ → Members → Bool
   members_are_plain n no_members = true
-  members_are_plain n (member k d ms) = is_plain_text k && (is_plain n d && members_are_plain n ms)
+  members_are_plain n (member k d ms) = (is_bare k && is_plain n d) && members_are_plain n ms
 
--- the parts of an object
-member_parts : (n : ℕ) (k : List ℕ) (d : Data) (ms : Members) → members_are_plain n (member k d ms) ≡ true
-    → (is_plain_text k ≡ true) × (is_plain n d ≡ true) × (members_are_plain n ms ≡ true)
-member_parts n k d ms p =
-    let q = and_parts (is_plain_text k) (is_plain n d && members_are_plain n ms) p in
-    let r = and_parts (is_plain n d) (members_are_plain n ms) q.1 in
-    (q.0, r.0, r.1)
+pub items_plain : {X : Type 0} (n : ℕ) (f : X → Data) (xs : List X) → ((x : X) → is_plain n (f x) ≡ true)
+    → items_are_plain n (items_of (map f xs)) ≡ true
+items_plain n f [] h = refl
+items_plain n f (x ∷ xs) h = rw (h x, items_plain n f xs h) refl
 
--- it isn't deeper
-mutual
-  pub shallow : (n : ℕ) (d : Data) → is_plain n d ≡ true → depth (outline d) ≤ n
-  shallow n null p = omega arith
-  shallow n (boolean b) p = omega arith
-  shallow n (number m) p = omega arith
-  shallow n (string s) p = omega arith
-  shallow zero (array ds) p = absurd (false≢true p)
-  shallow (suc n) (array ds) p = omega (arith, items_shallow n ds p)
-  shallow zero (object ms) p = absurd (false≢true p)
-  shallow (suc n) (object ms) p = omega (arith, members_shallow n ms p)
+pub option_plain : {X : Type 0} (n : ℕ) (f : X → Data) (o : Option X) → ((x : X) → is_plain n (f x) ≡ true)
+    → is_plain n (option_map_or f o null) ≡ true
+option_plain n f None h = refl
+option_plain n f (Some x) h = h x
 
-  items_shallow : (n : ℕ) (ds : Items) → items_are_plain n ds ≡ true → items_depth (items_outline ds) ≤ n
-  items_shallow n no_items p = omega arith
-  items_shallow n (item d ds) p =
-      let q = and_parts (is_plain n d) (items_are_plain n ds) p in
-      omega (arith, shallow n d q.0, items_shallow n ds q.1)
+pub if_plain : (n : ℕ) (b : Bool) (d : Data) → is_plain n d ≡ true → is_plain n (cond b d null) ≡ true
+if_plain n true d p = p
+if_plain n false d p = refl
 
-  members_shallow : (n : ℕ) (ms : Members) → members_are_plain n ms ≡ true → members_depth (members_outline ms) ≤ n
-  members_shallow n no_members p = omega arith
-  members_shallow n (member k d ms) p =
-      let q = member_parts n k d ms p in
-      omega (arith, shallow n d q.1, members_shallow n ms q.2)
+pub both : (a b : Bool) → a ≡ true → b ≡ true → (a && b) ≡ true
+both true b p q = q
+both false b p q = p
 
--- ---- what stands in quotes
+-- by these a value is plain whose parts are
+pub ruleset plain_parts = (both, items_plain, option_plain, if_plain)
 
--- of such bytes only a quote and a backslash have a short escape
-letter_is : (x : ℕ) → 32 ≤ x → escape_letter x ≡ cond ((x == 34) || (x == 92)) x 0
-letter_is x l = grind (arith, nat_tests)
+-- ---- how deep it is, and its text
 
-escaped_by : (b : Bool) (x : ℕ) (other : List ℕ) → is_plain_byte x ≡ true → nat_lt 0 x ≡ true → nat_lt x 32 ≡ false
-    → is_plain_text (cond (nat_lt 0 (cond b x 0)) (92 ∷ cond b x 0 ∷ []) (cond (nat_lt x 32) other (x ∷ []))) ≡ true
-escaped_by true x other p some seen = rw (some, p) refl
-escaped_by false x other p some seen = rw (seen, p) refl
+comma_then : (later : Bool) (t : List ℕ) → is_plain_text t ≡ true → is_plain_text (comma_if later ++ t) ≡ true
+comma_then true t p = p
+comma_then false t p = p
 
-seen_byte : (x : ℕ) → is_plain_byte x ≡ true → 32 ≤ x
-seen_byte x p =
-    let a = and_parts (nat_le 32 x && not (x == 38) && not (x == 60)) (not (x == 62)) p in
-    let b = and_parts (nat_le 32 x && not (x == 38)) (not (x == 60)) a.0 in
-    leb-true 32 x (and_parts (nat_le 32 x) (not (x == 38)) b.0).0
-
-byte_plain : (x : ℕ) → is_plain_byte x ≡ true → is_plain_text (escape_byte x) ≡ true
-unfolding escape_byte
-byte_plain x p =
-    let l = seen_byte x p in
-    rw (letter_is x l)
-    (escaped_by ((x == 34) || (x == 92)) x _ p (lt-ltb 0 x (omega (arith, l))) (le-ltb x 32 l))
-
-escape_plain : (s : List ℕ) → is_plain_text s ≡ true → is_plain_text (escape s) ≡ true
-escape_plain [] p = refl
-escape_plain (x ∷ s) p =
-    let q = and_parts (is_plain_byte x) (is_plain_text s) p in
-    plain-append (escape_byte x) (escape s) (byte_plain x q.0) (escape_plain s q.1)
-
-quoted_then : (s t : List ℕ) → is_plain_text s ≡ true → is_plain_text t ≡ true → is_plain_text (quoted s ++ t) ≡ true
-quoted_then s t p q =
-    plain-append (quoted s) t (plain-append (escape s) (34 ∷ []) (escape_plain s p) refl) q
-
--- ---- the text
-
-comma_plain : (later : Bool) → is_plain_text (comma_if later) ≡ true
-comma_plain true = refl
-comma_plain false = refl
-
-number_plain : (n : Num) → is_whole n ≡ true → is_plain_text (number_text n) ≡ true
-number_plain (unsigned n) p = plain-decimal n
-number_plain (negative z) p = absurd (false≢true p)
-number_plain (float x) p = absurd (false≢true p)
-
-boolean_plain : (b : Bool) → is_plain_text (compact_text (boolean b)) ≡ true
-boolean_plain true = refl
-boolean_plain false = refl
+quoted_plain : (s : List ℕ) → is_bare s ≡ true → is_plain_text (quoted s) ≡ true
+quoted_plain s p =
+    let bare = bare_text s p in
+    rw bare.0 (all_append is_plain_byte s (34 ∷ []) bare.1 refl)
 
 mutual
-  pub text_plain : (n : ℕ) (d : Data) → is_plain n d ≡ true → is_plain_text (compact_text d) ≡ true
-  text_plain n null p = refl
-  text_plain n (boolean b) p = boolean_plain b
-  text_plain n (number m) p = number_plain m p
-  text_plain n (string s) p = plain-append (escape s) (34 ∷ []) (escape_plain s p) refl
-  text_plain zero (array ds) p = absurd (false≢true p)
-  text_plain (suc n) (array ds) p = items_text_plain n ds false p
-  text_plain zero (object ms) p = absurd (false≢true p)
-  text_plain (suc n) (object ms) p = members_text_plain n ms false p
+  pub value_plain : (n : ℕ) (d : Data) → is_plain n d ≡ true
+      → (depth (outline d) ≤ n) × (is_plain_text (compact_text d) ≡ true)
+  value_plain n null p = (omega arith, refl)
+  value_plain n (number (unsigned m)) p = (omega arith, (bare_text (decimal m) (bare_decimal m)).1)
+  value_plain n (string s) p = (omega arith, quoted_plain s p)
+  value_plain (suc n) (array ds) p = let q = items_value n ds false p in (omega (arith, q.0), q.1)
+  value_plain (suc n) (object ms) p = let q = members_value n ms false p in (omega (arith, q.0), q.1)
+  value_plain n d p = absurd (false≢true p)
 
-  items_text_plain : (n : ℕ) (ds : Items) (later : Bool) → items_are_plain n ds ≡ true
-      → is_plain_text (items_text later ds) ≡ true
-  items_text_plain n no_items later p = refl
-  items_text_plain n (item d ds) later p =
-      let q = and_parts (is_plain n d) (items_are_plain n ds) p in
-      plain-append (comma_if later) (compact_text d ++ items_text true ds) (comma_plain later)
-      (plain-append (compact_text d) (items_text true ds) (text_plain n d q.0) (items_text_plain n ds true q.1))
+  items_value : (n : ℕ) (ds : Items) (later : Bool) → items_are_plain n ds ≡ true
+      → (items_depth (items_outline ds) ≤ n) × (is_plain_text (items_text later ds) ≡ true)
+  items_value n no_items later p = (omega arith, refl)
+  items_value n (item d ds) later p =
+      let parts = and_parts (is_plain n d) (items_are_plain n ds) p in
+      let first = value_plain n d parts.0 in
+      let rest = items_value n ds true parts.1 in (
+        omega (arith, first.0, rest.0),
+        comma_then later (compact_text d ++ items_text true ds)
+            (all_append is_plain_byte (compact_text d) (items_text true ds) first.1 rest.1),
+      )
 
-  members_text_plain : (n : ℕ) (ms : Members) (later : Bool) → members_are_plain n ms ≡ true
-      → is_plain_text (members_text later ms) ≡ true
-  members_text_plain n no_members later p = refl
-  members_text_plain n (member k d ms) later p =
-      let q = member_parts n k d ms p in
-      plain-append (comma_if later) (quoted k ++ 58 ∷ (compact_text d ++ members_text true ms)) (comma_plain later)
-      (quoted_then k (58 ∷ (compact_text d ++ members_text true ms)) q.0
-      (plain-append (compact_text d) (members_text true ms) (text_plain n d q.1) (members_text_plain n ms true q.2)))
+  members_value : (n : ℕ) (ms : Members) (later : Bool) → members_are_plain n ms ≡ true
+      → (members_depth (members_outline ms) ≤ n) × (is_plain_text (members_text later ms) ≡ true)
+  members_value n no_members later p = (omega arith, refl)
+  members_value n (member k d ms) later p =
+      let parts = and_parts (is_bare k && is_plain n d) (members_are_plain n ms) p in
+      let named = and_parts (is_bare k) (is_plain n d) parts.0 in
+      let first = value_plain n d named.1 in
+      let rest = members_value n ms true parts.1 in
+      let text = compact_text d ++ members_text true ms in
+      let behind = all_append is_plain_byte (compact_text d) (members_text true ms) first.1 rest.1 in (
+        omega (arith, first.0, rest.0),
+        comma_then later (quoted k ++ 58 ∷ text)
+            (all_append is_plain_byte (quoted k) (58 ∷ text) (quoted_plain k named.0) behind),
+      )

@@ -1,103 +1,78 @@
--- The words of a page's data hold no byte that markup reads
-use Rattle.std.proofs.Common.{◌≡◌, ℕ, zero, suc, true, List, [], ◌∷◌, ◌++◌, arith, refl}
-use Rattle.std.specs.Fmt.{decimal}
-use Rattle.std.specs.List.{join_with_byte, list_all}
+-- The words and sentences of a page's data are bare
+use Rattle.std.proofs.Common.{◌≡◌, ℕ, zero, suc, true, List, [], ◌∷◌, arith, refl}
 use Rattle.monk_kinds.specs.Names.{kind_word}
 use Rattle.monk_kinds.specs.declared.mode.Mode.{Mode}
 use Rattle.monk_kinds.specs.declared.mode.Rules.{Rules}
 use Rattle.monk_kinds.specs.declared.name.KindName.{KindName}
-use Rattle.monk_object.specs.InWords.{how_many, spaced, items_in_words, bits_below, chair_in_words, state_in_words}
+use Rattle.monk_object.specs.InWords.{bits_below, spaced, state_in_words}
 use Rattle.monk_object.specs.Names.{object_word}
 use Rattle.monk_object.specs.declared.name.ObjectName.{ObjectName}
-use Rattle.monk_history.specs.Text.{event_words, from_word, next_words, via_word}
+use Rattle.monk_history.specs.Text.{event_words, from_word, next_words}
 use Rattle.monk_history.specs.declared.event.Event.{Event}
 use Rattle.monk_history.specs.declared.event.From3.{From3}
 use Rattle.monk_history.specs.declared.event.Next.{Next}
 use Rattle.monk_history.specs.declared.event.Turn.{Turn}
-use Rattle.monk_history.specs.declared.event.Via.{Via}
-use Rattle.monk_audit.specs.Reasons.{word_of}
 use Rattle.monk_audit.specs.Words.{verdict_text}
-use Rattle.monk_audit.specs.declared.reason.Reason.{Reason}
 use Rattle.monk_audit.specs.declared.verdict.Verdict.{Verdict}
+use Rattle.monk_tell.specs.Why.{why_text}
 use Rattle.monk_tell.specs.Words.{event_text, mode_word, next_text, ranks_in, turn_text}
-use Rattle.monk_page.specs.Plain.{is_plain_text}
-use Rattle.monk_page.proofs.PlainTexts.{plain-append, plain-decimal}
+use Rattle.monk_tell.specs.declared.why.Why.{Why}
+use Rattle.monk_page.proofs.PlainTexts.{bare_append, bare_decimal, bare_join, is_bare}
 
--- ---- what texts are put together of
+pub kind_bare : (k : KindName) → is_bare (kind_word k) ≡ true
+kind_bare k = grind arith
 
-pub number_then : (n : ℕ) (s : List ℕ) → is_plain_text s ≡ true → is_plain_text (decimal n ++ s) ≡ true
-number_then n s p = plain-append (decimal n) s (plain-decimal n) p
+pub object_bare : (o : ObjectName) → is_bare (object_word o) ≡ true
+object_bare o = grind arith
 
-joined_plain : (ws : List (List ℕ)) → list_all is_plain_text ws ≡ true → is_plain_text (join_with_byte 32 ws) ≡ true
-joined_plain [] p = refl
-joined_plain (w ∷ []) p = grind arith
-joined_plain (w ∷ v ∷ ws) p = grind (arith, plain-append, joined_plain (v ∷ ws))
+pub mode_bare : (m : Mode) → is_bare (mode_word m) ≡ true
+mode_bare m = grind arith
 
--- ---- names
+pub from_bare : (q : From3) → is_bare (from_word q) ≡ true
+from_bare q = grind arith
 
-pub kind_plain : (k : KindName) → is_plain_text (kind_word k) ≡ true
-kind_plain k = grind arith
+pub next_bare : (n : Next) → is_bare (next_text n) ≡ true
+next_bare n = bare_join (next_words n) (grind (arith, bare_decimal))
 
-pub object_plain : (o : ObjectName) → is_plain_text (object_word o) ≡ true
-object_plain o = grind arith
+pub event_bare : (e : Event) → is_bare (event_text e) ≡ true
+event_bare e = bare_join (event_words e) (grind (arith, bare_decimal, from_bare))
 
-pub mode_plain : (m : Mode) → is_plain_text (mode_word m) ≡ true
-mode_plain m = grind arith
+pub turn_bare : (t : Turn) → is_bare (turn_text t) ≡ true
+turn_bare t = grind (arith, bare_append, bare_decimal, from_bare)
 
-pub from_plain : (q : From3) → is_plain_text (from_word q) ≡ true
-from_plain q = grind arith
+pub verdict_bare : (v : Verdict) → is_bare (verdict_text v) ≡ true
+verdict_bare v = grind (arith, bare_append, bare_decimal)
 
-via_plain : (v : Via) → is_plain_text (via_word v) ≡ true
-via_plain v = grind arith
+pub ranks_bare : (m : Mode) (k : Rules) → is_bare (ranks_in m k) ≡ true
+ranks_bare m k = grind (arith, bare_append, bare_decimal)
 
-reason_plain : (r : Reason) → is_plain_text (word_of r) ≡ true
-reason_plain r = grind arith
-
--- ---- an event, a turn, a verdict, the priorities
-
-next_words_plain : (n : Next) → list_all is_plain_text (next_words n) ≡ true
-next_words_plain n = grind (arith, plain-decimal)
-
-event_words_plain : (e : Event) → list_all is_plain_text (event_words e) ≡ true
-event_words_plain e = grind (arith, plain-decimal, next_words_plain, from_plain, via_plain)
-
-pub next_plain : (n : Next) → is_plain_text (next_text n) ≡ true
-next_plain n = joined_plain (next_words n) (next_words_plain n)
-
-pub event_plain : (e : Event) → is_plain_text (event_text e) ≡ true
-event_plain e = joined_plain (event_words e) (event_words_plain e)
-
-pub turn_plain : (t : Turn) → is_plain_text (turn_text t) ≡ true
-turn_plain t = grind (arith, plain-append, plain-decimal, from_plain)
-
-pub verdict_plain : (v : Verdict) → is_plain_text (verdict_text v) ≡ true
-verdict_plain v = grind (arith, plain-append, plain-decimal, reason_plain)
-
-pub ranks_plain : (m : Mode) (k : Rules) → is_plain_text (ranks_in m k) ≡ true
-ranks_plain m k = grind (arith, plain-append, plain-decimal)
+pub why_bare : (w : Why) → is_bare (why_text w) ≡ true
+why_bare w = grind (arith, bare_append, bare_decimal, kind_bare, from_bare)
 
 -- ---- the state of an object
 
-spaced_plain : (ns : List ℕ) → is_plain_text (spaced ns) ≡ true
-spaced_plain [] = refl
-spaced_plain (n ∷ ns) = search (plain-append, plain-decimal, spaced_plain ns)
+spaced_bare : (ns : List ℕ) → is_bare (spaced ns) ≡ true
+spaced_bare [] = refl
+spaced_bare (n ∷ ns) = search (bare_append, bare_decimal, spaced_bare ns)
 
-items_plain : (ns : List ℕ) → is_plain_text (items_in_words ns) ≡ true
-items_plain [] = refl
-items_plain (n ∷ ns) = spaced_plain (n ∷ ns)
-
-how_many_plain : (n : ℕ) (does do_it : List ℕ) → is_plain_text does ≡ true → is_plain_text do_it ≡ true
-    → is_plain_text (how_many n does do_it) ≡ true
-how_many_plain n does do_it p q = grind (arith, number_then)
-
-chair_plain : (chair : ℕ) → is_plain_text (chair_in_words chair) ≡ true
-chair_plain chair = grind arith
-
-bits_plain : (bits place : ℕ) → is_plain_text (bits_below bits place) ≡ true
+bits_bare : (bits place : ℕ) → is_bare (bits_below bits place) ≡ true
 unfolding bits_below
-bits_plain bits zero = refl
-bits_plain bits (suc place) = grind (arith, plain-append, plain-decimal, bits_plain bits place)
+bits_bare bits zero = refl
+bits_bare bits (suc place) = grind (arith, bare_append, bare_decimal, bits_bare bits place)
 
-pub state_plain : (o : ObjectName) (state : List ℕ) → is_plain_text (state_in_words o state) ≡ true
-state_plain o state =
-    grind (arith, plain-append, number_then, items_plain, how_many_plain, chair_plain, bits_plain)
+pub state_bare : (o : ObjectName) (state : List ℕ) → is_bare (state_in_words o state) ≡ true
+state_bare o state = grind (arith, bare_append, bare_decimal, spaced_bare, bits_bare)
+
+pub ruleset bare_words = (
+  kind_bare,
+  object_bare,
+  mode_bare,
+  from_bare,
+  next_bare,
+  event_bare,
+  turn_bare,
+  verdict_bare,
+  ranks_bare,
+  why_bare,
+  state_bare,
+)

@@ -1,5 +1,5 @@
--- What a writer leaves: the text of the value, from which it can be read
-use Rattle.std.proofs.Common.{◌≡◌, ◌∙◌, ◌<◌, ◌≤◌, ◌^◌, arith, ◌++◌, true, List, ℕ, Some, [], ◌∷◌, ap, refl, sym, append_assoc, append-nil}
+-- What a writer leaves: the text of the value, from which it can be read, and which an article shows
+use Rattle.std.proofs.Common.{◌≡◌, ◌∙◌, ◌<◌, ◌≤◌, ◌^◌, arith, ◌++◌, true, List, ℕ, Some, [], ◌∷◌, map, ap, refl, sym, append_assoc, append-nil}
 use Rattle.json.proofs.Printed.Trees.{value-json_tokens}
 use Rattle.json.specs.Json.{value}
 use Rattle.json.specs.Lex.{tokens}
@@ -11,11 +11,20 @@ use Rattle.json.specs.Written.{Written}
 use Rattle.serde_json.proofs.Numbers.{number_of-decimal}
 use Rattle.serde_json.proofs.Texts.{print-outline}
 use Rattle.serde_json.specs.Data.{Data, null, boolean, number, array, object, string, Items, item, no_items, Members, member, no_members}
-use Rattle.serde_json.specs.Read.{max_depth, read}
+use Rattle.serde_json.specs.Read.{max_depth}
+use Rattle.serde_json.specs.View.{items_of}
 use Rattle.serde_json.specs.Written.{compact_text, outline, items_outline, members_outline}
-use Rattle.monk_page.specs.Json.{number_json}
+use Rattle.monk_page.specs.Html.{IsArticleOf, article}
+use Rattle.monk_page.specs.Json.{list_json, number_json}
 use Rattle.monk_page.specs.Writes.{AddsValue, Reads, with_value, with_items, with_members}
-use Rattle.monk_page.proofs.PlainData.{is_plain, shallow}
+use Rattle.monk_page.proofs.PlainData.{is_plain, value_plain}
+
+-- a list is being written: behind what is, the values of these items are left of all
+pub record WritesList {X : Type 0} (json : X → Data) (left all : List X) (old now : Written) : Type 0 where
+  pub before : now.before ≡ old.before
+  pub tokens : with_items (items_of (map json left)) now.tokens ++ token.end_array ∷ []
+      ≡ with_value (list_json json all) old.tokens
+  pub reads : Reads (list_json json left) → Reads (list_json json all)
 
 -- whoever reads a number of 64 bits finds it
 pub number_reads : (n : ℕ) → n < 2 ^ 64 → Reads (number_json n)
@@ -45,21 +54,19 @@ mutual
       ∙ (ap (λ (us : List Token). us ++ members_tokens (members_outline ms)) (value_tokens d (ts ++ token.key k ∷ []))
       ∙ (append_assoc (ts ++ token.key k ∷ []) _ _ ∙ append_assoc ts _ _))
 
--- the tokens of a value alone
-alone : (d : Data) (old new : Written) → AddsValue d old new → old.tokens ≡ [] → new.tokens ≡ json_tokens (outline d)
-alone d old new adds none = adds.tokens ∙ (ap (with_value d) none ∙ value_tokens d [])
-
-pub text_is : (d : Data) (old new : Written) (bytes : List ℕ) → AddsValue d old new → old.tokens ≡ []
-    → bytes ≡ print new.tokens → bytes ≡ compact_text d
-text_is d old new bytes adds none is = is ∙ (ap print (alone d old new adds none) ∙ print-outline d)
-
-pub reads_back : (n : ℕ) (d : Data) (old new : Written) → AddsValue d old new → old.tokens ≡ []
-    → tokens (print new.tokens) ≡ new.tokens → is_plain n d ≡ true → n ≤ max_depth → read (compact_text d) ≡ Some d
-reads_back n d old new adds none back plain small =
-    let only = alone d old new adds none in
-    let same : tokens (compact_text d) ≡ json_tokens (outline d) =
-    ap tokens (sym (print-outline d) ∙ ap print (sym only)) ∙ (back ∙ only) in
+-- what stands around the text of plain data is an article of them
+pub article_of : (n : ℕ) (d : Data) (old new : Written) (picture json told bytes : List ℕ)
+    → AddsValue d old new → old.tokens ≡ [] → tokens (print new.tokens) ≡ new.tokens → is_plain n d ≡ true
+    → n ≤ max_depth → json ≡ print new.tokens → bytes ≡ article picture json told → IsArticleOf d told bytes
+article_of n d old new picture json told bytes adds none back plain small printed around =
+    let only : new.tokens ≡ json_tokens (outline d) = adds.tokens ∙ (ap (with_value d) none ∙ value_tokens d []) in
+    let compact : print new.tokens ≡ compact_text d = ap print only ∙ print-outline d in
+    let same : tokens (compact_text d) ≡ json_tokens (outline d) = ap tokens (sym compact) ∙ (back ∙ only) in
     let found : value max_depth (tokens (compact_text d)) ≡ Some (outline d, []) =
     ap (value max_depth) (same ∙ sym (append-nil _))
-    ∙ value-json_tokens (outline d) max_depth [] (omega (arith, shallow n d plain, small)) in
-    rw found adds.reads
+    ∙ value-json_tokens (outline d) max_depth [] (omega (arith, (value_plain n d plain).0, small)) in
+    record {
+      picture = picture;
+      is = around ∙ ap (λ (text : List ℕ). article picture text told) (printed ∙ compact);
+      reads_back = rw found adds.reads;
+    }

@@ -1,51 +1,24 @@
 -- The text of a page: one HTML file, with a picture and its data
-use Rattle.std.specs.Prelude.{◌≡◌, ℕ, List, ◌++◌, Option, codes}
+use Rattle.std.specs.Prelude.{◌≡◌, ℕ, List, ◌++◌, Option, Some, codes}
 use Rattle.monk_draw.specs.Window.{last_of, not_shown}
 use Rattle.monk_draw.specs.declared.window.Window.{Window}
 use Rattle.monk_history.specs.Text.{Heading}
 use Rattle.monk_history.specs.declared.event.Event.{Event}
 use Rattle.monk_tell.specs.Told.{account, forbidden_step}
 use Rattle.serde_json.specs.Data.{Data}
+use Rattle.serde_json.specs.Read.{read}
 use Rattle.serde_json.specs.Written.{compact_text}
 use Rattle.monk_page.specs.Page.{page_json}
-use Rattle.monk_page.specs.declared.template.beside.TheConstants.{BESIDE}
-use Rattle.monk_page.specs.declared.template.closing.TheConstants.{CLOSING}
+use Rattle.monk_page.specs.declared.template.article.TheConstants.{BESIDE, CLOSING, MIDDLE, OPENING}
+use Rattle.monk_page.specs.declared.template.ends.TheConstants.{HISTORY, LOG}
 use Rattle.monk_page.specs.declared.template.front.TheConstants.{FRONT}
-use Rattle.monk_page.specs.declared.template.history.TheConstants.{HISTORY}
-use Rattle.monk_page.specs.declared.template.log.TheConstants.{LOG}
-use Rattle.monk_page.specs.declared.template.middle.TheConstants.{MIDDLE}
-use Rattle.monk_page.specs.declared.template.opening.TheConstants.{OPENING}
 use Rattle.monk_page.specs.declared.template.shared.TheConstants.{SHARED}
-
--- what stands before the first history: no proof looks at what it is, and so with the others
-unfoldable pub front : List ℕ
-front = FRONT.now
-
--- what stands before the picture of a history
-unfoldable pub opening : List ℕ
-opening = OPENING.now
-
--- what stands between the picture and the data
-unfoldable pub middle : List ℕ
-middle = MIDDLE.now
-
--- what stands between the data and what is told beside them
-unfoldable pub beside : List ℕ
-beside = BESIDE.now
-
--- what stands behind that
-unfoldable pub closing : List ℕ
-closing = CLOSING.now
-
--- what stands behind the last history, whatever the page is of
-unfoldable pub shared : List ℕ
-shared = SHARED.now
 
 -- what is told beside a history of which nothing is told
 abbrev pub nothing_told : List ℕ
 nothing_told = codes "null"
 
--- the rest of the page of a history
+-- the rest of the page of a history: no proof looks at what it is
 unfoldable pub history_end : List ℕ
 history_end = HISTORY.now
 
@@ -59,19 +32,21 @@ window_json h es w =
     let last = last_of w (forbidden_step (account h es).verdict) es in
     page_json h es (not_shown w last) last
 
--- a picture and data, with what is told beside them
-abbrev pub article : List ℕ → List ℕ → List ℕ → List ℕ
+-- a picture and data, with what is told beside them, between the constant parts
+unfoldable pub article : List ℕ → List ℕ → List ℕ → List ℕ
 article drawn data_text told =
-    opening ++ (drawn ++ (middle ++ (data_text ++ (beside ++ (told ++ closing)))))
+    OPENING.now ++ (drawn ++ (MIDDLE.now ++ (data_text ++ (BESIDE.now ++ (told ++ CLOSING.now)))))
 
 -- articles as a page with that end
-abbrev pub page_of : List ℕ → List ℕ → List ℕ
-page_of articles end = front ++ (articles ++ (shared ++ end))
+unfoldable pub page_of : List ℕ → List ℕ → List ℕ
+page_of articles end = FRONT.now ++ (articles ++ (SHARED.now ++ end))
 
--- these bytes are a history or a run as one of a page: a picture, those data, and what is told beside them
+-- these bytes are a history or a run as one of a page: a picture, those data, which whoever reads their text finds, and
+-- what is told beside them
 pub record IsArticleOf (json : Data) (told bytes : List ℕ) : Type 0 where
   pub picture : List ℕ
   pub is : bytes ≡ article picture (compact_text json) told
+  pub reads_back : read (compact_text json) ≡ Some json
 
 -- these bytes are those events as one of the histories of a page, with what is told beside them
 abbrev pub IsArticle : Heading → List Event → Option Window → List ℕ → List ℕ → Type 0

@@ -20,7 +20,7 @@ verdict_json k v blame =
     (member (codes "why") (option_json (λ b. why_json b.why) blame) no_members)))
 
 -- what an audit finds if the monitor is of that kind
-abbrev pub kind_json : Heading → List Event → KindName → Data
+unfoldable pub kind_json : Heading → List Event → KindName → Data
 kind_json h es k = let a = account (under k h) es in verdict_json k a.verdict a.blame
 
 -- the same for each of the ten

@@ -7,8 +7,8 @@ use Rattle.monk_history.specs.declared.event.From3.TheVariants.{Waiter}
 use Rattle.monk_history.specs.declared.event.Next.TheVariants.{Stay, Entry}
 use Rattle.monk_history.specs.declared.event.Via.TheVariants.{Free}
 use Rattle.monk_draw.specs.Scene.{ShownScene, arrows_below}
-use Rattle.monk_draw.specs.declared.place.SeatPlace.{SeatPlace}
-use Rattle.monk_draw.specs.declared.place.SeatPlace.TheVariants as seat
+use Rattle.monk_tell.specs.declared.place.SeatPlace.{SeatPlace}
+use Rattle.monk_tell.specs.declared.place.SeatPlace.TheVariants as seat
 use Rattle.monk_judge.specs.Followed.{behind_lines, followed, places_below, telling}
 use Rattle.monk_judge.specs.Judged.{after_all}
 use Rattle.monk_judge.specs.Run.{Setting, State}

@@ -2,7 +2,7 @@
 use Rattle.std.specs.Prelude.{◌≡◌, ◌≤◌, ◌^◌, ℕ, List, length, map, codes, nat_le, nat_lt, ◌&&◌, if◌then◌else◌}
 use Rattle.std.specs.Option.{option_map_or}
 use Rattle.monk_kinds.specs.Names.{kind_word, rules_named}
-use Rattle.monk_object.specs.Names.{object_word}
+use Rattle.monk_object.specs.Names.{most, object_word}
 use Rattle.monk_audit.specs.Words.{verdict_text}
 use Rattle.monk_history.specs.Text.{Heading}
 use Rattle.monk_history.specs.declared.event.Event.{Event}
@@ -28,14 +28,18 @@ forbidden_json before last a = option_map_or (shown_blame_json before last) a.bl
 abbrev pub steps_json : Heading → List Event → ℕ → ℕ → Data
 steps_json h es before last = list_json (step_json h.object) (steps_between h es before last)
 
+-- the kind, and how it and each other judge the events
+abbrev pub with_kinds : Heading → List Event → Members → Members
+with_kinds h es ms =
+    member (codes "kind") (string (kind_word h.kind)) (member (codes "kinds") (kinds_json h es)
+    (member (codes "mode") (string (mode_word (rules_named h.kind).mode)) ms))
+
 -- how many events there are, and how many before those that are shown; what is forbidden; and the kind
 abbrev pub with_counts : Heading → List Event → ℕ → ℕ → Members → Members
 with_counts h es before last ms =
     member (codes "before") (number_json before) (member (codes "conditions") (number_json h.conds)
     (member (codes "events") (number_json (length es))
-    (member (codes "forbidden") (forbidden_json before last (account h es))
-    (member (codes "kind") (string (kind_word h.kind)) (member (codes "kinds") (kinds_json h es)
-    (member (codes "mode") (string (mode_word (rules_named h.kind).mode)) ms))))))
+    (member (codes "forbidden") (forbidden_json before last (account h es)) (with_kinds h es ms))))
 
 -- the rest of the header, the version of this data, the steps that are shown, and how all events are judged
 abbrev pub with_judged : Heading → List Event → ℕ → ℕ → Members → Members
@@ -53,6 +57,7 @@ page_json h es before last = object (with_counts h es before last (with_judged h
 -- what is told of these events is so
 pub record IsTold (t : ToldHistory) : Type 0 where
   pub few : length t.events.now ≤ 2 ^ 25
+  pub fits : t.header.now.size ≤ most t.header.now.object
   pub order : t.span.before ≤ t.span.last
   pub last : t.span.last ≤ length t.events.now
   pub telling : telling_of t.telling.now ≡ account t.header.now t.events.now

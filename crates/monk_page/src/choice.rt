@@ -15,8 +15,7 @@ impl InJson for (From3, u8) {
         out.writer.begin_array()?;
         out.writer.string(queue_word(self.0))?;
         self.1.write(out)?;
-        out.writer.end_array()?;
-        Ok(())
+        out.writer.end_array()
     }
 }
 
@@ -36,7 +35,6 @@ impl InJson for Choice {
         out.writer.begin_object()?;
         member(out, "fronts", &self.fronts.0)?;
         member(out, "may", &self.may.0)?;
-        out.writer.end_object()?;
-        Ok(())
+        out.writer.end_object()
     }
 }

@@ -1,14 +1,14 @@
 //! A history's page.
 
-ghost use Rattle.std.specs.Prelude.{◌≡◌, ◌≤◌, ◌<◌, ◌^◌, Some, IfOk, OnOk, IsErrOf, length, string_bytes};
+ghost use Rattle.std.specs.Prelude.{◌≡◌, ◌≤◌, ◌<◌, ◌^◌, IfOk, OnOk, IsErrOf, length, string_bytes};
 ghost use Rattle.monk_object.specs.Names.{most};
-ghost use Rattle.serde_json.specs.Read.{read};
-ghost use Rattle.serde_json.specs.Written.{compact_text};
-ghost use Rattle.monk_page.specs.Html.{IsArticle, IsArticleOf, history_end, page_of, window_json};
+ghost use Rattle.monk_page.specs.Html.{IsArticle, IsArticleOf, history_end, page_of};
 ghost use Rattle.monk_page.specs.Page.{IsTold, told_json};
 
-use crate::page_data::data_text;
-use crate::shell::{article_around, history_end, page_with};
+use crate::in_json::JsonText;
+use crate::page_data::write_page;
+use crate::shell::{article_around, page_with};
+use crate::template::ends::HISTORY;
 use crate::told_history::ToldHistory;
 use monk_audit::{AuditFault, audit};
 use monk_draw::{Span, Window, draw, history_scene, showable};
@@ -17,13 +17,13 @@ use monk_tell::{JudgedHistory, forbidden_step, tell_judged};
 use std::alloc::{AllocError, Global};
 
 /// A history of which that is told, as one of a page.
-fn article_told(alloc: Global, told: ToldHistory, beside: &str) -> Result<String, AuditFault>
+fn article_told(alloc: Global, told: ToldHistory, beside: &str) -> Result<String, AllocError>
     requires { IsTold told }
-    ensures article { IfOk result (λ text. IsArticleOf (told_json told.entry) beside.now (string_bytes text)) }
-    ensures reads_back { OnOk result (read (compact_text (told_json told.entry)) ≡ Some (told_json told.entry)) }
-    ensures object { IsErrOf result AuditFault.Object → most told.entry.header.now.object < told.entry.header.now.size }
+    ensures { IfOk result (λ text. IsArticleOf (told_json told.entry) beside.now (string_bytes text)) }
 {
-    let data = data_text(alloc, told)?;
+    let mut out = JsonText::new(alloc);
+    write_page(&mut out, told)?;
+    let data = out.text()?;
     let shown = &told.events[told.span.before..told.span.last];
     let scene = history_scene(
         alloc,
@@ -33,7 +33,7 @@ fn article_told(alloc: Global, told: ToldHistory, beside: &str) -> Result<String
         shown,
     )?;
     let picture = draw(alloc, told.header, &scene, told.telling.verdict.caption())?;
-    Ok(article_around(alloc, picture.as_str(), data.as_str(), beside)?)
+    article_around(alloc, picture.as_str(), data.as_str(), beside)
 }
 
 /// A history as one of a page: a picture, and the data of each step that is shown, which the page's script reads.
@@ -60,12 +60,7 @@ pub fn article(
     beside: &str,
 ) -> Result<String, AuditFault>
     requires { length events.now ≤ 2 ^ 25 }
-    // It has these data, and a picture.
     ensures article { IfOk result (λ text. IsArticle header.now events.now window beside.now (string_bytes text)) }
-    // Whoever reads the data of that text finds the value of which it is made.
-    ensures reads_back { OnOk result
-        (read (compact_text (window_json header.now events.now window))
-        ≡ Some (window_json header.now events.now window)) }
     ensures fits { OnOk result (header.now.size ≤ most header.now.object) }
     ensures object { IsErrOf result AuditFault.Object → most header.now.object < header.now.size }
     ensures too_big { most header.now.object < header.now.size → IsErrOf result AuditFault.Object }
@@ -85,7 +80,7 @@ pub fn article(
         span,
         steps: &steps,
     };
-    article_told(alloc, told, beside)
+    Ok(article_told(alloc, told, beside)?)
 }
 
 /// The page of these histories, as one HTML text: each is what [`article`] makes, and they stand one after the other.
@@ -97,8 +92,9 @@ pub fn article(
 /// # Cost
 ///
 /// Memory for the page.
+#[tactic(auto, unfolding(crate::specs::Html::history_end))]
 pub fn page_of(alloc: Global, articles: &str) -> Result<String, AllocError>
     ensures { IfOk result (λ page. string_bytes page ≡ page_of articles.now history_end) }
 {
-    page_with(alloc, articles, history_end())
+    page_with(alloc, articles, HISTORY)
 }

@@ -1,7 +1,6 @@
 //! The same events under each kind.
 
-ghost use Rattle.std.specs.Prelude.{◌<◌, IsErrOf, OnOk, codes, option_map};
-ghost use Rattle.monk_object.specs.Names.{most};
+ghost use Rattle.std.specs.Prelude.{OnOk, codes, option_map};
 ghost use Rattle.monk_tell.specs.Told.{blame_of};
 ghost use Rattle.monk_page.specs.Blame.{why_json};
 ghost use Rattle.monk_page.specs.Json.{list_json, option_json};
@@ -51,16 +50,20 @@ fn write_verdict(
 
 /// Writes what an audit of the events finds if the monitor is of another kind. Only where that forbids an event are
 /// those before it replayed.
-fn write_other(out: &mut JsonText, told: ToldHistory, kind: KindName) -> Result<(), AuditFault>
+#[tactic(auto, unfolding(crate::specs::Kinds::kind_json))]
+fn write_other(out: &mut JsonText, told: ToldHistory, kind: KindName) -> Result<(), AllocError>
     requires { IsTold told }
-    ensures json { OnOk result
+    ensures { OnOk result
         (AddsValue (kind_json told.entry.header.now told.entry.events.now kind) out.old.writer out.new.writer) }
-    ensures object { IsErrOf result AuditFault.Object → most told.entry.header.now.object < told.entry.header.now.size }
 {
     let header = under(told.header, kind);
-    let verdict = audit(out.alloc, &header, told.events)?;
+    let verdict = match audit(out.alloc, &header, told.events) {
+        Ok(verdict) => verdict,
+        Err(AuditFault::Memory) => return Err(AllocError),
+        Err(AuditFault::Object) => unreachable!(),
+    };
     if let Verdict::Legal(_) = verdict {
-        return Ok(write_verdict(out, kind, verdict, &None)?);
+        return write_verdict(out, kind, verdict, &None);
     }
     let history = JudgedHistory {
         header: &header,
@@ -68,22 +71,23 @@ fn write_other(out: &mut JsonText, told: ToldHistory, kind: KindName) -> Result<
         verdict,
     };
     // (no step is behind one event and up to none)
-    let (telling, _) = tell_judged(out.alloc, history, 1, 0)?;
-    Ok(write_verdict(out, kind, verdict, &telling.blame)?)
+    match tell_judged(out.alloc, history, 1, 0) {
+        Ok((telling, _)) => write_verdict(out, kind, verdict, &telling.blame),
+        Err(AuditFault::Memory) => Err(AllocError),
+        Err(AuditFault::Object) => unreachable!(),
+    }
 }
 
 /// Writes what an audit of the events finds if the monitor is of that kind.
-fn write_kind(out: &mut JsonText, told: ToldHistory, kind: KindName) -> Result<(), AuditFault>
+fn write_kind(out: &mut JsonText, told: ToldHistory, kind: KindName) -> Result<(), AllocError>
     requires { IsTold told }
-    ensures json { OnOk result
+    ensures { OnOk result
         (AddsValue (kind_json told.entry.header.now told.entry.events.now kind) out.old.writer out.new.writer) }
-    ensures object { IsErrOf result AuditFault.Object → most told.entry.header.now.object < told.entry.header.now.size }
 {
     if kind != told.header.kind() {
         return write_other(out, told, kind);
     }
-    let telling = told.telling;
-    Ok(write_verdict(out, kind, telling.verdict, &telling.blame)?)
+    write_verdict(out, kind, told.telling.verdict, &told.telling.blame)
 }
 
 /// Writes the values of these kinds.
@@ -91,17 +95,15 @@ pub(crate) fn write_kinds(
     out: &mut JsonText,
     told: ToldHistory,
     kinds: &[KindName],
-) -> Result<(), AuditFault>
+) -> Result<(), AllocError>
     requires { IsTold told }
-    ensures json { OnOk result
+    ensures { OnOk result
         (AddsValue (list_json (kind_json told.entry.header.now told.entry.events.now) kinds.now)
         out.old.writer out.new.writer) }
-    ensures object { IsErrOf result AuditFault.Object → most told.entry.header.now.object < told.entry.header.now.size }
 {
     out.writer.begin_array()?;
     for kind in kinds {
         write_kind(out, told, *kind)?;
     }
-    out.writer.end_array()?;
-    Ok(())
+    out.writer.end_array()
 }

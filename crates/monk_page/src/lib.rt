@@ -3,7 +3,6 @@
 
 mod blame;
 mod choice;
-mod event;
 mod html;
 mod in_json;
 mod kinds;
@@ -13,8 +12,8 @@ mod log;
 mod log_data;
 mod log_scene;
 mod page_data;
-mod queues;
 mod shell;
+mod shown_run;
 mod step;
 mod template;
 mod told;
@@ -24,4 +23,5 @@ pub use html::{article, page_of};
 pub use log::log_page;
 pub use log_scene::run_scene;
 pub use shell::NOTHING_TOLD;
+pub use shown_run::ShownRun;
 pub use told::{ToldFault, ToldNames, ToldWrong, check_told, told_names};

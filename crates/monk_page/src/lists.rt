@@ -5,19 +5,11 @@ ghost use Rattle.monk_page.specs.Json.{list_json, numbers_json};
 ghost use Rattle.monk_page.specs.Step.{wait_json};
 
 use crate::in_json::{InJson, JsonText};
-use monk_tell::{Conditions, NumberList, SeatList};
+use monk_tell::{Conditions, SeatList, Waits};
 use std::alloc::AllocError;
 
 impl InJson for SeatList {
     ghost json = { λ s. numbers_json s.0.items };
-
-    fn write(&self, out: &mut JsonText) -> Result<(), AllocError> {
-        self.0.write(out)
-    }
-}
-
-impl InJson for NumberList {
-    ghost json = { λ n. numbers_json n.0.items };
 
     fn write(&self, out: &mut JsonText) -> Result<(), AllocError> {
         self.0.write(out)
@@ -33,6 +25,14 @@ impl InJson for Conditions {
     }
 }
 
+impl InJson for Waits {
+    ghost json = { λ w. list_json wait_json w.0.items };
+
+    fn write(&self, out: &mut JsonText) -> Result<(), AllocError> {
+        self.0.write(out)
+    }
+}
+
 /// A seat, and the predicate until which it waits.
 impl InJson for (u8, u8) {
     ghost json = { wait_json };
@@ -41,7 +41,6 @@ impl InJson for (u8, u8) {
         out.writer.begin_array()?;
         self.0.write(out)?;
         self.1.write(out)?;
-        out.writer.end_array()?;
-        Ok(())
+        out.writer.end_array()
     }
 }

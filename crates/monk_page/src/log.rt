@@ -8,8 +8,9 @@ ghost use Rattle.monk_page.specs.Writes.{AddsMembers, AddsValue};
 
 use crate::in_json::{JsonText, member};
 use crate::log_data::{write_misfit, write_run};
-use crate::shell::{NOTHING_TOLD, article_around, log_end, page_with};
-use monk_draw::Span;
+use crate::shell::{NOTHING_TOLD, article_around, page_with};
+use crate::shown_run::ShownRun;
+use crate::template::ends::LOG;
 use monk_judge::{Judge, Run};
 use monk_logs::{LogHeader, LogLine};
 use monk_object::Listed;
@@ -35,25 +36,23 @@ fn write_header(
     Ok(())
 }
 
-/// Writes the data of a page.
 fn write_log<T: Listed>(
     out: &mut JsonText,
     header: &LogHeader,
     object: T,
-    run: &Run,
-    lines: &[LogLine],
-    span: Span,
+    shown: ShownRun<'_>,
 ) -> Result<(), AllocError>
     requires { IsRun (setting header.now.seats header.now.conds T.meaning) (opening (T.state object))
-        run.now.steps.items }
+        shown.run.now.steps.items }
     ensures { OnOk result (AddsValue
-        (log_json header.now T.meaning (T.state object) run.now lines.now span.before span.last)
+        (log_json header.now T.meaning (T.state object) shown.entry.run.now shown.entry.lines.now
+        shown.entry.span.before shown.entry.span.last)
         out.old.writer out.new.writer) }
 {
     let mut judge = Judge::opening(out.alloc, header.seats(), header.conds(), object)?;
     out.writer.begin_object()?;
-    write_header(out, header, run, lines, span.before)?;
-    write_run(out, &mut judge, &run.steps, span)?;
+    write_header(out, header, shown.run, shown.lines, shown.span.before)?;
+    write_run(out, &mut judge, &shown.run.steps, shown.span)?;
     out.writer.end_object()?;
     Ok(())
 }
@@ -61,7 +60,7 @@ fn write_log<T: Listed>(
 /// The page of a log, as one HTML text: the picture of a run that tells it, and that run step by step, which its script
 /// reads. The data stand there unbroken ([`logs_are_unbroken`](crate::laws::logs_are_unbroken)).
 ///
-/// `object` is the one that the lock guards, as it is at first. `span` says which lines are shown.
+/// `object` is the one that the lock guards, as it is at first.
 ///
 /// # Errors
 ///
@@ -76,18 +75,16 @@ pub fn log_page<T: Listed>(
     picture: &str,
     header: &LogHeader,
     object: T,
-    run: &Run,
-    lines: &[LogLine],
-    span: Span,
+    shown: ShownRun<'_>,
 ) -> Result<String, AllocError>
     requires { IsRun (setting header.now.seats header.now.conds T.meaning) (opening (T.state object))
-        run.now.steps.items }
-    ensures { IfOk result (λ page. IsLogPage header.now T.meaning (T.state object) run.now lines.now
-        span.before span.last (string_bytes page)) }
+        shown.run.now.steps.items }
+    ensures { IfOk result (λ page. IsLogPage header.now T.meaning (T.state object) shown.entry.run.now
+        shown.entry.lines.now shown.entry.span.before shown.entry.span.last (string_bytes page)) }
 {
     let mut out = JsonText::new(alloc);
-    write_log(&mut out, header, object, run, lines, span)?;
+    write_log(&mut out, header, object, shown)?;
     let data = out.text()?;
     let article = article_around(alloc, picture, data.as_str(), NOTHING_TOLD)?;
-    page_with(alloc, article.as_str(), log_end())
+    page_with(alloc, article.as_str(), LOG)
 }

@@ -1,8 +1,9 @@
 //! The data of a log's page.
 
-ghost use Rattle.std.specs.Prelude.{OnOk, codes, length};
+ghost use Rattle.std.specs.Prelude.{◌≡◌, ◌-◌, OnOk, codes, length};
 ghost use Rattle.serde_json.specs.Data.{no_members};
-ghost use Rattle.monk_judge.specs.Followed.{followed};
+ghost use Rattle.monk_judge.specs.Followed.{behind_lines, followed, telling};
+ghost use Rattle.monk_judge.specs.Judged.{after_all};
 ghost use Rattle.monk_judge.specs.Run.{IsRun};
 ghost use Rattle.monk_judge.specs.Shown.{setting_of, state_of};
 ghost use Rattle.monk_page.specs.Json.{list_json};
@@ -35,19 +36,16 @@ fn write_members<T: Listed>(out: &mut JsonText, judge: &Judge<T>) -> Result<(), 
     out.writer.key("places")?;
     write_list(out, judge.places())?;
     let data = data_numbers(out.alloc, judge.object())?;
-    member(out, "state", &data)?;
-    Ok(())
+    member(out, "state", &data)
 }
 
-/// Writes the same as a value.
 fn write_state<T: Listed>(out: &mut JsonText, judge: &Judge<T>) -> Result<(), AllocError>
     ensures { OnOk result
         (AddsValue (state_json (length judge.now.places) (state_of judge.now)) out.old.writer out.new.writer) }
 {
     out.writer.begin_object()?;
     write_members(out, judge)?;
-    out.writer.end_object()?;
-    Ok(())
+    out.writer.end_object()
 }
 
 /// Writes a step, with the state behind it, in which the judge is.
@@ -59,8 +57,7 @@ fn write_told<T: Listed>(out: &mut JsonText, judge: &Judge<T>, step: Step) -> Re
     write_members(out, judge)?;
     let text = format!(in out.alloc; "{step}")?;
     member(out, "told", &text.as_str())?;
-    out.writer.end_object()?;
-    Ok(())
+    out.writer.end_object()
 }
 
 /// Writes the steps, each with the state behind it.
@@ -78,8 +75,22 @@ fn write_steps<T: Listed>(
         judge.follow(*step);
         write_told(out, judge, *step)?;
     }
-    out.writer.end_array()?;
-    Ok(())
+    out.writer.end_array()
+}
+
+/// Leads the judge to where the span begins. The steps that tell the lines of the span are left.
+pub(crate) fn lead<'a, T: Listed>(judge: &mut Judge<T>, steps: &'a [Step], span: Span) -> &'a [Step]
+    requires { IsRun (setting_of judge.old T.meaning) (state_of judge.old) steps.now }
+    ensures setting { setting_of judge.new T.meaning ≡ setting_of judge.old T.meaning }
+    ensures state { state_of judge.new
+        ≡ after_all (setting_of judge.old T.meaning) (state_of judge.old) (telling span.before steps.now) }
+    ensures shown { result.now ≡ telling (span.last - span.before) (behind_lines span.before steps.now) }
+    ensures run { IsRun (setting_of judge.new T.meaning) (state_of judge.new) result.now }
+{
+    let (early, rest) = cut(steps, span.before);
+    let (shown, _behind) = cut(rest, span.last.saturating_sub(span.before));
+    judge.follow_all(early);
+    shown
 }
 
 /// Writes the steps that tell the lines of the span, and the state before them.
@@ -93,14 +104,11 @@ pub(crate) fn write_run<T: Listed>(
     ensures { OnOk result (AddsMembers (with_run (setting_of judge.old T.meaning) (state_of judge.old) steps.now
         span.before span.last no_members) out.old.writer out.new.writer) }
 {
-    let (early, rest) = cut(steps, span.before);
-    let (shown, _behind) = cut(rest, span.last.saturating_sub(span.before));
-    judge.follow_all(early);
+    let shown = lead(judge, steps, span);
     out.writer.key("start")?;
     write_state(out, judge)?;
     out.writer.key("steps")?;
-    write_steps(out, judge, shown)?;
-    Ok(())
+    write_steps(out, judge, shown)
 }
 
 /// Writes the line that misfits, and why.
@@ -113,8 +121,7 @@ fn write_wrong(out: &mut JsonText, misfit: Misfit, line: LogLine) -> Result<(), 
     member(out, "told", &text.as_str())?;
     member(out, "why", &misfit.why.sentence())?;
     member(out, "word", &misfit.why.text())?;
-    out.writer.end_object()?;
-    Ok(())
+    out.writer.end_object()
 }
 
 /// Writes the misfit; null, if there is none.

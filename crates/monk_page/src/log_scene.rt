@@ -6,11 +6,13 @@ ghost use Rattle.monk_judge.specs.Run.{IsRun, opening, setting};
 ghost use Rattle.monk_judge.specs.Shown.{setting_of, state_of};
 ghost use Rattle.monk_page.specs.LogScene as scene;
 
-use monk_draw::{Scene, SeatPlace, Span};
+use crate::log_data::lead;
+use monk_draw::{Scene, Span};
 use monk_history::{Event, From3, Next, Via};
-use monk_judge::{Judge, Place, Step, cut};
+use monk_judge::{Judge, Place, Step};
 use monk_logs::{LogHeader, LogLine};
 use monk_object::Listed;
+use monk_tell::SeatPlace;
 use std::alloc::{AllocError, Global};
 
 /// A line of a log as an event of a history, by which it is drawn: one that lets the lock go as if the entry queue went
@@ -34,11 +36,7 @@ fn line_event(line: LogLine) -> Event
 fn line_events(alloc: Global, lines: &[LogLine]) -> Result<Vec<Event>, AllocError>
     ensures { IfOk result (λ events. events.items ≡ map scene.line_event lines.now) }
 {
-    let mut events = Vec::with_capacity(alloc, lines.len())?;
-    for line in lines {
-        events.push(line_event(*line))?;
-    }
-    Ok(events)
+    lines.iter().map(|line| line_event(*line)).collect(alloc)
 }
 
 fn seat_place(place: Place) -> SeatPlace
@@ -52,16 +50,14 @@ fn seat_place(place: Place) -> SeatPlace
     }
 }
 
-/// Where the threads are.
 fn row<T: Listed>(alloc: Global, judge: &Judge<T>) -> Result<Vec<SeatPlace>, AllocError>
     ensures { IfOk result (λ v. v.items ≡ scene.row (length judge.now.places) (state_of judge.now)) }
 {
-    let places = judge.places();
-    let mut row = Vec::with_capacity(alloc, places.len())?;
-    for place in places {
-        row.push(seat_place(*place))?;
-    }
-    Ok(row)
+    judge
+        .places()
+        .iter()
+        .map(|place| seat_place(*place))
+        .collect(alloc)
 }
 
 /// Puts where the threads are behind the step, if it tells a line.
@@ -100,28 +96,6 @@ fn rows<T: Listed>(
     Ok(rows)
 }
 
-/// The scene of a run from where the judge is.
-fn scene_from<T: Listed>(
-    alloc: Global,
-    judge: &mut Judge<T>,
-    steps: &[Step],
-    lines: &[LogLine],
-    span: Span,
-) -> Result<Scene, AllocError>
-    requires run { IsRun (setting_of judge.old T.meaning) (state_of judge.old) steps.now }
-    requires order { span.before ≤ span.last }
-    requires last { span.last ≤ length lines.now }
-    ensures { IfOk result (λ s. scene_of s ≡ scene.run_scene (setting_of judge.old T.meaning) (state_of judge.old)
-        steps.now lines.now span.before span.last) }
-{
-    let (early, rest) = cut(steps, span.before);
-    let (shown, _behind) = cut(rest, span.last.saturating_sub(span.before));
-    judge.follow_all(early);
-    let rows = rows(alloc, judge, shown)?;
-    let events = line_events(alloc, &lines[span.before..span.last])?;
-    Scene::new(alloc, span.before, rows, &events)
-}
-
 /// The scene of a run; `lines` are those that are drawn, up to the one that misfits.
 ///
 /// `object` is the one that the lock guards, as it is at first. `span` says which lines are shown.
@@ -148,5 +122,8 @@ pub fn run_scene<T: Listed>(
         (opening (T.state object)) steps.now lines.now span.before span.last) }
 {
     let mut judge = Judge::opening(alloc, header.seats(), header.conds(), object)?;
-    scene_from(alloc, &mut judge, steps, lines, span)
+    let shown = lead(&mut judge, steps, span);
+    let rows = rows(alloc, &mut judge, shown)?;
+    let events = line_events(alloc, &lines[span.before..span.last])?;
+    Scene::new(alloc, span.before, rows, &events)
 }

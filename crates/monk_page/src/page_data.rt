@@ -1,14 +1,11 @@
 //! The data of a page.
 
-ghost use Rattle.std.specs.Prelude.{◌≡◌, ◌<◌, Some, IfOk, IsErrOf, OnOk, codes, string_bytes};
-ghost use Rattle.monk_object.specs.Names.{most};
+ghost use Rattle.std.specs.Prelude.{OnOk, codes, map};
 ghost use Rattle.monk_tell.specs.Steps.{step_of};
 ghost use Rattle.monk_tell.specs.Told.{telling_of};
 ghost use Rattle.serde_json.specs.Data.{no_members};
-ghost use Rattle.serde_json.specs.Read.{read};
-ghost use Rattle.serde_json.specs.Written.{compact_text};
 ghost use Rattle.monk_page.specs.Json.{list_json};
-ghost use Rattle.monk_page.specs.Page.{IsTold, forbidden_json, steps_json, told_json, with_counts, with_judged};
+ghost use Rattle.monk_page.specs.Page.{IsTold, forbidden_json, steps_json, told_json, with_counts, with_judged, with_kinds};
 ghost use Rattle.monk_page.specs.Step.{step_json};
 ghost use Rattle.monk_page.specs.Writes.{AddsMember, AddsMembers, AddsValue};
 
@@ -16,19 +13,19 @@ use crate::in_json::{InJson, JsonText, member};
 use crate::kinds::write_kinds;
 use crate::step::write_step;
 use crate::told_history::ToldHistory;
-use monk_audit::{AuditFault, rules_by_name};
+use monk_audit::rules_by_name;
 use monk_draw::Span;
 use monk_kinds::KindName;
 use monk_object::ObjectName;
 use monk_tell::{Ranks, Step, Telling, mode_word};
-use std::alloc::{AllocError, Global};
+use std::alloc::AllocError;
 
 /// The version of this data.
 const FORM: u8 = 1;
 
 /// Writes the steps of a monitor over the object.
 fn write_list(out: &mut JsonText, object: ObjectName, steps: &[Step]) -> Result<(), AllocError>
-    ensures { OnOk result (AddsValue (list_json (λ s. step_json object (step_of s)) steps.now)
+    ensures { OnOk result (AddsValue (list_json (step_json object) (map step_of steps.now))
         out.old.writer out.new.writer) }
 {
     out.writer.begin_array()?;
@@ -61,23 +58,33 @@ fn write_forbidden(out: &mut JsonText, telling: &Telling, span: Span) -> Result<
     }
 }
 
-/// Writes how many events there are, which is forbidden, and the kind.
-fn write_counts(out: &mut JsonText, told: ToldHistory) -> Result<(), AuditFault>
+/// Writes the kind, and how each kind judges the events.
+fn write_own_kind(out: &mut JsonText, told: ToldHistory) -> Result<(), AllocError>
     requires { IsTold told }
-    ensures members { OnOk result (AddsMembers (with_counts told.entry.header.now told.entry.events.now
+    ensures { OnOk result (AddsMembers (with_kinds told.entry.header.now told.entry.events.now no_members)
+        out.old.writer out.new.writer) }
+{
+    let kind = told.header.kind();
+    member(out, "kind", &kind.as_str())?;
+    out.writer.key("kinds")?;
+    write_kinds(out, told, &KindName::ALL)?;
+    let rules = rules_by_name(kind);
+    member(out, "mode", &mode_word(rules.mode))?;
+    Ok(())
+}
+
+/// Writes how many events there are, which is forbidden, and the kind.
+fn write_counts(out: &mut JsonText, told: ToldHistory) -> Result<(), AllocError>
+    requires { IsTold told }
+    ensures { OnOk result (AddsMembers (with_counts told.entry.header.now told.entry.events.now
         told.entry.span.before told.entry.span.last no_members) out.old.writer out.new.writer) }
-    ensures object { IsErrOf result AuditFault.Object → most told.entry.header.now.object < told.entry.header.now.size }
 {
     let header = told.header;
     member(out, "before", &(told.span.before as u64))?;
     member(out, "conditions", &header.conds())?;
     member(out, "events", &(told.events.len() as u64))?;
     write_forbidden(out, told.telling, told.span)?;
-    member(out, "kind", &header.kind().as_str())?;
-    out.writer.key("kinds")?;
-    write_kinds(out, told, &KindName::ALL)?;
-    let rules = rules_by_name(header.kind());
-    member(out, "mode", &mode_word(rules.mode))?;
+    write_own_kind(out, told)?;
     Ok(())
 }
 
@@ -103,27 +110,13 @@ fn write_judged(out: &mut JsonText, told: ToldHistory) -> Result<(), AllocError>
 }
 
 /// Writes the data of a page: the events behind so many up to the last that is shown, and how all are judged.
-fn write_page(out: &mut JsonText, told: ToldHistory) -> Result<(), AuditFault>
+pub(crate) fn write_page(out: &mut JsonText, told: ToldHistory) -> Result<(), AllocError>
     requires { IsTold told }
-    ensures json { OnOk result (AddsValue (told_json told.entry) out.old.writer out.new.writer) }
-    ensures object { IsErrOf result AuditFault.Object → most told.entry.header.now.object < told.entry.header.now.size }
+    ensures { OnOk result (AddsValue (told_json told.entry) out.old.writer out.new.writer) }
 {
     out.writer.begin_object()?;
     write_counts(out, told)?;
     write_judged(out, told)?;
     out.writer.end_object()?;
     Ok(())
-}
-
-/// The same as a text, from which it can be read.
-#[tactic(auto, using(crate::proofs::WriteLaws::text_is, crate::proofs::PageLaws::data_reads_back))]
-pub(crate) fn data_text(alloc: Global, told: ToldHistory) -> Result<String, AuditFault>
-    requires { IsTold told }
-    ensures text { IfOk result (λ s. string_bytes s ≡ compact_text (told_json told.entry)) }
-    ensures reads_back { OnOk result (read (compact_text (told_json told.entry)) ≡ Some (told_json told.entry)) }
-    ensures object { IsErrOf result AuditFault.Object → most told.entry.header.now.object < told.entry.header.now.size }
-{
-    let mut out = JsonText::new(alloc);
-    write_page(&mut out, told)?;
-    Ok(out.text()?)
 }

@@ -4,23 +4,33 @@ ghost use Rattle.std.specs.Prelude.{OnOk};
 ghost use Rattle.serde_json.specs.Data.{no_members};
 ghost use Rattle.monk_tell.specs.Steps.{step_of};
 ghost use Rattle.monk_tell.specs.Told.{standing_of};
-ghost use Rattle.monk_page.specs.Step.{step_json, with_event, with_queues};
+ghost use Rattle.monk_page.specs.Step.{event_json, step_json, with_event, with_queues};
 ghost use Rattle.monk_page.specs.Writes.{AddsMembers, AddsValue};
 
-use crate::in_json::{JsonText, member};
-use crate::queues::{conditions, ready, signallers, untils, waiters};
+use crate::in_json::{InJson, JsonText, member};
+use monk_history::Event;
 use monk_object::{InWords, ObjectName};
-use monk_tell::{SaidTurn, Standing, Step};
+use monk_tell::{SaidEvent, SaidTurn, Standing, Step};
 use std::alloc::AllocError;
 
+impl InJson for Event {
+    ghost json = { event_json };
+
+    fn write(&self, out: &mut JsonText) -> Result<(), AllocError> {
+        let said = format!(in out.alloc; "{}", SaidEvent(*self))?;
+        out.writer.string(said.as_str())
+    }
+}
+
 /// Writes the event, and of the monitor that stands over the object the members up to who is inside.
+#[tactic(auto, using(crate::proofs::PageLaws::option_told))]
 fn write_event(out: &mut JsonText, object: ObjectName, step: &Step) -> Result<(), AllocError>
     ensures { OnOk result (AddsMembers (with_event object (step_of step.now) no_members)
         out.old.writer out.new.writer) }
 {
     let standing = &step.standing;
     member(out, "choice", &step.choice)?;
-    conditions(out, &standing.queues)?;
+    member(out, "conditions", &standing.queues.conditions)?;
     let words = InWords {
         object,
         state: &standing.data.0,
@@ -28,23 +38,22 @@ fn write_event(out: &mut JsonText, object: ObjectName, step: &Step) -> Result<()
     let data = format!(in out.alloc; "{words}")?;
     member(out, "data", &data.as_str())?;
     member(out, "event", &step.event)?;
-    member(out, "inside", &standing.inside)?;
-    Ok(())
+    member(out, "inside", &standing.inside)
 }
 
-/// Writes the members behind those.
+#[tactic(auto, using(crate::proofs::PageLaws::option_told))]
 fn write_queues(out: &mut JsonText, standing: &Standing) -> Result<(), AllocError>
     ensures { OnOk result (AddsMembers (with_queues (standing_of standing.now) no_members)
         out.old.writer out.new.writer) }
 {
     let queues = &standing.queues;
-    ready(out, queues)?;
-    signallers(out, queues)?;
-    member(out, "state", &standing.data)?;
+    member(out, "ready", &queues.ready)?;
+    member(out, "signaller", &queues.signallers)?;
+    member(out, "state", &standing.data.0)?;
     let turn = format!(in out.alloc; "{}", SaidTurn(standing.turn))?;
     member(out, "turn", &turn.as_str())?;
-    untils(out, queues)?;
-    waiters(out, queues)?;
+    member(out, "until", &queues.untils)?;
+    member(out, "waiter", &queues.waiters)?;
     Ok(())
 }
 

@@ -8,7 +8,7 @@ ghost use Rattle.serde_json.specs.Find.{as_array, get};
 ghost use Rattle.monk_page.specs.Told.{AreNames, names_in};
 
 use serde_json::Value;
-use std::alloc::{AllocError, AllocFailed, Global};
+use std::alloc::{AllocError, Global};
 
 /// How long the name of a seat or of a condition may be.
 const LONGEST_NAME: u8 = 16;
@@ -24,12 +24,6 @@ pub enum ToldFault {
 
 impl From<AllocError> for ToldFault {
     fn from(_refused: AllocError) -> ToldFault {
-        ToldFault::Memory
-    }
-}
-
-impl<T: Drop> From<AllocFailed<T>> for ToldFault {
-    fn from(_refused: AllocFailed<T>) -> ToldFault {
         ToldFault::Memory
     }
 }
@@ -118,10 +112,6 @@ enum At {
     Behind,
 }
 
-fn is_blank(byte: u8) -> bool {
-    matches!(byte, b' ' | b'\t' | b'\n' | b'\r')
-}
-
 fn is_of_name(byte: u8) -> bool {
     byte.is_ascii_alphanumeric() || matches!(byte, b' ' | b'_' | b'-')
 }
@@ -139,46 +129,29 @@ fn in_text(member: Member, length: u8, byte: u8) -> Result<At, ToldWrong> {
     }
 }
 
-/// Before a value, behind the byte.
-fn before_value(member: Member, byte: u8) -> Result<At, ToldWrong> {
-    match (member, byte) {
-        (_, b':') => Ok(At::Value(member)),
-        (Member::End, b'"') => Ok(At::Text(member, 0)),
-        (Member::End, _) => Err(ToldWrong::Text),
-        (_, b'[') => Ok(At::List(member)),
-        _ => Err(ToldWrong::List),
-    }
-}
-
-/// In an object or a list, behind the byte, of which JSON allows few there.
-fn in_brackets(at: At, byte: u8) -> Result<At, ToldWrong> {
-    match (at, byte) {
-        (At::Start, b'{') => Ok(At::Members),
-        (At::Start, _) => Err(ToldWrong::Object),
-        (At::Members, b'"') => Ok(At::Key),
-        (At::Members, b'}') => Ok(At::Behind),
-        (At::List(member), b'"') => Ok(At::Text(member, 0)),
-        (At::List(_), b']') => Ok(At::Members),
-        (At::List(_), b',') => Ok(at),
-        (At::List(_), _) => Err(ToldWrong::Text),
-        _ => Ok(at),
-    }
-}
-
-/// Behind the byte, which ends the name of a member if that is the key.
+/// Behind the byte, which ends the name of a member if that is the key. JSON allows few others in most places.
 fn behind(at: At, byte: u8, key: Option<&[u8]>) -> Result<At, ToldWrong> {
-    match at {
-        _ if byte == b'<' => Err(ToldWrong::Less),
-        At::Text(member, length) => in_text(member, length, byte),
-        At::Escape(member) => Ok(At::Text(member, 0)),
-        At::Key if byte == b'"' => match member_of(key) {
+    match (at, byte) {
+        (_, b'<') => Err(ToldWrong::Less),
+        (At::Text(member, length), _) => in_text(member, length, byte),
+        (At::Escape(member), _) => Ok(At::Text(member, 0)),
+        (At::Key, b'"') => match member_of(key) {
             Some(member) => Ok(At::Value(member)),
             None => Err(ToldWrong::Member),
         },
-        At::Key => Ok(at),
-        _ if is_blank(byte) => Ok(at),
-        At::Value(member) => before_value(member, byte),
-        _ => in_brackets(at, byte),
+        (At::Key, _) | (_, b' ' | b'\t' | b'\n' | b'\r') => Ok(at),
+        (At::Value(_), b':') | (At::List(_), b',') => Ok(at),
+        (At::Start, b'{') | (At::List(_), b']') => Ok(At::Members),
+        (At::Members, b'"') => Ok(At::Key),
+        (At::Members, b'}') => Ok(At::Behind),
+        (At::Value(Member::End), b'"') => Ok(At::Text(Member::End, 0)),
+        (At::Value(Member::End), _) => Err(ToldWrong::Text),
+        (At::Value(member), b'[') => Ok(At::List(member)),
+        (At::Value(_), _) => Err(ToldWrong::List),
+        (At::List(member), b'"') => Ok(At::Text(member, 0)),
+        (At::List(_), _) => Err(ToldWrong::Text),
+        (At::Start, _) => Err(ToldWrong::Object),
+        _ => Ok(at),
     }
 }
 

@@ -9,7 +9,7 @@ ghost use Rattle.monk_samples.specs.Visits.{HasVisited};
 use crate::end::End;
 use crate::style::Style;
 use crate::styles::waking::wake_all_and_leave;
-use crate::visit::{act_and_finish, act_now, act_when};
+use crate::visit::{Visit, act_and_finish, act_now, act_when};
 use monk_hall::{Hall, Pass};
 use monk_kinds::{NonBlocking, Pick};
 use monk_object::{Book, Guarded, Op};
@@ -55,7 +55,13 @@ pub(crate) fn begin_read<K: Style, T: Guarded, R: Wait>(
         code: Book::START_READ,
         arg: 0,
     };
-    act_and_finish(pass, rt, hall, CAN_READ, Book::CAN_READ, start, CAN_READ)
+    let visit = Visit {
+        cond: CAN_READ,
+        pred: Book::CAN_READ,
+        op: start,
+        next: CAN_READ,
+    };
+    act_and_finish(pass, rt, hall, visit)
 }
 
 /// Ends its read. The last reader lets a writer go on if one waits, others let a reader go on.

@@ -14,7 +14,7 @@ use crate::haste::act_and_finish_in_haste;
 use crate::manner::Manner;
 use crate::style::Style;
 use crate::styles::passing::signal_wait_and_leave;
-use crate::visit::{act_and_finish, act_when};
+use crate::visit::{Visit, act_and_finish, act_when};
 use monk_hall::{Hall, Pass};
 use monk_kinds::ImmediateReturn;
 use monk_object::{Buffer, Guarded, Op};
@@ -56,7 +56,13 @@ pub(crate) fn put_into<K: Style, T: Guarded, R: Wait>(
         code: Buffer::PUT,
         arg: item,
     };
-    act_and_finish(pass, rt, hall, NOT_FULL, Buffer::HAS_ROOM, put, NOT_EMPTY)
+    let put = Visit {
+        cond: NOT_FULL,
+        pred: Buffer::HAS_ROOM,
+        op: put,
+        next: NOT_EMPTY,
+    };
+    act_and_finish(pass, rt, hall, put)
 }
 
 /// Puts an item into the buffer, once there is room, lets a taker go on, and waits until there is room again, by one
@@ -124,7 +130,13 @@ pub(crate) fn take_from<K: Style, T: Guarded, R: Wait>(
         code: Buffer::TAKE,
         arg: 0,
     };
-    act_and_finish(pass, rt, hall, NOT_EMPTY, Buffer::HAS_ITEM, take, NOT_FULL)
+    let visit = Visit {
+        cond: NOT_EMPTY,
+        pred: Buffer::HAS_ITEM,
+        op: take,
+        next: NOT_FULL,
+    };
+    act_and_finish(pass, rt, hall, visit)
 }
 
 /// Puts an item in haste into an object that means what a buffer does, and lets a taker go on: it looks for room once,
@@ -144,7 +156,13 @@ pub(crate) fn put_hastily<K: Style, T: Guarded, R: Wait>(
         code: Buffer::PUT,
         arg: item,
     };
-    act_and_finish_in_haste(pass, rt, hall, NOT_FULL, Buffer::HAS_ROOM, put, NOT_EMPTY)
+    let visit = Visit {
+        cond: NOT_FULL,
+        pred: Buffer::HAS_ROOM,
+        op: put,
+        next: NOT_EMPTY,
+    };
+    act_and_finish_in_haste(pass, rt, hall, visit)
 }
 
 /// Takes the oldest item in haste out of an object that means what a buffer does, and lets a putter go on: it looks for
@@ -163,7 +181,13 @@ pub(crate) fn take_hastily<K: Style, T: Guarded, R: Wait>(
         code: Buffer::TAKE,
         arg: 0,
     };
-    act_and_finish_in_haste(pass, rt, hall, NOT_EMPTY, Buffer::HAS_ITEM, take, NOT_FULL)
+    let visit = Visit {
+        cond: NOT_EMPTY,
+        pred: Buffer::HAS_ITEM,
+        op: take,
+        next: NOT_FULL,
+    };
+    act_and_finish_in_haste(pass, rt, hall, visit)
 }
 
 /// The item that a take took out, by the buffer's reply.

@@ -57,7 +57,6 @@ pub(crate) fn with_idle<K: Kind, T: Guarded>(
 
 /// A worker for each of these seats, in order.
 pub(crate) fn workers<'a, K: Kind, T: Guarded, R, G>(
-    alloc: Global,
     rt: &'a R,
     hall: &'a Hall<K, T>,
     gate: &'a G,
@@ -71,7 +70,7 @@ pub(crate) fn workers<'a, K: Kind, T: Guarded, R, G>(
     ensures passes { IfOk result (λ v. map (λ w. w.pass) v.items ≡ passes.items) }
     ensures fault { IfErr result (λ e. e ≡ crew.Memory) }
 {
-    let mut workers = Vec::with_capacity(alloc, passes.len())?;
+    let mut workers = Vec::with_capacity(*passes.allocator(), passes.len())?;
     for pass in passes {
         workers.push(Worker {
             pass,

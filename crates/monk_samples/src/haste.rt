@@ -9,7 +9,7 @@ ghost use Rattle.monk_samples.specs.Visits.{IsTiredWithin, Promises, always, has
 
 use crate::end::End;
 use crate::style::Style;
-use crate::visit::{act, come_in};
+use crate::visit::{Visit, act, come_in};
 use monk_hall::{Active, Hall, Pass};
 use monk_kinds::Pick;
 use monk_object::{Guarded, Op};
@@ -83,23 +83,22 @@ fn try_once<K: Style, T: Guarded, R: Wait>(
     pass: Pass<K, T>,
     rt: &R,
     hall: &Hall<K, T>,
-    cond: u8,
-    pred: u8,
-    op: Op,
-    next: u8,
+    visit: Visit,
 ) -> Result<(Pass<K, T>, End), Pass<K, T>>
     requires hall { pass.hall ≡ hall.now.id }
-    requires cond { Offers K.rules pass.me.setting.conds (cond + 1) }
-    requires pred { pred < T.PREDICATES }
-    requires code { op.code < T.CODES }
-    requires promise { Promises T.meaning pred op }
-    requires next { Offers K.rules pass.me.setting.conds (next + 1) }
+    requires cond { Offers K.rules pass.me.setting.conds (visit.cond + 1) }
+    requires pred { visit.pred < T.PREDICATES }
+    requires code { visit.op.code < T.CODES }
+    requires promise { Promises T.meaning visit.pred visit.op }
+    requires next { Offers K.rules pass.me.setting.conds (visit.next + 1) }
     ensures tried { MatchResult result
-        (λ r. HasTried K.rules T.meaning pass (hastily cond pred op (always next)) r.0 r.1)
-        (λ q. HasMissed K.rules T.meaning pass (hastily cond pred op (always next)) 1 q) }
+        (λ r. HasTried K.rules T.meaning pass
+        (hastily visit.cond visit.pred visit.op (always visit.next)) r.0 r.1)
+        (λ q. HasMissed K.rules T.meaning pass
+        (hastily visit.cond visit.pred visit.op (always visit.next)) 1 q) }
     ensures room { IfErr result (λ q. length pass.me.mine + 2 ≤ pass.me.setting.budget) }
 {
-    let (active, reply) = match act_in_haste(pass, rt, hall, cond, pred, op) {
+    let (active, reply) = match act_in_haste(pass, rt, hall, visit.cond, visit.pred, visit.op) {
         Ok(acted) => acted,
         Err(pass) => return Ok((pass, End::Tired)),
     };
@@ -107,31 +106,30 @@ fn try_once<K: Style, T: Guarded, R: Wait>(
     if reply == 0 {
         return Err(active.leave(hall, Pick::Entry));
     }
-    Ok(K::finish_by(active, rt, hall, next, Pick::Entry))
+    Ok(K::finish_by(active, rt, hall, visit.next, Pick::Entry))
 }
 
-/// Comes in, pauses once where the predicate is false, does an operation, and goes out letting a seat of the condition
-/// `next` go on. Where the operation was refused it leaves, and comes again. Each of its releases wishes for entry.
+/// Comes in, pauses once where the predicate is false, does its operation, and goes out letting a seat of the
+/// condition `next` go on. Where the operation was refused it leaves, and comes again. Each of its releases wishes for
+/// entry.
 pub(crate) fn act_and_finish_in_haste<K: Style, T: Guarded, R: Wait>(
     pass: Pass<K, T>,
     rt: &R,
     hall: &Hall<K, T>,
-    cond: u8,
-    pred: u8,
-    op: Op,
-    next: u8,
+    visit: Visit,
 ) -> (Pass<K, T>, End)
     requires hall { pass.hall ≡ hall.now.id }
-    requires cond { Offers K.rules pass.me.setting.conds (cond + 1) }
-    requires pred { pred < T.PREDICATES }
-    requires code { op.code < T.CODES }
-    requires promise { Promises T.meaning pred op }
-    requires next { Offers K.rules pass.me.setting.conds (next + 1) }
-    ensures { HasVisited K.rules T.meaning pass (hastily cond pred op (always next) ∷ []) result.0 result.1 }
+    requires cond { Offers K.rules pass.me.setting.conds (visit.cond + 1) }
+    requires pred { visit.pred < T.PREDICATES }
+    requires code { visit.op.code < T.CODES }
+    requires promise { Promises T.meaning visit.pred visit.op }
+    requires next { Offers K.rules pass.me.setting.conds (visit.next + 1) }
+    ensures { HasVisited K.rules T.meaning pass
+        (hastily visit.cond visit.pred visit.op (always visit.next) ∷ []) result.0 result.1 }
 {
     let mut pass = pass;
     loop {
-        match try_once(pass, rt, hall, cond, pred, op, next) {
+        match try_once(pass, rt, hall, visit) {
             Ok(done) => return done,
             Err(back) => pass = back,
         }

@@ -8,7 +8,7 @@ ghost use Rattle.monk_samples.specs.Visits.{HasVisited};
 
 use crate::end::End;
 use crate::style::Style;
-use crate::visit::{act_and_finish, act_now};
+use crate::visit::{Visit, act_and_finish, act_now};
 use monk_hall::{Hall, Pass};
 use monk_object::{Guarded, Op, Shop};
 use std::sync::Wait;
@@ -71,25 +71,21 @@ pub(crate) fn have_cut<K: Style, T: Guarded, R: Wait>(
     requires conds { Offers K.rules pass.me.setting.conds 3 }
     ensures { HasVisited K.rules T.meaning pass (sits ∷ departs ∷ []) result.0 result.1 }
 {
-    let (pass, end) = act_and_finish(
-        pass,
-        rt,
-        hall,
-        SEAT_FREE,
-        Shop::HAS_SEAT,
-        SIT,
-        CUSTOMER_SITS,
-    );
+    let sit = Visit {
+        cond: SEAT_FREE,
+        pred: Shop::HAS_SEAT,
+        op: SIT,
+        next: CUSTOMER_SITS,
+    };
+    let depart = Visit {
+        cond: CUT_DONE,
+        pred: Shop::IS_DONE,
+        op: DEPART,
+        next: CUSTOMER_SITS,
+    };
+    let (pass, end) = act_and_finish(pass, rt, hall, sit);
     match end {
-        End::Done => act_and_finish(
-            pass,
-            rt,
-            hall,
-            CUT_DONE,
-            Shop::IS_DONE,
-            DEPART,
-            CUSTOMER_SITS,
-        ),
+        End::Done => act_and_finish(pass, rt, hall, depart),
         _ => (pass, end),
     }
 }
@@ -119,15 +115,13 @@ pub(crate) fn take_turn<K: Style, T: Guarded, R: Wait>(
     requires conds { Offers K.rules pass.me.setting.conds 3 }
     ensures { HasVisited K.rules T.meaning pass (calls ∷ finishes ∷ []) result.0 result.1 }
 {
-    let (pass, end) = act_and_finish(
-        pass,
-        rt,
-        hall,
-        CUSTOMER_SITS,
-        Shop::CAN_CALL,
-        CALL,
-        SEAT_FREE,
-    );
+    let visit = Visit {
+        cond: CUSTOMER_SITS,
+        pred: Shop::CAN_CALL,
+        op: CALL,
+        next: SEAT_FREE,
+    };
+    let (pass, end) = act_and_finish(pass, rt, hall, visit);
     match end {
         End::Done => finish_cut(pass, rt, hall),
         _ => (pass, end),

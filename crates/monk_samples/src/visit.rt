@@ -15,6 +15,19 @@ use monk_kinds::{Kind, Pick};
 use monk_object::{Guarded, Op};
 use std::sync::Wait;
 
+/// What a member does between coming in and going out.
+#[derive(Clone, Copy)]
+pub(crate) struct Visit {
+    /// The condition on which it waits.
+    pub(crate) cond: u8,
+    /// The predicate until which it waits.
+    pub(crate) pred: u8,
+    /// Its operation.
+    pub(crate) op: Op,
+    /// The condition of which it lets a seat go on.
+    pub(crate) next: u8,
+}
+
 /// Comes in.
 pub(crate) fn come_in<K: Kind, T: Guarded, R: Wait>(
     pass: Pass<K, T>,
@@ -144,27 +157,25 @@ pub(crate) fn act_when<K: Style, T: Guarded, R: Wait>(
     }
 }
 
-/// Comes in, pauses while the predicate is false, does an operation, which gets done then, and goes
+/// Comes in, pauses while the predicate is false, does its operation, which gets done then, and goes
 /// out letting a seat of the condition `next` go on.
 pub(crate) fn act_and_finish<K: Style, T: Guarded, R: Wait>(
     pass: Pass<K, T>,
     rt: &R,
     hall: &Hall<K, T>,
-    cond: u8,
-    pred: u8,
-    op: Op,
-    next: u8,
+    visit: Visit,
 ) -> (Pass<K, T>, End)
     requires hall { pass.hall ≡ hall.now.id }
-    requires cond { Offers K.rules pass.me.setting.conds (cond + 1) }
-    requires pred { pred < T.PREDICATES }
-    requires code { op.code < T.CODES }
-    requires promise { Promises T.meaning pred op }
-    requires next { Offers K.rules pass.me.setting.conds (next + 1) }
-    ensures { HasVisited K.rules T.meaning pass (when cond pred op (always next) ∷ []) result.0 result.1 }
+    requires cond { Offers K.rules pass.me.setting.conds (visit.cond + 1) }
+    requires pred { visit.pred < T.PREDICATES }
+    requires code { visit.op.code < T.CODES }
+    requires promise { Promises T.meaning visit.pred visit.op }
+    requires next { Offers K.rules pass.me.setting.conds (visit.next + 1) }
+    ensures { HasVisited K.rules T.meaning pass
+        (when visit.cond visit.pred visit.op (always visit.next) ∷ []) result.0 result.1 }
 {
-    match act_when(pass, rt, hall, cond, pred, op) {
-        Ok((active, _)) => K::finish(active, rt, hall, next),
+    match act_when(pass, rt, hall, visit.cond, visit.pred, visit.op) {
+        Ok((active, _)) => K::finish(active, rt, hall, visit.next),
         Err(pass) => (pass, End::Tired),
     }
 }

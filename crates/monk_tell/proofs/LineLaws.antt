@@ -1,43 +1,39 @@
 -- One item more of what a loop has gone through
-use Rattle.std.proofs.Common.{◌≡◌, ℕ, ◌+◌, ◌<◌, Bool, cond, List, [], ◌∷◌}
-use Rattle.std.proofs.Common.{◌++◌, length, take, get_or, map, Some, ap, subst, suc, arith, ◌∙◌}
-use Rattle.std.proofs.lemmas.List.{map-append, take_more}
-use Rattle.std.proofs.lemmas.List.Elements.{filter-append}
-use Rattle.std.specs.Prelude.{filter}
+use Rattle.std.proofs.Common.{◌≡◌, ℕ, ◌+◌, Bool, cond, not, List, [], ◌∷◌}
+use Rattle.std.proofs.Common.{◌++◌, map, ap, sym, arith, refl, ◌∙◌}
+use Rattle.std.proofs.lemmas.List.{length-map, map-append}
+use Rattle.std.proofs.lemmas.List.FromFn.{map-range_with_len_more}
+use Rattle.std.specs.List.{position, position_or_len}
+use Rattle.std.specs.Prelude.{is_none, slice_get}
+use Rattle.monk_history.specs.Meaning.Signallers.{is_empty}
 use Rattle.monk_audit.specs.Replay.{has}
-use Rattle.monk_tell.specs.Cause.{waits_at}
-use Rattle.monk_tell.specs.Told.{inside_below}
+use Rattle.monk_tell.specs.Cause.{conditions_below, waits_at}
+use Rattle.monk_tell.specs.Told.{condition_lists}
 use Rattle.monk_tell.specs.declared.lists.SeatList.{SeatList}
+use Rattle.monk_tell.specs.declared.queues.Conditions.{Conditions}
 
-pub filter_more : {X : Type 0} (p : X → Bool) (xs : List X) (i : ℕ) (d : X) (b : Bool) → i < length xs
-    → p (get_or xs i d) ≡ b
-    → filter p (take (i + 1) xs) ≡ filter p (take i xs) ++ cond b (get_or xs i d ∷ []) []
-filter_more p xs i d b within is =
-    ap (filter p) (take_more xs i d within) ∙ filter-append p (take i xs) (get_or xs i d ∷ [])
-    ∙ ap (λ (c : Bool). filter p (take i xs) ++ cond c (get_or xs i d ∷ []) []) is
+abbrev seats_of : SeatList → List ℕ
+seats_of s = s.0.items
 
-pub condition_more : (xs : List SeatList) (x : SeatList)
-    → map (λ (s : SeatList). s.0.items) (xs ++ x ∷ []) ≡ map (λ (s : SeatList). s.0.items) xs ++ x.0.items ∷ []
-condition_more xs x = map-append (λ (s : SeatList). s.0.items) xs (x ∷ [])
+-- the queue of one condition more
+pub conditions_more : (queue : ℕ → List ℕ) (i : ℕ) (xs : List SeatList) (x : SeatList)
+    → map seats_of xs ≡ conditions_below queue i → x.0.items ≡ queue i
+    → map seats_of (xs ++ x ∷ []) ≡ conditions_below queue (i + 1)
+conditions_more queue i xs x so_far is =
+    map-append seats_of xs (x ∷ []) ∙ (λ j. so_far j ++ is j ∷ [])
+    ∙ sym (map-range_with_len_more queue 0 i i (omega arith))
 
-inside_next : (inside : ℕ → Bool) (j : ℕ) (b : Bool) → inside j ≡ b
-    → inside_below inside (suc j) ≡ inside_below inside j ++ cond b (j ∷ []) []
-unfolding inside_below
-inside_next inside j b is = ap (λ (c : Bool). inside_below inside j ++ cond c (j ∷ []) []) is
+first_of_lists : (p : List ℕ → Bool) (xs : List SeatList)
+    → position_or_len p (map seats_of xs) ≡ position_or_len (λ x. p x.0.items) xs
+first_of_lists p [] = refl
+first_of_lists p (x ∷ xs) = ap (λ (n : ℕ). cond (not (p x.0.items)) (1 + n) 0) (first_of_lists p xs)
 
-pub inside_more : (inside : ℕ → Bool) (j : ℕ) (b : Bool) → inside j ≡ b
-    → inside_below inside (j + 1) ≡ inside_below inside j ++ cond b (j ∷ []) []
-inside_more inside j b is =
-    let e : suc j ≡ j + 1 = omega arith in
-    subst (λ (n : ℕ). inside_below inside n ≡ inside_below inside j ++ cond b (j ∷ []) []) e (inside_next inside j b is)
+-- a queue is looked for as it is kept
+pub waits_of_lists : (c : Conditions) (s : ℕ) → position (λ (x : SeatList). has s x.0.items) c.0.items
+    ≡ waits_at (condition_lists c) s
+waits_of_lists c s = sym (rw (first_of_lists (has s) c.0.items, length-map) refl)
 
-waits_next : (queue : ℕ → List ℕ) (c s : ℕ) (b : Bool) → has s (queue c) ≡ b
-    → waits_at queue (suc c) s ≡ cond b (Some c) (waits_at queue c s)
-unfolding waits_at
-waits_next queue c s b is = ap (λ (d : Bool). cond d (Some c) (waits_at queue c s)) is
-
-pub waits_more : (queue : ℕ → List ℕ) (c s : ℕ) (b : Bool) → has s (queue c) ≡ b
-    → waits_at queue (c + 1) s ≡ cond b (Some c) (waits_at queue c s)
-waits_more queue c s b is =
-    let e : suc c ≡ c + 1 = omega arith in
-    subst (λ (n : ℕ). waits_at queue n s ≡ cond b (Some c) (waits_at queue c s)) e (waits_next queue c s b is)
+-- where there is no first seat, there is none
+pub empty_if_none_first : (xs : List ℕ) → is_none (slice_get xs 0) ≡ is_empty xs
+empty_if_none_first [] = refl
+empty_if_none_first (x ∷ xs) = refl

@@ -70,26 +70,14 @@ none_against : (k : Rules) (seats conds : ℕ) (o : Object) (d : List ℕ) (es :
     → t ≡ situation (monitor k seats conds o d) (take n es)
     → reason_in (monitor k seats conds o []) t (event_of es n) ≡ 0
 none_against k seats conds o d es n t legal within stands =
+    let m = monitor k seats conds o d in
+    let front = take (n + 1) es in
+    let there : n < length front = omega (arith, length-take-le (n + 1) es (omega (arith, within))) in
+    let before : take n front ≡ take n es = take-take n (n + 1) es (omega arith) in
+    let same : event_of front n ≡ event_of es n = get_or-take (n + 1) es n (Enter 0 Free) (omega arith) in
     sym (reason_opening k seats conds o d t (event_of es n))
-    ∙ (ap (λ (x : Situation). reason_in m x (event_of es n)) stands ∙ none)
-  where
-    m : Monitor
-    m = monitor k seats conds o d
-
-    front : List Event
-    front = take (n + 1) es
-
-    there_is : event_of front n ≡ event_of es n
-    there_is = get_or-take (n + 1) es n (Enter 0 Free) (omega arith)
-
-    before_is : take n front ≡ take n es
-    before_is = take-take n (n + 1) es (omega arith)
-
-    none : reason_of m (take n es) (event_of es n) ≡ 0
-    none = no_reason m front n (Enter 0 Free) _
-        (subst (λ (x : ℕ). n < x) (sym (length-take-le (n + 1) es (omega (arith, within)))) (omega arith)) legal
-        (sym (ap (λ (xs : List Event). reason_of m xs (event_of front n)) before_is
-        ∙ ap (λ (x : Event). reason_of m (take n es) x) there_is))
+    ∙ ap (λ (x : Situation). reason_in m x (event_of es n)) stands
+    ∙ no_reason m front n (Enter 0 Free) _ there legal (λ i. reason_of m (sym before i) (sym same i))
 
 -- against the next event that is allowed there is no reason, whatever the opening state is
 pub next_allowed : (h : Heading) (es : List Event) (v : Verdict) (n : ℕ) (k : Rules) (seats conds : ℕ) (o : Object)

@@ -27,7 +27,7 @@ use Rattle.monk_audit.specs.Verdict.{IsVerdict, verdict_of}
 use Rattle.monk_audit.proofs.PublicLaws.{is_verdict}
 use Rattle.monk_tell.specs.Cause.{early_cause, no_entry}
 use Rattle.monk_tell.specs.declared.why.Why.{Why}
-use Rattle.monk_tell.specs.declared.why.Why.TheVariants.{Place}
+use Rattle.monk_tell.specs.declared.why.Why.TheVariants.{Turn}
 
 passed_first : (b : Bool) (n k : ℕ) → cond (not b) 1 n ≡ k → k ≢ 1 → b ≡ true
 passed_first true n k h other = refl
@@ -88,7 +88,7 @@ early_by kind seats conds t e r = early_cause kind seats conds t (number_of r) e
 -- why the seat of an event may not enter, as the cause by its reason
 pub place_caused : (kind : KindName) (seats conds : ℕ) (t : Situation) (e : Event) (r : Reason) (why : Why)
     → (r ≡ reasons.Place) ⊎ ((r ≡ reasons.Reply) ⊎ (r ≡ reasons.Choice))
-    → why ≡ Place (no_entry (t.inside (seat_of e)) (via_of e) (seat_of e)) → why ≡ early_by kind seats conds t e r
+    → why ≡ Turn (no_entry (t.inside (seat_of e)) (via_of e) (seat_of e)) → why ≡ early_by kind seats conds t e r
 place_caused kind seats conds t e r why (inl a) is = is ∙ ap (early_by kind seats conds t e) (sym a)
 place_caused kind seats conds t e r why (inr (inl a)) is = is ∙ ap (early_by kind seats conds t e) (sym a)
 place_caused kind seats conds t e r why (inr (inr a)) is = is ∙ ap (early_by kind seats conds t e) (sym a)

@@ -1,6 +1,7 @@
 -- Why an event is not allowed: of each reason the sentence that tells it, by how the monitor stands
-use Rattle.std.specs.Prelude.{ℕ, zero, suc, ◌==◌, nat_le, nat_lt, Bool, false, Option, Some, None, List, slice_get}
-use Rattle.std.specs.Prelude.{option_map, if◌then◌else◌, is_some}
+use Rattle.std.specs.Prelude.{ℕ, ◌==◌, nat_le, nat_lt, Bool, false, Option, Some, None, List, slice_get}
+use Rattle.std.specs.Prelude.{map, option_map, if◌then◌else◌, is_some}
+use Rattle.std.specs.List.{position, range_with_len}
 use Rattle.std.specs.Option.{option_map_or}
 use Rattle.monk_kinds.specs.declared.mode.Rules.{Rules}
 use Rattle.monk_kinds.specs.declared.name.KindName.{KindName}
@@ -21,39 +22,36 @@ use Rattle.monk_history.specs.declared.event.Via.{Via}
 use Rattle.monk_history.specs.declared.event.Via.TheVariants.{Free, Handed}
 use Rattle.monk_audit.specs.Replay.{has}
 use Rattle.monk_tell.specs.declared.lines.Firsts.{Firsts}
-use Rattle.monk_tell.specs.declared.why.out_of_range.OutOfRange.{OutOfRange}
-use Rattle.monk_tell.specs.declared.why.out_of_range.OutOfRange.TheVariants as range
 use Rattle.monk_tell.specs.declared.why.out_of_turn.OutOfTurn.{OutOfTurn}
 use Rattle.monk_tell.specs.declared.why.out_of_turn.OutOfTurn.TheVariants as away
-use Rattle.monk_tell.specs.declared.why.out_of_place.OutOfPlace.{OutOfPlace}
-use Rattle.monk_tell.specs.declared.why.out_of_place.OutOfPlace.TheVariants as place
 use Rattle.monk_tell.specs.declared.why.staying.Staying.{Staying}
 use Rattle.monk_tell.specs.declared.why.staying.Staying.TheVariants as stay
 use Rattle.monk_tell.specs.declared.why.precedence.Precedence.TheVariants as order
 use Rattle.monk_tell.specs.declared.why.Why.{Why}
-use Rattle.monk_tell.specs.declared.why.Why.TheVariants.{Range, Call, Turn as Away, Unsignalled, Place, Reply, Stay, Order}
+use Rattle.monk_tell.specs.declared.why.Why.TheVariants.{NoSeat, NoCondition, NoOperation, NoPredicate}
+use Rattle.monk_tell.specs.declared.why.Why.TheVariants.{Call, Turn as Away, Reply, Stay, Order}
 
 -- ---- 1. a number that is out of range: of its seats the first, else what the call is about
 
 -- the number of a call that is out of range
-abbrev pub call_beyond : ℕ → ℕ → Event → OutOfRange
-call_beyond seats conds (Enter s via) = range.Seat s seats
-call_beyond seats conds (Act s op r) = range.Operation op.code
-call_beyond seats conds (Leave s x) = range.Seat s seats
-call_beyond seats conds (Wait s c x) = range.Condition c conds
-call_beyond seats conds (Signal s c x) = range.Condition c conds
-call_beyond seats conds (SignalLeave s c x) = range.Condition c conds
-call_beyond seats conds (Until s p x) = range.Predicate p
-call_beyond seats conds (Resume s q) = range.Seat s seats
-call_beyond seats conds (SignalAll s c) = range.Condition c conds
-call_beyond seats conds (SignalWait s c d x) = range.Condition (if nat_le conds c then c else d) conds
+abbrev pub call_beyond : ℕ → ℕ → Event → Why
+call_beyond seats conds (Enter s via) = NoSeat s seats
+call_beyond seats conds (Act s op r) = NoOperation op.code
+call_beyond seats conds (Leave s x) = NoSeat s seats
+call_beyond seats conds (Wait s c x) = NoCondition c conds
+call_beyond seats conds (Signal s c x) = NoCondition c conds
+call_beyond seats conds (SignalLeave s c x) = NoCondition c conds
+call_beyond seats conds (Until s p x) = NoPredicate p
+call_beyond seats conds (Resume s q) = NoSeat s seats
+call_beyond seats conds (SignalAll s c) = NoCondition c conds
+call_beyond seats conds (SignalWait s c d x) = NoCondition (if nat_le conds c then c else d) conds
 
 -- that seat if it is out of range, and else the other number
-abbrev pub seat_beyond : ℕ → OutOfRange → ℕ → OutOfRange
-seat_beyond seats other s = if nat_le seats s then range.Seat s seats else other
+abbrev pub seat_beyond : ℕ → Why → ℕ → Why
+seat_beyond seats other s = if nat_le seats s then NoSeat s seats else other
 
 -- the chosen seat if it is out of range, and else the other number
-abbrev pub chosen_beyond : ℕ → OutOfRange → Option Next → OutOfRange
+abbrev pub chosen_beyond : ℕ → Why → Option Next → Why
 chosen_beyond seats other None = other
 chosen_beyond seats other (Some next.Stay) = other
 chosen_beyond seats other (Some next.Entry) = other
@@ -62,16 +60,19 @@ chosen_beyond seats other (Some (next.Signaller j)) = seat_beyond seats other j
 chosen_beyond seats other (Some (next.Until j)) = seat_beyond seats other j
 
 -- the first number of an event that is out of range
-abbrev pub number_beyond : ℕ → ℕ → Event → OutOfRange
+abbrev pub number_beyond : ℕ → ℕ → Event → Why
 number_beyond seats conds e =
     seat_beyond seats (chosen_beyond seats (call_beyond seats conds e) (next_of e)) (seat_of e)
 
 -- ---- 3. whose turn it is, and not that of seat s
 
--- the condition below that number on which the seat waits, if it waits on one
-unfoldable pub waits_at : (ℕ → List ℕ) → ℕ → ℕ → Option ℕ
-waits_at queue zero s = None
-waits_at queue (suc c) s = if has s (queue c) then Some c else waits_at queue c s
+-- the queues of the conditions below that number
+abbrev pub conditions_below : (ℕ → List ℕ) → ℕ → List (List ℕ)
+conditions_below queue conds = map queue (range_with_len 0 conds)
+
+-- of these queues of conditions the one in which the seat waits, by its number
+abbrev pub waits_at : List (List ℕ) → ℕ → Option ℕ
+waits_at conditions s = position (has s) conditions
 
 -- why it isn't the seat's turn
 abbrev pub other_turn : Turn → ℕ → OutOfTurn
@@ -80,19 +81,19 @@ other_turn (turn.Due j q) s = if j == s then away.Resumes s q else away.Due s j 
 other_turn (turn.Owned j) s = if j == s then away.Already s else away.Active s j
 
 -- it waits on a condition, or the turn is another's
-abbrev pub out_of_turn : Option ℕ → Turn → ℕ → Why
-out_of_turn waits t s = option_map_or (λ c. Unsignalled s c) waits (Away (other_turn t s))
+abbrev pub out_of_turn : Option ℕ → Turn → ℕ → OutOfTurn
+out_of_turn waits t s = option_map_or (λ c. away.Unsignalled s c) waits (other_turn t s)
 
 -- ---- 4. why seat s may not enter
 
 -- why a seat may not come in that way
-abbrev pub shut_door : Via → ℕ → OutOfPlace
-shut_door Free s = place.NotFree s
-shut_door Handed s = place.FirstOfAll s
+abbrev pub shut_door : Via → ℕ → OutOfTurn
+shut_door Free s = away.NotFree s
+shut_door Handed s = away.FirstOfAll s
 
 -- why a seat may not enter
-abbrev pub no_entry : Bool → Option Via → ℕ → OutOfPlace
-no_entry inside via s = if inside then place.Inside s else option_map_or (λ v. shut_door v s) via (place.NotFree s)
+abbrev pub no_entry : Bool → Option Via → ℕ → OutOfTurn
+no_entry inside via s = if inside then away.Inside s else option_map_or (λ v. shut_door v s) via (away.NotFree s)
 
 -- ---- 5. the object's own reply, and the event's
 
@@ -151,13 +152,13 @@ abbrev pub behind_first : Option ℕ → ℕ → From3 → Why
 behind_first first j queue = option_map_or (λ i. Order (order.NotFirst j queue)) first (Order (order.NobodyIn queue))
 
 -- of a seat that was chosen as a waiter and isn't in the waiter queue, the condition on which it waits
-abbrev pub still_waits : ℕ → (ℕ → List ℕ) → List ℕ → Option Next → Option ℕ
-still_waits conds queue waiters None = None
-still_waits conds queue waiters (Some next.Stay) = None
-still_waits conds queue waiters (Some next.Entry) = None
-still_waits conds queue waiters (Some (next.Waiter j)) = if has j waiters then None else waits_at queue conds j
-still_waits conds queue waiters (Some (next.Signaller j)) = None
-still_waits conds queue waiters (Some (next.Until j)) = None
+abbrev pub still_waits : List (List ℕ) → List ℕ → Option Next → Option ℕ
+still_waits conditions waiters None = None
+still_waits conditions waiters (Some next.Stay) = None
+still_waits conditions waiters (Some next.Entry) = None
+still_waits conditions waiters (Some (next.Waiter j)) = if has j waiters then None else waits_at conditions j
+still_waits conditions waiters (Some (next.Signaller j)) = None
+still_waits conditions waiters (Some (next.Until j)) = None
 
 -- that waiter may not be chosen: nobody has signalled it, it is not the first, or a signaller goes before it
 abbrev pub may_not_wake : KindName → Firsts → Option ℕ → ℕ → ℕ → Why
@@ -166,7 +167,7 @@ may_not_wake kind f waits s j =
     then option_map_or (λ i. if i == s then Stay (stay.MustStay s kind)
     else Order (order.SignallersFirst i kind)) f.signaller
     (Stay (stay.GivesUp s))
-    else option_map_or (λ c. Unsignalled j c) waits (behind_first f.waiter j from.Waiter)
+    else option_map_or (λ c. Away (away.Unsignalled j c)) waits (behind_first f.waiter j from.Waiter)
 
 -- that signaller may not be chosen: it is not the first, or a waiter goes before it, or it is the caller
 abbrev pub caller_or_none : ℕ → ℕ → Why
@@ -205,17 +206,19 @@ other_choice kind k f waits stays e =
 abbrev pub choice_cause : KindName → Rules → ℕ → Object → Situation → Event → Why
 choice_cause kind k conds o t e =
     let q = queues_at o t e in
-    other_choice kind k (firsts_of q) (still_waits conds t.condition q.waiters (next_of e)) (must_stay o t e) e
+    let waits = still_waits (conditions_below t.condition conds) q.waiters (next_of e) in
+    other_choice kind k (firsts_of q) waits (must_stay o t e) e
 
 -- ---- one of the first four
 
 -- what is wrong with an event for one of the first four reasons
 abbrev pub early_cause : KindName → ℕ → ℕ → Situation → ℕ → Event → Why
 early_cause kind seats conds t reason e =
-    if reason == 1 then Range (number_beyond seats conds e)
+    if reason == 1 then number_beyond seats conds e
     else if reason == 2 then Call kind
-    else if reason == 3 then out_of_turn (waits_at t.condition conds (seat_of e)) t.turn (seat_of e)
-    else Place (no_entry (t.inside (seat_of e)) (via_of e) (seat_of e))
+    else if reason == 3
+    then Away (out_of_turn (waits_at (conditions_below t.condition conds) (seat_of e)) t.turn (seat_of e))
+    else Away (no_entry (t.inside (seat_of e)) (via_of e) (seat_of e))
 
 -- ---- all
 

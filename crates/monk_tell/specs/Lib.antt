@@ -1,6 +1,6 @@
 pub mod Cause
 pub mod Permitted
-pub mod Standing
+pub mod Place
 pub mod Steps
 pub mod Told
 pub mod Words

@@ -13,7 +13,7 @@ use Rattle.monk_audit.specs.Verdict.{verdict_of}
 use Rattle.monk_audit.specs.Replay.{IsReplayOf, replay_situation}
 use Rattle.monk_audit.specs.declared.replay.Replay.{Replay}
 use Rattle.monk_tell.specs.Told.{Chosen, ShownStanding, allowed_events, choice_of, chosen_at, event_at, events_before}
-use Rattle.monk_tell.specs.Told.{shown_standing, standing_of}
+use Rattle.monk_tell.specs.Told.{standing_in, standing_of}
 use Rattle.monk_tell.specs.declared.step.Step.{Step}
 
 -- the event that led there, what it chose from, and how the monitor stands
@@ -29,10 +29,6 @@ step_of s = record { event = s.event; choice = option_map choice_of s.choice; st
 -- of a release, what it chose from in that situation and what it might have chosen
 abbrev pub release_choice : Rules → Object → Situation → Event → Option Chosen
 release_choice k o t e = option_map (λ x. chosen_at k o t e) (next_of e)
-
--- how the monitor stands in that situation
-abbrev pub standing_in : Monitor → Situation → ShownStanding
-standing_in m t = shown_standing m.kind.mode m.seats m.conds m.object t
 
 -- a situation to which no event led
 abbrev pub opening_step : Monitor → Situation → ShownStep

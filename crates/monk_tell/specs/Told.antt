@@ -1,16 +1,17 @@
 -- What is told of a history, as data
-use Rattle.std.specs.Prelude.{◌≡◌, ℕ, zero, suc, ◌-◌, ◌==◌, Bool, Option, Some, None, List, [], ◌∷◌, ◌++◌, length, map, take}
-use Rattle.std.specs.Prelude.{if◌then◌else◌, option_map, get_or}
+use Rattle.std.specs.Prelude.{◌≡◌, ℕ, ◌-◌, ◌==◌, Bool, Option, Some, None, List, length, map, take}
+use Rattle.std.specs.Prelude.{filter, if◌then◌else◌, option_map, get_or}
+use Rattle.std.specs.List.{range_with_len}
 use Rattle.monk_kinds.specs.declared.mode.Mode.{Mode}
 use Rattle.monk_kinds.specs.declared.mode.Mode.TheVariants.{Blocking, NonBlocking}
-use Rattle.monk_kinds.specs.declared.mode.Mode.TheVariants.{QuasiBlocking, ImmediateReturn, Automatic as AutomaticMode}
+use Rattle.monk_kinds.specs.declared.mode.Mode.TheVariants.{QuasiBlocking, ImmediateReturn, Automatic}
 use Rattle.monk_kinds.specs.declared.mode.Rules.{Rules}
 use Rattle.monk_kinds.specs.declared.name.KindName.{KindName}
 use Rattle.monk_object.specs.Object.{Object}
 use Rattle.monk_object.specs.declared.name.ObjectName.{ObjectName}
 use Rattle.monk_history.specs.Text.{Heading}
 use Rattle.monk_history.specs.Meaning.Acts.{refused_steps}
-use Rattle.monk_history.specs.Meaning.Choice.{Queues as Lined, queues_at}
+use Rattle.monk_history.specs.Meaning.Choice.{Queues as Lined, must_stay, queues_at}
 use Rattle.monk_history.specs.Meaning.Monitor.{Monitor}
 use Rattle.monk_history.specs.Meaning.Named.{named_monitor}
 use Rattle.monk_history.specs.Meaning.Situation.{Situation, situation}
@@ -24,7 +25,7 @@ use Rattle.monk_history.specs.declared.event.Turn.{Turn}
 use Rattle.monk_audit.specs.Verdict.{verdict_of}
 use Rattle.monk_audit.specs.declared.verdict.Verdict.{Verdict}
 use Rattle.monk_audit.specs.declared.verdict.Verdict.TheVariants.{Legal, Forbidden}
-use Rattle.monk_tell.specs.Cause.{cause, own_reply}
+use Rattle.monk_tell.specs.Cause.{cause, conditions_below, own_reply}
 use Rattle.monk_tell.specs.Permitted.{fronts, permitted_nexts}
 use Rattle.monk_tell.specs.declared.forbidden.ForbiddenEvent.{ForbiddenEvent}
 use Rattle.monk_tell.specs.declared.judged.JudgedHistory.{JudgedHistory}
@@ -32,41 +33,20 @@ use Rattle.monk_tell.specs.declared.choice.Choice.{Choice}
 use Rattle.monk_tell.specs.declared.lines.Lines.{Lines}
 use Rattle.monk_tell.specs.declared.queues.Conditions.{Conditions}
 use Rattle.monk_tell.specs.declared.queues.QueueLists.{QueueLists}
-use Rattle.monk_tell.specs.declared.queues.QueueLists.TheVariants.{Automatic, Returning, Explicit}
 use Rattle.monk_tell.specs.declared.refused.Refused.{Refused}
-use Rattle.monk_tell.specs.declared.situation.Situation.{Situation as ToldSituation}
 use Rattle.monk_tell.specs.declared.standing.Standing.{Standing}
 use Rattle.monk_tell.specs.declared.telling.Telling.{Telling}
 use Rattle.monk_tell.specs.declared.why.Why.{Why}
 
 -- ---- the data, as lists
 
--- who waits until a predicate holds, and the seats whose predicate does
-pub record ShownUntils : Type 0 where
-  pub untils : List (ℕ × ℕ)
-  pub ready : List ℕ
-
--- who waits on each condition, the waiter queue, and the signaller queue of an explicit kind
-pub record ShownConditions : Type 0 where
-  pub conditions : List (List ℕ)
-  pub waiters : List ℕ
-  pub signallers : Option (List ℕ)
-
--- the one or the other
+-- who waits inside, front first: the queues that the kind has
 pub record ShownQueues : Type 0 where
-  pub automatic : Option ShownUntils
-  pub conditional : Option ShownConditions
-
--- the queues of an automatic kind
-abbrev pub only_untils : List (ℕ × ℕ) → List ℕ → ShownQueues
-only_untils untils ready = record { automatic = Some (record { untils = untils; ready = ready }); conditional = None }
-
--- the queues of a kind that has conditions
-abbrev pub only_conditions : List (List ℕ) → List ℕ → Option (List ℕ) → ShownQueues
-only_conditions conditions waiters signallers = record {
-  automatic = None;
-  conditional = Some (record { conditions = conditions; waiters = waiters; signallers = signallers });
-}
+  pub conditions : Option (List (List ℕ))
+  pub waiters : Option (List ℕ)
+  pub signallers : Option (List ℕ)
+  pub untils : Option (List (ℕ × ℕ))
+  pub ready : Option (List ℕ)
 
 -- of some steps the first that are told, and how many more there are
 pub record ShownSteps : Type 0 where
@@ -79,14 +59,6 @@ pub record ShownStanding : Type 0 where
   pub inside : List ℕ
   pub state : List ℕ
   pub queues : ShownQueues
-
--- how a monitor stands, with its kind and its object
-pub record Shown : Type 0 where
-  pub kind : KindName
-  pub rules : Rules
-  pub object : ObjectName
-  pub standing : ShownStanding
-  pub refused : ShownSteps
 
 -- what a release chose from, and what it might have chosen
 pub record Chosen : Type 0 where
@@ -103,8 +75,11 @@ pub record Blamed : Type 0 where
 
 -- what is told of a history
 pub record Account : Type 0 where
+  pub kind : KindName
+  pub object : ObjectName
   pub verdict : Verdict
-  pub situation : Shown
+  pub standing : ShownStanding
+  pub refused : ShownSteps
   pub blame : Option Blamed
 
 -- ---- what the types hold
@@ -115,10 +90,13 @@ condition_lists c = map (λ s. s.0.items) c.0.items
 
 -- the queues as data
 abbrev pub queues_of : QueueLists → ShownQueues
-queues_of (Automatic untils ready) = only_untils untils.0.items ready.0.items
-queues_of (Returning conditions waiters) = only_conditions (condition_lists conditions) waiters.0.items None
-queues_of (Explicit conditions waiters signallers) =
-    only_conditions (condition_lists conditions) waiters.0.items (Some signallers.0.items)
+queues_of q = record {
+  conditions = option_map condition_lists q.conditions;
+  waiters = option_map (λ s. s.0.items) q.waiters;
+  signallers = option_map (λ s. s.0.items) q.signallers;
+  untils = option_map (λ w. w.0.items) q.untils;
+  ready = option_map (λ s. s.0.items) q.ready;
+}
 
 -- the refused acts as data
 abbrev pub refused_of : Refused → ShownSteps
@@ -133,16 +111,6 @@ standing_of s = record {
   queues = queues_of s.queues;
 }
 
--- the situation as data
-abbrev pub situation_of : ToldSituation → Shown
-situation_of s = record {
-  kind = s.kind;
-  rules = s.rules;
-  object = s.object;
-  standing = standing_of s.standing;
-  refused = refused_of s.refused;
-}
-
 -- the choice as data
 abbrev pub choice_of : Choice → Chosen
 choice_of c = record { fronts = c.fronts.0.items; may = c.may.0.items }
@@ -154,7 +122,14 @@ blame_of b =
 
 -- what is told, as data
 abbrev pub telling_of : Telling → Account
-telling_of t = record { verdict = t.verdict; situation = situation_of t.situation; blame = option_map blame_of t.blame }
+telling_of t = record {
+  kind = t.kind;
+  object = t.object;
+  verdict = t.verdict;
+  standing = standing_of t.standing;
+  refused = refused_of t.refused;
+  blame = option_map blame_of t.blame;
+}
 
 -- the queues that a release chooses from
 abbrev pub lines_of : Lines → Lined
@@ -163,18 +138,28 @@ lines_of l = record { waiters = l.waiters.items; signallers = l.signallers.items
 -- ---- what is so of a history
 
 -- the seats below that number that are inside, rising
-unfoldable pub inside_below : (ℕ → Bool) → ℕ → List ℕ
-inside_below inside zero = []
-inside_below inside (suc j) = inside_below inside j ++ (if inside j then j ∷ [] else [])
-
--- the queues of the conditions below that number
-unfoldable pub conditions_below : (ℕ → List ℕ) → ℕ → List (List ℕ)
-conditions_below queue zero = []
-conditions_below queue (suc c) = conditions_below queue c ++ queue c ∷ []
+abbrev pub inside_below : (ℕ → Bool) → ℕ → List ℕ
+inside_below inside seats = filter inside (range_with_len 0 seats)
 
 -- the queues of a kind that has conditions, in that situation
 abbrev pub with_conditions : ℕ → Situation → Option (List ℕ) → ShownQueues
-with_conditions conds t signallers = only_conditions (conditions_below t.condition conds) t.waiters signallers
+with_conditions conds t signallers = record {
+  conditions = Some (conditions_below t.condition conds);
+  waiters = Some t.waiters;
+  signallers = signallers;
+  untils = None;
+  ready = None;
+}
+
+-- the queues of an automatic kind
+abbrev pub with_untils : Object → Situation → ShownQueues
+with_untils o t = record {
+  conditions = None;
+  waiters = None;
+  signallers = None;
+  untils = Some t.untils;
+  ready = Some (ready_of o t.state t.untils);
+}
 
 -- the queues that a kind of that mode has
 abbrev pub queues_shown : Mode → ℕ → Object → Situation → ShownQueues
@@ -182,7 +167,7 @@ queues_shown Blocking conds o t = with_conditions conds t (Some t.signallers)
 queues_shown NonBlocking conds o t = with_conditions conds t (Some t.signallers)
 queues_shown QuasiBlocking conds o t = with_conditions conds t (Some t.signallers)
 queues_shown ImmediateReturn conds o t = with_conditions conds t None
-queues_shown AutomaticMode conds o t = only_untils t.untils (ready_of o t.state t.untils)
+queues_shown Automatic conds o t = with_untils o t
 
 -- at most so many steps are told by their numbers
 abbrev pub most_told : ℕ
@@ -201,19 +186,13 @@ shown_standing mode seats conds o t = record {
   queues = queues_shown mode conds o t;
 }
 
--- the same with its kind, whose object has that name, and the acts of these events that the object refused
-abbrev pub shown_situation : KindName → Rules → ℕ → ℕ → ObjectName → Object → List Event → Situation → Shown
-shown_situation kind rules seats conds name o es t = record {
-  kind = kind;
-  rules = rules;
-  object = name;
-  standing = shown_standing rules.mode seats conds o t;
-  refused = told_steps (refused_steps es);
-}
+-- what an event chose from and what it might have chosen, by its queues and whether it must stay
+abbrev pub chosen_from : Rules → Lined → Bool → Event → Chosen
+chosen_from k q stays e = record { fronts = fronts q; may = permitted_nexts k q stays e }
 
--- what the event chose from in that situation, and what it might have chosen
+-- the same in that situation
 abbrev pub chosen_at : Rules → Object → Situation → Event → Chosen
-chosen_at k o t e = record { fronts = fronts (queues_at o t e); may = permitted_nexts k o t e }
+chosen_at k o t e = chosen_from k (queues_at o t e) (must_stay o t e) e
 
 -- what is wrong with the event of that step, in this situation and for that reason
 abbrev pub blame_of_event : KindName → Rules → ℕ → ℕ → Object → Situation → ℕ → ℕ → Event → Blamed
@@ -225,9 +204,9 @@ blame_of_event kind k seats conds o t step reason e = record {
   why = cause kind k seats conds o t reason e;
 }
 
--- how the monitor stands after these events
-abbrev pub shown_after : KindName → ObjectName → Monitor → List Event → Shown
-shown_after kind name m es = shown_situation kind m.kind m.seats m.conds name m.object es (situation m es)
+-- how the monitor stands in that situation
+abbrev pub standing_in : Monitor → Situation → ShownStanding
+standing_in m t = shown_standing m.kind.mode m.seats m.conds m.object t
 
 -- the event of that step, counted from 1, and those before it
 abbrev pub event_at : List Event → ℕ → Event
@@ -254,11 +233,15 @@ blame_by kind m es (Forbidden step reason) =
     Some (blame_of_event kind m.kind m.seats m.conds m.object (situation m (events_before es step)) step reason
     (event_at es step))
 
--- what is told of a history of a monitor of that kind over the object of that name, with that verdict
+-- what is told of a history of a monitor of that kind over the object of that name, with that verdict: how it stands,
+-- and what the object refused, before the first event that is not allowed
 abbrev pub account_by : KindName → ObjectName → Monitor → List Event → Verdict → Account
-account_by kind name m es v = record {
+account_by kind name m es v = let past = take (allowed_events v) es in record {
+  kind = kind;
+  object = name;
   verdict = v;
-  situation = shown_after kind name m (take (allowed_events v) es);
+  standing = standing_in m (situation m past);
+  refused = told_steps (refused_steps past);
   blame = blame_by kind m es v;
 }
 

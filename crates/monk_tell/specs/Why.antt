@@ -4,12 +4,9 @@ use Rattle.std.specs.List.{concat}
 use Rattle.std.specs.Fmt.{decimal}
 use Rattle.monk_kinds.specs.Names.{kind_word}
 use Rattle.monk_history.specs.Text.{from_word}
-use Rattle.monk_tell.specs.declared.why.out_of_range.OutOfRange.{OutOfRange}
-use Rattle.monk_tell.specs.declared.why.out_of_range.OutOfRange.TheVariants.{Seat, Condition, Operation, Predicate}
 use Rattle.monk_tell.specs.declared.why.out_of_turn.OutOfTurn.{OutOfTurn}
 use Rattle.monk_tell.specs.declared.why.out_of_turn.OutOfTurn.TheVariants.{Open, Due, Resumes, Active, Already}
-use Rattle.monk_tell.specs.declared.why.out_of_place.OutOfPlace.{OutOfPlace}
-use Rattle.monk_tell.specs.declared.why.out_of_place.OutOfPlace.TheVariants.{Inside, NotFree, FirstOfAll}
+use Rattle.monk_tell.specs.declared.why.out_of_turn.OutOfTurn.TheVariants.{Unsignalled, Inside, NotFree, FirstOfAll}
 use Rattle.monk_tell.specs.declared.why.staying.Staying.{Staying}
 use Rattle.monk_tell.specs.declared.why.staying.Staying.TheVariants.{NobodyWaits, HoldsAlready, GivesUp, MustYield, MustStay}
 use Rattle.monk_tell.specs.declared.why.staying.Staying.TheVariants.{StepsBehind, OwnSignal}
@@ -18,20 +15,10 @@ use Rattle.monk_tell.specs.declared.why.precedence.Precedence.TheVariants.{NotFi
 use Rattle.monk_tell.specs.declared.why.precedence.Precedence.TheVariants.{WaitersFirst, SignallersFirst}
 use Rattle.monk_tell.specs.declared.why.precedence.Precedence.TheVariants.{WaitersBeforeEntry, SignallersBeforeEntry, ReadyBeforeEntry}
 use Rattle.monk_tell.specs.declared.why.Why.{Why}
-use Rattle.monk_tell.specs.declared.why.Why.TheVariants.{Range, Call, Turn, Unsignalled, Place, Reply, Stay, Order}
+use Rattle.monk_tell.specs.declared.why.Why.TheVariants.{NoSeat, NoCondition, NoOperation, NoPredicate}
+use Rattle.monk_tell.specs.declared.why.Why.TheVariants.{Call, Turn, Reply, Stay, Order}
 
--- a number of the event that is out of range
-abbrev pub out_of_range_text : OutOfRange → List ℕ
-out_of_range_text (Seat seat seats) =
-    concat (codes "there is no seat " ∷ decimal seat ∷ codes ", since the " ∷ decimal seats ∷
-    codes " seats are counted from 0" ∷ [])
-out_of_range_text (Condition cond conds) =
-    concat (codes "there is no condition " ∷ decimal cond ∷ codes ", since the " ∷ decimal conds ∷
-    codes " conditions are counted from 0" ∷ [])
-out_of_range_text (Operation code) = concat (codes "the object has no operation " ∷ decimal code ∷ [])
-out_of_range_text (Predicate pred) = concat (codes "the object has no predicate " ∷ decimal pred ∷ [])
-
--- whose turn it is, where the seat may not make the call
+-- why a seat may not make its call now: whose turn it is, or where the seat is
 abbrev pub out_of_turn_text : OutOfTurn → List ℕ
 out_of_turn_text (Open seat) =
     concat (codes "seat " ∷ decimal seat ∷
@@ -46,14 +33,14 @@ out_of_turn_text (Active seat other) =
     concat (codes "seat " ∷ decimal seat ∷ codes " isn't next, since seat " ∷ decimal other ∷
     codes " is active" ∷ [])
 out_of_turn_text (Already seat) = concat (codes "seat " ∷ decimal seat ∷ codes " is active already" ∷ [])
-
--- why the seat may not enter
-abbrev pub out_of_place_text : OutOfPlace → List ℕ
-out_of_place_text (Inside seat) = concat (codes "seat " ∷ decimal seat ∷ codes " is inside already" ∷ [])
-out_of_place_text (NotFree seat) =
+out_of_turn_text (Unsignalled seat cond) =
+    concat (codes "seat " ∷ decimal seat ∷ codes " waits on condition " ∷ decimal cond ∷
+    codes ", and nobody has signalled it" ∷ [])
+out_of_turn_text (Inside seat) = concat (codes "seat " ∷ decimal seat ∷ codes " is inside already" ∷ [])
+out_of_turn_text (NotFree seat) =
     concat (codes "seat " ∷ decimal seat ∷
     codes " can't find the monitor free, since somebody inside could go on" ∷ [])
-out_of_place_text (FirstOfAll seat) =
+out_of_turn_text (FirstOfAll seat) =
     concat (codes "nobody came before seat " ∷ decimal seat ∷ codes " who could hand the monitor over" ∷ [])
 
 -- why the seat may not stay active, or has to
@@ -109,13 +96,16 @@ precedence_text (ReadyBeforeEntry seat kind) =
 
 -- the sentence that says why an event isn't allowed
 abbrev pub why_text : Why → List ℕ
-why_text (Range w) = out_of_range_text w
+why_text (NoSeat seat seats) =
+    concat (codes "there is no seat " ∷ decimal seat ∷ codes ", since the " ∷ decimal seats ∷
+    codes " seats are counted from 0" ∷ [])
+why_text (NoCondition cond conds) =
+    concat (codes "there is no condition " ∷ decimal cond ∷ codes ", since the " ∷ decimal conds ∷
+    codes " conditions are counted from 0" ∷ [])
+why_text (NoOperation code) = concat (codes "the object has no operation " ∷ decimal code ∷ [])
+why_text (NoPredicate pred) = concat (codes "the object has no predicate " ∷ decimal pred ∷ [])
 why_text (Call kind) = concat (kind_word kind ∷ codes " monitors have no such call" ∷ [])
 why_text (Turn w) = out_of_turn_text w
-why_text (Unsignalled seat cond) =
-    concat (codes "seat " ∷ decimal seat ∷ codes " waits on condition " ∷ decimal cond ∷
-    codes ", and nobody has signalled it" ∷ [])
-why_text (Place w) = out_of_place_text w
 why_text (Reply right wrong) =
     concat (codes "the object replies " ∷ decimal right ∷ codes " and not " ∷ decimal wrong ∷ [])
 why_text (Stay w) = staying_text w

@@ -3,6 +3,7 @@
 use crate::choice::Choice;
 use crate::why::Why;
 use monk_history::Event;
+use std::fmt;
 
 /// What is wrong with the first event that is not allowed.
 #[derive(Debug, Drop)]
@@ -17,4 +18,17 @@ pub struct ForbiddenEvent {
     pub choice: Option<Choice>,
     /// In a sentence.
     pub why: Why,
+}
+
+/// In lines: what its reason adds, and why.
+impl fmt::Display for ForbiddenEvent {
+    fn fmt<W: fmt::Write>(&self, f: &mut fmt::Formatter<W>) -> fmt::Result {
+        if let Some(reply) = self.reply {
+            write!(f, "reply: {reply}\n")?;
+        }
+        if let Some(choice) = &self.choice {
+            write!(f, "{choice}")?;
+        }
+        write!(f, "why: {}\n", self.why)
+    }
 }

@@ -12,8 +12,8 @@ use crate::choice::Choice;
 use crate::forbidden::ForbiddenEvent;
 use crate::lines::{line_up, must_stay};
 use crate::permitted::choice_from;
-use crate::sentences::{early, wrong_choice, wrong_reply};
-use crate::waiting::still_waits;
+use crate::queues::Conditions;
+use crate::sentences::{early, still_waits, wrong_choice, wrong_reply};
 use crate::why::Why;
 use monk_audit::{Reason, Replay};
 use monk_history::{Event, Header};
@@ -48,9 +48,10 @@ fn choice<T: Guarded>(
     ensures why { IfOk result (λ r. r.1 ≡ choice_cause header.now.kind rules header.now.conds T.meaning
         (replay_situation replay.now (T.state object.now)) event) }
 {
-    let stays = must_stay(alloc, replay, object, event)?;
+    let stays = must_stay(replay, object, event);
     let lines = line_up(alloc, replay, object, event)?;
-    let waits = still_waits(alloc, replay, header.conds(), &lines.waiters, event)?;
+    let conditions = Conditions::of(alloc, replay, header.conds())?;
+    let waits = still_waits(&conditions, &lines.waiters, event);
     let choice = choice_from(alloc, rules, &lines, stays, event)?;
     Ok((
         choice,

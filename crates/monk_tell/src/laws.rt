@@ -6,13 +6,17 @@ ghost use Rattle.monk_kinds.specs.declared.mode.Rules.{Rules};
 ghost use Rattle.monk_object.specs.Object.{Object};
 ghost use Rattle.monk_history.specs.declared.event.Event.{Event};
 ghost use Rattle.monk_history.specs.declared.event.Next.{Next};
+ghost use Rattle.monk_history.specs.Meaning.Choice.{is_permitted};
 ghost use Rattle.monk_history.specs.Meaning.Events.{next_of};
+ghost use Rattle.monk_history.specs.Meaning.Release.{with_next};
 ghost use Rattle.monk_history.specs.Meaning.Situation.{Situation};
-ghost use Rattle.monk_tell.specs.Permitted.{may_be, permitted_nexts};
+ghost use Rattle.monk_tell.specs.Told.{chosen_at};
 
-/// Every choice that a release might have made instead is listed: apart from stay and entry, only
-/// the front of a queue is ever permitted.
-pub fn only_fronts()
-    ensures { (k : Rules) (o : Object) (t : Situation) (e : Event) (x : Next) → IsTrue (is_some (next_of e))
-        → IsTrue (may_be k o t e x) → Contains (permitted_nexts k o t e) x }
+/// Exactly the choices that a release might have made instead are listed: apart from stay and entry, only the front of
+/// a queue is ever permitted.
+pub fn permitted_are_listed()
+    ensures all { (k : Rules) (o : Object) (t : Situation) (e : Event) (x : Next) → IsTrue (is_some (next_of e))
+        → IsTrue (is_permitted k o t (with_next x e)) → Contains (chosen_at k o t e).may x }
+    ensures only { (k : Rules) (o : Object) (t : Situation) (e : Event) (x : Next)
+        → Contains (chosen_at k o t e).may x → IsTrue (is_permitted k o t (with_next x e)) }
 {}

@@ -1,6 +1,6 @@
 //! The queues that a release chooses from.
 
-ghost use Rattle.std.specs.Prelude.{◌≡◌, ◌<◌, [], true, All, IfOk, take};
+ghost use Rattle.std.specs.Prelude.{◌≡◌, ◌<◌, [], true, All, IfOk};
 ghost use Rattle.monk_history.specs.Meaning.Choice as choice;
 ghost use Rattle.monk_history.specs.Meaning.Reasons.{fits_object};
 ghost use Rattle.monk_history.specs.Meaning.Signallers.{is_empty, signals};
@@ -65,25 +65,17 @@ pub(crate) fn ready_seats<T: Guarded>(
     Ok(ready)
 }
 
-/// The waiter queue.
-pub(crate) fn waiters(alloc: Global, replay: &Replay) -> Result<Vec<u8>, AllocError>
-    ensures { IfOk result (λ v. v.items ≡ (replay_situation replay.now []).waiters) }
+/// The waiter queue, the signaller queue, and the seats that wait until a predicate holds, each with its predicate.
+pub(crate) fn inner_queues(
+    alloc: Global,
+    replay: &Replay,
+) -> Result<(Vec<u8>, Vec<u8>, Vec<(u8, u8)>), AllocError>
+    ensures waiters { IfOk result (λ q. q.0.items ≡ (replay_situation replay.now []).waiters) }
+    ensures signallers { IfOk result (λ q. q.1.items ≡ (replay_situation replay.now []).signallers) }
+    ensures untils { IfOk result (λ q. q.2.items ≡ (replay_situation replay.now []).untils) }
 {
-    replay.waiters(alloc)
-}
-
-/// The signaller queue.
-pub(crate) fn signallers(alloc: Global, replay: &Replay) -> Result<Vec<u8>, AllocError>
-    ensures { IfOk result (λ v. v.items ≡ (replay_situation replay.now []).signallers) }
-{
-    replay.signallers(alloc)
-}
-
-/// The seats that wait until a predicate holds, each with its predicate.
-pub(crate) fn untils(alloc: Global, replay: &Replay) -> Result<Vec<(u8, u8)>, AllocError>
-    ensures { IfOk result (λ v. v.items ≡ (replay_situation replay.now []).untils) }
-{
-    replay.untils(alloc)
+    let (waiters, signallers) = (replay.waiters(alloc)?, replay.signallers(alloc)?);
+    Ok((waiters, signallers, replay.untils(alloc)?))
 }
 
 /// The seats that wait on the condition.
@@ -93,21 +85,12 @@ pub(crate) fn queue_at(alloc: Global, replay: &Replay, cond: u8) -> Result<Vec<u
     replay.condition(alloc, cond)
 }
 
-/// The first of them.
-fn front_at(alloc: Global, replay: &Replay, cond: u8) -> Result<Vec<u8>, AllocError>
-    ensures { IfOk result (λ v. v.items ≡ take 1 ((replay_situation replay.now []).condition cond)) }
-{
-    let mut queue = queue_at(alloc, replay, cond)?;
-    queue.truncate(1);
-    Ok(queue)
-}
-
 /// Whether nobody waits on the condition.
-fn is_empty_at(alloc: Global, replay: &Replay, cond: u8) -> Result<bool, AllocError>
-    ensures { IfOk result (λ empty. empty ≡ is_empty ((replay_situation replay.now []).condition cond)) }
+#[tactic(auto, using(crate::proofs::LineLaws::empty_if_none_first))]
+fn is_empty_at(replay: &Replay, cond: u8) -> bool
+    ensures { result ≡ is_empty ((replay_situation replay.now []).condition cond) }
 {
-    let queue = queue_at(alloc, replay, cond)?;
-    Ok(queue.first().is_none())
+    replay.first_at(cond).is_none()
 }
 
 /// Whom the event serves.
@@ -115,9 +98,13 @@ fn served(alloc: Global, replay: &Replay, event: Event) -> Result<Vec<u8>, Alloc
     ensures { IfOk result (λ v. v.items ≡ serves (replay_situation replay.now []).condition event) }
 {
     match event {
-        Event::Signal(_, cond, _) => front_at(alloc, replay, cond),
-        Event::SignalLeave(_, cond, _) => front_at(alloc, replay, cond),
-        Event::SignalWait(_, cond, ..) => front_at(alloc, replay, cond),
+        Event::Signal(_, cond, _)
+        | Event::SignalLeave(_, cond, _)
+        | Event::SignalWait(_, cond, ..) => {
+            let mut queue = queue_at(alloc, replay, cond)?;
+            queue.truncate(1);
+            Ok(queue)
+        }
         Event::SignalAll(_, cond) => queue_at(alloc, replay, cond),
         _ => Ok(Vec::new(alloc)),
     }
@@ -128,28 +115,20 @@ fn stepping_back(alloc: Global, replay: &Replay, event: Event) -> Result<Vec<u8>
     ensures { IfOk result (λ v. v.items ≡ signals (replay_situation replay.now []).condition event) }
 {
     match event {
-        Event::Signal(seat, cond, _) if !is_empty_at(alloc, replay, cond)? => {
-            Ok(vec![in alloc; seat]?)
-        }
+        Event::Signal(seat, cond, _) if !is_empty_at(replay, cond) => Ok(vec![in alloc; seat]?),
         _ => Ok(Vec::new(alloc)),
     }
 }
 
 /// Whether the event must stay.
-pub(crate) fn must_stay<T: Guarded>(
-    alloc: Global,
-    replay: &Replay,
-    object: &T,
-    event: Event,
-) -> Result<bool, AllocError>
+pub(crate) fn must_stay<T: Guarded>(replay: &Replay, object: &T, event: Event) -> bool
     requires { fits_object T.CODES T.PREDICATES event ≡ true }
-    ensures { IfOk result
-        (λ stays. stays ≡ choice.must_stay T.meaning (replay_situation replay.now (T.state object.now)) event) }
+    ensures { result ≡ choice.must_stay T.meaning (replay_situation replay.now (T.state object.now)) event }
 {
     match event {
-        Event::Signal(_, cond, _) => is_empty_at(alloc, replay, cond),
-        Event::Until(_, pred, _) => Ok(object.holds(pred)),
-        _ => Ok(false),
+        Event::Signal(_, cond, _) => is_empty_at(replay, cond),
+        Event::Until(_, pred, _) => object.holds(pred),
+        _ => false,
     }
 }
 
@@ -164,11 +143,10 @@ pub(crate) fn line_up<T: Guarded>(
     ensures { IfOk result
         (λ l. lines_of l ≡ choice.queues_at T.meaning (replay_situation replay.now (T.state object.now)) event) }
 {
-    let mut waiters = waiters(alloc, replay)?;
+    let (mut waiters, mut signallers, untils) = inner_queues(alloc, replay)?;
     waiters.extend_from_slice(&served(alloc, replay, event)?)?;
-    let mut signallers = signallers(alloc, replay)?;
     signallers.extend_from_slice(&stepping_back(alloc, replay, event)?)?;
-    let ready = ready_seats(alloc, object, &untils(alloc, replay)?)?;
+    let ready = ready_seats(alloc, object, &untils)?;
     Ok(Lines {
         waiters,
         signallers,

@@ -51,9 +51,9 @@ fn candidates(alloc: Global, lines: &Lines) -> Result<Vec<Next>, AllocError>
     Ok(nexts)
 }
 
-/// Whether the event may choose what it chose, where these are the queues that it chooses from.
-fn is_permitted(rules: Rules, lines: &Lines, stays: bool, event: Event) -> bool
-    ensures { result ≡ permits rules (lines_of lines.now) stays event }
+/// Whether the event might have chosen this, where these are the queues that it chooses from.
+fn is_permitted(rules: Rules, lines: &Lines, stays: bool, event: Event, next: Next) -> bool
+    ensures { result ≡ permits rules (lines_of lines.now) stays (with_next next event) }
 {
     let ready = lines.ready.first().copied();
     permits(
@@ -62,30 +62,27 @@ fn is_permitted(rules: Rules, lines: &Lines, stays: bool, event: Event) -> bool
         &lines.signallers,
         ready,
         stays,
-        event,
+        event.with_next(next),
     )
 }
 
-/// What the event might have chosen.
-fn may(
+/// Those of the nexts that the event might have chosen.
+fn permitted_of(
     alloc: Global,
+    nexts: &[Next],
     rules: Rules,
     lines: &Lines,
     stays: bool,
     event: Event,
 ) -> Result<Vec<Next>, AllocError>
     ensures { IfOk result
-        (λ v. v.items ≡ filter (λ x. permits rules (lines_of lines.now) stays (with_next x event))
-        (candidates (lines_of lines.now))) }
+        (λ v. v.items ≡ filter (λ x. permits rules (lines_of lines.now) stays (with_next x event)) nexts.now) }
 {
-    let nexts = candidates(alloc, lines)?;
-    let mut may = Vec::new(alloc);
-    for next in &nexts {
-        if is_permitted(rules, lines, stays, event.with_next(*next)) {
-            may.push(*next)?;
-        }
-    }
-    Ok(may)
+    nexts
+        .iter()
+        .copied()
+        .filter(|next| is_permitted(rules, lines, stays, event, *next))
+        .collect(alloc)
 }
 
 /// What the event chooses from and what it might choose, by its queues and by whether it must stay.
@@ -100,8 +97,10 @@ pub(crate) fn choice_from(
         (λ c. (o : Object) (t : Situation) → lines_of lines.now ≡ queues_at o t event → stays ≡ must_stay o t event
         → choice_of c ≡ chosen_at rules o t event) }
 {
+    let (fronts, nexts) = (fronts(alloc, lines)?, candidates(alloc, lines)?);
+    let may = permitted_of(alloc, &nexts, rules, lines, stays, event)?;
     Ok(Choice {
-        fronts: FrontList(fronts(alloc, lines)?),
-        may: Nexts(may(alloc, rules, lines, stays, event)?),
+        fronts: FrontList(fronts),
+        may: Nexts(may),
     })
 }

@@ -1,50 +1,52 @@
 //! Which sentence tells why an event is not allowed.
 
 ghost use Rattle.std.specs.Prelude.{◌≡◌, [], IfOk};
-ghost use Rattle.monk_history.specs.Meaning.Events.{seat_of, via_of};
+ghost use Rattle.monk_history.specs.Meaning.Events.{next_of, seat_of, via_of};
 ghost use Rattle.monk_audit.specs.Reasons.{number_of};
 ghost use Rattle.monk_audit.specs.Replay.{replay_situation};
 ghost use Rattle.monk_tell.specs.Cause.{behind_first, call_beyond, early_cause, has_to_stay, is_first, may_not_admit};
 ghost use Rattle.monk_tell.specs.Cause.{may_not_continue, may_not_recall, may_not_stay, may_not_wake, no_entry};
 ghost use Rattle.monk_tell.specs.Cause.{number_beyond, other_choice, other_reply, other_turn, out_of_turn};
+ghost use Rattle.monk_tell.specs.Cause.{still_waits};
+ghost use Rattle.monk_tell.specs.Told.{condition_lists};
 
 use crate::lines::Firsts;
-use crate::waiting::waits_at;
-use crate::why::{OutOfPlace, OutOfRange, OutOfTurn, Precedence, Staying, Why};
+use crate::queues::{Conditions, has};
+use crate::why::{OutOfTurn, Precedence, Staying, Why};
 use monk_audit::{Reason, Replay};
 use monk_history::{Event, From3, Header, Next, Turn, Via};
 use monk_kinds::{KindName, Mode, Rules};
 use std::alloc::{AllocError, Global};
 
 /// What the call is about, where that is out of range.
-fn call_beyond(seats: u8, conds: u8, event: Event) -> OutOfRange
+fn call_beyond(seats: u8, conds: u8, event: Event) -> Why
     ensures { result ≡ call_beyond seats conds event }
 {
     match event {
-        Event::Act(_, op, _) => OutOfRange::Operation(op.code),
-        Event::Until(_, pred, _) => OutOfRange::Predicate(pred),
+        Event::Act(_, op, _) => Why::NoOperation(op.code),
+        Event::Until(_, pred, _) => Why::NoPredicate(pred),
         Event::SignalWait(_, cond, other, _) => {
-            OutOfRange::Condition(if cond >= conds { cond } else { other }, conds)
+            Why::NoCondition(if cond >= conds { cond } else { other }, conds)
         }
         Event::Wait(_, cond, _)
         | Event::Signal(_, cond, _)
         | Event::SignalLeave(_, cond, _)
-        | Event::SignalAll(_, cond) => OutOfRange::Condition(cond, conds),
+        | Event::SignalAll(_, cond) => Why::NoCondition(cond, conds),
         Event::Enter(seat, _) | Event::Leave(seat, _) | Event::Resume(seat, _) => {
-            OutOfRange::Seat(seat, seats)
+            Why::NoSeat(seat, seats)
         }
     }
 }
 
 /// Of the numbers of an event the first that is out of range.
-fn number_beyond(seats: u8, conds: u8, event: Event) -> OutOfRange
+fn number_beyond(seats: u8, conds: u8, event: Event) -> Why
     ensures { result ≡ number_beyond seats conds event }
 {
     let seat = event.seat();
     match event.choice() {
-        _ if seat >= seats => OutOfRange::Seat(seat, seats),
+        _ if seat >= seats => Why::NoSeat(seat, seats),
         Some(Next::Waiter(chosen) | Next::Signaller(chosen) | Next::Until(chosen))
-            if chosen >= seats => { OutOfRange::Seat(chosen, seats) }
+            if chosen >= seats => { Why::NoSeat(chosen, seats) }
         _ => call_beyond(seats, conds, event),
     }
 }
@@ -63,24 +65,24 @@ fn other_turn(turn: Turn, seat: u8) -> OutOfTurn
 }
 
 /// Why it is not the turn of the seat, which waits on that condition, if it waits on one.
-fn out_of_turn(waits: Option<u8>, turn: Turn, seat: u8) -> Why
+fn out_of_turn(waits: Option<usize>, turn: Turn, seat: u8) -> OutOfTurn
     ensures { result ≡ out_of_turn waits turn seat }
 {
     match waits {
-        Some(cond) => Why::Unsignalled(seat, cond),
-        None => Why::Turn(other_turn(turn, seat)),
+        Some(cond) => OutOfTurn::Unsignalled(seat, cond),
+        None => other_turn(turn, seat),
     }
 }
 
 /// Why the seat may not enter.
-fn no_entry(inside: bool, event: Event) -> OutOfPlace
+fn no_entry(inside: bool, event: Event) -> OutOfTurn
     ensures { result ≡ no_entry inside (via_of event) (seat_of event) }
 {
     let seat = event.seat();
     match event {
-        _ if inside => OutOfPlace::Inside(seat),
-        Event::Enter(_, Via::Handed) => OutOfPlace::FirstOfAll(seat),
-        _ => OutOfPlace::NotFree(seat),
+        _ if inside => OutOfTurn::Inside(seat),
+        Event::Enter(_, Via::Handed) => OutOfTurn::FirstOfAll(seat),
+        _ => OutOfTurn::NotFree(seat),
     }
 }
 
@@ -97,14 +99,14 @@ pub(crate) fn early(
 {
     let seat = event.seat();
     match reason {
-        Reason::Range => Ok(Why::Range(number_beyond(header.seats(), header.conds(), event))),
+        Reason::Range => Ok(number_beyond(header.seats(), header.conds(), event)),
         Reason::Call => Ok(Why::Call(header.kind())),
         Reason::Turn => {
-            let waits = waits_at(alloc, replay, header.conds(), seat)?;
-            Ok(out_of_turn(waits, replay.turn(), seat))
+            let conditions = Conditions::of(alloc, replay, header.conds())?;
+            Ok(Why::Turn(out_of_turn(conditions.of_seat(seat), replay.turn(), seat)))
         }
         Reason::Place | Reason::Reply | Reason::Choice => {
-            Ok(Why::Place(no_entry(replay.is_inside(seat), event)))
+            Ok(Why::Turn(no_entry(replay.is_inside(seat), event)))
         }
     }
 }
@@ -184,13 +186,23 @@ fn behind_first(first: Option<u8>, chosen: u8, queue: From3) -> Why
     }
 }
 
+/// The condition on which the seat still waits that the event chose as a waiter.
+pub(crate) fn still_waits(conditions: &Conditions, waiters: &[u8], event: Event) -> Option<usize>
+    ensures { result ≡ still_waits (condition_lists conditions.now) waiters.now (next_of event) }
+{
+    match event.choice() {
+        Some(Next::Waiter(chosen)) if !has(waiters, chosen) => conditions.of_seat(chosen),
+        _ => None,
+    }
+}
+
 /// Why that waiter may not be chosen, which waits on that condition, if nobody has signalled it.
-fn may_not_wake(kind: KindName, firsts: Firsts, waits: Option<u8>, seat: u8, chosen: u8) -> Why
+fn may_not_wake(kind: KindName, firsts: Firsts, waits: Option<usize>, seat: u8, chosen: u8) -> Why
     ensures { result ≡ may_not_wake kind firsts waits seat chosen }
 {
     if !is_first(chosen, firsts.waiter) {
         return match waits {
-            Some(cond) => Why::Unsignalled(chosen, cond),
+            Some(cond) => Why::Turn(OutOfTurn::Unsignalled(chosen, cond)),
             None => behind_first(firsts.waiter, chosen, From3::Waiter),
         };
     }
@@ -234,7 +246,7 @@ pub(crate) fn wrong_choice(
     kind: KindName,
     rules: Rules,
     firsts: Firsts,
-    waits: Option<u8>,
+    waits: Option<usize>,
     stays: bool,
     event: Event,
 ) -> Why

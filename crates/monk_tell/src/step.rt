@@ -101,7 +101,7 @@ fn release_choice<T: Guarded>(
     if event.choice().is_none() {
         return Ok(None);
     }
-    let stays = must_stay(alloc, replay, object, event)?;
+    let stays = must_stay(replay, object, event);
     let lines = line_up(alloc, replay, object, event)?;
     Ok(Some(choice_from(alloc, rules, &lines, stays, event)?))
 }

@@ -1,42 +1,54 @@
 //! What is told of a history.
 
+use crate::data::Data;
 use crate::forbidden::ForbiddenEvent;
-use crate::said::SaidEvent;
-use crate::situation::Situation;
-use monk_audit::Verdict;
+use crate::refused::Refused;
+use crate::rules::{Ranks, mode_word};
+use crate::said::{SaidEvent, SaidTurn};
+use crate::standing::Standing;
+use monk_audit::{Verdict, rules_by_name};
+use monk_kinds::KindName;
+use monk_object::ObjectName;
 use std::fmt;
 
 /// What is told of a history: the verdict, how the monitor stands, and what is wrong.
 #[derive(Debug, Drop)]
 pub struct Telling {
-    /// Whether it is legal, or which event is the first that is not allowed.
+    /// The kind of the monitor.
+    pub kind: KindName,
+    /// Which object the monitor guards.
+    pub object: ObjectName,
+    /// Whether the history is legal, or which event is the first that is not allowed.
     pub verdict: Verdict,
     /// How the monitor stands before that event, or after all events of a legal history.
-    pub situation: Situation,
+    pub standing: Standing,
+    /// The acts of the events up to there that the object refused.
+    pub refused: Refused,
     /// What is wrong with that event.
     pub blame: Option<ForbiddenEvent>,
 }
 
-/// In lines, behind the one of the verdict: of a forbidden event which one it is, how the monitor stands, and of that
-/// event what its reason adds, and why.
+/// In lines, behind the one of the verdict: of a forbidden event which one it is; the kind with its mode and
+/// priorities, the turn, who is inside, the data, also in words, the refused acts and the queues; and of that event
+/// what its reason adds, and why.
 impl fmt::Display for Telling {
     fn fmt<W: fmt::Write>(&self, f: &mut fmt::Formatter<W>) -> fmt::Result {
-        let situation = &self.situation;
-        let Some(blame) = &self.blame else {
-            return write!(f, "{situation}");
-        };
-        let line = u64::from(blame.step) + 1;
-        write!(
-            f,
-            "line: {line}\nevent: {}\n{situation}",
-            SaidEvent(blame.event)
-        )?;
-        if let Some(reply) = blame.reply {
-            write!(f, "reply: {reply}\n")?;
+        if let Some(blame) = &self.blame {
+            let line = u64::from(blame.step) + 1;
+            write!(f, "line: {line}\nevent: {}\n", SaidEvent(blame.event))?;
         }
-        if let Some(choice) = &blame.choice {
-            write!(f, "{choice}")?;
+        let rules = rules_by_name(self.kind);
+        let (kind, mode, ranks) = (self.kind.as_str(), mode_word(rules.mode), Ranks(rules));
+        write!(f, "kind: {kind} {mode} {ranks}\n")?;
+        let standing = &self.standing;
+        let (turn, inside) = (SaidTurn(standing.turn), &standing.inside);
+        write!(f, "turn: {turn}\ninside:{inside}\n")?;
+        let data = Data(self.object, &standing.data);
+        let (refused, queues) = (&self.refused, &standing.queues);
+        write!(f, "data:{data}\n{refused}{queues}")?;
+        match &self.blame {
+            Some(blame) => write!(f, "{blame}"),
+            None => Ok(()),
         }
-        write!(f, "why: {}\n", blame.why)
     }
 }

@@ -9,7 +9,8 @@ ghost use Rattle.monk_tell.specs.Told.{IsJudged, account, allowed_events, blame_
 use crate::forbidden::ForbiddenEvent;
 use crate::judged::{JudgedHistory, allowed_events};
 use crate::judging::{FirstFault, blame};
-use crate::situation::Situation;
+use crate::refused::refused_acts;
+use crate::standing::Standing;
 use crate::step::Step;
 use crate::steps::{follow, steps_from};
 use crate::telling::Telling;
@@ -63,11 +64,15 @@ fn telling<T: Listed>(
     let header = history.header;
     let rules = rules_by_name(header.kind());
     let past = &history.events[..allowed_events(history.verdict)];
-    let situation = Situation::of(alloc, header, rules, replay, &*object, past)?;
+    let standing = Standing::of(alloc, header, rules.mode, replay, &*object)?;
+    let refused = refused_acts(alloc, past)?;
     let blame = blamed(alloc, history, replay, object)?;
     Ok(Telling {
+        kind: header.kind(),
+        object: header.object(),
         verdict: history.verdict,
-        situation,
+        standing,
+        refused,
         blame,
     })
 }

@@ -2,7 +2,7 @@
 
 use super::jobs::Expected;
 use super::records::is_legal;
-use monk_commands::{StreamFault, hasty_stream};
+use monk_commands::{Crew, StreamFault, hasty_stream};
 use monk_history::Device;
 use monk_kinds::KindName;
 use std::sync::Wait;
@@ -17,7 +17,17 @@ fn tells<R: Threads + Wait + Sync + AllocGlobal>(rt: &R, kind: KindName, text: &
     let mut page = Expected::new(text.as_bytes());
     let mut file = Device::new(&mut history);
     let mut writer = Device::new(&mut page);
-    let told = hasty_stream(rt, alloc, kind, 4, 10, &mut file, &mut writer);
+    let told = hasty_stream(
+        rt,
+        alloc,
+        Crew {
+            kind,
+            seats: 4,
+            rounds: 10,
+        },
+        &mut file,
+        &mut writer,
+    );
     matches!(told, Ok(0))
         && page.agrees()
         && page.taken == text.len()
@@ -52,7 +62,17 @@ fn tells_nothing<R: Threads + Wait + Sync + AllocGlobal>(rt: &R, refuses: bool) 
     let mut page = Vec::new(rt.alloc());
     let mut file = Device::new(Expected::failing(b"", 1, 1, refuses));
     let mut writer = Device::new(&mut page);
-    let told = hasty_stream(rt, rt.alloc(), KindName::Pb, 2, 1, &mut file, &mut writer);
+    let told = hasty_stream(
+        rt,
+        rt.alloc(),
+        Crew {
+            kind: KindName::Pb,
+            seats: 2,
+            rounds: 1,
+        },
+        &mut file,
+        &mut writer,
+    );
     matches!(told, Err(StreamFault::File)) && page.is_empty()
 }
 

@@ -2,7 +2,7 @@
 ghost use Rattle.monk_samples.specs.Samples.{IsInRange};
 
 use super::jobs::Expected;
-use monk_commands::{audit_stream, record_stream};
+use monk_commands::{Crew, audit_stream, record_stream};
 use monk_history::Device;
 use monk_kinds::KindName;
 use monk_samples::Sample;
@@ -31,7 +31,17 @@ fn is_recorded<R: Threads + Wait + Sync + AllocGlobal>(
     let alloc = rt.alloc();
     let mut page = Vec::new(alloc);
     let mut writer = Device::new(&mut page);
-    let told = record_stream(rt, alloc, kind, sample, seats, rounds, &mut writer);
+    let told = record_stream(
+        rt,
+        alloc,
+        sample,
+        Crew {
+            kind,
+            seats,
+            rounds,
+        },
+        &mut writer,
+    );
     matches!(told, Ok(0))
         && page.as_slice().starts_with(header.as_bytes())
         && is_legal(alloc, page.as_slice())

@@ -41,6 +41,18 @@ fn wait_on_the_second(conditions: &Conditions, want: &[u8]) -> bool {
     }
 }
 
+/// Whether that queue has these seats.
+fn has(queue: &Option<SeatList>, want: &[u8]) -> bool {
+    matches!(queue, Some(seats) if are(seats, want))
+}
+
+/// Whether these seats wait on the second condition, nobody in the waiter queue, and those in the signaller queue.
+fn are_queues(queues: &QueueLists, second: &[u8], signallers: &[u8]) -> bool {
+    matches!(&queues.conditions, Some(conditions) if wait_on_the_second(conditions, second))
+        && has(&queues.waiters, &[])
+        && has(&queues.signallers, signallers)
+}
+
 /// Whether the choice was among those first in their queues, and might be these.
 fn might_be(choice: &Option<Choice>, fronts: &[(From3, u8)], may: &[Next]) -> bool {
     match choice {
@@ -52,13 +64,7 @@ fn might_be(choice: &Option<Choice>, fronts: &[(From3, u8)], may: &[Next]) -> bo
 /// Whether seat 0 waits on its condition, and an item is in the buffer.
 fn waits_by_an_item(step: &Step) -> bool {
     let standing = &step.standing;
-    let waits = match &standing.queues {
-        QueueLists::Explicit(conditions, waiters, signallers) => {
-            wait_on_the_second(conditions, &[0]) && are(waiters, &[]) && are(signallers, &[])
-        }
-        _ => false,
-    };
-    waits
+    are_queues(&standing.queues, &[0], &[])
         && step.event.is_none()
         && step.choice.is_none()
         && standing.turn == Turn::Owned(1)
@@ -68,13 +74,7 @@ fn waits_by_an_item(step: &Step) -> bool {
 
 /// Whether the signal has handed the monitor over.
 fn hands_over(step: &Step) -> bool {
-    let stepped_back = match &step.standing.queues {
-        QueueLists::Explicit(conditions, waiters, signallers) => {
-            wait_on_the_second(conditions, &[]) && are(waiters, &[]) && are(signallers, &[1])
-        }
-        _ => false,
-    };
-    stepped_back
+    are_queues(&step.standing.queues, &[], &[1])
         && step.event == Some(Event::Signal(1, 1, Next::Waiter(0)))
         && might_be(
             &step.choice,
@@ -129,13 +129,10 @@ fn steps_end_with_the_last_asked_for(rt: HostRuntime) {
 fn choose_the_ready(told: &[Step]) -> bool {
     match told {
         [act, leave] => {
-            let is_ready = match &act.standing.queues {
-                QueueLists::Automatic(untils, ready) => {
-                    untils.0.as_slice() == [(0, 1)].as_slice() && are(ready, &[0])
-                }
-                _ => false,
-            };
-            is_ready && might_be(&leave.choice, &[(From3::Until, 0)], &[Next::Until(0)])
+            let queues = &act.standing.queues;
+            matches!(&queues.untils, Some(untils) if untils.0.as_slice() == [(0, 1)].as_slice())
+                && has(&queues.ready, &[0])
+                && might_be(&leave.choice, &[(From3::Until, 0)], &[Next::Until(0)])
         }
         _ => false,
     }

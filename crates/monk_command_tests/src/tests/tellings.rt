@@ -33,14 +33,22 @@ fn are(seats: &SeatList, want: &[u8]) -> bool {
 
 /// Whether the seats of the second condition wait, and no others.
 fn wait_on_the_second(queues: &QueueLists, want: &[u8]) -> bool {
-    let QueueLists::Explicit(conditions, waiters, signallers) = queues else {
+    let Some(conditions) = &queues.conditions else {
         return false;
     };
     let seats = conditions.0.as_slice();
     if seats.len() != 2 {
         return false;
     }
-    are(&seats[0], &[]) && are(&seats[1], want) && are(waiters, &[]) && are(signallers, &[])
+    are(&seats[0], &[])
+        && are(&seats[1], want)
+        && is_empty(&queues.waiters)
+        && is_empty(&queues.signallers)
+}
+
+/// Whether the kind has that queue, and nobody is in it.
+fn is_empty(queue: &Option<SeatList>) -> bool {
+    matches!(queue, Some(seats) if are(seats, &[]))
 }
 
 /// Whether the choice was among those first in their queues, and had to be this one.
@@ -72,16 +80,14 @@ fn blames_the_signal(blame: &Option<ForbiddenEvent>) -> bool {
 
 /// Whether a signal is forbidden that had to let its seat go on.
 fn is_choice_told(told: &Telling) -> bool {
-    let situation = &told.situation;
+    let standing = &told.standing;
     let is_told = told.verdict == Verdict::Forbidden { step: 6, reason: 6 }
-        && situation.standing.turn == Turn::Owned(1)
-        && are(&situation.standing.inside, &[0, 1])
-        && situation.standing.data.0.as_slice() == [1, 7].as_slice()
-        && situation.refused.first.0.as_slice() == [2].as_slice()
-        && situation.refused.more == 0;
-    is_told
-        && wait_on_the_second(&situation.standing.queues, &[0])
-        && blames_the_signal(&told.blame)
+        && standing.turn == Turn::Owned(1)
+        && are(&standing.inside, &[0, 1])
+        && standing.data.0.as_slice() == [1, 7].as_slice()
+        && told.refused.first.0.as_slice() == [2].as_slice()
+        && told.refused.more == 0;
+    is_told && wait_on_the_second(&standing.queues, &[0]) && blames_the_signal(&told.blame)
 }
 
 #[test]
@@ -92,20 +98,17 @@ fn choice_is_told(rt: HostRuntime) {
 
 /// Whether nobody waits until a predicate holds.
 fn nobody_waits(queues: &QueueLists) -> bool {
-    match queues {
-        QueueLists::Automatic(untils, ready) => untils.0.is_empty() && ready.0.is_empty(),
-        _ => false,
-    }
+    matches!(&queues.untils, Some(untils) if untils.0.is_empty()) && is_empty(&queues.ready)
 }
 
 /// Whether a seat is due whose predicate holds.
 fn is_wait_told(told: &Telling) -> bool {
-    let situation = &told.situation;
+    let standing = &told.standing;
     told.verdict == Verdict::Legal(5)
         && told.blame.is_none()
-        && situation.standing.turn == Turn::Due(0, From3::Until)
-        && are(&situation.standing.inside, &[0])
-        && nobody_waits(&situation.standing.queues)
+        && standing.turn == Turn::Due(0, From3::Until)
+        && are(&standing.inside, &[0])
+        && nobody_waits(&standing.queues)
 }
 
 #[test]

@@ -1,11 +1,9 @@
 //! The answer to a log.
 
-ghost use Rattle.std.specs.Prelude.{◌≡◌, ◌≢◌, ◌≤◌, ◌^◌, IfOk, length, string_bytes};
-ghost use Rattle.monk_history.specs.Text.Faults.{memory};
+ghost use Rattle.std.specs.Prelude.{◌≡◌, ◌≤◌, ◌^◌, IfOk, length, string_bytes};
 ghost use Rattle.monk_history.specs.Text.Lines.{Gives};
 ghost use Rattle.monk_logs.specs.Log.Reading.{log_at, log_view};
 ghost use Rattle.monk_object.specs.Names.{most};
-ghost use Rattle.monk_commands.specs.Answer.{unreadable};
 ghost use Rattle.monk_commands.specs.LogAnswered as answered;
 ghost use Rattle.monk_commands.specs.LogFound as found;
 ghost use Rattle.monk_commands.specs.LogFound.{IsFinding};
@@ -66,33 +64,19 @@ fn finding(
     })
 }
 
-/// The finding, told.
-fn told(
-    alloc: Global,
-    view: LogView,
-    question: Question<'_>,
-    header: &LogHeader,
-    lines: &[LogLine],
-    finding: &Finding,
-) -> Result<String, AllocError>
-    requires few { length lines.now ≤ 2 ^ 25 }
-    requires size { header.now.size ≤ most header.now.object }
-    ensures { IfOk result (λ text. answered.Tells view finding.now (string_bytes text)) }
+/// The answer that tells by this line why nothing is found.
+fn refused(alloc: Global, view: LogView, name: &str, line: String) -> Result<LineAnswer, AllocError>
+    ensures answer { IfOk result
+        (λ a. (a.status ≡ 2) × answered.Says view (string_bytes line) (string_bytes a.text)) }
+    ensures status { IfOk result (λ a. a.status ≤ 2) }
 {
+    let status = 2;
     match view {
-        LogView::Line => finding_line(alloc, finding),
-        LogView::Json => finding_json(alloc, question.name, finding),
-        LogView::Explanation => explanation(alloc, question.beside, header, lines, finding),
-    }
-}
-
-/// The line that tells why nothing is found, as it is told.
-fn said(alloc: Global, view: LogView, name: &str, line: String) -> Result<String, AllocError>
-    ensures { IfOk result (λ text. answered.Says view (string_bytes line) (string_bytes text)) }
-{
-    match view {
-        LogView::Line | LogView::Explanation => Ok(line),
-        LogView::Json => fault_json(alloc, name, line.as_str()),
+        LogView::Line | LogView::Explanation => Ok(LineAnswer { status, text: line }),
+        LogView::Json => {
+            let text = fault_json(alloc, name, line.as_str())?;
+            Ok(LineAnswer { status, text })
+        }
     }
 }
 
@@ -111,11 +95,13 @@ fn judged(
     ensures status { IfOk result (λ a. a.status ≤ 2) }
 {
     let finding = finding(alloc, question.means, question.has_ended, header, lines)?;
-    let text = told(alloc, view, question, header, lines, &finding)?;
-    Ok(LineAnswer {
-        status: finding.status(),
-        text,
-    })
+    let status = finding.status();
+    let text = match view {
+        LogView::Line => finding_line(alloc, &finding)?,
+        LogView::Json => finding_json(alloc, question.name, &finding)?,
+        LogView::Explanation => explanation(alloc, question.beside, header, lines, &finding)?,
+    };
+    Ok(LineAnswer { status, text })
 }
 
 /// The answer to a log that was read.
@@ -132,28 +118,9 @@ fn answer_to_read(
     ensures status { IfOk result (λ a. a.status ≤ 2) }
 {
     match LogRefusal::of(question.kind, question.means, header, lines) {
-        Some(refusal) => {
-            let text = said(alloc, view, question.name, refusal.line(alloc)?)?;
-            Ok(LineAnswer { status: 2, text })
-        }
+        Some(refusal) => refused(alloc, view, question.name, refusal.line(alloc)?),
         None => judged(alloc, view, question, header, lines),
     }
-}
-
-/// The answer to a text that can't be read.
-fn answer_to_fault(
-    alloc: Global,
-    view: LogView,
-    name: &str,
-    fault: ReadFault,
-) -> Result<LineAnswer, AllocError>
-    ensures answer { IfOk result
-        (λ a. (fault ≢ memory) × (a.status ≡ 2) × answered.Says view (unreadable fault).text (string_bytes a.text)) }
-    ensures status { IfOk result (λ a. a.status ≤ 2) }
-{
-    let answer = unreadable(alloc, fault)?;
-    let text = said(alloc, view, name, answer.text)?;
-    Ok(LineAnswer { status: 2, text })
 }
 
 /// The log that has this text. The text isn't kept, since it takes a third of what its lines take.
@@ -177,6 +144,6 @@ pub(crate) fn answer_to_log(
 {
     match read_and_drop(alloc, bytes) {
         Ok((header, lines)) => answer_to_read(alloc, view, question, &header, &lines),
-        Err(fault) => answer_to_fault(alloc, view, question.name, fault),
+        Err(fault) => refused(alloc, view, question.name, unreadable(alloc, fault)?.text),
     }
 }

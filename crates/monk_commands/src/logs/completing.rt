@@ -11,7 +11,6 @@ use monk_judge::{Misfit, Run};
 use monk_logs::{LogHeader, LogLine, read_log};
 use std::alloc::{AllocError, Global};
 
-/// The line of a misfit.
 fn misfit_line(alloc: Global, misfit: Misfit) -> Result<String, AllocError>
     ensures { IfOk result (λ text. string_bytes text ≡ misfit_line misfit) }
 {
@@ -19,7 +18,6 @@ fn misfit_line(alloc: Global, misfit: Misfit) -> Result<String, AllocError>
     Ok(format!(in alloc; "misfit at {line}: {word}\n")?)
 }
 
-/// The text of the run, or the line of its misfit.
 fn given(alloc: Global, header: &LogHeader, run: &Run) -> Result<LineAnswer, AllocError>
     ensures answer { IfOk result (λ a. IsRunGiven header.now run.now a.status (string_bytes a.text)) }
     ensures status { IfOk result (λ a. a.status ≤ 2) }
@@ -36,7 +34,6 @@ fn given(alloc: Global, header: &LogHeader, run: &Run) -> Result<LineAnswer, All
     }
 }
 
-/// The answer to a log that was read.
 fn answer_to_log(
     alloc: Global,
     header: &LogHeader,
@@ -53,8 +50,9 @@ fn answer_to_log(
     Ok(given(alloc, header, &run)?)
 }
 
-/// The answer to a text.
-pub(crate) fn run_answer(alloc: Global, bytes: &[u8]) -> Result<LineAnswer, AllocError>
+/// A run that tells the text of a log, or why there is none. See [`Task::Complete`](crate::Task::Complete). It fails
+/// only for want of memory.
+pub fn run_answer(alloc: Global, bytes: &[u8]) -> Result<LineAnswer, AllocError>
     ensures answer { IfOk result (λ a. IsRunAnswer bytes.now a.status (string_bytes a.text)) }
     ensures status { IfOk result (λ a. a.status ≤ 2) }
 {

@@ -14,6 +14,7 @@ use monk_draw::{Picture, Span, Window, is_behind};
 use monk_judge::{Misfit, Run};
 use monk_kinds::KindName;
 use monk_logs::{LogHeader, LogLine, read_log};
+use monk_page::ShownRun;
 use std::alloc::{AllocError, Global};
 
 /// The lines that are drawn: those up to the one that misfits.
@@ -62,7 +63,10 @@ fn shown(
     let picture = form.of_scene(alloc, &heading, &scene, &reason(alloc, run.misfit)?)?;
     let text = match show {
         Show::Picture(_) => picture,
-        Show::Page => page_around(alloc, picture.as_str(), header, run, lines, span)?,
+        Show::Page => {
+            let shown = ShownRun { run, lines, span };
+            page_around(alloc, picture.as_str(), header, shown)?
+        }
     };
     Ok(LineAnswer {
         status: status(run.misfit),
@@ -122,8 +126,9 @@ fn answer_to_read(
     shown_if_there(alloc, show, window, header, &run, drawn)
 }
 
-/// The picture of a log, with one column for each line up to the one that misfits, or the page with it.
-pub(crate) fn show_log(
+/// The picture or the page of a log, from its text, with a column for each line up to the one that misfits; or why
+/// there is none. See [`Task::Draw`](crate::Task::Draw). It fails only for want of memory.
+pub fn show_log(
     alloc: Global,
     show: Show<'_>,
     window: Option<Window>,

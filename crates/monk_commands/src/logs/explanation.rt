@@ -35,7 +35,6 @@ pub(crate) fn explanation(
     Ok(text)
 }
 
-/// The sentences.
 fn sentences(
     alloc: Global,
     beside: &[u8],

@@ -1,9 +1,9 @@
 //! What is found of a log.
 
 ghost use Rattle.std.specs.Prelude.{◌≡◌, ◌≤◌};
-ghost use Rattle.monk_commands.specs.LogFound.{finding_status, is_busy, never_again};
+ghost use Rattle.monk_commands.specs.LogFound.{finding_status, never_again};
 
-use monk_judge::{Holder, Report};
+use monk_judge::Report;
 use monk_logs::Crossed;
 
 /// What is found of a log.
@@ -25,13 +25,6 @@ pub(crate) struct Finding {
 /// again now and then, and an `if` never does. With fewer it would often be said of a right program.
 const ENOUGH_OVERTAKEN: u64 = 8;
 
-/// Whether somebody holds the lock at the end of a program that didn't end by itself.
-fn is_busy(has_ended: bool, holder: Option<Holder>) -> bool
-    ensures { result ≡ is_busy has_ended holder }
-{
-    holder.is_some() && !has_ended
-}
-
 impl Finding {
     /// The exit status: 1 if the log misfits, if a signal is missed, or if the program is busy at its end. A program
     /// that ends by itself isn't stuck, so its end is no fault.
@@ -42,7 +35,7 @@ impl Finding {
         let report = &self.report;
         if report.misfit.is_some()
             || report.missed.is_some()
-            || is_busy(self.has_ended, report.holder)
+            || (report.holder.is_some() && !self.has_ended)
         {
             1
         } else {
@@ -60,18 +53,12 @@ impl Finding {
 
     /// The line since which the lock is held at the end, if it is, by its index behind the header.
     pub(crate) fn held_since(&self) -> Option<usize> {
-        match self.report.holder {
-            Some(holder) => Some(holder.since),
-            None => None,
-        }
+        self.report.holder.map(|holder| holder.since)
     }
 
     /// The line of the last signal that crossed a thread, if one did, by its index behind the header.
     pub(crate) fn crossed_at(&self) -> Option<usize> {
-        match self.crossed {
-            Some(crossed) => Some(crossed.line.saturating_sub(1)),
-            None => None,
-        }
+        self.crossed.map(|crossed| crossed.line.saturating_sub(1))
     }
 
     /// The word for how the run of the lines that fit ends.

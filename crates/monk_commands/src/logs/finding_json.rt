@@ -11,21 +11,40 @@ pub(crate) fn finding_json(
     name: &str,
     finding: &Finding,
 ) -> Result<String, AllocError> {
-    let mut map = Map::new(alloc);
-    put(&mut map, alloc, "file", Value::try_from_str(alloc, name)?)?;
-    put_verdict(alloc, &mut map, finding)?;
-    put_end(alloc, &mut map, finding)?;
-    put_tally(alloc, &mut map, finding)?;
-    put_remarks(alloc, &mut map, finding)?;
-    let mut line = Value::Object(map).to_string(alloc)?;
-    line.push_str("\n")?;
-    Ok(line)
+    let (report, tally) = (&finding.report, &finding.report.tally);
+    let crossed = finding.crossed.map_or(0, |crossed| crossed.seats as u64);
+    let mut value = json!(in alloc; {
+        "file": name,
+        "fits": report.misfit.is_none(),
+        "end": finding.end_name(),
+        "ended": finding.has_ended,
+        "asleep": report.asleep,
+        "woken": report.woken,
+        "served": tally.served,
+        "passed": tally.passed,
+        "spurious": {"count": tally.spurious, "first": line_value(tally.first_spurious)},
+        "unheard": {"count": tally.unheard, "last": line_value(tally.last_unheard)},
+        "overtaken": {
+            "count": tally.overtaken, "again": tally.again, "first": line_value(tally.first_not_again)
+        },
+        "missed": line_value(report.missed),
+        "crossed": {"count": crossed, "last": line_value(finding.crossed_at())}
+    })?;
+    if let Some(map) = value.as_object_mut() {
+        put_misfit(alloc, map, finding)?;
+        put_holder(alloc, map, finding)?;
+    }
+    line_of(alloc, &value)
 }
 
 /// Why nothing is found, as one line of JSON.
 pub(crate) fn fault_json(alloc: Global, name: &str, line: &str) -> Result<String, AllocError> {
     let error = line.trim_end();
-    let mut line = json!(in alloc; {"file": name, "error": error})?.to_string(alloc)?;
+    line_of(alloc, &json!(in alloc; {"file": name, "error": error})?)
+}
+
+fn line_of(alloc: Global, value: &Value) -> Result<String, AllocError> {
+    let mut line = value.to_string(alloc)?;
     line.push_str("\n")?;
     Ok(line)
 }
@@ -38,15 +57,13 @@ fn line_value(index: Option<usize>) -> Value {
     }
 }
 
-/// Puts whether the log fits.
-fn put_verdict(
+/// Puts what is wrong with which line, if the log misfits.
+fn put_misfit(
     alloc: Global,
     map: &mut Map<String, Value>,
     finding: &Finding,
 ) -> Result<(), AllocError> {
-    let misfit = finding.report.misfit;
-    put(map, alloc, "fits", Value::from(misfit.is_none()))?;
-    let Some(misfit) = misfit else {
+    let Some(misfit) = finding.report.misfit else {
         return Ok(());
     };
     put(map, alloc, "line", Value::from(number(misfit.line)))?;
@@ -55,66 +72,15 @@ fn put_verdict(
     put(map, alloc, "seat", Value::from(finding.wrong_seat))
 }
 
-/// Puts how the run of the lines that fit ends.
-fn put_end(
+/// Puts who holds the lock at the end, if somebody does.
+fn put_holder(
     alloc: Global,
     map: &mut Map<String, Value>,
     finding: &Finding,
 ) -> Result<(), AllocError> {
-    let report = &finding.report;
-    let end = Value::try_from_str(alloc, finding.end_name())?;
-    put(map, alloc, "end", end)?;
-    put(map, alloc, "ended", Value::from(finding.has_ended))?;
-    put(map, alloc, "asleep", Value::from(report.asleep))?;
-    put(map, alloc, "woken", Value::from(report.woken))?;
-    if let Some(holder) = report.holder {
-        put(map, alloc, "holder", Value::from(holder.seat))?;
-        put(map, alloc, "since", Value::from(number(holder.since)))?;
-    }
-    Ok(())
-}
-
-/// Puts what is counted.
-fn put_tally(
-    alloc: Global,
-    map: &mut Map<String, Value>,
-    finding: &Finding,
-) -> Result<(), AllocError> {
-    let tally = &finding.report.tally;
-    put(map, alloc, "served", Value::from(tally.served))?;
-    put(map, alloc, "passed", Value::from(tally.passed))?;
-    let spurious = counted(alloc, tally.spurious, "first", tally.first_spurious)?;
-    put(map, alloc, "spurious", spurious)?;
-    let unheard = counted(alloc, tally.unheard, "last", tally.last_unheard)?;
-    put(map, alloc, "unheard", unheard)?;
-    let first = line_value(tally.first_not_again);
-    let overtaken = json!(in alloc;
-        {"count": tally.overtaken, "again": tally.again, "first": first}
-    )?;
-    put(map, alloc, "overtaken", overtaken)
-}
-
-/// A number, and the line that goes with it.
-fn counted(
-    alloc: Global,
-    many: u64,
-    name: &str,
-    index: Option<usize>,
-) -> Result<Value, AllocError> {
-    json!(in alloc; {"count": many, name: line_value(index)})
-}
-
-/// Puts what was found beside.
-fn put_remarks(
-    alloc: Global,
-    map: &mut Map<String, Value>,
-    finding: &Finding,
-) -> Result<(), AllocError> {
-    put(map, alloc, "missed", line_value(finding.report.missed))?;
-    let many = match finding.crossed {
-        Some(crossed) => crossed.seats as u64,
-        None => 0,
+    let Some(holder) = finding.report.holder else {
+        return Ok(());
     };
-    let crossed = counted(alloc, many, "last", finding.crossed_at())?;
-    put(map, alloc, "crossed", crossed)
+    put(map, alloc, "holder", Value::from(holder.seat))?;
+    put(map, alloc, "since", Value::from(number(holder.since)))
 }

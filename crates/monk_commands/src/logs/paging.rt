@@ -8,12 +8,12 @@ ghost use Rattle.monk_page.specs.Log.{IsLogPage};
 ghost use Rattle.monk_page.specs.LogScene.{run_scene};
 ghost use Rattle.monk_commands.specs.LogDrawn.{HasRun};
 
-use crate::objects::{book, flags, shop};
+use crate::objects::{book, buffer, flags, shop};
 use monk_draw::{Scene, Span};
 use monk_judge::Run;
 use monk_logs::{LogHeader, LogLine};
-use monk_object::{Buffer, ObjectName};
-use monk_page::{log_page, run_scene};
+use monk_object::ObjectName;
+use monk_page::{ShownRun, log_page, run_scene};
 use std::alloc::{AllocError, Global};
 
 /// The scene of a run by the lines that are drawn.
@@ -35,10 +35,7 @@ pub(crate) fn scene(
 {
     let (size, steps) = (header.size(), &run.steps);
     match header.object() {
-        ObjectName::Buffer => match Buffer::make(alloc, size) {
-            Ok(buffer) => run_scene(alloc, header, buffer, steps, lines, span),
-            Err(_) => Err(AllocError),
-        },
+        ObjectName::Buffer => run_scene(alloc, header, buffer(alloc, size)?, steps, lines, span),
         ObjectName::Book => run_scene(alloc, header, book(size), steps, lines, span),
         ObjectName::Shop => run_scene(alloc, header, shop(size), steps, lines, span),
         ObjectName::Flags => run_scene(alloc, header, flags(size), steps, lines, span),
@@ -50,24 +47,19 @@ pub(crate) fn page_around(
     alloc: Global,
     picture: &str,
     header: &LogHeader,
-    run: &Run,
-    lines: &[LogLine],
-    span: Span,
+    shown: ShownRun<'_>,
 ) -> Result<String, AllocError>
     requires size { header.now.size ≤ most header.now.object }
-    requires run { HasRun header.now run.now }
+    requires run { HasRun header.now shown.run.now }
     ensures { IfOk result (λ page. IsLogPage header.now (meaning_named header.now.object)
-        (opening_named header.now.object header.now.size) run.now lines.now span.before span.last
-        (string_bytes page)) }
+        (opening_named header.now.object header.now.size) shown.entry.run.now shown.entry.lines.now
+        shown.entry.span.before shown.entry.span.last (string_bytes page)) }
 {
     let size = header.size();
     match header.object() {
-        ObjectName::Buffer => match Buffer::make(alloc, size) {
-            Ok(buffer) => log_page(alloc, picture, header, buffer, run, lines, span),
-            Err(_) => Err(AllocError),
-        },
-        ObjectName::Book => log_page(alloc, picture, header, book(size), run, lines, span),
-        ObjectName::Shop => log_page(alloc, picture, header, shop(size), run, lines, span),
-        ObjectName::Flags => log_page(alloc, picture, header, flags(size), run, lines, span),
+        ObjectName::Buffer => { log_page(alloc, picture, header, buffer(alloc, size)?, shown) }
+        ObjectName::Book => log_page(alloc, picture, header, book(size), shown),
+        ObjectName::Shop => log_page(alloc, picture, header, shop(size), shown),
+        ObjectName::Flags => log_page(alloc, picture, header, flags(size), shown),
     }
 }

@@ -28,24 +28,15 @@ impl<'a> Sites<'a> {
 
 /// What stands behind that word in the first row that begins with it.
 fn row<'a>(beside: &'a [u8], word: &[u8]) -> Option<&'a [u8]> {
-    for row in beside.split(|byte| *byte == b'\n') {
-        if let Some(rest) = row.strip_prefix(word) {
-            return Some(rest);
-        }
-    }
-    None
+    let mut rows = beside.split(|byte| *byte == b'\n');
+    rows.find_map(|row| row.strip_prefix(word))
 }
 
 /// The place with that number.
 fn site<'a>(beside: &'a [u8], number: &[u8]) -> Option<&'a [u8]> {
-    for row in beside.split(|byte| *byte == b'\n') {
-        if let Some(rest) = row.strip_prefix(b"site ".as_slice()) {
-            if let Some(rest) = rest.strip_prefix(number) {
-                if let Some(place) = rest.strip_prefix(b" ".as_slice()) {
-                    return Some(place);
-                }
-            }
-        }
-    }
-    None
+    let mut rows = beside.split(|byte| *byte == b'\n');
+    rows.find_map(|row| {
+        let rest = row.strip_prefix(b"site ".as_slice())?;
+        rest.strip_prefix(number)?.strip_prefix(b" ".as_slice())
+    })
 }

@@ -42,21 +42,6 @@ impl Trail {
         self.since = Some(line);
     }
 
-    /// It lets the lock go, and is outside.
-    pub(crate) fn leave(&mut self, line: usize) {
-        self.go(Place::Outside, line);
-        self.woken = None;
-        self.waited = None;
-    }
-
-    /// It waits on the condition.
-    pub(crate) fn wait(&mut self, cond: u8, line: usize) {
-        self.go(Place::Waiting(cond), line);
-        self.woken = None;
-        self.waited = Some(line);
-        self.signals = 0;
-    }
-
     /// A signal or a broadcast to the condition wakes it.
     pub(crate) fn wake(&mut self, cond: u8, by: WokenBy) {
         self.go(Place::Woken(cond), by.line);
@@ -65,12 +50,10 @@ impl Trail {
 
     /// Its wait ends though nobody sent a signal: it runs out, or the thread wakes unasked.
     pub(crate) fn end_wait(&mut self, runs_out: bool) {
-        if let Place::Waiting(cond) = self.place {
-            self.place = if runs_out {
-                Place::RanOut(cond)
-            } else {
-                Place::Woken(cond)
-            };
+        match self.place {
+            Place::Waiting(cond) if runs_out => self.place = Place::RanOut(cond),
+            Place::Waiting(cond) => self.place = Place::Woken(cond),
+            _ => {}
         }
     }
 }

@@ -31,13 +31,10 @@ impl Trails {
 
     /// That of the seat.
     pub(crate) fn of(&self, seat: u8) -> Trail {
-        match self.trails.get(usize::from(seat)) {
-            Some(trail) => *trail,
-            None => Trail::START,
-        }
+        let trail = self.trails.get(usize::from(seat));
+        trail.copied().unwrap_or(Trail::START)
     }
 
-    /// Goes on by a step.
     fn follow(&mut self, step: Step) {
         match step {
             Step::Tells(line, woken) => self.tell(line, woken),
@@ -51,8 +48,17 @@ impl Trails {
         let index = self.lines;
         self.lines = index.saturating_add(1);
         match line {
-            LogLine::Signal(seat, cond) => self.signal(cond, WokenBy { seat, line: index }, woken),
-            LogLine::Broadcast(seat, cond) => self.broadcast(cond, WokenBy { seat, line: index }),
+            LogLine::Signal(seat, cond) => {
+                self.signal(
+                    cond,
+                    WokenBy { seat, line: index },
+                    woken.map(usize::from),
+                    false,
+                );
+            }
+            LogLine::Broadcast(seat, cond) => {
+                self.signal(cond, WokenBy { seat, line: index }, None, true);
+            }
             _ => self.move_by(line, index),
         }
     }
@@ -62,38 +68,39 @@ impl Trails {
         let Some(trail) = self.trails.get_mut(usize::from(line.seat())) else {
             return;
         };
+        let since = Some(index);
         match line {
             LogLine::Enter(_) | LogLine::Resume(_) | LogLine::Lapse(_) => trail.go(
                 Place::Active,
                 index,
             ),
-            LogLine::Leave(_) => trail.leave(index),
-            LogLine::Wait(_, cond) => trail.wait(cond, index),
+            LogLine::Leave(_) => *trail = Trail {
+                since,
+                ..Trail::START
+            },
+            LogLine::Wait(_, cond) => {
+                let (place, waited) = (Place::Waiting(cond), since);
+                *trail = Trail {
+                    place,
+                    since,
+                    waited,
+                    ..Trail::START
+                };
+            }
             LogLine::Signal(..) | LogLine::Broadcast(..) | LogLine::Until(..) | LogLine::Act(..) =>
                 {}
         }
     }
 
-    /// A signal comes to the condition, and wakes that thread.
-    fn signal(&mut self, cond: u8, by: WokenBy, woken: Option<u8>) {
-        for trail in self.trails.iter_mut() {
+    /// A signal comes to the condition, and wakes that thread; a broadcast wakes all.
+    fn signal(&mut self, cond: u8, by: WokenBy, woken: Option<usize>, wakes_all: bool) {
+        for (seat, trail) in self.trails.iter_mut().enumerate() {
             if trail.place == Place::Waiting(cond) {
-                trail.signals = trail.signals.saturating_add(1);
-            }
-        }
-        let Some(seat) = woken else {
-            return;
-        };
-        if let Some(trail) = self.trails.get_mut(usize::from(seat)) {
-            trail.wake(cond, by);
-        }
-    }
-
-    /// A broadcast comes to the condition.
-    fn broadcast(&mut self, cond: u8, by: WokenBy) {
-        for trail in self.trails.iter_mut() {
-            if trail.place == Place::Waiting(cond) {
-                trail.wake(cond, by);
+                if wakes_all || woken == Some(seat) {
+                    trail.wake(cond, by);
+                } else {
+                    trail.signals = trail.signals.saturating_add(1);
+                }
             }
         }
     }

@@ -1,6 +1,6 @@
-//! The first words of a finding: whether the log fits.
+//! The first words of a finding: whether the log fits, and how its program ends.
 
-ghost use Rattle.std.specs.Prelude.{◌≡◌, IfOk, string_bytes};
+ghost use Rattle.std.specs.Prelude.{◌≡◌, IfOk, if◌then◌else◌, string_bytes};
 ghost use Rattle.monk_commands.specs.LogFound as found;
 
 use crate::logs::finding::Finding;
@@ -17,51 +17,89 @@ pub(crate) fn number(index: usize) -> usize
     index.saturating_add(FIRST)
 }
 
+/// The first words, or the others.
+fn either(is_first: bool, first: &'static str, other: &'static str) -> &'static str
+    ensures { result.now ≡ (if is_first then first.now else other.now) }
+{
+    if is_first { first } else { other }
+}
+
 /// What stands behind the number of spurious wake-ups.
 fn wake_up_words(many: u64) -> &'static str
     ensures { result.now ≡ found.wake_up_words many }
 {
-    if many == 1 {
-        " spurious wake-up"
-    } else {
-        " spurious wake-ups"
-    }
+    either(many == 1, " spurious wake-up", " spurious wake-ups")
 }
 
 /// So many spurious wake-ups, of which that is the first.
-pub(crate) fn wake_ups(alloc: Global, many: u64, first: usize) -> Result<String, AllocError>
+fn wake_ups(alloc: Global, many: u64, first: usize) -> Result<String, AllocError>
     ensures { IfOk result (λ text. string_bytes text ≡ found.wake_ups many first) }
 {
     let (words, line) = (wake_up_words(many), number(first));
     Ok(format!(in alloc; "{many}{words}, first at {line}")?)
 }
 
-/// That a log fits.
-fn fitting_words(alloc: Global, many: u64, first: Option<usize>) -> Result<String, AllocError>
-    ensures { IfOk result (λ text. string_bytes text ≡ found.fitting_words many first) }
+/// The same behind these words, if there are some.
+fn spurious_words(
+    alloc: Global,
+    front: &str,
+    many: u64,
+    first: Option<usize>,
+) -> Result<String, AllocError>
+    ensures { IfOk result (λ text. string_bytes text ≡ found.spurious_words front.now many first) }
 {
     match first {
-        None => String::from_str(alloc, "fits"),
+        None => Ok(String::new(alloc)),
         Some(first) => {
             let wake_ups = wake_ups(alloc, many, first)?;
-            Ok(format!(in alloc; "fits with {wake_ups}")?)
+            Ok(format!(in alloc; "{front}{wake_ups}")?)
         }
     }
 }
 
-/// That a seat takes the lock which another holds.
-fn held_words(alloc: Global, seat: u8, holder: Option<Holder>) -> Result<String, AllocError>
-    ensures { IfOk result (λ text. string_bytes text ≡ found.held_words seat holder) }
+/// Who holds the lock at the end.
+fn busy_words(alloc: Global, has_ended: bool, holder: Holder) -> Result<String, AllocError>
+    ensures { IfOk result (λ text. string_bytes text ≡ found.busy_words has_ended holder) }
 {
-    match holder {
-        None => Ok(format!(in alloc; "seat {seat} takes the lock that another seat holds")?),
-        Some(holder) => {
-            let (other, line) = (holder.seat, number(holder.since));
-            Ok(format!(in alloc;
-                "seat {seat} takes the lock, but seat {other} holds it since {line}"
-            )?)
-        }
+    let front = either(has_ended, "; busy at the end", "; busy");
+    let (seat, line) = (holder.seat, number(holder.since));
+    Ok(format!(in alloc; "{front}, seat {seat} holds the lock since {line}")?)
+}
+
+/// How a log of so many seats ends in which nobody holds the lock.
+fn idle_words(alloc: Global, seats: u8, asleep: u8, woken: u8) -> Result<String, AllocError>
+    ensures { IfOk result (λ text. string_bytes text ≡ found.idle_words seats asleep woken) }
+{
+    if woken > 0 {
+        Ok(format!(in alloc; "; owed, {woken} woken and not back")?)
+    } else if asleep == 0 {
+        String::from_str(alloc, "; free")
+    } else if asleep == seats {
+        Ok(format!(in alloc; "; dead, all {asleep} sleep")?)
+    } else {
+        let words = either(asleep == 1, " sleeps", " sleep");
+        Ok(format!(in alloc; "; open, {asleep}{words}")?)
     }
+}
+
+fn end_words(alloc: Global, finding: &Finding) -> Result<String, AllocError>
+    ensures { IfOk result (λ text. string_bytes text ≡ found.end_words finding.now.report.holder finding.now) }
+{
+    let report = &finding.report;
+    match report.holder {
+        Some(holder) => busy_words(alloc, finding.has_ended, holder),
+        None => idle_words(alloc, finding.seats, report.asleep, report.woken),
+    }
+}
+
+/// That a log fits, and how its program ends.
+fn fitting_words(alloc: Global, finding: &Finding) -> Result<String, AllocError>
+    ensures { IfOk result (λ text. string_bytes text ≡ found.fitting_words finding.now) }
+{
+    let tally = &finding.report.tally;
+    let wake_ups = spurious_words(alloc, " with ", tally.spurious, tally.first_spurious)?;
+    let end = end_words(alloc, finding)?;
+    Ok(format!(in alloc; "fits{wake_ups}{end}")?)
 }
 
 /// A sentence about a seat.
@@ -71,8 +109,23 @@ fn about(alloc: Global, seat: u8, words: &str) -> Result<String, AllocError>
     Ok(format!(in alloc; "seat {seat}{words}")?)
 }
 
+/// That a seat takes the lock which another holds.
+fn held_words(alloc: Global, seat: u8, holder: Option<Holder>) -> Result<String, AllocError>
+    ensures { IfOk result (λ text. string_bytes text ≡ found.held_words seat holder) }
+{
+    match holder {
+        None => about(alloc, seat, " takes the lock that another seat holds"),
+        Some(holder) => {
+            let (other, line) = (holder.seat, number(holder.since));
+            Ok(format!(in alloc;
+                "seat {seat} takes the lock, but seat {other} holds it since {line}"
+            )?)
+        }
+    }
+}
+
 /// What is wrong with a line of that seat.
-pub(crate) fn blame_words(
+fn blame_words(
     alloc: Global,
     why: Blame,
     seat: u8,
@@ -97,27 +150,23 @@ pub(crate) fn blame_words(
     }
 }
 
-/// That a log misfits.
-fn misfit_words(
-    alloc: Global,
-    misfit: Misfit,
-    seat: u8,
-    holder: Option<Holder>,
-) -> Result<String, AllocError>
-    ensures { IfOk result (λ text. string_bytes text ≡ found.misfit_words misfit seat holder) }
+/// That a log misfits. How its program ends isn't told: it went on.
+fn misfit_words(alloc: Global, misfit: Misfit, finding: &Finding) -> Result<String, AllocError>
+    ensures { IfOk result (λ text. string_bytes text ≡ found.misfit_words misfit finding.now) }
 {
+    let (report, tally) = (&finding.report, &finding.report.tally);
     let (line, word) = (number(misfit.line), misfit.why.text());
-    let words = blame_words(alloc, misfit.why, seat, holder)?;
-    Ok(format!(in alloc; "misfit at {line}: {word}, {words}")?)
+    let words = blame_words(alloc, misfit.why, finding.wrong_seat, report.holder)?;
+    let wake_ups = spurious_words(alloc, "; ", tally.spurious, tally.first_spurious)?;
+    Ok(format!(in alloc; "misfit at {line}: {word}, {words}{wake_ups}")?)
 }
 
 /// Whether the log fits.
 pub(crate) fn verdict_words(alloc: Global, finding: &Finding) -> Result<String, AllocError>
     ensures { IfOk result (λ text. string_bytes text ≡ found.verdict_words finding.now.report.misfit finding.now) }
 {
-    let (report, seat) = (&finding.report, finding.wrong_seat);
-    match report.misfit {
-        None => fitting_words(alloc, report.tally.spurious, report.tally.first_spurious),
-        Some(misfit) => misfit_words(alloc, misfit, seat, report.holder),
+    match finding.report.misfit {
+        None => fitting_words(alloc, finding),
+        Some(misfit) => misfit_words(alloc, misfit, finding),
     }
 }

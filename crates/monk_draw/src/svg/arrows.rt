@@ -2,7 +2,7 @@
 
 use super::Canvas;
 use super::layout::{column_at, lane_at};
-use super::legend::Look;
+use crate::scene::lane_of;
 use std::alloc::AllocError;
 
 impl Canvas<'_> {
@@ -17,10 +17,13 @@ impl Canvas<'_> {
             let class = if scene.is_forbidden(column) {
                 "wish"
             } else {
-                self.note(Look::Arrow)?;
+                self.note("hand")?;
                 "hand"
             };
-            let (from, to) = (self.layout.lane_of(event.seat()), self.layout.lane_of(to));
+            let (from, to) = (
+                lane_of(event.seat(), self.layout.seats),
+                lane_of(to, self.layout.seats),
+            );
             self.put_arrow(class, from, to, column)?;
         }
         Ok(())

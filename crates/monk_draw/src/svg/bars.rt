@@ -2,30 +2,27 @@
 
 use super::Canvas;
 use super::layout::{COLUMN, LEFT, column_at, lane_at};
-use super::legend::Look;
-use crate::place::SeatPlace;
-use crate::scene::handed;
+use super::legend::OUTSIDE;
+use crate::scene::{handed, lane_of};
+use monk_tell::SeatPlace;
 use std::alloc::{AllocError, Global};
 
-/// How a place looks.
-fn look_of(place: SeatPlace) -> Look {
+/// The class by which the style gives a place its look.
+fn class_of(place: SeatPlace) -> &'static str {
     match place {
-        SeatPlace::Outside => Look::Outside,
-        SeatPlace::Active => Look::Active,
-        SeatPlace::Condition(_) => Look::Condition,
-        SeatPlace::Waiter => Look::Waiter,
-        SeatPlace::Signaller => Look::Signaller,
-        SeatPlace::Until(_) => Look::Until,
+        SeatPlace::Outside => OUTSIDE,
+        SeatPlace::Active => "active",
+        SeatPlace::Condition(_) => "condition",
+        SeatPlace::Waiter => "waiter",
+        SeatPlace::Signaller => "signaller",
+        SeatPlace::Until(_) => "until",
     }
 }
 
 /// Whether a seat that was there first is still there. One that waits until a predicate holds stays there when it is
 /// chosen, because it does.
 fn stays(before: SeatPlace, then: SeatPlace) -> bool {
-    match (before, then) {
-        (SeatPlace::Until(_), SeatPlace::Until(_)) => true,
-        _ => before == then,
-    }
+    before == then || matches!((before, then), (SeatPlace::Until(_), SeatPlace::Until(_)))
 }
 
 /// A seat's time in one place, up to now.
@@ -40,18 +37,19 @@ impl Canvas<'_> {
     /// Puts the bars of all seats.
     pub(super) fn put_bars(&mut self, alloc: Global) -> Result<(), AllocError> {
         let (scene, layout) = (self.scene, self.layout);
-        let mut stays_now = Vec::new(alloc);
-        for seat in 0..layout.seats {
-            let place = scene.place(0, seat);
-            stays_now.push(Stay {
+        let mut stays_now: Vec<Stay> = (0..layout.seats)
+            .map(|seat| Stay {
                 seat,
-                place,
+                place: scene.place(0, seat),
                 from: LEFT,
-            })?;
-        }
+            })
+            .collect(alloc)?;
         for column in 0..scene.allowed() {
             if let Some(seat) = handed(scene.events.get(column).copied()) {
-                self.put_entry(layout.lane_of(seat), column_at(column))?;
+                // For one column it has waited at the entry.
+                let x = column_at(column);
+                let from = x.saturating_sub(COLUMN).max(LEFT);
+                self.put_bar("entry", lane_of(seat, layout.seats), from, x)?;
             }
             self.put_ended(&mut stays_now, column)?;
         }
@@ -59,12 +57,6 @@ impl Canvas<'_> {
             self.put_stay(*stay, layout.end())?;
         }
         Ok(())
-    }
-
-    /// Puts how a seat that is handed the monitor waited at the entry: for one column.
-    fn put_entry(&mut self, lane: u8, x: u64) -> Result<(), AllocError> {
-        let from = x.saturating_sub(COLUMN).max(LEFT);
-        self.put_bar(Look::Entry, lane, from, x)
     }
 
     /// Puts the bars that end in the column, since seats come to another place.
@@ -84,17 +76,22 @@ impl Canvas<'_> {
     /// Puts the bar of a seat that has stayed so, up to there.
     fn put_stay(&mut self, stay: Stay, to: u64) -> Result<(), AllocError> {
         let Stay { seat, place, from } = stay;
-        self.put_bar(look_of(place), seat, from, to)?;
+        self.put_bar(class_of(place), seat, from, to)?;
         self.put_what(place, seat, from, to)
     }
 
-    /// Puts a bar of that look. Of a time outside nothing is drawn.
-    fn put_bar(&mut self, look: Look, lane: u8, from: u64, to: u64) -> Result<(), AllocError> {
-        self.note(look)?;
-        if look == Look::Outside {
+    /// Puts a bar of that class. Of a time outside nothing is drawn.
+    fn put_bar(
+        &mut self,
+        class: &'static str,
+        lane: u8,
+        from: u64,
+        to: u64,
+    ) -> Result<(), AllocError> {
+        self.note(class)?;
+        if class == OUTSIDE {
             return Ok(());
         }
-        let (class, _) = look.named();
         let (top, width) = (lane_at(lane).saturating_sub(9), to.saturating_sub(from));
         write!(
             self.page,
@@ -114,16 +111,14 @@ impl Canvas<'_> {
         let width = to.saturating_sub(from);
         let behind = if width < COLUMN { width / 2 } else { 60 };
         let (x, y) = (from.saturating_add(behind), lane_at(lane) + 4);
-        match place {
-            SeatPlace::Condition(cond) => write!(
-                self.page,
-                "<text class=\"what\" x=\"{x}\" y=\"{y}\">c{cond}</text>\n"
-            ),
-            SeatPlace::Until(Some(pred)) => write!(
-                self.page,
-                "<text class=\"what\" x=\"{x}\" y=\"{y}\">p{pred}</text>\n"
-            ),
-            _ => Ok(()),
-        }
+        let (sign, number) = match place {
+            SeatPlace::Condition(cond) => ("c", cond),
+            SeatPlace::Until(Some(pred)) => ("p", usize::from(pred)),
+            _ => return Ok(()),
+        };
+        write!(
+            self.page,
+            "<text class=\"what\" x=\"{x}\" y=\"{y}\">{sign}{number}</text>\n"
+        )
     }
 }

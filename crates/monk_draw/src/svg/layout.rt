@@ -2,7 +2,7 @@
 
 ghost use Rattle.std.specs.Prelude.{◌≤◌, ◌^◌};
 
-use crate::scene::{Scene, lane_of};
+use crate::scene::Scene;
 use monk_history::Header;
 
 /// How far the middles of two columns are apart.
@@ -65,11 +65,6 @@ impl Layout {
         ensures { result ≤ 2 ^ 20 }
     {
         lane_at(self.lanes)
-    }
-
-    /// The lane of a seat.
-    pub(crate) fn lane_of(self, seat: u8) -> u8 {
-        lane_of(seat, self.seats)
     }
 }
 

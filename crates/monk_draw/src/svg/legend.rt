@@ -3,55 +3,28 @@
 use super::Canvas;
 use std::alloc::AllocError;
 
-/// What a picture shows by a colour, a hatching or a sign.
-#[derive(Clone, Copy, Debug, PartialEq, Eq)]
-pub(super) enum Look {
-    Active,
-    Entry,
-    Condition,
-    Waiter,
-    Signaller,
-    Until,
-    Outside,
-    Arrow,
-    Refused,
-}
+/// A seat that is outside, or the rail of a lane.
+pub(super) const OUTSIDE: &str = "rail";
 
-/// Each look, in the order of the legend.
-const LOOKS: [Look; 9] = [
-    Look::Active,
-    Look::Entry,
-    Look::Condition,
-    Look::Waiter,
-    Look::Signaller,
-    Look::Until,
-    Look::Outside,
-    Look::Arrow,
-    Look::Refused,
+/// What a picture shows by a colour, a hatching or a sign, in the order of the legend: the class by which the style
+/// gives it a look, and what the legend calls it.
+const LOOKS: [(&str, &str); 9] = [
+    ("active", "active"),
+    ("entry", "waits at the entry"),
+    ("condition", "waits on a condition"),
+    ("waiter", "in the waiter queue"),
+    ("signaller", "in the signaller queue"),
+    ("until", "waits until a predicate"),
+    (OUTSIDE, "outside"),
+    ("hand", "goes on by a release"),
+    ("mark refused", "refused by the object"),
 ];
 
-impl Look {
-    /// The class by which the style gives it colour and hatching, and what the legend calls it.
-    pub(super) fn named(self) -> (&'static str, &'static str) {
-        match self {
-            Look::Active => ("active", "active"),
-            Look::Entry => ("entry", "waits at the entry"),
-            Look::Condition => ("condition", "waits on a condition"),
-            Look::Waiter => ("waiter", "in the waiter queue"),
-            Look::Signaller => ("signaller", "in the signaller queue"),
-            Look::Until => ("until", "waits until a predicate"),
-            Look::Outside => ("rail", "outside"),
-            Look::Arrow => ("hand", "goes on by a release"),
-            Look::Refused => ("mark refused", "refused by the object"),
-        }
-    }
-}
-
 impl Canvas<'_> {
-    /// Notes that it occurs.
-    pub(super) fn note(&mut self, look: Look) -> Result<(), AllocError> {
-        if !self.looks.contains(&look) {
-            self.looks.push(look)?;
+    /// Notes that the look of that class occurs.
+    pub(super) fn note(&mut self, class: &'static str) -> Result<(), AllocError> {
+        if !self.looks.contains(&class) {
+            self.looks.push(class)?;
         }
         Ok(())
     }
@@ -60,7 +33,7 @@ impl Canvas<'_> {
     pub(super) fn note_refused(&mut self) -> Result<(), AllocError> {
         for column in 0..self.layout.columns {
             if self.scene.is_refused(column) {
-                self.note(Look::Refused)?;
+                self.note("mark refused")?;
             }
         }
         Ok(())
@@ -70,11 +43,11 @@ impl Canvas<'_> {
     pub(super) fn put_legend(&mut self) -> Result<(), AllocError> {
         let (mut at, base) = (0u8, self.layout.base());
         for look in LOOKS.iter() {
-            if *look == Look::Outside || self.looks.contains(look) {
+            let (class, words) = *look;
+            if class == OUTSIDE || self.looks.contains(&class) {
                 let (x, y) = (16 + 180 * u64::from(at % 4), base + 22 * u64::from(at / 4));
                 write!(self.page, "<g transform=\"translate({x} {y})\">")?;
-                self.put_sample(*look)?;
-                let (_, words) = look.named();
+                self.put_sample(class)?;
                 write!(
                     self.page,
                     "<text class=\"soft\" x=\"28\" y=\"10\">{words}</text></g>\n"
@@ -86,15 +59,14 @@ impl Canvas<'_> {
     }
 
     /// Puts a sample of how it looks.
-    fn put_sample(&mut self, look: Look) -> Result<(), AllocError> {
-        let (class, _) = look.named();
-        match look {
-            Look::Outside => write!(self.page, "<path class=\"{class}\" d=\"M0 6h22\"/>"),
-            Look::Arrow => write!(
+    fn put_sample(&mut self, class: &str) -> Result<(), AllocError> {
+        match class {
+            "rail" => write!(self.page, "<path class=\"{class}\" d=\"M0 6h22\"/>"),
+            "hand" => write!(
                 self.page,
                 "<path class=\"{class}\" marker-end=\"url(#{class}-tip)\" d=\"M0 6h20\"/>"
             ),
-            Look::Refused => write!(
+            "mark refused" => write!(
                 self.page,
                 "<g class=\"{class}\" transform=\"translate(11 6)\"><circle r=\"6\"/>\
                 <path d=\"M-4 -4L4 4M-4 4L4 -4\"/></g>"

@@ -3,6 +3,7 @@
 use super::Canvas;
 use super::layout::{column_at, lane_at};
 use crate::label::{event_word, put_note};
+use crate::scene::lane_of;
 use monk_history::Event;
 use monk_object::ObjectName;
 use monk_tell::SaidEvent;
@@ -25,7 +26,7 @@ impl Canvas<'_> {
     /// Puts the number of the step above its column, and a dot in its seat's lane; a crossed one for an act that the
     /// object refused.
     fn put_dot(&mut self, column: usize, seat: u8) -> Result<(), AllocError> {
-        let (x, y) = (column_at(column), lane_at(self.layout.lane_of(seat)));
+        let (x, y) = (column_at(column), lane_at(lane_of(seat, self.layout.seats)));
         let step = self.scene.step(column);
         write!(
             self.page,
@@ -67,7 +68,7 @@ impl Canvas<'_> {
         };
         let (x, y) = (
             column_at(column),
-            lane_at(self.layout.lane_of(event.seat())),
+            lane_at(lane_of(event.seat(), self.layout.seats)),
         );
         let (left, top) = (x.saturating_sub(33), y.saturating_sub(31));
         let step = self.scene.step(column);

@@ -46,11 +46,10 @@ fn put_line(page: &mut String, line: &str) -> Result<(), AllocError> {
 impl Brush<'_> {
     /// How wide the titles of the lanes are, with a blank behind them.
     fn margin(self) -> usize {
-        let mut widest = STEPS.len();
-        for lane in self.lanes {
-            widest = widest.max(lane.title.len());
-        }
-        widest.saturating_add(1)
+        let titles = self.lanes.iter().map(|lane| lane.title.len());
+        titles
+            .fold(STEPS.len(), |widest, title| widest.max(title))
+            .saturating_add(1)
     }
 
     /// How much room a strip of that width has for its columns.
@@ -68,10 +67,7 @@ impl Brush<'_> {
     }
 
     fn width(self, index: usize) -> usize {
-        match self.columns.get(index) {
-            Some(column) => column.width,
-            None => 0,
-        }
+        self.columns.get(index).map_or(0, |column| column.width)
     }
 
     /// Puts what the picture is of: the kind, the events, and how many seats have no lane.
@@ -175,7 +171,12 @@ impl Brush<'_> {
         };
         let mut signs = [fill, fill, last];
         if let Some(arrow) = self.arrow_to(index) {
-            let (tail, head) = self.signs.corners(arrow.from < arrow.to);
+            let is_down = arrow.from < arrow.to;
+            let (tail, head) = if is_down {
+                self.signs.down
+            } else {
+                self.signs.up
+            };
             if lane == arrow.from {
                 signs = [self.signs.along, tail, last];
             } else if lane == arrow.to {

@@ -42,12 +42,3 @@ pub(crate) fn columns(
     }
     Ok(columns)
 }
-
-/// How much room each column takes, with the gap before it.
-pub(crate) fn widths(alloc: Global, columns: &[Column]) -> Result<Vec<usize>, AllocError> {
-    let mut widths = Vec::with_capacity(alloc, columns.len())?;
-    for column in columns {
-        widths.push(column.width.saturating_add(GAP))?;
-    }
-    Ok(widths)
-}

@@ -1,8 +1,8 @@
 //! The lanes of a picture of text: one for each seat that comes.
 
 use crate::names::Names;
-use crate::place::SeatPlace;
 use crate::scene::{Scene, lane_of};
+use monk_tell::SeatPlace;
 use std::alloc::{AllocError, Global};
 
 /// The lane of a seat.

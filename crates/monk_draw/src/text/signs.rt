@@ -1,6 +1,6 @@
 //! What the lines of a picture are made of.
 
-use crate::place::SeatPlace;
+use monk_tell::SeatPlace;
 use std::alloc::AllocError;
 
 /// The signs of a picture, each one column wide.
@@ -12,10 +12,10 @@ pub(crate) struct Signs {
     /// The way of an arrow along a lane, and across one.
     pub(crate) along: &'static str,
     pub(crate) through: &'static str,
-    tail_down: &'static str,
-    tail_up: &'static str,
-    head_down: &'static str,
-    head_up: &'static str,
+    /// The corners at which an arrow that leads down leaves its first lane, and reaches its last.
+    pub(crate) down: (&'static str, &'static str),
+    /// The same of one that leads up.
+    pub(crate) up: (&'static str, &'static str),
 }
 
 static UNICODE: Signs = Signs {
@@ -24,10 +24,8 @@ static UNICODE: Signs = Signs {
     signaller: "═",
     along: "─",
     through: "│",
-    tail_down: "┐",
-    tail_up: "┘",
-    head_down: "└",
-    head_up: "┌",
+    down: ("┐", "└"),
+    up: ("┘", "┌"),
 };
 
 static ASCII: Signs = Signs {
@@ -36,10 +34,8 @@ static ASCII: Signs = Signs {
     signaller: "=",
     along: "-",
     through: "|",
-    tail_down: "+",
-    tail_up: "+",
-    head_down: "+",
-    head_up: "+",
+    down: ("+", "+"),
+    up: ("+", "+"),
 };
 
 impl Signs {
@@ -54,15 +50,6 @@ impl Signs {
             SeatPlace::Condition(_) | SeatPlace::Until(_) => self.condition,
             SeatPlace::Waiter => self.waiter,
             SeatPlace::Signaller => self.signaller,
-        }
-    }
-
-    /// The corners at which an arrow that leads down, or else up, leaves its first lane, and reaches its last.
-    pub(crate) fn corners(&self, is_down: bool) -> (&'static str, &'static str) {
-        if is_down {
-            (self.tail_down, self.head_down)
-        } else {
-            (self.tail_up, self.head_up)
         }
     }
 }

@@ -1,4 +1,4 @@
-//! A constant part of a page, which template/make makes.
+//! Constant parts of a page, which template/make makes.
 
 /// What stands before the first history.
 pub(crate) const FRONT: &str = "\

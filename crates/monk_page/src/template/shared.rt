@@ -1,4 +1,4 @@
-//! A constant part of a page, which template/make makes.
+//! Constant parts of a page, which template/make makes.
 
 /// What stands behind the last history, up to what each kind of page has of its own.
 pub(crate) const SHARED: &str = "\

@@ -53,7 +53,7 @@ pub(crate) fn work_all<K: Style, T: Guarded, R: Threads + Wait + Sync, G: Gate>(
 {
     let (working, idle) = part_idle(passes, rota);
     let start = AtomicU8::new(HOLD);
-    let workers = workers(alloc, rt, hall, gate, &start, working, rota)?;
+    let workers = workers(rt, hall, gate, &start, working, rota)?;
     let back = thread::scope(
         thread::scope_env(),
         rt,

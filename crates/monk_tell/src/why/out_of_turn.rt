@@ -1,4 +1,4 @@
-//! Whose turn it is, where the seat may not make the call.
+//! Why a seat may not make its call now: whose turn it is, or where the seat is.
 
 ghost use Rattle.std.specs.Prelude.{Some};
 ghost use Rattle.monk_tell.specs.Why.{out_of_turn_text};
@@ -7,7 +7,7 @@ use crate::said::queue_word;
 use monk_history::From3;
 use std::fmt;
 
-/// Whose turn it is, where the seat may not make the call.
+/// Why a seat may not make its call now: whose turn it is, or where the seat is.
 #[derive(Clone, Copy, Debug)]
 pub enum OutOfTurn {
     /// The seat isn't active: whoever enters is next.
@@ -20,6 +20,14 @@ pub enum OutOfTurn {
     Active(u8, u8),
     /// The seat is active already.
     Already(u8),
+    /// The seat waits on that condition, and nobody has signalled it.
+    Unsignalled(u8, usize),
+    /// The seat is inside already.
+    Inside(u8),
+    /// The seat can't find the monitor free: somebody inside could go on.
+    NotFree(u8),
+    /// Nobody was there who could hand the monitor over to the seat.
+    FirstOfAll(u8),
 }
 
 impl fmt::Display for OutOfTurn {
@@ -46,6 +54,19 @@ impl fmt::Display for OutOfTurn {
                 "seat {seat} isn't next, since seat {other} is active"
             ),
             OutOfTurn::Already(seat) => write!(f, "seat {seat} is active already"),
+            OutOfTurn::Unsignalled(seat, cond) => write!(
+                f,
+                "seat {seat} waits on condition {cond}, and nobody has signalled it"
+            ),
+            OutOfTurn::Inside(seat) => write!(f, "seat {seat} is inside already"),
+            OutOfTurn::NotFree(seat) => write!(
+                f,
+                "seat {seat} can't find the monitor free, since somebody inside could go on"
+            ),
+            OutOfTurn::FirstOfAll(seat) => write!(
+                f,
+                "nobody came before seat {seat} who could hand the monitor over"
+            ),
         }
     }
 }

@@ -1,5 +1,5 @@
 use Rattle.std.proofs.lemmas.Result.{IfOk-weaker}
-use Rattle.monk_commands.proofs.Completions.{exactly_misfit, exactly_open, found_legal, statuses}
+use Rattle.monk_commands.proofs.Completions.{exactly_misfit, exactly_open, statuses}
 use Rattle.monk_commands.proofs.Known.{on_known}
 use Rattle.monk_commands.proofs.completing.complete_stream.Goals as goal
 
@@ -15,12 +15,6 @@ returns-clause-misfit g c =
     IfOk-weaker c.complete_text.result _ _ (λ status a.
     on_known _ c.in_ok-bytes.bytes.items _ c.in_ok-bytes.ensures.bytes
     (exactly_misfit c.args.kind c.in_ok-bytes.bytes.items status _ a))
-    c.complete_text.ensures.answer
-
-pub returns-clause-found_legal : goal.returns-clause-found_legal
-returns-clause-found_legal g c =
-    IfOk-weaker c.complete_text.result _ _ (λ status a.
-    found_legal c.args.kind c.in_ok-bytes.bytes.items status _ a)
     c.complete_text.ensures.answer
 
 pub returns-clause-statuses : goal.returns-clause-statuses

@@ -1,26 +1,39 @@
-use Rattle.std.proofs.Common.{◌≡◌, ◌^◌, List, ℕ, Option, Result, Ok, subst, sym}
+use Rattle.std.proofs.Common.{◌≡◌, ◌≤◌, List, ℕ, Bool, true, false, ltb, Option, Result, Ok, Err, arith, refl, ltb-false, ltb-true}
 use Rattle.std.specs.Prelude.{string_bytes}
 use Rattle.std.proofs.lemmas.Result.{IfOk-weaker}
+use Rattle.monk_draw.specs.Window.{is_behind}
 use Rattle.monk_draw.specs.declared.window.Window.{Window}
-use Rattle.monk_history.specs.Text.{Heading}
-use Rattle.monk_history.specs.Text.Reading.{History, history, text_at}
-use Rattle.monk_history.specs.declared.event.Event.{Event}
+use Rattle.monk_history.specs.Meaning.Named.{named_monitor}
+use Rattle.monk_history.specs.Text.Reading.{History}
 use Rattle.monk_history.specs.declared.text.fault.ReadFault.{ReadFault}
-use Rattle.monk_page.specs.Html.{IsArticle}
+use Rattle.monk_object.specs.Names.{most}
+use Rattle.monk_audit.specs.Verdict.{verdict_of}
+use Rattle.monk_commands.specs.Answer.{IsReading}
 use Rattle.monk_commands.specs.Paged.{IsReadArticle}
+use Rattle.monk_commands.specs.Shown.{IsAnsweredBy, IsShown, IsShownAs, last_shown}
+use Rattle.monk_commands.specs.declared.paging.Paged.{Paged}
+use Rattle.monk_commands.specs.declared.show.HistoryForm.{HistoryForm}
+use Rattle.monk_commands.specs.declared.show.HistoryForm.TheVariants.{Article}
 use Rattle.monk_commands.proofs.paging.text_answer.Goals as goal
 
--- the part of a history that was read
-article_read : (w : Option Window) (beside bytes : List ℕ) (h : Heading) (es given : List Event) (text : List ℕ)
-    → text_at (2 ^ 25) bytes ≡ Ok (history h es) → given ≡ es → IsArticle h given w beside text
-    → IsReadArticle w beside (text_at (2 ^ 25) bytes) text
-article_read w beside bytes h es given text read same is =
-    subst (λ (r : Result History ReadFault). IsReadArticle w beside r text) (sym read)
-    (subst (λ (l : List Event). IsArticle h l w beside text) same is)
+-- with status 0 or 1 a history is shown
+module _ (f : HistoryForm) (w : Option Window) (x : History) (status : ℕ) (text : List ℕ) (few : status ≤ 1) where
+  there : (b : Bool) → is_behind w (last_shown (verdict_of (named_monitor x.0) x.1) x.1) ≡ b
+      → IsAnsweredBy f w (verdict_of (named_monitor x.0) x.1) x.0 x.1 status text → IsShownAs f w x.0 x.1 text
+  there true is a = absurd (omega (arith, (a.none is).0, few))
+  there false is a = (a.shown is).1
 
-pub returns-in-Ok-clause-article : goal.returns-in-Ok-clause-article
-returns-in-Ok-clause-article c =
-    IfOk-weaker c.article_answer.result _ _ (λ a is few.
-    article_read c.args.window c.args.history.beside.now c.args.history.text.now _ _ c.deref.result.now
-    (string_bytes a.text) c.in-Ok.ensures.exact c.deref.ensures.value (is few))
-    c.article_answer.ensures.article
+  fits : (b : Bool) → ltb (most x.0.object) x.0.size ≡ b → IsShown f w x status text → IsShownAs f w x.0 x.1 text
+  fits true is a = absurd (omega (arith, (a.too_big (ltb-true _ _ is)).0, few))
+  fits false is a = there _ refl (a.fits (ltb-false _ _ is))
+
+part_of : (w : Option Window) (p : Paged) (r : Result History ReadFault) (status : ℕ) (text : List ℕ)
+    → IsReading (IsShown (Article p.beside) w) r status text → status ≤ 1 → IsReadArticle w p.beside.now r text
+part_of w p (Ok x) status text a few = fits (Article p.beside) w x status text few _ refl a
+part_of w p (Err f) status text a few = absurd (omega (arith, a.0, few))
+
+pub returns-clause-article : goal.returns-clause-article
+returns-clause-article c =
+    IfOk-weaker c.shown_in_form.result _ _
+    (λ a is. part_of c.args.window c.args.history _ a.status (string_bytes a.text) is)
+    c.shown_in_form.ensures.answer

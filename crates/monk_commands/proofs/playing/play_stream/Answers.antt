@@ -1,24 +1,19 @@
 use Rattle.std.proofs.lemmas.Result.{IfOk-weaker}
-use Rattle.monk_commands.specs.declared.report.Report.TheVariants.{History}
+use Rattle.monk_commands.specs.Played.{IsPlayed}
 use Rattle.monk_commands.proofs.Known.{on_known}
-use Rattle.monk_commands.proofs.PlayExact.{answer_of, exactly, legal_written}
+use Rattle.monk_commands.proofs.PlayExact.{answer_of, exactly}
 use Rattle.monk_commands.proofs.playing.play_stream.Goals as goal
 
 pub returns-clause-played : goal.returns-clause-played
 returns-clause-played g c =
     IfOk-weaker c.play_text.result _ _ (λ status a.
     on_known _ c.in_ok-bytes.bytes.items _ c.in_ok-bytes.ensures.bytes
-    (exactly History c.in_ok-bytes.bytes.items status _ a))
+    (exactly IsPlayed c.in_ok-bytes.bytes.items status _ a))
     c.play_text.ensures.answer
 
 pub returns-clause-history : goal.returns-clause-history
 returns-clause-history g c =
     IfOk-weaker c.play_text.result _ _ (λ status a.
     on_known _ c.in_ok-bytes.bytes.items _ c.in_ok-bytes.ensures.bytes
-    (λ h budget cs t. (answer_of History c.in_ok-bytes.bytes.items status _ h budget cs t a).1))
-    c.play_text.ensures.answer
-
-pub returns-clause-plays_are_legal : goal.returns-clause-plays_are_legal
-returns-clause-plays_are_legal g c =
-    IfOk-weaker c.play_text.result _ _ (λ status a. legal_written c.in_ok-bytes.bytes.items status _ a)
+    (λ h budget cs t. (answer_of IsPlayed c.in_ok-bytes.bytes.items status _ h budget cs t a).1))
     c.play_text.ensures.answer

@@ -8,7 +8,8 @@ use Rattle.monk_world.specs.WorldViews.{state_of_view}
 use Rattle.monk_world.specs.Runs.{opening_state}
 use Rattle.monk_world.specs.State.{State}
 use Rattle.monk_commands.specs.Traced.{AreTraced}
-use Rattle.monk_commands.specs.Played.{IsPlayedBy, IsReportedBy, report_with}
+use Rattle.monk_commands.specs.Played.{IsPlayedBy}
+use Rattle.monk_commands.specs.Reported.{IsReportedBy, report_with}
 use Rattle.monk_commands.specs.declared.report.Report.{Report}
 use Rattle.monk_commands.proofs.PlayExact.{led_to}
 use Rattle.monk_commands.proofs.reporting.play_as.Goals as goal

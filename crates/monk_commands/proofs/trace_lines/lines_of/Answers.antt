@@ -1,6 +1,6 @@
-use Rattle.std.proofs.Common.{◌≡◌, ◌∙◌, ℕ, ◌+◌, ◌++◌, List, length, sym, ap, subst, append_assoc, arith}
+use Rattle.std.proofs.Common.{◌≡◌, ◌∙◌, ℕ, ◌+◌, ◌++◌, List, [], length, sym, ap, subst, append_assoc, arith}
 use Rattle.std.specs.Prelude.{string_bytes}
-use Rattle.monk_history.specs.Meaning.Monitor.{Monitor}
+use Rattle.monk_history.specs.Meaning.Monitor.{Monitor, monitor}
 use Rattle.monk_history.specs.Meaning.Situation.{situation}
 use Rattle.monk_floor.specs.View.{monitor_of}
 use Rattle.monk_world.specs.WorldViews.{state_of_view}
@@ -16,7 +16,7 @@ loop-seat-preserved g c =
     let name = c.args.name in
     let first = state_of_view c.args.world.now in
     let here = state_of_view c.loop-seat.world in
-    let next = state_of_view c.step_followed.new.world in
+    let next = state_of_view c.step.new.world in
     let m = monitor_of k o first.floor in
     let told : ℕ × Command = (c.in-Some.seat, c.in-Some.command) in
     let before = c.loop-seat.number in
@@ -24,10 +24,11 @@ loop-seat-preserved g c =
     let stepped = c.in_ok-answer.ensures in
     let page = string_bytes c.loop-seat.page in
     let same : monitor_of k o next.floor ≡ m = stepped.same ∙ c.loop-seat.invariant.same in
-    let stands = stepped.behind ∙ ap (λ (x : Monitor). situation x next.floor.history) same in
-    let line = trace_line name m.conds (before + 1) told answer next (situation m next.floor.history) in
+    let stands = stepped.behind.stands ∙ ap (λ (x : Monitor). situation x next.floor.history) same in
+    let conds = stepped.behind.conds_are ∙ ap (λ (x : Monitor). x.conds) same in
+    let line = trace_line name m (before + 1) told answer next (situation m next.floor.history) in
     let put = c.in_ok-put_line.ensures
-    ∙ (λ i. page ++ trace_line name (c.requires.conds i) (before + 1) told answer next (stands i)) in
+    ∙ (λ i. page ++ trace_line name (monitor k 0 (conds i) o []) (before + 1) told answer next (stands i)) in
     record {
       traced = λ last rest are.
           subst (λ (text : List ℕ). AreTraced name m 0 first c.args.play.2 last text)
@@ -43,8 +44,6 @@ loop-seat-preserved g c =
           );
       same = same;
       behind = stepped.behind;
-      sound = stepped.sound;
-      conds = c.loop-seat.invariant.conds ∙ sym (ap (λ (x : Monitor). x.conds) stepped.same);
     }
 
 pub returns : goal.returns

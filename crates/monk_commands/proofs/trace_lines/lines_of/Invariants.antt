@@ -1,6 +1,5 @@
 use Rattle.std.proofs.Common.{◌≡◌, ◌≤◌, ◌+◌, ◌^◌, ◌++◌, ℕ, List, length}
 use Rattle.std.specs.Prelude.{string_bytes}
-use Rattle.monk_audit.specs.Replay.{IsReplayOf}
 use Rattle.monk_floor.specs.View.{monitor_of}
 use Rattle.monk_world.specs.WorldViews.{state_of_view}
 use Rattle.monk_world.specs.State.{State}
@@ -21,9 +20,8 @@ invariant-loop-seat g l =
           → AreTraced l.name m 0 first l.fn.play.2 last (string_bytes l.page ++ rest);
       few : l.number + length l.play.2 ≤ 2 ^ 25;
       same : monitor_of k o here.floor ≡ monitor_of k o first.floor;
-      behind : IsBehind (monitor_of k o here.floor) l.replay (g.T.Guarded.state l.object) here.floor.history;
-      sound : IsReplayOf here.floor.seats l.conds g.T.Guarded.PREDICATES l.replay;
-      conds : l.conds ≡ here.floor.conds;
+      behind : IsBehind (monitor_of k o here.floor) g.T.Guarded.PREDICATES l.follower.conds l.follower.replay
+          (g.T.Guarded.state l.follower.object) here.floor.history;
     }
 
 abbrev pub decreases-loop-seat : goal.decreases-loop-seat

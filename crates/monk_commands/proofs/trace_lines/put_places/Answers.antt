@@ -1,8 +1,8 @@
-use Rattle.std.proofs.Common.{List, ℕ, ◌+◌, ◌++◌, [], ap, ◌∙◌}
+use Rattle.std.proofs.Common.{List, ℕ, ◌+◌, ◌++◌, ap, ◌∙◌}
 use Rattle.std.specs.Prelude.{string_bytes}
-use Rattle.monk_audit.specs.Replay.{replay_situation}
 use Rattle.monk_world.specs.WorldViews.{state_of_view}
-use Rattle.monk_tell.specs.Standing.{stand}
+use Rattle.monk_tell.specs.Place.{in_queues}
+use Rattle.monk_tell.specs.Told.{queues_of}
 use Rattle.monk_commands.specs.Traced.{places_text, seat_text}
 use Rattle.monk_commands.proofs.Traces.{places_more, with_seat}
 use Rattle.monk_commands.proofs.trace_lines.put_places.Goals as goal
@@ -10,9 +10,9 @@ use Rattle.monk_commands.proofs.trace_lines.put_places.Goals as goal
 pub loop-seat-preserved : goal.loop-seat-preserved
 loop-seat-preserved g c =
     let s = state_of_view c.args.world.now in
-    let stands = stand c.args.conds (replay_situation c.args.replay.now []) in
+    let stands = in_queues (queues_of c.args.queues.now) in
     let j = c.loop-seat.seat in
-    c.in_ok-put_place.ensures stands c.in_ok-stand.ensures
+    c.in_ok-put_place.ensures stands c.in_queues.ensures
     ∙ (ap (λ (page : List ℕ). page ++ seat_text s stands j) c.loop-seat.invariant
     ∙ with_seat (string_bytes c.args.page.now) (places_text s stands j) (seat_text s stands j)
     (places_text s stands (j + 1))

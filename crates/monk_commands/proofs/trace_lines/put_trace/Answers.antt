@@ -23,12 +23,9 @@ lines_of-requires-clause-behind g c κs within =
     let none : replay_situation r opening ≡ situation (monitor k h.seats h.conds o opening) [] =
     c.in_ok-replay.ensures.stands k o opening ∙ (λ i. opening_situation (monitor k (seats i) (conds i) o opening))
     ∙ sym (situation-none (monitor k h.seats h.conds o opening)) in
-    subst (λ (f : FloorView). IsBehind (monitor_of k o f) r opening f.history) (sym c.requires.floor) none
-
-pub lines_of-requires-clause-sound : goal.lines_of-requires-clause-sound
-lines_of-requires-clause-sound g c κs within =
-    let seats : c.seats-seats.result ≡ c.args.play.0.seats =
-    c.seats-seats.ensures ∙ ap (λ (x : Heading). x.seats) c.header-header.ensures in
-    subst (λ (s : ℕ). IsReplayOf s c.conds-conds.result g.T.Guarded.PREDICATES c.in_ok-replay.replay)
-    (seats ∙ sym (ap (λ (f : FloorView). f.seats) c.requires.floor))
-    (c.in_ok-replay.ensures.sound g.T.Guarded.PREDICATES)
+    let sound : IsReplayOf h.seats h.conds g.T.Guarded.PREDICATES r =
+    subst (λ (n : ℕ). IsReplayOf n h.conds g.T.Guarded.PREDICATES r) seats
+    (subst (λ (n : ℕ). IsReplayOf c.seats-seats.result n g.T.Guarded.PREDICATES r) conds
+    (c.in_ok-replay.ensures.sound g.T.Guarded.PREDICATES)) in
+    subst (λ (f : FloorView). IsBehind (monitor_of k o f) g.T.Guarded.PREDICATES c.conds-conds.result r opening
+    f.history) (sym c.requires.floor) (record { stands = none; sound = sound; conds_are = conds })

@@ -1,5 +1,5 @@
 use Rattle.std.proofs.lemmas.Result.{IfOk-weaker}
-use Rattle.monk_commands.specs.declared.report.Report.TheVariants.{Trace}
+use Rattle.monk_commands.specs.Traced.{IsTraced}
 use Rattle.monk_commands.proofs.Known.{on_known}
 use Rattle.monk_commands.proofs.PlayExact.{answer_of, exactly}
 use Rattle.monk_commands.proofs.tracing.trace_stream.Goals as goal
@@ -8,12 +8,12 @@ pub returns-clause-played : goal.returns-clause-played
 returns-clause-played g c =
     IfOk-weaker c.play_text.result _ _ (λ status a.
     on_known _ c.in_ok-bytes.bytes.items _ c.in_ok-bytes.ensures.bytes
-    (exactly Trace c.in_ok-bytes.bytes.items status _ a))
+    (exactly IsTraced c.in_ok-bytes.bytes.items status _ a))
     c.play_text.ensures.answer
 
 pub returns-clause-traced : goal.returns-clause-traced
 returns-clause-traced g c =
     IfOk-weaker c.play_text.result _ _ (λ status a.
     on_known _ c.in_ok-bytes.bytes.items _ c.in_ok-bytes.ensures.bytes
-    (λ h budget cs t. (answer_of Trace c.in_ok-bytes.bytes.items status _ h budget cs t a).1))
+    (λ h budget cs t. (answer_of IsTraced c.in_ok-bytes.bytes.items status _ h budget cs t a).1))
     c.play_text.ensures.answer

@@ -1,7 +1,6 @@
 use Rattle.std.proofs.Common.{◌≡◌, map, take}
 use Rattle.monk_tell.specs.Told.{standing_of}
-use Rattle.monk_draw.specs.Place.{places_below}
-use Rattle.monk_draw.specs.Scene.{row_of}
+use Rattle.monk_draw.specs.Scene.{places_below, row_of}
 use Rattle.monk_draw.proofs.scene.places_after.Given as goal
 
 -- where the seats are after the steps so far

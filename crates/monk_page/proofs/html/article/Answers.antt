@@ -1,5 +1,4 @@
-use Rattle.std.proofs.Common.{◌≡◌, ◌∙◌, ℕ, List, Option, Some, ap, ap₂, length, string_bytes, subst}
-use Rattle.std.proofs.lemmas.Result.{IfOk-weaker, on_ok_weaker}
+use Rattle.std.proofs.Common.{◌≡◌, ◌∙◌, ℕ, List, Option, ap, ap₂, length, string_bytes, subst}
 use Rattle.monk_draw.specs.Window.{last_of, not_shown, showable, shown_last}
 use Rattle.monk_draw.specs.declared.window.Window.{Window}
 use Rattle.monk_history.specs.Text.{Heading}
@@ -7,8 +6,6 @@ use Rattle.monk_history.specs.declared.event.Event.{Event}
 use Rattle.monk_audit.specs.declared.verdict.Verdict.{Verdict}
 use Rattle.monk_tell.specs.Told.{account, forbidden_step}
 use Rattle.serde_json.specs.Data.{Data}
-use Rattle.serde_json.specs.Read.{read}
-use Rattle.serde_json.specs.Written.{compact_text}
 use Rattle.monk_page.specs.Html.{IsArticleOf, window_json}
 use Rattle.monk_page.specs.Page.{page_json}
 use Rattle.monk_page.proofs.html.article.Goals as goal
@@ -28,14 +25,5 @@ returns-clause-article c =
     let same = same_data c.args.header.now c.args.events.now c.args.window c.in_ok-verdict.verdict _ _
     c.of-span.result.before c.of-span.result.last c.in_ok-verdict.ensures.verdict c.forbidden_step.ensures
     c.showable.ensures.value c.of-span.ensures.last c.of-span.ensures.before in
-    IfOk-weaker c.article_told.result _ _
-    (λ text is. subst (λ (d : Data). IsArticleOf d c.args.beside.now (string_bytes text)) same is)
-    c.article_told.ensures.article
-
-pub returns-clause-reads_back : goal.returns-clause-reads_back
-returns-clause-reads_back c =
-    let same = same_data c.args.header.now c.args.events.now c.args.window c.in_ok-verdict.verdict _ _
-    c.of-span.result.before c.of-span.result.last c.in_ok-verdict.ensures.verdict c.forbidden_step.ensures
-    c.showable.ensures.value c.of-span.ensures.last c.of-span.ensures.before in
-    on_ok_weaker c.article_told.result
-    (λ reads. subst (λ (d : Data). read (compact_text d) ≡ Some d) same reads) c.article_told.ensures.reads_back
+    subst (λ (d : Data). IsArticleOf d c.args.beside.now (string_bytes c.in_ok-article_told.field-0)) same
+    c.in_ok-article_told.ensures

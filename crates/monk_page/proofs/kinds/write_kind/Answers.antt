@@ -1,11 +1,12 @@
 use Rattle.std.proofs.Common.{◌≡◌, ◌∙◌, List, ap, refl, rules, subst, sym}
+use Rattle.std.proofs.lemmas.Result.{on_ok_weaker}
 use Rattle.monk_kinds.specs.declared.name.KindName.{KindName}
 use Rattle.monk_audit.specs.Under.{under}
 use Rattle.monk_history.specs.Text.{Heading}
 use Rattle.monk_history.specs.declared.event.Event.{Event}
 use Rattle.monk_tell.specs.Told.{Account, account}
 use Rattle.serde_json.specs.Data.{Data}
-use Rattle.monk_page.specs.Kinds.{verdict_json}
+use Rattle.monk_page.specs.Kinds.{kind_json, verdict_json}
 use Rattle.monk_page.specs.Writes.{AddsValue}
 use Rattle.monk_page.proofs.kinds.write_kind.Goals as goal
 
@@ -13,10 +14,12 @@ use Rattle.monk_page.proofs.kinds.write_kind.Goals as goal
 own_kind : (h : Heading) (es : List Event) (k : KindName) → k ≡ h.kind → account h es ≡ account (under k h) es
 own_kind h es k is = subst (λ (l : KindName). account h es ≡ account (under l h) es) (sym is) refl
 
-pub returns-clause-json : goal.returns-clause-json
-returns-clause-json c =
+pub returns : goal.returns
+unfolding kind_json
+returns c =
     let own : c.args.kind ≡ c.args.told.header.now.kind = search rules in
-    subst (λ (d : Data). AddsValue d c.args.out.now.writer c.write_verdict.new.out.writer)
+    on_ok_weaker c.write_verdict.result
+    (subst (λ (d : Data). AddsValue d c.args.out.now.writer c.write_verdict.new.out.writer)
     (ap (λ (a : Account). verdict_json c.args.kind a.verdict a.blame)
-    (c.requires.telling ∙ own_kind c.args.told.header.now c.args.told.events.now c.args.kind own))
-    c.in_ok-write_verdict.ensures
+    (c.requires.telling ∙ own_kind c.args.told.header.now c.args.told.events.now c.args.kind own)))
+    c.write_verdict.ensures

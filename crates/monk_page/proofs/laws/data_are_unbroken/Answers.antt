@@ -1,11 +1,11 @@
 use Rattle.monk_draw.specs.Window.{last_of, not_shown}
 use Rattle.monk_tell.specs.Told.{account, forbidden_step}
 use Rattle.monk_page.specs.Html.{window_json}
-use Rattle.monk_page.proofs.PlainData.{text_plain}
+use Rattle.monk_page.proofs.PlainData.{value_plain}
 use Rattle.monk_page.proofs.PlainLaws.{page_plain}
 use Rattle.monk_page.proofs.laws.data_are_unbroken.Goals as goal
 
 pub returns : goal.returns
 returns c h es w =
     let last = last_of w (forbidden_step (account h es).verdict) es in
-    text_plain 6 (window_json h es w) (page_plain h es (not_shown w last) last)
+    (value_plain 6 (window_json h es w) (page_plain h es (not_shown w last) last)).1

@@ -1,13 +1,17 @@
-use Rattle.std.proofs.Common.{◌≡◌, rules, subst}
+use Rattle.std.proofs.Common.{◌≡◌, List, ap₂, rules, subst}
 use Rattle.std.proofs.lemmas.Result.{on_ok_weaker}
+use Rattle.monk_object.specs.declared.name.ObjectName.{ObjectName}
+use Rattle.monk_tell.specs.Steps.{ShownStep}
 use Rattle.serde_json.specs.Data.{Data}
+use Rattle.monk_page.specs.Json.{list_json}
+use Rattle.monk_page.specs.Step.{step_json}
 use Rattle.monk_page.specs.Writes.{AddsValue}
-use Rattle.monk_page.proofs.PageLaws.{steps_told}
 use Rattle.monk_page.proofs.page_data.write_steps.Goals as goal
 
 pub returns : goal.returns
 returns c =
     let object : c.object.result ≡ c.args.told.header.now.object = search rules in
     on_ok_weaker c.write_list.result
-    (λ adds. subst (λ (d : Data). AddsValue d c.args.out.now.writer c.write_list.new.out.writer)
-    (steps_told c.object.result _ c.args.told.steps.now _ object c.requires.steps) adds) c.write_list.ensures
+    (subst (λ (d : Data). AddsValue d c.args.out.now.writer c.write_list.new.out.writer)
+    (ap₂ (λ (o : ObjectName) (xs : List ShownStep). list_json (step_json o) xs) object c.requires.steps))
+    c.write_list.ensures

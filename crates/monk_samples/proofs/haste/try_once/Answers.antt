@@ -15,8 +15,8 @@ some n nonzero = omega (arith, nonzero)
 pub returns-then-reply-eq0-clause-tried : goal.returns-then-reply-eq0-clause-tried
 returns-then-reply-eq0-clause-tried g c =
     let k = g.K.Kind.rules in let o = g.T.Guarded.meaning in let p = c.args.pass in let a = c.in-Ok.acted.0 in
-    let v = hastily c.args.cond c.args.pred c.args.op (always c.args.next) in
-    let s = subst (λ (n : ℕ). HasActedInHaste k o (outside p) c.args.cond c.args.pred c.args.op n a)
+    let v = hastily c.args.visit.cond c.args.visit.pred c.args.visit.op (always c.args.visit.next) in
+    let s = subst (λ (n : ℕ). HasActedInHaste k o (outside p) c.args.visit.cond c.args.visit.pred c.args.visit.op n a)
     c.if-reply-eq0.true c.in-Ok.ensures.acted in
     missed_once k o p v a c.leave.result s.acted (λ none. (let some = s.done none in absurd (omega arith)))
     (released k o Entry a (Leave a.me.seat Stay) _ _ c.leave.result (λ x. (refl, refl, refl)) c.leave.ensures)
@@ -24,6 +24,7 @@ returns-then-reply-eq0-clause-tried g c =
 
 pub returns-clause-tried : goal.returns-clause-tried
 returns-clause-tried g c = tried_in g.K.Kind.rules g.T.Guarded.meaning c.args.pass
-    (hastily c.args.cond c.args.pred c.args.op (always c.args.next)) c.in-Ok.acted.1 c.in-Ok.acted.0
+    (hastily c.args.visit.cond c.args.visit.pred c.args.visit.op (always c.args.visit.next)) c.in-Ok.acted.1
+    c.in-Ok.acted.0
     c.finish_by.result.0 c.finish_by.result.1 c.in-Ok.ensures.acted.acted
     (some c.in-Ok.acted.1 c.if-reply-eq0.false) c.finish_by.ensures

@@ -1,8 +1,16 @@
-use Rattle.monk_tell.specs.Told.{lines_of}
-use Rattle.monk_tell.proofs.ChosenLaws.{chosen_found}
+use Rattle.std.proofs.Common.{◌∙◌, List, ap}
+use Rattle.std.specs.Prelude.{filter}
+use Rattle.monk_history.specs.Meaning.Release.{with_next}
+use Rattle.monk_history.specs.declared.event.Next.{Next}
+use Rattle.monk_audit.specs.Settled.{permits}
+use Rattle.monk_tell.specs.Told.{chosen_from, lines_of}
 use Rattle.monk_tell.proofs.permitted.choice_from.Goals as goal
 
 pub returns : goal.returns
 returns c o t lined stay =
-    chosen_found c.args.rules o t c.args.event (lines_of c.args.lines.now) c.args.stays c.in_ok-fronts.field-0.items
-    c.in_ok-may.field-0.items lined stay c.in_ok-fronts.ensures c.in_ok-may.ensures
+    let q = lines_of c.args.lines.now in
+    let may = c.in_ok-may.ensures
+    ∙ ap (λ (xs : List Next). filter (λ x. permits c.args.rules q c.args.stays (with_next x c.args.event)) xs)
+    (c.deref.ensures.value ∙ c.in_ok-nexts.ensures) in
+    (λ i. record { fronts = c.in_ok-fronts.ensures i; may = may i })
+    ∙ (λ i. chosen_from c.args.rules (lined i) (stay i) c.args.event)

@@ -1,8 +1,9 @@
-use Rattle.std.proofs.Common.{◌∙◌, ap, arith, sym, take}
+use Rattle.std.proofs.Common.{◌∙◌, ℕ, ap, arith, sym, take}
 use Rattle.std.proofs.lemmas.List.{length-take-le}
 use Rattle.monk_kinds.specs.Names.{rules_named}
+use Rattle.monk_history.specs.Meaning.Acts.{refused_steps}
 use Rattle.monk_history.specs.Meaning.Named.{named_monitor}
-use Rattle.monk_tell.specs.Told.{account_by, shown_situation}
+use Rattle.monk_tell.specs.Told.{account_by, shown_standing, told_steps}
 use Rattle.monk_tell.proofs.StepLaws.{judged_there}
 use Rattle.monk_tell.proofs.told.telling.Goals as goal
 
@@ -17,8 +18,16 @@ returns g c =
     let h = c.args.history.header.now in
     let es = c.args.history.events.now in
     let rules = c.rules_by_name-rules.ensures ∙ ap rules_named c.kind.ensures in
-    let stands = c.in_ok-situation.ensures
-    ∙ (λ i. shown_situation h.kind (rules i) h.seats h.conds h.object (c.requires.named i)
-    (take (c.allowed_events.ensures i) es) (c.requires.stands.stands i)) in
-    (λ i. record { verdict = c.args.history.verdict; situation = stands i; blame = c.in_ok-blame.ensures i })
+    let stands = c.in_ok-standing.ensures
+    ∙ (λ i. shown_standing (rules i).mode h.seats h.conds (c.requires.named i) (c.requires.stands.stands i)) in
+    let refused = c.in_ok-refused.ensures
+    ∙ ap (λ (n : ℕ). told_steps (refused_steps (take n es))) c.allowed_events.ensures in
+    (λ i. record {
+      kind = c.kind-2.ensures i;
+      object = c.object.ensures i;
+      verdict = c.args.history.verdict;
+      standing = stands i;
+      refused = refused i;
+      blame = c.in_ok-blame.ensures i;
+    })
     ∙ ap (account_by h.kind h.object (named_monitor h) es) c.requires.judged

@@ -1,7 +1,0 @@
-use Rattle.monk_commands.proofs.Requests.{meanings_more}
-use Rattle.monk_commands.proofs.meaning_words.meanings.Goals as goal
-
-pub loop-word-preserved : goal.loop-word-preserved
-loop-word-preserved c =
-    meanings_more c.args.words.now c.loop-word.word-index _ c.loop-word.means.items c.push.new.self.items c.in-Some.it
-    c.loop-word-test.true c.loop-word.invariant c.in-Some.ensures c.in_ok-push-in-Some.ensures.items

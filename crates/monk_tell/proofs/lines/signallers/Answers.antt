@@ -1,6 +1,0 @@
-use Rattle.std.proofs.Common.{[]}
-use Rattle.std.proofs.lemmas.Result.{IfOk-weaker}
-use Rattle.monk_tell.proofs.lines.signallers.Goals as goal
-
-pub returns : goal.returns
-returns c = IfOk-weaker c.signallers.result _ _ (λ v h. h []) c.signallers.ensures

@@ -1,6 +1,0 @@
-use Rattle.std.proofs.Common.{[]}
-use Rattle.std.proofs.lemmas.Result.{IfOk-weaker}
-use Rattle.monk_tell.proofs.lines.waiters.Goals as goal
-
-pub returns : goal.returns
-returns c = IfOk-weaker c.waiters.result _ _ (λ v h. h []) c.waiters.ensures
