@@ -29,7 +29,7 @@ use Rattle.monk_tell.specs.declared.why.staying.Staying.TheVariants as stay
 use Rattle.monk_tell.specs.declared.why.precedence.Precedence.TheVariants as order
 use Rattle.monk_tell.specs.declared.why.Why.{Why}
 use Rattle.monk_tell.specs.declared.why.Why.TheVariants.{NoSeat, NoCondition, NoOperation, NoPredicate}
-use Rattle.monk_tell.specs.declared.why.Why.TheVariants.{Call, Turn as Away, Reply, Stay, Order}
+use Rattle.monk_tell.specs.declared.why.Why.TheVariants.{Call, NoUntils, Turn as Away, Reply, Stay, Order}
 
 -- ---- 1. a number that is out of range: of its seats the first, else what the call is about
 
@@ -185,7 +185,7 @@ may_not_recall kind k f s j =
 -- that seat may not be chosen of those whose predicate holds: it is not the first of them, where there is one
 abbrev pub may_not_continue : KindName → Rules → Option ℕ → ℕ → Why
 may_not_continue kind k first j =
-    if has_conditions k.mode then Order (order.NoUntils kind)
+    if has_conditions k.mode then NoUntils kind
     else option_map_or (λ i. Order (order.NotReady j)) first (Order order.NobodyReady)
 
 -- why that choice may not be made

@@ -11,12 +11,12 @@ use Rattle.monk_tell.specs.declared.why.staying.Staying.{Staying}
 use Rattle.monk_tell.specs.declared.why.staying.Staying.TheVariants.{NobodyWaits, HoldsAlready, GivesUp, MustYield, MustStay}
 use Rattle.monk_tell.specs.declared.why.staying.Staying.TheVariants.{StepsBehind, OwnSignal}
 use Rattle.monk_tell.specs.declared.why.precedence.Precedence.{Precedence}
-use Rattle.monk_tell.specs.declared.why.precedence.Precedence.TheVariants.{NotFirst, NobodyIn, NotReady, NobodyReady, NoUntils}
+use Rattle.monk_tell.specs.declared.why.precedence.Precedence.TheVariants.{NotFirst, NobodyIn, NotReady, NobodyReady}
 use Rattle.monk_tell.specs.declared.why.precedence.Precedence.TheVariants.{WaitersFirst, SignallersFirst}
 use Rattle.monk_tell.specs.declared.why.precedence.Precedence.TheVariants.{WaitersBeforeEntry, SignallersBeforeEntry, ReadyBeforeEntry}
 use Rattle.monk_tell.specs.declared.why.Why.{Why}
 use Rattle.monk_tell.specs.declared.why.Why.TheVariants.{NoSeat, NoCondition, NoOperation, NoPredicate}
-use Rattle.monk_tell.specs.declared.why.Why.TheVariants.{Call, Turn, Reply, Stay, Order}
+use Rattle.monk_tell.specs.declared.why.Why.TheVariants.{Call, NoUntils, Turn, Reply, Stay, Order}
 
 -- why a seat may not make its call now: whose turn it is, or where the seat is
 abbrev pub out_of_turn_text : OutOfTurn → List ℕ
@@ -75,8 +75,6 @@ precedence_text (NobodyIn queue) = concat (codes "the " ∷ from_word queue ∷ 
 precedence_text (NotReady seat) =
     concat (codes "seat " ∷ decimal seat ∷ codes " isn't the first of those whose predicate holds" ∷ [])
 precedence_text NobodyReady = codes "there is nobody whose predicate holds"
-precedence_text (NoUntils kind) =
-    concat (kind_word kind ∷ codes " monitors have nobody who waits until a predicate holds" ∷ [])
 precedence_text (WaitersFirst seat kind) =
     concat (codes "waiter " ∷ decimal seat ∷ codes " has to go on first, since " ∷ kind_word kind ∷
     codes " puts waiters above signallers" ∷ [])
@@ -105,6 +103,8 @@ why_text (NoCondition cond conds) =
 why_text (NoOperation code) = concat (codes "the object has no operation " ∷ decimal code ∷ [])
 why_text (NoPredicate pred) = concat (codes "the object has no predicate " ∷ decimal pred ∷ [])
 why_text (Call kind) = concat (kind_word kind ∷ codes " monitors have no such call" ∷ [])
+why_text (NoUntils kind) =
+    concat (kind_word kind ∷ codes " monitors have nobody who waits until a predicate holds" ∷ [])
 why_text (Turn w) = out_of_turn_text w
 why_text (Reply right wrong) =
     concat (codes "the object replies " ∷ decimal right ∷ codes " and not " ∷ decimal wrong ∷ [])

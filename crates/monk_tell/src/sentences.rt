@@ -236,7 +236,7 @@ fn may_not_continue(kind: KindName, rules: Rules, first: Option<u8>, chosen: u8)
     match (rules.mode, first) {
         (Mode::Automatic, Some(_)) => Why::Order(Precedence::NotReady(chosen)),
         (Mode::Automatic, None) => Why::Order(Precedence::NobodyReady),
-        _ => Why::Order(Precedence::NoUntils(kind)),
+        _ => Why::NoUntils(kind),
     }
 }
 

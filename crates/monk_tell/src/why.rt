@@ -26,6 +26,8 @@ pub enum Why {
     NoPredicate(u8),
     /// Monitors of that kind don't have the call.
     Call(KindName),
+    /// Monitors of that kind have nobody who waits until a predicate holds.
+    NoUntils(KindName),
     /// The seat may not make the call now.
     Turn(OutOfTurn),
     /// The object replies the first number, and not the second.
@@ -52,6 +54,11 @@ impl fmt::Display for Why {
             Why::NoOperation(code) => write!(f, "the object has no operation {code}"),
             Why::NoPredicate(pred) => write!(f, "the object has no predicate {pred}"),
             Why::Call(kind) => write!(f, "{} monitors have no such call", kind.as_str()),
+            Why::NoUntils(kind) => write!(
+                f,
+                "{} monitors have nobody who waits until a predicate holds",
+                kind.as_str()
+            ),
             Why::Turn(found) => write!(f, "{found}"),
             Why::Reply(right, wrong) => write!(f, "the object replies {right} and not {wrong}"),
             Why::Stay(found) => write!(f, "{found}"),

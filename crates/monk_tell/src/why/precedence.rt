@@ -19,8 +19,6 @@ pub enum Precedence {
     NotReady(u8),
     /// There is nobody whose predicate holds.
     NobodyReady,
-    /// Monitors of that kind have nobody who waits until a predicate holds.
-    NoUntils(KindName),
     /// The kind puts waiters above signallers, and the seat is the first waiter.
     WaitersFirst(u8, KindName),
     /// The kind puts signallers above waiters, and the seat is the first signaller.
@@ -49,11 +47,6 @@ impl fmt::Display for Precedence {
                 "seat {seat} isn't the first of those whose predicate holds"
             ),
             Precedence::NobodyReady => write!(f, "there is nobody whose predicate holds"),
-            Precedence::NoUntils(kind) => write!(
-                f,
-                "{} monitors have nobody who waits until a predicate holds",
-                kind.as_str()
-            ),
             Precedence::WaitersFirst(seat, kind) => write!(
                 f,
                 "waiter {seat} has to go on first, since {} puts waiters above signallers",
