@@ -21,6 +21,7 @@ pub struct LineAnswer {
     pub status: u8,
     /// What is written on standard output.
     pub text: String,
+    pub ghost in_range: { status ≤ 2 },
 }
 
 /// The answer to what was found of a text: its verdict, or why there is none.
@@ -28,9 +29,8 @@ pub(crate) fn answer_to(
     alloc: Global,
     found: Result<TextVerdict, ReadFault>,
 ) -> Result<LineAnswer, AllocError>
-    ensures answer { (input : List ℕ) → Gives same found (text_verdict input) → IfOk result
+    ensures { (input : List ℕ) → Gives same found (text_verdict input) → IfOk result
         (λ a. (a.status ≡ (answer_of input).status) × (string_bytes a.text ≡ (answer_of input).text)) }
-    ensures status { IfOk result (λ a. a.status ≤ 2) }
 {
     match found {
         Ok(TextVerdict::Judged(verdict)) => verdict_answer(alloc, verdict),
@@ -41,10 +41,9 @@ pub(crate) fn answer_to(
 
 /// The answer to a text with a fault; where the fault is want of memory, there is none.
 pub(crate) fn unreadable(alloc: Global, fault: ReadFault) -> Result<LineAnswer, AllocError>
-    ensures answer { IfOk result
+    ensures { IfOk result
         (λ a. (fault ≢ memory) × (a.status ≡ (unreadable fault).status)
         × (string_bytes a.text ≡ (unreadable fault).text)) }
-    ensures status { IfOk result (λ a. a.status ≤ 2) }
 {
     if fault.number == ReadFault::MEMORY {
         return Err(AllocError);
@@ -55,8 +54,7 @@ pub(crate) fn unreadable(alloc: Global, fault: ReadFault) -> Result<LineAnswer, 
 }
 
 pub(crate) fn too_big(alloc: Global) -> Result<LineAnswer, AllocError>
-    ensures answer { IfOk result (λ a. (a.status ≡ too_big.status) × (string_bytes a.text ≡ too_big.text)) }
-    ensures status { IfOk result (λ a. a.status ≤ 2) }
+    ensures { IfOk result (λ a. (a.status ≡ too_big.status) × (string_bytes a.text ≡ too_big.text)) }
 {
     let text = String::from_str(alloc, "object\n")?;
     Ok(LineAnswer { status: 2, text })
@@ -90,9 +88,8 @@ fn fault_word(number: u8) -> &'static str
 }
 
 pub(crate) fn verdict_answer(alloc: Global, verdict: Verdict) -> Result<LineAnswer, AllocError>
-    ensures answer { IfOk result (λ a. let j = verdict_answer verdict in
+    ensures { IfOk result (λ a. let j = verdict_answer verdict in
         (a.status ≡ j.status) × (string_bytes a.text ≡ j.text)) }
-    ensures status { IfOk result (λ a. a.status ≤ 2) }
 {
     let text = format!(in alloc; "{verdict}\n")?;
     let status = match verdict {
@@ -104,8 +101,7 @@ pub(crate) fn verdict_answer(alloc: Global, verdict: Verdict) -> Result<LineAnsw
 
 /// The answer where events are asked for that are behind the last that can be shown.
 pub(crate) fn behind(alloc: Global, last: usize) -> Result<LineAnswer, AllocError>
-    ensures answer { IfOk result (λ a. (a.status ≡ (behind last).status) × (string_bytes a.text ≡ (behind last).text)) }
-    ensures status { IfOk result (λ a. a.status ≤ 2) }
+    ensures { IfOk result (λ a. (a.status ≡ (behind last).status) × (string_bytes a.text ≡ (behind last).text)) }
 {
     let text = format!(in alloc; "window {last}\n")?;
     Ok(LineAnswer { status: 2, text })

@@ -19,8 +19,7 @@ use std::alloc::{AllocError, Global};
 
 /// The line of the verdict, and what is told behind it.
 fn told(alloc: Global, telling: &Telling) -> Result<LineAnswer, AllocError>
-    ensures answer { IfOk result (λ a. IsTold (telling_of telling.now) a.status (string_bytes a.text)) }
-    ensures status { IfOk result (λ a. a.status ≤ 2) }
+    ensures { IfOk result (λ a. IsTold (telling_of telling.now) a.status (string_bytes a.text)) }
 {
     let mut answer = verdict_answer(alloc, telling.verdict)?;
     let lines = format!(in alloc; "{telling}")?;
@@ -36,9 +35,8 @@ pub(crate) fn explained(
     events: &[Event],
 ) -> Result<LineAnswer, AllocError>
     requires few { length events.now ≤ 2 ^ 25 }
-    ensures answer { IfOk result
+    ensures { IfOk result
         (λ a. IsExplained kind (history header.now events.now) a.status (string_bytes a.text)) }
-    ensures status { IfOk result (λ a. a.status ≤ 2) }
 {
     let header = judged_under(kind, header);
     match tell(alloc, &header, events) {
@@ -67,9 +65,8 @@ pub fn explain_history(
     kind: Option<KindName>,
     bytes: &[u8],
 ) -> Result<LineAnswer, AllocError>
-    ensures answer { IfOk result
+    ensures { IfOk result
         (λ a. IsReading (IsExplained kind) (text_at (2 ^ 25) bytes.now) a.status (string_bytes a.text)) }
-    ensures status { IfOk result (λ a. a.status ≤ 2) }
 {
     match read(alloc, bytes) {
         Ok((header, events)) => explained(alloc, kind, &header, &events),
@@ -84,9 +81,8 @@ pub fn explain_log(
     question: Question<'_>,
     bytes: Vec<u8>,
 ) -> Result<LineAnswer, AllocError>
-    ensures answer { IfOk result
+    ensures { IfOk result
         (λ a. IsAnswerToLog LogView.Explanation question.entry bytes.items a.status (string_bytes a.text)) }
-    ensures status { IfOk result (λ a. a.status ≤ 2) }
 {
     answer_to_log(alloc, LogView::Explanation, question, bytes)
 }

@@ -66,9 +66,8 @@ fn lines_under(
 ) -> Result<LineAnswer, AllocError>
     requires few { length events.now ≤ 2 ^ 25 }
     requires fits { header.now.size ≤ most header.now.object }
-    ensures answer { IfOk result
+    ensures { IfOk result
         (λ a. IsOf (answered.fit_answer kinds.now header.now events.now) a.status (string_bytes a.text)) }
-    ensures status { IfOk result (λ a. a.status ≤ 2) }
 {
     let mut text = String::new(alloc);
     let mut is_fit = false;
@@ -87,9 +86,8 @@ fn fit(
     events: &[Event],
 ) -> Result<LineAnswer, AllocError>
     requires few { length events.now ≤ 2 ^ 25 }
-    ensures answer { IfOk result
+    ensures { IfOk result
         (λ a. answered.IsFit kinds.now (history header.now events.now) a.status (string_bytes a.text)) }
-    ensures status { IfOk result (λ a. a.status ≤ 2) }
 {
     if header.size() > header.object().greatest_size() {
         return too_big(alloc);
@@ -99,8 +97,7 @@ fn fit(
 
 /// The answer to the text of a history under these kinds.
 fn fit_bytes(alloc: Global, kinds: &[KindName], bytes: &[u8]) -> Result<LineAnswer, AllocError>
-    ensures answer { IfOk result (λ a. answered.IsFitText kinds.now bytes.now a.status (string_bytes a.text)) }
-    ensures status { IfOk result (λ a. a.status ≤ 2) }
+    ensures { IfOk result (λ a. answered.IsFitText kinds.now bytes.now a.status (string_bytes a.text)) }
 {
     match read(alloc, bytes) {
         Ok((header, events)) => fit(alloc, kinds, &header, &events),
@@ -125,9 +122,8 @@ pub fn fit_history(
     question: Question<'_>,
     bytes: &[u8],
 ) -> Result<LineAnswer, AllocError>
-    ensures answer { IfOk result (λ a. answered.IsHistoryFit question.entry.kind question.entry.name.now bytes.now
+    ensures { IfOk result (λ a. answered.IsHistoryFit question.entry.kind question.entry.name.now bytes.now
         a.status (string_bytes a.text)) }
-    ensures status { IfOk result (λ a. a.status ≤ 2) }
 {
     match question.kind {
         Some(kind) => named(alloc, question.name, fit_bytes(alloc, &[kind], bytes)?),
@@ -143,9 +139,8 @@ pub fn fit_log(
     question: Question<'_>,
     bytes: Vec<u8>,
 ) -> Result<LineAnswer, AllocError>
-    ensures answer { IfOk result
+    ensures { IfOk result
         (λ a. answered.IsLogFit form question.entry bytes.items a.status (string_bytes a.text)) }
-    ensures status { IfOk result (λ a. a.status ≤ 2) }
 {
     match form {
         FitForm::Words => {

@@ -34,8 +34,7 @@ fn text_answer(
     history: Paged<'_>,
     window: Option<Window>,
 ) -> Result<LineAnswer, AllocError>
-    ensures article { IfOk result (λ a. a.status ≤ 1 → IsPart window history.entry (string_bytes a.text)) }
-    ensures status { IfOk result (λ a. a.status ≤ 2) }
+    ensures { IfOk result (λ a. a.status ≤ 1 → IsPart window history.entry (string_bytes a.text)) }
 {
     shown_in_form(
         alloc,
@@ -51,9 +50,8 @@ fn page_answer(
     histories: &[Paged<'_>],
     window: Option<Window>,
 ) -> Result<LineAnswer, AllocError>
-    ensures page { IfOk result
+    ensures { IfOk result
         (λ a. a.status ≤ 1 → IsPageOfAll window histories.now (length histories.now) (string_bytes a.text)) }
-    ensures status { IfOk result (λ a. a.status ≤ 2) }
 {
     let mut articles = String::new(alloc);
     let mut status = 0;

@@ -66,9 +66,8 @@ fn shown_if_there(
 ) -> Result<LineAnswer, AllocError>
     requires few { length events.now ≤ 2 ^ 25 }
     requires fits { header.now.size ≤ most header.now.object }
-    ensures answer { IfOk result
+    ensures { IfOk result
         (λ a. IsAnsweredBy form.entry window verdict header.now events.now a.status (string_bytes a.text)) }
-    ensures status { IfOk result (λ a. a.status ≤ 2) }
 {
     let last = showable(forbidden_step(verdict), events.len());
     if is_behind(window, last) {
@@ -89,9 +88,8 @@ fn shown(
     window: Option<Window>,
 ) -> Result<LineAnswer, AllocError>
     requires few { length events.now ≤ 2 ^ 25 }
-    ensures answer { IfOk result
+    ensures { IfOk result
         (λ a. IsShown form.entry window (history header.now events.now) a.status (string_bytes a.text)) }
-    ensures status { IfOk result (λ a. a.status ≤ 2) }
 {
     match audit(alloc, header, events) {
         Ok(verdict) => shown_if_there(alloc, form, header, events, window, verdict),
@@ -107,9 +105,8 @@ pub(crate) fn shown_in_form(
     window: Option<Window>,
     bytes: &[u8],
 ) -> Result<LineAnswer, AllocError>
-    ensures answer { IfOk result
+    ensures { IfOk result
         (λ a. IsReading (IsShown form.entry window) (text_at (2 ^ 25) bytes.now) a.status (string_bytes a.text)) }
-    ensures status { IfOk result (λ a. a.status ≤ 2) }
 {
     match read(alloc, bytes) {
         Ok((header, events)) => shown(alloc, form, &header, &events, window),
@@ -125,9 +122,8 @@ pub fn show_history(
     window: Option<Window>,
     bytes: &[u8],
 ) -> Result<LineAnswer, AllocError>
-    ensures answer { IfOk result (λ a. IsReading (IsShown (form_of show.entry) window) (text_at (2 ^ 25) bytes.now)
+    ensures { IfOk result (λ a. IsReading (IsShown (form_of show.entry) window) (text_at (2 ^ 25) bytes.now)
         a.status (string_bytes a.text)) }
-    ensures status { IfOk result (λ a. a.status ≤ 2) }
 {
     match show {
         Show::Picture(picture) => {

@@ -31,9 +31,7 @@ pub(crate) enum TextTask<'a> {
 }
 
 impl TextTask<'_> {
-    fn answer(self, alloc: Global, bytes: Vec<u8>) -> Result<LineAnswer, AllocError>
-        ensures { IfOk result (λ a. a.status ≤ 2) }
-    {
+    fn answer(self, alloc: Global, bytes: Vec<u8>) -> Result<LineAnswer, AllocError> {
         let is_log = is_log(&bytes);
         match self {
             TextTask::Fit(form, question) if is_log => fit_log(alloc, form, question, bytes),

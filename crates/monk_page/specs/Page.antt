@@ -1,13 +1,13 @@
 -- The data of a page, in JSON
-use Rattle.std.specs.Prelude.{◌≡◌, ◌≤◌, ◌^◌, ℕ, List, length, map, codes, nat_le, nat_lt, ◌&&◌, if◌then◌else◌}
+use Rattle.std.specs.Prelude.{ℕ, List, length, codes, nat_le, nat_lt, ◌&&◌, if◌then◌else◌}
 use Rattle.std.specs.Option.{option_map_or}
 use Rattle.monk_kinds.specs.Names.{kind_word, rules_named}
-use Rattle.monk_object.specs.Names.{most, object_word}
+use Rattle.monk_object.specs.Names.{object_word}
 use Rattle.monk_audit.specs.Words.{verdict_text}
 use Rattle.monk_history.specs.Text.{Heading}
 use Rattle.monk_history.specs.declared.event.Event.{Event}
-use Rattle.monk_tell.specs.Steps.{step_of, steps_between}
-use Rattle.monk_tell.specs.Told.{Account, Blamed, account, telling_of}
+use Rattle.monk_tell.specs.Steps.{steps_between}
+use Rattle.monk_tell.specs.Told.{Account, Blamed, account}
 use Rattle.monk_tell.specs.Words.{mode_word, ranks_text}
 use Rattle.serde_json.specs.Data.{Data, null, string, object, Members, member, no_members}
 use Rattle.monk_page.specs.Blame.{blame_json}
@@ -54,15 +54,6 @@ with_judged h es before last ms =
 abbrev pub page_json : Heading → List Event → ℕ → ℕ → Data
 page_json h es before last = object (with_counts h es before last (with_judged h es before last no_members))
 
--- what is told of these events is so
-pub record IsTold (t : ToldHistory) : Type 0 where
-  pub few : length t.events.now ≤ 2 ^ 25
-  pub fits : t.header.now.size ≤ most t.header.now.object
-  pub order : t.span.before ≤ t.span.last
-  pub last : t.span.last ≤ length t.events.now
-  pub telling : telling_of t.telling.now ≡ account t.header.now t.events.now
-  pub steps : map step_of t.steps.now ≡ steps_between t.header.now t.events.now t.span.before t.span.last
-
--- its data
+-- the data of what is told of a history
 abbrev pub told_json : ToldHistory → Data
 told_json t = page_json t.header.now t.events.now t.span.before t.span.last

@@ -3,7 +3,7 @@
 ghost use Rattle.std.specs.Prelude.{◌≡◌, ◌≤◌, ◌<◌, ◌^◌, IfOk, OnOk, IsErrOf, length, string_bytes};
 ghost use Rattle.monk_object.specs.Names.{most};
 ghost use Rattle.monk_page.specs.Html.{IsArticle, IsArticleOf, history_end, page_of};
-ghost use Rattle.monk_page.specs.Page.{IsTold, told_json};
+ghost use Rattle.monk_page.specs.Page.{told_json};
 
 use crate::in_json::JsonText;
 use crate::page_data::write_page;
@@ -18,7 +18,6 @@ use std::alloc::{AllocError, Global};
 
 /// A history of which that is told, as one of a page.
 fn article_told(alloc: Global, told: ToldHistory, beside: &str) -> Result<String, AllocError>
-    requires { IsTold told }
     ensures { IfOk result (λ text. IsArticleOf (told_json told.entry) beside.now (string_bytes text)) }
 {
     let mut out = JsonText::new(alloc);

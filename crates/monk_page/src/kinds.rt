@@ -5,7 +5,6 @@ ghost use Rattle.monk_tell.specs.Told.{blame_of};
 ghost use Rattle.monk_page.specs.Blame.{why_json};
 ghost use Rattle.monk_page.specs.Json.{list_json, option_json};
 ghost use Rattle.monk_page.specs.Kinds.{kind_json, verdict_json};
-ghost use Rattle.monk_page.specs.Page.{IsTold};
 ghost use Rattle.monk_page.specs.Writes.{AddsMember, AddsValue};
 
 use crate::in_json::{JsonText, member};
@@ -52,7 +51,6 @@ fn write_verdict(
 /// those before it replayed.
 #[tactic(auto, unfolding(crate::specs::Kinds::kind_json))]
 fn write_other(out: &mut JsonText, told: ToldHistory, kind: KindName) -> Result<(), AllocError>
-    requires { IsTold told }
     ensures { OnOk result
         (AddsValue (kind_json told.entry.header.now told.entry.events.now kind) out.old.writer out.new.writer) }
 {
@@ -80,7 +78,6 @@ fn write_other(out: &mut JsonText, told: ToldHistory, kind: KindName) -> Result<
 
 /// Writes what an audit of the events finds if the monitor is of that kind.
 fn write_kind(out: &mut JsonText, told: ToldHistory, kind: KindName) -> Result<(), AllocError>
-    requires { IsTold told }
     ensures { OnOk result
         (AddsValue (kind_json told.entry.header.now told.entry.events.now kind) out.old.writer out.new.writer) }
 {
@@ -96,7 +93,6 @@ pub(crate) fn write_kinds(
     told: ToldHistory,
     kinds: &[KindName],
 ) -> Result<(), AllocError>
-    requires { IsTold told }
     ensures { OnOk result
         (AddsValue (list_json (kind_json told.entry.header.now told.entry.events.now) kinds.now)
         out.old.writer out.new.writer) }

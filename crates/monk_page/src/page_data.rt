@@ -5,7 +5,7 @@ ghost use Rattle.monk_tell.specs.Steps.{step_of};
 ghost use Rattle.monk_tell.specs.Told.{telling_of};
 ghost use Rattle.serde_json.specs.Data.{no_members};
 ghost use Rattle.monk_page.specs.Json.{list_json};
-ghost use Rattle.monk_page.specs.Page.{IsTold, forbidden_json, steps_json, told_json, with_counts, with_judged, with_kinds};
+ghost use Rattle.monk_page.specs.Page.{forbidden_json, steps_json, told_json, with_counts, with_judged, with_kinds};
 ghost use Rattle.monk_page.specs.Step.{step_json};
 ghost use Rattle.monk_page.specs.Writes.{AddsMember, AddsMembers, AddsValue};
 
@@ -37,7 +37,6 @@ fn write_list(out: &mut JsonText, object: ObjectName, steps: &[Step]) -> Result<
 
 /// Writes the steps behind so many events, up to the last that is shown.
 fn write_steps(out: &mut JsonText, told: ToldHistory) -> Result<(), AllocError>
-    requires { IsTold told }
     ensures { OnOk result (AddsValue (steps_json told.entry.header.now told.entry.events.now
         told.entry.span.before told.entry.span.last) out.old.writer out.new.writer) }
 {
@@ -60,7 +59,6 @@ fn write_forbidden(out: &mut JsonText, telling: &Telling, span: Span) -> Result<
 
 /// Writes the kind, and how each kind judges the events.
 fn write_own_kind(out: &mut JsonText, told: ToldHistory) -> Result<(), AllocError>
-    requires { IsTold told }
     ensures { OnOk result (AddsMembers (with_kinds told.entry.header.now told.entry.events.now no_members)
         out.old.writer out.new.writer) }
 {
@@ -75,7 +73,6 @@ fn write_own_kind(out: &mut JsonText, told: ToldHistory) -> Result<(), AllocErro
 
 /// Writes how many events there are, which is forbidden, and the kind.
 fn write_counts(out: &mut JsonText, told: ToldHistory) -> Result<(), AllocError>
-    requires { IsTold told }
     ensures { OnOk result (AddsMembers (with_counts told.entry.header.now told.entry.events.now
         told.entry.span.before told.entry.span.last no_members) out.old.writer out.new.writer) }
 {
@@ -90,7 +87,6 @@ fn write_counts(out: &mut JsonText, told: ToldHistory) -> Result<(), AllocError>
 
 /// Writes the rest of the header, the steps that are shown, and the verdict.
 fn write_judged(out: &mut JsonText, told: ToldHistory) -> Result<(), AllocError>
-    requires { IsTold told }
     ensures { OnOk result (AddsMembers (with_judged told.entry.header.now told.entry.events.now
         told.entry.span.before told.entry.span.last no_members) out.old.writer out.new.writer) }
 {
@@ -111,7 +107,6 @@ fn write_judged(out: &mut JsonText, told: ToldHistory) -> Result<(), AllocError>
 
 /// Writes the data of a page: the events behind so many up to the last that is shown, and how all are judged.
 pub(crate) fn write_page(out: &mut JsonText, told: ToldHistory) -> Result<(), AllocError>
-    requires { IsTold told }
     ensures { OnOk result (AddsValue (told_json told.entry) out.old.writer out.new.writer) }
 {
     out.writer.begin_object()?;

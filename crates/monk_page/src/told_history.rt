@@ -1,3 +1,8 @@
+ghost use Rattle.std.specs.Prelude.{◌≡◌, ◌≤◌, ◌^◌, length, map};
+ghost use Rattle.monk_object.specs.Names.{most};
+ghost use Rattle.monk_tell.specs.Steps.{step_of, steps_between};
+ghost use Rattle.monk_tell.specs.Told.{account, telling_of};
+
 use monk_draw::Span;
 use monk_history::{Event, Header};
 use monk_tell::{Step, Telling};
@@ -13,4 +18,10 @@ pub(crate) struct ToldHistory<'a> {
     pub(crate) span: Span,
     /// Their steps.
     pub(crate) steps: &'a [Step],
+    ghost few: { length events.now ≤ 2 ^ 25 },
+    ghost fits: { header.now.size ≤ most header.now.object },
+    ghost order: { span.before ≤ span.last },
+    ghost last: { span.last ≤ length events.now },
+    ghost told: { telling_of telling.now ≡ account header.now events.now },
+    ghost shown: { map step_of steps.now ≡ steps_between header.now events.now span.before span.last },
 }

@@ -1,5 +1,5 @@
 -- What is told of a history, as data
-use Rattle.std.specs.Prelude.{◌≡◌, ℕ, ◌-◌, ◌==◌, Bool, Option, Some, None, List, length, map, take}
+use Rattle.std.specs.Prelude.{ℕ, ◌-◌, ◌==◌, Bool, Option, Some, None, List, length, map, take}
 use Rattle.std.specs.Prelude.{filter, if◌then◌else◌, option_map, get_or}
 use Rattle.std.specs.List.{range_with_len}
 use Rattle.monk_kinds.specs.declared.mode.Mode.{Mode}
@@ -28,7 +28,6 @@ use Rattle.monk_audit.specs.declared.verdict.Verdict.TheVariants.{Legal, Forbidd
 use Rattle.monk_tell.specs.Cause.{cause, conditions_below, own_reply}
 use Rattle.monk_tell.specs.Permitted.{fronts, permitted_nexts}
 use Rattle.monk_tell.specs.declared.forbidden.ForbiddenEvent.{ForbiddenEvent}
-use Rattle.monk_tell.specs.declared.judged.JudgedHistory.{JudgedHistory}
 use Rattle.monk_tell.specs.declared.choice.Choice.{Choice}
 use Rattle.monk_tell.specs.declared.lines.Lines.{Lines}
 use Rattle.monk_tell.specs.declared.queues.Conditions.{Conditions}
@@ -248,7 +247,3 @@ account_by kind name m es v = let past = take (allowed_events v) es in record {
 -- what is told of a history
 abbrev pub account : Heading → List Event → Account
 account h es = account_by h.kind h.object (named_monitor h) es (verdict_of (named_monitor h) es)
-
--- the verdict is the one on these events
-abbrev pub IsJudged : JudgedHistory → Type 0
-IsJudged j = j.verdict ≡ verdict_of (named_monitor j.header.now) j.events.now

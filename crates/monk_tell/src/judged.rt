@@ -1,6 +1,8 @@
 //! A history, and what an audit finds of it.
 
 ghost use Rattle.std.specs.Prelude.{◌≡◌};
+ghost use Rattle.monk_history.specs.Meaning.Named.{named_monitor};
+ghost use Rattle.monk_audit.specs.Verdict.{verdict_of};
 ghost use Rattle.monk_tell.specs.Told.{allowed_events, forbidden_step};
 
 use monk_audit::Verdict;
@@ -15,6 +17,7 @@ pub struct JudgedHistory<'a> {
     pub events: &'a [Event],
     /// The verdict on them.
     pub verdict: Verdict,
+    pub ghost judged: { verdict ≡ verdict_of (named_monitor header.now) events.now },
 }
 
 /// How many events stand before the first that is not allowed, or all.

@@ -6,7 +6,7 @@ ghost use Rattle.monk_history.specs.Meaning.Named.{named_monitor};
 ghost use Rattle.monk_history.specs.Meaning.Reasons.{fits_object};
 ghost use Rattle.monk_audit.specs.Replay.{replay_situation};
 ghost use Rattle.monk_tell.specs.Steps.{IsAfter, event_step, release_choice, step_of};
-ghost use Rattle.monk_tell.specs.Told.{IsJudged, allowed_events, choice_of};
+ghost use Rattle.monk_tell.specs.Told.{allowed_events, choice_of};
 
 use crate::choice::Choice;
 use crate::judged::JudgedHistory;
@@ -39,7 +39,6 @@ impl Step {
         object: &mut T,
         before: usize,
     ) -> Result<Step, AllocError>
-        requires judged { IsJudged history }
         requires named { T.meaning ≡ meaning_named history.header.now.object }
         requires allowed { before < allowed_events history.verdict }
         requires stands { IsAfter history.header.now history.events.now before T.PREDICATES replay.old
@@ -70,7 +69,6 @@ pub(crate) fn carry_out<T: Guarded>(
     object: &mut T,
     before: usize,
 ) -> Result<(), AllocError>
-    requires judged { IsJudged history }
     requires named { T.meaning ≡ meaning_named history.header.now.object }
     requires allowed { before < allowed_events history.verdict }
     requires stands { IsAfter history.header.now history.events.now before T.PREDICATES replay.old

@@ -4,7 +4,7 @@ ghost use Rattle.std.specs.Prelude.{◌≡◌, ◌≤◌, IfOk, OnOk, map, min};
 ghost use Rattle.monk_object.specs.Names.{meaning_named};
 ghost use Rattle.monk_history.specs.Meaning.Named.{named_monitor};
 ghost use Rattle.monk_tell.specs.Steps.{IsAfter, step_of, steps_of};
-ghost use Rattle.monk_tell.specs.Told.{IsJudged, allowed_events};
+ghost use Rattle.monk_tell.specs.Told.{allowed_events};
 
 use crate::judged::JudgedHistory;
 use crate::standing::Standing;
@@ -22,7 +22,6 @@ pub(crate) fn follow<T: Guarded>(
     from: usize,
     to: usize,
 ) -> Result<(), AllocError>
-    requires judged { IsJudged history }
     requires named { T.meaning ≡ meaning_named history.header.now.object }
     requires order { from ≤ to }
     requires allowed { to ≤ allowed_events history.verdict }
@@ -45,7 +44,6 @@ pub(crate) fn steps_from<T: Listed>(
     before: usize,
     end: usize,
 ) -> Result<Vec<Step>, AllocError>
-    requires judged { IsJudged history }
     requires named { T.meaning ≡ meaning_named history.header.now.object }
     requires allowed { end ≤ allowed_events history.verdict }
     requires begins { IsAfter history.header.now history.events.now (min before end) T.PREDICATES replay.old

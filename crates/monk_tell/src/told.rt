@@ -4,7 +4,7 @@ ghost use Rattle.std.specs.Prelude.{◌≡◌, ◌≤◌, ◌<◌, ◌^◌, IfOk
 ghost use Rattle.monk_object.specs.Names.{meaning_named, most, opening_named};
 ghost use Rattle.monk_history.specs.Meaning.Named.{named_monitor};
 ghost use Rattle.monk_tell.specs.Steps.{IsAfter, step_of, steps_between};
-ghost use Rattle.monk_tell.specs.Told.{IsJudged, account, allowed_events, blame_by, blame_of, telling_of};
+ghost use Rattle.monk_tell.specs.Told.{account, allowed_events, blame_by, blame_of, telling_of};
 
 use crate::forbidden::ForbiddenEvent;
 use crate::judged::{JudgedHistory, allowed_events};
@@ -26,7 +26,6 @@ fn blamed<T: Guarded>(
     replay: &Replay,
     object: &mut T,
 ) -> Result<Option<ForbiddenEvent>, AllocError>
-    requires judged { IsJudged history }
     requires named { T.meaning ≡ meaning_named history.header.now.object }
     requires stands { IsAfter history.header.now history.events.now (allowed_events history.verdict) T.PREDICATES
         replay.now (T.state object.old) }
@@ -55,7 +54,6 @@ fn telling<T: Listed>(
     replay: &Replay,
     object: &mut T,
 ) -> Result<Telling, AllocError>
-    requires judged { IsJudged history }
     requires named { T.meaning ≡ meaning_named history.header.now.object }
     requires stands { IsAfter history.header.now history.events.now (allowed_events history.verdict) T.PREDICATES
         replay.now (T.state object.old) }
@@ -85,7 +83,6 @@ fn tell_over<T: Listed>(
     before: usize,
     last: usize,
 ) -> Result<(Telling, Vec<Step>), AllocError>
-    requires judged { IsJudged history }
     requires named { T.meaning ≡ meaning_named history.header.now.object }
     requires opening { T.state object ≡ opening_named history.header.now.object history.header.now.size }
     ensures told { IfOk result
@@ -121,7 +118,6 @@ pub fn tell_judged(
     before: usize,
     last: usize,
 ) -> Result<(Telling, Vec<Step>), AuditFault>
-    requires { IsJudged history }
     ensures told { IfOk result
         (λ r. telling_of r.0 ≡ account history.entry.header.now history.entry.events.now) }
     ensures steps { IfOk result

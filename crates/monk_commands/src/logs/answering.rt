@@ -66,9 +66,8 @@ fn finding(
 
 /// The answer that tells by this line why nothing is found.
 fn refused(alloc: Global, view: LogView, name: &str, line: String) -> Result<LineAnswer, AllocError>
-    ensures answer { IfOk result
+    ensures { IfOk result
         (λ a. (a.status ≡ 2) × answered.Says view (string_bytes line) (string_bytes a.text)) }
-    ensures status { IfOk result (λ a. a.status ≤ 2) }
 {
     let status = 2;
     match view {
@@ -90,9 +89,8 @@ fn judged(
 ) -> Result<LineAnswer, AllocError>
     requires few { length lines.now ≤ 2 ^ 25 }
     requires size { header.now.size ≤ most header.now.object }
-    ensures answer { IfOk result (λ a. answered.IsJudged view question.entry.means.now question.entry.has_ended
+    ensures { IfOk result (λ a. answered.IsJudged view question.entry.means.now question.entry.has_ended
         header.now lines.now a.status (string_bytes a.text)) }
-    ensures status { IfOk result (λ a. a.status ≤ 2) }
 {
     let finding = finding(alloc, question.means, question.has_ended, header, lines)?;
     let status = finding.status();
@@ -113,9 +111,8 @@ fn answer_to_read(
     lines: &[LogLine],
 ) -> Result<LineAnswer, AllocError>
     requires few { length lines.now ≤ 2 ^ 25 }
-    ensures answer { IfOk result (λ a. answered.IsLogAnswer view question.entry.kind question.entry.means.now
+    ensures { IfOk result (λ a. answered.IsLogAnswer view question.entry.kind question.entry.means.now
         question.entry.has_ended header.now lines.now a.status (string_bytes a.text)) }
-    ensures status { IfOk result (λ a. a.status ≤ 2) }
 {
     match LogRefusal::of(question.kind, question.means, header, lines) {
         Some(refusal) => refused(alloc, view, question.name, refusal.line(alloc)?),
@@ -138,9 +135,8 @@ pub(crate) fn answer_to_log(
     question: Question<'_>,
     bytes: Vec<u8>,
 ) -> Result<LineAnswer, AllocError>
-    ensures answer { IfOk result
+    ensures { IfOk result
         (λ a. answered.IsAnswerToLog view question.entry bytes.items a.status (string_bytes a.text)) }
-    ensures status { IfOk result (λ a. a.status ≤ 2) }
 {
     match read_and_drop(alloc, bytes) {
         Ok((header, lines)) => answer_to_read(alloc, view, question, &header, &lines),

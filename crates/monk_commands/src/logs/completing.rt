@@ -19,8 +19,7 @@ fn misfit_line(alloc: Global, misfit: Misfit) -> Result<String, AllocError>
 }
 
 fn given(alloc: Global, header: &LogHeader, run: &Run) -> Result<LineAnswer, AllocError>
-    ensures answer { IfOk result (λ a. IsRunGiven header.now run.now a.status (string_bytes a.text)) }
-    ensures status { IfOk result (λ a. a.status ≤ 2) }
+    ensures { IfOk result (λ a. IsRunGiven header.now run.now a.status (string_bytes a.text)) }
 {
     match run.misfit {
         None => Ok(LineAnswer {
@@ -40,8 +39,7 @@ fn answer_to_log(
     lines: &[LogLine],
 ) -> Result<LineAnswer, AllocError>
     requires few { length lines.now ≤ 2 ^ 25 }
-    ensures answer { IfOk result (λ a. IsRunGivenTo (header.now, lines.now) a.status (string_bytes a.text)) }
-    ensures status { IfOk result (λ a. a.status ≤ 2) }
+    ensures { IfOk result (λ a. IsRunGivenTo (header.now, lines.now) a.status (string_bytes a.text)) }
 {
     if header.size() > header.object().greatest_size() {
         return too_big(alloc);
@@ -53,8 +51,7 @@ fn answer_to_log(
 /// A run that tells the text of a log, or why there is none. See [`Task::Complete`](crate::Task::Complete). It fails
 /// only for want of memory.
 pub fn run_answer(alloc: Global, bytes: &[u8]) -> Result<LineAnswer, AllocError>
-    ensures answer { IfOk result (λ a. IsRunAnswer bytes.now a.status (string_bytes a.text)) }
-    ensures status { IfOk result (λ a. a.status ≤ 2) }
+    ensures { IfOk result (λ a. IsRunAnswer bytes.now a.status (string_bytes a.text)) }
 {
     match read_log(alloc, bytes) {
         Ok((header, lines)) => answer_to_log(alloc, &header, &lines),

@@ -95,9 +95,8 @@ fn shown_if_there(
 ) -> Result<LineAnswer, AllocError>
     requires size { header.now.size ≤ most header.now.object }
     requires run { drawn.HasRun header.now run.now }
-    ensures answer { IfOk result
+    ensures { IfOk result
         (λ a. drawn.IsRunShown show.entry window header.now run.now lines.now a.status (string_bytes a.text)) }
-    ensures status { IfOk result (λ a. a.status ≤ 2) }
 {
     if is_behind(window, lines.len()) {
         return behind(alloc, lines.len());
@@ -114,9 +113,8 @@ fn answer_to_read(
     lines: &[LogLine],
 ) -> Result<LineAnswer, AllocError>
     requires few { length lines.now ≤ 2 ^ 25 }
-    ensures answer { IfOk result
+    ensures { IfOk result
         (λ a. drawn.IsLogShown show.entry window (header.now, lines.now) a.status (string_bytes a.text)) }
-    ensures status { IfOk result (λ a. a.status ≤ 2) }
 {
     if header.size() > header.object().greatest_size() {
         return too_big(alloc);
@@ -134,9 +132,8 @@ pub fn show_log(
     window: Option<Window>,
     bytes: &[u8],
 ) -> Result<LineAnswer, AllocError>
-    ensures answer { IfOk result
+    ensures { IfOk result
         (λ a. drawn.IsLogShowing show.entry window bytes.now a.status (string_bytes a.text)) }
-    ensures status { IfOk result (λ a. a.status ≤ 2) }
 {
     match read_log(alloc, bytes) {
         Ok((header, lines)) => answer_to_read(alloc, show, window, &header, &lines),

@@ -22,7 +22,7 @@ loop-history-preserved c =
             are = c.loop-history.invariant.articles;
             is_part = subst (λ (o : Option Paged). IsPartOf c.args.window o part)
                 (sym (slice_get-get_or histories at _ c.loop-history-test.true))
-                (c.in_ok-answer.ensures.article (omega (arith, c.if-answer-gt1.false)));
+                (c.in_ok-answer.ensures (omega (arith, c.if-answer-gt1.false)));
             is = c.in_ok-push_str.ensures.bytes
                 ∙ ap (λ (more : List ℕ). string_bytes c.loop-history.articles ++ more) c.as_str.ensures.value;
           });

@@ -32,8 +32,8 @@ part_of : (w : Option Window) (p : Paged) (r : Result History ReadFault) (status
 part_of w p (Ok x) status text a few = fits (Article p.beside) w x status text few _ refl a
 part_of w p (Err f) status text a few = absurd (omega (arith, a.0, few))
 
-pub returns-clause-article : goal.returns-clause-article
-returns-clause-article c =
+pub returns : goal.returns
+returns c =
     IfOk-weaker c.shown_in_form.result _ _
     (λ a is. part_of c.args.window c.args.history _ a.status (string_bytes a.text) is)
-    c.shown_in_form.ensures.answer
+    c.shown_in_form.ensures

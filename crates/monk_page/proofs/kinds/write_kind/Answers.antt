@@ -21,5 +21,5 @@ returns c =
     on_ok_weaker c.write_verdict.result
     (subst (λ (d : Data). AddsValue d c.args.out.now.writer c.write_verdict.new.out.writer)
     (ap (λ (a : Account). verdict_json c.args.kind a.verdict a.blame)
-    (c.requires.telling ∙ own_kind c.args.told.header.now c.args.told.events.now c.args.kind own)))
+    (c.args.told.told ∙ own_kind c.args.told.header.now c.args.told.events.now c.args.kind own)))
     c.write_verdict.ensures

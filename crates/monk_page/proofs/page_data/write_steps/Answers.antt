@@ -13,5 +13,5 @@ returns c =
     let object : c.object.result ≡ c.args.told.header.now.object = search rules in
     on_ok_weaker c.write_list.result
     (subst (λ (d : Data). AddsValue d c.args.out.now.writer c.write_list.new.out.writer)
-    (ap₂ (λ (o : ObjectName) (xs : List ShownStep). list_json (step_json o) xs) object c.requires.steps))
+    (ap₂ (λ (o : ObjectName) (xs : List ShownStep). list_json (step_json o) xs) object c.args.told.shown))
     c.write_list.ensures

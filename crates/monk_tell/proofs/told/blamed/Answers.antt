@@ -13,19 +13,19 @@ use Rattle.monk_tell.proofs.told.blamed.Goals as goal
 
 pub overflow_sub-fault : goal.overflow_sub-fault
 overflow_sub-fault g c =
-    (fault_there c.args.history.header.now c.args.history.events.now c.args.history.verdict _ _ c.requires.judged
+    (fault_there c.args.history.header.now c.args.history.events.now c.args.history.verdict _ _ c.args.history.judged
     c.in-Forbidden.is).0
 
 pub bounds-history-step : goal.bounds-history-step
 bounds-history-step g c =
-    (fault_there c.args.history.header.now c.args.history.events.now c.args.history.verdict _ _ c.requires.judged
+    (fault_there c.args.history.header.now c.args.history.events.now c.args.history.verdict _ _ c.args.history.judged
     c.in-Forbidden.is).1
 
 pub blame-requires-clause-reason : goal.blame-requires-clause-reason
 blame-requires-clause-reason g c κs within =
     let h = c.args.history.header.now in
     let es = c.args.history.events.now in
-    let fault = judged_fault h es c.args.history.verdict c.in-Forbidden.step c.in-Forbidden.reason c.requires.judged
+    let fault = judged_fault h es c.args.history.verdict c.in-Forbidden.step c.in-Forbidden.reason c.args.history.judged
     c.in-Forbidden.is in
     ap number_of c.numbered.ensures ∙ fault_again _ _ _ _ fault
     ∙ fault_reason h es c.in-Forbidden.step c.in-Forbidden.reason _ _ _ fault
@@ -39,7 +39,7 @@ returns-in_ok-blame-in-Forbidden g c =
     let es = c.args.history.events.now in
     let step = c.in-Forbidden.step in
     let rules = c.rules_by_name-rules.ensures ∙ ap rules_named c.kind.ensures in
-    let fault = judged_fault h es c.args.history.verdict step c.in-Forbidden.reason c.requires.judged
+    let fault = judged_fault h es c.args.history.verdict step c.in-Forbidden.reason c.args.history.judged
     c.in-Forbidden.is in
     let number = ap number_of c.numbered.ensures ∙ fault_again _ _ _ _ fault in
     let stands = c.requires.stands.stands

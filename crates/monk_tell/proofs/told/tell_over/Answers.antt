@@ -27,4 +27,5 @@ returns-clause-steps g c =
     let es = c.args.history.events.now in
     c.in_ok-steps.ensures.told
     ∙ ap (steps_of (named_monitor h) es c.args.before)
-    (c.min-end.ensures ∙ ap (min c.args.last) (c.allowed_events-allowed.ensures ∙ ap allowed_events c.requires.judged))
+    (c.min-end.ensures
+    ∙ ap (min c.args.last) (c.allowed_events-allowed.ensures ∙ ap allowed_events c.args.history.judged))

@@ -11,7 +11,7 @@ pub slice_bounds-past-end : goal.slice_bounds-past-end
 slice_bounds-past-end g c =
     sym (length-take-le c.allowed_events.result c.args.history.events.now
     (judged_there c.args.history.header.now c.args.history.events.now c.args.history.verdict c.allowed_events.result
-    c.requires.judged (omega (arith, c.allowed_events.ensures))))
+    c.args.history.judged (omega (arith, c.allowed_events.ensures))))
 
 pub returns : goal.returns
 returns g c =
@@ -30,4 +30,4 @@ returns g c =
       refused = refused i;
       blame = c.in_ok-blame.ensures i;
     })
-    ∙ ap (account_by h.kind h.object (named_monitor h) es) c.requires.judged
+    ∙ ap (account_by h.kind h.object (named_monitor h) es) c.args.history.judged

@@ -5,8 +5,8 @@ use Rattle.monk_logs.specs.declared.text.line.LogLine.{LogLine}
 use Rattle.monk_commands.specs.LogDrawn.{IsRunShown}
 use Rattle.monk_commands.proofs.logs.drawing.answer_to_read.Goals as goal
 
-pub returns-clause-answer : goal.returns-clause-answer
-returns-clause-answer c =
+pub returns : goal.returns
+returns c =
     IfOk-weaker c.shown_if_there.result _ _ (λ a is. record {
       fits = λ fits. record {
         run = c.in_ok-run.run';
@@ -15,4 +15,4 @@ returns-clause-answer c =
             c.in_ok-run.run' lines a.status (string_bytes a.text)) c.drawn_lines-drawn.ensures is;
       };
       too_big = λ big. absurd (search rules);
-    }) c.shown_if_there.ensures.answer
+    }) c.shown_if_there.ensures

@@ -13,7 +13,7 @@ use Rattle.monk_tell.proofs.step.Step.behind.Goals as goal
 pub bounds-history-before : goal.bounds-history-before
 bounds-history-before g c =
     judged_before c.args.history.header.now c.args.history.events.now c.args.history.verdict c.args.before
-    c.requires.judged c.requires.allowed
+    c.args.history.judged c.requires.allowed
 
 pub release_choice-requires-clause-fits : goal.release_choice-requires-clause-fits
 release_choice-requires-clause-fits g c κs within =
@@ -21,7 +21,7 @@ release_choice-requires-clause-fits g c κs within =
     let t = replay_situation c.args.replay.now (g.T.Guarded.state c.args.object.now) in
     in_range_fits (monitor c.rules_by_name-rules.result h.seats h.conds g.T.Guarded.meaning []) t
     (get_or c.args.history.events.now c.args.before (Enter 0 Free)) 0 _ _
-    (next_allowed h c.args.history.events.now c.args.history.verdict c.args.before _ _ _ _ t c.requires.judged
+    (next_allowed h c.args.history.events.now c.args.history.verdict c.args.before _ _ _ _ t c.args.history.judged
     c.requires.allowed c.requires.stands.stands (c.rules_by_name-rules.ensures ∙ ap rules_named c.kind.ensures) refl
     refl c.requires.named)
     (λ one. omega (arith, one)) g.T.Guarded.codes g.T.Guarded.predicates
