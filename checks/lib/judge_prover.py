@@ -19,8 +19,9 @@ don't decide is tried alone, as the kit does it.
 --look tries none, and says which can't be put in. --compile says what the compiler refuses of them, and of those in
 must-fail/. --after-ci takes the libraries that `rt ci` has just built, where a clean clone has no others; else those of
 `rt check` are taken. --changed leaves out each crate that checks/refused notes: all its wrong bodies were refused, and
-neither it nor a crate below has changed since. A run that refuses all of a crate notes it there. --slowest says before the last line how long the bodies took that took longest; of bodies that
-stand in one copy each. The last line is 'N passed, M failed'."""
+neither it nor a crate below has changed since. A run that refuses all of a crate notes it there. --slowest says before
+the last line how long the bodies took that took longest; of bodies that stand in one copy each. The last line is
+'N passed, M failed'."""
 from __future__ import annotations
 
 import glob
