@@ -1,13 +1,13 @@
 //! How a history or a log is judged.
 
 ghost use Rattle.std.specs.Prelude.{◌≡◌, ◌≤◌, ◌^◌, ◌++◌, length, IfOk, OnOk, string_bytes};
-ghost use Rattle.monk_object.specs.Names.{most};
 ghost use Rattle.monk_history.specs.Text.Reading.{history};
 ghost use Rattle.monk_commands.specs.Answer.{IsOf};
 ghost use Rattle.monk_commands.specs.FitAnswered as answered;
 
 use crate::answer::{LineAnswer, too_big, unreadable, verdict_answer};
 use crate::fit_form::FitForm;
+use crate::fitting_history::FittingHistory;
 use crate::logs::answering::answer_to_log;
 use crate::logs::view::LogView;
 use crate::question::Question;
@@ -19,15 +19,13 @@ use std::alloc::{AllocError, Global};
 /// The verdict on the events under the kind, whatever kind the header names.
 fn verdict_under(
     alloc: Global,
-    header: &Header,
-    events: &[Event],
+    history: FittingHistory<'_>,
     kind: KindName,
 ) -> Result<Verdict, AllocError>
-    requires few { length events.now ≤ 2 ^ 25 }
-    requires fits { header.now.size ≤ most header.now.object }
-    ensures verdict { IfOk result (λ v. v ≡ answered.verdict_under header.now events.now kind) }
+    ensures verdict { IfOk result
+        (λ v. v ≡ answered.verdict_under history.entry.header.now history.entry.events.now kind) }
 {
-    match audit(alloc, &under(header, kind), events) {
+    match audit(alloc, &under(history.header, kind), history.events) {
         Ok(verdict) => Ok(verdict),
         Err(AuditFault::Memory) => Err(AllocError),
         // The size is within the object's greatest.
@@ -39,17 +37,16 @@ fn verdict_under(
 fn put_line(
     alloc: Global,
     page: &mut String,
-    header: &Header,
-    events: &[Event],
+    history: FittingHistory<'_>,
     kind: KindName,
 ) -> Result<bool, AllocError>
-    requires few { length events.now ≤ 2 ^ 25 }
-    requires fits { header.now.size ≤ most header.now.object }
     ensures line { OnOk result
-        (string_bytes page.new ≡ string_bytes page.old ++ answered.fit_line header.now events.now kind) }
-    ensures fit { IfOk result (λ fits. fits ≡ answered.is_fit (answered.verdict_under header.now events.now kind)) }
+        (string_bytes page.new ≡ string_bytes page.old
+        ++ answered.fit_line history.entry.header.now history.entry.events.now kind) }
+    ensures fit { IfOk result (λ fits. fits
+        ≡ answered.is_fit (answered.verdict_under history.entry.header.now history.entry.events.now kind)) }
 {
-    let verdict = verdict_under(alloc, header, events, kind)?;
+    let verdict = verdict_under(alloc, history, kind)?;
     let answer = verdict_answer(alloc, verdict)?;
     page.push_str(kind.as_str())?;
     page.push_str(" ")?;
@@ -61,18 +58,16 @@ fn put_line(
 fn lines_under(
     alloc: Global,
     kinds: &[KindName],
-    header: &Header,
-    events: &[Event],
+    history: FittingHistory<'_>,
 ) -> Result<LineAnswer, AllocError>
-    requires few { length events.now ≤ 2 ^ 25 }
-    requires fits { header.now.size ≤ most header.now.object }
     ensures { IfOk result
-        (λ a. IsOf (answered.fit_answer kinds.now header.now events.now) a.status (string_bytes a.text)) }
+        (λ a. IsOf (answered.fit_answer kinds.now history.entry.header.now history.entry.events.now)
+        a.status (string_bytes a.text)) }
 {
     let mut text = String::new(alloc);
     let mut is_fit = false;
     for kind in kinds {
-        is_fit |= put_line(alloc, &mut text, header, events, *kind)?;
+        is_fit |= put_line(alloc, &mut text, history, *kind)?;
     }
     let status = if is_fit { 0 } else { 1 };
     Ok(LineAnswer { status, text })
@@ -92,7 +87,7 @@ fn fit(
     if header.size() > header.object().greatest_size() {
         return too_big(alloc);
     }
-    lines_under(alloc, kinds, header, events)
+    lines_under(alloc, kinds, FittingHistory { header, events })
 }
 
 /// The answer to the text of a history under these kinds.

@@ -14,6 +14,7 @@ mod explaining;
 mod fault;
 mod fit_form;
 mod fitting;
+mod fitting_history;
 mod following;
 mod found_words;
 mod hasty_running;

@@ -9,6 +9,7 @@ pub(crate) mod explanation;
 pub(crate) mod finding;
 pub(crate) mod finding_json;
 pub(crate) mod finding_line;
+pub(crate) mod fitting_log;
 pub(crate) mod judging;
 pub(crate) mod lines_told;
 pub(crate) mod paging;

@@ -1,12 +1,12 @@
 //! The picture or the page of a history, or its part of a page of several.
 
 ghost use Rattle.std.specs.Prelude.{◌≡◌, ◌≤◌, ◌^◌, length, IfOk, string_bytes};
-ghost use Rattle.monk_object.specs.Names.{most};
 ghost use Rattle.monk_history.specs.Text.Reading.{history, text_at};
 ghost use Rattle.monk_commands.specs.Answer.{IsReading, verdict_answer};
 ghost use Rattle.monk_commands.specs.Shown.{IsAnsweredBy, IsShown, IsShownAs, form_of};
 
 use crate::answer::{LineAnswer, behind, too_big, unreadable};
+use crate::fitting_history::FittingHistory;
 use crate::show::{HistoryForm, Show};
 use monk_audit::{AuditFault, Verdict, audit};
 use monk_draw::{Window, is_behind, showable};
@@ -28,15 +28,15 @@ fn status_of(verdict: Verdict) -> u8
 fn shown_text(
     alloc: Global,
     form: HistoryForm<'_>,
-    header: &Header,
-    events: &[Event],
+    history: FittingHistory<'_>,
     window: Option<Window>,
     verdict: Verdict,
 ) -> Result<String, AllocError>
-    requires few { length events.now ≤ 2 ^ 25 }
-    requires fits { header.now.size ≤ most header.now.object }
-    ensures { IfOk result (λ text. IsShownAs form.entry window header.now events.now (string_bytes text)) }
+    ensures { IfOk result
+        (λ text. IsShownAs form.entry window history.entry.header.now history.entry.events.now
+        (string_bytes text)) }
 {
+    let FittingHistory { header, events } = history;
     let shown = match form {
         HistoryForm::Picture(picture) => {
             picture.of_history(alloc, header, events, window, verdict)
@@ -59,23 +59,21 @@ fn shown_text(
 fn shown_if_there(
     alloc: Global,
     form: HistoryForm<'_>,
-    header: &Header,
-    events: &[Event],
+    history: FittingHistory<'_>,
     window: Option<Window>,
     verdict: Verdict,
 ) -> Result<LineAnswer, AllocError>
-    requires few { length events.now ≤ 2 ^ 25 }
-    requires fits { header.now.size ≤ most header.now.object }
     ensures { IfOk result
-        (λ a. IsAnsweredBy form.entry window verdict header.now events.now a.status (string_bytes a.text)) }
+        (λ a. IsAnsweredBy form.entry window verdict history.entry.header.now history.entry.events.now
+        a.status (string_bytes a.text)) }
 {
-    let last = showable(forbidden_step(verdict), events.len());
+    let last = showable(forbidden_step(verdict), history.events.len());
     if is_behind(window, last) {
         return behind(alloc, last);
     }
     Ok(LineAnswer {
         status: status_of(verdict),
-        text: shown_text(alloc, form, header, events, window, verdict)?,
+        text: shown_text(alloc, form, history, window, verdict)?,
     })
 }
 
@@ -92,7 +90,10 @@ fn shown(
         (λ a. IsShown form.entry window (history header.now events.now) a.status (string_bytes a.text)) }
 {
     match audit(alloc, header, events) {
-        Ok(verdict) => shown_if_there(alloc, form, header, events, window, verdict),
+        Ok(verdict) => {
+            let history = FittingHistory { header, events };
+            shown_if_there(alloc, form, history, window, verdict)
+        }
         Err(AuditFault::Memory) => Err(AllocError),
         Err(AuditFault::Object) => too_big(alloc),
     }

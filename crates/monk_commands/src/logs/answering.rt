@@ -3,7 +3,6 @@
 ghost use Rattle.std.specs.Prelude.{◌≡◌, ◌≤◌, ◌^◌, IfOk, length, string_bytes};
 ghost use Rattle.monk_history.specs.Text.Lines.{Gives};
 ghost use Rattle.monk_logs.specs.Log.Reading.{log_at, log_view};
-ghost use Rattle.monk_object.specs.Names.{most};
 ghost use Rattle.monk_commands.specs.LogAnswered as answered;
 ghost use Rattle.monk_commands.specs.LogFound as found;
 ghost use Rattle.monk_commands.specs.LogFound.{IsFinding};
@@ -13,6 +12,7 @@ use crate::logs::explanation::explanation;
 use crate::logs::finding::Finding;
 use crate::logs::finding_json::{fault_json, finding_json};
 use crate::logs::finding_line::finding_line;
+use crate::logs::fitting_log::FittingLog;
 use crate::logs::judging::report;
 use crate::logs::refusal::LogRefusal;
 use crate::logs::view::LogView;
@@ -47,19 +47,16 @@ fn finding(
     alloc: Global,
     means: &[WaitsFor],
     has_ended: bool,
-    header: &LogHeader,
-    lines: &[LogLine],
+    log: FittingLog<'_>,
 ) -> Result<Finding, AllocError>
-    requires few { length lines.now ≤ 2 ^ 25 }
-    requires size { header.now.size ≤ most header.now.object }
-    ensures { IfOk result (λ f. IsFinding means.now has_ended header.now lines.now f) }
+    ensures { IfOk result (λ f. IsFinding means.now has_ended log.entry.header.now log.entry.lines.now f) }
 {
-    let report = report(alloc, means, header, lines)?;
+    let report = report(alloc, means, log)?;
     Ok(Finding {
         report,
-        crossed: find_crossed(lines),
-        seats: header.seats(),
-        wrong_seat: wrong_seat(report.misfit, lines),
+        crossed: find_crossed(log.lines),
+        seats: log.header.seats(),
+        wrong_seat: wrong_seat(report.misfit, log.lines),
         has_ended,
     })
 }
@@ -84,20 +81,17 @@ fn judged(
     alloc: Global,
     view: LogView,
     question: Question<'_>,
-    header: &LogHeader,
-    lines: &[LogLine],
+    log: FittingLog<'_>,
 ) -> Result<LineAnswer, AllocError>
-    requires few { length lines.now ≤ 2 ^ 25 }
-    requires size { header.now.size ≤ most header.now.object }
     ensures { IfOk result (λ a. answered.IsJudged view question.entry.means.now question.entry.has_ended
-        header.now lines.now a.status (string_bytes a.text)) }
+        log.entry.header.now log.entry.lines.now a.status (string_bytes a.text)) }
 {
-    let finding = finding(alloc, question.means, question.has_ended, header, lines)?;
+    let finding = finding(alloc, question.means, question.has_ended, log)?;
     let status = finding.status();
     let text = match view {
         LogView::Line => finding_line(alloc, &finding)?,
         LogView::Json => finding_json(alloc, question.name, &finding)?,
-        LogView::Explanation => explanation(alloc, question.beside, header, lines, &finding)?,
+        LogView::Explanation => explanation(alloc, question.beside, log, &finding)?,
     };
     Ok(LineAnswer { status, text })
 }
@@ -116,7 +110,7 @@ fn answer_to_read(
 {
     match LogRefusal::of(question.kind, question.means, header, lines) {
         Some(refusal) => refused(alloc, view, question.name, refusal.line(alloc)?),
-        None => judged(alloc, view, question, header, lines),
+        None => judged(alloc, view, question, FittingLog { header, lines }),
     }
 }
 

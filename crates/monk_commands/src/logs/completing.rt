@@ -4,6 +4,7 @@ ghost use Rattle.std.specs.Prelude.{◌≡◌, ◌≤◌, ◌^◌, length, IfOk,
 ghost use Rattle.monk_commands.specs.RunText.{IsRunAnswer, IsRunGiven, IsRunGivenTo, misfit_line};
 
 use crate::answer::{LineAnswer, too_big, unreadable};
+use crate::logs::fitting_log::FittingLog;
 use crate::logs::judging::run;
 use crate::logs::run_text::run_text;
 use crate::logs::verdict_words::number;
@@ -44,7 +45,7 @@ fn answer_to_log(
     if header.size() > header.object().greatest_size() {
         return too_big(alloc);
     }
-    let run = run(alloc, header, lines)?;
+    let run = run(alloc, FittingLog { header, lines })?;
     Ok(given(alloc, header, &run)?)
 }
 

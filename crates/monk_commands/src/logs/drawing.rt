@@ -6,6 +6,7 @@ ghost use Rattle.monk_commands.specs.LogDrawn as drawn;
 
 use crate::answer::{LineAnswer, behind, too_big, unreadable};
 use crate::completing::header_of;
+use crate::logs::fitting_log::FittingLog;
 use crate::logs::judging::run;
 use crate::logs::paging::{page_around, scene};
 use crate::logs::verdict_words::number;
@@ -119,7 +120,7 @@ fn answer_to_read(
     if header.size() > header.object().greatest_size() {
         return too_big(alloc);
     }
-    let run = run(alloc, header, lines)?;
+    let run = run(alloc, FittingLog { header, lines })?;
     let drawn = drawn_lines(run.misfit, lines);
     shown_if_there(alloc, show, window, header, &run, drawn)
 }

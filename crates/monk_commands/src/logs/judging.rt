@@ -1,13 +1,12 @@
 //! A log, judged over the object that its header names.
 
-ghost use Rattle.std.specs.Prelude.{◌≤◌, ◌^◌, IfOk, length};
-ghost use Rattle.monk_object.specs.Names.{most};
+ghost use Rattle.std.specs.Prelude.{IfOk};
 ghost use Rattle.monk_commands.specs.LogFound.{IsReportOf};
 ghost use Rattle.monk_commands.specs.RunText.{IsRunOfLog};
 
+use crate::logs::fitting_log::FittingLog;
 use crate::objects::{book, buffer, flags, shop};
 use monk_judge::{Report, Run, WaitsFor, judge_log, run_of_log};
-use monk_logs::{LogHeader, LogLine};
 use monk_object::ObjectName;
 use std::alloc::{AllocError, Global};
 
@@ -15,13 +14,11 @@ use std::alloc::{AllocError, Global};
 pub(crate) fn report(
     alloc: Global,
     means: &[WaitsFor],
-    header: &LogHeader,
-    lines: &[LogLine],
+    log: FittingLog<'_>,
 ) -> Result<Report, AllocError>
-    requires few { length lines.now ≤ 2 ^ 25 }
-    requires size { header.now.size ≤ most header.now.object }
-    ensures { IfOk result (λ r. IsReportOf means.now header.now lines.now r) }
+    ensures { IfOk result (λ r. IsReportOf means.now log.entry.header.now log.entry.lines.now r) }
 {
+    let FittingLog { header, lines } = log;
     let (seats, conds, size) = (header.seats(), header.conds(), header.size());
     match header.object() {
         ObjectName::Buffer => judge_log(alloc, seats, conds, buffer(alloc, size)?, lines, means),
@@ -32,11 +29,10 @@ pub(crate) fn report(
 }
 
 /// The run that the log tells, up to the line that misfits.
-pub(crate) fn run(alloc: Global, header: &LogHeader, lines: &[LogLine]) -> Result<Run, AllocError>
-    requires few { length lines.now ≤ 2 ^ 25 }
-    requires size { header.now.size ≤ most header.now.object }
-    ensures { IfOk result (λ run. IsRunOfLog header.now lines.now run) }
+pub(crate) fn run(alloc: Global, log: FittingLog<'_>) -> Result<Run, AllocError>
+    ensures { IfOk result (λ run. IsRunOfLog log.entry.header.now log.entry.lines.now run) }
 {
+    let FittingLog { header, lines } = log;
     let (seats, conds, size) = (header.seats(), header.conds(), header.size());
     match header.object() {
         ObjectName::Buffer => run_of_log(alloc, seats, conds, buffer(alloc, size)?, lines),
