@@ -33,10 +33,14 @@ exec {tool} "$@"
 """
 LINKER = """#!/bin/sh
 {tool} "$@" {module} {files} --threads=4 --lto-partitions=4 --lto-{level} --lto-CGO0 --disable-verify \
-  -mllvm -trap-unreachable || exit
+  -mllvm -trap-unreachable -mllvm -inline-max-stacksize={frame} || exit
 /bin/cp program {program}
 {then}
 """
+# No function with more bytes of local variables is inlined. Without this limit each function that is called once is
+# inlined, a few callers grow so large that the optimizer takes 1.4 times as long, and the program saves 3 % of its
+# instructions.
+FRAME = 256
 NO_PROGRAM = "exec /bin/cp /bin/true program"
 NO_LINKER = f"#!/bin/sh\n{NO_PROGRAM}\n"
 
@@ -113,7 +117,7 @@ def _stand_in(room: str, wanted: Wanted) -> str:
     tools = _kit_of_links(real, place)
     given = {"program": shlex.quote(wanted.program or ""), "files": shlex.join(wanted.files),
              "module": shlex.quote(os.path.join(room, MODULE)), "then": "" if wanted.runs else NO_PROGRAM,
-             "level": "O2" if wanted.is_optimized else "O0"}
+             "level": "O2" if wanted.is_optimized else "O0", "frame": FRAME}
     for name, text in (("clang", CLANG), ("ld.lld", LINKER if wanted.program else NO_LINKER)):
         tool = shlex.quote(os.path.join(real, "toolchain", "bin", name))
         _write_tool(os.path.join(place, "toolchain", "bin", name), text.format(tool=tool, **given))
