@@ -9,7 +9,7 @@
      Exit       ends by _Exit
      hang       waits for ever
      forks      a child that waits too, and one that ends at once
-     early      a key of the program's, and a mutex, from before any library begins; ends with 3 if the key's value is another's
+     early      a key and a mutex from before any library begins; ends with 3 if the key's value is another's
      c11        mtx_t and cnd_t
      acts       two mutexes held at once; the acts are of the first
      threads    40 threads of one mutex
@@ -380,20 +380,16 @@ static void none(void) {}
 
 static void unwaited(void) { set(&fixed); }
 
-static const struct {
-    const char *style;
-    void (*run)(void);
-} styles[] = {
+static const struct { const char *style; void (*run)(void); } styles[] = {
     {"many", many}, {"living", living}, {"again", again}, {"renewed", renewed}, {"quick", quick}, {"at-once", at_once},
-    {"Exit", Exit}, {"hang", hang}, {"forks", forks}, {"c11", c11}, {"acts", acts}, {"threads", threads}, {"conds", conds},
-    {"lost", lost}, {"outside", outside}, {"outsiders", outsiders}, {"refused", refused}, {"handler", handler}, {"child", child},
-    {"early", is_its_own}, {"none", none}, {"unwaited", unwaited},
+    {"Exit", Exit}, {"hang", hang}, {"forks", forks}, {"c11", c11}, {"acts", acts}, {"threads", threads},
+    {"conds", conds}, {"lost", lost}, {"outside", outside}, {"outsiders", outsiders}, {"refused", refused},
+    {"handler", handler}, {"child", child}, {"early", is_its_own}, {"none", none}, {"unwaited", unwaited},
 };
 
 int main(int words, char **word) {
     for (size_t i = 0; words > 1 && i < sizeof styles / sizeof *styles; i++) {
-        if (strcmp(word[1], styles[i].style))
-            continue;
+        if (strcmp(word[1], styles[i].style)) continue;
         styles[i].run();
         puts("done");
         end();
