@@ -1,5 +1,5 @@
-/* A yardstick for `monk audit`: the same audit in plain C, in one pass, with nothing proved of it. It reads both versions of
-   the text, judges all ten events, and prints what monk prints. It shares no code with monk.
+/* A yardstick for `monk audit`: the same audit in plain C, in one pass, with nothing proved of it. It reads both
+   versions of the text, judges all ten events, and prints what monk prints. It shares no code with monk.
 
    usage: auditor [--mapped] FILE      the file is read whole into memory; with --mapped it is mapped */
 #include <fcntl.h>

@@ -1,5 +1,5 @@
-/* What a visit costs, and a bounded buffer: bench/c_library builds this with libmonk, with the plain reference, and with -DPLAIN by a
- * pthread mutex and its conditions.
+/* What a visit costs, and a bounded buffer: bench/c_library builds this with libmonk, with the plain reference, and
+ * with -DPLAIN by a pthread mutex and its conditions.
  *
  *     c_library build                       which library it is
  *     c_library visit MONITORS CHUNKS       the nanoseconds of a visit by the only seat: the least of so many chunks of 2,000 visits to the
@@ -125,7 +125,8 @@ static void get(seat *s, long i) {
     finish(s, NOT_FULL);
 }
 
-/* What a thread does in each round, and when it began and ended by its own clock: another thread may come late to see it. */
+/* What a thread does in each round, and when it began and ended by its own clock: another thread may come late to
+ * see it. */
 typedef struct {
     void (*round)(seat *, long);
     double began, ended;

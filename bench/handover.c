@@ -1,5 +1,5 @@
-/* The samples of `monk run` under the monitor of handover.h, with the same work, and the same totals at the end: a bounded
-   buffer, readers and writers, a barber's shop, each of size 4.
+/* The samples of `monk run` under the monitor of handover.h, with the same work, and the same totals at the end: a
+   bounded buffer, readers and writers, a barber's shop, each of size 4.
 
    usage: handover SAMPLE SEATS ROUNDS */
 #include "handover.h"

@@ -1,7 +1,7 @@
-/* A hand-over monitor of pthreads, by hand: a yardstick for the hall. Each thread sleeps on a condition variable of its own
-   until the monitor is handed to it. Who waits for entry, on a condition and after a signal stands in a queue; a signal
-   hands the monitor to the first that waits there, and the signaller gets it back before anybody enters. Every call is
-   recorded in a history. */
+/* A hand-over monitor of pthreads, by hand: a yardstick for the hall. Each thread sleeps on a condition variable of
+   its own until the monitor is handed to it. Who waits for entry, on a condition and after a signal stands in a
+   queue; a signal hands the monitor to the first that waits there, and the signaller gets it back before anybody
+   enters. Every call is recorded in a history. */
 #ifndef HANDOVER_H
 #define HANDOVER_H
 

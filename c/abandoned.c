@@ -6,7 +6,8 @@ static int was_signalled(const monk_seat *s) {
     return s->waits_on != NO_CONDITION && s->monitor->broadcasts[s->waits_on] == s->broadcasts;
 }
 
-/* Signals the condition on which an abandoned seat waited, if anybody else waits there. It may be waiting behind this, or have left. */
+/* Signals the condition on which an abandoned seat waited, if anybody else waits there. It may be waiting behind
+ * this, or have left. */
 static int pass_on(monk_seat *s, size_t *word) {
     uint8_t condition = s->waits_on;
     if (monk_k_waiting(s->token, condition) <= 0) return MONK_INSIDE;
@@ -14,8 +15,8 @@ static int pass_on(monk_seat *s, size_t *word) {
     return (leaves ? monk_k_signal_leave : monk_k_start_signal)(s->token, condition, MONK_WAITER, word);
 }
 
-/* What an abandoned seat does that has come in: it passes on the signal that served it, unless too few events are left to it, and
- * leaves. Under a blocking kind its leave is yet to come then. Under the lock. */
+/* What an abandoned seat does that has come in: it passes on the signal that served it, unless too few events are
+ * left to it, and leaves. Under a blocking kind its leave is yet to come then. Under the lock. */
 static void go_on_and_out(monk_seat *s) {
     monk_monitor *m = s->monitor;
     size_t word = NOBODY;

@@ -76,8 +76,9 @@ static int is_sent_home(const monk_seat *s) {
     return 1;
 }
 
-/* Waits until the seat is inside. A stop sends it home, unless it comes for a look at the history. The bell is read before the
- * poll and the stop flag: a grant or a stop that the two missed rings later, and then the thread doesn't sleep, or is woken. */
+/* Waits until the seat is inside. A stop sends it home, unless it comes for a look at the history. The bell is read
+ * before the poll and the stop flag: a grant or a stop that the two missed rings later, and then the thread doesn't
+ * sleep, or is woken. */
 static int come_in(monk_seat *s, const struct timespec *limit) {
     monk_monitor *m = s->monitor;
     int answer = poll_once(s), in_time = 1;

@@ -1,6 +1,6 @@
-/* monk.c - monk.h over the proved kernel (monk_kernel.h): seats are lent and given back, monitors made and closed, and histories
- * become files. In calls.c threads sleep and are woken. The kernel decides who goes on, and records it. Nothing of these files is
- * proved. docs/C.md argues why no wake-up is missed. */
+/* monk.c - monk.h over the proved kernel (monk_kernel.h): seats are lent and given back, monitors made and closed,
+ * and histories become files. In calls.c threads sleep and are woken. The kernel decides who goes on, and records
+ * it. Nothing of these files is proved. docs/C.md argues why no wake-up is missed. */
 #include "seats.h"
 
 #ifndef MONK_BUILT
@@ -21,8 +21,9 @@ static monk_seat *spare_seat(monk_monitor *m, int from_highest, int *answer) {
     return NULL;
 }
 
-/* The seat of an earlier look whose turn didn't come in time. It waits still, and can't be taken out of its queue: so the next look
- * goes on by it, and doesn't use up another seat. Who takes it up polls for it from now on, so nobody is missed. Under the lock. */
+/* The seat of an earlier look whose turn didn't come in time. It waits still, and can't be taken out of its queue:
+ * so the next look goes on by it, and doesn't use up another seat. Who takes it up polls for it from now on, so
+ * nobody is missed. Under the lock. */
 static monk_seat *visitor_that_waits(monk_monitor *m) {
     for (unsigned i = 0; i < m->seat_count; i++) {
         monk_seat *s = &m->seats[i];
@@ -214,8 +215,8 @@ int monk_save(monk_monitor *m, monk_seat *by, FILE *to) {
 
 /* ---- Closing and freeing */
 
-/* The last visit. Everybody is outside, so the monitor is free, and the seat comes in at once. It stays: nobody comes in any
- * more, and the history can be read through it for as long as the monitor is there. Under the lock. */
+/* The last visit. Everybody is outside, so the monitor is free, and the seat comes in at once. It stays: nobody
+ * comes in any more, and the history can be read through it for as long as the monitor is there. Under the lock. */
 static int close_by(monk_monitor *m, monk_seat *s) {
     int answer = monk_k_close(m->tokens, m->seat_count, s->number);
     if (answer < 0) return answer;

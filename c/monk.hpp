@@ -4,14 +4,14 @@
 //     monk::condition not_full(0), not_empty(1);
 //
 //     void put(monk::seat &seat, int item) {                      // a seat for each thread
-//         monk::visit in(seat);                                   // comes in, and leaves at the end, also by an exception
+//         monk::visit in(seat);                                   // comes in; leaves at the end, also by an exception
 //         in.wait(not_full, [] { return items.size() < SIZE; });
 //         items.push_back(item);
 //         in.notify_one(not_empty);
 //     }
 //
-// Every call that monk.h refuses throws monk::error, and nothing has changed then. Nothing here can leave a seat inside: a visit that ends
-// leaves, and a seat that ends, or that another is moved to, is given up wherever it stands.
+// Every call that monk.h refuses throws monk::error, and nothing has changed then. Nothing here can leave a seat
+// inside: a visit that ends leaves, and a seat that ends, or that another is moved to, is given up wherever it stands.
 #ifndef MONK_HPP
 #define MONK_HPP
 
@@ -58,7 +58,8 @@ private:
     unsigned number_;
 };
 
-/// A monitor. It has to live longer than its seats: one that ends before them is kept in memory, and its history with it.
+/// A monitor. It has to live longer than its seats: one that ends before them is kept in memory, and its history with
+/// it.
 class monitor {
 public:
     explicit monitor(const monk_shape &shape) { checked(monk_make(&at_, &shape)); }
@@ -118,8 +119,9 @@ private:
     }
 };
 
-/// A visit: inside from its beginning to its end. A call that leads outside ends it before its scope does, and so does the end of its
-/// seat: from then on every call is refused with MONK_NOT_NOW, whoever has the seat. It may not outlive the monitor.
+/// A visit: inside from its beginning to its end. A call that leads outside ends it before its scope does, and so does
+/// the end of its seat: from then on every call is refused with MONK_NOT_NOW, whoever has the seat. It may not outlive
+/// the monitor.
 class visit {
 public:
     explicit visit(seat &by) : seat_(by.get()) { checked(monk_enter(seat_)); }

@@ -1,8 +1,9 @@
 /* The proved part of the library: seats of monitors of any of the ten kinds. See crates/monk_c/src/lib.rt for what each
    function ensures. No function waits or wakes, and none but monk_k_make takes memory that it keeps.
 
-   A handle is used by one call at a time, and by no other code. What it points to is the kernel's alone. A handle may go from
-   thread to thread: the program orders that by a lock, a thread's start or join, or a sequentially consistent atomic. */
+   A handle is used by one call at a time, and by no other code. What it points to is the kernel's alone. A handle
+   may go from thread to thread: the program orders that by a lock, a thread's start or join, or a sequentially
+   consistent atomic. */
 #ifndef MONK_KERNEL_H
 #define MONK_KERNEL_H
 
@@ -30,8 +31,8 @@ enum {
 
 size_t monk_k_seat_size(void);
 
-/* A monitor of a kind (0 to 9: PB NPB PNB NPNB PQB NPQB PIR NPIR PIS NPIS), and its seat i to handle i. 0, MONK_K_RANGE or
-   MONK_K_MEMORY. A seat that a handle had before is dropped. */
+/* A monitor of a kind (0 to 9: PB NPB PNB NPNB PQB NPQB PIR NPIR PIS NPIS), and its seat i to handle i. 0,
+   MONK_K_RANGE or MONK_K_MEMORY. A seat that a handle had before is dropped. */
 int32_t monk_k_make(uint8_t kind, uint8_t conditions, uint8_t flags, uint32_t budget, monk_k_seat *seats, size_t count);
 
 int32_t monk_k_arrive(monk_k_seat *seat);
@@ -51,8 +52,8 @@ int32_t monk_k_start_signal_wait(monk_k_seat *seat, uint8_t condition, uint8_t w
 int32_t monk_k_set_flags(monk_k_seat *seat, uint32_t bits);
 int32_t monk_k_start_wait_until(monk_k_seat *seat, uint8_t flag, uint8_t wish, size_t *granted);
 
-/* At any time: the place (0: no seat), the events left, and of a waiting seat its word, else 0. These and the next two change
-   nothing of the seat. */
+/* At any time: the place (0: no seat), the events left, and of a waiting seat its word, else 0. These and the next
+   two change nothing of the seat. */
 int32_t monk_k_place(const monk_k_seat *seat);
 uint32_t monk_k_left(const monk_k_seat *seat);
 size_t monk_k_word(const monk_k_seat *seat);
@@ -62,9 +63,9 @@ size_t monk_k_word(const monk_k_seat *seat);
 int64_t monk_k_waiting(const monk_k_seat *seat, uint8_t condition);
 int64_t monk_k_history(const monk_k_seat *seat, uint8_t *out, size_t room);
 
-/* Closes the monitor whose handles these all are, through handle `by`: that seat comes to the monitor and in, and stays. Its place is
-   answered. MONK_K_RANGE where there is no handle `by`, MONK_K_CLOSED where a handle has no seat, MONK_K_NOT_NOW where a seat isn't
-   outside, MONK_K_SPENT: the first of these. */
+/* Closes the monitor whose handles these all are, through handle `by`: that seat comes to the monitor and in, and
+   stays. Its place is answered. MONK_K_RANGE where there is no handle `by`, MONK_K_CLOSED where a handle has no
+   seat, MONK_K_NOT_NOW where a seat isn't outside, MONK_K_SPENT: the first of these. */
 int32_t monk_k_close(monk_k_seat *seats, size_t count, size_t by);
 
 /* Gives the seat up; the handle has none then. One that is inside leaves, and nobody is told whom that let in; one that

@@ -1,5 +1,5 @@
-/* seats.h - what monk.c, calls.c and abandoned.c share: a monitor's seats and bells, its lock, and the frame of each call. It isn't
- * for programs. */
+/* seats.h - what monk.c, calls.c and abandoned.c share: a monitor's seats and bells, its lock, and the frame of each
+ * call. It isn't for programs. */
 #ifndef MONK_SEATS_H
 #define MONK_SEATS_H
 #define _GNU_SOURCE
@@ -30,8 +30,8 @@ enum {
     NO_FILE = -1
 };
 
-/* ThreadSanitizer doesn't see the kernel's atomic words: it is told where one thread hands what it did to the next. These names are
- * null in a program that is built without it. */
+/* ThreadSanitizer doesn't see the kernel's atomic words: it is told where one thread hands what it did to the next.
+ * These names are null in a program that is built without it. */
 void __tsan_acquire(void *at) __attribute__((weak));
 void __tsan_release(void *at) __attribute__((weak));
 
@@ -99,7 +99,8 @@ static inline int sleep_on(_Atomic uint32_t *at, uint32_t seen, const struct tim
 /* The bell of a word: each has one of its own, since words count from 1 and there are two for each seat. */
 static inline bell *bell_of(monk_monitor *m, size_t word) { return &m->bells[(word - 1) % BELLS]; }
 
-/* Rings for so many threads that sleep there at most, and for an event loop. (In the C library's write a thread could be cancelled.) */
+/* Rings for so many threads that sleep there at most, and for an event loop. (In the C library's write a thread
+ * could be cancelled.) */
 static inline void ring_for(bell *b, int most) {
     atomic_fetch_add(&b->rings, 1);
     futex_wake(&b->rings, most);
@@ -129,8 +130,8 @@ static inline int rings_soon(bell *b, uint32_t seen, unsigned seats) {
     return 0;
 }
 
-/* ---- The monitor's lock. It isn't a mutex of the system's, since a program may have something in place of pthread_mutex_lock that
-   records the program's own locks. */
+/* ---- The monitor's lock. It isn't a mutex of the system's, since a program may have something in place of
+   pthread_mutex_lock that records the program's own locks. */
 
 enum { OPEN, LOCKED, WANTED };
 
@@ -147,8 +148,8 @@ static inline void unlock(monk_monitor *m) {
     if (atomic_exchange(&m->lock, OPEN) == WANTED) futex_wake(&m->lock, 1);
 }
 
-/* ---- Handles: what the program has of a seat. Below is the seat's address, and above the number of the lending, so that a handle that
-   was given back isn't that of the next owner. (Addresses of programs leave these bits 0.) */
+/* ---- Handles: what the program has of a seat. Below is the seat's address, and above the number of the lending, so
+   that a handle that was given back isn't that of the next owner. (Addresses of programs leave these bits 0.) */
 
 enum { ADDRESS_BITS = 48, LENDINGS = 1 << 16 };
 _Static_assert(sizeof(void *) == sizeof(uint64_t), "a handle has room for a lending");
@@ -185,8 +186,9 @@ static inline int refused_to(const monk_seat *handle) {
     return atomic_load(&seat_of(handle)->monitor->closed) ? MONK_CLOSED : is_had_by(handle) ? MONK_OK : MONK_NOT_NOW;
 }
 
-/* What a call by the handle *s finds before the kernel is asked; *s is the seat then. Where it answers MONK_OK the call is under way,
- * until `end`. A handle that was given back is refused before the seat is touched, so that a call of its owner isn't MONK_IN_USE. */
+/* What a call by the handle *s finds before the kernel is asked; *s is the seat then. Where it answers MONK_OK the
+ * call is under way, until `end`. A handle that was given back is refused before the seat is touched, so that a call
+ * of its owner isn't MONK_IN_USE. */
 static inline int begin(monk_seat **s) {
     monk_seat *handle = *s;
     if (!handle) return MONK_RANGE;
@@ -243,8 +245,8 @@ static inline void set_free(monk_seat *s) {
 /* Lets seats that were abandoned come in if it is their turn. Under the lock. */
 void settle_abandoned(monk_monitor *m);
 
-/* Wakes whoever was let in, or settles that seat if it was abandoned. Who abandons a seat marks its bell first and then polls; who
- * releases grants first and then reads the mark: so one of the two sees the grant. */
+/* Wakes whoever was let in, or settles that seat if it was abandoned. Who abandons a seat marks its bell first and
+ * then polls; who releases grants first and then reads the mark: so one of the two sees the grant. */
 static inline void let_in(monk_monitor *m, size_t word) {
     if (word == NOBODY || !atomic_load(&ring(m, word)->is_minded)) return;
     lock(m);

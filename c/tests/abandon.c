@@ -2,8 +2,8 @@
  *
  *     abandon KIND ROUNDS SEED FILE
  *
- * At the end all seats come home, by visits that let the rest go on; the history goes into the file. Prints how many seats were given
- * up, and where. */
+ * At the end all seats come home, by visits that let the rest go on; the history goes into the file. Prints how many
+ * seats were given up, and where. */
 #include "common.h"
 #include <pthread.h>
 #include <sched.h>

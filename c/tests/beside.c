@@ -1,7 +1,8 @@
 /* Visits beside seats that were abandoned in a wait: beside ABANDONED
  *
- * A release looks after an abandoned seat only if it lets that seat in. So a visit takes as long beside them as without them: at most a
- * quarter more is allowed, for the clock. The two take turns, since the processor is not always equally fast. */
+ * A release looks after an abandoned seat only if it lets that seat in. So a visit takes as long beside them as
+ * without them: at most a quarter more is allowed, for the clock. The two take turns, since the processor is not
+ * always equally fast. */
 #include "common.h"
 #include <time.h>
 

@@ -216,7 +216,8 @@ static int signal_to(monk_seat *s, unsigned condition) {
     return monk_mode_of(monk_kind_of(m)) == MONK_IMMEDIATE_RETURN ? monk_signal_leave(s, condition) : monk_start_signal(s, condition);
 }
 
-/* Two seats wait on a condition, and the first is abandoned: a signal lets the second go on, under every kind that has conditions. */
+/* Two seats wait on a condition, and the first is abandoned: a signal lets the second go on, under every kind that
+ * has conditions. */
 static void passed_on(void) {
     for (int kind = MONK_PB; kind <= MONK_NPIR; kind++) {
         begin(kind, 4, 2, 0, 100);
@@ -232,7 +233,8 @@ static void passed_on(void) {
     }
 }
 
-/* Hoare's hand-over goes by the abandoned seat to the one behind it; it comes back behind the signaller, and signals no more. */
+/* Hoare's hand-over goes by the abandoned seat to the one behind it; it comes back behind the signaller, and signals
+ * no more. */
 static void passed_on_at_once(void) {
     begin(MONK_PB, 4, 1, 0, 100);
     IS(monk_enter(a), MONK_OK); IS(monk_start_wait(a, 0), MONK_WAITING); IS(monk_abandon(a), MONK_OK);

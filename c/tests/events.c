@@ -1,7 +1,8 @@
 /* Hand-overs between threads and an event loop: events KIND TURNS
  *
- * Seats take turns in a circle, as in handover.c. Half of them have a thread each; the others have one event loop together, which sleeps
- * until one of their files can be read. A turn that nobody takes for so long ends the program: a wake-up was missed. */
+ * Seats take turns in a circle, as in handover.c. Half of them have a thread each; the others have one event loop
+ * together, which sleeps until one of their files can be read. A turn that nobody takes for so long ends the
+ * program: a wake-up was missed. */
 #include "common.h"
 #include <poll.h>
 #include <pthread.h>
@@ -42,7 +43,8 @@ static void *play(void *number) {
     return NULL;
 }
 
-/* Takes the turn of a seat that is inside, and goes out; under kinds with signals that may wait, the leave comes later. */
+/* Takes the turn of a seat that is inside, and goes out; under kinds with signals that may wait, the leave comes
+ * later. */
 static void take_turn(looped *it) {
     turn = next_of(it->number);
     it->rounds--;

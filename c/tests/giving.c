@@ -2,7 +2,8 @@
  *
  *     giving ROUNDS
  *
- * In each round the seat is lent, and the two call at once. Where `monk_give_seat` is done, the other's `monk_arrive` has to be refused. */
+ * In each round the seat is lent, and the two call at once. Where `monk_give_seat` is done, the other's
+ * `monk_arrive` has to be refused. */
 #include "common.h"
 #include <pthread.h>
 #include <stdatomic.h>

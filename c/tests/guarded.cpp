@@ -1,6 +1,6 @@
-// What a monitor guards, in a program that is built with -fsanitize=thread and links the library as it is installed: a counter, strings
-// that go from thread to thread through a queue, what a thread did before it gave its seat back, and before it stopped the monitor. The
-// sanitizer may see no race.
+// What a monitor guards, in a program that is built with -fsanitize=thread and links the library as it is installed: a
+// counter, strings that go from thread to thread through a queue, what a thread did before it gave its seat back, and
+// before it stopped the monitor. The sanitizer may see no race.
 #include "monk.hpp"
 #include <deque>
 #include <iostream>

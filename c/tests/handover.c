@@ -2,8 +2,9 @@
  *
  *     handover KIND THREADS HANDOVERS
  *
- * The threads take turns: each pauses until it's its turn, and lets the next go on. So each turn is a hand-over, and at most one thread is
- * awake that isn't on its way to sleep. The watchdog ends the program where no turn was taken for so long. */
+ * The threads take turns: each pauses until it's its turn, and lets the next go on. So each turn is a hand-over, and
+ * at most one thread is awake that isn't on its way to sleep. The watchdog ends the program where no turn was taken
+ * for so long. */
 #include "common.h"
 #include <pthread.h>
 #include <stdatomic.h>

@@ -1,6 +1,6 @@
-/* Refuses each request for memory in turn: the call answers MONK_MEMORY, nothing is kept, and the next try succeeds. Other calls make no
- * request. A file that the system refuses is MONK_IO, and monk_free closes those that it gave. Linked with --wrap for each function that
- * gives memory. */
+/* Refuses each request for memory in turn: the call answers MONK_MEMORY, nothing is kept, and the next try succeeds.
+ * Other calls make no request. A file that the system refuses is MONK_IO, and monk_free closes those that it gave.
+ * Linked with --wrap for each function that gives memory. */
 #include "common.h"
 #include <sys/resource.h>
 #include <unistd.h>

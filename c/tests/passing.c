@@ -1,8 +1,9 @@
 /* No signal is lost at waits with time limits: passing KIND ROUNDS
  *
- * In each round TAKERS threads take a token each, and wait for it without a limit. Beside them HASTY threads wait with tiny limits and never
- * take one: whoever was signalled signals the next, and whoever was late gives its seat up, and takes another. So the library has to pass
- * on each signal that serves a seat which was given up. The program ends if that takes minutes: a signal was lost. */
+ * In each round TAKERS threads take a token each, and wait for it without a limit. Beside them HASTY threads wait
+ * with tiny limits and never take one: whoever was signalled signals the next, and whoever was late gives its seat
+ * up, and takes another. So the library has to pass on each signal that serves a seat which was given up. The
+ * program ends if that takes minutes: a signal was lost. */
 #include "common.h"
 #include <pthread.h>
 #include <sched.h>

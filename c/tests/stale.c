@@ -1,4 +1,5 @@
-/* A handle of a seat that was given back, while somebody else has the seat: every call by it is refused, and disturbs nobody. */
+/* A handle of a seat that was given back, while somebody else has the seat: every call by it is refused, and
+ * disturbs nobody. */
 #include "common.h"
 #include <pthread.h>
 #include <stdatomic.h>

@@ -1,4 +1,5 @@
-/* Which of the bodies of checks/edits/tests a program has, by its number in BODY; 0, which none of them has, where that isn't set. */
+/* Which of the bodies of checks/edits/tests a program has, by its number in BODY; 0, which none of them has, where
+ * that isn't set. */
 #include <stdlib.h>
 
 unsigned chosen_body(void)

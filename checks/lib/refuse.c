@@ -1,7 +1,7 @@
-/* Loaded before the C library: refuses the Nth request for memory, N being the number in REFUSE, and the start of the
-   Nth thread, N being that in REFUSE_THREAD, and writes to the file descriptor in TELL how many of each there were. A
-   program that may start threads ends by `_exit`, which runs no destructor, so that is met too. In front of each line of
-   standard output that begins with MARK it writes how many requests there were before that line. */
+/* Loaded before the C library: refuses the Nth request for memory, N being the number in REFUSE, and the start of
+   the Nth thread, N being that in REFUSE_THREAD, and writes to the file descriptor in TELL how many of each there
+   were. A program that may start threads ends by `_exit`, which runs no destructor, so that is met too. In front of
+   each line of standard output that begins with MARK it writes how many requests there were before that line. */
 #define _GNU_SOURCE
 #include <dlfcn.h>
 #include <errno.h>

@@ -29,7 +29,8 @@ static inline void linger(void) {
     for (int i = 0; i < yields; i++) sched_yield();
 }
 
-/* Work outside the monitor, of no fixed length: without it threads soon come in one fixed order, in which nobody waits. */
+/* Work outside the monitor, of no fixed length: without it threads soon come in one fixed order, in which nobody
+ * waits. */
 static inline void idle(void) {
     static _Thread_local unsigned dice;
     if (!idle_most) return;

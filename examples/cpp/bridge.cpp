@@ -1,4 +1,5 @@
-// A one-lane bridge that bears three cars, three cars on each side, under each of the ten kinds.    bridge [KIND [WISH [ROUNDS [FILE]]]]
+// A one-lane bridge that bears three cars, three cars on each side, under each of the ten kinds.    bridge [KIND [WISH
+// [ROUNDS [FILE]]]]
 #include "shared.hpp"
 #include <array>
 

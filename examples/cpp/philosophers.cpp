@@ -1,4 +1,5 @@
-// Five dining philosophers, under each of the ten kinds; queue n is philosopher n's.    philosophers [KIND [WISH [ROUNDS [FILE]]]]
+// Five dining philosophers, under each of the ten kinds; queue n is philosopher n's.    philosophers [KIND [WISH
+// [ROUNDS [FILE]]]]
 #include "shared.hpp"
 #include <array>
 

@@ -1,4 +1,5 @@
-// What the examples share: a monitor for code that runs under all ten kinds, a thread for each worker, and the end of a run.
+// What the examples share: a monitor for code that runs under all ten kinds, a thread for each worker, and the end of a
+// run.
 #ifndef SHARED_HPP
 #define SHARED_HPP
 
@@ -28,7 +29,8 @@ struct asked {
     }
 };
 
-/// A monitor with so many queues: conditions, or under an automatic kind flags. `may(n)` says whether one of queue n may go on.
+/// A monitor with so many queues: conditions, or under an automatic kind flags. `may(n)` says whether one of queue n
+/// may go on.
 class program {
 public:
     static constexpr unsigned EVENTS_OF_A_ROUND = 200, SLACK = 100;

@@ -1,4 +1,5 @@
-/* Records what the threads of an unmodified program do with each mutex of pthreads or C11 on whose conditions they wait.
+/* Records what the threads of an unmodified program do with each mutex of pthreads or C11 on whose conditions they
+   wait.
 
        gcc -O2 -shared -fPIC -o libmonk_log.so libmonk_log.c -ldl -lpthread
        MONK_LOG=PREFIX LD_PRELOAD=./libmonk_log.so PROGRAM ..
@@ -6,15 +7,15 @@
    When the program ends, the logs are written into PREFIX.1, PREFIX.2, .. (no file is written over), one for each mutex
    with a wait, and beside each the names in it, PREFIX.1.names. The last line on standard error tells what was seen. A
    child that is forked writes PREFIX.PID.1, .. . A line is written by the thread that holds the mutex. So the lines
-   stand in the order in which things happened. Signals by other threads need a lock for that, and so do the lines of waits:
-   one of the recorder's own (monk_outside.h). MONK_OBJECT is the end of the first line, `buffer 1` if it isn't set. After
-   MONK_SECONDS the logs are written and the program is ended with status 124, for programs that hang. With MONK_SHAKE=SEED
-   threads let others go first at random.
+   stand in the order in which things happened. Signals by other threads need a lock for that, and so do the lines of
+   waits: one of the recorder's own (monk_outside.h). MONK_OBJECT is the end of the first line, `buffer 1` if it isn't
+   set. After MONK_SECONDS the logs are written and the program is ended with status 124, for programs that hang. With
+   MONK_SHAKE=SEED threads let others go first at random.
 
-   The parts: monk_order.h, locks; monk_memory.h, what is known of an address; monk_sites.h, where in the program a call stands;
-   monk_known.h, threads, mutexes and conditions; monk_lines.h, the lines; monk_outside.h, signals by threads that don't hold
-   the mutex; monk_files.h and monk_ends.h, how all are written at the end; monk_real.h, the functions behind these;
-   monk_shake.h. What the recorder can't see is told in recorders/README.md. */
+   The parts: monk_order.h, locks; monk_memory.h, what is known of an address; monk_sites.h, where in the program a
+   call stands; monk_known.h, threads, mutexes and conditions; monk_lines.h, the lines; monk_outside.h, signals by
+   threads that don't hold the mutex; monk_files.h and monk_ends.h, how all are written at the end; monk_real.h, the
+   functions behind these; monk_shake.h. What the recorder can't see is told in recorders/README.md. */
 #define _GNU_SOURCE
 #include "monk_ends.h"
 
@@ -187,8 +188,8 @@ static int call_wait(const struct wait *it) {
     }
 }
 
-/* For a line of a wait: it is written while the condition's order is held, so that it stands on the right side of each signal.
-   Whether the order was got; a log that has to go on without it ends. */
+/* For a line of a wait: it is written while the condition's order is held, so that it stands on the right side of
+   each signal. Whether the order was got; a log that has to go on without it ends. */
 static int begin_line(struct condition *c, struct log *log) {
     int has_order = take_order(&c->order);
     if (log && !has_order)
@@ -201,7 +202,8 @@ static void end_line(struct condition *c, int has_order) {
         end_order(&c->order);
 }
 
-/* The line comes last, right before the wait itself: a signal of another thread that comes between them finds nobody. */
+/* The line comes last, right before the wait itself: a signal of another thread that comes between them finds
+ * nobody. */
 static void begin_wait(struct wait *it) {
     struct monitor *m = it->monitor = monitor_of(it->mutex, it->site);
     struct condition *c = condition_of(it->cond, it->site);
@@ -288,9 +290,9 @@ static inline struct monitor *waited_with(struct condition *c) {
     return m && atomic_load_explicit(&c->of, memory_order_relaxed) == m->known.serial ? m : 0;
 }
 
-/* A signal by a thread that doesn't hold the mutex, or of a condition on which nobody has waited yet. Then the mutex isn't known:
-   it is taken for the one that the thread locked last. Gives the condition, whose order is held until the signal is sent; or
-   null. */
+/* A signal by a thread that doesn't hold the mutex, or of a condition on which nobody has waited yet. Then the mutex
+   isn't known: it is taken for the one that the thread locked last. Gives the condition, whose order is held until
+   the signal is sent; or null. */
 SELDOM static struct condition *tell_in_order(struct condition *c, struct thread *thread, enum verb verb, unsigned site) {
     if (is_closed())
         return 0;

@@ -107,8 +107,8 @@ static void write_all(void) {
     say_last(prefix, waits);
 }
 
-/* Whoever comes second waits until the logs are written. What the writing itself gives rise to, a full disk or a reader that
-   is gone, is not to end the program. */
+/* Whoever comes second waits until the logs are written. What the writing itself gives rise to, a full disk or a
+   reader that is gone, is not to end the program. */
 static void finish(void) {
     int state = RUNNING;
     sigset_t all, before;

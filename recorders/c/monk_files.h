@@ -1,5 +1,5 @@
-/* How logs are written into files, and what is said at the end. Part of libmonk_log.c. A signal may be what ends the program, so
-   nothing here asks for memory or writes through stdio. */
+/* How logs are written into files, and what is said at the end. Part of libmonk_log.c. A signal may be what ends the
+   program, so nothing here asks for memory or writes through stdio. */
 #ifndef MONK_FILES_H
 #define MONK_FILES_H
 
@@ -208,7 +208,8 @@ static void visit_line(struct page *page, const uint32_t *at, visit *one) {
     one(page, at);
 }
 
-/* The signals from outside from the given one on that have their place at that of a line; gives how many there are by then. */
+/* The signals from outside from the given one on that have their place at that of a line; gives how many there are
+ * by then. */
 static size_t visit_outside(struct page *page, struct log *log, size_t from, size_t place, visit *one) {
     for (; from < log->noted && log->outside[from].place <= place; from++) {
         struct outside it = log->outside[from];

@@ -16,7 +16,8 @@ enum {
     WORDS_OF_ACT = 5,
     HELD = 64, /* mutexes that a thread holds at once, to know which it locked last */
     NAME_OF_THREAD = 16,
-    /* the parts of the word of a line, the lowest first: the verb, the seat, the number of a condition, and the place */
+    /* the parts of the word of a line, the lowest first: the verb, the seat, the number of a condition, and the
+     * place */
     SEAT_AT = 3,
     NUMBER_AT = SEAT_AT + 5,
     SITE_AT = NUMBER_AT + 8,
@@ -57,8 +58,8 @@ struct outside {
     uint16_t site;
 };
 
-/* The lines of a mutex. Changed by the thread that holds the mutex, but for what is atomic, and what has a lock. A line is one
-   word. An act has four words more: its code, what it was given, and what it replied. */
+/* The lines of a mutex. Changed by the thread that holds the mutex, but for what is atomic, and what has a lock. A
+   line is one word. An act has four words more: its code, what it was given, and what it replied. */
 struct log {
     struct known known;
     struct log *next;
@@ -121,7 +122,8 @@ static void thread_ends(void *it) {
     give(&threads, &thread->known);
 }
 
-/* Libraries that begin before this one lock mutexes, and the first key is theirs: so the key is made before it is used. */
+/* Libraries that begin before this one lock mutexes, and the first key is theirs: so the key is made before it is
+ * used. */
 static void make_key(void) {
     if (!has_key)
         has_key = !pthread_key_create(&end_of_thread, thread_ends);

@@ -150,8 +150,8 @@ static inline void refresh(struct monitor *m) {
     atomic_fetch_add_explicit(&seen.mutexes, 1, memory_order_relaxed);
 }
 
-/* Memory may be that of another mutex, though nobody has destroyed the one before, as in C++. It is taken for another where all the
-   conditions of a log were destroyed, and nobody waits. */
+/* Memory may be that of another mutex, though nobody has destroyed the one before, as in C++. It is taken for
+   another where all the conditions of a log were destroyed, and nobody waits. */
 SELDOM static void renew(struct monitor *m) {
     struct log *log = m->log;
     atomic_store(&m->lost_one, 0);

@@ -1,5 +1,5 @@
-/* Memory of the recorder's own, and what is known of an address. Part of libmonk_log.c. An allocator may have a mutex of its own,
-   whose lines are written while it is held; so nothing here calls malloc. */
+/* Memory of the recorder's own, and what is known of an address. Part of libmonk_log.c. An allocator may have a
+   mutex of its own, whose lines are written while it is held; so nothing here calls malloc. */
 #ifndef MONK_MEMORY_H
 #define MONK_MEMORY_H
 
@@ -26,8 +26,8 @@ enum {
     LEVEL = 1 << LEVEL_BITS
 };
 
-/* Begins what is known of a mutex or a condition. Its memory never becomes that of another kind of thing, since a signal may look at
-   it while another thread gives it back. */
+/* Begins what is known of a mutex or a condition. Its memory never becomes that of another kind of thing, since a
+   signal may look at it while another thread gives it back. */
 struct known {
     const void *address;
     unsigned site; /* where it was first told of (monk_sites.h) */
@@ -110,8 +110,8 @@ static void give_block(void *block, size_t size) {
     unlock_memory();
 }
 
-/* A larger block with what the smaller one has, which is given back. Its pages are asked for at once, since to meet each when a
-   line is written there takes longer than the line. Null where there is no memory. */
+/* A larger block with what the smaller one has, which is given back. Its pages are asked for at once, since to meet
+   each when a line is written there takes longer than the line. Null where there is no memory. */
 static void *grow_block(void *block, size_t used, size_t size, size_t larger) {
     void *grown = size >= LARGE ? mremap(block, size, larger, MREMAP_MAYMOVE) : take_block(larger);
     if (!grown || grown == MAP_FAILED)
@@ -151,7 +151,8 @@ static void give(struct pool *pool, struct known *it) {
     unlock_memory();
 }
 
-/* ---- what is known of an address: a tree whose leaves have a place for each grain; it takes as long whatever else is known */
+/* ---- what is known of an address: a tree whose leaves have a place for each grain; it takes as long whatever else
+ * is known */
 
 typedef _Atomic(void *) place;
 static place root[LEVEL];

@@ -35,8 +35,8 @@ static inline void get_idle(void) {
     busy--;
 }
 
-/* A lock has the number of the process that holds it, and 0 if it is free. So a child finds no lock held by a thread that it
-   doesn't have. */
+/* A lock has the number of the process that holds it, and 0 if it is free. So a child finds no lock held by a thread
+   that it doesn't have. */
 static inline int try_order(atomic_int *order) {
     int before = atomic_load_explicit(order, memory_order_relaxed), mine = process + 1;
     if (before == mine || before == STUCK)
@@ -66,7 +66,8 @@ SELDOM static int await_order(atomic_int *order) {
     return 0;
 }
 
-/* Whether the caller has the lock: it gives up where the one who has it was stopped, or left by a jump out of a signal handler. */
+/* Whether the caller has the lock: it gives up where the one who has it was stopped, or left by a jump out of a
+ * signal handler. */
 static inline int take_order(atomic_int *order) {
     get_busy();
     if (try_order(order) || await_order(order))

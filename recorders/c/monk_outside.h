@@ -1,8 +1,8 @@
-/* Signals by threads that don't hold the mutex. Part of libmonk_log.c. Such a signal has to stand behind the `wait` of a
-   thread that it serves and before its `resume`. So the condition's order is held while the signal is noted and sent, and
-   while these lines are written. The signal is no line yet, since other threads write lines meanwhile without any lock. It
-   is noted with its place, and gets its seat when the log is written. So a thread that is never inside takes no seat from
-   another. */
+/* Signals by threads that don't hold the mutex. Part of libmonk_log.c. Such a signal has to stand behind the `wait`
+   of a thread that it serves and before its `resume`. So the condition's order is held while the signal is noted and
+   sent, and while these lines are written. The signal is no line yet, since other threads write lines meanwhile
+   without any lock. It is noted with its place, and gets its seat when the log is written. So a thread that is never
+   inside takes no seat from another. */
 #ifndef MONK_OUTSIDE_H
 #define MONK_OUTSIDE_H
 
@@ -68,8 +68,8 @@ static void give_up(struct log *log) {
     atomic_fetch_add(&seen.left_out, 1);
 }
 
-/* While the condition's order is held; m is the mutex with which somebody has waited on it last, or null. A thread that waits
-   with that mutex is inside: only its signal handler can come here. */
+/* While the condition's order is held; m is the mutex with which somebody has waited on it last, or null. A thread
+   that waits with that mutex is inside: only its signal handler can come here. */
 static void note(struct monitor *m, struct condition *c, struct thread *thread, struct signal it) {
     struct log *log = log_beside(m);
     if (!log)
@@ -84,7 +84,8 @@ static void note(struct monitor *m, struct condition *c, struct thread *thread, 
     }
 }
 
-/* A wait that was refused has not let the mutex go, so its line is still the last. Signals that came meanwhile stand before it. */
+/* A wait that was refused has not let the mutex go, so its line is still the last. Signals that came meanwhile stand
+ * before it. */
 SELDOM static void take_back(struct log *log, size_t before) {
     if (!take_order(&log->order)) {
         stop(log, NO_ORDER);

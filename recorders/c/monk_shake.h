@@ -7,8 +7,9 @@
 
 #include "monk_lines.h"
 
-/* A thread is slow for some calls and then fast for some, so many at most: a woken thread that is slow meets others that are fast.
-   How often in 16 it is slow, and sleeps so many nanoseconds at most; and how often in 16 it lets others go first while it is fast. */
+/* A thread is slow for some calls and then fast for some, so many at most: a woken thread that is slow meets others
+   that are fast. How often in 16 it is slow, and sleeps so many nanoseconds at most; and how often in 16 it lets
+   others go first while it is fast. */
 enum { CALLS = 8, SLOW = 6, NAP = 1 << 18, YIELDS = 4, SIDES = 16 };
 
 static const char *shake_seed;

@@ -1,8 +1,9 @@
-/* From where in the program its calls come. Part of libmonk_log.c. A place has the same number whenever a call comes from there, and
-   it is asked for without a lock. In C a call comes from where it returns to. In C++ that may be a function of C++'s library, or of its
-   headers: then its caller is meant, or the caller's caller. Where a frame ends is the same at each call from the same place. So a frame
-   is unwound once, and later its end is known. What belongs to C++'s library is found out when the program starts: later nothing here
-   asks the loader, which may hold a lock of its own. */
+/* From where in the program its calls come. Part of libmonk_log.c. A place has the same number whenever a call comes
+   from there, and it is asked for without a lock. In C a call comes from where it returns to. In C++ that may be a
+   function of C++'s library, or of its headers: then its caller is meant, or the caller's caller. Where a frame ends
+   is the same at each call from the same place. So a frame is unwound once, and later its end is known. What belongs
+   to C++'s library is found out when the program starts: later nothing here asks the loader, which may hold a lock
+   of its own. */
 #ifndef MONK_SITES_H
 #define MONK_SITES_H
 
@@ -26,7 +27,8 @@ enum {
     RANGES_AT_ONCE = 1 << 14
 };
 
-/* A place: the address to which a call returns, and how far above the end of that call's frame its own frame ends, or LAST. */
+/* A place: the address to which a call returns, and how far above the end of that call's frame its own frame ends,
+ * or LAST. */
 struct site {
     atomic_uintptr_t address;
     atomic_int step;
@@ -68,8 +70,8 @@ static int is_within(const struct image *it, size_t from, size_t size) { return 
 
 static int begins_with(const char *name, const char *beginning) { return !strncmp(name, beginning, strlen(beginning)); }
 
-/* Behind the beginnings of names in C++'s library, and the namespaces within it: what locks, as compilers write it. (Into other functions
-   of the headers, as that by which a thread begins, the program's own may have been put.) */
+/* Behind the beginnings of names in C++'s library, and the namespaces within it: what locks, as compilers write it.
+   (Into other functions of the headers, as that by which a thread begins, the program's own may have been put.) */
 static const char *const beginnings[] = {"_ZNSt", "_ZNKSt", "_ZZNSt", "_ZSt", "3__1", "3_V2", "8__detail"};
 static const char *const lockers[] = {"5mutex", "12__mutex_base", "9__condvar", "11unique_lock", "10lock_guard", "11scoped_lock",
                                       "11timed_mutex", "15recursive_mutex", "21recursive_timed_mutex", "18__timed_mutex_impl",

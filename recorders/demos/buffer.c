@@ -12,9 +12,9 @@
      returns    a fault: a taker returns without its unlock
      deadlock   a fault: each takes two items, one after the other, and puts them back; there are two in all
 
-   It knows nothing of the recorder but MONK_ACT, by which it tells what it did to the buffer. Condition 0 is the one on which
-   a putter waits (predicate 0 of a buffer), condition 1 the one on which a taker waits (predicate 1). With early it tells no
-   acts, since they are told under the lock. */
+   It knows nothing of the recorder but MONK_ACT, by which it tells what it did to the buffer. Condition 0 is the one
+   on which a putter waits (predicate 0 of a buffer), condition 1 the one on which a taker waits (predicate 1). With
+   early it tells no acts, since they are told under the lock. */
 #include <pthread.h>
 #include <sched.h>
 #include <stdatomic.h>

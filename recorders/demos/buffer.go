@@ -6,8 +6,8 @@
 //	if         a fault: who waited doesn't test again
 //	forgotten  a fault: who takes signals nobody
 //
-// Putters wait on condition 0 (predicate 0 of a buffer), takers on condition 1 (predicate 1). The recorder lies in a folder monklog
-// of the module demo.
+// Putters wait on condition 0 (predicate 0 of a buffer), takers on condition 1 (predicate 1). The recorder lies in a
+// folder monklog of the module demo.
 package main
 
 import (

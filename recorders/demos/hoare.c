@@ -1,9 +1,10 @@
 /* A monitor by Hoare's rules, made of semaphores, that writes its own log: hoare buffer|barrier queue|stack
 
-   A signal hands the monitor to the longest waiter of its condition, and the signaller steps back; who leaves or waits hands it
-   to the one who stepped back first, else opens it. With `stack` it hands it to the one who stepped back last: a fault, since
-   it promises the order of arrival. In the buffer nobody tests again behind a wait: by these rules nobody needs to.
-   In the barrier all but the last wait, and each wakes the next, so that many step back. */
+   A signal hands the monitor to the longest waiter of its condition, and the signaller steps back; who leaves or
+   waits hands it to the one who stepped back first, else opens it. With `stack` it hands it to the one who stepped
+   back last: a fault, since it promises the order of arrival. In the buffer nobody tests again behind a wait: by
+   these rules nobody needs to. In the barrier all but the last wait, and each wakes the next, so that many step
+   back. */
 #include <pthread.h>
 #include <semaphore.h>
 #include <stdarg.h>

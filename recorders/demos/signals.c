@@ -1,4 +1,5 @@
-/* Right programs that a thread of the recorder's own may disturb: signals STYLE. Each ends with status 7 and says `done`.
+/* Right programs that a thread of the recorder's own may disturb: signals STYLE. Each ends with status 7 and says
+   `done`.
 
      setgid   sets its group, for which glibc interrupts every thread
      handled  a signal that its one thread blocks, until it is ready to handle it

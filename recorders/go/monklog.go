@@ -1,6 +1,7 @@
 // Package monklog records one monitor of a sync.Mutex and its sync.Conds. Each line is written by the goroutine that
 // holds the mutex, but for signals by seats that are outside: they are noted with their place. A goroutine has no name,
-// so each says the seat that it was given, from 0. Write writes the log, and beside it where in the source its lines come from.
+// so each says the seat that it was given, from 0. Write writes the log, and beside it where in the source its lines
+// come from.
 //
 // What a recorder can't see is told in recorders/README.md.
 package monklog
@@ -70,7 +71,8 @@ type Cond struct {
 	number  int
 }
 
-// caller is the site of the function that asks. Each frame takes a tenth of a microsecond, so what the program calls asks itself.
+// caller is the site of the function that asks. Each frame takes a tenth of a microsecond, so what the program calls
+// asks itself.
 func caller() site {
 	var at [1]uintptr
 	runtime.Callers(skipped, at[:])
@@ -167,7 +169,8 @@ func (c *Cond) tell(from site, verb string, seat uint64, call func()) {
 	call()
 }
 
-// Wait holds the order until its caller is among those that wait (gate), so a signal from outside finds whom the lines show.
+// Wait holds the order until its caller is among those that wait (gate), so a signal from outside finds whom the lines
+// show.
 func (c *Cond) Wait(seat uint64) {
 	m, from := c.monitor, caller()
 	m.order.Lock()

@@ -1,6 +1,7 @@
-//! Records one monitor of a `std::sync::Mutex` and its `Condvar`s. Each line is written by the thread that holds the mutex, but
-//! for signals by seats that are outside: they are noted with their place. `write` writes the log, and beside it where in the
-//! source its lines come from: all but each `leave`, which is written where an `Inside` is dropped.
+//! Records one monitor of a `std::sync::Mutex` and its `Condvar`s. Each line is written by the thread that holds the
+//! mutex, but for signals by seats that are outside: they are noted with their place. `write` writes the log, and
+//! beside it where in the source its lines come from: all but each `leave`, which is written where an `Inside` is
+//! dropped.
 //!
 //! What a recorder can't see is told in recorders/README.md.
 
