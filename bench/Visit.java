@@ -4,8 +4,8 @@ import java.util.concurrent.locks.ReentrantLock;
 /**
  * The nanoseconds of a visit by Java's ReentrantLock: Visit CHUNKS
  *
- * bench/c_library builds it, and compares. It is measured as bench/c_library.c measures a visit: the least of so many chunks of 2,000. As many
- * chunks run before, so that what is measured is compiled.
+ * bench/c_library builds it, and compares. It is measured as bench/c_library.c measures a visit: the least of so many
+ * chunks of 2,000. As many chunks run before, so that what is measured is compiled.
  */
 final class Visit {
     private static final int CHUNK = 2000;

@@ -92,7 +92,8 @@ static int ready(void) {
 static int chooses(const struct event *e) {
     switch (e->next) {
     case ENTRY:
-        if (((waiters.count || ready() >= 0) && waiter_rank != entry_rank) || (signallers.count && signaller_rank != entry_rank)) return CHOICE;
+        if (((waiters.count || ready() >= 0) && waiter_rank != entry_rank)
+            || (signallers.count && signaller_rank != entry_rank)) return CHOICE;
         turn = OPEN;
         return ALLOWED;
     case WAITER:
@@ -100,7 +101,8 @@ static int chooses(const struct event *e) {
         takes_front(&waiters);
         break;
     case SIGNALLER:
-        if (front(&signallers) != e->chosen || (waiters.count && waiter_rank > signaller_rank) || e->chosen == e->seat) return CHOICE;
+        if (front(&signallers) != e->chosen || (waiters.count && waiter_rank > signaller_rank)
+            || e->chosen == e->seat) return CHOICE;
         takes_front(&signallers);
         break;
     case READY: {
@@ -207,7 +209,8 @@ static int judge(const struct event *e) {
 /* ---- the header */
 
 static const struct { const char *name; int mode, waiter, signaller; } KINDS[] = {
-    {"PB", BLOCKING, 3, 2},         {"NPB", BLOCKING, 2, 1},         {"PNB", NON_BLOCKING, 2, 3}, {"NPNB", NON_BLOCKING, 1, 2},
+    {"PB", BLOCKING, 3, 2},         {"NPB", BLOCKING, 2, 1},
+    {"PNB", NON_BLOCKING, 2, 3},    {"NPNB", NON_BLOCKING, 1, 2},
     {"PQB", QUASI_BLOCKING, 2, 2},  {"NPQB", QUASI_BLOCKING, 1, 1},  {"PIR", IMMEDIATE_RETURN, 2, 1},
     {"NPIR", IMMEDIATE_RETURN, 1, 1}, {"PIS", AUTOMATIC, 2, 1},      {"NPIS", AUTOMATIC, 1, 1},
 };
@@ -246,7 +249,8 @@ static int read_header(struct text *t) {
     conds = number(t, 255);
     if (!read_object(t)) return 0;
     size = number(t, 255);
-    if (t->flaw || t->at == t->end || *t->at++ != '\n' || seats < 1 || seats > MOST_SEATS || conds > MOST_CONDS || size < 1) return 0;
+    if (t->flaw || t->at == t->end || *t->at++ != '\n' || seats < 1 || seats > MOST_SEATS || conds > MOST_CONDS
+        || size < 1) return 0;
     return version;
 }
 

@@ -2,9 +2,10 @@
  * with -DPLAIN by a pthread mutex and its conditions.
  *
  *     c_library build                       which library it is
- *     c_library visit MONITORS CHUNKS       the nanoseconds of a visit by the only seat: the least of so many chunks of 2,000 visits to the
- *                                           last of so many monitors; the first one's memory was never used before
- *     c_library abandoned SEATS CHUNKS      the same, to one monitor, while so many seats that were abandoned wait on a condition
+ *     c_library visit MONITORS CHUNKS       the nanoseconds of a visit by the only seat: the least of so many chunks of
+ *                                           2,000 visits to the last of so many monitors; the first one's memory was
+ *                                           never used before
+ *     c_library abandoned SEATS CHUNKS      the same, to one monitor, while so many abandoned seats wait on a condition
  *     c_library visits THREADS ROUNDS       the nanoseconds of a visit, by the clock
  *     c_library buffer KIND ROUNDS          the seconds of so many puts and as many takes, by two threads each */
 #include <pthread.h>
@@ -17,7 +18,8 @@
 #include "monk.h"
 #endif
 
-enum { MOST_THREADS = 32, NOT_FULL = 0, NOT_EMPTY = 1, CONDITIONS = 2, SIZE = 8, CHUNK = 2000, NS_A_SECOND = 1000000000 };
+enum { MOST_THREADS = 32, NOT_FULL = 0, NOT_EMPTY = 1, CONDITIONS = 2, SIZE = 8, CHUNK = 2000,
+    NS_A_SECOND = 1000000000 };
 
 static pthread_barrier_t line;
 static long rounds, count;                  /* touched inside alone, as the buffer is */
@@ -61,7 +63,8 @@ static void make(const char *kind, unsigned threads) {
     int number = monk_kind_named(kind);
     must(number);
     is_automatic = monk_mode_of(number) == MONK_AUTOMATIC;
-    monk_shape shape = {.kind = number, .seats = threads, .conditions = is_automatic ? 0 : CONDITIONS, .flags = CONDITIONS,
+    monk_shape shape = {.kind = number, .seats = threads, .conditions = is_automatic ? 0 : CONDITIONS,
+        .flags = CONDITIONS,
                         .budget = BUDGET, .seed = 1};
     must(monk_make(&monitor, &shape));
 }
@@ -88,7 +91,8 @@ static void pause_on(seat *s, unsigned n) { must(monk_pause(s->of, n)); }
 static void finish(seat *s, unsigned n) { must(monk_finish(s->of, n)); }
 
 static void say(seat *s) {
-    if (is_automatic) must(monk_set_flags(s->of, (filled < SIZE ? 1u << NOT_FULL : 0) | (filled > 0 ? 1u << NOT_EMPTY : 0)));
+    if (is_automatic) must(monk_set_flags(s->of,
+        (filled < SIZE ? 1u << NOT_FULL : 0) | (filled > 0 ? 1u << NOT_EMPTY : 0)));
 }
 #endif
 
@@ -206,7 +210,8 @@ static double contended(int is_buffer, const char *kind, unsigned threads) {
 int main(int words, char **word) {
     if (words == 2 && !strcmp(word[1], "build")) return puts(build()) < 0;
     if (words != 4) return 2;
-    int is_visit = !strcmp(word[1], "visit"), is_abandoned = !strcmp(word[1], "abandoned"), is_buffer = !strcmp(word[1], "buffer");
+    int is_visit = !strcmp(word[1], "visit"), is_abandoned = !strcmp(word[1], "abandoned"),
+        is_buffer = !strcmp(word[1], "buffer");
     unsigned number = is_buffer ? 4 : (unsigned)atoi(word[2]), seats = is_abandoned ? number + 1 : number;
     if (seats < 1 || seats > MOST_THREADS) return 2;
     rounds = atol(word[3]);

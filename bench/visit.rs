@@ -55,7 +55,8 @@ fn main() {
     }
     let guarded = lock.lock().unwrap();
     assert_eq!(guarded.count as usize, chunks * CHUNK);
-    let sum: u64 = guarded.events.iter().map(|it| u64::from(it.call) + u64::from(it.seat) + u64::from(it.argument) + it.reply).sum();
+    let numbers = |it: &Event| u64::from(it.call) + u64::from(it.seat) + u64::from(it.argument) + it.reply;
+    let sum: u64 = guarded.events.iter().map(numbers).sum();
     black_box(sum);
     println!("{least:.6}");
 }

@@ -88,7 +88,10 @@ int monk_abandon(monk_seat *s) {
 }
 
 unsigned monk_seat_number(const monk_seat *s) { return s ? seat_of(s)->number : 0; }
-int monk_place(const monk_seat *s) { return !s ? MONK_RANGE : is_had_by(s) ? atomic_load(&seat_of(s)->place) : MONK_NOT_NOW; }
+int monk_place(const monk_seat *s) {
+    if (!s) return MONK_RANGE;
+    return is_had_by(s) ? atomic_load(&seat_of(s)->place) : MONK_NOT_NOW;
+}
 uint32_t monk_left(const monk_seat *s) { return s && is_had_by(s) ? atomic_load(&seat_of(s)->left) : 0; }
 
 int monk_set_wish(monk_seat *s, int wish) {
@@ -116,7 +119,8 @@ static uint64_t dice_of(uint64_t seed, unsigned number) {
 static void set_up(monk_monitor *m, const monk_shape *shape, uint32_t budget) {
     for (unsigned i = 0; i < shape->seats; i++) {
         monk_seat *s = &m->seats[i];
-        s->monitor = m, s->token = &m->tokens[i], s->number = (uint8_t)i, s->wish = MONK_WAITER, s->dice = dice_of(shape->seed, i);
+        s->monitor = m, s->token = &m->tokens[i], s->number = (uint8_t)i;
+        s->wish = MONK_WAITER, s->dice = dice_of(shape->seed, i);
         s->waits_on = NO_CONDITION, s->file = NO_FILE;
         s->place = MONK_OUTSIDE;
         s->left = budget;
@@ -133,7 +137,8 @@ int monk_make(monk_monitor **out, const monk_shape *shape) {
     for (size_t at = 0; at < each * shape->seats; at++) ((char *)room)[at] = 0;
     for (unsigned i = 0; i < shape->seats; i++) m->tokens[i].at = (char *)room + each * i;
     uint32_t budget = shape->budget ? shape->budget : USUAL_BUDGET;
-    int answer = monk_k_make((uint8_t)shape->kind, (uint8_t)shape->conditions, (uint8_t)shape->flags, budget, m->tokens, shape->seats);
+    int answer = monk_k_make((uint8_t)shape->kind, (uint8_t)shape->conditions, (uint8_t)shape->flags, budget, m->tokens,
+        shape->seats);
     if (answer) return free(m), free(room), answer;
     set_up(m, shape, budget);
     *out = m;

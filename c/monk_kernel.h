@@ -48,7 +48,8 @@ int32_t monk_k_start_wait(monk_k_seat *seat, uint8_t condition, uint8_t wish, si
 int32_t monk_k_start_signal(monk_k_seat *seat, uint8_t condition, uint8_t wish, size_t *granted);
 int32_t monk_k_signal_leave(monk_k_seat *seat, uint8_t condition, uint8_t wish, size_t *granted);
 int32_t monk_k_broadcast(monk_k_seat *seat, uint8_t condition);
-int32_t monk_k_start_signal_wait(monk_k_seat *seat, uint8_t condition, uint8_t wait_condition, uint8_t wish, size_t *granted);
+int32_t monk_k_start_signal_wait(monk_k_seat *seat, uint8_t condition, uint8_t wait_condition, uint8_t wish,
+    size_t *granted);
 int32_t monk_k_set_flags(monk_k_seat *seat, uint32_t bits);
 int32_t monk_k_start_wait_until(monk_k_seat *seat, uint8_t flag, uint8_t wish, size_t *granted);
 

@@ -49,7 +49,8 @@ typedef enum lent { FREE, TAKEN, ABANDONED, LENT_STATES } lent;
 typedef struct bell {
     _Alignas(LINE) _Atomic uint32_t rings;
     _Atomic int file;                   /* an eventfd by which an event loop waits for this bell, plus 1; else 0 */
-    _Atomic int is_minded;              /* the seat that waits here was abandoned: the library lets it come in, and leave */
+    /* the seat that waits here was abandoned: the library lets it come in, and leave */
+    _Atomic int is_minded;
 } bell;
 
 struct monk_seat {
@@ -59,14 +60,16 @@ struct monk_seat {
     bell *watched;                      /* at which an event loop waits for it */
     bell *bell;                         /* at which it waits, if it was abandoned; changed as `lent` is */
     _Atomic uint32_t lent;              /* LENT_STATES * lending + a lent; changed under the monitor's lock alone */
-    _Atomic uint32_t left;              /* this and the place are copies of what the token says, for any thread that asks */
+    /* this and the place are copies of what the token says, for any thread that asks */
+    _Atomic uint32_t left;
     uint32_t broadcasts;                /* how many there had been on its condition when the wait began */
     int file;                           /* its eventfd, or NO_FILE */
     _Atomic uint8_t calling;            /* a call by this seat is under way */
     _Atomic int8_t place;
     uint8_t wish, number;
     uint8_t waits_on;                   /* the condition on which it waits, or NO_CONDITION */
-    uint8_t is_visitor;                 /* lent to the library itself, for a look at the history; changed as `lent` is */
+    /* lent to the library itself, for a look at the history; changed as `lent` is */
+    uint8_t is_visitor;
 };
 _Static_assert(sizeof(struct monk_seat) == LINE, "a seat has a line of its own, and no more");
 
@@ -77,7 +80,8 @@ struct monk_monitor {
     uint32_t bits;                              /* a copy of the flags, touched by the seat that is inside */
     uint32_t broadcasts[MOST_CONDITIONS];       /* how many there were on each condition, touched as `bits` is */
     _Atomic int stopped, closed;
-    _Atomic uint32_t lock;                      /* of lending, and of abandoned seats: a release takes it if it lets one of them in */
+    /* of lending, and of abandoned seats: a release takes it if it lets one of them in */
+    _Atomic uint32_t lock;
     monk_seat *reader;                          /* the seat that closed it, through which the history is read */
     void *room;                                 /* the tokens' */
     monk_k_seat tokens[MOST_SEATS];
@@ -158,7 +162,9 @@ static inline monk_seat *seat_of(const monk_seat *handle) {
     return (monk_seat *)((uintptr_t)handle & (((uintptr_t)1 << ADDRESS_BITS) - 1));
 }
 
-static inline monk_seat *handle_of(monk_seat *s, uint32_t lending) { return (monk_seat *)((uintptr_t)s | (uintptr_t)lending << ADDRESS_BITS); }
+static inline monk_seat *handle_of(monk_seat *s, uint32_t lending) {
+    return (monk_seat *)((uintptr_t)s | (uintptr_t)lending << ADDRESS_BITS);
+}
 
 static inline lent lent_of(monk_seat *s) { return (lent)(atomic_load(&s->lent) % LENT_STATES); }
 

@@ -25,7 +25,8 @@ static int works_inside(monk_seat *s, uint64_t *dice) {
     case MONK_AUTOMATIC:
         MUST(monk_set_flags(s, thrown(dice, 1u << QUEUES)));
         return monk_start_wait_until(s, queue);
-    case MONK_IMMEDIATE_RETURN: return thrown(dice, 2) ? monk_start_wait(s, queue) : monk_start_signal_wait(s, queue, !queue);
+    case MONK_IMMEDIATE_RETURN:
+        return thrown(dice, 2) ? monk_start_wait(s, queue) : monk_start_signal_wait(s, queue, !queue);
     default: return thrown(dice, 2) ? monk_start_wait(s, queue) : monk_start_signal(s, queue);
     }
 }
@@ -83,7 +84,8 @@ int main(int words, char **word) {
     HOLDS(words == 5);
     kind = monk_kind_named(word[1]), rounds = atoi(word[2]), seed = strtoul(word[3], NULL, 10);
     MUST(kind);
-    monk_shape shape = {.kind = kind, .seats = SEATS, .conditions = is_automatic() ? 0 : QUEUES, .flags = QUEUES, .budget = BUDGET,
+    monk_shape shape = {.kind = kind, .seats = SEATS, .conditions = is_automatic() ? 0 : QUEUES, .flags = QUEUES,
+        .budget = BUDGET,
                         .seed = seed};
     pthread_t threads[THREADS];
     monk_seat *spare;                   /* for the end: all others may have been given up in waits */
@@ -97,7 +99,8 @@ int main(int words, char **word) {
     MUST(answer);
     save_history(monitor, word[4]);
     MUST(monk_free(monitor));
-    printf("%s: given up outside %d, at the entry %d, inside %d, in a wait %d, behind all %d\n", word[1], given_up[0], given_up[1],
+    printf("%s: given up outside %d, at the entry %d, inside %d, in a wait %d, behind all %d\n", word[1], given_up[0],
+        given_up[1],
            given_up[2], given_up[3], given_up[4]);
     return 0;
 }

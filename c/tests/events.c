@@ -26,7 +26,9 @@ static int is_automatic(void) { return monk_mode_of(kind) == MONK_AUTOMATIC; }
 
 static unsigned next_of(unsigned number) { return (number + 1) % SEATS; }
 
-static int pauses(monk_seat *s, unsigned number) { return is_automatic() ? monk_start_wait_until(s, number) : monk_start_wait(s, number); }
+static int pauses(monk_seat *s, unsigned number) {
+    return is_automatic() ? monk_start_wait_until(s, number) : monk_start_wait(s, number);
+}
 
 static void *play(void *number) {
     unsigned me = (unsigned)(uintptr_t)number;
@@ -101,7 +103,8 @@ int main(int words, char **word) {
     MUST(kind = monk_kind_named(word[1]));
     rounds = atol(word[2]) / SEATS;
     pthread_t threads[SEATS];
-    monk_shape shape = {.kind = kind, .seats = SEATS, .conditions = is_automatic() ? 0 : SEATS, .flags = SEATS, .budget = BUDGET};
+    monk_shape shape = {.kind = kind, .seats = SEATS, .conditions = is_automatic() ? 0 : SEATS, .flags = SEATS,
+        .budget = BUDGET};
     MUST(monk_make(&monitor, &shape));
     if (is_automatic()) {
         monk_seat *s;

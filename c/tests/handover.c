@@ -61,7 +61,8 @@ static void *play(void *number) {
 }
 
 static void make(void) {
-    monk_shape shape = {.kind = kind, .seats = threads, .conditions = is_automatic() ? 0 : threads, .flags = threads, .budget = BUDGET,
+    monk_shape shape = {.kind = kind, .seats = threads, .conditions = is_automatic() ? 0 : threads, .flags = threads,
+        .budget = BUDGET,
                         .seed = 1};
     MUST(monk_make(&monitor, &shape));
     turn = 0;

@@ -27,7 +27,9 @@ static void *counted(void *got) {
 
 void *__wrap_malloc(size_t size) { return is_refused() ? NULL : counted(__real_malloc(size)); }
 void *__wrap_calloc(size_t n, size_t size) { return is_refused() ? NULL : counted(__real_calloc(n, size)); }
-void *__wrap_aligned_alloc(size_t a, size_t size) { return is_refused() ? NULL : counted(__real_aligned_alloc(a, size)); }
+void *__wrap_aligned_alloc(size_t a, size_t size) {
+    return is_refused() ? NULL : counted(__real_aligned_alloc(a, size));
+}
 
 void *__wrap_realloc(void *old, size_t size) {
     if (is_refused()) return NULL;

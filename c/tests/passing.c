@@ -11,7 +11,8 @@
 #include <time.h>
 #include <unistd.h>
 
-enum { TAKERS = 3, HASTY = 4, SEATS = 32, TOKEN = 0, BUDGET = 1 << 20, SECONDS = 300, NS_A_SECOND = 1000000000, LONGEST_WAIT = 300000 };
+enum { TAKERS = 3, HASTY = 4, SEATS = 32, TOKEN = 0, BUDGET = 1 << 20, SECONDS = 300, NS_A_SECOND = 1000000000,
+    LONGEST_WAIT = 300000 };
 
 static monk_monitor *monitor;
 static int rounds;

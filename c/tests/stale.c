@@ -24,9 +24,12 @@ static void abandon(monk_seat *s) { MUST(monk_abandon(s)); }
 static void all_refused(monk_seat *s) {
     uint32_t bits;
     char *text;
-    REFUSED(monk_enter(s)), REFUSED(monk_enter_within(s, 0)), REFUSED(monk_arrive(s)), REFUSED(monk_poll(s)), REFUSED(monk_await(s, 0));
-    REFUSED(monk_leave(s)), REFUSED(monk_finish(s, 0)), REFUSED(monk_wait(s, 0)), REFUSED(monk_pause(s, 0)), REFUSED(monk_start_wait(s, 0));
-    REFUSED(monk_signal(s, 0)), REFUSED(monk_start_signal(s, 0)), REFUSED(monk_broadcast(s, 0)), REFUSED(monk_set_flags(s, 1));
+    REFUSED(monk_enter(s)), REFUSED(monk_enter_within(s, 0)), REFUSED(monk_arrive(s)), REFUSED(monk_poll(s)),
+        REFUSED(monk_await(s, 0));
+    REFUSED(monk_leave(s)), REFUSED(monk_finish(s, 0)), REFUSED(monk_wait(s, 0)), REFUSED(monk_pause(s, 0)),
+        REFUSED(monk_start_wait(s, 0));
+    REFUSED(monk_signal(s, 0)), REFUSED(monk_start_signal(s, 0)), REFUSED(monk_broadcast(s, 0)),
+        REFUSED(monk_set_flags(s, 1));
     REFUSED(monk_signal_leave(s, 0)), REFUSED(monk_signal_wait(s, 0, 0)), REFUSED(monk_wait_until(s, 0));
     REFUSED(monk_waiting(s, 0)), REFUSED(monk_flags(s, &bits)), REFUSED(monk_history(m, s, &text, NULL));
     REFUSED(monk_set_wish(s, MONK_ANY)), REFUSED(monk_place(s)), REFUSED(monk_give_seat(s)), REFUSED(monk_abandon(s));

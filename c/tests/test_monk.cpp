@@ -82,7 +82,8 @@ void a_seat_that_is_assigned_to_gives_its_own_back() {
     monk::monitor monitor(shape_of(MONK_PB, 2));
     monk::seat first(monitor), second(monitor);
     monk::checked(monk_enter(first.get()));
-    first = std::move(second);                  // the old seat of `first` is inside: it leaves, and may be taken again at once
+    // the old seat of `first` is inside: it leaves, and may be taken again at once
+    first = std::move(second);
     HOLDS(second.get() == nullptr && first.number() == 1);
     monk::seat third(monitor);
     HOLDS(third.number() == 0 && monk_place(third.get()) == MONK_OUTSIDE);

@@ -43,8 +43,9 @@ void *realloc(void *old, size_t size)
 
 int pthread_create(pthread_t *thread, const pthread_attr_t *attr, void *(*start)(void *), void *given)
 {
-    static int (*real)(pthread_t *, const pthread_attr_t *, void *(*)(void *), void *);
-    if (!real) real = (int (*)(pthread_t *, const pthread_attr_t *, void *(*)(void *), void *)) dlsym(RTLD_NEXT, "pthread_create");
+    typedef int (*creator)(pthread_t *, const pthread_attr_t *, void *(*)(void *), void *);
+    static creator real;
+    if (!real) real = (creator) dlsym(RTLD_NEXT, "pthread_create");
     return ++threads == number_in("REFUSE_THREAD") ? EAGAIN : real(thread, attr, start, given);
 }
 

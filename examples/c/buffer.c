@@ -61,7 +61,8 @@ int main(int n, char **words) {
     worker crew[] = {{putter, 0, 0}, {putter, 1, 0}, {taker, 0, 0}, {taker, 1, 0}};
     run(crew, 4);
     finish_run(o.out);
-    printf("%s %s wish %s: wrong %ld, put %ld, taken %ld%s\n", monk_kind_name(kind), o.word, wish_word, (long)bad, put_sum, got_sum,
+    printf("%s %s wish %s: wrong %ld, put %ld, taken %ld%s\n", monk_kind_name(kind), o.word, wish_word, (long)bad,
+        put_sum, got_sum,
            put_sum == got_sum && count == 0 ? "" : " LOST");
     return put_sum != got_sum;
 }

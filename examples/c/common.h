@@ -85,7 +85,9 @@ static inline void finish_run(const char *path) {
 }
 
 static inline int wish_named(const char *w) {
-    return !strcmp(w, "entry") ? MONK_ENTRY : !strcmp(w, "signaller") ? MONK_SIGNALLER : !strcmp(w, "any") ? MONK_ANY : MONK_WAITER;
+    if (!strcmp(w, "entry")) return MONK_ENTRY;
+    if (!strcmp(w, "signaller")) return MONK_SIGNALLER;
+    return !strcmp(w, "any") ? MONK_ANY : MONK_WAITER;
 }
 
 /* -k KIND -w WISH -y YIELDS inside -x MOST YIELDS outside -n ROUNDS -s SEED -o FILE, and a word */

@@ -34,7 +34,8 @@ public:
 
     int run() {
         std::vector<program::work> works;
-        for (unsigned car = 0; car < CARS; car++) works.emplace_back([this, car](monk::seat &by) { drive(by, car % SIDES); });
+        for (unsigned car = 0; car < CARS; car++)
+            works.emplace_back([this, car](monk::seat &by) { drive(by, car % SIDES); });
         return program_.run(works, "bridge", [this] { return std::to_string(crossed_) + " cars crossed"; });
     }
 

@@ -9,7 +9,8 @@ enum { NOT_FULL, NOT_EMPTY, QUEUES, PUTTERS = 2, TAKERS = 2 };
 class buffer {
 public:
     explicit buffer(const asked &by)
-        : rounds_(by.rounds), program_(by, QUEUES, PUTTERS + TAKERS, by.rounds, [this](unsigned queue) { return may(queue); }) {}
+        : rounds_(by.rounds),
+          program_(by, QUEUES, PUTTERS + TAKERS, by.rounds, [this](unsigned queue) { return may(queue); }) {}
 
     bool may(unsigned queue) const { return items_.empty() == (queue == NOT_FULL); }
 

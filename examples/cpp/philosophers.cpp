@@ -45,7 +45,8 @@ public:
 
     int run() {
         std::vector<program::work> works;
-        for (unsigned number = 0; number < COUNT; number++) works.emplace_back([this, number](monk::seat &by) { dine(by, number); });
+        for (unsigned number = 0; number < COUNT; number++)
+            works.emplace_back([this, number](monk::seat &by) { dine(by, number); });
         return program_.run(works, "philosophers", [this] { return std::to_string(meals_) + " meals"; });
     }
 

@@ -8,7 +8,8 @@ enum { READ, WRITE, QUEUES, READERS = 3, WRITERS = 2 };
 class book {
 public:
     explicit book(const asked &by)
-        : rounds_(by.rounds), program_(by, QUEUES, READERS + WRITERS, by.rounds, [this](unsigned queue) { return may(queue); }) {}
+        : rounds_(by.rounds),
+          program_(by, QUEUES, READERS + WRITERS, by.rounds, [this](unsigned queue) { return may(queue); }) {}
 
     bool may(unsigned queue) const { return !is_written_ && (queue == READ || reading_ == 0); }
 
@@ -46,7 +47,8 @@ public:
     int run() {
         std::vector<program::work> works(READERS, [this](monk::seat &by) { read(by); });
         works.insert(works.end(), WRITERS, [this](monk::seat &by) { write(by); });
-        return program_.run(works, "readers", [this] { return std::to_string(reads_) + " reads, " + std::to_string(writes_) + " writes"; });
+        return program_.run(works, "readers",
+            [this] { return std::to_string(reads_) + " reads, " + std::to_string(writes_) + " writes"; });
     }
 
 private:

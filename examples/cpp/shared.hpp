@@ -49,7 +49,9 @@ public:
         if (is_automatic_) in.set_flags(bits);
     }
 
-    bool waits(const monk::visit &in, unsigned queue) const { return !is_automatic_ && in.waiting(monk::condition(queue)) > 0; }
+    bool waits(const monk::visit &in, unsigned queue) const {
+        return !is_automatic_ && in.waiting(monk::condition(queue)) > 0;
+    }
 
     void wait_until_may(monk::visit &in, unsigned queue) {
         say(in);
@@ -83,7 +85,8 @@ public:
         for (auto &thread : crew) thread.join();
         monitor_.close();
         if (!asked_.path.empty()) std::ofstream(asked_.path) << monitor_.history();
-        std::cout << monk_kind_name(asked_.kind) << " " << name << " wish " << asked_.wish_name << ": " << result() << ", wrong " << wrong_ << "\n";
+        std::cout << monk_kind_name(asked_.kind) << " " << name << " wish " << asked_.wish_name << ": " << result()
+            << ", wrong " << wrong_ << "\n";
         return wrong_ != 0;
     }
 

@@ -272,8 +272,10 @@ int pthread_cond_timedwait(pthread_cond_t *cond, pthread_mutex_t *mutex, const s
     return wait_by((struct wait){.form = TIMED, .cond = cond, .mutex = mutex, .until = until, .site = CALLER});
 }
 
-int pthread_cond_clockwait(pthread_cond_t *cond, pthread_mutex_t *mutex, clockid_t clock, const struct timespec *until) {
-    return wait_by((struct wait){.form = CLOCK, .cond = cond, .mutex = mutex, .clock = clock, .until = until, .site = CALLER});
+int pthread_cond_clockwait(pthread_cond_t *cond, pthread_mutex_t *mutex, clockid_t clock,
+    const struct timespec *until) {
+    struct wait by = {.form = CLOCK, .cond = cond, .mutex = mutex, .clock = clock, .until = until, .site = CALLER};
+    return wait_by(by);
 }
 
 int cnd_wait(cnd_t *cond, mtx_t *mutex) {
@@ -293,7 +295,8 @@ static inline struct monitor *waited_with(struct condition *c) {
 /* A signal by a thread that doesn't hold the mutex, or of a condition on which nobody has waited yet. Then the mutex
    isn't known: it is taken for the one that the thread locked last. Gives the condition, whose order is held until
    the signal is sent; or null. */
-SELDOM static struct condition *tell_in_order(struct condition *c, struct thread *thread, enum verb verb, unsigned site) {
+SELDOM static struct condition *tell_in_order(struct condition *c, struct thread *thread, enum verb verb,
+    unsigned site) {
     if (is_closed())
         return 0;
     if (!take_order(&c->order)) {

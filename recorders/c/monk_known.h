@@ -71,7 +71,8 @@ struct log {
     int waits, waiting;            /* how many there were, and are */
     _Atomic(const char *) stopped; /* why no more lines are written, if so */
     atomic_int left_out;           /* signals from outside that it lacks */
-    atomic_int order;              /* held by who changes what follows, and by who isn't the holder of the mutex and reads it */
+    /* held by who changes what follows, and by who isn't the holder of the mutex and reads it */
+    atomic_int order;
     struct condition *conds[CONDS];
     struct outside *outside;
     size_t noted, outside_room;

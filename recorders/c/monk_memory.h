@@ -122,7 +122,8 @@ static void *grow_block(void *block, size_t used, size_t size, size_t larger) {
     }
 #ifdef MADV_POPULATE_WRITE
     if (larger >= LARGE)
-        madvise((char *)grown + used / PAGE_BYTES * PAGE_BYTES, larger - used / PAGE_BYTES * PAGE_BYTES, MADV_POPULATE_WRITE);
+        madvise((char *)grown + used / PAGE_BYTES * PAGE_BYTES, larger - used / PAGE_BYTES * PAGE_BYTES,
+            MADV_POPULATE_WRITE);
 #endif
     return grown;
 }

@@ -66,17 +66,20 @@ struct image {
     uintptr_t bias; /* what is added to an address in the file */
 };
 
-static int is_within(const struct image *it, size_t from, size_t size) { return from <= it->size && size <= it->size - from; }
+static int is_within(const struct image *it, size_t from, size_t size) {
+    return from <= it->size && size <= it->size - from;
+}
 
 static int begins_with(const char *name, const char *beginning) { return !strncmp(name, beginning, strlen(beginning)); }
 
 /* Behind the beginnings of names in C++'s library, and the namespaces within it: what locks, as compilers write it.
    (Into other functions of the headers, as that by which a thread begins, the program's own may have been put.) */
 static const char *const beginnings[] = {"_ZNSt", "_ZNKSt", "_ZZNSt", "_ZSt", "3__1", "3_V2", "8__detail"};
-static const char *const lockers[] = {"5mutex", "12__mutex_base", "9__condvar", "11unique_lock", "10lock_guard", "11scoped_lock",
-                                      "11timed_mutex", "15recursive_mutex", "21recursive_timed_mutex", "18__timed_mutex_impl",
-                                      "18condition_variable", "22condition_variable_any", "4lock", "8try_lock", "11__lock_impl",
-                                      "15__try_lock_impl"};
+static const char *const lockers[] = {
+    "5mutex", "12__mutex_base", "9__condvar", "11unique_lock", "10lock_guard", "11scoped_lock", "11timed_mutex",
+    "15recursive_mutex", "21recursive_timed_mutex", "18__timed_mutex_impl", "18condition_variable",
+    "22condition_variable_any", "4lock", "8try_lock", "11__lock_impl", "15__try_lock_impl",
+};
 
 static int is_of_headers(const char *name) {
     if (begins_with(name, "_ZL"))

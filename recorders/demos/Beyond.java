@@ -2,7 +2,10 @@ import java.nio.file.Path;
 import java.util.concurrent.locks.Condition;
 import java.util.concurrent.locks.Lock;
 
-/** Forty threads, or the last of ten conditions, and a signal without the lock; then a wait for ever: Beyond FILE [conditions]. */
+/**
+ * Forty threads, or the last of ten conditions, and a signal without the lock; then a wait for ever: Beyond FILE
+ * [conditions].
+ */
 public final class Beyond {
     private static final int THREADS = 40, CONDITIONS = 10, MOMENT = 300;
 

@@ -4,10 +4,10 @@
      all        one condition, and broadcasts
      timed      as good, with waits that run out
      late       signals behind the unlock
-     pair       as good, of one putter and one taker, with room for one item: no later signal makes up for one that is lost
+     pair       as good, of one putter and one taker, with room for one item: no later signal makes up for a lost one
      if         a fault: who waited doesn't test again
      forgotten  a fault: who takes signals nobody
-     single     a fault: as all, with room for one item, and signals: one may wake a thread that can't go on, and no other
+     single     a fault: as all, with room for one item, and signals: one may wake only a thread that can't go on
      early      a fault: as pair, but who puts takes no lock: its signal may come between a taker's test and its wait
      returns    a fault: a taker returns without its unlock
      deadlock   a fault: each takes two items, one after the other, and puts them back; there are two in all
@@ -25,7 +25,8 @@
 #include "../c/monk_log.h"
 
 /* as many putters as takers */
-enum { PUTTERS = 3, SIZE = 2, ITEMS = 20, ITEMS_IF_EARLY = 1000, PUT = 0, TAKE = 1, SHORT = 20000, SECOND = 1000000000 };
+enum { PUTTERS = 3, SIZE = 2, ITEMS = 20, ITEMS_IF_EARLY = 1000, PUT = 0, TAKE = 1, SHORT = 20000,
+    SECOND = 1000000000 };
 
 static pthread_mutex_t lock = PTHREAD_MUTEX_INITIALIZER;
 static pthread_cond_t not_full = PTHREAD_COND_INITIALIZER, not_empty = PTHREAD_COND_INITIALIZER;

@@ -16,7 +16,8 @@ import java.util.concurrent.locks.ReentrantLock;
 /**
  * Records one monitor. Each line is written by the thread that holds the lock.
  *
- * <p>Of a {@code ReentrantLock}: {@code log.lock(fair)} in its place, and {@code lock.newCondition()} for its conditions.
+ * <p>Of a {@code ReentrantLock}: {@code log.lock(fair)} in its place, and {@code lock.newCondition()} for its
+ * conditions.
  *
  * <p>Of {@code synchronized (object)}: {@link #enter} first and {@link #leave} last in each block, and {@link #await},
  * {@link #signal} and {@link #signalAll} in place of {@code wait}, {@code notify} and {@code notifyAll}.
@@ -113,7 +114,7 @@ public final class MonkLog {
         return text.toString();
     }
 
-    /** What stands beside the log: the threads' names, how the program ended if that is known, and the lines' places. */
+    /** What stands beside the log: the threads' names, how the program ended if that is known, the lines' places. */
     private String names(List<Line> all, String ended) {
         StringBuilder text = new StringBuilder(), numbers = new StringBuilder("lines");
         seats.forEach((thread, seat) -> text.append("seat " + seat + " " + thread.getName() + "\n"));
@@ -144,7 +145,7 @@ public final class MonkLog {
         return seen + cut + (strays.get() == 0 ? "" : "; signals without the lock, refused: " + strays);
     }
 
-    /** For a program that hangs: after so many milliseconds its log is written into a new file, and it ends with status 124. */
+    /** For a program that hangs: after so many milliseconds its log is written, and it ends with status 124. */
     public void endAfter(long milliseconds, Path file, String object) {
         Thread watch = new Thread(() -> {
             try {
