@@ -1,4 +1,6 @@
-"""A visit from Python, by threading.Condition and by libmonk: c_library.py CHUNKS    prints the nanoseconds of each, alone and with a notify
+"""A visit from Python, by threading.Condition and by libmonk.
+
+    c_library.py CHUNKS      prints the nanoseconds of each, alone and with a notify
 
 Each is the least of so many chunks of 100 visits. bench/c_library runs it."""
 

@@ -8,13 +8,14 @@ import subprocess
 from typing import Callable, Dict, List
 
 HERE = os.path.dirname(os.path.abspath(__file__))
-# How long a recorded run may last, in seconds, one that may hang, and one that is shaken besides; how many signals there are to
-# one that is dropped.
+# How long a recorded run may last, in seconds, one that may hang, and one that is shaken besides; how many signals
+# there are to one that is dropped.
 LONG, LONG_IF_HANGING, LONG_IF_SHAKEN, EVERY = "20", "0.3", "0.6", "7"
 HANGING, STATUS_LATE = ("if", "forgotten", "drop", "single", "early", "returns", "deadlock"), 124
 # The faults that take a rare order: each run is shaken by a seed of its own.
 SHAKEN, SMALL = ("early", "unlocked", "deadlock"), ("pair", "drop", "single", "early")
-TOOLS = {"c": ("gcc",), "c++": ("gcc", "g++"), "python": ("python3",), "java": ("javac", "java"), "go": ("go",), "rust": ("rustc",)}
+TOOLS = {"c": ("gcc",), "c++": ("gcc", "g++"), "python": ("python3",), "java": ("javac", "java"), "go": ("go",),
+         "rust": ("rustc",)}
 # The input of the unmodified programs: lines enough that sort takes threads.
 ROWS, PRIME = 300000, 999983
 
@@ -37,7 +38,8 @@ def make(*words: str, folder: str) -> None:
 
 def build_library(folder: str) -> None:
     source = os.path.join(HERE, "c", "libmonk_log.c")
-    make("gcc", "-O2", "-Wall", "-Wextra", "-Werror", "-shared", "-fPIC", "-o", "libmonk_log.so", source, "-ldl", "-lpthread", folder=folder)
+    make("gcc", "-O2", "-Wall", "-Wextra", "-Werror", "-shared", "-fPIC", "-o", "libmonk_log.so", source, "-ldl",
+         "-lpthread", folder=folder)
 
 
 def build_c(folder: str) -> None:
@@ -74,7 +76,8 @@ def build_nothing(_: str) -> None:
     """A program of Python runs as it is."""
 
 
-BUILDS = {"c": build_c, "c++": build_cpp, "python": build_nothing, "java": build_java, "go": build_go, "rust": build_rust}
+BUILDS = {"c": build_c, "c++": build_cpp, "python": build_nothing, "java": build_java, "go": build_go,
+          "rust": build_rust}
 LOST = ("lost notify", "passed on")
 # The words of a program of a language, that writes all its logs itself.
 WRITERS: Dict[str, Callable[[str, str], List[str]]] = {

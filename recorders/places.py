@@ -1,4 +1,5 @@
-"""Whether the file beside a log names the lines of the source from which its lines come; for recorders/check and hostile."""
+"""Whether the file beside a log names the lines of the source from which its lines come; for recorders/check and
+hostile."""
 from __future__ import annotations
 
 import os
@@ -8,20 +9,27 @@ import sys
 
 import builds
 
-# A pattern of the line of a demonstration from which a line of its log comes. A `leave` has no place in Rust. In C it may have that
-# of its function's caller, since an unlock that comes last is jumped to.
+# A pattern of the line of a demonstration from which a line of its log comes. A `leave` has no place in Rust. In C it
+# may have that of its function's caller, since an unlock that comes last is jumped to.
 CALLS = {
-    "c": {"enter": "pthread_mutex_lock", "wait": "pthread_cond_wait", "signal": "pthread_cond_signal", "act": "MONK_ACT"},
-    "c++": {"enter": "lock.mutex", "leave": "}|lock.unlock", "wait": "condition.wait", "signal": "notify_one", "act": "MONK_ACT"},
-    "python": {"enter": "self.lock", "leave": "self.lock", "wait": "condition.wait", "signal": "notify", "act": "recorder.act"},
-    "java": {"enter": "lock.lock", "leave": "lock.unlock", "wait": "condition.await", "signal": "[.]signal", "act": "log.act"},
-    "go": {"enter": "monitor.Lock", "leave": "monitor.Unlock", "wait": "cond.Wait", "signal": "cond.Signal", "act": "monitor.Act"},
+    "c": {"enter": "pthread_mutex_lock", "wait": "pthread_cond_wait", "signal": "pthread_cond_signal",
+          "act": "MONK_ACT"},
+    "c++": {"enter": "lock.mutex", "leave": "}|lock.unlock", "wait": "condition.wait", "signal": "notify_one",
+            "act": "MONK_ACT"},
+    "python": {"enter": "self.lock", "leave": "self.lock", "wait": "condition.wait", "signal": "notify",
+               "act": "recorder.act"},
+    "java": {"enter": "lock.lock", "leave": "lock.unlock", "wait": "condition.await", "signal": "[.]signal",
+             "act": "log.act"},
+    "go": {"enter": "monitor.Lock", "leave": "monitor.Unlock", "wait": "cond.Wait", "signal": "cond.Signal",
+           "act": "monitor.Act"},
     "rust": {"enter": "buffer.enter", "wait": "inside.wait", "signal": "notify_one", "act": "inside.act"},
 }
-# A line of a log as `monk explain` names it: its number, its words and its place. And one since which a seat is where it is.
+# A line of a log as `monk explain` names it: its number, its words and its place. And one since which a seat is where
+# it is.
 NAMED = re.compile(r"line (\d+): (.*?)(?: \((\S+:\d+)\))?: ")
 SINCE = re.compile(r"seat \d+: .* since line (\d+)(?: \((\S+:\d+)\))?(?:;.*)?")
-SOURCES = {"c": "buffer.c", "c++": "buffer.cc", "python": "buffer.py", "java": "Buffer.java", "go": "buffer.go", "rust": "buffer.rs"}
+SOURCES = {"c": "buffer.c", "c++": "buffer.cc", "python": "buffer.py", "java": "Buffer.java", "go": "buffer.go",
+           "rust": "buffer.rs"}
 
 
 def places_of(path: str) -> list[str]:
@@ -64,8 +72,8 @@ def misplaced(language: str, path: str) -> str:
 
 
 def misexplained(path: str, explained: list[str]) -> str:
-    """The first line that an explanation names with other words, or with another place than the file beside the log has; or nothing.
-    If it tells what is wrong it has to name one."""
+    """The first line that an explanation names with other words, or with another place than the file beside the log
+    has; or nothing. If it tells what is wrong it has to name one."""
     lines, places = lines_of(path), places_of(path)
     named = [found.groups() for found in map(NAMED.match, explained) if found]
     since = [(found[1], lines[int(found[1]) - 2], found[2]) for found in map(SINCE.fullmatch, explained) if found]

@@ -3,9 +3,10 @@
 
     differential.py LIBRARY REFERENCE MONK [SCRIPTS [SEED]]
 
-LIBRARY and REFERENCE are script.c, linked with the one and with the other: both must print the same answers and the same history.
-MONK plays the same calls as atomic steps, and must print that history too, and audit it `legal`. Behind these come as many scripts in
-which seats are abandoned and taken again. What such a seat does then is no call, so MONK audits their histories alone."""
+LIBRARY and REFERENCE are script.c, linked with the one and with the other: both must print the same answers and the
+same history. MONK plays the same calls as atomic steps, and must print that history too, and audit it `legal`. Behind
+these come as many scripts in which seats are abandoned and taken again. What such a seat does then is no call, so MONK
+audits their histories alone."""
 import concurrent.futures
 import os
 import random
@@ -23,7 +24,8 @@ NON_BLOCKING = ("PNB", "NPNB")
 WISHES = ("entry", "waiter", "signaller", "any")
 MOST_FLAGS = 5
 LONGEST = 200
-# How often a call is one that is probably taken: mostly, but misuse has to come too. And how often it is of the seat that is inside.
+# How often a call is one that is probably taken: mostly, but misuse has to come too. And how often it is of the seat
+# that is inside.
 LIKELY, BUSY = 0.93, 0.5
 # How often a seat is abandoned, and how often one is taken again, in a script that has such seats.
 ABANDON, TAKE = 0.08, 0.12
@@ -38,7 +40,8 @@ def shape_at_random(kind: str, dice: random.Random) -> Shape:
 
 
 class Guess:
-    """Where the seats probably stand, so that most calls are taken: whoever polls comes in where nobody is known to be inside."""
+    """Where the seats probably stand, so that most calls are taken: whoever polls comes in where nobody is known to be
+    inside."""
 
     def __init__(self, seats: int) -> None:
         self.outside, self.inside = set(range(seats)), -1
@@ -76,7 +79,8 @@ class Guess:
 
 
 def inside_names(kind: str) -> list[str]:
-    names = ["leave", "wish", "set", "left"] + (["until", "until"] if kind in AUTOMATIC else ["wait", "wait", "waiting"])
+    names = ["leave", "wish", "set", "left"] + (["until", "until"] if kind in AUTOMATIC
+                                                else ["wait", "wait", "waiting"])
     names += ["signal-leave", "signal-wait"] if kind in IMMEDIATE else [] if kind in AUTOMATIC else ["signal", "signal"]
     return names + (["signal-all"] if kind in NON_BLOCKING else [])
 
@@ -90,7 +94,8 @@ def call_at_random(shape: Shape, seats: int, guess: Guess, dice: random.Random) 
     every: dict[str, tuple[int, ...]] = {
         "arrive": (), "poll": (), "leave": (), "wait": (condition,), "signal": (condition,), "signal-all": (condition,),
         "signal-leave": (condition,), "signal-wait": (condition, other), "until": (flag,),
-        "set": (dice.randrange(1 << flags) if flags else 1,), "wish": (dice.randrange(3),), "waiting": (condition,), "left": (),
+        "set": (dice.randrange(1 << flags) if flags else 1,), "wish": (dice.randrange(3),), "waiting": (condition,),
+        "left": (),
     }
     name = dice.choice(guess.names(seat, kind) if dice.random() < LIKELY else list(every))
     guess.note(seat, name)
@@ -106,7 +111,8 @@ def next_at_random(shape: Shape, seats: int, guess: Guess, dice: random.Random, 
 
 
 def script_at_random(kind: str, dice: random.Random, has_abandoned: bool) -> tuple[Shape, list[Call]]:
-    """The last seat is spared for the end: then each seat comes in that can, so that somebody is inside and can read the history."""
+    """The last seat is spared for the end: then each seat comes in that can, so that somebody is inside and can read
+    the history."""
     shape = shape_at_random(kind, dice)
     spare = shape[1] - 1
     guess = Guess(spare)

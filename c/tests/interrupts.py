@@ -1,4 +1,5 @@
-"""The library for Python under interrupts: wherever one comes, no seat is left inside, every seat comes back, and other threads go on.
+"""The library for Python under interrupts: wherever one comes, no seat is left inside, every seat comes back, and other
+threads go on.
 
 test_monk.py runs these tests."""
 
@@ -30,7 +31,8 @@ def interrupt(*_: object) -> None:
 
 
 class AtCall:
-    """Raises an interrupt in the calling thread where a function of the package begins: the first that is called, the second and so on."""
+    """Raises an interrupt in the calling thread where a function of the package begins: the first that is called, the
+    second and so on."""
 
     def __init__(self, number: int) -> None:
         self.left = number
@@ -62,7 +64,8 @@ class Interrupts(unittest.TestCase):
         sys.unraisablehook = lambda _: None
 
     def interrupted(self, visit: Callable[[], object], then: Callable[[], object], times: int = INTERRUPTS) -> None:
-        """Interrupts visits that often, each time at another moment. Python drops an interrupt at the beginning of a finalizer."""
+        """Interrupts visits that often, each time at another moment. Python drops an interrupt at the beginning of a
+        finalizer."""
         moments, seen = random.Random(1), 0
         for _ in range(times):
             try:
@@ -93,7 +96,8 @@ class Interrupts(unittest.TestCase):
     def test_at_any_moment_of_a_visit(self) -> None:
         monitor = monk.Monitor("PNB", seats=3, conditions=1, budget=1 << 20)
         own = monitor.seat()
-        visits = {"monitor": lambda: monitor, "condition": lambda: monitor.condition(0), "own": lambda: monk.inside(own)}
+        visits = {"monitor": lambda: monitor, "condition": lambda: monitor.condition(0),
+                  "own": lambda: monk.inside(own)}
         for name, lock in visits.items():
 
             def visit(lock: Callable[[], Any] = lock) -> None:

@@ -1,4 +1,5 @@
-"""The looks of the library for Python at a run: the history is what the calls made of it, however often somebody looks. And what the program `monk` says of it.
+"""The looks of the library for Python at a run: the history is what the calls made of it, however often somebody looks.
+And what the program `monk` says of it.
 
 test_monk.py runs these tests."""
 
@@ -31,7 +32,8 @@ class Run:
     def __init__(self, kind: str) -> None:
         self.monitor, self.is_full, self.kind = made(kind, CREW + 1), False, kind
         self.line, self.ends = threading.Barrier(CREW + 1), threading.Event()
-        self.crew = [threading.Thread(target=self.visits, args=[number % 2 == 0], daemon=True) for number in range(CREW)]
+        self.crew = [threading.Thread(target=self.visits, args=[number % 2 == 0], daemon=True)
+                     for number in range(CREW)]
 
     def say(self) -> None:
         if self.kind in AUTOMATIC:
@@ -75,7 +77,8 @@ class Looks(unittest.TestCase):
                 self.assertEqual(monitor.history().splitlines()[1:], ["enter 0 free", "leave 0 entry"])
                 self.assertEqual([monitor.audit() for _ in range(3)], 3 * ["legal 2\n"])
                 with monitor:
-                    self.assertEqual(monitor.history().splitlines()[1:], ["enter 0 free", "leave 0 entry", "enter 0 free"])
+                    self.assertEqual(monitor.history().splitlines()[1:],
+                                     ["enter 0 free", "leave 0 entry", "enter 0 free"])
                 self.assertEqual(monitor.here.left, 65536 - 4)
                 monitor.close()
                 # The visit that closes it is one of the user's calls.
@@ -93,7 +96,8 @@ class Looks(unittest.TestCase):
                     self.assertTrue(monk.ask("audit", history).startswith("legal "))
 
     def test_whom_a_look_chose(self) -> None:
-        """A look that comes in between a signal and whom it served: the release before it is told to have chosen that seat."""
+        """A look that comes in between a signal and whom it served: the release before it is told to have chosen that
+        seat."""
         monitor = made("NPNB", 4)
         served, signaller = monitor.seat(), monitor.seat()
         served.enter()
@@ -118,7 +122,8 @@ class Looks(unittest.TestCase):
             ("enter 0 free\nleave 0 entry\nenter 3 free\n", [3], "enter 0 free\nleave 0 entry\n"),
             ("enter 0 free\nleave 0 entry\n", [3], "enter 0 free\nleave 0 entry\n"),
             ("enter 0 free\nwait 0 0 entry\nenter 1 free\nsignal 1 0 stay\nleave 1 entry\nenter 3 handed\nleave 3 entry\nenter 2 handed\n"
-             "leave 2 waiter 0\nresume 0 waiter\n", [6, 8], "enter 0 free\nwait 0 0 entry\nenter 1 free\nsignal 1 0 stay\nleave 1 waiter 0\n"
+             "leave 2 waiter 0\nresume 0 waiter\n", [6, 8],
+             "enter 0 free\nwait 0 0 entry\nenter 1 free\nsignal 1 0 stay\nleave 1 waiter 0\n"
              "resume 0 waiter\n"),
         ):
             with self.subTest(text):
@@ -144,8 +149,10 @@ class Programs(unittest.TestCase):
         self.assertEqual(self.asked("echo forbidden 1 3 turn; echo a hint >&2; exit 1\n"), "forbidden 1 3 turn\n")
 
     def test_a_failure(self) -> None:
-        for script, words in (("echo memory >&2; exit 4\n", "memory"), ("echo unreadable 1 1 header; exit 2\n", "unreadable 1 1 header"),
-                              ("exit 3\n", "monk audit ended with status 3"), ("kill -9 $$\n", "monk audit ended with status -9")):
+        for script, words in (("echo memory >&2; exit 4\n", "memory"),
+                              ("echo unreadable 1 1 header; exit 2\n", "unreadable 1 1 header"),
+                              ("exit 3\n", "monk audit ended with status 3"),
+                              ("kill -9 $$\n", "monk audit ended with status -9")):
             with self.subTest(words), self.assertRaises(monk.MonkError) as refused:
                 self.asked(script)
             self.assertEqual(str(refused.exception), words)

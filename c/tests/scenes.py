@@ -79,7 +79,8 @@ class Scenes(unittest.TestCase):
         self.assertEqual(play(compare_buffer.buffer, "NPNB", run.schedule), run)
         self.assertEqual(run.audit(), "legal 8\n")
         data = run.page_data()
-        self.assertEqual((data["data"][0], data["data"][4:7], len(data["data"])), ("items = []", 3 * ["items = ['tea']"], 9))
+        self.assertEqual((data["data"][0], data["data"][4:7], len(data["data"])),
+                         ("items = []", 3 * ["items = ['tea']"], 9))
         self.assertEqual(data["end"], f"Then {run.fault}.")
 
     def test_plain_functions(self) -> None:
@@ -113,7 +114,8 @@ class Scenes(unittest.TestCase):
             return [of("a guest"), of("guest"), of("guest"), of("guest1")]
         finding = compare(scene, ["PNB"], orders=5)["PNB"]
         self.assertEqual((finding.outcome, finding.runs), ("stuck", 5))
-        self.assertRegex(finding.example.fault, r"^nobody can go on: a_guest\.1 waits on gate, guest\.2 waits on gate, ")
+        self.assertRegex(finding.example.fault,
+                         r"^nobody can go on: a_guest\.1 waits on gate, guest\.2 waits on gate, ")
 
     def test_a_plain_function_that_ends_the_process(self) -> None:
         def scene() -> List[Any]:
@@ -173,11 +175,14 @@ class Scenes(unittest.TestCase):
     def test_programs_that_are_wrong(self) -> None:
         for scene, kind, words in (
             (alone(enter()), "PB", r"one: ends inside: there is no leave \(line \d+: its beginning\)"),
-            (alone(enter(), 7), "PB", r"one: yields 7 in line \d+, which is no call: write `yield enter\(\)` and the like"),
+            (alone(enter(), 7), "PB",
+             r"one: yields 7 in line \d+, which is no call: write `yield enter\(\)` and the like"),
             (alone(leave()), "PB", r"one: leave by seat 0 \(one\): the seat is outside: it never came in, or has left"),
             (alone(enter(), signal_all("gate"), leave()), "PB", r"one: PB has no signal_all \(gate\)"),
-            (alone(enter(), wait("gate"), leave()), "PIS", r"one: PIS has no signals: write wait\('gate', lambda: ..\) in line \d+"),
-            (alone(enter(), signal("a"), signal("a")), "PIR", "one: signal_leave.a. by seat 0 .one.: the seat is outside, since its signal"),
+            (alone(enter(), wait("gate"), leave()), "PIS",
+             r"one: PIS has no signals: write wait\('gate', lambda: ..\) in line \d+"),
+            (alone(enter(), signal("a"), signal("a")), "PIR",
+             "one: signal_leave.a. by seat 0 .one.: the seat is outside, since its signal"),
         ):
             with self.subTest(words):
                 self.assertRegex(play(scene, kind).fault, f"^{words}")
@@ -191,15 +196,18 @@ class Scenes(unittest.TestCase):
                 items.append("tea")
                 yield leave()
             return [putter]
-        self.assertRegex(play(scene, "NPIR").fault, r"^putter: changes the data before line \d+, after its signal, which was the way out")
+        self.assertRegex(play(scene, "NPIR").fault,
+                         r"^putter: changes the data before line \d+, after its signal, which was the way out")
         self.assertEqual(play(scene, "NPNB").outcome, "right")
 
     def test_what_has_to_hold(self) -> None:
         def fails() -> None:
             assert False, "as it should"
-        for scene, words in ((Scene(alone(enter(), leave())(), invariant=lambda: False), "one: the invariant doesn't hold"),
+        for scene, words in ((Scene(alone(enter(), leave())(), invariant=lambda: False),
+                              "one: the invariant doesn't hold"),
                              (Scene(alone(enter(), leave())(), invariant=fails), "one: the invariant: as it should"),
-                             (Scene(alone(enter(), leave())(), end=lambda: 1 / 0), "the end: ZeroDivisionError: division by zero"),
+                             (Scene(alone(enter(), leave())(), end=lambda: 1 / 0),
+                              "the end: ZeroDivisionError: division by zero"),
                              (Scene(alone(enter(), leave())(), end=lambda: []), "the end doesn't hold")):
             with self.subTest(words):
                 self.assertEqual(play(functools.partial(same, scene), "PB").fault, words)
@@ -225,7 +233,8 @@ class Scenes(unittest.TestCase):
         def wants_more(item: str) -> Any:
             yield enter()
         more: List[Any] = [wants_more]
-        self.refused(r"wants_more.*missing 1 .*'item' \(line \d+\): a program takes no arguments", lambda: compare(lambda: more))
+        self.refused(r"wants_more.*missing 1 .*'item' \(line \d+\): a program takes no arguments",
+                     lambda: compare(lambda: more))
         calls = [call for number in range(9) for call in (signal(f"condition {number}"),)]
         self.refused(r"^one, line \d+: 'condition 8' is one condition too many: a monitor has 8, condition 0, ",
                      lambda: compare(alone(enter(), *calls, leave())))
@@ -246,4 +255,5 @@ class Scenes(unittest.TestCase):
     def test_a_page_in_a_notebook(self) -> None:
         found = compare(compare_buffer.buffer, ["PB", "NPNB"])
         self.assertIn("<td style='color:#b42318;text-align:left'>wrong</td>", found._repr_html_())
-        self.assertIn("taker   went on", found["NPNB"].example._repr_html_().replace("taker went on", "taker   went on"))
+        self.assertIn("taker   went on",
+                      found["NPNB"].example._repr_html_().replace("taker went on", "taker   went on"))

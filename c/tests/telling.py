@@ -63,7 +63,8 @@ class Telling(unittest.TestCase):
         with monitor:
             item.notify()
         self.assertIn(" PB 2 2 flags 1\n", monitor.history())
-        self.refused(monk.NotNow, "a condition is asked for before the monitor is first used", lambda: monitor.condition("late"))
+        self.refused(monk.NotNow, "a condition is asked for before the monitor is first used",
+                     lambda: monitor.condition("late"))
         with self.assertRaises(monk.OutOfRange):
             monk.Monitor("PB", conditions=0).condition()
         self.assertEqual(int(monk.Monitor("PIS").flag()), 0)
@@ -72,7 +73,8 @@ class Telling(unittest.TestCase):
         monitor = monk.Monitor("PIR", seats=2, budget=10)
         arrived = monitor.condition("arrived")
         who = f"by seat 0 ({threading.current_thread().name})"
-        self.refused(monk.NotNow, f"wait(arrived) {who}: the seat is outside: come in first, by `with monitor:`", arrived.wait)
+        self.refused(monk.NotNow, f"wait(arrived) {who}: the seat is outside: come in first, by `with monitor:`",
+                     arrived.wait)
         with monitor:
             self.refused(monk.NotNow, f"enter {who}: the seat is inside: leave first", monitor.acquire)
             self.refused(monk.NotOfKind, "wait(timeout=1): a condition has no time limit", lambda: arrived.wait(1))
@@ -124,7 +126,8 @@ class Telling(unittest.TestCase):
         def host() -> None:
             has_begun.wait()
             with monitor:
-                self.assertRegex(monitor.who(), r"^  seat 0 \(guest\): waits on condition tea, for \d+\.\d s\n  seat 1 \(host\): inside$")
+                self.assertRegex(monitor.who(),
+                                 r"^  seat 0 \(guest\): waits on condition tea, for \d+\.\d s\n  seat 1 \(host\): inside$")
                 monitor.stop()
 
         run(guest, host)
@@ -150,7 +153,8 @@ class Telling(unittest.TestCase):
         with contextlib.redirect_stderr(told):
             run(guest, host)
         self.assertEqual(sorted(stopped), [0, 1])
-        self.assertRegex(told.getvalue(), r"^monk: seat \d \((guest|host)\) has waited for 0.3 s in a monitor of kind PB\n")
+        self.assertRegex(told.getvalue(),
+                         r"^monk: seat \d \((guest|host)\) has waited for 0.3 s in a monitor of kind PB\n")
         self.assertEqual(told.getvalue().count("Each seat that is taken waits, so nobody can go on"), 1)
 
     def test_a_run_in_which_somebody_can_go_on(self) -> None:
@@ -200,7 +204,8 @@ class Telling(unittest.TestCase):
 
     def test_pictures(self) -> None:
         """The picture of text is the one that the program draws, of each legal example."""
-        legal = list(filter(is_legal, (path.read_text(encoding="ascii") for path in sorted(EXAMPLES.glob("*.history")))))
+        legal = list(filter(is_legal,
+                            (path.read_text(encoding="ascii") for path in sorted(EXAMPLES.glob("*.history")))))
         for text in legal:
             for width, words in LAYOUTS:
                 drawn = ask("draw", text, "--text", "--width", str(width), *words)

@@ -1,5 +1,6 @@
-"""The library for Python: every kind, seats that come back, exceptions inside a visit, a run that hangs, many threads, threads that end inside, numbers
-out of range, the child of a fork, looks at a run (looks.py), what is told (telling.py), interrupts (interrupts.py) and scenes (scenes.py).
+"""The library for Python: every kind, seats that come back, exceptions inside a visit, a run that hangs, many threads,
+threads that end inside, numbers out of range, the child of a fork, looks at a run (looks.py), what is told
+(telling.py), interrupts (interrupts.py) and scenes (scenes.py).
 
 MONK_LIBRARY names the library that is tried, and MONK the program that audits."""
 
@@ -129,7 +130,8 @@ class Refusals(unittest.TestCase):
         self.assertRaises(monk.Closed, monitor.close)
 
     def test_of_making(self) -> None:
-        for words in ({"kind": "HOARE"}, {"kind": "PB", "seats": 33}, {"kind": "PB", "seats": 0}, {"kind": "PB", "conditions": 9},
+        for words in ({"kind": "HOARE"}, {"kind": "PB", "seats": 33}, {"kind": "PB", "seats": 0},
+                      {"kind": "PB", "conditions": 9},
                       {"kind": "PB", "seats": -1}, {"kind": "PB", "wish": "best"}):
             self.assertRaises(monk.OutOfRange, lambda words=words: monk.Monitor(**words))
 
@@ -175,9 +177,12 @@ class Refusals(unittest.TestCase):
             self.assertEqual(seat.place, "inside")
 
     def test_shapes_that_c_would_wrap(self) -> None:
-        for name, value, span in (("seats", 2**32 + 2, "1 to 32"), ("conditions", 2**32, "0 to 8"), ("flags", 2**32 + 1, "0 to 32"),
-                                  ("budget", 2**32 + 4, "2 to 1048576, or 0 for 65536"), ("budget", 1, "2 to 1048576, or 0 for 65536"),
-                                  ("seed", 2**64, "0 to 18446744073709551615"), ("seed", -1, "0 to 18446744073709551615")):
+        for name, value, span in (("seats", 2**32 + 2, "1 to 32"), ("conditions", 2**32, "0 to 8"),
+                                  ("flags", 2**32 + 1, "0 to 32"),
+                                  ("budget", 2**32 + 4, "2 to 1048576, or 0 for 65536"),
+                                  ("budget", 1, "2 to 1048576, or 0 for 65536"),
+                                  ("seed", 2**64, "0 to 18446744073709551615"),
+                                  ("seed", -1, "0 to 18446744073709551615")):
             with self.subTest(name), self.assertRaises(monk.OutOfRange) as refused:
                 monk.Monitor("PB", **{name: value})
             self.assertEqual(str(refused.exception), f"Monitor({name}={value}): {name} is {span}")
@@ -190,8 +195,10 @@ class Refusals(unittest.TestCase):
         self.assertRaises(monk.Spent, monitor.acquire)
 
     def test_a_library_that_is_not_there(self) -> None:
-        done = subprocess.run([sys.executable, "-c", "import monk"], env={**os.environ, "MONK_LIBRARY": "/none/libmonk.so",
-                              "PYTHONPATH": os.path.join(os.path.dirname(HERE), "python")}, capture_output=True, text=True)
+        done = subprocess.run([sys.executable, "-c", "import monk"],
+                              env={**os.environ, "MONK_LIBRARY": "/none/libmonk.so",
+                                   "PYTHONPATH": os.path.join(os.path.dirname(HERE), "python")},
+                              capture_output=True, text=True)
         self.assertIn("MONK_LIBRARY (/none/libmonk.so)", done.stderr)
 
 

@@ -27,7 +27,8 @@ class Browser:
         words = ["chromium", *FLAGS, f"--user-data-dir={self.folder}", "about:blank"]
         # the shell puts the pipe's ends where the browser looks for them
         shell = f'exec "$@" {FROM_US}<&{read} {TO_US}>&{write}'
-        quiet: dict[str, Any] = {"stdin": subprocess.DEVNULL, "stdout": subprocess.DEVNULL, "stderr": subprocess.DEVNULL}
+        quiet: dict[str, Any] = {"stdin": subprocess.DEVNULL, "stdout": subprocess.DEVNULL,
+                                 "stderr": subprocess.DEVNULL}
         self.process = subprocess.Popen(["bash", "-c", shell, "browser", *words], pass_fds=[read, write], **quiet)
         os.close(read)
         os.close(write)
@@ -42,7 +43,8 @@ class Browser:
     def __enter__(self) -> "Browser":
         return self
 
-    def __exit__(self, kind: type[BaseException] | None, error: BaseException | None, trace: TracebackType | None) -> None:
+    def __exit__(self, kind: type[BaseException] | None, error: BaseException | None,
+                 trace: TracebackType | None) -> None:
         self.process.terminate()
         self.process.wait()
         os.close(self.write)

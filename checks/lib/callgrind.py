@@ -15,7 +15,8 @@ def is_there() -> bool:
 
 def run(words: List[str]) -> Tuple[int, str]:
     """The instructions of a run, and what it printed. Its exit status is its own affair."""
-    done = subprocess.run(["valgrind", "--tool=callgrind", "--callgrind-out-file=/dev/null", *words], capture_output=True, text=True, check=False)
+    done = subprocess.run(["valgrind", "--tool=callgrind", "--callgrind-out-file=/dev/null", *words],
+                          capture_output=True, text=True, check=False)
     collected = COLLECTED.search(done.stderr)
     if collected is None:
         raise RuntimeError(f"valgrind counted nothing of {' '.join(words)}: {done.stderr.strip()}")

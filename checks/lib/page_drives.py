@@ -57,7 +57,8 @@ class Drive:
         for step in range(self.first, self.last + 1):
             for number, it in enumerate(self.histories):
                 found = self.said(number)["hidden"]
-                self.must(f"history {number}, hiding at {step}", [] if found == it.marks_behind(step) else [f"hidden are {found}"])
+                self.must(f"history {number}, hiding at {step}", [] if found == it.marks_behind(step)
+                          else [f"hidden are {found}"])
             self.browser.press("ArrowRight")
 
     def ask(self) -> None:
@@ -93,7 +94,8 @@ class Drive:
         self.browser.press(str(index + 1))
         is_right, told = guesses[index] in allowed, self.said(number)["answer"]
         found += [] if told.startswith("Right" if is_right else "Not ") else [f"{told} of {guesses[index]}"]
-        found += [] if (told == "Right.") == (is_right and guesses[index] == took) else [f"{told} of {guesses[index]}, and it was {took}"]
+        is_told_right = (told == "Right.") == (is_right and guesses[index] == took)
+        found += [] if is_told_right else [f"{told} of {guesses[index]}, and it was {took}"]
         self.must(f"history {number}, question at {step}", found)
         return is_right
 
@@ -105,7 +107,8 @@ class Drive:
         for key in ("?", "?", "t", "t", "f", "f", "h", "h"):
             self.at(step, key)
         self.at(self.first, "Home")
-        refused = [number for number in range(it.first + 1, it.last + 1) if it.is_bad(number) or is_refused(it.event(number))]
+        refused = [number for number in range(it.first + 1, it.last + 1) if it.is_bad(number)
+                   or is_refused(it.event(number))]
         for step in refused:
             self.at(step, "r")
         if refused:

@@ -1,4 +1,5 @@
-"""What a page shows, read in the browser, and what it must show: by `monk explain` of a history, by the page's data of a log."""
+"""What a page shows, read in the browser, and what it must show: by `monk explain` of a history, by the page's data of
+a log."""
 import json
 import re
 import subprocess

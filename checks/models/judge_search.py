@@ -1,5 +1,6 @@
-"""A search over all runs of a mutex with condition variables that tell a log. It branches where a log doesn't tell: whom a signal wakes,
-when a wait runs out, and when a thread wakes though nobody sent a signal. It shares nothing with monk."""
+"""A search over all runs of a mutex with condition variables that tell a log. It branches where a log doesn't tell:
+whom a signal wakes, when a wait runs out, and when a thread wakes though nobody sent a signal. It shares nothing with
+monk."""
 from functools import lru_cache
 from typing import NamedTuple
 
@@ -33,7 +34,8 @@ class State(NamedTuple):
 
 
 class Answer(NamedTuple):
-    """The misfit's line in the file, how many woke unasked, the first line that needs it, and who holds the lock since which line."""
+    """The misfit's line in the file, how many woke unasked, the first line that needs it, and who holds the lock since
+    which line."""
 
     misfit: int | None
     unasked: int
@@ -52,9 +54,11 @@ def moved(x: State, lock: int | None, there: dict[int, Place]) -> State:
 def after(setting: Setting, x: State, step: Step, whom: int | None = None) -> State | None:
     """The state behind the step, whose signal wakes that thread; None if it may not happen."""
     verb, seat, rest = step
-    if seat >= setting.seats or verb in ("wait", "signal", "broadcast") and rest[0] >= setting.conds or whom is not None and verb != "signal":
+    is_beyond = seat >= setting.seats or verb in ("wait", "signal", "broadcast") and rest[0] >= setting.conds
+    if is_beyond or whom is not None and verb != "signal":
         return None
-    place, asleep = x.places[seat], [other for other, there in enumerate(x.places) if there == ("waiting", rest[0] if rest else -1)]
+    place, asleep = x.places[seat], [other for other, there in enumerate(x.places)
+                                     if there == ("waiting", rest[0] if rest else -1)]
     if verb in TAKES:
         return moved(x, seat, {seat: ACTIVE}) if x.lock is None and place[0] == TAKES[verb] else None
     if verb in SILENT:

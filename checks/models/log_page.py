@@ -1,4 +1,5 @@
-"""What must hold of the data of a log's page, by models/judge_search.py: each step may happen where it stands, and leads where it says."""
+"""What must hold of the data of a log's page, by models/judge_search.py: each step may happen where it stands, and
+leads where it says."""
 from typing import Any
 
 from judge_search import SILENT, Setting, State, after, opening, step_of

@@ -1,6 +1,8 @@
-/* A bounded buffer, 2 putters and 2 takers, for all ten kinds.   buffer [-k KIND] .. if | while | if-broadcast |
- * while-broadcast `if` trusts the signal; `while` tests again. Prints how often a thread came back to a buffer that
- * wasn't as told. */
+/* A bounded buffer, 2 putters and 2 takers, for all ten kinds.
+ *
+ *     buffer [-k KIND] .. if | while | if-broadcast | while-broadcast
+ *
+ * `if` trusts the signal; `while` tests again. Prints how often a thread came back to a buffer that wasn't as told. */
 #include "common.h"
 
 enum { NOT_FULL, NOT_EMPTY, CONDITIONS, SIZE = 1, PUTTERS = 2, TAKERS = 2 };

@@ -1,5 +1,6 @@
-// A barber and four customers, with three seats to wait on, under each of the ten kinds.    barber [KIND [WISH [ROUNDS
-// [FILE]]]]
+// A barber and four customers, with three seats to wait on, under each of the ten kinds.
+//
+//     barber [KIND [WISH [ROUNDS [FILE]]]]
 #include "shared.hpp"
 
 namespace {

@@ -1,5 +1,6 @@
-// A bounded buffer of one place, two threads that put and two that take, under each of the ten kinds.    buffer [KIND
-// [WISH [ROUNDS [FILE]]]]
+// A bounded buffer of one place, two threads that put and two that take, under each of the ten kinds.
+//
+//     buffer [KIND [WISH [ROUNDS [FILE]]]]
 #include "shared.hpp"
 
 namespace {

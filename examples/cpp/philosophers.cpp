@@ -1,5 +1,6 @@
-// Five dining philosophers, under each of the ten kinds; queue n is philosopher n's.    philosophers [KIND [WISH
-// [ROUNDS [FILE]]]]
+// Five dining philosophers, under each of the ten kinds; queue n is philosopher n's.
+//
+//     philosophers [KIND [WISH [ROUNDS [FILE]]]]
 #include "shared.hpp"
 #include <array>
 

@@ -1,4 +1,6 @@
-// Readers and writers: three read and two write, under each of the ten kinds.    readers [KIND [WISH [ROUNDS [FILE]]]]
+// Readers and writers: three read and two write, under each of the ten kinds.
+//
+//     readers [KIND [WISH [ROUNDS [FILE]]]]
 #include "shared.hpp"
 
 namespace {

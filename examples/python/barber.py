@@ -1,4 +1,6 @@
-"""A barber and four customers, with three seats to wait on, under each of the ten kinds.    barber.py [KIND [WISH [ROUNDS [FILE]]]]"""
+"""A barber and four customers, with three seats to wait on, under each of the ten kinds.
+
+    barber.py [KIND [WISH [ROUNDS [FILE]]]]"""
 
 from __future__ import annotations
 
@@ -16,7 +18,8 @@ class Shop:
         self.rounds, self.sitting, self.chair, self.cuts = rounds, 0, EMPTY, 0
 
     def may(self, queue: int) -> bool:
-        return {SEAT_FREE: self.sitting < SEATS, CUSTOMER: self.sitting > 0 and self.chair == EMPTY, CUT_DONE: self.chair == DONE}[queue]
+        return {SEAT_FREE: self.sitting < SEATS, CUSTOMER: self.sitting > 0 and self.chair == EMPTY,
+                CUT_DONE: self.chair == DONE}[queue]
 
     def come(self) -> None:
         for _ in range(self.rounds):

@@ -1,4 +1,6 @@
-"""A one-lane bridge that bears three cars, three cars on each side, under each of the ten kinds.   bridge.py [KIND [WISH [ROUNDS [FILE]]]]"""
+"""A one-lane bridge that bears three cars, three cars on each side, under each of the ten kinds.
+
+    bridge.py [KIND [WISH [ROUNDS [FILE]]]]"""
 
 from __future__ import annotations
 

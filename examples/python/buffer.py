@@ -2,8 +2,8 @@
 
     buffer.py [KIND [if | while [WISH [ROUNDS [FILE]]]]]
 
-With `while` a thread that was woken tests again; with `if` it trusts the signal. Says how often that was wrong. A thread that was wrong
-passes the signal on and comes again, so that every item arrives all the same."""
+With `while` a thread that was woken tests again; with `if` it trusts the signal. Says how often that was wrong. A
+thread that was wrong passes the signal on and comes again, so that every item arrives all the same."""
 
 from __future__ import annotations
 
@@ -27,7 +27,8 @@ class Buffer:
 
     def __init__(self, kind: str, again: bool, wish: str, rounds: int, seed: int = 1) -> None:
         self.is_automatic = kind in ("PIS", "NPIS")
-        self.monitor = monk.Monitor(kind, seats=PUTTERS + TAKERS, conditions=0 if self.is_automatic else QUEUES, flags=QUEUES,
+        self.monitor = monk.Monitor(kind, seats=PUTTERS + TAKERS, conditions=0 if self.is_automatic else QUEUES,
+                                    flags=QUEUES,
                                     budget=rounds * EVENTS_OF_A_VISIT + 100, wish=wish, seed=seed)
         self.items: list[int] = []
         self.again, self.wrong = again, 0
@@ -48,7 +49,8 @@ class Buffer:
         return self.may(queue)
 
     def visit(self, queue: int, work: Callable[[], None]) -> bool:
-        """Waits until the queue's test holds, works, and lets one of the other queue go on; False if it had been woken for nothing."""
+        """Waits until the queue's test holds, works, and lets one of the other queue go on; False if it had been woken
+        for nothing."""
         with self.monitor:
             self.say()
             time.sleep(0)

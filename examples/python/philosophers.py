@@ -1,4 +1,6 @@
-"""Five dining philosophers, under each of the ten kinds; queue n is philosopher n's.    philosophers.py [KIND [WISH [ROUNDS [FILE]]]]"""
+"""Five dining philosophers, under each of the ten kinds; queue n is philosopher n's.
+
+    philosophers.py [KIND [WISH [ROUNDS [FILE]]]]"""
 
 from __future__ import annotations
 

@@ -1,4 +1,6 @@
-"""Readers and writers: three read and two write, under each of the ten kinds.    readers.py [KIND [WISH [ROUNDS [FILE]]]]"""
+"""Readers and writers: three read and two write, under each of the ten kinds.
+
+    readers.py [KIND [WISH [ROUNDS [FILE]]]]"""
 
 from __future__ import annotations
 

@@ -1,4 +1,5 @@
-"""What the examples share: a monitor for code that runs under all ten kinds, a thread for each worker, and the end of a run."""
+"""What the examples share: a monitor for code that runs under all ten kinds, a thread for each worker, and the end of a
+run."""
 
 from __future__ import annotations
 
@@ -12,11 +13,14 @@ EVENTS_OF_A_ROUND = 200
 
 
 class Program:
-    """A monitor with so many queues: conditions, or under an automatic kind flags. `may(n)` says whether one of queue n may go on."""
+    """A monitor with so many queues: conditions, or under an automatic kind flags. `may(n)` says whether one of queue n
+    may go on."""
 
-    def __init__(self, kind: str, queues: int, threads: int, rounds: int, wish: str, may: Callable[[int], bool]) -> None:
+    def __init__(self, kind: str, queues: int, threads: int, rounds: int, wish: str,
+                 may: Callable[[int], bool]) -> None:
         self.is_automatic = kind in ("PIS", "NPIS")
-        self.monitor = monk.Monitor(kind, seats=threads, conditions=0 if self.is_automatic else queues, flags=queues, wish=wish,
+        self.monitor = monk.Monitor(kind, seats=threads, conditions=0 if self.is_automatic else queues, flags=queues,
+                                    wish=wish,
                                     budget=rounds * EVENTS_OF_A_ROUND + 100, seed=1)
         self.queues, self.may, self.wrong = queues, may, 0
 

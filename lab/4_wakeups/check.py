@@ -39,7 +39,8 @@ SCENES = {"late_work": put_and_take, "early_signal": gate_with(1), "one_signal":
 
 def checks(answer: Any) -> List[Check]:
     scenes = SCENES.items()
-    wrong = [breaks(f"{name}: where it goes wrong", made(getattr(given, name)), answer.WRONG[name]) for name, made in scenes]
+    wrong = [breaks(f"{name}: where it goes wrong", made(getattr(given, name)), answer.WRONG[name])
+             for name, made in scenes]
     return wrong + [holds(f"{name}: mended, under every kind", made(getattr(answer, name))) for name, made in scenes]
 
 

@@ -6,7 +6,8 @@ from __future__ import annotations
 from typing import Dict, List, NamedTuple, Optional, Sequence, Tuple
 
 ACTS = {("buffer", "0"): "put", ("buffer", "1"): "take",
-        ("book", "0"): "start read", ("book", "1"): "end read", ("book", "2"): "start write", ("book", "3"): "end write",
+        ("book", "0"): "start read", ("book", "1"): "end read", ("book", "2"): "start write",
+        ("book", "3"): "end write",
         ("shop", "0"): "sit", ("shop", "1"): "call", ("shop", "2"): "finish", ("shop", "3"): "depart"}
 # The word at which the choice of a release begins.
 RELEASES = {"leave": 2, "wait": 3, "signal": 3, "signal-leave": 3, "until": 3, "signal-wait": 4}

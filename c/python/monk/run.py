@@ -56,7 +56,8 @@ class Run(Told):
         return self.conditions
 
     def page_data(self) -> Dict[str, Any]:
-        """What a page shows besides the history: names, the data before the first event and after each, and how it ended."""
+        """What a page shows besides the history: names, the data before the first event and after each, and how it
+        ended."""
         return {**super().page_data(), "data": self.told, "end": f"Then {self.fault}." if self.why else ""}
 
     def _repr_html_(self) -> str:

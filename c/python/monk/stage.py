@@ -273,7 +273,8 @@ class Stage:
         self._test(self.scene.end, "the end", "")
 
     def _blame(self) -> None:
-        """Who came between the signal and the seat that it served. Of a run that is stuck, the signals that found nobody."""
+        """Who came between the signal and the seat that it served. Of a run that is stuck, the signals that found
+        nobody."""
         if self.run.outcome == STUCK:
             self.run.between = self._lost_signals()
             return

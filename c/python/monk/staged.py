@@ -126,8 +126,8 @@ class Threaded:
             raise _Gone
 
     def close(self) -> None:
-        """Ends the program at its call, or at its next one if an interrupt came while it ran. One that makes no call any more
-        is left to its thread."""
+        """Ends the program at its call, or at its next one if an interrupt came while it ran. One that makes no call
+        any more is left to its thread."""
         self.is_gone = True
         if self.is_running and not self.back.acquire(timeout=PATIENCE):
             return

@@ -61,8 +61,8 @@ class Told:
         _write(path, answer)
 
     def save(self, path: str) -> None:
-        """Writes the history into a file, and what `page_data` tells into another beside it, PATH.told, which `monk page`
-        reads."""
+        """Writes the history into a file, and what `page_data` tells into another beside it, PATH.told, which `monk
+        page` reads."""
         _write(path, self._text())
         # a page can hold no `<`
         _write(path + ".told", json.dumps(self.page_data(), indent=1).replace("<", "\\u003c") + "\n")
@@ -72,8 +72,8 @@ class Told:
         return {"seats": _usual(self._names(), "seat"), "conditions": _usual(self._condition_names(), "condition")}
 
     def picture(self, width: Optional[int] = None, is_plain: bool = False) -> str:
-        """The history as a picture of text, in strips as wide as the terminal, or `width` columns wide. If it is plain it
-        is ASCII."""
+        """The history as a picture of text, in strips as wide as the terminal, or `width` columns wide. If it is plain
+        it is ASCII."""
         return picture(self._text(), self._names(), self._condition_names(), width, is_plain)
 
     def _repr_html_(self) -> str:
