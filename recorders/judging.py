@@ -15,7 +15,7 @@ Means = Iterable[Tuple[int, int]]
 class Said:
     """What `monk fit` says of a log."""
 
-    def __init__(self, line: str):
+    def __init__(self, line: str) -> None:
         self.line, self.is_hoare, self.is_suspect = line, False, False
         verdict, *parts = line.split("; ")
         misfit = re.match(r"misfit at \d+: (\w+)", verdict)

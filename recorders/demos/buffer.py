@@ -40,7 +40,7 @@ EVERY = 7
 
 
 class Buffer:
-    def __init__(self, style: str):
+    def __init__(self, style: str) -> None:
         self.recorder = monk_log.Recorder()
         self.lock = self.recorder.lock()
         self.not_full = self.recorder.condition(self.lock)

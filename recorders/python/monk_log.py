@@ -41,7 +41,7 @@ SLOW_WOKEN, TIMES_WOKEN = 0.9, 8
 class Shaker:
     """Lets others go first at random. Each thread has numbers of its own, by the seed and the thread's number."""
 
-    def __init__(self, seed: str):
+    def __init__(self, seed: str) -> None:
         self._seed, self._of_thread, self._numbers = seed, threading.local(), itertools.count()
 
     def __call__(self, is_woken: bool = False) -> None:
@@ -222,7 +222,7 @@ threading_lock, threading_rlock, ThreadingCondition = threading.Lock, threading.
 class Lock:
     """A lock that tells who comes in and leaves. Who has it already comes in but once."""
 
-    def __init__(self, recorder: Recorder, raw: Any):
+    def __init__(self, recorder: Recorder, raw: Any) -> None:
         self.recorder, self._raw, self._owner, self._times = recorder, raw, 0, 0
 
     def acquire(self, blocking: bool = True, timeout: float = -1) -> bool:
@@ -280,7 +280,7 @@ class Condition(threading.Condition):
     _is_owned: Callable[[], bool]
     _waiters: Any
 
-    def __init__(self, recorder: Recorder | None, number: int, lock: Any):
+    def __init__(self, recorder: Recorder | None, number: int, lock: Any) -> None:
         super().__init__(lock)
         self._recorder, self._number = recorder, number
 

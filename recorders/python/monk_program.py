@@ -50,7 +50,7 @@ class Program:
         program = self
 
         class ProgramCondition(Condition):
-            def __init__(self, lock: Any = None):
+            def __init__(self, lock: Any = None) -> None:
                 lock = lock or program.rlock()
                 recorder = lock.recorder if isinstance(lock, Lock) else None
                 if recorder:
