@@ -15,7 +15,7 @@ Means = Iterable[Tuple[int, int]]
 class Said:
     """What `monk fit` says of a log."""
 
-    def __init__(self, line: str):
+    def __init__(self, line: str) -> None:
         self.line, self.is_hoare, self.is_suspect = line, False, False
         verdict, *parts = line.split("; ")
         misfit = re.match(r"misfit at \d+: (\w+)", verdict)
@@ -55,7 +55,8 @@ class Judge:
     """Judges logs, by the program that MONK names, else by that of checks/program."""
 
     def __init__(self) -> None:
-        self.monk = os.environ.get("MONK") or subprocess.check_output([os.path.join(TOP, "checks", "program")], text=True).strip()
+        program = os.path.join(TOP, "checks", "program")
+        self.monk = os.environ.get("MONK") or subprocess.check_output([program], text=True).strip()
 
     def said(self, path: str, means: Means = ()) -> Said:
         return Said(self.asked("fit", *told(means), path).stdout.strip()[len(f"{path}: ") :])

@@ -6,18 +6,22 @@ A monitor's procedure is a generator. It yields its calls, and what stands betwe
 
 The second word of `wait` is the test for the kinds that have no signals."""
 
-from monk import enter, leave, signal, wait
+from types import SimpleNamespace
+from typing import Callable, List, Sequence
+
+from monk import Calls, enter, leave, signal, wait
 
 
-def procedures(box):                     # box.items: a list with at most one item
-    def put(item):
+# box.items: a list with at most one item
+def procedures(box: SimpleNamespace) -> Sequence[Callable[..., Calls]]:
+    def put(item: str) -> Calls:
         yield enter()
         # wait while there is no room
         box.items.append(item)
         # tell a taker
         yield leave()
 
-    def take():
+    def take() -> Calls:
         yield enter()
         # wait while there is no item
         item = box.items.pop()
@@ -29,4 +33,4 @@ def procedures(box):                     # box.items: a list with at most one it
 
 
 # Write `if` for each `while`. Under which kinds does it go wrong then? (["PB", "NPB"] would say: under these two.)
-WRONG_WITH_IF = []
+WRONG_WITH_IF: List[str] = []

@@ -4,8 +4,11 @@ Three programs stand in given.py, each with a mistake. First write down under wh
 each to here, in place of its import, and mend it, so that it goes right under every kind. Change how it waits and
 signals, and not what it does to the data."""
 
+from types import SimpleNamespace
+from typing import Dict, List, Sequence
+
 from given import early_signal, late_work, one_signal
-from monk import enter, leave, signal, wait
+from monk import Calls, Program, enter, leave, signal, wait
 
 # Under which kinds does each of given.py go wrong? (["PB", "NPB"] would say: under these two.)
-WRONG = {"late_work": [], "early_signal": [], "one_signal": []}
+WRONG: Dict[str, List[str]] = {"late_work": [], "early_signal": [], "one_signal": []}

@@ -4,17 +4,19 @@ Choose a thing that programs share: a lock, a car park, a barber, a bank account
 which goes right under every kind; and `slip`, with one slip. The invariant says what has to hold whenever the monitor
 is given up. The slip breaks it under some kinds, and under others it doesn't."""
 
-from monk import Scene, enter, leave, signal, wait
+from typing import List
+
+from monk import Calls, Scene, enter, leave, signal, wait
 
 
-def right():
+def right() -> Scene:
     # data, programs that wait and signal, and an invariant
     return Scene([], invariant=None)
 
 
-def slip():
+def slip() -> Scene:
     return Scene([], invariant=None)
 
 
 # Under which kinds does the slip go wrong?
-WRONG_WITH_SLIP = []
+WRONG_WITH_SLIP: List[str] = []

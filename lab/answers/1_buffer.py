@@ -1,10 +1,13 @@
 """An answer to exercise 1."""
 
-from monk import enter, leave, signal, wait
+from types import SimpleNamespace
+from typing import Callable, Sequence
+
+from monk import Calls, enter, leave, signal, wait
 
 
-def procedures(box):
-    def put(item):
+def procedures(box: SimpleNamespace) -> Sequence[Callable[..., Calls]]:
+    def put(item: str) -> Calls:
         yield enter()
         while box.items:
             yield wait("room", lambda: not box.items)
@@ -12,7 +15,7 @@ def procedures(box):
         yield signal("item")
         yield leave()
 
-    def take():
+    def take() -> Calls:
         yield enter()
         while not box.items:
             yield wait("item", lambda: box.items)

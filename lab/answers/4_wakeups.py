@@ -1,17 +1,20 @@
 """An answer to exercise 4."""
 
-from monk import enter, leave, signal, wait
+from types import SimpleNamespace
+from typing import Sequence
+
+from monk import Calls, Program, enter, leave, signal, wait
 
 
-def late_work(box):
-    def taker():
+def late_work(box: SimpleNamespace) -> Sequence[Program]:
+    def taker() -> Calls:
         yield enter()
         while not box.items:
             yield wait("item", lambda: box.items)
         box.items.pop()
         yield leave()
 
-    def putter():
+    def putter() -> Calls:
         yield enter()
         box.items.append("tea")
         yield signal("item")
@@ -20,14 +23,14 @@ def late_work(box):
     return taker, putter
 
 
-def early_signal(gate):
-    def guest():
+def early_signal(gate: SimpleNamespace) -> Sequence[Program]:
+    def guest() -> Calls:
         yield enter()
         while not gate.is_open:
             yield wait("gate", lambda: gate.is_open)
         yield leave()
 
-    def porter():
+    def porter() -> Calls:
         yield enter()
         gate.is_open = True
         yield signal("gate")
@@ -36,15 +39,15 @@ def early_signal(gate):
     return guest, porter
 
 
-def one_signal(gate):
-    def guest():
+def one_signal(gate: SimpleNamespace) -> Sequence[Program]:
+    def guest() -> Calls:
         yield enter()
         while not gate.is_open:
             yield wait("gate", lambda: gate.is_open)
         yield signal("gate")
         yield leave()
 
-    def porter():
+    def porter() -> Calls:
         yield enter()
         gate.is_open = True
         yield signal("gate")

@@ -3,13 +3,13 @@ look again."""
 
 import types
 
-from monk import Scene, enter, leave, signal, wait
+from monk import Calls, Scene, enter, leave, signal, wait
 
 
-def car_park(goes_on_waiting):
+def car_park(goes_on_waiting: bool) -> Scene:
     park = types.SimpleNamespace(cars=0)
 
-    def car():
+    def car() -> Calls:
         yield enter()
         while park.cars:
             yield wait("place", lambda: not park.cars)
@@ -25,11 +25,11 @@ def car_park(goes_on_waiting):
     return Scene([car, car, car], invariant=lambda: park.cars <= 1, end=lambda: park.cars == 0)
 
 
-def right():
+def right() -> Scene:
     return car_park(goes_on_waiting=True)
 
 
-def slip():
+def slip() -> Scene:
     return car_park(goes_on_waiting=False)
 
 

@@ -40,7 +40,7 @@ EVERY = 7
 
 
 class Buffer:
-    def __init__(self, style: str):
+    def __init__(self, style: str) -> None:
         self.recorder = monk_log.Recorder()
         self.lock = self.recorder.lock()
         self.not_full = self.recorder.condition(self.lock)
@@ -101,7 +101,8 @@ class Dropping(threading.Condition):
 def works_of(style: str, buffer: queue.Queue[int] | Buffer) -> list[Callable[[], None]]:
     """What each thread does."""
     putters = 1 if style in PAIRS or style == "two" else PUTTERS
-    takers, items = (2, ITEMS_OF_TWO) if style == "two" else (putters, ITEMS_IF_UNLOCKED if style == "unlocked" else ITEMS)
+    usual = ITEMS_IF_UNLOCKED if style == "unlocked" else ITEMS
+    takers, items = (2, ITEMS_OF_TWO) if style == "two" else (putters, usual)
 
     def put() -> None:
         for item in range(1, takers // putters * items + 1):

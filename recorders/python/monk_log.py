@@ -3,19 +3,20 @@
     recorder = Recorder()
     lock = recorder.lock()                  # in place of threading.Lock(); recorder.rlock() of threading.RLock()
     not_full = recorder.condition(lock)     # in place of threading.Condition(lock)
-    recorder.act(code, arg, reply)          # while the lock is held, behind an operation on what it guards, if that is to be judged
-    recorder.write("run", "buffer 4")       # the log, into a new file, and beside it run.names; the words are the object and its size
+    recorder.act(code, arg, reply)          # while the lock is held, behind an operation on what it guards, if that is
+                                            # to be judged
+    recorder.write("run", "buffer 4")       # the log, into a new file, and beside it run.names; the object and its size
     recorder.summary()                      # what was seen, in words
 
-`record_queue(queue.Queue(4))` puts a recorder into a queue of the standard library. Each line is written by the thread that holds
-the lock. A program as it is, with monk_program.py beside this file:
+`record_queue(queue.Queue(4))` puts a recorder into a queue of the standard library. Each line is written by the thread
+that holds the lock. A program as it is, with monk_program.py beside this file:
 
     MONK_LOG=PREFIX PYTHONPATH=recorders/python python -m monk_log PROGRAM ARGS ..
 
-writes PREFIX.1, PREFIX.2, .. when it ends, one for each lock with a wait, beside each the names in it, PREFIX.1.names, and a last
-line on standard error. MONK_OBJECT is the end of the first line of a log. After MONK_SECONDS the logs are written, and the
-program ends with status 124. With MONK_SHAKE=SEED threads let others go first at random, here and with a recorder of one's own.
-What a recorder can't see is told in recorders/README.md.
+writes PREFIX.1, PREFIX.2, .. when it ends, one for each lock with a wait, beside each the names in it, PREFIX.1.names,
+and a last line on standard error. MONK_OBJECT is the end of the first line of a log. After MONK_SECONDS the logs are
+written, and the program ends with status 124. With MONK_SHAKE=SEED threads let others go first at random, here and with
+a recorder of one's own. What a recorder can't see is told in recorders/README.md.
 """
 from __future__ import annotations
 
@@ -31,9 +32,9 @@ from typing import Any, Callable, Iterator
 
 SEATS, CONDITIONS = 32, 8  # of a log
 STATUS_LATE = 124
-# A thread is slow for some calls and then fast for some: so many at most. How often it is slow, and sleeps so many seconds at
-# most; and how often it lets others go first while it is fast. One that was woken is slow more often, and so many times as long:
-# then others come in before it.
+# A thread is slow for some calls and then fast for some: so many at most. How often it is slow, and sleeps so many
+# seconds at most; and how often it lets others go first while it is fast. One that was woken is slow more often, and so
+# many times as long: then others come in before it.
 CALLS, SLOW, NAP, YIELD = 8, 0.4, 0.001, 0.25
 SLOW_WOKEN, TIMES_WOKEN = 0.9, 8
 
@@ -41,7 +42,7 @@ SLOW_WOKEN, TIMES_WOKEN = 0.9, 8
 class Shaker:
     """Lets others go first at random. Each thread has numbers of its own, by the seed and the thread's number."""
 
-    def __init__(self, seed: str):
+    def __init__(self, seed: str) -> None:
         self._seed, self._of_thread, self._numbers = seed, threading.local(), itertools.count()
 
     def __call__(self, is_woken: bool = False) -> None:
@@ -76,8 +77,8 @@ HERE = os.path.dirname(os.path.abspath(__file__))
 BETWEEN = {__file__, threading.__file__, *(os.path.join(HERE, name) for name in ("monk_log.py", "monk_program.py"))}
 
 
-# A line of a log: from where it comes, as code and how far in, and its words. (To ask at once for the line of the source takes longer
-# than all else.)
+# A line of a log: from where it comes, as code and how far in, and its words. (To ask at once for the line of the
+# source takes longer than all else.)
 Line = tuple[Any, ...]
 WORDS = 2  # where they begin
 
@@ -139,7 +140,8 @@ class Recorder:
         yield from (" ".join(map(str, line[WORDS:])) for line in lines)
 
     def _names(self, lines: list[Line], how_it_ended: str) -> Iterator[str]:
-        """What stands beside the log: where the lock and its conditions were made, the threads' names, and the lines' places."""
+        """What stands beside the log: where the lock and its conditions were made, the names of threads, and the places
+        of lines."""
         whats = ["lock", *(f"condition {number}" for number in range(len(self.made_at) - 1))]
         yield from (f"{what} made at {where}" for what, where in zip(whats, self.made_at))
         yield from (f"seat {seat} {name}" for seat, name in enumerate(self.names))
@@ -159,7 +161,8 @@ class Recorder:
 
     def summary(self) -> str:
         """What was seen, in words."""
-        parts = [f"{len(self._lines)} lines, {self.waits} waits, {len(self._seats)} threads, {self._conditions} conditions"]
+        lines = f"{len(self._lines)} lines, {self.waits} waits"
+        parts = [f"{lines}, {len(self._seats)} threads, {self._conditions} conditions"]
         if self.stopped:
             parts.append(f"it ends early, since {self.stopped}")
         if self.strays:
@@ -169,7 +172,8 @@ class Recorder:
         return "; ".join(parts)
 
     def end_after(self, seconds: float, path: str, thing: str = "buffer 1") -> None:
-        """For a program that hangs: after so many seconds its log is written into a new file, and it ends with status 124."""
+        """For a program that hangs: after so many seconds its log is written into a new file, and it ends with status
+        124."""
         start_watch(self._end_late, seconds, path, thing)
 
     def _end_late(self, seconds: float, path: str, thing: str) -> None:
@@ -222,7 +226,7 @@ threading_lock, threading_rlock, ThreadingCondition = threading.Lock, threading.
 class Lock:
     """A lock that tells who comes in and leaves. Who has it already comes in but once."""
 
-    def __init__(self, recorder: Recorder, raw: Any):
+    def __init__(self, recorder: Recorder, raw: Any) -> None:
         self.recorder, self._raw, self._owner, self._times = recorder, raw, 0, 0
 
     def acquire(self, blocking: bool = True, timeout: float = -1) -> bool:
@@ -280,7 +284,7 @@ class Condition(threading.Condition):
     _is_owned: Callable[[], bool]
     _waiters: Any
 
-    def __init__(self, recorder: Recorder | None, number: int, lock: Any):
+    def __init__(self, recorder: Recorder | None, number: int, lock: Any) -> None:
         super().__init__(lock)
         self._recorder, self._number = recorder, number
 

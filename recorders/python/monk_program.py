@@ -1,4 +1,5 @@
-"""Runs a program of Python as it is, and records its locks and conditions: the part of monk_log.py for `python -m monk_log`."""
+"""Runs a program of Python as it is, and records its locks and conditions: the part of monk_log.py for
+`python -m monk_log`."""
 from __future__ import annotations
 
 import atexit
@@ -50,7 +51,7 @@ class Program:
         program = self
 
         class ProgramCondition(Condition):
-            def __init__(self, lock: Any = None):
+            def __init__(self, lock: Any = None) -> None:
                 lock = lock or program.rlock()
                 recorder = lock.recorder if isinstance(lock, Lock) else None
                 if recorder:
@@ -81,7 +82,8 @@ class Program:
             return
         waited = [it for it in self.recorders if it.waits]
         written = [name for name in map(self._write_log, waited) if name] if self.prefix else []
-        parts = [f"{len(self.recorders)} lock{'s' * (len(self.recorders) != 1)}, {len(waited)} with waits, {self._told(waited, written)}"]
+        locks = f"{len(self.recorders)} lock{'s' * (len(self.recorders) != 1)}"
+        parts = [f"{locks}, {len(waited)} with waits, {self._told(waited, written)}"]
         if strays := sum(it.strays for it in self.recorders):
             parts.append(f"signals without the lock, refused: {strays}")
         for what, word in (("thread 33", "threads"), ("condition 9", "conditions")):
