@@ -30,7 +30,7 @@
  * does. So does a stop for whomever it sends home, and a seat that is given back for whoever takes it. ThreadSanitizer
  * sees this order.
  *
- * WHAT IS PROVED of the library (not of reference.c, which is a plain model of it): that at most one seat is inside,
+ * WHAT IS PROVED of the library (not of reference/, a plain model of it): that at most one seat is inside,
  * that every call which was taken is in the history exactly once, that the history is legal for the kind, and that
  * every release chooses by the kind's priorities; for every kind, number of seats and schedule. NOT PROVED: the C part,
  * which sleeps, wakes, lends seats and writes files; that a thread wakes, progress, fairness, time; your data, which

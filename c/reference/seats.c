@@ -1,6 +1,6 @@
-/* reference_seats.c - the seats of the plain model (reference.c), and how its monitors are made and end. */
+/* seats.c - the seats of the plain model (calls.c), and how its monitors are made and end. */
 #define _GNU_SOURCE
-#include "reference_frame.h"
+#include "frame.h"
 #include <stdlib.h>
 #include <time.h>
 

@@ -1,6 +1,6 @@
-/* reference_history.c - the history of the plain model (reference.c) as a text. */
+/* history.c - the history of the plain model (calls.c) as a text. */
 #define _GNU_SOURCE
-#include "reference_frame.h"
+#include "frame.h"
 #include <stdlib.h>
 
 /* How long a look at the history waits for its turn. */

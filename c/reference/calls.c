@@ -1,12 +1,11 @@
-/* reference.c - the interface of monk.h by one mutex and a condition variable for each seat. Nothing of it is proved:
+/* calls.c - the interface of monk.h by one mutex and a condition variable for each seat. Nothing of it is proved:
  * it is a plain model of the rules, an oracle for tests of the proved library and a peer for its benchmarks. Here are
- * the calls by a seat; reference_seats.c lends seats and makes and ends monitors, reference_history.c tells the
- * history.
+ * the calls by a seat; seats.c lends seats and makes and ends monitors, history.c tells the history.
  *
  * Everything is changed under the mutex, so each call is one step; a thread that waits sleeps on its seat's bell. One
  * thing of the library's is missing: a pointer to a seat that was given back isn't told from the next owner's. */
 #define _GNU_SOURCE
-#include "reference_frame.h"
+#include "frame.h"
 #include <errno.h>
 #include <sys/eventfd.h>
 #include <time.h>

@@ -1,8 +1,8 @@
-/* reference_frame.h - the frame of every call of the plain model: it takes the lock, refuses, and wakes who is due. */
+/* frame.h - the frame of every call of the plain model: it takes the lock, refuses, and wakes who is due. */
 #ifndef MONK_REFERENCE_FRAME_H
 #define MONK_REFERENCE_FRAME_H
 
-#include "reference_scheduler.h"
+#include "scheduler.h"
 #include <sys/syscall.h>
 #include <unistd.h>
 

@@ -1,9 +1,9 @@
-/* reference_scheduler.h - whom a release of the plain model chooses, and how a seat comes in. The rules stand in
+/* scheduler.h - whom a release of the plain model chooses, and how a seat comes in. The rules stand in
  * docs/MONITORS.md, "The wish". */
 #ifndef MONK_REFERENCE_SCHEDULER_H
 #define MONK_REFERENCE_SCHEDULER_H
 
-#include "reference_state.h"
+#include "state.h"
 
 /* The first of those who wait until a flag is set, and whose flag is set; -1 if there is none. */
 static inline int first_ready(const monk_monitor *m) {

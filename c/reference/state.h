@@ -1,5 +1,4 @@
-/* reference_state.h - what the plain model of reference.c has of each monitor: its kind's rules, its seats, queues and
- * events. */
+/* state.h - what the plain model of calls.c has of each monitor: its kind's rules, its seats, queues and events. */
 #ifndef MONK_REFERENCE_STATE_H
 #define MONK_REFERENCE_STATE_H
 
