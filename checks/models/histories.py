@@ -1,8 +1,13 @@
 """Random histories, most of them legal up to an event that may be wrong in any way."""
-from monitor import CODES, KINDS, NEXTS, PREDICATES, REASONS, RELEASES, VERSIONS, Monitor
+from __future__ import annotations
+
+from random import Random
+from typing import List, Optional, Tuple
+
+from monitor import CODES, KINDS, NEXTS, PREDICATES, REASONS, RELEASES, VERSIONS, Event, Header, Monitor
 
 
-def erased(e):
+def erased(e: Event) -> Tuple[Tuple[str, ...], ...]:
     """The lines that a recorder writes of an event."""
     name, seat, at = e[0], e[1], RELEASES.get(e[0])
     if name == "signal-leave":
@@ -14,21 +19,26 @@ def erased(e):
     return (("broadcast" if name == "signal-all" else name, *e[1:at]),)
 
 
-def any_predicate(chance, name, wrong=0.1):
+def any_predicate(chance: Random, name: str, wrong: float = 0.1) -> int:
     """A predicate of the object, of many most often one of the first; seldom one that it hasn't."""
     most = 3 if name == "flags" and chance.random() < 0.8 else PREDICATES[name]
     return chance.randrange(most + (chance.random() < wrong))
 
 
-def any_event(chance, monitor, version):
+def any_code(chance: Random, name: str, wrong: float = 0.1) -> int:
+    """An operation of the object; seldom one that it hasn't."""
+    return chance.randrange(CODES[name] + (chance.random() < wrong))
+
+
+def any_event(chance: Random, monitor: Monitor, version: int) -> Event:
     """An event of any kind, right or wrong."""
     seat, cond = chance.randrange(monitor.seats + (chance.random() < 0.1)), chance.randrange(max(1, monitor.conds))
-    next_ = chance.choice(NEXTS)
-    next_ = [next_] if next_ in ("stay", "entry") else [next_, chance.randrange(monitor.seats)]
+    word = chance.choice(NEXTS)
+    next_: List[object] = [word] if word in ("stay", "entry") else [word, chance.randrange(monitor.seats)]
     name = monitor.thing.name
-    made = [
+    made: List[List[object]] = [
         ["enter", seat, chance.choice(("free", "handed"))],
-        ["act", seat, chance.randrange(CODES[name] + (chance.random() < 0.1)), chance.randrange(9), chance.randrange(3)],
+        ["act", seat, any_code(chance, name), chance.randrange(9), chance.randrange(3)],
         ["leave", seat, *next_],
         ["wait", seat, cond, *next_],
         ["signal", seat, cond, *next_],
@@ -37,11 +47,12 @@ def any_event(chance, monitor, version):
         ["resume", seat, chance.choice(("waiter", "signaller", "until"))],
     ]
     if version >= 2:
-        made += [["signal-all", seat, cond], ["signal-wait", seat, cond, chance.randrange(max(1, monitor.conds)), *next_]]
+        made.append(["signal-all", seat, cond])
+        made.append(["signal-wait", seat, cond, chance.randrange(max(1, monitor.conds)), *next_])
     return [str(w) for w in chance.choice(made)]
 
 
-def right_event(chance, monitor, version):
+def right_event(chance: Random, monitor: Monitor, version: int) -> Optional[Event]:
     """An event that is allowed, or none."""
     if monitor.turn.startswith("due"):
         _, seat, queue = monitor.turn.split()
@@ -60,7 +71,7 @@ def right_event(chance, monitor, version):
     return None
 
 
-def wrong_event(chance, monitor, version, wanted):
+def wrong_event(chance: Random, monitor: Monitor, version: int, wanted: int) -> Optional[Event]:
     """An event that first fails that test, or none."""
     for _ in range(100):
         e = any_event(chance, monitor, version)
@@ -72,7 +83,7 @@ def wrong_event(chance, monitor, version, wanted):
     return None
 
 
-def history(chance, kind, name):
+def history(chance: Random, kind: str, name: str) -> Tuple[int, Header, List[Event]]:
     """A version, a header without it, and events that are legal, or up to one that fails a test chosen at random."""
     version, seats = chance.choice(VERSIONS[name]), chance.randrange(1, 5)
     conds = 0 if KINDS[kind][0] == "automatic" and chance.random() < 0.5 else chance.randrange(1, 4)

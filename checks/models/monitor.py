@@ -1,6 +1,9 @@
 """A model of the ten kinds of monitor, written from the rules in docs/MONITORS.md. It shares nothing with monk.
 
 An event is a list of words, as a history has them."""
+from __future__ import annotations
+
+from typing import Dict, Iterable, List, Set, Tuple
 
 # Each kind's mode, and its priorities of entry, waiter and signaller.
 KINDS = {
@@ -22,8 +25,9 @@ PREDICATES = {"buffer": 2, "book": 2, "shop": 3, "flags": 32}
 # The versions of a text that name the object.
 VERSIONS = {"buffer": (1, 2), "book": (1, 2), "shop": (1, 2), "flags": (3,)}
 NEXTS = ("stay", "entry", "waiter", "signaller", "until")
-# Where an event's next begins in its words, how many seats or conditions it names before, and the modes that have the call.
+# Where an event's next begins in its words.
 RELEASES = {"leave": 2, "wait": 3, "signal": 3, "signal-leave": 3, "until": 3, "signal-wait": 4}
+# The modes that have a call, where not all of them do.
 MODES_OF = {
     "wait": EXPLICIT + ("immediate-return",),
     "signal": EXPLICIT,
@@ -32,20 +36,33 @@ MODES_OF = {
     "signal-all": ("non-blocking",),
     "until": ("automatic",),
 }
+Event = List[str]
+# Of a history's first line: how many seats and conditions there are, the object and its size.
+Header = Tuple[int, int, str, int]
+
+
+def listed(name: str, all_: Iterable[object]) -> str:
+    """The name, and all of these behind it."""
+    return name + "".join(f" {x}" for x in all_)
+
+
+def counted(n: int, does: str, do: str) -> str:
+    """How many do something, by the words for one and for many."""
+    return f"{['none', 'one'][n]} {does}" if n < 2 else f"{n} {do}"
 
 
 class Thing:
     """A guarded object, by its numbers."""
 
-    def __init__(self, name, state):
+    def __init__(self, name: str, state: List[int]) -> None:
         self.name, self.state = name, state
 
     @staticmethod
-    def opening(name, size):
+    def opening(name: str, size: int) -> List[int]:
         """The state at first."""
         return {"buffer": [size], "flags": [size, 0]}.get(name, [size, 0, 0])
 
-    def holds(self, pred):
+    def holds(self, pred: int) -> bool:
         size, *rest = self.state
         if self.name == "buffer":
             return [len(rest) < size, len(rest) > 0][pred]
@@ -56,20 +73,19 @@ class Thing:
             return [two == 0 and one < size, one == 0 and two == 0][pred]
         return [one < size, one > 0 and two == 0, two == 2][pred]
 
-    def words(self):
+    def words(self) -> str:
         """The state in words."""
         size, *rest = self.state
-        many = lambda n, does, do: f"{['none', 'one'][n]} {does}" if n < 2 else f"{n} {do}"
         if self.name == "buffer":
             return f"buffer of {size}:" + ("".join(f" {item}" for item in rest) or " empty")
         if self.name == "flags":
-            return "bits set:" + "".join(f" {bit}" for bit in range(32) if rest[0] >> bit & 1) if rest[0] else "no bit set"
+            return listed("bits set:", (bit for bit in range(32) if rest[0] >> bit & 1)) if rest[0] else "no bit set"
         one, two = rest
         if self.name == "book":
-            return many(one, "reads", "read") + ", " + many(two, "writes", "write")
-        return many(one, "sits", "sit") + ", " + ["chair empty", "chair in use", "cut done"][two]
+            return counted(one, "reads", "read") + ", " + counted(two, "writes", "write")
+        return counted(one, "sits", "sit") + ", " + ["chair empty", "chair in use", "cut done"][two]
 
-    def act(self, code, arg):
+    def act(self, code: int, arg: int) -> Tuple[int, Thing]:
         """The reply, and the object after it."""
         size, *rest = self.state
         if self.name == "buffer":
@@ -84,39 +100,45 @@ class Thing:
             "book": [two == 0 and one < size, one > 0, one == 0 and two == 0, two == 1],
             "shop": [one < size, one > 0 and two == 0, two == 1, two == 2],
         }[self.name][code]
-        then = {"book": [(one + 1, two), (one - 1, two), (one, 1), (one, 0)], "shop": [(one + 1, two), (one - 1, 1), (one, 2), (one, 0)]}[self.name]
-        return (1, Thing(self.name, [size, *then[code]])) if may else (0, self)
+        then = {
+            "book": [(one + 1, two), (one - 1, two), (one, 1), (one, 0)],
+            "shop": [(one + 1, two), (one - 1, 1), (one, 2), (one, 0)],
+        }[self.name][code]
+        return (1, Thing(self.name, [size, *then])) if may else (0, self)
 
 
 class Monitor:
     """How a monitor of a kind stands after some events."""
 
-    def __init__(self, kind, seats, conds, name, size):
+    def __init__(self, kind: str, seats: int, conds: int, name: str, size: int) -> None:
         self.kind, self.seats, self.conds = kind, seats, conds
         self.mode, self.entry, self.waiter, self.signaller = KINDS[kind]
         self.thing = Thing(name, Thing.opening(name, size))
-        self.waits = {c: [] for c in range(conds)}
-        self.waiters, self.signallers, self.untils = [], [], []
-        self.turn, self.inside, self.begun = "open", set(), False
+        self.waits: Dict[int, List[int]] = {c: [] for c in range(conds)}
+        self.waiters: List[int] = []
+        self.signallers: List[int] = []
+        self.untils: List[Tuple[int, int]] = []
+        self.inside: Set[int] = set()
+        self.turn, self.begun = "open", False
 
-    def ready(self):
+    def ready(self) -> List[int]:
         return [s for s, p in self.untils if self.thing.holds(p)]
 
-    def served(self, e):
+    def served(self, e: Event) -> List[int]:
         """Whom an event serves."""
         if e[0] in ("signal", "signal-leave", "signal-wait"):
             return self.waits[int(e[2])][:1]
         return self.waits[int(e[2])] if e[0] == "signal-all" else []
 
-    def must_stay(self, e):
+    def must_stay(self, e: Event) -> bool:
         return (e[0] == "signal" and not self.waits[int(e[2])]) or (e[0] == "until" and self.thing.holds(int(e[2])))
 
-    def queues(self, e):
+    def queues(self, e: Event) -> Tuple[List[int], List[int], List[int]]:
         """The queues that a release chooses from."""
         stepped = [int(e[1])] if e[0] == "signal" and self.waits[int(e[2])] else []
         return self.waiters + self.served(e), self.signallers + stepped, self.ready()
 
-    def may(self, e):
+    def may(self, e: Event) -> List[str]:
         """Each next that is permitted."""
         if self.must_stay(e):
             return ["stay"]
@@ -124,7 +146,8 @@ class Monitor:
         nexts, seat = [], int(e[1])
         if e[0] == "signal" and signallers[:1] == [seat] and self.waiter <= self.signaller:
             nexts.append("stay")
-        if (not waiters and not ready or self.waiter == self.entry) and (not signallers or self.signaller == self.entry):
+        may_pass = not waiters and not ready or self.waiter == self.entry
+        if may_pass and (not signallers or self.signaller == self.entry):
             nexts.append("entry")
         if waiters and (not signallers or self.signaller <= self.waiter):
             nexts.append(f"waiter {waiters[0]}")
@@ -134,15 +157,17 @@ class Monitor:
             nexts.append(f"until {ready[0]}")
         return nexts
 
-    def reason(self, e):
+    def reason(self, e: Event) -> int:
         """The first test that the event fails, from 1, or 0."""
         name, seat = e[0], int(e[1])
         at = RELEASES.get(name)
         named = [int(w) for w in e[at + 1 :]] if at else []
-        conditions = {"wait": e[2:3], "signal": e[2:3], "signal-leave": e[2:3], "signal-all": e[2:3], "signal-wait": e[2:4]}.get(name, [])
+        count = {"wait": 1, "signal": 1, "signal-leave": 1, "signal-all": 1, "signal-wait": 2}.get(name, 0)
+        conditions = e[2 : 2 + count]
         if any(s >= self.seats for s in [seat, *named]) or any(int(c) >= self.conds for c in conditions):
             return 1
-        if name == "act" and int(e[2]) >= CODES[self.thing.name] or name == "until" and int(e[2]) >= PREDICATES[self.thing.name]:
+        most = {"act": CODES, "until": PREDICATES}.get(name)
+        if most and int(e[2]) >= most[self.thing.name]:
             return 1
         if name in MODES_OF and self.mode not in MODES_OF[name]:
             return 2
@@ -157,7 +182,7 @@ class Monitor:
             return 5
         return 6 if at and " ".join(e[at:]) not in self.may(e) else 0
 
-    def take(self, e):
+    def take(self, e: Event) -> None:
         """Carries out an event that is allowed."""
         name, seat = e[0], int(e[1])
         at, stays = RELEASES.get(name), self.must_stay(e)
@@ -167,7 +192,8 @@ class Monitor:
         if name == "act":
             self.thing = self.thing.act(int(e[2]), int(e[3]))[1]
         served = self.served(e)
-        self.waiters, self.signallers = self.queues(e)[:2] if at or name == "signal-all" else (self.waiters, self.signallers)
+        if at or name == "signal-all":
+            self.waiters, self.signallers, _ = self.queues(e)
         if served:
             self.waits[int(e[2])] = self.waits[int(e[2])][len(served) :]
         if name in ("wait", "signal-wait"):
@@ -187,20 +213,22 @@ class Monitor:
             self.inside.discard(seat)
         self.turn = {"stay": f"of {seat}", "entry": "open"}.get(kind) or f"due {chosen[0]} {kind}"
 
-    def told(self, steps):
+    def told(self, steps: List[int]) -> List[str]:
         """The lines of the situation, behind which these steps were refused."""
-        listed = lambda name, all_: name + "".join(f" {x}" for x in all_)
         ranks = [self.entry, self.waiter] + ([self.signaller] if self.mode in EXPLICIT else [])
-        lines = [listed(f"kind: {self.kind} {self.mode}", ranks), f"turn: {self.turn}", listed("inside:", sorted(self.inside)), listed("data:", self.thing.state) + f" ({self.thing.words()})"]
+        lines = [listed(f"kind: {self.kind} {self.mode}", ranks), f"turn: {self.turn}"]
+        lines.append(listed("inside:", sorted(self.inside)))
+        lines.append(listed("data:", self.thing.state) + f" ({self.thing.words()})")
         if steps:
             lines.append(listed("refused:", steps[:10]) + (f" and {len(steps) - 10} more" if steps[10:] else ""))
         if self.mode == "automatic":
             return lines + ["until:" + ",".join(f" {s} {p}" for s, p in self.untils), listed("ready:", self.ready())]
-        lines += [listed(f"condition {c}:", self.waits[c]) for c in range(self.conds)] + [listed("waiter:", self.waiters)]
+        lines += [listed(f"condition {c}:", self.waits[c]) for c in range(self.conds)]
+        lines.append(listed("waiter:", self.waiters))
         return lines + ([listed("signaller:", self.signallers)] if self.mode in EXPLICIT else [])
 
 
-def verdict(kind, header, events):
+def verdict(kind: str, header: Header, events: List[Event]) -> Tuple[str, Monitor, int]:
     """What an audit says of the events under a kind, the monitor before the fault or at the end, and the reason."""
     monitor = Monitor(kind, *header)
     for step, e in enumerate(events, 1):
@@ -211,7 +239,7 @@ def verdict(kind, header, events):
     return f"legal {len(events)}", monitor, 0
 
 
-def explained(kind, header, events):
+def explained(kind: str, header: Header, events: List[Event]) -> List[str]:
     """What an explanation says, but for its last line where it is `why`."""
     said, monitor, reason = verdict(kind, header, events)
     step = int(said.split()[1])

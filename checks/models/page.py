@@ -1,7 +1,7 @@
 """A model of the data of a page: what monk page says of a history, step by step, by models/monitor.py."""
 from typing import Any
 
-from monitor import KINDS, RELEASES, Monitor, Thing, explained, verdict
+from monitor import KINDS, RELEASES, Header, Monitor, Thing, explained, verdict
 
 # The most steps that a page shows if no window is named.
 MOST_SHOWN = 200
@@ -58,7 +58,7 @@ def steps_of(monitor: Monitor, events: list[Event], before: int, last: int) -> l
     return steps
 
 
-def blame_of(header: tuple[Any, ...], kind: str, events: list[Event], why: str) -> Data | None:
+def blame_of(header: Header, kind: str, events: list[Event], why: str) -> Data | None:
     """What is wrong with the first event that is forbidden, if one is."""
     said, monitor, reason = verdict(kind, header, events)
     if not reason:

@@ -1,0 +1,69 @@
+"""What is refused in the files of Python that git tracks: what stands without a type, and what is too big."""
+from __future__ import annotations
+
+import ast
+import os
+import subprocess
+from typing import Iterator, List, Optional, Union
+
+FIRST_LINE = b"#!/usr/bin/env python3\n"
+FILE_LINES, LINES, DEEP, PARAMETERS = 400, 40, 3, 6
+# Its parameters are the keywords of the public call `monk.Monitor(..)`, eight of them.
+PUBLIC_CALL = "c/python/monk/monitor.py: __init__"
+FUNCTIONS = (ast.FunctionDef, ast.AsyncFunctionDef)
+NESTING = (ast.If, ast.For, ast.AsyncFor, ast.While, ast.With, ast.AsyncWith, ast.Try)
+Function = Union[ast.FunctionDef, ast.AsyncFunctionDef]
+
+
+def is_python(path: str) -> bool:
+    """Whether there is such a file, and it is Python."""
+    if not os.path.isfile(path):
+        return False
+    with open(path, "rb") as file:
+        return path.endswith(".py") or file.readline(len(FIRST_LINE)) == FIRST_LINE
+
+
+def depth(node: ast.AST, above: Optional[ast.AST] = None) -> int:
+    """How deep it is, with what is nested in it. An `elif` is as deep as its `if`, in whose column it stands, and a
+    function in it counts for itself."""
+    if isinstance(node, FUNCTIONS):
+        return 0
+    is_elif = isinstance(node, ast.If) and isinstance(above, ast.If) and node.col_offset == above.col_offset
+    below = (depth(it, node) for it in ast.iter_child_nodes(node) if not isinstance(it, ast.expr))
+    return (isinstance(node, NESTING) and not is_elif) + max(below, default=0)
+
+
+def parameters(function: Function) -> List[ast.arg]:
+    """The parameters, but for self and cls."""
+    of = function.args
+    rest = [it for it in (of.vararg, of.kwarg) if it]
+    return [it for it in (*of.posonlyargs, *of.args, *of.kwonlyargs, *rest) if it.arg not in ("self", "cls")]
+
+
+def faults(path: str, function: Function) -> Iterator[str]:
+    """What is wrong with the function."""
+    named = parameters(function)
+    untyped = [it.arg for it in named if it.annotation is None] + ["its result"] * (function.returns is None)
+    lines = (function.end_lineno or function.lineno) - function.lineno + 1
+    deep = max(depth(it) for it in function.body)
+    if untyped:
+        yield f"without a type: {', '.join(untyped)}"
+    if lines > LINES:
+        yield f"{lines} lines, and {LINES} are the most"
+    if deep > DEEP:
+        yield f"{deep} deep, and {DEEP} is the most"
+    if len(named) > PARAMETERS and f"{path}: {function.name}" != PUBLIC_CALL:
+        yield f"{len(named)} parameters, and {PARAMETERS} are the most"
+
+
+def refused() -> Iterator[str]:
+    """What is refused in the repository, whose top is the folder that is worked in."""
+    tracked = subprocess.check_output(["git", "ls-files", "-z"], text=True).split("\0")
+    for path in filter(is_python, tracked):
+        with open(path, encoding="utf-8") as file:
+            text = file.read()
+        lines = len(text.splitlines())
+        if lines > FILE_LINES:
+            yield f"{path}: {lines} lines, and {FILE_LINES} are the most"
+        for function in (it for it in ast.walk(ast.parse(text, path)) if isinstance(it, FUNCTIONS)):
+            yield from (f"{path}:{function.lineno}: {function.name}: {it}" for it in faults(path, function))
