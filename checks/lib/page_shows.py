@@ -17,14 +17,16 @@ BOXES = """(() => {
   const marks = [...root.querySelectorAll('.cropped .mark')].filter((mark) => mark.querySelector('title'));
   const band = at('band').getBoundingClientRect(), picture = at('picture').getBoundingClientRect();
   return {
-    active: seats(active), open: active.textContent.includes('open to whoever'), due: active.textContent.includes('is next'),
+    active: seats(active), open: active.textContent.includes('open to whoever'),
+    due: active.textContent.includes('is next'),
     conditions: of('condition'), waiter: of('waiter'), signaller: of('signaller'), until: of('until'),
     outside: of('outside')[0], entry: of('entry')[0], count: document.getElementById('count').textContent,
     say: at('say').textContent, bad: at('told').classList.contains('bad'), answer: at('answer').textContent,
     guesses: [...root.querySelectorAll('.guess')].map((it) => it.textContent), verdict: at('verdict').textContent,
     choices: [...root.querySelectorAll('.choices li')].map((it) => it.textContent), line: at('line').textContent,
     table: root.querySelectorAll('.table tr[data-step]').length, isOver: root.classList.contains('over'),
-    hidden: marks.filter((mark) => getComputedStyle(mark).visibility === 'hidden').map((mark) => mark.querySelector('title').textContent),
+    hidden: marks.filter((mark) => getComputedStyle(mark).visibility === 'hidden')
+      .map((mark) => mark.querySelector('title').textContent),
     isInView: !band.width || (band.right > picture.left && band.left < picture.right),
     isWide: at('picture').scrollWidth > at('picture').clientWidth + 1,
   };

@@ -1,13 +1,18 @@
-"""What is refused in the files of Python that git tracks: what stands without a type, and what is too big."""
+"""What is refused in the files of C, C++, Java, Go, Rust and Python that git tracks: lines that are too wide, files that
+are too long; and in Python also what has no type, and functions that are too big."""
 from __future__ import annotations
 
 import ast
 import os
+import re
 import subprocess
 from typing import Iterator, List, Optional, Union
 
 FIRST_LINE = b"#!/usr/bin/env python3\n"
-FILE_LINES, LINES, DEEP, PARAMETERS = 400, 40, 3, 6
+ENDINGS = (".c", ".cc", ".cpp", ".go", ".h", ".hpp", ".java", ".rs")
+WIDTH, FILE_LINES, LINES, DEEP, PARAMETERS = 120, 400, 40, 3, 6
+# It doesn't count for the width of a line.
+QUOTED = re.compile(r"""\"(?:[^"\\]|\\.)*\"|'(?:[^'\\]|\\.)*'""")
 # Its parameters are the keywords of the public call `monk.Monitor(..)`, eight of them.
 PUBLIC_CALL = "c/python/monk/monitor.py: __init__"
 FUNCTIONS = (ast.FunctionDef, ast.AsyncFunctionDef)
@@ -56,14 +61,28 @@ def faults(path: str, function: Function) -> Iterator[str]:
         yield f"{len(named)} parameters, and {PARAMETERS} are the most"
 
 
+def sizes(path: str, text: str) -> Iterator[str]:
+    """The lines that are too wide, and the file if it is too long."""
+    lines = text.splitlines()
+    if len(lines) > FILE_LINES:
+        yield f"{path}: {len(lines)} lines, and {FILE_LINES} are the most"
+    for number, line in enumerate(lines, 1):
+        if len(QUOTED.sub("", line)) > WIDTH:
+            yield f"{path}:{number}: above {WIDTH} columns"
+
+
+def functions(path: str, text: str) -> Iterator[str]:
+    """What is wrong with the functions of a file of Python."""
+    for function in (it for it in ast.walk(ast.parse(text, path)) if isinstance(it, FUNCTIONS)):
+        yield from (f"{path}:{function.lineno}: {function.name}: {it}" for it in faults(path, function))
+
+
 def refused() -> Iterator[str]:
     """What is refused in the repository, whose top is the folder that is worked in."""
     tracked = subprocess.check_output(["git", "ls-files", "-z"], text=True).split("\0")
-    for path in filter(is_python, tracked):
+    for path in (it for it in tracked if is_python(it) or it.endswith(ENDINGS)):
         with open(path, encoding="utf-8") as file:
             text = file.read()
-        lines = len(text.splitlines())
-        if lines > FILE_LINES:
-            yield f"{path}: {lines} lines, and {FILE_LINES} are the most"
-        for function in (it for it in ast.walk(ast.parse(text, path)) if isinstance(it, FUNCTIONS)):
-            yield from (f"{path}:{function.lineno}: {function.name}: {it}" for it in faults(path, function))
+        yield from sizes(path, text)
+        if is_python(path):
+            yield from functions(path, text)
