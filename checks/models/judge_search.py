@@ -109,7 +109,7 @@ def judged(setting: Setting, log: list[Step]) -> Answer:
             misfit = number
             break
         runs, since = then, number if line.verb in TAKES else since
-        first = number if first is None and min(runs.values()) else first
+        first = number if first is None and min(runs.values()) > 0 else first
     lock = next(iter(runs)).lock
     return Answer(misfit, min(runs.values()), first, None if lock is None else (lock, since))
 

@@ -24,7 +24,8 @@ def faults_of(text: str, said: Data, last: int) -> list[str]:
     seats, conds, name, size = head.split()[2:]
     setting = Setting(int(seats), int(conds), name, int(size))
     wrong = [key for key, want in zip(("seats", "conditions", "object", "size"), setting) if said[key] != want]
-    x, told = state_of(said["start"]), []
+    x = state_of(said["start"])
+    told: list[str] = []
     if said["before"] == 0 and x != opening(setting):
         wrong.append("start")
     for number, entry in enumerate(said["steps"]):
