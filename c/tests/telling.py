@@ -126,6 +126,9 @@ class Telling(unittest.TestCase):
         def host() -> None:
             has_begun.wait()
             with monitor:
+                # The guest has let the monitor go. What it waits for is told by its own thread, a moment later.
+                while "(guest): waiting" in monitor.who():
+                    time.sleep(0.001)
                 self.assertRegex(monitor.who(),
                                  r"^  seat 0 \(guest\): waits on condition tea, for \d+\.\d s\n  seat 1 \(host\): inside$")
                 monitor.stop()
