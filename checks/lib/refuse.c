@@ -1,7 +1,11 @@
 /* Loaded before the C library: refuses the Nth request for memory, N being the number in REFUSE, and the start of
    the Nth thread, N being that in REFUSE_THREAD, and writes to the file descriptor in TELL how many of each there
    were. A program that may start threads ends by `_exit`, which runs no destructor, so that is met too. In front of
-   each line of standard output that begins with MARK it writes how many requests there were before that line. */
+   each line of standard output that begins with MARK it writes how many requests there were before that line.
+
+   With REFUSE_EACH it refuses each request of a program of one thread: in a child, which goes on without that memory
+   and writes to standard output alone, while the program waits. A line `try N` stands before what the child writes,
+   and `ended STATUS` behind it. */
 #define _GNU_SOURCE
 #include <dlfcn.h>
 #include <errno.h>
@@ -10,6 +14,7 @@
 #include <stdio.h>
 #include <stdlib.h>
 #include <string.h>
+#include <sys/wait.h>
 #include <unistd.h>
 
 static _Atomic long requests, threads;
@@ -20,11 +25,34 @@ static long number_in(const char *name)
     return text ? atol(text) : 0;
 }
 
+static void say(const char *word, long number)
+{
+    char line[32];
+    int length = snprintf(line, sizeof line, "%s %ld\n", word, number);
+    if (write(STDOUT_FILENO, line, length) != length) abort();
+}
+
+/* Whether this is the child in which the request is refused. */
+static int is_child_of_request(void)
+{
+    int status;
+    say("try", requests);
+    pid_t child = fork();
+    if (!child) return dup2(STDOUT_FILENO, STDERR_FILENO), 1;
+    if (waitpid(child, &status, 0) != child) abort();
+    say("ended", WIFEXITED(status) ? WEXITSTATUS(status) : -WTERMSIG(status));
+    return 0;
+}
+
 static int is_refused(void)
 {
-    static long wanted = -1;
-    if (wanted < 0) wanted = number_in("REFUSE");
-    return ++requests == wanted;
+    static long wanted = -1, each;
+    if (wanted < 0) wanted = number_in("REFUSE"), each = number_in("REFUSE_EACH");
+    requests++;
+    if (!each) return requests == wanted;
+    int is_child = is_child_of_request();
+    each = !is_child;
+    return is_child;
 }
 
 void *malloc(size_t size)

@@ -4,7 +4,7 @@ from __future__ import annotations
 import os
 import re
 import subprocess
-from typing import List, Tuple
+from typing import List, NamedTuple, Tuple
 
 HERE = os.path.dirname(os.path.abspath(__file__))
 TOP = os.path.dirname(os.path.dirname(HERE))
@@ -13,6 +13,15 @@ TOP = os.path.dirname(os.path.dirname(HERE))
 # front of such a line how many requests there were before it.
 MARK = "no memory"
 MARKED = re.compile(r"(\d+) no memory (from|up to) here")
+# What stands before and behind what a program says of which a request is refused.
+TRY, ENDED = re.compile(r"try (\d+)"), re.compile(r"ended (-?\d+)")
+
+
+class Try(NamedTuple):
+    """A request that is refused: what the program had said before it, what it said then, and how it ended."""
+    before: List[str]
+    lines: List[str]
+    status: int
 
 
 class Refusing:
@@ -39,6 +48,23 @@ class Refusing:
         counts = [int(count) for count in os.read(counted, 64).split()] or [0, 0]
         os.close(counted)
         return (done.stdout, done.stderr, done.returncode), counts
+
+    def each(self, words: List[str]) -> Tuple[List[str], List[Try]]:
+        """What the program says with ample memory, and each of its requests, refused in turn. It has one thread."""
+        setting = {**os.environ, "LD_PRELOAD": self.library, "REFUSE_EACH": "1"}
+        done = subprocess.run(words, capture_output=True, text=True, timeout=60 * self.seconds, env=setting, check=True)
+        said: List[str] = []
+        tries: List[Try] = []
+        lines = iter(done.stdout.splitlines())
+        for line in lines:
+            if not TRY.fullmatch(line):
+                said.append(line)
+                continue
+            then: List[str] = []
+            while not (ended := ENDED.fullmatch(line := next(lines))):
+                then.append(line)
+            tries.append(Try([*said], then, int(ended[1])))
+        return said, tries
 
     def between_marks(self, words: List[str], **more: str) -> Tuple[int, int]:
         """How many stretches the program has marked, and how many requests it made within them. It must end with status
