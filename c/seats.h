@@ -49,8 +49,7 @@ typedef enum lent { FREE, TAKEN, ABANDONED, LENT_STATES } lent;
 typedef struct bell {
     _Alignas(LINE) _Atomic uint32_t rings;
     _Atomic int file;                   /* an eventfd by which an event loop waits for this bell, plus 1; else 0 */
-    /* the seat that waits here was abandoned: the library lets it come in, and leave */
-    _Atomic int is_minded;
+    _Atomic int is_minded;              /* whose seat was abandoned: the library lets it come in, and leave */
 } bell;
 
 struct monk_seat {
@@ -60,16 +59,14 @@ struct monk_seat {
     bell *watched;                      /* at which an event loop waits for it */
     bell *bell;                         /* at which it waits, if it was abandoned; changed as `lent` is */
     _Atomic uint32_t lent;              /* LENT_STATES * lending + a lent; changed under the monitor's lock alone */
-    /* this and the place are copies of what the token says, for any thread that asks */
-    _Atomic uint32_t left;
+    _Atomic uint32_t left;              /* a copy of what the token says, as `place` is, for any thread */
     uint32_t broadcasts;                /* how many there had been on its condition when the wait began */
     int file;                           /* its eventfd, or NO_FILE */
     _Atomic uint8_t calling;            /* a call by this seat is under way */
     _Atomic int8_t place;
     uint8_t wish, number;
     uint8_t waits_on;                   /* the condition on which it waits, or NO_CONDITION */
-    /* lent to the library itself, for a look at the history; changed as `lent` is */
-    uint8_t is_visitor;
+    uint8_t is_visitor;                 /* lent to the library, for a look at the history; changed as `lent` is */
 };
 _Static_assert(sizeof(struct monk_seat) == LINE, "a seat has a line of its own, and no more");
 
@@ -80,8 +77,7 @@ struct monk_monitor {
     uint32_t bits;                              /* a copy of the flags, touched by the seat that is inside */
     uint32_t broadcasts[MOST_CONDITIONS];       /* how many there were on each condition, touched as `bits` is */
     _Atomic int stopped, closed;
-    /* of lending, and of abandoned seats: a release takes it if it lets one of them in */
-    _Atomic uint32_t lock;
+    _Atomic uint32_t lock;                      /* of lending, and of abandoned seats that a release lets in */
     monk_seat *reader;                          /* the seat that closed it, through which the history is read */
     void *room;                                 /* the tokens' */
     monk_k_seat tokens[MOST_SEATS];

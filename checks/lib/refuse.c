@@ -4,8 +4,8 @@
    each line of standard output that begins with MARK it writes how many requests there were before that line.
 
    With REFUSE_EACH it refuses each request of a program of one thread: in a child, which goes on without that memory
-   and writes to standard output alone, while the program waits. A line `try N` stands before what the child writes,
-   and `ended STATUS` behind it. */
+   and writes to standard output alone, while the program waits, for PATIENCE seconds at most. A line `try N` stands
+   before what the child writes, and `ended STATUS` behind it: below 0 is the signal that ended it. */
 #define _GNU_SOURCE
 #include <dlfcn.h>
 #include <errno.h>
@@ -16,6 +16,8 @@
 #include <string.h>
 #include <sys/wait.h>
 #include <unistd.h>
+
+enum { PATIENCE = 20 };
 
 static _Atomic long requests, threads;
 
@@ -38,7 +40,7 @@ static int is_child_of_request(void)
     int status;
     say("try", requests);
     pid_t child = fork();
-    if (!child) return dup2(STDOUT_FILENO, STDERR_FILENO), 1;
+    if (!child) return alarm(PATIENCE), dup2(STDOUT_FILENO, STDERR_FILENO), 1;
     if (waitpid(child, &status, 0) != child) abort();
     say("ended", WIFEXITED(status) ? WEXITSTATUS(status) : -WTERMSIG(status));
     return 0;

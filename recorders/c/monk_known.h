@@ -71,8 +71,7 @@ struct log {
     int waits, waiting;            /* how many there were, and are */
     _Atomic(const char *) stopped; /* why no more lines are written, if so */
     atomic_int left_out;           /* signals from outside that it lacks */
-    /* held by who changes what follows, and by who isn't the holder of the mutex and reads it */
-    atomic_int order;
+    atomic_int order;              /* held by who changes what follows, or reads it without the mutex */
     struct condition *conds[CONDS];
     struct outside *outside;
     size_t noted, outside_room;
