@@ -1,5 +1,5 @@
-"""What is refused in the files of C, C++, Java, Go, Rust and Python that git tracks: lines that are too wide, files that
-are too long; and in Python also what has no type, and functions that are too big."""
+"""What is refused in the files of C, C++, Java, Go, Rust, shell and Python that git tracks: lines that are too wide,
+files that are too long; and in Python also what has no type, and functions that are too big."""
 from __future__ import annotations
 
 import ast
@@ -8,7 +8,7 @@ import re
 import subprocess
 from typing import Iterator, List, Optional, Union
 
-FIRST_LINE = b"#!/usr/bin/env python3\n"
+PYTHON, SHELLS = b"#!/usr/bin/env python3\n", (b"#!/usr/bin/env bash\n", b"#!/bin/sh\n")
 ENDINGS = (".c", ".cc", ".cpp", ".go", ".h", ".hpp", ".java", ".rs")
 WIDTH, FILE_LINES, LINES, DEEP, PARAMETERS = 120, 400, 40, 3, 6
 # It doesn't count for the width of a line.
@@ -20,12 +20,22 @@ NESTING = (ast.If, ast.For, ast.AsyncFor, ast.While, ast.With, ast.AsyncWith, as
 Function = Union[ast.FunctionDef, ast.AsyncFunctionDef]
 
 
+def first_line(path: str) -> bytes:
+    """How it begins, if it is a file."""
+    if not os.path.isfile(path):
+        return b""
+    with open(path, "rb") as file:
+        return file.readline(len(PYTHON))
+
+
 def is_python(path: str) -> bool:
     """Whether there is such a file, and it is Python."""
-    if not os.path.isfile(path):
-        return False
-    with open(path, "rb") as file:
-        return path.endswith(".py") or file.readline(len(FIRST_LINE)) == FIRST_LINE
+    return path.endswith(".py") and os.path.isfile(path) or first_line(path) == PYTHON
+
+
+def is_read(path: str) -> bool:
+    """Whether there is such a file, and it is of one of these languages."""
+    return path.endswith(ENDINGS) or is_python(path) or first_line(path) in SHELLS
 
 
 def depth(node: ast.AST, above: Optional[ast.AST] = None) -> int:
@@ -80,7 +90,7 @@ def functions(path: str, text: str) -> Iterator[str]:
 def refused() -> Iterator[str]:
     """What is refused in the repository, whose top is the folder that is worked in."""
     tracked = subprocess.check_output(["git", "ls-files", "-z"], text=True).split("\0")
-    for path in (it for it in tracked if is_python(it) or it.endswith(ENDINGS)):
+    for path in filter(is_read, tracked):
         with open(path, encoding="utf-8") as file:
             text = file.read()
         yield from sizes(path, text)
