@@ -27,8 +27,6 @@ use std::io::Write;
 /// Plays the commands over the object, by the kind K, and writes the history, or a trace where
 /// there is a second object, which is as the first: a trace shows its data, since nobody sees the
 /// world's own.
-// There are forty of it: in one function the optimizer takes longer for them.
-#[inline(never)]
 fn play_as<K: Kind, T: Listed, W: Write>(
     alloc: Global,
     object: T,

@@ -2,6 +2,7 @@
 
 use super::jobs::{Job, is_answered};
 use monk_commands::Task;
+use monk_kinds::KindName;
 use std::alloc::AllocError;
 use std::test::Fail;
 
@@ -28,10 +29,6 @@ fn is_visited(rt: &HostRuntime, version: u8, kind: &str, object: &str) -> Result
     Ok(matches!(is_answered(rt, &visit), Ok(true)) && matches!(is_answered(rt, &judged), Ok(true)))
 }
 
-static KINDS: [&str; 10] = [
-    "PB", "NPB", "PNB", "NPNB", "PQB", "NPQB", "PIR", "NPIR", "PIS", "NPIS",
-];
-
 /// The objects of their greatest sizes, and the version that names each.
 static OBJECTS: [(u8, &str); 4] = [
     (1, "buffer 64"),
@@ -40,13 +37,21 @@ static OBJECTS: [(u8, &str); 4] = [
     (3, "flags 32"),
 ];
 
+/// The same over each object.
+fn are_visited(rt: &HostRuntime, kind: &str) -> Result<bool, AllocError> {
+    for (version, object) in OBJECTS.iter() {
+        if !is_visited(rt, *version, kind, object)? {
+            return Ok(false);
+        }
+    }
+    Ok(true)
+}
+
 #[test]
 fn each_kind_and_object(rt: HostRuntime) -> Result<(), Fail> {
-    for kind in KINDS.iter() {
-        for (version, object) in OBJECTS.iter() {
-            if !is_visited(&rt, *version, kind, object)? {
-                return Err(*kind)?;
-            }
+    for kind in KindName::ALL.iter() {
+        if !are_visited(&rt, kind.as_str())? {
+            return Err(kind.as_str())?;
         }
     }
     Ok(())
