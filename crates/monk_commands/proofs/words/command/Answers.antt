@@ -1,0 +1,21 @@
+use Rattle.std.proofs.Common.{◌≡◌, ℕ, ◌+◌, ◌<◌, List, length, get_or, drop, add-one, map, refl}
+use Rattle.std.specs.Prelude.{fold}
+use Rattle.std.proofs.Math.Seq.{drop-cons}
+use Rattle.clap.specs.Words.{App, Rule, with_rule}
+use Rattle.monk_commands.specs.Request.{word_rule}
+use Rattle.monk_commands.specs.declared.word.Word.{Word}
+use Rattle.monk_commands.proofs.words.command.Goals as goal
+
+-- with one word more
+words_more : (a b new : App) (rule : Rule) (ws : List Word) (i : ℕ) (w : Word) → i < length ws
+    → fold with_rule a (map word_rule (drop i ws)) ≡ b → rule ≡ word_rule (get_or ws i w)
+    → new ≡ with_rule a rule → fold with_rule new (map word_rule (drop (i + 1) ws)) ≡ b
+words_more a b new rule ws i w within so_far r is = rw (is, r, add-one) (rw (drop-cons ws i w within) at so_far)
+
+pub loop-word-preserved : goal.loop-word-preserved
+loop-word-preserved c = record {
+  is =
+      words_more _ _ _ _ c.args.words.now.words.now c.loop-word.word-index _ c.loop-word-test.true
+      c.loop-word.invariant.is c.arg.ensures.rule_is (c.in_ok-command.ensures.shape c.arg.ensures.own);
+  own = rw (c.in_ok-command.ensures.globals, c.loop-word.invariant.own, c.arg.ensures.own) refl;
+}
