@@ -147,9 +147,7 @@ pub fn tell_judged(
 {
     let size = history.header.size();
     match history.header.object() {
-        ObjectName::Buffer => {
-            tell_made(alloc, history, Buffer::make(alloc, size), before, last)
-        }
+        ObjectName::Buffer => { tell_made(alloc, history, Buffer::make(alloc, size), before, last) }
         ObjectName::Book => tell_made(alloc, history, Book::make(size), before, last),
         ObjectName::Shop => tell_made(alloc, history, Shop::make(size), before, last),
         ObjectName::Flags => tell_made(alloc, history, Flags::make(size), before, last),
