@@ -27,7 +27,6 @@ use Rattle.monk_history.specs.declared.event.Event.TheVariants.{Act, SignalAll}
 use Rattle.monk_history.specs.declared.event.Next.{Next}
 use Rattle.monk_history.specs.declared.event.Next.TheVariants as next
 use Rattle.monk_history.specs.declared.event.Turn.{Turn}
-use Rattle.monk_history.specs.declared.event.Turn.TheVariants as turn
 use Rattle.monk_history.proofs.PublicLaws.Meaning.{legal_last}
 use Rattle.monk_floor.specs.Grown.{IsGrown}
 use Rattle.monk_floor.specs.Releases.{MayCallOn}
