@@ -55,12 +55,8 @@ impl<T: Guarded> Judge<T> {
         ensures setting { IfOk result (λ v. setting_of v T.meaning ≡ setting seats conds T.meaning) }
         ensures state { IfOk result (λ v. state_of v ≡ opening (T.state object)) }
     {
-        let mut places = Vec::new(alloc);
-        let mut ends = Vec::new(alloc);
-        for _filled in 0..seats {
-            places.push(Place::Outside)?;
-            ends.push(WaitEnd::Never)?;
-        }
+        let places = vec![in alloc; Place::Outside; usize::from(seats)]?;
+        let ends = vec![in alloc; WaitEnd::Never; usize::from(seats)]?;
         Ok(Judge {
             conds,
             lock: None,

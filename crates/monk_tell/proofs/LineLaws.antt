@@ -1,12 +1,19 @@
 -- One item more of what a loop has gone through
-use Rattle.std.proofs.Common.{◌≡◌, ℕ, ◌+◌, Bool, cond, not, List, [], ◌∷◌}
-use Rattle.std.proofs.Common.{◌++◌, map, ap, sym, arith, refl, ◌∙◌}
-use Rattle.std.proofs.lemmas.List.{length-map, map-append}
+use Rattle.std.proofs.Common.{◌≡◌, ℕ, ◌+◌, ◌<◌, Bool, true, false, cond, not, List, [], ◌∷◌}
+use Rattle.std.proofs.Common.{◌++◌, length, map, take, get_or, ap, sym, arith, refl, ◌∙◌}
+use Rattle.std.proofs.lemmas.List.{length-map, map-append, take_more}
+use Rattle.std.proofs.lemmas.List.Elements.{filter-append}
 use Rattle.std.proofs.lemmas.List.FromFn.{map-range_with_len_more}
 use Rattle.std.specs.List.{position, position_or_len}
-use Rattle.std.specs.Prelude.{is_none, slice_get}
+use Rattle.std.specs.Prelude.{filter, is_none, slice_get}
+use Rattle.monk_kinds.specs.declared.mode.Rules.{Rules}
+use Rattle.monk_object.specs.Object.{Object}
+use Rattle.monk_history.specs.Just.{just}
 use Rattle.monk_history.specs.Meaning.Signallers.{is_empty}
+use Rattle.monk_history.specs.Meaning.Untils.{ready_of}
+use Rattle.monk_history.specs.declared.event.Event.{Event}
 use Rattle.monk_audit.specs.Replay.{has}
+use Rattle.monk_audit.specs.Settled.{permits}
 use Rattle.monk_tell.specs.Cause.{conditions_below, waits_at}
 use Rattle.monk_tell.specs.Told.{condition_lists}
 use Rattle.monk_tell.specs.declared.lists.SeatList.{SeatList}
@@ -37,3 +44,30 @@ waits_of_lists c s = sym (rw (first_of_lists (has s) c.0.items, length-map) refl
 pub empty_if_none_first : (xs : List ℕ) → is_none (slice_get xs 0) ≡ is_empty xs
 empty_if_none_first [] = refl
 empty_if_none_first (x ∷ xs) = refl
+
+ready_append : (o : Object) (d : List ℕ) (xs ys : List (ℕ × ℕ))
+    → ready_of o d (xs ++ ys) ≡ ready_of o d xs ++ ready_of o d ys
+ready_append o d xs ys =
+    ap (λ (l : List (ℕ × ℕ)). map (λ w. w.0) l) (filter-append (λ w. o.holds d w.1) xs ys)
+    ∙ map-append (λ w. w.0) (filter (λ w. o.holds d w.1) xs) (filter (λ w. o.holds d w.1) ys)
+
+ready_one : (o : Object) (d : List ℕ) (w : ℕ × ℕ) (b : Bool) → o.holds d w.1 ≡ b
+    → ready_of o d (w ∷ []) ≡ cond b (w.0 ∷ []) []
+ready_one o d w true h = rw h refl
+ready_one o d w false h = rw h refl
+
+-- those ready, of one wait more
+pub ready_more : (o : Object) (d : List ℕ) (ws : List (ℕ × ℕ)) (i : ℕ) (b : Bool) → i < length ws
+    → o.holds d (get_or ws i (0, 0)).1 ≡ b
+    → ready_of o d (take (i + 1) ws) ≡ ready_of o d (take i ws) ++ cond b ((get_or ws i (0, 0)).0 ∷ []) []
+ready_more o d ws i b there holds =
+    ap (λ (l : List (ℕ × ℕ)). ready_of o d l) (take_more ws i (0, 0) there)
+    ∙ (ready_append o d (take i ws) (get_or ws i (0, 0) ∷ [])
+    ∙ ap (λ (l : List ℕ). ready_of o d (take i ws) ++ l) (ready_one o d (get_or ws i (0, 0)) b holds))
+
+-- of those ready the first alone decides
+pub permits_front : (k : Rules) (ws ss xs : List ℕ) (stays : Bool) (e : Event)
+    → permits k (record { waiters = ws; signallers = ss; ready = just (slice_get xs 0) }) stays e
+    ≡ permits k (record { waiters = ws; signallers = ss; ready = xs }) stays e
+permits_front k ws ss [] stays e = refl
+permits_front k ws ss (x ∷ xs) stays e = refl

@@ -1,7 +1,7 @@
 //! Events and turns as they are said.
 
-ghost use Rattle.std.specs.Prelude.{◌≡◌, Some};
-ghost use Rattle.monk_history.specs.Text.{from_word, via_word};
+ghost use Rattle.std.specs.Prelude.{◌≡◌, [], Some, get_or};
+ghost use Rattle.monk_history.specs.Text.{event_words, from_word, via_word};
 ghost use Rattle.monk_tell.specs.Words.{event_text, turn_text};
 
 use monk_history::{Event, From3, Turn, Via};
@@ -28,6 +28,24 @@ pub fn via_word(via: Via) -> &'static str
     }
 }
 
+/// The first word of an event's line.
+fn call_word(event: Event) -> &'static str
+    ensures { result.now ≡ get_or (event_words event) 0 [] }
+{
+    match event {
+        Event::Enter(..) => "enter",
+        Event::Act(..) => "act",
+        Event::Leave(..) => "leave",
+        Event::Wait(..) => "wait",
+        Event::Signal(..) => "signal",
+        Event::SignalLeave(..) => "signal-leave",
+        Event::Until(..) => "until",
+        Event::Resume(..) => "resume",
+        Event::SignalAll(..) => "signal-all",
+        Event::SignalWait(..) => "signal-wait",
+    }
+}
+
 /// An event as in its line of a text: `signal 1 1 waiter 0`.
 #[derive(Drop)]
 pub struct SaidEvent(pub Event);
@@ -36,20 +54,19 @@ impl fmt::Display for SaidEvent {
     ghost output = { λ e. Some (event_text e.0) };
 
     fn fmt<W: fmt::Write>(&self, f: &mut fmt::Formatter<W>) -> fmt::Result {
+        let (call, seat) = (call_word(self.0), self.0.seat());
         match self.0 {
-            Event::Enter(seat, via) => write!(f, "enter {seat} {}", via_word(via)),
-            Event::Act(seat, op, reply) => {
-                write!(f, "act {seat} {} {} {reply}", op.code, op.arg)
-            }
-            Event::Leave(seat, next) => write!(f, "leave {seat} {next}"),
-            Event::Wait(seat, cond, next) => write!(f, "wait {seat} {cond} {next}"),
-            Event::Signal(seat, cond, next) => write!(f, "signal {seat} {cond} {next}"),
-            Event::SignalLeave(seat, cond, next) => write!(f, "signal-leave {seat} {cond} {next}"),
-            Event::Until(seat, pred, next) => write!(f, "until {seat} {pred} {next}"),
-            Event::Resume(seat, queue) => write!(f, "resume {seat} {}", queue_word(queue)),
-            Event::SignalAll(seat, cond) => write!(f, "signal-all {seat} {cond}"),
-            Event::SignalWait(seat, cond, other, next) => {
-                write!(f, "signal-wait {seat} {cond} {other} {next}")
+            Event::Enter(_, via) => write!(f, "{call} {seat} {}", via_word(via)),
+            Event::Act(_, op, reply) => write!(f, "{call} {seat} {} {} {reply}", op.code, op.arg),
+            Event::Leave(_, next) => write!(f, "{call} {seat} {next}"),
+            Event::Wait(_, number, next)
+            | Event::Signal(_, number, next)
+            | Event::SignalLeave(_, number, next)
+            | Event::Until(_, number, next) => write!(f, "{call} {seat} {number} {next}"),
+            Event::Resume(_, queue) => write!(f, "{call} {seat} {}", queue_word(queue)),
+            Event::SignalAll(_, cond) => write!(f, "{call} {seat} {cond}"),
+            Event::SignalWait(_, cond, other, next) => {
+                write!(f, "{call} {seat} {cond} {other} {next}")
             }
         }
     }

@@ -16,7 +16,7 @@ use crate::steps::{follow, steps_from};
 use crate::telling::Telling;
 use monk_audit::{AuditFault, Reason, Replay, Verdict, audit, rules_by_name};
 use monk_history::{Event, Header};
-use monk_object::{Book, Buffer, Flags, Guarded, Listed, ObjectName, Shop};
+use monk_object::{Book, Buffer, Flags, Guarded, Listed, ObjectFault, ObjectName, Shop};
 use std::alloc::{AllocError, Global};
 
 /// What is wrong with the first event that is not allowed, if there is one. The replay is that of the events before it.
@@ -102,6 +102,26 @@ fn tell_over<T: Listed>(
     Ok((telling, steps))
 }
 
+/// The same over an object in its opening state, if it was made.
+fn tell_made<T: Listed>(
+    alloc: Global,
+    history: JudgedHistory<'_>,
+    made: Result<T, ObjectFault>,
+    before: usize,
+    last: usize,
+) -> Result<(Telling, Vec<Step>), AuditFault>
+    requires named { T.meaning ≡ meaning_named history.header.now.object }
+    requires opening { IfOk made
+        (λ o. T.state o ≡ opening_named history.header.now.object history.header.now.size) }
+    ensures told { IfOk result
+        (λ r. telling_of r.0 ≡ account history.entry.header.now history.entry.events.now) }
+    ensures steps { IfOk result
+        (λ r. map step_of r.1.items ≡ steps_between history.entry.header.now history.entry.events.now before last) }
+    ensures object { IsErrOf result AuditFault.Object → IsErrOf made ObjectFault.Size }
+{
+    Ok(tell_over(alloc, history, made?, before, last)?)
+}
+
 /// Tells what [`tell`] and [`tell_steps`] do, by one replay, of a history whose verdict is known.
 ///
 /// # Errors
@@ -127,13 +147,10 @@ pub fn tell_judged(
 {
     let size = history.header.size();
     match history.header.object() {
-        ObjectName::Buffer => {
-            let buffer = Buffer::make(alloc, size)?;
-            Ok(tell_over(alloc, history, buffer, before, last)?)
-        }
-        ObjectName::Book => Ok(tell_over(alloc, history, Book::make(size)?, before, last)?),
-        ObjectName::Shop => Ok(tell_over(alloc, history, Shop::make(size)?, before, last)?),
-        ObjectName::Flags => Ok(tell_over(alloc, history, Flags::make(size)?, before, last)?),
+        ObjectName::Buffer => { tell_made(alloc, history, Buffer::make(alloc, size), before, last) }
+        ObjectName::Book => tell_made(alloc, history, Book::make(size), before, last),
+        ObjectName::Shop => tell_made(alloc, history, Shop::make(size), before, last),
+        ObjectName::Flags => tell_made(alloc, history, Flags::make(size), before, last),
     }
 }
 

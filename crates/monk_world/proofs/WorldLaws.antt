@@ -1,6 +1,6 @@
 -- From what the words and the floor did to a step of the state
 use Rattle.std.proofs.Common.{◌≡◌, ℕ, ◌+◌, ◌%◌, ◌==◌, ◌<◌, ◌≤◌, cond, Bool, true, false, List, length, [], ◌||◌, ◌&&◌}
-use Rattle.std.proofs.Common.{⊎_elim, sym, refl, ap, ◌∙◌, subst, arith}
+use Rattle.std.proofs.Common.{⊎_elim, sym, refl, ap, eq-eqb, ◌∙◌, subst, arith}
 use Rattle.std.specs.Prelude.{not, nat_lt, nat_le, slice_index_or, Some, None}
 use Rattle.std.proofs.lemmas.Bool.{eqb-true, cases_lt}
 use Rattle.monk_kinds.specs.Kind.{IsKind}
@@ -18,17 +18,19 @@ use Rattle.monk_world.specs.Stands.{opening_world}
 use Rattle.monk_world.proofs.RunLaws.{opening_is_sound}
 use Rattle.monk_history.specs.Meaning.Events.{is_stay}
 use Rattle.monk_history.specs.Meaning.Monitor.{data_of}
-use Rattle.monk_history.specs.Meaning.Reasons.{IsAllowed}
+use Rattle.monk_history.specs.Meaning.Reasons.{IsAllowed, fits_turn, is_in_place, is_owned_by}
+use Rattle.monk_history.specs.Meaning.Situation.{Situation}
 use Rattle.monk_history.specs.Meaning.Release.{with_next}
 use Rattle.monk_history.specs.Meaning.Turn.{turn}
 use Rattle.monk_history.specs.declared.event.Event.{Event}
 use Rattle.monk_history.specs.declared.event.Event.TheVariants.{Act, SignalAll}
 use Rattle.monk_history.specs.declared.event.Next.{Next}
 use Rattle.monk_history.specs.declared.event.Next.TheVariants as next
-use Rattle.monk_history.specs.declared.event.Turn.TheVariants as turn
+use Rattle.monk_history.specs.declared.event.Turn.{Turn}
 use Rattle.monk_history.proofs.PublicLaws.Meaning.{legal_last}
 use Rattle.monk_floor.specs.Grown.{IsGrown}
-use Rattle.monk_floor.specs.View.{FloorView, monitor_of, empty_floor}
+use Rattle.monk_floor.specs.Releases.{MayCallOn}
+use Rattle.monk_floor.specs.View.{FloorView, monitor_of, stands_of, empty_floor}
 use Rattle.monk_world.specs.Kept.{IsKept}
 use Rattle.monk_world.specs.Places.{stage, ticket, back_turn, turn_of_next, due_to, outside_stage, active_stage}
 use Rattle.monk_world.specs.Update.{update}
@@ -254,6 +256,22 @@ module _ (k : Rules) (o : Object) (w : WorldWords) (f : FloorView) (v : WorldVie
   at_active c a t free active d =
       let at = active_is (s.world.place i) (sym active ∙ (ready_here c free).told) in
       at_place (Active at.source) c a t at.is (d at.source)
+
+  -- an active seat that no refusal stops may call the floor
+  pub may_call : (c : Command) (e : Event) (conds : ℕ) → IsKept k o w.seats conds s
+      → refusal k o (state_of_view v) i c ≡ None → call_of i c ≡ Some e
+      → may_be_told (s.world.place i) c ≡ (stage (s.world.place i) == active_stage)
+      → ((u : Turn) → fits_turn u e ≡ is_owned_by i u) → ((t : Situation) → is_in_place o t e ≡ true)
+      → MayCallOn k o f e
+  may_call c e conds old free names active owns places =
+      let r = ready_here c free in
+      let mine = old.sound.is_sound.active i (eqb-true _ _ (sym active ∙ r.told)) in
+      record {
+        in_range = subst (λ x. is_call_in_range o f x ≡ true) names r.range;
+        offered = subst (λ x. is_call_offered k x ≡ true) names r.offered;
+        in_turn = owns (turn f.history) ∙ (ap (is_owned_by i) mine ∙ eq-eqb i i refl);
+        in_place = places (stands_of k o f);
+      }
 
   -- a release is done as its command says, and keeps what is kept
   pub release_done : {x : Next} {known : Bool} {a : Answer} {new : WorldWords} {g : FloorView} (c : Command) (e : Event)

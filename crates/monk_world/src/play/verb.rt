@@ -24,6 +24,23 @@ pub(crate) enum CommandVerb {
 }
 
 impl CommandVerb {
+    const ALL: [CommandVerb; 14] = [
+        CommandVerb::Arrive,
+        CommandVerb::Look,
+        CommandVerb::Out,
+        CommandVerb::Peek,
+        CommandVerb::Drop,
+        CommandVerb::Grant,
+        CommandVerb::Act,
+        CommandVerb::Leave,
+        CommandVerb::Wait,
+        CommandVerb::Signal,
+        CommandVerb::SignalLeave,
+        CommandVerb::Until,
+        CommandVerb::SignalAll,
+        CommandVerb::SignalWait,
+    ];
+
     /// The verb of that version whose word this is, byte for byte.
     pub(crate) fn of_version(word: &[u8], version: u8) -> Option<CommandVerb>
         ensures { result ≡ with_text play_verb_word (play_verbs_of version) word.now }
@@ -59,36 +76,31 @@ impl CommandVerb {
     fn of_text(word: &[u8]) -> Option<CommandVerb>
         ensures { result ≡ with_text play_verb_word play_verbs word.now }
     {
-        if word == b"arrive".as_slice() {
-            Some(CommandVerb::Arrive)
-        } else if word == b"look".as_slice() {
-            Some(CommandVerb::Look)
-        } else if word == b"out".as_slice() {
-            Some(CommandVerb::Out)
-        } else if word == b"peek".as_slice() {
-            Some(CommandVerb::Peek)
-        } else if word == b"drop".as_slice() {
-            Some(CommandVerb::Drop)
-        } else if word == b"grant".as_slice() {
-            Some(CommandVerb::Grant)
-        } else if word == b"act".as_slice() {
-            Some(CommandVerb::Act)
-        } else if word == b"leave".as_slice() {
-            Some(CommandVerb::Leave)
-        } else if word == b"wait".as_slice() {
-            Some(CommandVerb::Wait)
-        } else if word == b"signal".as_slice() {
-            Some(CommandVerb::Signal)
-        } else if word == b"signal-leave".as_slice() {
-            Some(CommandVerb::SignalLeave)
-        } else if word == b"until".as_slice() {
-            Some(CommandVerb::Until)
-        } else if word == b"signal-all".as_slice() {
-            Some(CommandVerb::SignalAll)
-        } else if word == b"signal-wait".as_slice() {
-            Some(CommandVerb::SignalWait)
-        } else {
-            None
+        CommandVerb::ALL
+            .iter()
+            .copied()
+            .find(|verb| word == verb.text())
+    }
+
+    /// Its word.
+    fn text(self) -> &'static [u8]
+        ensures { result.now ≡ play_verb_word self }
+    {
+        match self {
+            CommandVerb::Arrive => b"arrive",
+            CommandVerb::Look => b"look",
+            CommandVerb::Out => b"out",
+            CommandVerb::Peek => b"peek",
+            CommandVerb::Drop => b"drop",
+            CommandVerb::Grant => b"grant",
+            CommandVerb::Act => b"act",
+            CommandVerb::Leave => b"leave",
+            CommandVerb::Wait => b"wait",
+            CommandVerb::Signal => b"signal",
+            CommandVerb::SignalLeave => b"signal-leave",
+            CommandVerb::Until => b"until",
+            CommandVerb::SignalAll => b"signal-all",
+            CommandVerb::SignalWait => b"signal-wait",
         }
     }
 }

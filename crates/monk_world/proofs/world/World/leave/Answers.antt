@@ -6,6 +6,13 @@ use Rattle.monk_world.specs.declared.home.Home.TheVariants as home
 use Rattle.monk_world.proofs.WorldLaws as world
 use Rattle.monk_world.proofs.world.World.leave.Goals as goal
 
+pub plain_leave-next-requires-clause-call : goal.plain_leave-next-requires-clause-call
+plain_leave-next-requires-clause-call g c κs within =
+    world.may_call g.K.Kind.rules g.T.Guarded.meaning c.self.inside.words c.self.inside.floor c.args.self.now
+    c.self.view_is c.args.seat (command.Leave c.args.pick)
+    (Leave c.args.seat next.Stay) c.self.inside.conds c.self.invariant c.requires refl refl
+    (λ u. refl) (λ t. refl)
+
 pub invariant_of-self : goal.invariant_of-self
 invariant_of-self g c =
     (world.release_done g.K.Kind.rules g.T.Guarded.meaning c.self.inside.words c.self.inside.floor c.args.self.now
