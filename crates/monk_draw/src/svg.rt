@@ -46,14 +46,21 @@ pub fn draw(
         scene,
         layout: Layout::of(header, scene),
     };
-    canvas.put_ground(header)?;
-    canvas.put_bars(alloc)?;
-    canvas.put_arrows()?;
-    canvas.note_refused()?;
-    canvas.put_tags()?;
-    canvas.put_fault(reason)?;
-    canvas.put_legend()?;
-    canvas.put_marks(header.object())?;
-    canvas.page.push_str("</svg>\n")?;
+    canvas.put_all(alloc, header, reason)?;
     Ok(canvas.page)
+}
+
+impl Canvas<'_> {
+    /// Puts the whole picture.
+    fn put_all(&mut self, alloc: Global, header: &Header, reason: &str) -> Result<(), AllocError> {
+        self.put_ground(header)?;
+        self.put_bars(alloc)?;
+        self.put_arrows()?;
+        self.note_refused()?;
+        self.put_tags()?;
+        self.put_fault(reason)?;
+        self.put_legend()?;
+        self.put_marks(header.object())?;
+        self.page.push_str("</svg>\n")
+    }
 }

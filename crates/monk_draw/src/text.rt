@@ -12,12 +12,10 @@ use crate::scene::Scene;
 use crate::text_form::TextForm;
 use brush::Brush;
 use column::columns;
-use fault::put_fault;
 use lane::lanes;
 use monk_history::Header;
 use signs::Signs;
 use std::alloc::{AllocError, Global};
-use strip::strips;
 
 /// The picture of a scene as lines of text, in strips that are as wide as the form says. A strip has the numbers of its
 /// steps, and a line for each seat that comes.
@@ -51,14 +49,6 @@ pub fn draw_text(
         signs: Signs::of(form.layout.is_ascii),
     };
     let mut page = String::new(alloc);
-    brush.put_heading(&mut page, header)?;
-    let room = brush.room(form.layout.width as usize);
-    for strip in strips(alloc, &columns, room)? {
-        brush.put_strip(&mut page, strip)?;
-        if scene.is_forbidden(strip.last.saturating_sub(1)) {
-            let at = brush.column_at(strip);
-            put_fault(&mut page, at, form.layout.width as usize, reason)?;
-        }
-    }
+    brush.put_picture(&mut page, header, form.layout.width as usize, reason)?;
     Ok(page)
 }

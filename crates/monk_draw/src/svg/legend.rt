@@ -41,40 +41,41 @@ impl Canvas<'_> {
 
     /// Puts the legend of what occurs, four in a row; outside does in each picture.
     pub(super) fn put_legend(&mut self) -> Result<(), AllocError> {
-        let (mut at, base) = (0u8, self.layout.base());
+        let mut at = 0u8;
         for look in LOOKS.iter() {
             let (class, words) = *look;
             if class == OUTSIDE || self.looks.contains(&class) {
-                let (x, y) = (16 + 180 * u64::from(at % 4), base + 22 * u64::from(at / 4));
-                write!(self.page, "<g transform=\"translate({x} {y})\">")?;
-                self.put_sample(class)?;
-                write!(
-                    self.page,
-                    "<text class=\"soft\" x=\"28\" y=\"10\">{words}</text></g>\n"
-                )?;
+                self.put_look(at, class, words)?;
                 at = at.saturating_add(1);
             }
         }
         Ok(())
     }
 
+    /// Puts a sample and its words, behind so many of the legend.
+    fn put_look(&mut self, at: u8, class: &str, words: &str) -> Result<(), AllocError> {
+        let (column, row) = (u64::from(at % 4), u64::from(at / 4));
+        let (x, y) = (16 + 180 * column, self.layout.base() + 22 * row);
+        write!(self.page, "<g transform=\"translate({x} {y})\">")?;
+        self.put_sample(class)?;
+        write!(
+            self.page,
+            "<text class=\"soft\" x=\"28\" y=\"10\">{words}</text></g>\n"
+        )
+    }
+
     /// Puts a sample of how it looks.
     fn put_sample(&mut self, class: &str) -> Result<(), AllocError> {
-        match class {
-            "rail" => write!(self.page, "<path class=\"{class}\" d=\"M0 6h22\"/>"),
-            "hand" => write!(
-                self.page,
-                "<path class=\"{class}\" marker-end=\"url(#{class}-tip)\" d=\"M0 6h20\"/>"
+        let (shape, rest) = match class {
+            OUTSIDE => ("path", "d=\"M0 6h22\"/>"),
+            "hand" => ("path", "marker-end=\"url(#hand-tip)\" d=\"M0 6h20\"/>"),
+            "mark refused" => (
+                "g",
+                "transform=\"translate(11 6)\"><circle r=\"6\"/>\
+                <path d=\"M-4 -4L4 4M-4 4L4 -4\"/></g>",
             ),
-            "mark refused" => write!(
-                self.page,
-                "<g class=\"{class}\" transform=\"translate(11 6)\"><circle r=\"6\"/>\
-                <path d=\"M-4 -4L4 4M-4 4L4 -4\"/></g>"
-            ),
-            _ => write!(
-                self.page,
-                "<rect class=\"{class}\" width=\"22\" height=\"12\" rx=\"3\"/>"
-            ),
-        }
+            _ => ("rect", "width=\"22\" height=\"12\" rx=\"3\"/>"),
+        };
+        write!(self.page, "<{shape} class=\"{class}\" {rest}")
     }
 }

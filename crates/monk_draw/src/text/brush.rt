@@ -1,9 +1,10 @@
 //! The strips of a picture, line by line.
 
 use super::column::{Column, GAP};
+use super::fault::put_fault;
 use super::lane::Lane;
 use super::signs::{Signs, put_padded, put_times};
-use super::strip::Strip;
+use super::strip::{Strip, strips};
 use crate::label::plural;
 use crate::scene::{Scene, lane_of};
 use monk_history::Header;
@@ -52,13 +53,31 @@ impl Brush<'_> {
             .saturating_add(1)
     }
 
+    /// Puts the heading and the strips of a picture of that width, and why the last event is forbidden, if it is.
+    pub(crate) fn put_picture(
+        self,
+        page: &mut String,
+        header: &Header,
+        width: usize,
+        reason: &str,
+    ) -> Result<(), AllocError> {
+        self.put_heading(page, header)?;
+        for strip in strips(self.alloc, self.columns, self.room(width))? {
+            self.put_strip(page, strip)?;
+            if self.scene.is_forbidden(strip.last.saturating_sub(1)) {
+                put_fault(page, self.column_at(strip), width, reason)?;
+            }
+        }
+        Ok(())
+    }
+
     /// How much room a strip of that width has for its columns.
-    pub(crate) fn room(self, width: usize) -> usize {
+    fn room(self, width: usize) -> usize {
         width.saturating_sub(self.margin()).saturating_sub(GAP)
     }
 
     /// Where the words of a strip's last event begin.
-    pub(crate) fn column_at(self, strip: Strip) -> usize {
+    fn column_at(self, strip: Strip) -> usize {
         let mut at = self.margin().saturating_add(GAP);
         for index in strip.first..strip.last.saturating_sub(1) {
             at = at.saturating_add(self.width(index)).saturating_add(GAP);
@@ -71,7 +90,7 @@ impl Brush<'_> {
     }
 
     /// Puts what the picture is of: the kind, the events, and how many seats have no lane.
-    pub(crate) fn put_heading(self, page: &mut String, header: &Header) -> Result<(), AllocError> {
+    fn put_heading(self, page: &mut String, header: &Header) -> Result<(), AllocError> {
         let (kind, count) = (header.kind(), self.columns.len());
         let (kind, before) = (kind.as_str(), self.scene.before);
         if before == 0 {
@@ -103,7 +122,7 @@ impl Brush<'_> {
     }
 
     /// Puts a strip, with a blank line before each but the first.
-    pub(crate) fn put_strip(self, page: &mut String, strip: Strip) -> Result<(), AllocError> {
+    fn put_strip(self, page: &mut String, strip: Strip) -> Result<(), AllocError> {
         if strip.first > 0 {
             page.push_str("\n")?;
         }

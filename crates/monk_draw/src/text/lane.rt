@@ -24,13 +24,11 @@ fn comes(scene: &Scene, seats: u8, lane: u8) -> bool {
 }
 
 fn title(alloc: Global, seats: u8, names: Names<'_>, lane: u8) -> Result<String, AllocError> {
-    let mut title = String::new(alloc);
     match names.seats.get(usize::from(lane)) {
-        _ if lane >= seats => title.push_str("no seat")?,
-        Some(name) => title.push_str(name)?,
-        None => write!(title, "seat {lane}")?,
+        _ if lane >= seats => String::from_str(alloc, "no seat"),
+        Some(name) => String::from_str(alloc, name),
+        None => format!(in alloc; "seat {lane}"),
     }
-    Ok(title)
 }
 
 /// The lanes of the seats that come, by their numbers.
