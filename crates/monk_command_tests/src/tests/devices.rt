@@ -1,9 +1,9 @@
 //! Readers and writers that fail at each of their calls in turn, that give or take a few bytes at a time, or none.
 ghost use Rattle.std.specs.Prelude.{◌<◌};
 
+use super::commands::JOBS;
 use super::jobs::{Expected, Job};
-use super::questions::{ASKED, EXPLAIN, FIT};
-use monk_commands::{FitForm, Question, StreamFault, Task, classify_stream, run_stream};
+use monk_commands::{StreamFault, Task, classify_stream, run_stream};
 use monk_history::Device;
 use monk_kinds::KindName;
 use monk_samples::Sample;
@@ -13,114 +13,6 @@ use std::io::Read;
 use std::sync::Wait;
 use std::test::Fail;
 use std::thread::Threads;
-
-static JOBS: [Job<'static>; 14] = [
-    Job {
-        name: "legal",
-        task: Task::Audit,
-        input: b"monk 1 PB 2 2 buffer 1\nenter 0 free\nwait 0 1 entry\nenter 1 free\nsignal 1 1 waiter 0\nresume 0 waiter\nleave 0 signaller 1\nresume 1 signaller\nleave 1 entry\n",
-        status: 0,
-        answer: b"legal 8\n",
-    },
-    Job {
-        name: "unreadable",
-        task: Task::Audit,
-        input: b"monk 1 PB 1 0 buffer 1\nenter 0 free\nleave 0 entry\nenter +1 free\n",
-        status: 2,
-        answer: b"unreadable 4 3 number\n",
-    },
-    Job {
-        name: "played",
-        task: Task::Play,
-        input: b"play 1 PB 2 2 buffer 1 8\n0 arrive\n0 out\n0 leave waiter\n1 arrive\n0 drop\n0 grant\n1 look\n1 out\n",
-        status: 0,
-        answer: b"monk 1 PB 2 2 buffer 1\nenter 0 free\nleave 0 entry\nenter 1 handed\n",
-    },
-    Job {
-        name: "upgraded",
-        task: Task::Upgrade,
-        input: b"monk 1 PB 1 0 buffer 1\nenter 0 free\nact 0 0 5 1\nleave 0 entry\n",
-        status: 0,
-        answer: b"monk 2 PB 1 0 buffer 1\nenter 0 free\nact 0 0 5 1\nleave 0 entry\n",
-    },
-    Job {
-        name: "fitted",
-        task: FIT,
-        input: b"monk 1 PB 1 0 buffer 1\nenter 0 free\nleave 0 entry\n",
-        status: 0,
-        answer: b"PB legal 2\nNPB legal 2\nPNB legal 2\nNPNB legal 2\nPQB legal 2\nNPQB legal 2\nPIR legal 2\nNPIR legal 2\nPIS legal 2\nNPIS legal 2\n",
-    },
-    Job {
-        name: "fitted under a kind",
-        task: Task::Fit(
-            FitForm::Words,
-            Question {
-                kind: Some(KindName::Pis),
-                name: "a.history",
-                ..ASKED
-            },
-        ),
-        input: b"monk 1 PB 1 0 buffer 1\nenter 0 free\nleave 0 entry\n",
-        status: 0,
-        answer: b"a.history: PIS legal 2\n",
-    },
-    Job {
-        name: "a log",
-        task: FIT,
-        input: b"log 1 1 1 buffer 1\nenter 0\nwait 0 0\n",
-        status: 0,
-        answer: b"a.log: fits; dead, all 1 sleep\n",
-    },
-    Job {
-        name: "explained",
-        task: EXPLAIN,
-        input: b"monk 1 PB 2 1 buffer 1\nenter 0 free\nwait 0 0 entry\nenter 0 free\n",
-        status: 1,
-        answer: b"forbidden 3 4 place\nline: 4\nevent: enter 0 free\nkind: PB blocking 1 3 2\nturn: open\ninside: 0\ndata: 1 (buffer of 1: empty)\ncondition 0: 0\nwaiter:\nsignaller:\nwhy: seat 0 is inside already\n",
-    },
-    Job {
-        name: "a log explained",
-        task: EXPLAIN,
-        input: b"log 1 1 1 buffer 1\nenter 0\nwait 0 0\n",
-        status: 0,
-        answer: b"fits; dead, all 1 sleep\nseat 0: sleeps on condition 0 since line 3; no signal came there since\n",
-    },
-    Job {
-        name: "not drawn",
-        task: Task::Draw(None),
-        input: b"monk 1 PB 1 0 buffer 1\nenter 0 free\nleave +0 entry\n",
-        status: 2,
-        answer: b"unreadable 3 3 number\n",
-    },
-    Job {
-        name: "traced",
-        task: Task::Trace,
-        input: b"play 1 PB 1 0 buffer 1 8\n0 arrive\n0 out\n0 leave waiter\n",
-        status: 0,
-        answer: b"1 | 0 arrive | arrived 0 0 | t=1 n=1 | data: 1 (buffer of 1: empty) | due\n2 | 0 out | now | t=1 n=1 | data: 1 (buffer of 1: empty) | active\n3 | 0 leave waiter | chose entry | t=1 n=1 | data: 1 (buffer of 1: empty) | back entry\n",
-    },
-    Job {
-        name: "completed",
-        task: Task::Complete(Some(KindName::Npb)),
-        input: b"log 1 2 1 buffer 1\nenter 0\nwait 0 0\nenter 1\nsignal 1 0\nresume 0\nleave 0\nresume 1\n",
-        status: 0,
-        answer: b"monk 2 NPB 2 1 buffer 1\nenter 0 free\nwait 0 0 entry\nenter 1 handed\nsignal 1 0 waiter 0\nresume 0 waiter\nleave 0 signaller 1\nresume 1 signaller\n",
-    },
-    Job {
-        name: "run completed",
-        task: Task::Complete(None),
-        input: b"log 1 2 1 buffer 1\nenter 0\nwait 0 0\nenter 1\nsignal 1 0\nleave 1\nresume 0\n",
-        status: 0,
-        answer: b"run NPNB 2 1 buffer 1\nenter 0\nwait 0 0\nenter 1\nsignal 1 0 wakes 0\nleave 1\nresume 0\n",
-    },
-    Job {
-        name: "misfit",
-        task: Task::Complete(Some(KindName::Npnb)),
-        input: b"log 1 2 1 buffer 1\nenter 0\nwait 0 0\nresume 0\n",
-        status: 1,
-        answer: b"NPNB misfit 3 6 unserved\n",
-    },
-];
 
 /// A reader that gives a few bytes at a time and fails at one of its reads.
 #[derive(Drop)]
