@@ -10,6 +10,7 @@ use Rattle.std.proofs.lemmas.Slice.Eq.{bytes_eq-Decides}
 use Rattle.monk_history.specs.declared.text.fault.Flaw.{Flaw}
 use Rattle.monk_history.specs.declared.text.fault.Flaw.TheVariants as flaw
 use Rattle.monk_kinds.specs.Names.{with_text}
+use Rattle.monk_kinds.proofs.Naming.{found_is, some_is}
 use Rattle.monk_history.specs.Text.Words.{◌>>=◌, Word, is_number, number_at, with_rest, one_of, literal_at, end_at}
 use Rattle.monk_history.proofs.TextLaws.NumberWords.{is_number_decimal, is_number_too_great}
 use Rattle.monk_history.proofs.TextLaws.LineCuts.{both}
@@ -58,21 +59,6 @@ number_refused most n ws lt great =
     rw (is_number_too_great most n lt great) refl
 
 -- ---- one of several words
-
-some_is : {A : Type 0} (a b : A) → Option.Some a ≡ Some b → a ≡ b
-some_is a b e = cc
-
-test_found : {A : Type 0} (b : Bool) (w u : Word) (v x : A) (rest : Option A) (word : A → Word)
-    → (b ≡ true → w ≡ word v) → (rest ≡ Some x → w ≡ word x) → cond b (Some v) rest ≡ Some x → w ≡ word x
-test_found true w u v x rest word same other e = same refl ∙ ap word (some_is v x e)
-test_found false w u v x rest word same other e = other e
-
-found_is : {A : Type 0} (word : A → Word) (values : List A) (w : Word) (x : A)
-    → with_text word values w ≡ Some x → w ≡ word x
-found_is word [] w x e = absurd cc
-found_is word (v ∷ vs) w x e =
-    test_found (bytes_eq w (word v)) w w v x (with_text word vs w) word (λ b. (bytes_eq-Decides w (word v)).0 b)
-    (found_is word vs w x) e
 
 rest_taken : {A : Type 0} (o : Option A) (word : A → Word) (w : Word) (ws : List Word) (x : A × List Word)
     → ((y : A) → o ≡ Some y → w ≡ word y) → with_rest ws o ≡ Ok x → w ∷ ws ≡ word x.0 ∷ x.1

@@ -1,0 +1,37 @@
+-- A value that is found by a text is written so.
+use Rattle.std.proofs.Common.{◌≡◌, ◌↔◌, ℕ, Bool, true, false, cond, List, [], ◌∷◌, Option, Some, refl, ap, ◌∙◌}
+use Rattle.std.specs.Str.{bytes_eq}
+use Rattle.std.proofs.lemmas.Slice.Eq.{bytes_eq-Decides}
+use Rattle.monk_kinds.specs.Names.{kind_word, kinds, with_text}
+use Rattle.monk_kinds.specs.declared.name.KindName.{KindName}
+use Rattle.monk_kinds.specs.declared.name.KindName.TheVariants.{Pb, Npb, Pnb, Npnb, Pqb, Npqb, Pir, Npir, Pis, Npis}
+
+pub some_is : {A : Type 0} (a b : A) → Option.Some a ≡ Some b → a ≡ b
+some_is a b e = cc
+
+test_found : {A : Type 0} (b : Bool) (w : List ℕ) (v x : A) (rest : Option A) (word : A → List ℕ)
+    → (b ≡ true → w ≡ word v) → (rest ≡ Some x → w ≡ word x) → cond b (Some v) rest ≡ Some x → w ≡ word x
+test_found true w v x rest word same other e = same refl ∙ ap word (some_is v x e)
+test_found false w v x rest word same other e = other e
+
+pub found_is : {A : Type 0} (word : A → List ℕ) (values : List A) (w : List ℕ) (x : A)
+    → with_text word values w ≡ Some x → w ≡ word x
+found_is word [] w x e = absurd cc
+found_is word (v ∷ vs) w x e =
+    test_found (bytes_eq w (word v)) w v x (with_text word vs w) word (λ b. (bytes_eq-Decides w (word v)).0 b)
+    (found_is word vs w x) e
+
+kind_again : (k : KindName) → with_text kind_word kinds (kind_word k) ≡ Some k
+kind_again Pb = refl
+kind_again Npb = refl
+kind_again Pnb = refl
+kind_again Npnb = refl
+kind_again Pqb = refl
+kind_again Npqb = refl
+kind_again Pir = refl
+kind_again Npir = refl
+kind_again Pis = refl
+kind_again Npis = refl
+
+pub kind_exact : (w : List ℕ) (k : KindName) → (with_text kind_word kinds w ≡ Some k) ↔ (w ≡ kind_word k)
+kind_exact w k = (found_is kind_word kinds w k, λ e. ap (with_text kind_word kinds) e ∙ kind_again k)
