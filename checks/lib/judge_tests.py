@@ -37,9 +37,8 @@ DECLARED = '\nunsafe extern "C" {\n    safe fn chosen_body() -> u32;\n}\n'
 PROGRAM = "monk"
 # What a body begins with: what must fail with it. And what else is said of it once.
 BEGINS, SAID = ("test", "takes", "hangs", "script"), ("takes", "hangs", "thread", "script", "says")
-# The modules of tests that checks/fail_alloc wants, of each crate.
-WANTED = {"monk_tests": ["refused", "objects", "floor_histories", "full_floor", "worlds", "halls"],
-          "monk_command_tests": ["refused"]}
+# The modules of tests that checks/fail_alloc wants, by crate.
+WANTED = {"monk_tests": ["refused", "objects", "floor_histories", "full_floor", "worlds", "halls"]}
 # How long a test or a script may take, in seconds; one that has not ended by then has not failed.
 SECONDS = 300
 

@@ -1,10 +1,9 @@
--- A value that is found by a text is written so.
-use Rattle.std.proofs.Common.{◌≡◌, ◌↔◌, ℕ, Bool, true, false, cond, List, [], ◌∷◌, Option, Some, refl, ap, ◌∙◌}
+-- A value that is found by its word has that word.
+use Rattle.std.proofs.Common.{arith, ◌≡◌, ◌↔◌, ℕ, Bool, true, false, cond, List, [], ◌∷◌, Option, Some, refl, ap, ◌∙◌}
 use Rattle.std.specs.Str.{bytes_eq}
 use Rattle.std.proofs.lemmas.Slice.Eq.{bytes_eq-Decides}
 use Rattle.monk_kinds.specs.Names.{kind_word, kinds, with_text}
 use Rattle.monk_kinds.specs.declared.name.KindName.{KindName}
-use Rattle.monk_kinds.specs.declared.name.KindName.TheVariants.{Pb, Npb, Pnb, Npnb, Pqb, Npqb, Pir, Npir, Pis, Npis}
 
 pub some_is : {A : Type 0} (a b : A) → Option.Some a ≡ Some b → a ≡ b
 some_is a b e = cc
@@ -22,16 +21,7 @@ found_is word (v ∷ vs) w x e =
     (found_is word vs w x) e
 
 kind_again : (k : KindName) → with_text kind_word kinds (kind_word k) ≡ Some k
-kind_again Pb = refl
-kind_again Npb = refl
-kind_again Pnb = refl
-kind_again Npnb = refl
-kind_again Pqb = refl
-kind_again Npqb = refl
-kind_again Pir = refl
-kind_again Npir = refl
-kind_again Pis = refl
-kind_again Npis = refl
+kind_again k = grind (arith)
 
 pub kind_exact : (w : List ℕ) (k : KindName) → (with_text kind_word kinds w ≡ Some k) ↔ (w ≡ kind_word k)
 kind_exact w k = (found_is kind_word kinds w k, λ e. ap (with_text kind_word kinds) e ∙ kind_again k)

@@ -1,26 +1,45 @@
-//! What no clause says of the crates below the program: the values and texts that people know,
-//! known histories and plays, readers and writers that fail in mid-stream, and refused memory.
+//! What no clause says: the values and texts that people know, known histories, plays and logs, what each command
+//! prints, readers and writers that fail in the middle of a stream, and refused memory.
 
 mod audits;
 mod calls;
+mod commands;
 mod completions;
 mod crossings;
+mod devices;
+mod drawings;
 mod floor_entry;
 mod floor_histories;
 mod floor_steps;
 mod full_floor;
 mod halls;
+mod hasty_runs;
+mod hints;
+mod histories;
+mod jobs;
 mod judgings;
 mod kinds;
 mod last_lines;
+mod log_drawings;
 mod log_texts;
 mod logs;
 mod marks;
 mod meeting;
 mod objects;
+mod pages;
+mod paging;
 mod play_texts;
+mod plays;
+mod questions;
+mod records;
 mod refused;
+mod requests;
+mod runs;
 mod samples;
+mod steps;
+mod tellings;
+mod text_pictures;
 mod texts;
 mod tight;
+mod told_pages;
 mod worlds;

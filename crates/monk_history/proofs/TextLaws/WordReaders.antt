@@ -10,7 +10,7 @@ use Rattle.std.proofs.lemmas.Slice.Eq.{bytes_eq-Decides}
 use Rattle.monk_history.specs.declared.text.fault.Flaw.{Flaw}
 use Rattle.monk_history.specs.declared.text.fault.Flaw.TheVariants as flaw
 use Rattle.monk_kinds.specs.Names.{with_text}
-use Rattle.monk_kinds.proofs.Naming.{found_is, some_is}
+use Rattle.monk_kinds.proofs.PublicLaws.{found_is, some_is}
 use Rattle.monk_history.specs.Text.Words.{◌>>=◌, Word, is_number, number_at, with_rest, one_of, literal_at, end_at}
 use Rattle.monk_history.proofs.TextLaws.NumberWords.{is_number_decimal, is_number_too_great}
 use Rattle.monk_history.proofs.TextLaws.LineCuts.{both}
