@@ -1,23 +1,15 @@
 -- What the bounds on a kind say of the mode that its rules have
-use Rattle.std.proofs.Common.{◌≡◌, ◌≢◌, true, false, refl, sym, ap, ◌∙◌}
+use Rattle.std.proofs.Common.{arith, ◌≡◌, ◌≢◌, true, false, sym, ap, ◌∙◌}
 use Rattle.monk_kinds.specs.declared.mode.Mode.{Mode}
-use Rattle.monk_kinds.specs.declared.mode.Mode.TheVariants.{Blocking, NonBlocking, QuasiBlocking, ImmediateReturn, Automatic}
+use Rattle.monk_kinds.specs.declared.mode.Mode.TheVariants.{ImmediateReturn, Automatic}
 use Rattle.monk_kinds.specs.declared.mode.Rules.{Rules}
 use Rattle.monk_history.specs.Meaning.Events.{has_conditions, has_signaller_queue, returns_at_once}
 
 conditions_of : (m : Mode) → m ≢ Automatic → has_conditions m ≡ true
-conditions_of Blocking n = refl
-conditions_of NonBlocking n = refl
-conditions_of QuasiBlocking n = refl
-conditions_of ImmediateReturn n = refl
-conditions_of Automatic n = absurd (n refl)
+conditions_of m n = grind (arith)
 
 signallers_of : (m : Mode) → m ≢ Automatic → m ≢ ImmediateReturn → has_signaller_queue m ≡ true
-signallers_of Blocking n i = refl
-signallers_of NonBlocking n i = refl
-signallers_of QuasiBlocking n i = refl
-signallers_of ImmediateReturn n i = absurd (i refl)
-signallers_of Automatic n i = absurd (n refl)
+signallers_of m n i = grind (arith)
 
 pub conditional : (k : Rules) (m : Mode) → m ≡ k.mode → m ≢ Automatic → has_conditions k.mode ≡ true
 conditional k m is n = ap has_conditions (sym is) ∙ conditions_of m n

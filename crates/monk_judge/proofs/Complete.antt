@@ -1,7 +1,7 @@
 -- If some run tells the lines, the judge takes them: between its run and any other, threads inside differ only in
 -- whether
 -- they still sleep
-use Rattle.std.proofs.Common.{◌≡◌, ℕ, ◌==◌, ◌⊎◌, Bool, true, false, List, [], ◌∷◌, ◌++◌, Option, Some, None, if◌then◌else◌, refl, sym, ap, subst, ◌∙◌, inl, inr}
+use Rattle.std.proofs.Common.{arith, ◌≡◌, ℕ, ◌==◌, ◌⊎◌, Bool, true, false, List, [], ◌∷◌, ◌++◌, Option, Some, None, if◌then◌else◌, refl, sym, ap, subst, ◌∙◌, inl, inr}
 use Rattle.std.proofs.lemmas.Bool.{eq-eqb, eqb-true, false≢true}
 use Rattle.monk_logs.specs.Log.{is_lapse, line_seat}
 use Rattle.monk_logs.specs.declared.text.line.LogLine.{LogLine}
@@ -41,41 +41,19 @@ pub record Follows (x y : State) (rest : List LogLine) : Type 0 where
 -- ---- places
 
 class_woken : (c : ℕ) (p : Place) → class (woken c p) ≡ class p
-class_woken c Outside = refl
-class_woken c Active = refl
-class_woken c (Waiting d) = elim (d == c) as (λ b. class (if b then Woken d else Waiting d) ≡ Waiting d)
-    [ true ↦ refl | false ↦ refl ]
-class_woken c (Woken d) = refl
-class_woken c (RanOut d) = refl
+class_woken c p = grind (arith)
 
 pub class_out : (p : Place) → class (run_out p) ≡ class p
-class_out Outside = refl
-class_out Active = refl
-class_out (Waiting d) = refl
-class_out (Woken d) = refl
-class_out (RanOut d) = refl
+class_out p = grind (arith)
 
 pub class_unasked : (p : Place) → class (woken_unasked p) ≡ class p
-class_unasked Outside = refl
-class_unasked Active = refl
-class_unasked (Waiting d) = refl
-class_unasked (Woken d) = refl
-class_unasked (RanOut d) = refl
+class_unasked p = grind (arith)
 
 foreseen_woken : (c : ℕ) (p : Place) (b : Bool) → Foreseen p b → Foreseen (woken c p) b
-foreseen_woken c Outside b h = h
-foreseen_woken c Active b h = h
-foreseen_woken c (Waiting d) b h = elim (d == c) as (λ k. Foreseen (if k then Woken d else Waiting d) b)
-    [ true ↦ h | false ↦ h ]
-foreseen_woken c (Woken d) b h = h
-foreseen_woken c (RanOut d) b h = h
+foreseen_woken c p b h = grind (arith)
 
 is_outside : (p : Place) → class p ≡ Outside → p ≡ Outside
-is_outside Outside e = refl
-is_outside Active e = cc
-is_outside (Waiting c) e = cc
-is_outside (Woken c) e = cc
-is_outside (RanOut c) e = cc
+is_outside p e = grind (arith)
 
 can_resume : (p q : Place) → class p ≡ class q → IsWoken q → Foreseen p false → CanResume p
 can_resume p Outside e h k = absurd h

@@ -20,7 +20,7 @@ found_is word (v ∷ vs) w x e =
     test_found (bytes_eq w (word v)) w v x (with_text word vs w) word (λ b. (bytes_eq-Decides w (word v)).0 b)
     (found_is word vs w x) e
 
-kind_again : (k : KindName) → with_text kind_word kinds (kind_word k) ≡ Some k
+pub kind_again : (k : KindName) → with_text kind_word kinds (kind_word k) ≡ Some k
 kind_again k = grind (arith)
 
 pub kind_exact : (w : List ℕ) (k : KindName) → (with_text kind_word kinds w ≡ Some k) ↔ (w ≡ kind_word k)

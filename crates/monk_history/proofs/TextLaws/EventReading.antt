@@ -1,5 +1,5 @@
 -- What is read as an event is how it is written, and an event that is written is read again.
-use Rattle.std.proofs.Common.{◌-◌, lit<, ◌≡◌, ℕ, ◌≤◌, ◌^◌, true, List, [], ◌∷◌, ◌++◌, Some, Ok, refl, sym, ap, subst, ◌∙◌}
+use Rattle.std.proofs.Common.{arith, ◌-◌, lit<, ◌≡◌, ℕ, ◌≤◌, ◌^◌, true, List, [], ◌∷◌, ◌++◌, Some, Ok, refl, sym, ap, subst, ◌∙◌}
 use Rattle.std.specs.Prelude.{IsTrue, nat_le}
 use Rattle.std.specs.Fmt.{decimal}
 use Rattle.std.proofs.lemmas.List.{append-nil}
@@ -7,9 +7,7 @@ use Rattle.monk_history.specs.declared.event.Event.{Event}
 use Rattle.monk_history.specs.declared.event.Event.TheVariants.{Enter, Act, Leave, Wait, Signal, SignalLeave, Until, Resume}
 use Rattle.monk_history.specs.declared.event.Event.TheVariants.{SignalAll, SignalWait}
 use Rattle.monk_history.specs.declared.event.Via.{Via}
-use Rattle.monk_history.specs.declared.event.Via.TheVariants.{Free, Handed}
 use Rattle.monk_history.specs.declared.event.From3.{From3}
-use Rattle.monk_history.specs.declared.event.From3.TheVariants as from
 use Rattle.monk_history.specs.declared.event.Next.{Next}
 use Rattle.monk_history.specs.declared.event.Next.TheVariants.{Stay, Entry, Waiter, Signaller}
 use Rattle.monk_history.specs.declared.event.Next.TheVariants as next
@@ -27,32 +25,16 @@ use Rattle.monk_history.proofs.TextLaws.WordReaders.{bind_ok, ok_is, number_take
 use Rattle.monk_history.proofs.TextLaws.WordReaders.{kept_again, one_of_kept}
 
 pub via_again : (v : Via) → with_text via_word vias (via_word v) ≡ Some v
-via_again Free = refl
-via_again Handed = refl
+via_again v = grind (arith)
 
 pub from_again : (q : From3) → with_text from_word froms (from_word q) ≡ Some q
-from_again from.Waiter = refl
-from_again from.Signaller = refl
-from_again from.Until = refl
+from_again q = grind (arith)
 
 pub next_word_again : (c : NextWord) → with_text next_word all_next_words (next_word c) ≡ Some c
-next_word_again word.Stay = refl
-next_word_again word.Entry = refl
-next_word_again word.Waiter = refl
-next_word_again word.Signaller = refl
-next_word_again word.Until = refl
+next_word_again c = grind (arith)
 
 pub verb_again : (v : Verb) → with_text verb_word verbs (verb_word v) ≡ Some v
-verb_again verb.Enter = refl
-verb_again verb.Act = refl
-verb_again verb.Leave = refl
-verb_again verb.Wait = refl
-verb_again verb.Signal = refl
-verb_again verb.SignalLeave = refl
-verb_again verb.Until = refl
-verb_again verb.Resume = refl
-verb_again verb.SignalAll = refl
-verb_again verb.SignalWait = refl
+verb_again v = grind (arith)
 
 -- ---- a next
 

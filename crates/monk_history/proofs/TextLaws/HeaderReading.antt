@@ -4,10 +4,9 @@ use Rattle.std.specs.Prelude.{◌&&◌, nat_le, codes}
 use Rattle.std.specs.Fmt.{decimal}
 use Rattle.std.proofs.lemmas.Bool.{leb-true, le-leb}
 use Rattle.monk_kinds.specs.declared.name.KindName.{KindName}
-use Rattle.monk_kinds.specs.declared.name.KindName.TheVariants.{Pb, Npb, Pnb, Npnb, Pqb, Npqb, Pir, Npir, Pis, Npis}
 use Rattle.monk_object.specs.declared.name.ObjectName.{ObjectName}
-use Rattle.monk_object.specs.declared.name.ObjectName.TheVariants.{Buffer, Book, Shop, Flags}
 use Rattle.monk_kinds.specs.Names.{kind_word, with_text, kinds}
+use Rattle.monk_kinds.proofs.PublicLaws.{kind_again}
 use Rattle.monk_object.specs.Names.{object_word, objects}
 use Rattle.monk_history.specs.Limits.{most_seats, most_conds}
 use Rattle.monk_history.specs.Text.{Heading, heading, object_version, last_version, part_words, header_words, IsHeading}
@@ -18,23 +17,8 @@ use Rattle.monk_history.proofs.TextLaws.ObjectVersions.{none_newer}
 use Rattle.monk_history.proofs.TextLaws.WordReaders.{bind_ok, ok_is, number_takes, number_again, one_of_takes}
 use Rattle.monk_history.proofs.TextLaws.WordReaders.{one_of_again, made_takes, literal_takes, end_takes}
 
-kind_again : (k : KindName) → with_text kind_word kinds (kind_word k) ≡ Some k
-kind_again Pb = refl
-kind_again Npb = refl
-kind_again Pnb = refl
-kind_again Npnb = refl
-kind_again Pqb = refl
-kind_again Npqb = refl
-kind_again Pir = refl
-kind_again Npir = refl
-kind_again Pis = refl
-kind_again Npis = refl
-
 pub object_again : (o : ObjectName) → with_text object_word objects (object_word o) ≡ Some o
-object_again Buffer = refl
-object_again Book = refl
-object_again Shop = refl
-object_again Flags = refl
+object_again o = grind (arith)
 
 heading_fits : (v : ℕ) (k : KindName) (s c : ℕ) (o : ObjectName) (z : ℕ) (ws : List Word)
     (x : Heading × List Word) → z ≤ 255
@@ -63,10 +47,7 @@ heading_fits v k s c o z ws x le e =
 
 pub first_is : (k : KindName) (s c : ℕ) (o : ObjectName) (z : ℕ)
     → heading_of (object_version o) k s c o z ≡ first_heading_of k s c o z
-first_is k s c Buffer z = refl
-first_is k s c Book z = refl
-first_is k s c Shop z = refl
-first_is k s c Flags z = refl
+first_is k s c o z = grind (arith)
 
 -- the steps of the parts, each with those after it
 abbrev Numbered : Type 0

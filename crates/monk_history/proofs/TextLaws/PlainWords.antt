@@ -10,9 +10,7 @@ use Rattle.monk_history.specs.declared.event.Next.{Next}
 use Rattle.monk_history.specs.declared.event.Next.TheVariants.{Stay, Entry, Waiter, Signaller}
 use Rattle.monk_history.specs.declared.event.Next.TheVariants as next
 use Rattle.monk_kinds.specs.declared.name.KindName.{KindName}
-use Rattle.monk_kinds.specs.declared.name.KindName.TheVariants.{Pb, Npb, Pnb, Npnb, Pqb, Npqb, Pir, Npir, Pis, Npis}
 use Rattle.monk_object.specs.declared.name.ObjectName.{ObjectName}
-use Rattle.monk_object.specs.declared.name.ObjectName.TheVariants.{Buffer, Book, Shop, Flags}
 use Rattle.monk_kinds.specs.Names.{kind_word}
 use Rattle.monk_object.specs.Names.{object_word}
 use Rattle.monk_history.specs.Text.{Heading, next_words, event_words, header_words, IsHeading, NextFits, EventFits}
@@ -53,22 +51,10 @@ event_are_words (SignalWait s c d n) fits =
     rw (decimal_word s fits.0, decimal_word c fits.1, decimal_word d fits.2, next_are_words n fits.3) refl
 
 pub kind_is_word : (k : KindName) → IsWord (kind_word k)
-kind_is_word Pb = refl
-kind_is_word Npb = refl
-kind_is_word Pnb = refl
-kind_is_word Npnb = refl
-kind_is_word Pqb = refl
-kind_is_word Npqb = refl
-kind_is_word Pir = refl
-kind_is_word Npir = refl
-kind_is_word Pis = refl
-kind_is_word Npis = refl
+kind_is_word k = grind (arith)
 
 pub object_is_word : (o : ObjectName) → IsWord (object_word o)
-object_is_word Buffer = refl
-object_is_word Book = refl
-object_is_word Shop = refl
-object_is_word Flags = refl
+object_is_word o = grind (arith)
 
 pub header_are_words : (h : Heading) → IsHeading h → AreWords (header_words h)
 header_are_words h fits =

@@ -1,5 +1,5 @@
 -- What is read as a line of a log is how it is written, and a line that is written is read again.
-use Rattle.std.proofs.Common.{lit<, ◌≡◌, ℕ, ◌≤◌, List, [], ◌∷◌, ◌++◌, Some, Ok, refl, ap, subst, ◌∙◌}
+use Rattle.std.proofs.Common.{arith, lit<, ◌≡◌, ℕ, ◌≤◌, List, [], ◌∷◌, ◌++◌, Some, Ok, refl, ap, subst, ◌∙◌}
 use Rattle.std.specs.Fmt.{decimal}
 use Rattle.std.proofs.lemmas.List.{append-nil}
 use Rattle.monk_kinds.specs.Names.{with_text}
@@ -15,15 +15,7 @@ use Rattle.monk_logs.specs.declared.text.verb.LineVerb.{LineVerb}
 use Rattle.monk_logs.specs.declared.text.verb.LineVerb.TheVariants as verb
 
 verb_again : (v : LineVerb) → with_text log_verb_word log_verbs (log_verb_word v) ≡ Some v
-verb_again verb.Enter = refl
-verb_again verb.Resume = refl
-verb_again verb.Lapse = refl
-verb_again verb.Leave = refl
-verb_again verb.Wait = refl
-verb_again verb.Signal = refl
-verb_again verb.Broadcast = refl
-verb_again verb.Until = refl
-verb_again verb.Act = refl
+verb_again v = grind (arith)
 
 -- ---- behind verb and seat
 

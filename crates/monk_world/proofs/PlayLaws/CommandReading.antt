@@ -1,11 +1,10 @@
 -- What is read as a command is how it is written, and a command that is written is read again.
-use Rattle.std.proofs.Common.{◌-◌, lit<, ◌≡◌, ℕ, ◌≤◌, ◌^◌, true, List, [], ◌∷◌, ◌++◌, Some, Ok, refl, sym, ap, subst, ◌∙◌}
+use Rattle.std.proofs.Common.{arith, ◌-◌, lit<, ◌≡◌, ℕ, ◌≤◌, ◌^◌, true, List, [], ◌∷◌, ◌++◌, Some, Ok, refl, sym, ap, subst, ◌∙◌}
 use Rattle.std.specs.Prelude.{IsTrue, nat_le}
 use Rattle.std.specs.Fmt.{decimal}
 use Rattle.std.proofs.lemmas.List.{append-nil}
 use Rattle.monk_kinds.specs.Names.{with_text}
 use Rattle.monk_kinds.specs.declared.mode.Pick.{Pick}
-use Rattle.monk_kinds.specs.declared.mode.Pick.TheVariants as pick
 use Rattle.monk_object.specs.declared.op.Op.{Op}
 use Rattle.monk_history.specs.Text.Words.{◌>>=◌, Word, Taken, number_at, one_of, end_at}
 use Rattle.monk_history.proofs.PublicLaws.Texts.{bind_ok, ok_is, number_takes, number_again, one_of_takes, one_of_again}
@@ -21,25 +20,10 @@ use Rattle.monk_world.specs.Play.Reading.{op_at, cond_pick_at, action_after, com
 use Rattle.monk_world.specs.StepTable.{command_version}
 
 pick_again : (p : Pick) → with_text pick_word picks (pick_word p) ≡ Some p
-pick_again pick.Entry = refl
-pick_again pick.Waiter = refl
-pick_again pick.Signaller = refl
+pick_again p = grind (arith)
 
 pub verb_again : (v : CommandVerb) → with_text play_verb_word play_verbs (play_verb_word v) ≡ Some v
-verb_again verb.Arrive = refl
-verb_again verb.Look = refl
-verb_again verb.Out = refl
-verb_again verb.Peek = refl
-verb_again verb.Drop = refl
-verb_again verb.Grant = refl
-verb_again verb.Act = refl
-verb_again verb.Leave = refl
-verb_again verb.Wait = refl
-verb_again verb.Signal = refl
-verb_again verb.SignalLeave = refl
-verb_again verb.Until = refl
-verb_again verb.SignalAll = refl
-verb_again verb.SignalWait = refl
+verb_again v = grind (arith)
 
 -- ---- the parts of an action
 

@@ -1,7 +1,6 @@
 -- No word of a command or of a play's first line has a byte 32 or 10.
 use Rattle.std.proofs.Common.{ℕ, refl, arith}
 use Rattle.monk_kinds.specs.declared.mode.Pick.{Pick}
-use Rattle.monk_kinds.specs.declared.mode.Pick.TheVariants as pick
 use Rattle.monk_history.proofs.PublicLaws.Texts.{AreWords, IsWord, IsWord-decimal, decimal_word, kind_is_word}
 use Rattle.monk_history.proofs.PublicLaws.Texts.{none_newer, object_is_word}
 use Rattle.monk_world.specs.declared.command.Command.{Command}
@@ -12,9 +11,7 @@ use Rattle.monk_world.specs.Play.{pick_word, action_words, command_words, Action
 use Rattle.monk_world.proofs.PlayLaws.PlayHeads.{HeadFits, head_words}
 
 pick_is_word : (p : Pick) → IsWord (pick_word p)
-pick_is_word pick.Entry = refl
-pick_is_word pick.Waiter = refl
-pick_is_word pick.Signaller = refl
+pick_is_word p = grind (arith)
 
 action_are_words : (c : Command) → ActionFits c → AreWords (action_words c)
 action_are_words Arrive fits = refl
