@@ -105,7 +105,7 @@ fn with_seat(signal: Option<usize>, found: Option<Crossed>) -> Option<Crossed>
 /// # Cost
 ///
 /// One pass over the lines. Also one pass over the lines of its last visit for each seat whose last line is a `wait`.
-/// last visit.
+pub fn find_crossed(lines: &[LogLine]) -> Option<Crossed>
     ensures { result ≡ crossings.crossed_of lines.now }
 {
     let numbers = last_numbers(lines);
