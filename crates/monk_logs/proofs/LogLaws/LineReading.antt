@@ -1,4 +1,4 @@
--- What is read as a line of a log is how it is written, and a line that is written is read again.
+-- A line is read from the words that it is written as, and a line that is written is read again.
 use Rattle.std.proofs.Common.{lit<, ◌≡◌, ℕ, ◌≤◌, List, [], ◌∷◌, ◌++◌, Some, Ok, refl, ap, subst, ◌∙◌}
 use Rattle.std.specs.Fmt.{decimal}
 use Rattle.std.proofs.lemmas.List.{append-nil}
@@ -25,9 +25,9 @@ verb_again verb.Broadcast = refl
 verb_again verb.Until = refl
 verb_again verb.Act = refl
 
--- ---- behind verb and seat
+-- ---- after verb and seat
 
--- what a line is where its verb and its seat have been read
+-- what a line is after its verb and its seat have been read
 abbrev Ends : LineVerb → ℕ → List Word → LogLine × List Word → Type 0
 Ends v s ws y = (log_verb_word v ∷ decimal s ∷ ws ≡ log_words y.0 ++ y.1) × LineFits y.0
 
