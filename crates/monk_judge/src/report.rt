@@ -18,7 +18,7 @@ pub struct Report {
     pub asleep: u8,
     /// How many threads are woken and not back at the end of the run.
     pub woken: u8,
-    /// The first `leave` or `wait`, counted from 0 after the header, that misses a signal: after it a thread
+    /// The first `leave` or `wait`, counted from 0 after the header, that lacks a signal: after it a thread
     /// sleeps on a condition and nobody is woken there, though all predicates given for it hold. No line is
     /// named after a signal of a thread without the lock, because that signal can be on its way to a sleeper.
     pub missed: Option<usize>,

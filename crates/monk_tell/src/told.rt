@@ -156,8 +156,8 @@ pub fn tell_judged(
 
 /// Returns what [`audit`] finds, and the state of the monitor before the first event that is not allowed, or
 /// at the end of a legal history. Also lists the acts that the object refused up to there. If an event is not
-/// allowed, says what is wrong with it. If its reply is wrong, gives the object's own reply. If its choice is
-/// wrong, gives what the event chose from and each next that is permitted.
+/// allowed, gives it and what is wrong with it. If its reply is wrong, gives the object's own reply. If its
+/// choice is wrong, gives what the event chose from and each next that is permitted.
 ///
 /// # Errors
 ///
