@@ -47,7 +47,7 @@ use Rattle.monk_audit.proofs.AuditLaws.{reason_opening}
 use Rattle.monk_audit.proofs.ReadingLaws.{forbidden_then, judged_end, judged_fault, judged_is, not_opened_text}
 use Rattle.monk_audit.proofs.ReadingLaws.{opened_text, verdict_of_reading}
 
--- and what is left of them is behind the events that were read
+-- and what is left of them comes after the events that were read
 pub piece_ends : (h : Heading) (count : ℕ) (p : PieceLeft) (rest : List ℕ) → p.number ≡ count + 2
     → count + p.room ≡ 2 ^ 25
     → rest ≡ p.bytes
@@ -109,7 +109,7 @@ pub owed_found : (h : Heading) (n : ℕ) (v : TextVerdict) (x : List ℕ)
 unfolding owed_verdict
 owed_found h n v x = refl
 
--- ---- the stage behind a header
+-- ---- the stage after a header
 
 pub too_big_verdict : (h : Heading) (read : Result (List Event) ReadFault) → most h.object < h.size
     → (read_through read >>= λ _. Ok TooBig) ≡ lines_verdict h read
@@ -121,7 +121,7 @@ judged_verdict : (h : Heading) (read : Result (List Event) ReadFault) → h.size
 judged_verdict h (Ok es) fits = rw (le-ltb _ _ fits) refl
 judged_verdict h (Err f) fits = refl
 
--- the opening state has no part in the verdict on what is still to come
+-- the verdict on what is still to come doesn't depend on the opening state
 opening_apart : (k : Rules) (seats conds : ℕ) (o : Object) (d : List ℕ) (n : ℕ) (t : Situation) (es : List Event)
     → verdict_at (monitor k seats conds o []) n t es ≡ verdict_at (monitor k seats conds o d) n t es
 unfolding verdict_at
@@ -222,7 +222,7 @@ pub unfinished_found : (h : Heading) (n : ℕ) (v : TextVerdict) (x : List ℕ) 
 unfinished_found h n v x one some =
     ap (λ r. read_through r >>= λ _. Ok v) (items_unfinished (event_under h) x (n + 2) (2 ^ 25 - n) one some)
 
--- ---- one step of a stage that judges, as one of the whole
+-- ---- one step of a stage that judges, as a step of the whole
 
 pub judged_step : (found : Option Verdict) (next : Option Stage) (o : Object) (c e : Course) (d f bytes rest : List ℕ)
     → IsCourseStep found bytes rest (verdict_from_here o c d) (verdict_from_here o e f)
@@ -286,7 +286,7 @@ pub gives_same : (r x : Result TextVerdict ReadFault) → r ≡ x → Gives same
 gives_same (Ok v) x is = sym is
 gives_same (Err f) x is = λ _. sym is
 
--- what is owed to bytes behind which nothing comes
+-- what is owed for bytes after which nothing comes
 pub at_end : (s t : Stage) (bytes rest : List ℕ) → IsCarried (owed_verdict s) bytes (owed_verdict t) rest
     → owed_verdict s bytes ≡ owed_verdict t rest
 at_end s t bytes rest carried =
@@ -296,13 +296,13 @@ pub faulty_end : (s : Stage) (bytes : List ℕ) (f : ReadFault) → IsFaulty (ow
     → owed_verdict s bytes ≡ Err f
 faulty_end s bytes f faulty = ap (owed_verdict s) (sym (append-nil bytes)) ∙ faulty []
 
--- a fault that is want of memory is told only where memory was asked for
+-- the memory fault is given only if memory was asked for
 pub never_both : {P : Type 0} (f : ReadFault) (none : Type 0) (a b : ℕ) → f ≡ memory → b ≤ a → (none → a < b)
     → (f ≢ memory) ⊎ none → P
 never_both f none a b is le lt (inl n) = absurd (n is)
 never_both f none a b is le lt (inr x) = absurd (omega (arith, lt x))
 
--- events are judged there, all of them legal so far
+-- events are judged in this stage, and all of them are legal so far
 abbrev pub IsJudging : Stage → Course → Type 0
 IsJudging s c =
     ((d : List ℕ) × (s ≡ stage.Buffer c d)) ⊎ (((d : List ℕ) × (s ≡ stage.Book c d))
@@ -325,7 +325,7 @@ unfinished_there s c (inr (inr (inl d))) x one some =
 unfinished_there s c (inr (inr (inr d))) x one some =
     rw d.1 (owed_flags c d.0 x ∙ unfinished_judged flags_meaning c d.0 x one some)
 
--- ---- the three stages that judge, by what they have in common
+-- ---- the stages that judge, by what they have in common
 
 pub record Judges (make : Course → List ℕ → Stage) (o : Object) : Type 0 where
   pub owes : (c : Course) (d x : List ℕ) → owed_verdict (make c d) x ≡ judged_from_here o c d x
@@ -373,7 +373,7 @@ found_faulty s h n v bytes f is faulty more =
     ap (λ t. owed_verdict t (bytes ++ more)) is
     ∙ (owed_found h n v (bytes ++ more) ∙ ap (λ r. r >>= λ _. Ok v) (faulty more))
 
--- ---- the end of a text behind its last line
+-- ---- the end of a text after its last line
 
 no_bytes : (xs : List ℕ) → (length xs == 0) ≡ true → xs ≡ []
 no_bytes [] e = refl

@@ -51,7 +51,7 @@ from_here m past (e ∷ es) l =
 pub verdict_at_is : (m : Monitor) (h : List Event) → verdict_of m h ≡ verdict_at m 0 (opening_situation m) h
 verdict_at_is m h = from_here m [] h (legal_none m) ∙ ap (λ t. verdict_at m 0 t h) (situation-none m)
 
--- the verdict of a monitor on the events that are read, unless a fault is
+-- the verdict of a monitor on the events that are read, or the fault of the reading
 abbrev pub verdict_of_reading : Monitor → Result (List Event) ReadFault → Result Verdict ReadFault
 verdict_of_reading m read = read >>= λ es. Ok (verdict_of m es)
 
@@ -60,7 +60,7 @@ pub judged_is : (m : Monitor) (read : Result (List Event) ReadFault)
 judged_is m (Ok es) = ap (λ v. Ok v) (sym (verdict_at_is m es))
 judged_is m (Err f) = refl
 
--- ---- the turns and the ends of the loop; what is to be judged is `total`
+-- ---- the steps and the ends of the loop; what is to be judged is `total`
 
 pub judged_end : (m : Monitor) (n : ℕ) (t : Situation) (read : Result (List Event) ReadFault)
     (total : Result Verdict ReadFault) → read ≡ Ok [] → verdict_read m n t read ≡ total → total ≡ Ok (Legal n)
@@ -113,7 +113,7 @@ forbidden_then m n r t e read new total more is some so_far =
     ∙ (forbidden_read m n t e new (λ z. some (is ∙ z))
     ∙ ap (λ x. read_through new >>= λ _. Ok (Forbidden (n + 1) x)) (sym is)))
 
--- the reason that a replay gives is that of the monitor
+-- the reason that a replay gives is the reason of the monitor
 pub reason_there : (k : Rules) (seats n conds : ℕ) (o : Object) (d : List ℕ) (t : Situation) (e : Event) (r : ℕ)
     → n ≡ seats → r ≡ reason_in (monitor k n conds o []) t e → r ≡ reason_in (monitor k seats conds o d) t e
 reason_there k seats n conds o d t e r a b = b

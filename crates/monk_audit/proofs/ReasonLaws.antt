@@ -19,12 +19,12 @@ some_number Place = λ z. omega (arith, z)
 some_number Reply = λ z. omega (arith, z)
 some_number Choice = λ z. omega (arith, z)
 
--- what has the number 0 is no reason
+-- if the number is 0, there is no reason
 pub none_by_number : (r : Option Reason) → number_or_0 r ≡ 0 → r ≡ None
 none_by_number None z = refl
 none_by_number (Some r) z = absurd (some_number r z)
 
--- the number of a reason that was found is that of the event's first reason, and not 0
+-- the number of a reason that was found is the number of the event's first reason, and not 0
 pub number_found : (r : Option Reason) (reason : Reason) (n v : ℕ) → number_or_0 r ≡ v → r ≡ Some reason
     → n ≡ number_of reason → n ≡ v
 number_found r reason n v a is b = b ∙ (sym (ap number_or_0 is) ∙ a)
@@ -54,7 +54,7 @@ numbered_again m t e some = six_again (is_in_range m.seats m.conds m.object.code
     (is_offered m.kind e) (is_in_turn t e) (is_in_place m.object t e) (is_right_reply m.object t.state e)
     (is_permitted m.kind m.object t e) some
 
--- the number of a first fault's reason tells which reason it is
+-- the number of a first fault's reason says which reason it is
 pub fault_again : (m : Monitor) (h : List Event) (step reason : ℕ) → IsFirstFault m h step reason
     → number_of (numbered reason) ≡ reason
 fault_again m h step reason f =

@@ -11,7 +11,7 @@ use Rattle.monk_audit.specs.Replay.{IsReplayOf, passed_on, replay_situation, sea
 use Rattle.monk_audit.specs.declared.replay.Replay.{Replay}
 use Rattle.monk_audit.proofs.NextLaws.{joins_in_range, same_situation}
 
--- it is of the same monitor
+-- it still belongs to the same monitor
 pub still_of : (seats conds codes predicates : ℕ) (r u : Replay) (e : Event) → seats_in u ≡ seats_in r
     → u.conditions ≡ r.conditions → u.untils.items ≡ filter (λ w. not (chooses e w)) r.untils.items ++ waits_until e
     → IsReplayOf seats conds predicates r → fits_object codes predicates e ≡ true → IsReplayOf seats conds predicates u
@@ -23,7 +23,7 @@ still_of seats conds codes predicates r u e size conditions untils is fits = rec
       (joins_in_range codes predicates e r.untils.items fits is.preds);
 }
 
--- and shows what passed_on says
+-- and shows what `passed_on` says
 pub went_on : (r u : Replay) (state : List ℕ) (e : Event) → u.conditions ≡ r.conditions → u.waiters ≡ r.waiters
     → u.signallers ≡ r.signallers → u.untils.items ≡ filter (λ w. not (chooses e w)) r.untils.items ++ waits_until e
     → u.turn ≡ turn_by (seat_of e) (next_of e)

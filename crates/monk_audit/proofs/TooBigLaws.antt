@@ -1,4 +1,4 @@
--- Where the verdict is that the size is too big, no memory was asked for.
+-- If the verdict is that the size is too big, no memory was asked for.
 use Rattle.std.proofs.Common.{◌≡◌, ◌<◌, ◌^◌, ℕ, Bool, true, false, cond, List, [], Option, None, Result, Ok, Err}
 use Rattle.std.proofs.Common.{refl, sym, ap, ◌∙◌, nat_lt}
 use Rattle.std.proofs.lemmas.List.{append-nil}

@@ -11,7 +11,7 @@ abbrev pub owed_by : Option ReadFault → Stage → List ℕ → List ℕ → Re
 owed_by None stage held more = owed_verdict stage (held ++ more)
 owed_by (Some f) stage held more = Err f
 
--- what it answers, where these bytes are all that still comes
+-- what it answers, if these bytes are all that still comes
 abbrev pub owes : TextAudit → List ℕ → Result TextVerdict ReadFault
 owes a more = owed_by a.fault a.stage a.held.items more
 

@@ -22,7 +22,7 @@ use Rattle.monk_audit.specs.declared.verdict.Verdict.{Verdict}
 use Rattle.monk_audit.specs.declared.text_verdict.TextVerdict.{TextVerdict}
 use Rattle.monk_audit.specs.declared.text_verdict.TextVerdict.TheVariants.{Judged}
 
--- the events of the bytes, behind a header and so many events
+-- the events of the bytes, after a header and `count` events
 abbrev pub events_from : Heading → ℕ → List ℕ → Result (List Event) ReadFault
 events_from h count bytes = items_at (event_under h) (2 ^ 25 - count) (count + 2) (lines_of bytes)
 
@@ -34,12 +34,12 @@ found_from found h count bytes = read_through (events_from h count bytes) >>= λ
 abbrev pub monitor_of : Object → Course → Monitor
 monitor_of o c = monitor c.rules c.header.seats c.header.conds o []
 
--- the verdict on the whole history, where the object is in that state
+-- the verdict on the whole history, if the object is in that state
 abbrev pub verdict_from_here : Object → Course → List ℕ → List ℕ → Result Verdict ReadFault
 verdict_from_here o c state bytes =
     verdict_read (monitor_of o c) c.count (replay_situation c.replay state) (events_from c.header c.count bytes)
 
--- what the verdict on a text is, by the stage of its audit
+-- the verdict on a text, by the stage of its audit
 abbrev pub judged_from_here : Object → Course → List ℕ → List ℕ → Result TextVerdict ReadFault
 judged_from_here o c state bytes = verdict_from_here o c state bytes >>= λ v. Ok (Judged v)
 
@@ -87,11 +87,11 @@ IsLast (Shop c object) = ⊥
 IsLast (Flags c object) = ⊥
 IsLast (Found h count found) = Unit {0}
 
--- what was owed to a piece and what comes behind it is owed to what is left of the piece and what comes behind it
+-- what the piece and the bytes after it were owed is now owed to the rest of the piece and the bytes after it
 abbrev pub IsCarried : {X : Type 0} → (List ℕ → X) → List ℕ → (List ℕ → X) → List ℕ → Type 0
 IsCarried old bytes new rest = (more : List ℕ) → old (bytes ++ more) ≡ new (rest ++ more)
 
--- the fault is owed, whatever comes behind the piece
+-- the fault is owed, whatever comes after the piece
 abbrev pub IsFaulty : {X : Type 0} → (List ℕ → Result X ReadFault) → List ℕ → ReadFault → Type 0
 IsFaulty old bytes f = (more : List ℕ) → old (bytes ++ more) ≡ Err f
 
@@ -104,14 +104,14 @@ AsksForNone (Shop c object) bytes = ⊥
 AsksForNone (Flags c object) bytes = ⊥
 AsksForNone (Found h count found) bytes = Unit {0}
 
--- what the lines of a piece came to: the verdict, where the last of them is forbidden; else all are
+-- what the lines of a piece came to: the verdict if the last of them is forbidden; else all are
 -- legal, and no further line ends
 abbrev pub IsCourseStep : Option Verdict → List ℕ → List ℕ → (List ℕ → Result Verdict ReadFault)
     → (List ℕ → Result Verdict ReadFault) → (Verdict → List ℕ → Result Verdict ReadFault) → Type 0
 IsCourseStep None bytes rest old new found = IsCarried old bytes new rest × (is_unended rest ≡ true)
 IsCourseStep (Some v) bytes rest old new found = IsCarried old bytes (found v) rest
 
--- the same, where what was forbidden leads to another stage
+-- the same, if what was forbidden leads to another stage
 abbrev pub IsJudgedStep : Option Stage → List ℕ → List ℕ → (List ℕ → Result TextVerdict ReadFault)
     → (List ℕ → Result TextVerdict ReadFault) → Type 0
 IsJudgedStep None bytes rest old new = IsCarried old bytes new rest × (is_unended rest ≡ true)

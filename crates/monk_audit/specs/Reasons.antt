@@ -12,12 +12,12 @@ number_of Place = 4
 number_of Reply = 5
 number_of Choice = 6
 
--- the number of the first test that an event fails, or 0 where it fails none
+-- the number of the first test that an event fails, or 0 if it fails none
 abbrev pub number_or_0 : Option Reason → ℕ
 number_or_0 None = 0
 number_or_0 (Some reason) = number_of reason
 
--- the reason of that number; of a number that no reason has, the last
+-- the reason with the number, or the last reason if none has it
 abbrev pub numbered : ℕ → Reason
 numbered n =
     if n == 1 then Range
@@ -27,7 +27,7 @@ numbered n =
     else if n == 5 then Reply
     else Choice
 
--- a reason in a word
+-- the word of a reason
 abbrev pub word_of : Reason → List ℕ
 word_of Range = codes "range"
 word_of Call = codes "call"

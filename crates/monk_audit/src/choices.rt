@@ -1,4 +1,4 @@
-//! The sixth test: whether an event may choose what it chose. Of the ready seats it is told the first.
+//! The sixth test: whether an event may choose what it chose. The caller passes in the first ready seat.
 
 ghost use Rattle.std.specs.Prelude.{◌≡◌};
 ghost use Rattle.monk_history.specs.Meaning.Choice as choice;
@@ -8,7 +8,7 @@ ghost use Rattle.monk_audit.specs.Settled.{permits};
 use monk_history::{Event, Next};
 use monk_kinds::{Mode, Rules};
 
-/// Whether an event may choose what it chose. The caller passes in the first ready seat.
+/// Whether an event may choose what it chose. `ready` is the first ready seat.
 #[inline(always)]
 pub fn permits(
     rules: Rules,
@@ -28,7 +28,7 @@ pub fn permits(
     }
 }
 
-/// Whether an event that need not stay may choose what it chose. Of the ready seats it is told the first.
+/// Whether an event that need not stay may choose what it chose. `ready` is the first ready seat.
 #[inline(always)]
 pub fn chooses_well(
     rules: Rules,
@@ -53,7 +53,7 @@ pub fn chooses_well(
     }
 }
 
-/// Whether a release of a seat that must choose may choose this. Of the ready seats it is told the first.
+/// Whether a release of a seat that must choose may choose `next`. `ready` is the first ready seat.
 #[inline(always)]
 pub fn may_choose(
     rules: Rules,
@@ -85,7 +85,7 @@ pub fn may_choose(
     }
 }
 
-/// Whether a served signal of a seat may choose this.
+/// Whether a signal of a seat that serves another may choose `next`.
 #[inline(always)]
 pub fn may_signal(
     rules: Rules,

@@ -1,4 +1,4 @@
-//! Events that are judged when their lines are read, each after those before it.
+//! Judges events when their lines are read, each after those before it.
 
 ghost use Rattle.std.specs.Prelude.{◌≡◌, ◌≢◌, ◌≤◌, ◌^◌, List, ℕ, Err, true, IfOk, IfErr, OnOk};
 ghost use Rattle.monk_kinds.specs.Names.{rules_named};
@@ -21,7 +21,7 @@ use monk_kinds::Rules;
 use monk_object::Guarded;
 use std::alloc::{AllocError, Global};
 
-/// How a history stands of which the lines so far were read and found legal, beside the object.
+/// The state of an audit, apart from the object. The lines so far were read, and their events are legal.
 #[derive(Drop)]
 pub(crate) struct Course {
     pub header: Header,
@@ -31,7 +31,7 @@ pub(crate) struct Course {
 }
 
 impl Course {
-    /// That of no events, behind the header.
+    /// Returns the course after the header, before any event.
     pub fn new(alloc: Global, header: Header) -> Result<Course, AllocError>
         ensures header { IfOk result (λ c. c.header ≡ header) }
         ensures rules { IfOk result (λ c. c.rules ≡ rules_named header.kind) }
@@ -52,8 +52,8 @@ impl Course {
     }
 }
 
-/// Judges the events whose lines end in the bytes, up to the first that is not allowed. Gives the
-/// verdict on that one, and what stands behind the last line that was read.
+/// Judges the events whose lines end in the bytes, up to the first that is not allowed. Returns the
+/// verdict on that event, if there is one, and what follows the last line that was read.
 pub(crate) fn judge_lines<'a, T: Guarded>(
     course: &mut Course,
     object: &mut T,
@@ -75,7 +75,7 @@ pub(crate) fn judge_lines<'a, T: Guarded>(
     let mut count = course.count;
     let mut lines = PieceLines::of(bytes, count + 2, MOST_EVENTS - count);
     loop {
-        // One match, and no `?` before it: the event then stays where the reader has put it.
+        // One match, with no `?` before it: so the event stays where the reader has put it.
         let event = match lines.next_for::<Header, Event, T>(&header) {
             Ok(Some(event)) => event,
             Ok(None) => {
@@ -99,7 +99,7 @@ pub(crate) fn judge_lines<'a, T: Guarded>(
     }
 }
 
-/// Reads the events whose lines end in the bytes, and keeps none. Gives what stands behind the last of them.
+/// Reads the events whose lines end in the bytes, and keeps none. Returns what follows the last of them.
 pub(crate) fn read_lines<'a>(
     header: &Header,
     count: &mut u32,

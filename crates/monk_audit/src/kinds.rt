@@ -1,4 +1,4 @@
-//! Kinds that are known by their names alone: the rules of one, and a header with another.
+//! Kinds that are known by name: the rules of one, and a header with another.
 
 ghost use Rattle.std.specs.Prelude.{◌≡◌};
 ghost use Rattle.monk_kinds.specs.Names.{rules_named};
@@ -7,7 +7,7 @@ ghost use Rattle.monk_audit.specs.Under.{under};
 use monk_history::Header;
 use monk_kinds::{KindName, Npb, Npir, Npis, Npnb, Npqb, Pb, Pir, Pis, Pnb, Pqb, Rules, rules_of};
 
-/// The rules of the kind of that name.
+/// Returns the rules of the kind of that name.
 pub fn rules_by_name(kind: KindName) -> Rules
     ensures { result ≡ rules_named kind }
 {
@@ -25,16 +25,16 @@ pub fn rules_by_name(kind: KindName) -> Rules
     }
 }
 
-/// The header with another kind, by which the same events are judged under that kind.
+/// Returns the header with another kind, to judge the same events under that kind.
 ///
-/// Its version is that of a new header: what judges takes no notice of it.
+/// Its version is that of a new header: the version plays no part in judging.
 pub fn under(header: &Header, kind: KindName) -> Header
     ensures { result ≡ under kind header.now }
 {
     let (seats, conds) = (header.seats(), header.conds());
     match Header::new(kind, seats, conds, header.object(), header.size()) {
         Some(header) => header,
-        // What stood in a header is in range.
+        // The numbers of a header are in range.
         None => unreachable!(),
     }
 }

@@ -14,17 +14,16 @@ use std::alloc::Global;
 ///
 /// # Errors
 ///
-/// The text's first fault, also one that stands behind a forbidden event. The memory fault if a
-/// request for memory was refused, which may come before a fault of a later line; never where the
-/// text has no header, or one with a size above the object's greatest, since then none is asked
-/// for.
+/// The text's first fault, even if it comes after a forbidden event. The memory fault if a request for memory
+/// was refused; it may come before a fault of a later line. If the text has no header, or its size is above
+/// the object's greatest, no memory is asked for, and so this fault can't occur.
 ///
 /// # Cost
 ///
-/// One pass over the bytes; memory for the queues and the object alone.
+/// One pass over the bytes. Memory is needed for the queues and the object alone.
 pub fn audit_text(alloc: Global, bytes: &[u8]) -> Result<TextVerdict, ReadFault>
     ensures verdict { Gives same result (text_verdict bytes.now) }
-    // No want of memory is told where no object is made.
+    // If no object is made, the memory fault can't occur.
     ensures too_big { MakesNoObject bytes.now → result ≡ text_verdict bytes.now }
 {
     Stage::Opening.end(alloc, bytes)

@@ -21,7 +21,7 @@ pub enum Reason {
 }
 
 impl Reason {
-    /// Its number, 1 to 6: which of the tests it is.
+    /// Returns the number of the reason, 1 to 6: which of the tests it is.
     pub fn number(self) -> u8
         ensures { result ≡ number_of self }
     {
@@ -35,7 +35,7 @@ impl Reason {
         }
     }
 
-    /// The reason of that number; of a number that no reason has, the last.
+    /// Returns the reason with the number, or the last reason if none has it.
     pub fn numbered(number: u8) -> Reason
         ensures { result ≡ numbered number }
     {
@@ -49,7 +49,7 @@ impl Reason {
         }
     }
 
-    /// Its word, as in the line of an audit.
+    /// Returns the word of the reason, as in the line of an audit.
     pub fn as_str(self) -> &'static str
         ensures { result.now ≡ word_of self }
     {
@@ -63,7 +63,7 @@ impl Reason {
         }
     }
 
-    /// What a picture says of an event that is not allowed for this reason: the word, and what it means.
+    /// Returns what a picture says of an event that is not allowed for this reason: the word and its meaning.
     pub fn caption(self) -> &'static str
         ensures { result.now ≡ caption_of self }
     {

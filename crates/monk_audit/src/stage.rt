@@ -1,4 +1,4 @@
-//! The stages of the audit of a text: the header is awaited, the events are judged, the verdict is found.
+//! The stages of the audit of a text: waiting for the header, judging the events, and the verdict found.
 
 ghost use Rattle.std.specs.Prelude.{◌≡◌, ◌≢◌, ◌≤◌, ◌<◌, ◌⊎◌, ℕ, List, [], Err, true, IfOk, IfErr, OnOk, length};
 ghost use Rattle.monk_object.specs.Names.{most};
@@ -29,18 +29,18 @@ pub(crate) enum Stage {
     Opening,
     /// Each event so far is legal, over a buffer.
     Buffer(Course, Buffer),
-    /// The same over a book.
+    /// Each event so far is legal, over a book.
     Book(Course, Book),
-    /// The same over a shop.
+    /// Each event so far is legal, over a shop.
     Shop(Course, Shop),
-    /// The same over flags.
+    /// Each event so far is legal, over flags.
     Flags(Course, Flags),
-    /// What was found, if all further lines can be read: so many events were read.
+    /// The verdict, if all further lines can be read. The number says how many events were read.
     Found(Header, u32, TextVerdict),
 }
 
 impl Stage {
-    /// Goes through the lines that end in the bytes, and gives what stands behind the last of them.
+    /// Goes through the lines that end in the bytes, and returns what follows the last of them.
     pub fn judge<'a>(&mut self, alloc: Global, bytes: &'a [u8]) -> Result<&'a [u8], ReadFault>
         requires { IsSound self.old }
         ensures step { IfOk result (λ rest. IsCarried (owed_verdict self.old) bytes.entry.now
@@ -62,7 +62,7 @@ impl Stage {
         }
     }
 
-    /// The same as far as this stage goes: also gives the stage that follows, if one does.
+    /// Does the same as far as this stage goes. Also returns the stage that follows, if one does.
     fn advance<'a>(
         &mut self,
         alloc: Global,
@@ -85,7 +85,7 @@ impl Stage {
         Ok((next, rest))
     }
 
-    /// What was found of a text that ends here.
+    /// Returns the verdict on a text that ends here.
     fn found(&self) -> Result<TextVerdict, ReadFault>
         requires { IsSound self.now }
         ensures { result ≡ owed_verdict self.now [] }
@@ -103,7 +103,7 @@ impl Stage {
         }
     }
 
-    /// The fault of a text whose last line is not ended.
+    /// Returns the fault of a text whose last line is not ended.
     fn unfinished(&self) -> ReadFault
         requires { IsSound self.now }
         ensures { (bytes : List ℕ) → is_unended bytes ≡ true → length bytes ≢ 0
@@ -123,7 +123,7 @@ impl Stage {
         }
     }
 
-    /// What was found, where these bytes are the rest of the text.
+    /// Returns the verdict, if these bytes are the rest of the text.
     pub fn end(self, alloc: Global, bytes: &[u8]) -> Result<TextVerdict, ReadFault>
         requires { IsSound self }
         ensures verdict { Gives same result (owed_verdict self bytes.now) }
@@ -139,7 +139,7 @@ impl Stage {
     }
 }
 
-/// The stage behind the header, where its line ends in the bytes.
+/// Returns the stage after the header, if the header's line ends in the bytes.
 fn open(alloc: Global, bytes: &[u8]) -> Result<(Option<Stage>, &[u8]), ReadFault>
     ensures step { IfOk result (λ r. IsStageStep r.0 bytes.entry.now r.1.now Stage.Opening Stage.Opening) }
     ensures fault { IfErr result
@@ -153,7 +153,7 @@ fn open(alloc: Global, bytes: &[u8]) -> Result<(Option<Stage>, &[u8]), ReadFault
     Ok((Some(stage), rest))
 }
 
-/// The stage in which the events behind that header are judged, or that in which they are only read.
+/// Returns the stage in which the events after the header are judged, or only read if the size is too great.
 fn stage_behind(alloc: Global, header: Header) -> Result<Stage, ReadFault>
     ensures verdict { IfOk result (λ s. (x : List ℕ)
         → owed_verdict s x ≡ lines_verdict header (events_from header 0 x)) }
@@ -187,7 +187,7 @@ fn stage_behind(alloc: Global, header: Header) -> Result<Stage, ReadFault>
     }
 }
 
-/// Judges the events whose lines end in the bytes, and gives the stage behind the first that is not allowed.
+/// Judges the events whose lines end in the bytes. Returns the stage after the first that is not allowed.
 fn judge_stage<'a, T: Guarded>(
     course: &mut Course,
     object: &mut T,

@@ -13,10 +13,10 @@ use std::alloc::{AllocError, Global};
 use std::mem;
 
 /// The audit of a text that comes in pieces. A line is judged when it ends, and only the unfinished
-/// line is kept; after the first fault nothing is kept.
+/// line is kept. After the first fault nothing is kept.
 ///
-/// Contracts see what it owes to bytes that are still to come: what
-/// [`audit_text`](crate::audit_text) answers to the text that they complete.
+/// Contracts see the verdict that it owes for bytes that are still to come: what
+/// [`audit_text`](crate::audit_text) answers for the text that they complete.
 #[derive(Drop)]
 pub struct TextAudit {
     stage: Stage,
@@ -25,7 +25,7 @@ pub struct TextAudit {
 }
 
 impl TextAudit {
-    /// The audit of a text of which nothing has come. It takes no memory.
+    /// Returns the audit of a text before any of it has come. It takes no memory.
     pub fn new(alloc: Global) -> TextAudit
         ensures owes { (text : List ℕ) → owes result text ≡ text_verdict text }
         ensures goes_on { IsGoingOn result }
@@ -41,12 +41,12 @@ impl TextAudit {
     ///
     /// # Errors
     ///
-    /// Where a request for memory was refused.
+    /// If a request for memory was refused.
     ///
     /// # Cost
     ///
-    /// Time by the length of the piece and of a line that ends in it; memory for a line that began
-    /// in an earlier piece and for the one that has not ended, for the queues and for the object.
+    /// Time by the length of the piece and of a line that ends in it. Memory for a line that began
+    /// in an earlier piece, for the line that has not ended, for the queues and for the object.
     pub fn push(&mut self, alloc: Global, piece: &[u8]) -> Result<(), AllocError>
         requires { IsGoingOn self.old }
         ensures carried { OnOk result (IsCarried (owes self.old) piece.now (owes self.new) []) }
@@ -56,7 +56,7 @@ impl TextAudit {
             return self.take(alloc, piece);
         }
         match line_end(piece) {
-            // A line that goes on is not looked through again.
+            // The held part of a line is not looked through again.
             None => Ok(self.held.extend_from_slice(piece)?),
             Some(end) => {
                 let (line, rest) = piece.split_at(end);
@@ -66,7 +66,7 @@ impl TextAudit {
         }
     }
 
-    /// Takes the next piece, and judges the lines that end in it: where no line is held, in their place.
+    /// Takes the next piece, and judges the lines that end in it. If no line is held, it judges them in place.
     fn take(&mut self, alloc: Global, piece: &[u8]) -> Result<(), AllocError>
         requires { IsGoingOn self.old }
         ensures carried { OnOk result (IsCarried (owes self.old) piece.now (owes self.new) []) }
@@ -83,7 +83,7 @@ impl TextAudit {
         self.judge(alloc, &held)
     }
 
-    /// Judges the lines that end in the bytes, where nothing is held, and holds what stands behind the last of them.
+    /// Judges the lines that end in the bytes, and holds what follows the last of them. Nothing is held before.
     fn judge(&mut self, alloc: Global, bytes: &[u8]) -> Result<(), AllocError>
         requires goes_on { IsGoingOn self.old }
         requires held { self.old.held.items ≡ [] }
@@ -105,16 +105,16 @@ impl TextAudit {
         }
     }
 
-    /// Ends the audit: what it found in the text received so far.
+    /// Ends the audit, and returns what it found in the text received so far.
     ///
     /// # Errors
     ///
-    /// The text's first fault, or the memory fault if a request for memory was refused; never that
-    /// one where the header's size is above the object's greatest.
+    /// The text's first fault, or the memory fault if a request for memory was refused. The memory
+    /// fault can't occur if the header's size is above the object's greatest.
     pub fn end(self, alloc: Global) -> Result<TextVerdict, ReadFault>
         requires { IsGoingOn self }
         ensures verdict { Gives same result (owes self []) }
-        // No want of memory is told where the size is above the object's greatest.
+        // If the size is above the object's greatest, the memory fault can't occur.
         ensures too_big { owes self [] ≡ Ok TextVerdict.TooBig → result ≡ Ok TextVerdict.TooBig }
     {
         match self.fault {
@@ -124,7 +124,7 @@ impl TextAudit {
     }
 }
 
-/// How many bytes the first line of the piece has with its end, if one ends in it.
+/// Returns the length of the piece's first line with its end, if one ends in it.
 fn line_end(piece: &[u8]) -> Option<usize>
     ensures { IfSome result (λ end. end ≤ length piece.now) }
 {

@@ -1,4 +1,4 @@
--- From which queue a turn is due, and what may be called where an event may
+-- From which queue a turn is due, and what may be called if an event may
 use Rattle.std.proofs.Common.{arith, ◌≡◌, ℕ, Some}
 use Rattle.monk_history.specs.declared.event.Event.{Event}
 use Rattle.monk_history.specs.declared.event.Event.TheVariants as event

@@ -1,4 +1,4 @@
--- What a legal history tells is judged well, line by line
+-- The log of a legal history is judged to fit, line by line
 use Rattle.std.proofs.Common.{arith, ◌≡◌, ℕ, Bool, true, cond, ◌&&◌, not, List, [], ◌∷◌, ◌++◌, Some, refl, sym, ap, subst, ◌∙◌}
 use Rattle.std.proofs.lemmas.Bool.{and_from, eq-eqb}
 use Rattle.std.specs.Prelude.{◌==◌, Result, Ok, Err}
@@ -39,7 +39,7 @@ use Rattle.monk_completion.proofs.ToldInHistories.{chosen, erased_lines, first_l
 
 -- ---- how far the judging of a legal history comes
 
--- a release whose choice is still to be told, in the situation of the history before it
+-- a release whose choice is not yet known, in the situation of the history before it
 record IsHeldAt (m : Monitor) (h : List Event) (t : Situation) (held : Event) : Type 0 where
   before : List Event
   last : Event
@@ -60,7 +60,7 @@ record Leads (m : Monitor) (s : Stand) (ls : List LogLine) (h : List Event) : Ty
   judged : lead m (Ok s) ls ≡ Ok to
   at : IsPendingAt m h to.now to.pending
 
--- ---- what passes its tests is added, or held
+-- ---- an event that passes its tests is added, or held
 
 settle_ok : (m : Monitor) (t : Situation) (e : Event) → IsAllowedIn m t e
     → settle m t e ≡ Ok (stand_settled (after m.object t e))
@@ -80,9 +80,9 @@ two_lines : (m : Monitor) (s : Stand) (l n : LogLine) (c d : Stand) → line_ove
 two_lines m s l n c d h k =
     lead_more m s l (n ∷ []) ∙ ap (λ (r : Result Stand Blame). lead m r (n ∷ [])) h ∙ one_line m c n d k
 
--- ---- an event behind events that are known
+-- ---- an event after events that are known
 
--- it is known too, perhaps with another way in: what matters is what it makes of the situation
+-- it is known too, perhaps with another way in; only what it makes of the situation matters
 known_leads : (m : Monitor) (h : List Event) (t : Situation) (f g : Event) (l : LogLine) → IsLegal m h
     → t ≡ situation m h → IsAllowedIn m t g → after m.object t g ≡ after m.object t f
     → line_settled m t l ≡ settle m t g → Leads m (stand_settled t) (l ∷ []) (h ++ f ∷ [])
@@ -107,7 +107,7 @@ held_leads m h t f x l same allowed chose line = record {
   at = held_at m h t f x same chose;
 }
 
--- a signal that is told by two lines
+-- a signal that has two lines
 half_leads : (m : Monitor) (h : List Event) (t : Situation) (s c : ℕ) (f : Event) (x : Next) (n : LogLine)
     → t ≡ situation m h → returns_at_once m.kind.mode ≡ true → MayCallIn m t (event.SignalLeave s c Stay)
     → IsAllowedIn m t f → next_of f ≡ Some x → line_half m t s c n ≡ release_over m t (as_called f)
@@ -139,7 +139,7 @@ signal_line m t s c h = grind arith
 same_seat : (s : ℕ) (r : Result Stand Blame) (why : Blame) → cond (s == s) r (Err why) ≡ r
 same_seat s r why = grind arith
 
--- ---- each event behind events that are known
+-- ---- each event after events that are known
 
 event_leads : (m : Monitor) (h : List Event) (t : Situation) (f : Event) → IsLegal m h → t ≡ situation m h
     → IsAllowedIn m t f → Leads m (stand_settled t) (erasure_of f) (h ++ f ∷ [])
@@ -166,9 +166,9 @@ event_leads m h t (event.SignalWait s c d x) legal same a =
     (half_called m t s c d (allowed_called m t (event.SignalWait s c d x) a)) a refl
     (same_seat s (release_over m t (event.SignalWait s c d Stay)) (half_blame m (Wait s d)))
 
--- ---- an event behind a release
+-- ---- an event after a release
 
--- the release is what the line tells of it
+-- the release has the choice that the line shows
 release_told : (m : Monitor) (g : List Event) (t : Situation) (e f : Event) (x : Next) → next_of e ≡ Some x
     → IsLegal m (g ++ e ∷ []) → IsAllowed m (g ++ e ∷ []) f → t ≡ situation m g
     → told_release m.object t (as_called e) (first_line f) ≡ e
@@ -186,7 +186,7 @@ release_told m g t e f x chose legal allowed same =
 no_lapse : (f : Event) → not (is_lapse (first_line f)) ≡ true
 no_lapse f = grind arith
 
--- then the line is judged as one behind events that are known
+-- then the line is judged as one after events that are known
 told_line : (m : Monitor) (t : Situation) (held e f : Event) → told_release m.object t held (first_line f) ≡ e
     → IsAllowedIn m t e
     → line_told m t held (first_line f) ≡ line_settled m (after m.object t e) (first_line f)
@@ -254,7 +254,7 @@ history_leads m h = history_induction (λ x. IsLegal m x → Leads m (opening_st
       at = v.at;
     }) h
 
--- a log at whose line something is to blame doesn't begin what a legal history tells
+-- if there is a reason against a line, no legal history begins with the log
 not_both : (r : Result Stand Blame) (why : Blame) (to : Stand) → r ≡ Err why → r ≡ Ok to → ⊥
 not_both r why to h h2 = grind arith
 

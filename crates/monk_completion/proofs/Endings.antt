@@ -1,4 +1,4 @@
--- With the choice of its last release what a log tells completes it
+-- With the choice of its last release, the history that a log shows completes it
 use Rattle.std.proofs.Common.{◌≡◌, ℕ, ◌≤◌, false, List, [], ◌∷◌, ◌++◌, length, Some, None}
 use Rattle.std.proofs.Common.{refl, sym, ap, subst, ◌∙◌, arith}
 use Rattle.std.proofs.lemmas.List.{append-nil, append_assoc, length-append, same_from_push}
@@ -81,7 +81,7 @@ release_completes m past e log kind legal may stays told few all =
       last_choice = λ before last y is chose. last_chosen m past before e last y stays is chose;
     }
 
--- ---- what is whole
+-- ---- whole logs
 
 with_half : (m : Monitor) (log more : List LogLine) → other_half m.kind.mode log ≡ more
     → log ++ more ≡ log ++ other_half m.kind.mode log
@@ -90,7 +90,7 @@ with_half m log more h = grind arith
 whole : (m : Monitor) (log : List LogLine) → other_half m.kind.mode log ≡ [] → log ≡ log ++ other_half m.kind.mode log
 whole m log h = sym (append-nil log) ∙ with_half m log [] h
 
--- a legal history ends whole
+-- the log of a legal history is whole
 history_whole : (m : Monitor) (h : List Event) → IsLegal m h → other_half m.kind.mode (erasure h) ≡ []
 history_whole m h = history_induction (λ x. IsLegal m x → other_half m.kind.mode (erasure x) ≡ [])
     (λ l. never m.kind.mode)

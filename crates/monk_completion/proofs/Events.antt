@@ -1,4 +1,4 @@
--- What recorders write down of one event more, and how seats enter
+-- What a recorder writes for one more event, and how seats enter
 use Rattle.std.proofs.Common.{arith, ◌≡◌, ℕ, Bool, false, not, cond, List, [], ◌∷◌, ◌++◌, Some, None, refl, ap, ◌∙◌}
 use Rattle.std.specs.List.{AllByRecursion}
 use Rattle.std.proofs.lemmas.Grind.{flat_map-append}
@@ -22,7 +22,7 @@ erasure-push h e = flat_map-append erasure_of h (e ∷ [])
 pub erased_with_next : (x : Next) (e : Event) → erasure_of (with_next x e) ≡ erasure_of e
 erased_with_next x e = grind arith
 
--- ---- who enters behind the first event is handed the monitor
+-- ---- each seat that enters after the first event is handed the monitor
 
 all_push : (P : Event → Type 0) (es : List Event) (e : Event) → AllByRecursion P es → P e
     → AllByRecursion P (es ++ e ∷ [])

@@ -1,4 +1,4 @@
--- The verdict on a log says exactly which legal histories begin with what it tells
+-- The verdict on a log says exactly which legal histories begin with it
 use Rattle.std.proofs.Common.{◌≡◌, ℕ, ◌+◌, zero, suc, ◌<◌, ◌≤◌, ◌-◌, List, [], ◌∷◌, take, drop, ◌++◌, length, Some, refl, sym, ap, subst, ◌∙◌, arith}
 use Rattle.std.proofs.lemmas.List.{append-nil, append_assoc, length-append, take-append-drop, take-take, take_at}
 use Rattle.std.specs.Prelude.{Result, Ok, Err}
@@ -64,7 +64,7 @@ module _ (m : Monitor) (kind : IsKind m.kind) where
   verdict_is : (log : List LogLine) → IsVerdictOn m log (verdict_on m log)
   verdict_is log = verdict_holds [] log (opening_stand m) (lead_none m (Ok (opening_stand m)))
 
--- ---- what is open is open up to each of its lines
+-- ---- if a log is open, it is open up to each of its lines
 
 same_number : (k n : ℕ) → (k < n → ⊥) → (n < k → ⊥) → k ≡ n
 same_number zero zero f g = refl
@@ -100,7 +100,7 @@ module _ (m : Monitor) (log : List LogLine) where
   is_misfit (Misfit k why) n w f =
       ap (λ (x : ℕ). Some x) (same_number k n (not_before k n w f) (not_before n k f w))
 
--- ---- of a log of a kind
+-- ---- a log under a kind
 
 each_is_kind : (k : KindName) → IsKind (rules_named k)
 each_is_kind k = grind arith

@@ -1,4 +1,4 @@
--- A choice in order of arrival depends on the fronts of the queues alone
+-- A choice in order of arrival depends only on the fronts of the queues
 use Rattle.std.proofs.Common.{arith, ◌≡◌, ℕ, Bool, List, [], ◌∷◌, ◌++◌, take, Option, Some, refl}
 use Rattle.std.specs.Option.{option_or}
 use Rattle.std.specs.Prelude.{slice_get}
@@ -17,7 +17,7 @@ use Rattle.monk_completion.specs.Blame.{stay_blame}
 use Rattle.monk_completion.specs.Fronts.{fronts_of}
 use Rattle.monk_completion.specs.Told.{told_next}
 
--- the first of two queues, one behind the other
+-- the first seat of two queues, one after the other
 pub first_of_both : (xs ys : List ℕ) (o p : Option ℕ) → o ≡ slice_get xs 0 → p ≡ slice_get ys 0
     → just (option_or o p) ≡ take 1 (xs ++ ys)
 first_of_both [] [] o p is so = rw (is, so) refl
@@ -27,7 +27,7 @@ first_of_both (x ∷ xs) ys o p is so = rw is refl
 pub first_alone : (xs : List ℕ) (o : Option ℕ) → o ≡ slice_get xs 0 → just o ≡ take 1 xs
 first_alone xs o h = grind arith
 
--- a release serves one at most, and one at most steps back
+-- a release serves at most one seat, and at most one steps back
 pub one_served : (queue : ℕ → List ℕ) (e : Event) → next_of e ≡ Some Stay
     → just (slice_get (serves queue e) 0) ≡ serves queue e
 one_served queue e h = grind arith

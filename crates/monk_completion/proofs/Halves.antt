@@ -1,4 +1,4 @@
--- A log ends with half a signal exactly where one is still to be told
+-- A log ends with half a signal exactly if one is still to come
 use Rattle.std.proofs.Common.{arith, ◌≡◌, ℕ, Bool, true, cond, List, [], ◌∷◌, ◌++◌, Option, Some, None, refl, ap, ◌∙◌}
 use Rattle.std.specs.List.{last_or}
 use Rattle.monk_kinds.specs.declared.mode.Mode.{Mode}
@@ -24,12 +24,12 @@ whole_event : (k : Mode) (o : Option LogLine) (e : Event) → is_call_of k e ≡
     → cond (returns_at_once k) (leaving (last_or o (erasure_of e))) [] ≡ []
 whole_event k o e h = grind arith
 
--- behind an event that the mode has nothing is half told
+-- after an event that the mode has, no half is to come
 pub event_whole : (k : Mode) (front : List LogLine) (e : Event) → is_call_of k e ≡ true
     → other_half k (front ++ erasure_of e) ≡ []
 event_whole k front e h = half_after k front (erasure_of e) ∙ whole_event k (last_or None front) e h
 
--- behind a signal of immediate return one half is
+-- after a signal of immediate return, one half is to come
 pub signal_half : (k : Mode) (front : List LogLine) (s c : ℕ) → returns_at_once k ≡ true
     → other_half k (front ++ Signal s c ∷ []) ≡ Leave s ∷ []
 signal_half k front s c h =

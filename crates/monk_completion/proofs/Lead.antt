@@ -6,13 +6,13 @@ use Rattle.monk_logs.specs.declared.text.line.LogLine.{LogLine}
 use Rattle.monk_completion.specs.Stand.{Stand, line_over, opening_stand}
 use Rattle.monk_completion.specs.declared.blame.Blame.{Blame}
 
--- the stand behind the lines to come, or what is to blame, from there on
+-- the stand after the lines to come, or the reason against one of them, from there on
 unfoldable pub lead : Monitor → Result Stand Blame → List LogLine → Result Stand Blame
 lead m (Err why) log = Err why
 lead m (Ok s) [] = Ok s
 lead m (Ok s) (l ∷ log) = lead m (line_over m s l) log
 
--- the same of a whole log
+-- the same for a whole log
 abbrev pub lead_all : Monitor → List LogLine → Result Stand Blame
 lead_all m log = lead m (Ok (opening_stand m)) log
 

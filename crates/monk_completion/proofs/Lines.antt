@@ -1,4 +1,4 @@
--- The lines that have been judged so far, with the events that they told
+-- The lines that have been judged so far, with the events that they showed
 use Rattle.std.proofs.Common.{arith, ◌≡◌, ℕ, ◌+◌, ◌<◌, ◌≤◌, List, [], length, get_or, take, drop, ◌++◌, ◌∷◌, refl, sym, ap, subst, ◌∙◌}
 use Rattle.std.proofs.lemmas.List.{at_drop_all, at_drop_more, take_all, take_more}
 use Rattle.std.specs.Prelude.{Result, Ok, Err, OnOk}
@@ -24,7 +24,7 @@ use Rattle.monk_completion.specs.declared.verdict.LogVerdict.TheVariants.{Fits, 
 use Rattle.monk_completion.proofs.Endings.{tells_completes}
 use Rattle.monk_completion.proofs.Soundness.{TellsAt, tells_nothing, tells_on}
 
--- ---- the opening state of the object has no part in how lines are judged
+-- ---- the judging of lines doesn't depend on the object's opening state
 
 module _ (k : Rules) (seats conds : ℕ) (o : Object) (d : List ℕ) where
   settle_apart : (t : Situation) (e : Event)
@@ -61,7 +61,7 @@ module _ (k : Rules) (seats conds : ℕ) (o : Object) (d : List ℕ) where
 
 -- ---- line by line
 
--- the first so many lines led there, and these are the events that they told
+-- the first `i` lines led there, and these are the events that they showed
 pub record Follows (m : Monitor) (lines : List LogLine) (i : ℕ) (t : Situation) (p : Pending) (past : List Event)
     : Type 0
   where
@@ -130,7 +130,7 @@ module _ (k : Rules) (seats conds : ℕ) (o : Object) (d : List ℕ) (lines : Li
             ∙ subst (λ (x : Result Pending Blame). verdict_from m (i + 1) (stand_or u x) (drop (i + 1) lines)
             ≡ verdict_on m lines) is goes_on
 
-    -- ---- behind the last line
+    -- ---- after the last line
 
     module _ (past_all : length lines ≤ i) where
       pub fits : Fits ≡ verdict_on (monitor k seats conds o d) lines

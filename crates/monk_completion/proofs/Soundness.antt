@@ -1,4 +1,4 @@
--- A log that is judged well is open: what was taken for its events is a legal history that tells it
+-- If a log is judged to fit, it is open: the events that were taken from it are a legal history that tells it
 use Rattle.std.proofs.Common.{arith, ◌≡◌, ℕ, Bool, true, false, cond, ◌&&◌, not, List, [], ◌∷◌, ◌++◌, Some, None, refl, sym, ap, subst, ◌∙◌}
 use Rattle.std.proofs.lemmas.Bool.{eqb-true}
 use Rattle.std.proofs.lemmas.List.{append-nil, append_assoc, same_from_push}
@@ -36,7 +36,7 @@ use Rattle.monk_completion.proofs.Events.{erased_with_next, erasure-push, handed
 use Rattle.monk_completion.proofs.Lead.{lead, lead_all}
 use Rattle.monk_completion.proofs.Tests.{called_from_tests, passed}
 
--- the lines of what is still to be known
+-- the lines of what is not yet known
 abbrev pub untold : Pending → List LogLine
 untold Settled = []
 untold (Half s c) = Signal s c ∷ []
@@ -46,25 +46,25 @@ untold (Release e) = erasure_of e
 abbrev pub EndsSettled : List Event → Type 0
 EndsSettled past = (before : List Event) (e : Event) → past ≡ before ++ e ∷ [] → next_of e ≡ None
 
--- what is known of it
+-- what is known of the last event
 abbrev pub IsStill : Monitor → List Event → Pending → Type 0
 IsStill m past Settled = EndsSettled past
 IsStill m past (Half s c) = MayCall m past (event.SignalLeave s c Stay)
 IsStill m past (Release e) = MayCall m past e × (next_of e ≡ Some Stay)
 
--- what a log has come to
+-- the history and the pending event that a log has led to
 pub record Tells (m : Monitor) (log : List LogLine) (past : List Event) (pending : Pending) : Type 0 where
   pub legal : IsLegal m past
   pub told : erasure past ++ untold pending ≡ log
   pub still : IsStill m past pending
   pub handed : AreHandedOver past
 
--- the lines led there, and told these events
+-- the lines led there, and showed these events
 pub record TellsAt (m : Monitor) (log : List LogLine) (past : List Event) (s : Stand) : Type 0 where
   pub tells : Tells m log past s.pending
   pub stands : situation m past ≡ s.now
 
--- and no more
+-- and no event more
 none_more : (m : Monitor) (log : List LogLine) (past : List Event) (s : Stand) → Tells m log past s.pending
     → situation m past ≡ s.now → TellsAt m log (past ++ []) s
 none_more m log past s t is =
@@ -239,7 +239,7 @@ tells_nothing m = record {
 same_ok : (r : Result Stand Blame) (s d : Stand) → r ≡ Ok s → r ≡ Ok d → s ≡ d
 same_ok r s d h h2 = grind arith
 
--- some events have been told so
+-- some events were shown in this way
 abbrev TellsSome : Monitor → List LogLine → Stand → Type 0
 TellsSome m log s = (past : List Event) × TellsAt m log past s
 
@@ -261,7 +261,7 @@ pub release_right : (m : Monitor) (past : List Event) (e : Event) → next_of e 
     → is_right_reply m.object (situation m past).state e ≡ true
 release_right m past e h = grind arith
 
--- a release that may be called has a choice with which it is allowed
+-- if a release may be called, it has a choice with which it is allowed
 release_open : (m : Monitor) (past : List Event) (e : Event) → IsKind m.kind → IsLegal m past → MayCall m past e
     → next_of e ≡ Some Stay → IsOpen m (erasure past ++ erasure_of e)
 release_open m past e kind legal may stays =
@@ -277,7 +277,7 @@ release_open m past e kind legal may stays =
           ∙ sym (append-nil (erasure past ++ erasure_of e));
     }
 
--- what is open is open up to each of its lines
+-- if a log is open, it is open up to each of its lines
 pub open_front : (m : Monitor) (log more : List LogLine) → IsOpen m (log ++ more) → IsOpen m log
 open_front m log more o = record {
   history = o.history;

@@ -1,4 +1,4 @@
--- The tests of an event, read from the reason and back; and which tests a call has passed
+-- The tests of an event, from the reason and back to it; and which tests a call has passed
 use Rattle.std.proofs.Common.{◌≡◌, ℕ, Bool, true, false, cond, not, Option, None, sym, ap, ◌∙◌, arith}
 use Rattle.std.specs.Prelude.{◌==◌, Ok, Err}
 use Rattle.std.specs.Option.{option_map_or}
@@ -12,7 +12,7 @@ use Rattle.monk_history.specs.Meaning.Reasons.{fits_object, is_right_reply}
 use Rattle.monk_history.specs.Meaning.Release.{MayCallIn, as_called}
 use Rattle.monk_history.specs.Meaning.Situation.{Situation}
 
--- ---- what was added where a test passed
+-- ---- what was added if a test passed
 
 pub passed : {X E : Type 0} (n : ℕ) (x y : X) (why : E) → cond (n == 0) (Ok x) (Err why) ≡ Ok y → (n ≡ 0) × (x ≡ y)
 passed n x y why h = grind arith
@@ -44,7 +44,7 @@ pub reason_from_allowed : (m : Monitor) (t : Situation) (e : Event) → IsAllowe
 unfolding reason_in
 reason_from_allowed m t e h = grind arith
 
--- ---- a release, whose reply is not asked for
+-- ---- a release, which has no test of the reply
 
 early_fails : (a b c d e f : Bool) → (first_of_four a b c d ≡ 0 → ⊥) → (first_of_six a b c d e f == 0) ≡ false
 early_fails a b c d e f h = grind arith
@@ -69,12 +69,12 @@ permitted_only m t e is none =
     (is_permitted m.kind m.object t e) (sym is)
     (ap (λ (a : Option Answered). option_map_or (λ act. act.reply == m.object.reply t.state act.op) a true) none)
 
--- what may be called asks for what the object has
+-- what may be called only needs what the object has
 pub called_fits : (m : Monitor) (t : Situation) (e : Event) (codes predicates : ℕ) → MayCallIn m t e
     → m.object.codes ≡ codes → m.object.predicates ≡ predicates → fits_object codes predicates e ≡ true
 called_fits m t e codes predicates h h2 h3 = grind arith
 
--- ---- what is allowed may be called, as a caller knows it
+-- ---- what is allowed may be called, even by what its caller knows
 
 module _ (m : Monitor) (t : Situation) where
   pub allowed_called : (e : Event) → IsAllowedIn m t e → MayCallIn m t (as_called e)

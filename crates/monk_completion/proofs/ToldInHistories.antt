@@ -1,4 +1,4 @@
--- In a legal history the line of the event behind a release tells what the release chose
+-- In a legal history, the line of the event after a release shows what the release chose
 use Rattle.std.proofs.Common.{◌≡◌, ℕ, ◌≤◌, Bool, true, false, cond, List, [], ◌∷◌, ◌++◌, drop, Option, Some, refl, ap}
 use Rattle.std.proofs.Common.{subst, ◌∙◌, arith}
 use Rattle.std.specs.Option.{option_map_or}
@@ -42,16 +42,16 @@ first_line (event.Resume s q) = Resume s
 first_line (event.SignalAll s c) = Broadcast s c
 first_line (event.SignalWait s c d x) = Signal s c
 
--- and those behind it
+-- and those after it
 abbrev pub later_lines : Event → List LogLine
 later_lines e = drop 1 (erasure_of e)
 
 pub erased_lines : (e : Event) → erasure_of e ≡ first_line e ∷ later_lines e
 erased_lines e = grind arith
 
--- ---- what the turn says of the choice
+-- ---- what the turn says about the choice
 
--- the queues tell from which of them the seat was chosen
+-- the queues show from which of them the seat was chosen
 abbrev pub IsChosen : Queues → Next → Type 0
 IsChosen q next.Stay = Unit {0}
 IsChosen q next.Entry = Unit {0}
@@ -59,14 +59,14 @@ IsChosen q (next.Waiter j) = chosen_from q j ≡ next.Waiter j
 IsChosen q (next.Signaller j) = chosen_from q j ≡ next.Signaller j
 IsChosen q (next.Until j) = chosen_from q j ≡ next.Until j
 
--- whoever has an event then, its line tells what the release of seat s chose
+-- the line of the event that fits the turn shows what the release of seat s chose
 pub line_tells : (q : Queues) (s : ℕ) (x : Next) (f : Event) → fits_turn (turn_by s (Some x)) f ≡ true → IsChosen q x
     → told_next q (first_line f) ≡ x
 line_tells q s x f h h2 = grind arith
 
--- ---- who was chosen is the front of its queue, and of no other
+-- ---- the chosen seat is the front of its queue, and of no other
 
--- what is permitted, by what was chosen
+-- what is permitted, by the choice
 abbrev permits : Rules → Object → Situation → Event → Option Next → Bool
 permits k o t e n =
     cond (must_stay o t e) (is_stay n)
@@ -93,7 +93,7 @@ at_most_one b n h = grind arith
 turn_counts : (j : ℕ) (from : From3) → has_turn j (Due j from) ≡ 1
 turn_counts j from = grind arith
 
--- the seat to which the turn is due stands in no queue
+-- the seat whose turn is due is in no queue
 due_is_nowhere : (m : Monitor) (g : List Event) (e : Event) (j : ℕ) (from : From3) → IsLegal m (g ++ e ∷ [])
     → turn_by (seat_of e) (next_of e) ≡ Due j from → in_queues m.conds j (after m.object (situation m g) e) ≡ 0
 due_is_nowhere m g e j from legal is =

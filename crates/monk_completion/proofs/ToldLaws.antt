@@ -1,4 +1,4 @@
--- Behind a release that is settled with the choice that a line tells, the line leads where it leads by that choice
+-- After a release gets the choice that a line shows, the line leads where it leads by that choice
 use Rattle.std.proofs.Common.{arith, ◌≡◌, ◌∙◌, Bool, true, false, not, List, [], ◌∷◌, ◌++◌, ap, append_assoc}
 use Rattle.std.specs.Prelude.{◌==◌, Result, Ok, Err, OnOk}
 use Rattle.monk_history.specs.declared.event.Event.{Event}
@@ -28,7 +28,7 @@ module _ (m : Monitor) (t u : Situation) (e told : Event) (l : LogLine) (r : Res
     pub told_goes : is_lapse l ≡ false → line_settled m u l ≡ line_told m t e l
     told_goes h = grind arith
 
-    -- the line's events stand behind the release
+    -- the line's events come after the release
     pub told_more : (past known : List Event) → OnOk r (known ≡ past ++ told ∷ [])
         → known ++ line_events u l ≡ past ++ told_events m.object t (Release e) l
     told_more past known h =

@@ -1,4 +1,4 @@
--- Why a line can't be of a monitor: the first of nine tests that it fails
+-- Why a line can't come from a monitor: the first of nine tests that it fails
 use Rattle.std.specs.Prelude.{ℕ, ◌==◌, nat_lt, Bool, true, ◌&&◌, ◌||◌, not, List, Option, Some, None, if◌then◌else◌, is_some, codes}
 use Rattle.monk_kinds.specs.declared.mode.Mode.{Mode}
 use Rattle.monk_kinds.specs.declared.mode.Rules.{Rules}
@@ -31,7 +31,7 @@ use Rattle.monk_logs.specs.declared.text.line.LogLine.TheVariants.{Enter, Resume
 
 -- ---- numbers and words
 
--- the number of what is to blame, from 1
+-- the number of a reason, from 1
 abbrev pub blame_number : Blame → ℕ
 blame_number Range = 1
 blame_number Call = 2
@@ -43,7 +43,7 @@ blame_number Served = 7
 blame_number Order = 8
 blame_number Choice = 9
 
--- the word of what is to blame
+-- the word of a reason
 abbrev pub blame_word : Blame → List ℕ
 blame_word Range = codes "range"
 blame_word Call = codes "call"
@@ -55,9 +55,9 @@ blame_word Served = codes "served"
 blame_word Order = codes "order"
 blame_word Choice = codes "choice"
 
--- ---- where each event before the line is known: the first test that its own event fails
+-- ---- if each event before the line is known: the first test that its own event fails
 
--- that of the number of a test of events
+-- the reason for the number of a test of events
 abbrev pub blame_of : ℕ → Blame
 blame_of n =
     if n == 1 then Range
@@ -67,7 +67,7 @@ blame_of n =
     else if n == 5 then Reply
     else Choice
 
--- the same of the tests of range and of the call alone, which ask for nothing but the event
+-- the same for the tests of range and of the call alone, which look only at the event
 abbrev pub early_blame_of : ℕ → Option Blame
 early_blame_of n = if n == 1 then Some Range else if n == 2 then Some Call else None
 
@@ -75,9 +75,9 @@ early_blame_of n = if n == 1 then Some Range else if n == 2 then Some Call else 
 abbrev pub lapse_blame : ℕ → ℕ → Blame
 lapse_blame seats s = if nat_lt s seats then Turn else Range
 
--- ---- behind a release, whose choice is not known: the tests of a line that hold whatever it chose
+-- ---- after a release whose choice is not known: the tests of a line that hold whatever it chose
 
--- what the line does, whatever is chosen and however a seat came in; a lapse is tested as a resume
+-- the line's event, with any choice and any way in; a lapse is tested as a resume
 abbrev pub line_event : Mode → LogLine → Event
 line_event k (Enter s) = event.Enter s Handed
 line_event k (Resume s) = event.Resume s from.Waiter
@@ -93,22 +93,22 @@ line_event k (Act s op r) = event.Act s op r
 abbrev pub is_event_in_range : Monitor → Event → Bool
 is_event_in_range m e = is_in_range m.seats m.conds m.object.codes m.object.predicates e
 
--- the first of the tests of range and of the call that an event fails
+-- the first test of range or call that an event fails
 abbrev pub early_blame : Monitor → Event → Option Blame
 early_blame m e = if not (is_event_in_range m e) then Some Range else if not (is_offered m.kind e)
     then Some Call else None
 
--- whether the seat is inside and may be called back: anybody else who is inside, and the caller
--- where it waits by the release
+-- whether the seat is inside and may be called back: the caller if it waits by the release, and
+-- anybody else who is inside
 abbrev pub may_be_called_back : Bool → Bool → Event → ℕ → Bool
 may_be_called_back stays inside e s =
     not stays && (if s == seat_of e then is_some (waits_on e) || is_some (awaited_predicate e) else inside)
 
--- whether the seat may be active still: the caller of a signal, or of what must stay
+-- whether the seat may still be active: the caller of a signal, or of what must stay
 abbrev pub may_be_active : Bool → Event → ℕ → Bool
 may_be_active stays e s = s == seat_of e && (stays || is_some (steps_back e))
 
--- whether it may be the turn of the line's seat, where `stays` tells that the caller must stay
+-- whether it may be the turn of the line's seat; `stays` says that the caller must stay
 abbrev pub may_be_its_turn : Bool → (ℕ → Bool) → Event → LogLine → Bool
 may_be_its_turn stays inside e (Enter s) = not stays
 may_be_its_turn stays inside e (Resume s) = may_be_called_back stays (inside s) e s
@@ -120,7 +120,7 @@ may_be_its_turn stays inside e (Broadcast s c) = may_be_active stays e s
 may_be_its_turn stays inside e (Until s p) = may_be_active stays e s
 may_be_its_turn stays inside e (Act s op r) = may_be_active stays e s
 
--- whether the line brings nobody in who is inside behind the release
+-- whether the line doesn't bring in a seat that is inside after the release
 abbrev pub is_line_in_place : (ℕ → Bool) → Event → LogLine → Bool
 is_line_in_place inside e (Enter s) = not (inside s && not (is_exit_of s e))
 is_line_in_place inside e (Resume s) = true
@@ -132,18 +132,18 @@ is_line_in_place inside e (Broadcast s c) = true
 is_line_in_place inside e (Until s p) = true
 is_line_in_place inside e (Act s op r) = true
 
--- ---- and those that ask whether the release may have chosen so
+-- ---- and those that ask whether the release may have made this choice
 
--- what is to blame where a seat goes on: it stands in none of the queues from which the release
--- chooses, or not in front
+-- the reason if a seat goes on: it is in none of the queues from which the release chooses, or not
+-- at the front
 abbrev pub resume_blame : Queues → ℕ → Blame
 resume_blame q s = if not (stands_in q s) then Unserved else if not (is_front_in q s) then Order else Choice
 
--- and where its caller goes on at once, though it isn't the front of the signaller queue or waiters are above it
+-- the reason if the caller goes on at once, though it isn't the front of the signaller queue or waiters are above it
 abbrev pub stay_blame : Rules → Queues → ℕ → Blame
 stay_blame k q s = if nat_lt k.signaller k.waiter || is_front s q.signallers then Choice else Order
 
--- what is wrong with the choice that a line tells, by the queues that it was made from
+-- what is wrong with the choice that a line shows, by the queues that it was made from
 abbrev pub choice_blame : Rules → Queues → LogLine → Blame
 choice_blame k q (Enter s) = Choice
 choice_blame k q (Resume s) = resume_blame q s
@@ -155,7 +155,7 @@ choice_blame k q (Broadcast s c) = stay_blame k q s
 choice_blame k q (Until s p) = stay_blame k q s
 choice_blame k q (Act s op r) = stay_blame k q s
 
--- the tests 3 to 9, and all nine, of a line behind a release that may not have chosen what the line tells
+-- tests 3 to 9 of a line after a release that may not have made the choice that the line shows
 abbrev pub late_blame : Monitor → Situation → Event → LogLine → Blame
 late_blame m t e l =
     if not (may_be_its_turn (must_stay m.object t e) t.inside e l) then Turn
@@ -163,17 +163,17 @@ late_blame m t e l =
     else if not (is_right_reply m.object t.state (line_event m.kind.mode l)) then Reply
     else choice_blame m.kind (queues_at m.object t e) l
 
--- the early blame if there is one, and else the late one
+-- the early reason if there is one, else the late one
 abbrev pub first_blame : Option Blame → Blame → Blame
 first_blame None late = late
 first_blame (Some early) late = early
 
--- what is to blame when a release and the line that tells its choice don't go together
+-- the reason if a release and the line that shows its choice don't go together
 abbrev pub release_blame : Monitor → Situation → Event → LogLine → Blame
 release_blame m t e l = first_blame (early_blame m (line_event m.kind.mode l)) (late_blame m t e l)
 
--- ---- behind a signal that is half told, a line that doesn't tell its other half
+-- ---- after a signal that lacks its second line: a line that isn't its second one
 
--- what is to blame for a line that can't be the other half of a signal
+-- the reason against a line that can't be the second line of a signal
 abbrev pub half_blame : Monitor → LogLine → Blame
 half_blame m l = if is_event_in_range m (line_event m.kind.mode l) then Call else Range

@@ -32,21 +32,20 @@ leaving (Some (Broadcast s c)) = []
 leaving (Some (Until s p)) = []
 leaving (Some (Act s op r)) = []
 
--- what completes the last line: under immediate return a signal is told by two
+-- what completes the last line: under immediate return a signal has two lines
 abbrev pub other_half : Mode → List LogLine → List LogLine
 other_half k log = if returns_at_once k then leaving (last_or None log) else []
 
--- it is no enter of a seat that found the monitor free
+-- it is not an enter of a seat that found the monitor free
 abbrev pub IsNoFreeEnter : Event → Type 0
 IsNoFreeEnter e = via_of e ≢ Some Free
 
--- behind the first event every seat that enters is handed the monitor
+-- after the first event every seat that enters is handed the monitor
 abbrev pub AreHandedOver : List Event → Type 0
 AreHandedOver h = AllByRecursion IsNoFreeEnter (drop 1 h)
 
--- the history is legal and tells the log, by no more events than the log has lines. A seat is
--- handed the monitor wherever it can be. Where the log ends with a release its choice is the one
--- without a wish
+-- the history is legal and tells the log, with no more events than the log has lines. A seat is handed the
+-- monitor wherever it can be. If the log ends with a release, its choice is the one without a wish
 pub record Completes (m : Monitor) (log : List LogLine) (h : List Event) : Type 0 where
   pub legal : IsLegal m h
   pub erases : erasure h ≡ log ++ other_half m.kind.mode log
@@ -55,16 +54,16 @@ pub record Completes (m : Monitor) (log : List LogLine) (h : List Event) : Type 
   pub last_choice : (before : List Event) (e : Event) (x : Next) → h ≡ before ++ e ∷ [] → next_of e ≡ Some x
       → x ≡ unwished_next m.kind m.object (situation m before) e
 
--- a completion that is a history completes the log
+-- if a completion is a history, it completes the log
 abbrev pub IsCompletionOf : Monitor → List LogLine → Completion → Type 0
 IsCompletionOf m log (completion.History events) = Completes m log events.items
 IsCompletionOf m log (completion.Misfit line why) = Unit {0}
 
--- the verdict that a completion has in it
+-- the verdict in a completion
 abbrev pub verdict_in : Completion → LogVerdict
 verdict_in (completion.History events) = verdict.Fits
 verdict_in (completion.Misfit line why) = verdict.Misfit line why
 
--- what is found of a log: the verdict on it, and a history that completes it where it fits
+-- what is found for a log: the verdict on it, and a history that completes it if it fits
 abbrev pub IsFound : Monitor → List LogLine → Completion → Type 0
 IsFound m log c = (verdict_in c ≡ verdict_on m log) × IsCompletionOf m log c

@@ -1,4 +1,4 @@
--- The release with which a log ends, whose choice no line tells
+-- The release at the end of a log, whose choice no line shows
 use Rattle.std.specs.Prelude.{false, List, [], ◌∷◌, Option, Some, None}
 use Rattle.std.specs.Option.{option_map_or}
 use Rattle.monk_kinds.specs.declared.mode.Pick.TheVariants.{Entry as WishEntry}
@@ -13,13 +13,13 @@ use Rattle.monk_history.specs.Meaning.Situation.{Situation}
 use Rattle.monk_completion.specs.declared.pending.Pending.{Pending}
 use Rattle.monk_completion.specs.declared.pending.Pending.TheVariants.{Settled, Half, Release}
 
--- the release; of a signal that is half told the caller leaves
+-- the release; if a signal lacks its second line, its caller leaves
 abbrev pub last_release : Pending → Option Event
 last_release Settled = None
 last_release (Half s c) = Some (SignalLeave s c next.Stay)
 last_release (Release e) = Some e
 
--- what a release chooses where nobody wishes for anything
+-- what a release chooses if nobody wishes for anything
 abbrev pub unwished_next : Rules → Object → Situation → Event → Next
 unwished_next k o t e = choice_of k o t e false WishEntry
 

@@ -1,4 +1,4 @@
--- What a recorder can write down of a history: the choices, and how a seat came in or goes on, are dropped
+-- What a recorder can write down of a history: it drops the choices, and how a seat came in or goes on
 use Rattle.std.specs.Prelude.{List, [], ◌∷◌}
 use Rattle.std.specs.List.{flat_map}
 use Rattle.monk_history.specs.declared.event.Event.{Event}
@@ -19,6 +19,6 @@ erasure_of (event.Resume s q) = Resume s ∷ []
 erasure_of (event.SignalAll s c) = Broadcast s c ∷ []
 erasure_of (event.SignalWait s c d x) = Signal s c ∷ Wait s d ∷ []
 
--- what a recorder writes down of a history
+-- what a recorder writes for a history
 abbrev pub erasure : List Event → List LogLine
 erasure h = flat_map erasure_of h

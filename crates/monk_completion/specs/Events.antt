@@ -1,4 +1,4 @@
--- The events that a line tells
+-- The events that a line shows
 use Rattle.std.specs.Prelude.{List, [], ◌∷◌}
 use Rattle.monk_object.specs.Object.{Object}
 use Rattle.monk_history.specs.declared.event.Event.{Event}
@@ -12,7 +12,7 @@ use Rattle.monk_completion.specs.Told.{told_release}
 use Rattle.monk_completion.specs.declared.pending.Pending.{Pending}
 use Rattle.monk_completion.specs.declared.pending.Pending.TheVariants.{Settled, Half, Release}
 
--- its own, where each event before it is known; of a release the choice is still to come
+-- the line's own event, if each event before it is known; the choice of a release is still to come
 abbrev pub line_events : Situation → LogLine → List Event
 line_events t (Enter s) = event.Enter s (via_now t) ∷ []
 line_events t (Resume s) = event.Resume s (due_from t.turn) ∷ []
@@ -24,7 +24,7 @@ line_events t (Broadcast s c) = event.SignalAll s c ∷ []
 line_events t (Until s p) = []
 line_events t (Act s op r) = event.Act s op r ∷ []
 
--- the release before it too, whose choice it tells
+-- also the release before it, whose choice it shows
 abbrev pub told_events : Object → Situation → Pending → LogLine → List Event
 told_events o t Settled l = line_events t l
 told_events o t (Half s c) l = []

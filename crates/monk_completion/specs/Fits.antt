@@ -1,4 +1,4 @@
--- Which logs could be of a monitor
+-- Which logs could come from a monitor
 use Rattle.std.specs.Prelude.{◌≡◌, List, ◌++◌}
 use Rattle.monk_history.specs.declared.event.Event.{Event}
 use Rattle.monk_history.specs.Meaning.Legal.{IsLegal}
@@ -6,7 +6,7 @@ use Rattle.monk_history.specs.Meaning.Monitor.{Monitor}
 use Rattle.monk_logs.specs.declared.text.line.LogLine.{LogLine}
 use Rattle.monk_completion.specs.Erasure.{erasure}
 
--- some legal history of the monitor begins with what the log tells
+-- some legal history of the monitor begins with the log
 pub record IsOpen (m : Monitor) (log : List LogLine) : Type 0 where
   pub history : List Event
   pub legal : IsLegal m history

@@ -4,7 +4,7 @@ use Rattle.monk_history.specs.Just.{just}
 use Rattle.monk_history.specs.Meaning.Choice.{Queues}
 use Rattle.monk_completion.specs.declared.fronts.Fronts.{Fronts}
 
--- the queues without those behind their fronts
+-- the queues cut after their fronts
 abbrev pub fronts_of : Queues → Queues
 fronts_of q = record { waiters = take 1 q.waiters; signallers = take 1 q.signallers; ready = take 1 q.ready }
 

@@ -1,4 +1,4 @@
--- The object that the first line of a log names, as it is made
+-- The object of a log's header, when it is made
 use Rattle.std.specs.Prelude.{◌≡◌, ◌≤◌, ◌<◌, ℕ, List, Result, Ok, Err}
 use Rattle.monk_object.specs.Names.{meaning_named, most, opening_named}
 use Rattle.monk_object.specs.Object.{Object}
@@ -6,7 +6,7 @@ use Rattle.monk_object.specs.declared.fault.ObjectFault.{ObjectFault}
 use Rattle.monk_object.specs.declared.fault.ObjectFault.TheVariants.{Size, Memory}
 use Rattle.monk_logs.specs.Log.{LogHeading}
 
--- an object that means this, with states seen so, was made as the first line names it; or else why not
+-- an object with this meaning and this view of its states was made as the header names it; or else why not
 abbrev pub IsMadeAs : {X : Type 0} → LogHeading → Object → (X → List ℕ) → Result X ObjectFault → Type 0
 IsMadeAs h o state (Ok x) =
     (o ≡ meaning_named h.object) × (state x ≡ opening_named h.object h.size) × (h.size ≤ most h.object)

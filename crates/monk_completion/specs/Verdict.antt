@@ -11,11 +11,11 @@ use Rattle.monk_completion.specs.Fits.{IsOpen}
 use Rattle.monk_completion.specs.declared.verdict.LogVerdict.{LogVerdict}
 use Rattle.monk_completion.specs.declared.verdict.LogVerdict.TheVariants.{Fits, Misfit}
 
--- the monitor with those rules that the first line names
+-- the monitor of the header, with those rules
 abbrev pub header_monitor : LogHeading → Rules → Monitor
 header_monitor h k = monitor k h.seats h.conds (meaning_named h.object) (opening_named h.object h.size)
 
--- the monitor of that kind that the first line names
+-- the monitor of the header, of that kind
 abbrev pub log_monitor : KindName → LogHeading → Monitor
 log_monitor kind h = header_monitor h (rules_named kind)
 
@@ -24,12 +24,12 @@ pub record IsMisfit (m : Monitor) (log : List LogLine) (n : ℕ) : Type 0 where
   pub open_before : IsOpen m (take (n - 1) log)
   pub not_open : IsOpen m (take n log) → ⊥
 
--- the verdict is exact by the legal histories of the monitor
+-- the verdict is exact for the legal histories of the monitor
 abbrev pub IsVerdictOn : Monitor → List LogLine → LogVerdict → Type 0
 IsVerdictOn m log Fits = IsOpen m log
 IsVerdictOn m log (Misfit n why) = IsMisfit m log n
 
--- the verdict is Fits exactly where some legal history begins with the log
+-- the verdict is Fits exactly if some legal history begins with the log
 abbrev pub FitsExactly : Monitor → List LogLine → LogVerdict → Type 0
 FitsExactly m log v = (v ≡ Fits) ↔ IsOpen m log
 

@@ -1,4 +1,4 @@
-//! Why a line of a log can't be of a monitor.
+//! Why a line of a log can't come from a monitor.
 
 ghost use Rattle.std.specs.Prelude.{◌≡◌};
 ghost use Rattle.monk_audit.specs.Reasons.{number_of};
@@ -6,14 +6,14 @@ ghost use Rattle.monk_completion.specs.Blame.{blame_number, blame_of, blame_word
 
 use monk_audit::Reason;
 
-/// Why a line can't follow the lines before it: the first of these that applies. They stand in the
-/// order in which a line is tested.
+/// Why a line can't follow the lines before it: the first of these that applies. Lines are tested
+/// in this order.
 #[derive(Clone, Copy, Debug, PartialEq, Eq)]
 pub enum Blame {
     /// A seat, a condition, a predicate or a code of the line is out of range.
     Range,
-    /// The kind of monitor has no such call. Or under immediate return a signal is followed by
-    /// something else than a `leave` or a `wait` of its own seat.
+    /// The kind of monitor has no such call. Or, under immediate return, a signal is not followed
+    /// by a `leave` or a `wait` of its own seat.
     Call,
     /// It is not the turn of the line's seat, whatever the release before it chose: the seat is
     /// outside or active, or somebody else is active.
@@ -22,19 +22,19 @@ pub enum Blame {
     Place,
     /// The reply is not the object's.
     Reply,
-    /// A seat goes on that waits on a condition, where no signal has served it, or until a predicate that doesn't hold.
+    /// A seat goes on that waits on a condition and wasn't served, or that waits until a predicate that doesn't hold.
     Unserved,
     /// A `lapse` says that a timed wait ran out. No history tells that, so every `lapse` has this
     /// reason or an earlier one.
     Served,
-    /// A seat goes on that stands in its queue, but not at the front.
+    /// A seat goes on that is in its queue, but not at the front.
     Order,
     /// The priorities don't permit what the release before it must have chosen: that release is to blame.
     Choice,
 }
 
 impl Blame {
-    /// Its number, 1 to 9.
+    /// Returns the number of the reason, 1 to 9.
     pub fn number(self) -> u8
         ensures { result ≡ blame_number self }
     {
@@ -51,7 +51,7 @@ impl Blame {
         }
     }
 
-    /// Its word.
+    /// Returns the word of the reason.
     pub fn text(self) -> &'static str
         ensures { result.now ≡ blame_word self }
     {
@@ -68,7 +68,7 @@ impl Blame {
         }
     }
 
-    /// What is to blame if that is the first reason against an event, as far as the event alone tells.
+    /// Returns the blame for an audit's reason, if the event alone decides it.
     pub(crate) fn of_early_reason(reason: Reason) -> Option<Blame>
         ensures { result ≡ early_blame_of (number_of reason) }
     {
@@ -82,7 +82,7 @@ impl Blame {
         }
     }
 
-    /// The reason that an audit gives against an event.
+    /// Returns the blame for an audit's reason.
     pub(crate) fn of_reason(reason: Reason) -> Blame
         ensures { result ≡ blame_of (number_of reason) }
     {

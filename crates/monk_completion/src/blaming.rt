@@ -1,4 +1,4 @@
-//! What is to blame where a line can't stand behind a release, or behind a signal that is half told.
+//! The reason if a line can't follow a release, or a signal that lacks its second line.
 
 ghost use Rattle.std.specs.Prelude.{◌≡◌, ◌||◌, ◌++◌, [], true, Some, IfOk, is_some, if◌then◌else◌};
 ghost use Rattle.monk_history.specs.Just.{just};
@@ -23,7 +23,7 @@ use monk_logs::LogLine;
 use monk_object::Guarded;
 use std::alloc::AllocError;
 
-/// What the line does, whatever is chosen and however a seat came in.
+/// Returns the line's event, with any choice and any way in.
 fn line_event(mode: Mode, line: LogLine) -> Event
     ensures { result ≡ blames.line_event mode line }
 {
@@ -39,7 +39,7 @@ fn line_event(mode: Mode, line: LogLine) -> Event
     }
 }
 
-/// The signal that a mode has.
+/// Returns the signal that the mode has.
 fn signal_event(mode: Mode, seat: u8, cond: u8) -> Event
     ensures { result ≡ (if returns_at_once mode then Event.SignalLeave seat cond Next.Stay
         else Event.Signal seat cond Next.Stay) }
@@ -51,7 +51,7 @@ fn signal_event(mode: Mode, seat: u8, cond: u8) -> Event
     }
 }
 
-/// The first of the tests of range and of the call that the event fails.
+/// Returns the first test of range or call that the event fails.
 fn early_blame<T: Guarded>(
     setting: MonitorSetting,
     replay: &Replay,
@@ -67,7 +67,7 @@ fn early_blame<T: Guarded>(
     }
 }
 
-/// What is to blame behind a signal that is half told.
+/// Returns the reason against a line after a signal that lacks its second line.
 pub(crate) fn half_blame<T: Guarded>(
     setting: MonitorSetting,
     replay: &Replay,
@@ -94,14 +94,14 @@ fn waits(event: Event) -> bool
     )
 }
 
-/// Whether the caller may go on at once by the event, though it serves somebody.
+/// Whether the event lets its caller go on at once, though it serves somebody.
 fn steps_back(event: Event) -> bool
     ensures { result ≡ is_some (steps_back event) }
 {
     matches!(event, Event::Signal(..))
 }
 
-/// Whether the seat may be called back, behind a release of which is known whether it must stay.
+/// Whether the seat may be called back after a release. `stays` says whether the release must stay.
 fn may_be_called_back(stays: bool, inside: bool, event: Event, seat: u8) -> bool
     ensures { result ≡ blames.may_be_called_back stays inside event seat }
 {
@@ -114,7 +114,7 @@ fn may_be_called_back(stays: bool, inside: bool, event: Event, seat: u8) -> bool
     }
 }
 
-/// Whether the seat may be active still.
+/// Whether the seat may still be active.
 fn may_be_active(stays: bool, event: Event, seat: u8) -> bool
     ensures { result ≡ blames.may_be_active stays event seat }
 {
@@ -156,7 +156,7 @@ fn is_exit_of(seat: u8, event: Event) -> bool
     }
 }
 
-/// Whether the line brings nobody in who is inside.
+/// Whether the line doesn't bring in a seat that is inside.
 fn is_in_place(replay: &Replay, event: Event, line: LogLine) -> bool
     ensures { result ≡ blames.is_line_in_place (replay_situation replay.now []).inside event line }
 {
@@ -166,7 +166,7 @@ fn is_in_place(replay: &Replay, event: Event, line: LogLine) -> bool
     }
 }
 
-/// What is to blame for a lapse where each event before it is known: no wait runs out while somebody is active.
+/// Returns the reason against a lapse if each event before it is known. No wait runs out while somebody is active.
 pub(crate) fn lapse_blame(seats: u8, seat: u8) -> Blame
     ensures { result ≡ blames.lapse_blame seats seat }
 {
@@ -177,14 +177,14 @@ pub(crate) fn lapse_blame(seats: u8, seat: u8) -> Blame
     }
 }
 
-/// Whether the seat is in the queue, behind which one more may stand.
+/// Whether the seat is in the queue. The queue may have one more seat, `last`, at its end.
 fn is_among(queue: &[u8], last: Option<u8>, seat: u8) -> bool
     ensures { result ≡ has seat (queue.now ++ just last) }
 {
     queue.contains(&seat) || last == Some(seat)
 }
 
-/// Whether the seat stands in one of the queues from which the release chooses.
+/// Whether the seat is in one of the queues from which the release chooses.
 fn stands_in<T: Guarded>(
     setting: MonitorSetting,
     replay: &Replay,
@@ -208,7 +208,7 @@ fn stands_in<T: Guarded>(
     Ok(replay.is_ready(object, seat))
 }
 
-/// What is to blame where a seat goes on that the release may not have chosen.
+/// Returns the reason if a seat goes on that the release may not have chosen.
 fn resume_blame<T: Guarded>(
     setting: MonitorSetting,
     replay: &Replay,
@@ -230,7 +230,7 @@ fn resume_blame<T: Guarded>(
     }
 }
 
-/// What is to blame where the caller goes on at once, though it may not have stayed.
+/// Returns the reason if the caller goes on at once, though it may not have stayed.
 #[tactic(auto, using(crate::proofs::FrontLaws::stay_blame_same))]
 fn stay_blame<T: Guarded>(
     setting: MonitorSetting,
@@ -246,7 +246,7 @@ fn stay_blame<T: Guarded>(
     Fronts::at(replay, object, event).stay_blame(setting.rules, seat)
 }
 
-/// What is to blame where the release may not have chosen what the line tells.
+/// Returns the reason if the release may not have chosen what the line shows.
 fn choice_blame<T: Guarded>(
     setting: MonitorSetting,
     replay: &Replay,
@@ -272,7 +272,7 @@ fn choice_blame<T: Guarded>(
     }
 }
 
-/// The first of the tests of the turn and behind it that the line fails. The object is of no further use.
+/// Returns the first reason from the test of the turn on. The object is of no further use.
 fn late_blame<T: Guarded>(
     setting: MonitorSetting,
     replay: &Replay,
@@ -301,8 +301,8 @@ fn late_blame<T: Guarded>(
     }
 }
 
-/// What is to blame where a release and the line that tells its choice don't go together. The
-/// object is of no further use.
+/// Returns the reason if a release and the line that shows its choice don't go together. The object
+/// is of no further use.
 pub(crate) fn release_blame<T: Guarded>(
     setting: MonitorSetting,
     replay: &Replay,

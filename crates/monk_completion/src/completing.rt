@@ -1,4 +1,4 @@
-//! From a log to a history.
+//! Completes a log to a history.
 
 ghost use Rattle.std.specs.Prelude.{◌≡◌, ◌≤◌, ◌<◌, IfOk, OnOk, IsErrOf, length};
 ghost use Rattle.monk_kinds.specs.Kind.{IsKind};
@@ -21,7 +21,7 @@ use monk_logs::{LogHeader, LogLine};
 use monk_object::{Book, Buffer, Flags, Guarded, ObjectFault, ObjectName, Shop};
 use std::alloc::{AllocError, Global};
 
-/// Judges the lines one after the other, over the object in its opening state.
+/// Judges the lines one after the other, with the object in its opening state.
 fn follow<T: Guarded>(
     object: T,
     setting: MonitorSetting,
@@ -56,7 +56,7 @@ fn follow<T: Guarded>(
     Ok(Completion::History(events))
 }
 
-/// Judges the lines over that object, if it was made as the header names it.
+/// Judges the lines over the object, if it was made as the header names it.
 fn complete_over<T: Guarded>(
     alloc: Global,
     header: &LogHeader,
@@ -80,27 +80,26 @@ fn complete_over<T: Guarded>(
     Ok(follow(object?, setting, lines)?)
 }
 
-/// Gives a history of a monitor of the kind that tells the log, with queues in order of arrival,
-/// over the object that the log's first line names; and else the first line with which no such
-/// history begins.
+/// Returns a history of a monitor of the kind that tells the log, with queues in order of arrival and the
+/// object of the log's header. If there is none, returns the first line with which no such history begins.
 ///
-/// The history is legal, and what a recorder would write down of it is the log. Two things a log
-/// may leave open at its end. Where it ends with a release, the history's last choice is the one
-/// that the kind's rules make without a wish: the caller stays where it must, entry has it where
-/// nobody waits inside, else a waiter where the priorities permit, else a signaller. Where it ends,
-/// under immediate return, with a signal, the signaller leaves, and the history tells one line
-/// more. A task that doesn't come in first is written as handed over, as it always may be.
+/// The history is legal, and a recorder of it would write the log. A log may leave two things open
+/// at its end. If it ends with a release, the history's last choice is the one that the kind's
+/// rules make without a wish. The caller stays if it must. Otherwise the choice is entry if nobody
+/// waits inside, else a waiter if the priorities permit, else a signaller. If the log ends with a
+/// signal under immediate return, the signaller leaves, and the history tells one line more. A task
+/// that isn't the first to come in is written as handed over, as it always may be.
 ///
 /// # Errors
 ///
-/// [`AuditFault::Object`] exactly where the size is above the object's greatest.
+/// [`AuditFault::Object`] exactly if the size is above the object's greatest.
 /// [`AuditFault::Memory`] if a request for memory was refused.
 ///
 /// # Cost
 ///
-/// One pass. A line takes time independent of how long the log is: at most one look at each seat
-/// that waits until a predicate holds, and one move of each seat of a queue. Memory for the events,
-/// the queues and the object.
+/// One pass. The time of a line doesn't depend on the length of the log: at most one look at each
+/// seat that waits until a predicate holds, and one move of each seat of a queue. Memory is needed
+/// for the events, the queues and the object.
 pub fn complete(
     alloc: Global,
     header: &LogHeader,
@@ -108,15 +107,15 @@ pub fn complete(
     kind: KindName,
 ) -> Result<Completion, AuditFault>
     requires { length lines.now ≤ most_lines }
-    // A history that is given is legal, and tells the log.
+    // A history that is returned is legal, and tells the log.
     ensures completes { IfOk result (IsCompletionOf (log_monitor kind header.now) lines.now) }
-    // One is given exactly where some legal history begins with the log.
+    // One is returned exactly if some legal history begins with the log.
     ensures fits { IfOk result (λ c. FitsExactly (log_monitor kind header.now) lines.now (verdict_in c)) }
     // The log misfits exactly at the first line with which none begins.
     ensures misfit { IfOk result (λ c. MisfitsExactly (log_monitor kind header.now) lines.now (verdict_in c)) }
-    // What is to blame, and all else, is as it is found line by line.
+    // The reason, and all else, is as it is found line by line.
     ensures verdict { IfOk result (λ c. verdict_in c ≡ verdict_on (log_monitor kind header.now) lines.now) }
-    // The size is refused exactly where it is above the object's greatest.
+    // The size is refused exactly if it is above the object's greatest.
     ensures made { OnOk result (header.now.size ≤ most header.now.object) }
     ensures object { IsErrOf result AuditFault.Object → most header.now.object < header.now.size }
     ensures too_big { most header.now.object < header.now.size → IsErrOf result AuditFault.Object }

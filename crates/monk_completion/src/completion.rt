@@ -1,4 +1,4 @@
-//! What a log becomes once its choices are known.
+//! What a log becomes after its choices are known.
 
 use crate::blame::Blame;
 use monk_history::Event;
@@ -8,7 +8,7 @@ use monk_history::Event;
 pub enum Completion {
     /// The events of a legal history that tells the log.
     History(Vec<Event>),
-    /// No legal history begins with the log: the first line with which none does, and what is to
-    /// blame. The lines behind the log's first one are counted from 1.
+    /// No legal history begins with the log: the first line with which none begins, and the reason.
+    /// Lines are counted from 1 after the log's header.
     Misfit { line: u32, blame: Blame },
 }

@@ -1,4 +1,4 @@
-//! The release with which a log ends, whose choice no line tells.
+//! The release at the end of a log, whose choice no line shows.
 
 ghost use Rattle.std.specs.Prelude.{◌≡◌, ◌++◌, OnOk};
 ghost use Rattle.monk_audit.specs.Replay.{IsReplayOf, replay_situation};
@@ -15,7 +15,7 @@ use monk_history::{Event, Next};
 use monk_object::Guarded;
 use std::alloc::AllocError;
 
-/// What the release chooses where nobody wishes for anything.
+/// Returns what the release chooses if nobody wishes for anything.
 fn unwished<T: Guarded>(setting: MonitorSetting, replay: &Replay, object: &T, event: Event) -> Next
     requires sound { IsReplayOf setting.seats setting.conds T.PREDICATES replay.now }
     requires called { MayCallIn (monitor_in setting T.meaning)
@@ -29,7 +29,7 @@ fn unwished<T: Guarded>(setting: MonitorSetting, replay: &Replay, object: &T, ev
     Fronts::at(replay, object, event).unwished(setting.rules, event.seat())
 }
 
-/// The release whose choice no line tells. Of a signal that is half told the caller leaves.
+/// Returns the release whose choice no line shows. If a signal lacks its second line, its caller leaves.
 fn last_release(pending: Pending) -> Option<Event>
     ensures { result ≡ endings.last_release pending }
 {

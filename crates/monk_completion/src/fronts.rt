@@ -26,11 +26,11 @@ use monk_object::Guarded;
 pub(crate) struct Fronts {
     pub(crate) waiter: Option<u8>,
     pub(crate) signaller: Option<u8>,
-    /// The first that waits until a predicate that holds.
+    /// The first seat that waits until a predicate, and the predicate holds.
     pub(crate) ready: Option<u8>,
 }
 
-/// The first whom the event serves.
+/// Returns the first seat that the event serves.
 pub(crate) fn first_served(replay: &Replay, event: Event) -> Option<u8>
     ensures { result ≡ slice_get (serves (replay_situation replay.now []).condition event) 0 }
 {
@@ -43,7 +43,7 @@ pub(crate) fn first_served(replay: &Replay, event: Event) -> Option<u8>
     }
 }
 
-/// The caller of the event, if it steps back into the signaller queue.
+/// Returns the caller of the event, if it steps back into the signaller queue.
 pub(crate) fn stepping_back(replay: &Replay, event: Event) -> Option<u8>
     ensures { result ≡ slice_get (signals (replay_situation replay.now []).condition event) 0 }
 {
@@ -53,7 +53,7 @@ pub(crate) fn stepping_back(replay: &Replay, event: Event) -> Option<u8>
     }
 }
 
-/// The choice of a seat that is the front of the signaller queue. The caller stays where it is that front itself.
+/// Returns the choice of the front of the signaller queue. If that front is the caller, the caller stays.
 fn own_or(front: u8, caller: u8) -> Next
     ensures { result ≡ (if front == caller then Next.Stay else Next.Signaller front) }
 {
@@ -65,7 +65,7 @@ fn own_or(front: u8, caller: u8) -> Next
 }
 
 impl Fronts {
-    /// Those at an event, which joins and serves before it chooses.
+    /// Returns the fronts at an event. It joins and serves before it chooses.
     #[tactic(auto, using(crate::proofs::FrontLaws::first_of_both, crate::proofs::FrontLaws::first_alone))]
     pub(crate) fn at<T: Guarded>(replay: &Replay, object: &T, event: Event) -> Fronts
         requires { All (λ w. w.1 < T.PREDICATES) (replay_situation replay.now []).untils }
@@ -79,14 +79,14 @@ impl Fronts {
         }
     }
 
-    /// Whether the seat is one of them.
+    /// Whether the seat is one of the fronts.
     pub(crate) fn has(self, seat: u8) -> bool
         ensures { result ≡ is_front_in (shown self) seat }
     {
         self.waiter == Some(seat) || self.signaller == Some(seat) || self.ready == Some(seat)
     }
 
-    /// What is to blame where the caller goes on at once, though it may not have stayed.
+    /// Returns the reason if the caller goes on at once, though it may not have stayed.
     pub(crate) fn stay_blame(self, rules: Rules, seat: u8) -> Blame
         ensures { result ≡ blames.stay_blame rules (shown self) seat }
     {
@@ -97,7 +97,7 @@ impl Fronts {
         }
     }
 
-    /// What the line tells of the choice.
+    /// Returns the choice that the line shows.
     pub(crate) fn told_next(self, line: LogLine) -> Next
         ensures { result ≡ told.told_next (shown self) line }
     {
@@ -110,7 +110,7 @@ impl Fronts {
         }
     }
 
-    /// What is chosen where nobody wishes for anything.
+    /// Returns the choice if nobody wishes for anything.
     pub(crate) fn unwished(self, rules: Rules, caller: u8) -> Next
         ensures { result ≡ unwished_choice rules (shown self) caller }
     {
@@ -157,7 +157,7 @@ impl Fronts {
         }
     }
 
-    /// Whether a release of the seat that must choose may choose this.
+    /// Whether a release of the seat may choose `next`, if it need not stay.
     fn permits_next(self, rules: Rules, seat: u8, next: Next) -> bool
         ensures { result ≡ choice.may_choose rules (shown self) seat next }
     {

@@ -1,4 +1,4 @@
-//! One line of a log, judged by how the monitor stands behind the events that are known.
+//! Judges one line of a log, from the state of the monitor after the events that are known.
 
 ghost use Rattle.std.specs.Prelude.{◌≡◌, ◌<◌, ◌==◌, ◌++◌, ◌∷◌, [], All, None, Some, IfOk, OnOk, not};
 ghost use Rattle.monk_history.specs.declared.event.Next.{Next};
@@ -25,7 +25,7 @@ use monk_logs::LogLine;
 use monk_object::Guarded;
 use std::alloc::AllocError;
 
-/// The event with this choice, if it is a release.
+/// Returns the event with this choice, if it is a release.
 pub(crate) fn with_next(event: Event, next: Next) -> Event
     ensures { result ≡ releases.with_next next event }
 {
@@ -40,7 +40,7 @@ pub(crate) fn with_next(event: Event, next: Next) -> Event
     }
 }
 
-/// How a task comes in now. It matters only whether it is the first.
+/// Returns how a task comes in now. It only matters whether it is the first.
 fn via_now(replay: &Replay) -> Via
     ensures { result ≡ stands.via_now (replay_situation replay.now []) }
 {
@@ -51,7 +51,7 @@ fn via_now(replay: &Replay) -> Via
     }
 }
 
-/// From which queue the turn is due.
+/// Returns the queue from which the turn is due.
 fn due_from(replay: &Replay) -> From3
     ensures { result ≡ stands.due_from (replay_situation replay.now []).turn }
 {
@@ -62,7 +62,7 @@ fn due_from(replay: &Replay) -> From3
     }
 }
 
-/// Adds an event of which all is known, if it is allowed.
+/// Adds an event that is fully known, if it is allowed.
 fn settle<T: Guarded>(
     setting: MonitorSetting,
     replay: &mut Replay,
@@ -86,7 +86,7 @@ fn settle<T: Guarded>(
     }
 }
 
-/// Holds an event over of which that is still to be known, if its call may be made.
+/// Holds an event over with what is not yet known of it, if its call may be made.
 fn hold<T: Guarded>(
     setting: MonitorSetting,
     replay: &Replay,
@@ -105,7 +105,7 @@ fn hold<T: Guarded>(
     }
 }
 
-/// Holds a release over, whose choice the next line tells.
+/// Holds over a release whose choice the next line shows.
 fn release<T: Guarded>(
     setting: MonitorSetting,
     replay: &Replay,
@@ -119,7 +119,7 @@ fn release<T: Guarded>(
     hold(setting, replay, object, event, Pending::Release(event))
 }
 
-/// A signal. Under immediate return the next line says whether its caller leaves or waits.
+/// Judges a signal. Under immediate return the next line shows whether its caller leaves or waits.
 fn signal<T: Guarded>(
     setting: MonitorSetting,
     replay: &Replay,
@@ -141,7 +141,7 @@ fn signal<T: Guarded>(
     }
 }
 
-/// A line where each event before it is known.
+/// Judges a line if each event before it is known.
 fn line_settled<T: Guarded>(
     setting: MonitorSetting,
     replay: &mut Replay,
@@ -191,7 +191,7 @@ fn line_settled<T: Guarded>(
     }
 }
 
-/// The line behind a signal that is half told.
+/// Judges the line after a signal that lacks its second line.
 fn line_half<T: Guarded>(
     setting: MonitorSetting,
     replay: &Replay,
@@ -218,14 +218,14 @@ fn line_half<T: Guarded>(
     }
 }
 
-/// Whether the line tells that a timed wait ran out.
+/// Whether the line says that a timed wait ran out.
 fn is_lapse(line: LogLine) -> bool
     ensures { result ≡ told.is_lapse line }
 {
     matches!(line, LogLine::Lapse(_))
 }
 
-/// The release, with the choice that the line tells.
+/// Returns the release with the choice that the line shows.
 fn told_release<T: Guarded>(replay: &Replay, object: &T, event: Event, line: LogLine) -> Event
     requires { All (λ w. w.1 < T.PREDICATES) (replay_situation replay.now []).untils }
     ensures { result ≡ told.told_release T.meaning (replay_situation replay.now (T.state object.now)) event line }
@@ -233,7 +233,7 @@ fn told_release<T: Guarded>(replay: &Replay, object: &T, event: Event, line: Log
     with_next(event, Fronts::at(replay, object, event).told_next(line))
 }
 
-/// Whether a test is against the release.
+/// Whether the release fails a test.
 #[tactic(auto, using(crate::proofs::Tests::early_refused))]
 fn refuses<T: Guarded>(setting: MonitorSetting, replay: &Replay, object: &T, event: Event) -> bool
     requires sound { IsReplayOf setting.seats setting.conds T.PREDICATES replay.now }
@@ -250,7 +250,7 @@ fn refuses<T: Guarded>(setting: MonitorSetting, replay: &Replay, object: &T, eve
     }
 }
 
-/// The line behind a release, whose choice it tells.
+/// Judges the line after a release. It shows the release's choice.
 #[tactic(auto, using(crate::proofs::ToldLaws::told_goes, crate::proofs::ToldLaws::told_more))]
 fn line_told<T: Guarded>(
     setting: MonitorSetting,
@@ -280,7 +280,7 @@ fn line_told<T: Guarded>(
     line_settled(setting, replay, object, events, line)
 }
 
-/// A line, by what is still to be known of the last event before it.
+/// Judges a line, by what is not yet known of the last event before it.
 pub(crate) fn judge_line<T: Guarded>(
     setting: MonitorSetting,
     replay: &mut Replay,

@@ -1,14 +1,14 @@
-//! What is still to be known of the last event of a log.
+//! What is not yet known of the last event of a log.
 
 use monk_history::Event;
 
-/// What is still to be known of the last event of a log.
+/// What is not yet known of the last event of a log.
 #[derive(Clone, Copy)]
 pub(crate) enum Pending {
     /// Nothing: each event is known.
     Settled,
-    /// A signal by which its caller leaves or waits, whose second line is to come: its seat and its condition.
+    /// A signal by which its caller leaves or waits. Its second line is still to come. The seat and the condition.
     Half(u8, u8),
-    /// A release whose choice the next line tells. It is written with `stay`.
+    /// A release whose choice the next line shows. Until then its choice is `stay`.
     Release(Event),
 }

@@ -1,9 +1,9 @@
-//! What stays the same of a monitor.
+//! What stays the same in a monitor.
 
 use monk_kinds::Rules;
 use std::alloc::Global;
 
-/// What stays the same of a monitor while its log is judged.
+/// What stays the same in a monitor while its log is judged.
 #[derive(Clone, Copy)]
 pub(crate) struct MonitorSetting {
     pub(crate) alloc: Global,

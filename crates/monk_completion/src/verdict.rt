@@ -1,13 +1,13 @@
-//! What is found of a log.
+//! The verdict on a log.
 
 use crate::blame::Blame;
 
-/// What is found of a log under a kind of monitor and an order of its queues.
+/// The verdict on a log under a kind of monitor and an order of its queues.
 #[derive(Clone, Copy, Debug, PartialEq, Eq)]
 pub enum LogVerdict {
-    /// Some legal history begins with what the log tells.
+    /// Some legal history begins with the log.
     Fits,
-    /// The first line with which none does, and what is to blame. The lines behind the log's first
-    /// one are counted from 1.
+    /// The first line with which none begins, and the reason. Lines are counted from 1 after the
+    /// log's header.
     Misfit { line: u32, blame: Blame },
 }

@@ -7,7 +7,7 @@ use Rattle.monk_tell.specs.declared.place.SeatPlace.{SeatPlace}
 use Rattle.monk_tell.specs.declared.step.Step.{Step}
 use Rattle.monk_draw.specs.Scene.{places_below}
 
--- the steps are told, and then where the seats are
+-- the places after the steps, from the steps as data
 pub rows_told : (seats : ℕ) (xs : List Step) (rows : List (List SeatPlace))
     → rows ≡ map (λ s. places_below (standing_of s.standing) seats) xs
     → rows ≡ map (λ t. places_below t.standing seats) (map step_of xs)

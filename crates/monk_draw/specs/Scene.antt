@@ -1,4 +1,4 @@
--- What a picture shows: the events, who goes on behind each of them, and where each seat is in between
+-- What a picture shows: the events, who goes on after each of them, and where each seat is between them
 use Rattle.std.specs.Prelude.{ℕ, ◌+◌, Option, Some, None, List, length, map, slice_get}
 use Rattle.std.specs.List.{range_with_len}
 use Rattle.std.specs.declared.alloc.Global.{Global}
@@ -20,7 +20,7 @@ abbrev pub handed : Option Event → Option ℕ
 handed (Some (event.Enter s Handed)) = Some s
 handed _ = None
 
--- who goes on by that choice: the seat that it names, or who comes in by the next event
+-- who goes on by that choice: the seat that it names, or the one that comes in by the next event
 abbrev pub goes_on_by : Option Next → Option Event → Option ℕ
 goes_on_by None after = None
 goes_on_by (Some Stay) after = None
@@ -29,12 +29,12 @@ goes_on_by (Some (Waiter j)) after = Some j
 goes_on_by (Some (Signaller j)) after = Some j
 goes_on_by (Some (Until j)) after = Some j
 
--- who goes on after an event, the next one being that
+-- who goes on after an event, if `after` is the next one
 abbrev pub goes_on : Option Event → Option Event → Option ℕ
 goes_on None after = None
 goes_on (Some e) after = goes_on_by (next_of e) after
 
--- behind each of the first so many events the arrow, which leads to who goes on
+-- for each of the first `count` events the arrow, which leads to the seat that goes on after it
 abbrev pub arrows_below : List Event → ℕ → List (Option ℕ)
 arrows_below es count = map (λ k. goes_on (slice_get es k) (slice_get es (k + 1))) (range_with_len 0 count)
 
@@ -62,7 +62,7 @@ scene_of s = record {
   arrows = s.arrows.items;
 }
 
--- the scene of a history of so many seats, from its steps behind so many events, and from the events that are shown
+-- the scene of a history of `seats` seats, from its steps after `before` events, and from the events that are shown
 abbrev pub history_scene : ℕ → List ShownStep → ℕ → List Event → ShownScene
 history_scene seats steps before es = record {
   before = before;

@@ -1,16 +1,16 @@
-//! An event in words, and endings of words.
+//! The words for an event, and endings of words.
 
 use monk_history::Event;
 use monk_object::{Book, Buffer, Flags, ObjectName, Shop};
 use monk_tell::{queue_word, via_word};
 use std::alloc::AllocError;
 
-/// The ending of a word of which there are so many.
+/// Returns the ending of a word for `number` things.
 pub(crate) fn plural(number: usize) -> &'static str {
     if number == 1 { "" } else { "s" }
 }
 
-/// What an operation of the object is called.
+/// Returns the name of an operation of the object.
 pub(crate) fn act_word(object: ObjectName, code: u8) -> &'static str {
     match (object, code) {
         (ObjectName::Buffer, Buffer::PUT) => "put",
@@ -28,7 +28,7 @@ pub(crate) fn act_word(object: ObjectName, code: u8) -> &'static str {
     }
 }
 
-/// The word with which the event begins in a text.
+/// Returns the word with which the event begins in a text.
 pub(crate) fn verb(event: Event) -> &'static str {
     match event {
         Event::Enter(..) => "enter",
@@ -44,7 +44,7 @@ pub(crate) fn verb(event: Event) -> &'static str {
     }
 }
 
-/// What the event is, in a word or two.
+/// Returns what the event is, in a word or two.
 pub(crate) fn event_word(object: ObjectName, event: Event) -> &'static str {
     match event {
         Event::Act(_, op, _) => act_word(object, op.code),
@@ -55,7 +55,7 @@ pub(crate) fn event_word(object: ObjectName, event: Event) -> &'static str {
     }
 }
 
-/// Puts the numbers that belong to the event; of an act what it was called with, unless that is 0, and its reply.
+/// Writes the numbers that belong to the event. For an act: its argument, unless that is 0, and its reply.
 pub(crate) fn put_note(page: &mut String, event: Event) -> Result<(), AllocError> {
     match event {
         Event::Enter(_, via) => page.push_str(via_word(via)),

@@ -1,4 +1,4 @@
-//! A picture of a history, or of a run: what it shows, and that as an SVG text or as lines of text.
+//! A picture of a history or of a run: what it shows, and its SVG text or its lines of text.
 #![tactic(auto)]
 
 mod label;

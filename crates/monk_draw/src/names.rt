@@ -1,12 +1,12 @@
-//! How a program calls its seats and its conditions.
+//! What a program calls its seats and its conditions.
 
-/// The names of seats and of conditions, as far as they are known: that of number 0 first. A picture of text takes each
-/// byte for one column.
+/// The names of seats and of conditions, as far as they are known, from number 0 on. A picture of
+/// text takes each byte for one column.
 #[derive(Clone, Copy, Debug, PartialEq, Eq)]
 pub struct Names<'a> {
-    /// Those of the seats.
+    /// The names of the seats.
     pub seats: &'a [&'a str],
-    /// Those of the conditions. In an automatic history they are those of the predicates.
+    /// The names of the conditions. In an automatic history they are those of the predicates.
     pub conditions: &'a [&'a str],
 }
 

@@ -1,4 +1,4 @@
-//! What a picture is written as.
+//! The forms in which a picture is written.
 
 ghost use Rattle.std.specs.Prelude.{◌<◌, ◌≤◌, ◌^◌, IsErrOf, length};
 ghost use Rattle.monk_object.specs.Names.{most};
@@ -14,7 +14,7 @@ use monk_history::{Event, Header};
 use monk_tell::{forbidden_step, tell_steps};
 use std::alloc::{AllocError, Global};
 
-/// What a picture is written as.
+/// The form in which a picture is written.
 #[derive(Clone, Copy, Debug)]
 pub enum Picture<'a> {
     /// As an SVG text, by [`draw`].
@@ -24,7 +24,7 @@ pub enum Picture<'a> {
 }
 
 impl Picture<'_> {
-    /// The picture of a scene. Where the last event is forbidden, `reason` says why; it may hold no markup.
+    /// Returns the picture of a scene. If the last event is forbidden, `reason` says why; it may hold no markup.
     ///
     /// # Errors
     ///
@@ -46,18 +46,18 @@ impl Picture<'_> {
         }
     }
 
-    /// The picture of a history with that verdict. Of the events up to the one that is forbidden, or up to the end,
-    /// those of the window are shown; without a window the last [`MOST_SHOWN`](crate::MOST_SHOWN). Where the window
-    /// begins behind them ([`is_behind`](crate::is_behind)), none is.
+    /// Returns the picture of a history with that verdict. It shows events up to the forbidden one, or up to
+    /// the end: those of the window, or without a window the last [`MOST_SHOWN`](crate::MOST_SHOWN). If the
+    /// window begins after all of them ([`is_behind`](crate::is_behind)), no event is shown.
     ///
     /// # Errors
     ///
-    /// [`AuditFault::Object`] only where the size is above the object's greatest. [`AuditFault::Memory`] if a request
-    /// for memory was refused.
+    /// [`AuditFault::Object`] only if the size is above the object's greatest.
+    /// [`AuditFault::Memory`] if a request for memory was refused.
     ///
     /// # Cost
     ///
-    /// That of [`tell_steps`], and that of [`Picture::of_scene`].
+    /// The cost of [`tell_steps`] and of [`Picture::of_scene`].
     pub fn of_history(
         self,
         alloc: Global,

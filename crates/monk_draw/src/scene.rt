@@ -9,22 +9,22 @@ use monk_history::{Event, Next, Via};
 use monk_tell::{SeatPlace, Standing, Step};
 use std::alloc::{AllocError, Global};
 
-/// What a picture shows: some events, who goes on behind each of them, and where each seat is in between.
+/// What a picture shows: some events, who goes on after each of them, and where each seat is between them.
 #[derive(Debug, Drop)]
 pub struct Scene {
-    /// How many events there are before those that are shown.
+    /// The number of events before those that are shown.
     pub before: usize,
-    /// Where each seat is, by its number: before the first event that is shown, and behind each that is allowed. Where
-    /// the last event is forbidden, nobody is anywhere behind it.
+    /// Where each seat is, by its number: before the first event that is shown, and after each one
+    /// that is allowed. If the last event is forbidden, there is no place after it.
     pub places: Vec<Vec<SeatPlace>>,
     /// The events that are shown.
     pub events: Vec<Event>,
-    /// Behind each event the seat that goes on by it.
+    /// For each event, the seat that goes on by it.
     pub arrows: Vec<Option<u8>>,
 }
 
 impl Scene {
-    /// Of these events, with where each seat is in between.
+    /// Returns the scene of these events, with where each seat is between them.
     ///
     /// # Errors
     ///
@@ -50,46 +50,46 @@ impl Scene {
         })
     }
 
-    /// How many of the events are allowed: all, or all but the last.
+    /// Returns how many of the events are allowed: all, or all but the last.
     pub(crate) fn allowed(&self) -> usize {
         self.places.len().saturating_sub(1)
     }
 
-    /// Whether the event of that index is forbidden.
+    /// Whether the event with that index is forbidden.
     pub(crate) fn is_forbidden(&self, index: usize) -> bool {
         self.allowed() <= index && index < self.events.len()
     }
 
-    /// Whether the event of that index is an act that is allowed, and that the object refused.
+    /// Whether the event with that index is an act that is allowed and that the object refused.
     pub(crate) fn is_refused(&self, index: usize) -> bool {
         let event = self.events.get(index);
         event.is_some_and(|event| event.is_refused()) && !self.is_forbidden(index)
     }
 
-    /// The number of the step of that index.
+    /// Returns the number of the step with that index.
     pub(crate) fn step(&self, index: usize) -> usize {
         self.before.saturating_add(index).saturating_add(1)
     }
 
-    /// Where the seat is behind so many of the events that are allowed, or behind all of them.
+    /// Returns where the seat is after the first `many` events that are allowed, or after all of them.
     pub(crate) fn place(&self, many: usize, seat: u8) -> SeatPlace {
         let row = self.places.get(many.min(self.allowed()));
         let place = row.and_then(|row| row.get(usize::from(seat)).copied());
         place.unwrap_or(SeatPlace::Outside)
     }
 
-    /// The seat that goes on by the event of that index.
+    /// Returns the seat that goes on by the event with that index.
     pub(crate) fn arrow(&self, index: usize) -> Option<u8> {
         self.arrows.get(index).copied().flatten()
     }
 }
 
-/// The lane of a seat: that of its number, or behind all of them that of the seats that aren't there.
+/// Returns the lane of a seat: its number, or the lane after all seats if there is no such seat.
 pub(crate) fn lane_of(seat: u8, seats: u8) -> u8 {
     seat.min(seats)
 }
 
-/// Who comes in by the event because it was handed the monitor.
+/// Returns who comes in by the event because it was handed the monitor.
 pub(crate) fn handed(event: Option<Event>) -> Option<u8>
     ensures { result ≡ handed event }
 {
@@ -99,8 +99,8 @@ pub(crate) fn handed(event: Option<Event>) -> Option<u8>
     }
 }
 
-/// The seat that goes on after the event: the one that it chose, or who comes in by the next event
-/// because it was handed the monitor.
+/// Returns the seat that goes on after the event: the one that it chose, or the one that comes in
+/// by the next event because it was handed the monitor.
 fn goes_on(event: Option<Event>, after: Option<Event>) -> Option<u8>
     ensures { result ≡ goes_on event after }
 {
@@ -117,7 +117,7 @@ fn event_at(events: &[Event], index: usize) -> Option<Event>
     events.get(index).copied()
 }
 
-/// Who goes on behind each of the events.
+/// Returns who goes on after each of the events.
 fn arrows(alloc: Global, events: &[Event]) -> Result<Vec<Option<u8>>, AllocError>
     ensures { IfOk result (λ v. v.items ≡ arrows_below events.now (length events.now)) }
 {
@@ -126,7 +126,7 @@ fn arrows(alloc: Global, events: &[Event]) -> Result<Vec<Option<u8>>, AllocError
         .collect(alloc)
 }
 
-/// Where each seat below that number is.
+/// Returns where each seat below that number is.
 fn places(alloc: Global, standing: &Standing, seats: u8) -> Result<Vec<SeatPlace>, AllocError>
     ensures { IfOk result (λ v. v.items ≡ places_below (standing_of standing.now) seats) }
 {
@@ -135,7 +135,7 @@ fn places(alloc: Global, standing: &Standing, seats: u8) -> Result<Vec<SeatPlace
         .collect(alloc)
 }
 
-/// Where each seat is after each of the steps.
+/// Returns where each seat is after each of the steps.
 fn places_after(alloc: Global, seats: u8, steps: &[Step]) -> Result<Vec<Vec<SeatPlace>>, AllocError>
     ensures { IfOk result
         (λ v. map row_of v.items ≡ map (λ s. places_below (standing_of s.standing) seats) steps.now) }
@@ -147,8 +147,8 @@ fn places_after(alloc: Global, seats: u8, steps: &[Step]) -> Result<Vec<Vec<Seat
     Ok(rows)
 }
 
-/// The scene of a history, from its steps behind so many events ([`monk_tell::tell_steps`]); `shown` are the events
-/// that are shown.
+/// Returns the scene of a history, from its steps after the first `before` events
+/// ([`monk_tell::tell_steps`]). `shown` are the events that are shown.
 ///
 /// # Errors
 ///
@@ -156,7 +156,7 @@ fn places_after(alloc: Global, seats: u8, steps: &[Step]) -> Result<Vec<Vec<Seat
 ///
 /// # Cost
 ///
-/// For each step one pass over the queues for each seat; two bytes for each step and seat.
+/// For each step, one pass over the queues for each seat. Memory: two bytes for each step and seat.
 #[tactic(auto, using(crate::proofs::SceneLaws::rows_told))]
 pub fn history_scene(
     alloc: Global,

@@ -5,10 +5,10 @@ ghost use Rattle.monk_draw.specs.Window.{is_behind, not_shown, showable, shown_l
 
 use crate::window::Window;
 
-/// The most events that are shown where none are asked for.
+/// The most events that are shown if no window is asked for.
 pub const MOST_SHOWN: usize = 200;
 
-/// How many of so many events can be shown: those up to the one that is forbidden, if one is, else all.
+/// Returns how many of `count` events can be shown: those up to the forbidden one, if there is one, else all.
 pub fn showable(forbidden: Option<u32>, count: usize) -> usize
     ensures value { result ≡ showable forbidden count }
     ensures some { result ≤ count }
@@ -19,7 +19,7 @@ pub fn showable(forbidden: Option<u32>, count: usize) -> usize
     }
 }
 
-/// Whether a window begins behind the last of so many events that can be shown.
+/// Whether a window begins after the last event that can be shown. `count` is how many can be shown.
 pub fn is_behind(window: Option<Window>, count: usize) -> bool
     ensures { result ≡ is_behind window count }
 {
@@ -29,18 +29,18 @@ pub fn is_behind(window: Option<Window>, count: usize) -> bool
     }
 }
 
-/// The events that are shown: those up to the last of them, but for those before.
+/// The events that are shown: those after the first `before`, up to number `last`.
 #[derive(Clone, Copy, Debug)]
 pub struct Span {
-    /// How many events there are before.
+    /// The number of events before them.
     pub before: usize,
-    /// How many there are up to the last that is shown.
+    /// The number of the last event that is shown.
     pub last: usize,
 }
 
 impl Span {
-    /// Those of a window, or without one the last [`MOST_SHOWN`], of so many that can be shown.
-    /// Where the window begins behind these, none is shown.
+    /// Returns the events of a window, or without one the last [`MOST_SHOWN`], out of `count` that
+    /// can be shown. If the window begins after these, none is shown.
     pub fn of(window: Option<Window>, count: usize) -> Span
         ensures last { result.last ≡ shown_last window count }
         ensures before { result.before ≡ not_shown window result.last }

@@ -1,4 +1,4 @@
-//! The SVG text of a scene. Its layout has no contract: stored pictures hold it.
+//! The SVG text of a scene. Its layout has no contract: stored pictures fix it.
 
 mod arrows;
 mod bars;
@@ -24,8 +24,8 @@ struct Canvas<'a> {
     layout: Layout,
 }
 
-/// The picture of a scene as an SVG text: a lane for each seat, a column for each event, to the right. Where the last
-/// event is forbidden, `reason` says why; it may hold no markup.
+/// Returns the picture of a scene as an SVG text, with a lane for each seat and a column for each
+/// event, to the right. If the last event is forbidden, `reason` says why; it may hold no markup.
 ///
 /// # Errors
 ///
@@ -33,7 +33,7 @@ struct Canvas<'a> {
 ///
 /// # Cost
 ///
-/// Time for each event and seat that is shown; memory for the picture: some 1 kB for each event.
+/// Time for each event and seat that is shown. Memory for the picture: some 1 kB for each event.
 pub fn draw(
     alloc: Global,
     header: &Header,
@@ -51,7 +51,7 @@ pub fn draw(
 }
 
 impl Canvas<'_> {
-    /// Puts the whole picture.
+    /// Writes the whole picture.
     fn put_all(&mut self, alloc: Global, header: &Header, reason: &str) -> Result<(), AllocError> {
         self.put_ground(header)?;
         self.put_bars(alloc)?;

@@ -1,4 +1,4 @@
-//! A scene as lines of text: one for each seat. Its layout has no contract: tests and the examples hold it.
+//! A scene as lines of text: one for each seat. Its layout has no contract: tests and the examples fix it.
 
 mod brush;
 mod column;
@@ -17,12 +17,12 @@ use monk_history::Header;
 use signs::Signs;
 use std::alloc::{AllocError, Global};
 
-/// The picture of a scene as lines of text, in strips that are as wide as the form says. A strip has the numbers of its
-/// steps, and a line for each seat that comes.
+/// Returns the picture of a scene as lines of text, in strips of the form's width. A strip has the
+/// numbers of its steps, and a line for each seat that comes.
 ///
-/// A seat's line has what it does, and dots, dashes or double lines where it waits on a condition, in the waiter queue
-/// or in the signaller queue. An arrow leads from a release to the seat that goes on. An act with a question mark was
-/// refused. Where the last event is forbidden, `reason` says why.
+/// A seat's line has what it does. Dots, dashes or double lines show that it waits on a condition, in the
+/// waiter queue or in the signaller queue. An arrow leads from a release to the seat that goes on. An act
+/// with a question mark was refused. If the last event is forbidden, `reason` says why.
 ///
 /// # Errors
 ///
@@ -30,7 +30,7 @@ use std::alloc::{AllocError, Global};
 ///
 /// # Cost
 ///
-/// Time for each event and seat that is shown; memory for the picture: some 20 bytes for each of them.
+/// Time for each event and seat that is shown. Memory for the picture: some 20 bytes for each of them.
 pub fn draw_text(
     alloc: Global,
     header: &Header,

@@ -5,7 +5,7 @@ ghost use Rattle.monk_draw.specs.Asked.{numbers_meant, window_fault};
 
 use crate::window_fault::WindowFault;
 
-/// The events of a history from one number to another, which count from 1: at least one, and at most [`Window::MOST`].
+/// The events of a history from one number to another, counted from 1: at least one, and at most [`Window::MOST`].
 #[derive(Clone, Copy, Debug)]
 pub struct Window {
     from: usize,
@@ -18,12 +18,12 @@ impl Window {
     /// The most events that can be asked for.
     pub const MOST: usize = 2000;
 
-    /// The events from one number to another.
+    /// Returns the events from one number to another.
     ///
     /// # Errors
     ///
-    /// [`WindowFault::Zero`] where a number is 0, [`WindowFault::Backward`] where the first is above the last, and
-    /// [`WindowFault::Wide`] where they are more than [`Window::MOST`] events.
+    /// [`WindowFault::Zero`] if a number is 0, [`WindowFault::Backward`] if the first is above the
+    /// last, and [`WindowFault::Wide`] if they are more than [`Window::MOST`] events.
     pub fn between(from: usize, to: usize) -> Result<Window, WindowFault>
         ensures numbers { IfOk result (λ w. (w.from ≡ from) × (w.to ≡ to)) }
         ensures only { OnOk result (window_fault from to ≡ None) }
@@ -41,13 +41,13 @@ impl Window {
         Ok(Window { from, to })
     }
 
-    /// The events that a command line asks for, which may tell either number alone, and `None`
-    /// where it tells none: with `from` alone the first [`Window::MOST`] events from there on, with
-    /// `to` alone the last so many up to there.
+    /// Returns the events that a command line asks for, or `None` if it gives no number. With
+    /// `from` alone they are the first [`Window::MOST`] events from there on, with `to` alone the
+    /// last [`Window::MOST`] up to there.
     ///
     /// # Errors
     ///
-    /// Those of [`Window::between`].
+    /// As [`Window::between`].
     pub fn asked(from: Option<u32>, to: Option<u32>) -> Result<Option<Window>, WindowFault>
         ensures numbers { IfOk result (λ asked. option_map (λ (w : Window). (w.from, w.to)) asked
             ≡ numbers_meant from to) }
@@ -60,14 +60,14 @@ impl Window {
         }
     }
 
-    /// The number of the first event, from 1.
+    /// Returns the number of the first event, from 1.
     pub fn from(self) -> usize
         ensures { result ≡ self.from }
     {
         self.from
     }
 
-    /// The number of the last event.
+    /// Returns the number of the last event.
     pub fn to(self) -> usize
         ensures { result ≡ self.to }
     {
@@ -75,7 +75,7 @@ impl Window {
     }
 }
 
-/// The numbers that are meant, where one may be left out.
+/// Returns the numbers that are meant, if one may be left out.
 fn numbers_meant(from: Option<u32>, to: Option<u32>) -> Option<(usize, usize)>
     ensures { result ≡ numbers_meant from to }
 {

@@ -1,6 +1,6 @@
 use thiserror::Error;
 
-/// Why numbers ask for no events.
+/// Why two numbers name no window.
 #[derive(Clone, Copy, Debug, PartialEq, Eq, Error)]
 pub enum WindowFault {
     /// A number is 0.
@@ -9,7 +9,7 @@ pub enum WindowFault {
     /// The first number is above the last.
     #[error("from {from} to {to}: the first is above the last")]
     Backward { from: usize, to: usize },
-    /// They are more events than can be asked for.
+    /// There are more events than can be asked for.
     #[error("from {from} to {to}: more than 2000 events")]
     Wide { from: usize, to: usize },
 }

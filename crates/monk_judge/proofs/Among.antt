@@ -1,11 +1,11 @@
--- The first and the last number that has a property, one number on
+-- The first and the last number that has a property, one number further on
 use Rattle.std.proofs.Common.{◌≡◌, ℕ, ◌+◌, ◌<◌, ◌⊎◌, inl, inr, Option, Some, None, refl, subst, arith}
 use Rattle.monk_judge.specs.Among.{NamesFirst, NamesLast}
 
 pub here_or_below : (k n : ℕ) → k < n + 1 → (k ≡ n) ⊎ (k < n)
 here_or_below k n lt = grind arith
 
--- of the numbers below n both properties say the same
+-- for the numbers below n both properties say the same
 abbrev pub SameBelow : (ℕ → Type 0) → (ℕ → Type 0) → ℕ → Type 0
 SameBelow P Q n = (k : ℕ) → k < n → (P k → Q k) × (Q k → P k)
 

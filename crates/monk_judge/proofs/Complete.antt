@@ -1,6 +1,5 @@
--- If some run tells the lines, the judge takes them: between its run and any other, threads inside differ only in
--- whether
--- they still sleep
+-- If some run tells the lines, the judge takes them: between its run and any other, threads inside
+-- differ only in whether they still sleep
 use Rattle.std.proofs.Common.{arith, ◌≡◌, ℕ, ◌==◌, ◌⊎◌, Bool, true, false, List, [], ◌∷◌, ◌++◌, Option, Some, None, if◌then◌else◌, refl, sym, ap, subst, ◌∙◌, inl, inr}
 use Rattle.std.proofs.lemmas.Bool.{eq-eqb, eqb-true, false≢true}
 use Rattle.monk_logs.specs.Log.{is_lapse, line_seat}
@@ -14,7 +13,7 @@ use Rattle.monk_judge.specs.declared.step.Step.TheVariants.{Tells}
 use Rattle.monk_judge.specs.Judged.{CanResume, CanStand, IsRight, after_all, running_out, steps_at, waking}
 use Rattle.monk_judge.specs.Ends.{lapses_next}
 
--- where a thread is as far as lines alone tell
+-- where a thread is, as far as lines alone say
 abbrev pub class : Place → Place
 class Outside = Outside
 class Active = Active
@@ -22,7 +21,7 @@ class (Waiting c) = Waiting c
 class (Woken c) = Waiting c
 class (RanOut c) = Waiting c
 
--- the wait of the judge's has run out exactly if a lapse comes next
+-- a thread's wait has run out in the judge's state exactly if its next line is a lapse
 abbrev pub Foreseen : Place → Bool → Type 0
 Foreseen Outside b = Unit {0}
 Foreseen Active b = Unit {0}
@@ -30,7 +29,7 @@ Foreseen (Waiting c) b = b ≡ false
 Foreseen (Woken c) b = b ≡ false
 Foreseen (RanOut c) b = b ≡ true
 
--- the judge's state x, beside that of another run of the same lines
+-- the judge's state x, compared with that of another run of the same lines
 pub record Follows (x y : State) (rest : List LogLine) : Type 0 where
   pub lock : x.lock ≡ y.lock
   pub same_data : x.data_now ≡ y.data_now
@@ -77,18 +76,18 @@ can_lapse (Waiting c) (RanOut d) e h k = absurd (false≢true (sym k))
 can_lapse (Woken c) (RanOut d) e h k = absurd (false≢true (sym k))
 can_lapse (RanOut c) (RanOut d) e h k = tt
 
--- the next line of the seat that wrote the first of them is that
+-- if the seat wrote the first of the lines, that is its next line
 next_is : (s : ℕ) (l : LogLine) (rest : List LogLine) → line_seat l ≡ s → lapses_next s (l ∷ rest) ≡ is_lapse l
 next_is s l rest e = ap (λ b. if b then is_lapse l else lapses_next s rest) (eq-eqb s (line_seat l) (sym e))
 
--- ---- one thread elsewhere
+-- ---- one thread in another place
 
 placed : (s : ℕ) (p q : Place) (f g : ℕ → Place) → class p ≡ class q → ((j : ℕ) → class (f j) ≡ class (g j))
     → (j : ℕ) → class (with_place s p f j) ≡ class (with_place s q g j)
 placed s p q f g e h j = elim (j == s) as (λ b. class (if b then p else f j) ≡ class (if b then q else g j))
     [ true ↦ e | false ↦ h j ]
 
--- as it was, as far as lines tell
+-- the places are as before, as far as lines say
 same_class_by : (j s : ℕ) (p : Place) (f : ℕ → Place) (b : Bool) → (j == s) ≡ b → class p ≡ class (f s)
     → class (if b then p else f j) ≡ class (f j)
 same_class_by j s p f true e h = h ∙ ap (λ k. class (f k)) (sym (eqb-true j s e))
@@ -152,7 +151,7 @@ signalled_active : (x : State) (c : ℕ) (w : Option ℕ) → WakesRightly x c w
 signalled_active x c None h j a = a
 signalled_active x c (Some k) h j a = signalled_active_by x c k j (j == k) refl h a
 
--- who may signal is outside or active
+-- a thread that may signal is outside or active
 pub sender_here : (m : Setting) (x y : State) (rest : List LogLine) (s c : ℕ) → Follows x y rest → MaySignal m y s c
     → (b : Bool) → Foreseen (x.place s) b
 sender_here m x y rest s c f h b =
@@ -221,7 +220,7 @@ took x y s l rest e f = record {
   holder = λ j same. active_by j s (x.place j) (j == s) refl (some_same s j same);
 }
 
--- the judge's thread wakes where it comes back
+-- the judge's thread wakes just before it comes back
 unasked_follows : (x y : State) (s : ℕ) (p : Place) (rest : List LogLine) → x.place s ≡ p → CanResume p
     → Follows x y rest
     → (m : Setting) → Follows (after_all m x (waking s p)) y rest
@@ -279,7 +278,7 @@ waited m x y s c rest true e f =
       holder = λ j same. no_lock j _ None refl same;
     }
 
--- whomever the two runs wake, one line on
+-- the same after one more line, whichever threads the two runs wake
 pub follow_line : (m : Setting) (x y : State) (l : LogLine) (v w : Option ℕ) (rest : List LogLine) → IsRight x l v
     → Follows x y (l ∷ rest) → May m y (Tells l w)
     → Follows (after_all m x (steps_at x l v (lapses_next (line_seat l) rest))) (after m y (Tells l w)) rest

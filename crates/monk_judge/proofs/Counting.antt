@@ -11,7 +11,7 @@ pub count_same : (f g : ℕ → Bool) (n : ℕ) → ((j : ℕ) → f j ≡ g j) 
 count_same f g zero h = refl
 count_same f g (suc n) h = let a = count_same f g n h in let b : one (f n) ≡ one (g n) = ap one (h n) in omega arith
 
--- they differ at one number at most
+-- the two tests differ at one number at most
 by_eq : (s n : ℕ) → (n ≡ s) ⊎ (n ≡ s → ⊥)
 by_eq s n = grind arith
 
@@ -27,7 +27,7 @@ strictly s n ne lt = grind arith
 pub lt_or : (s n : ℕ) → (s < n) ⊎ (n ≤ s)
 lt_or s n = grind arith
 
--- with the rest of that number
+-- the counts differ by what the tests say of that number
 pub count_moved : (f g : ℕ → Bool) (s n : ℕ) → ((j : ℕ) → (j ≡ s → ⊥) → f j ≡ g j) → s < n
     → count f n + one (g s) ≡ count g n + one (f s)
 count_moved f g s zero h lt = absurd (omega arith)

@@ -18,9 +18,8 @@ use Rattle.monk_judge.proofs.Complete.{Follows, after_on, can_stand, class_out, 
 use Rattle.monk_judge.proofs.Least.{Dom}
 use Rattle.monk_judge.proofs.LeastLaw.{GoesOnWithin, cost_on, line_dom, out_dom, unasked_dom, unasked_on}
 
--- these steps are a run of those lines and lead to the state; beside each other run of them the state is the judge's,
--- and no more
--- threads woke unasked on any condition
+-- the steps are a run of those lines and lead to the state; compared with any other run of them,
+-- the state is the judge's, and on no condition were more threads woken unasked
 pub record Covers (m : Setting) (d : List ℕ) (before rest : List LogLine) (steps : List Step) (x : State) : Type 0 where
   pub run : IsRun m (opening d) steps
   pub told : lines_of steps ≡ before
@@ -31,7 +30,7 @@ pub record Covers (m : Setting) (d : List ℕ) (before rest : List LogLine) (ste
       → Dom m.seats c x.place (after_all m (opening d) others).place rest (length rest)
       (unasked_on m c (opening d) steps) (unasked_on m c (opening d) others)
 
--- steps that tell lines up to one, that one, and the silent ones behind it
+-- steps that tell the lines before a line, that line, and the silent steps after it
 record Split (steps : List Step) (before : List LogLine) (l : LogLine) : Type 0 where
   first : List Step
   whom : Option ℕ
@@ -109,7 +108,7 @@ silent_all m x y rest (WakesUnasked s ∷ steps) e f =
     silent_all m x (after m y (WakesUnasked s)) rest steps e
     (silent x y s (woken_unasked (y.place s)) rest (class_unasked (y.place s)) f)
 
--- what is silent in the other run changes nothing
+-- the silent steps of the other run change nothing
 abbrev pub Beats : Setting → ℕ → State → State → List LogLine → ℕ → ℕ → Type 0
 Beats m c x y rest kx ky = Dom m.seats c x.place y.place rest (length rest) kx ky
 
@@ -131,12 +130,12 @@ silent_beats m c x y rest (WakesUnasked s ∷ steps) kx ky e run h =
     (silent_beats m c x z rest steps kx (ky + one_more) e run.1
     (unasked_dom m.seats c (length rest) kx ky s rest x.place y.place run.0 h))
 
--- whom the judge's signal wakes goes on as early as any that sleeps there
+-- the thread that the judge's signal wakes goes on as early as any other that sleeps there
 abbrev pub GoesFirst : Setting → State → LogLine → Option ℕ → List LogLine → Type 0
 GoesFirst m x l w rest = (s e i d : ℕ) → l ≡ Signal s e → x.place i ≡ Waiting e → resumes_within i d rest ≡ true
     → GoesOnWithin m.seats d rest w
 
--- what stands beside a run that tells one line more
+-- what is known of another run that tells one more line
 record Beside (m : Setting) (d : List ℕ) (steps : List Step) (x : State) (l : LogLine) (rest : List LogLine)
     (others : List Step) : Type 0 where
   before : State
@@ -180,7 +179,7 @@ beside m d before l rest steps x c others run told =
           (silent_beats m cond y past rest s.more kx (unasked_on m cond (opening d) s.first) s.none parts.1.1 h));
     }
 
--- a line that stands
+-- a line that can follow
 pub covers_line : (m : Setting) (d : List ℕ) (before : List LogLine) (l : LogLine) (rest : List LogLine)
     (steps : List Step)
     (x y : State) (w : Option ℕ)
@@ -216,7 +215,7 @@ covers_line m d before l rest steps x y w c h right first e =
           b.before right first b.follows b.may (b.least cond))));
     }
 
--- a line that can't stand
+-- a line that can't follow
 pub covers_not : (m : Setting) (d : List ℕ) (before : List LogLine) (l : LogLine) (rest : List LogLine)
     (steps : List Step) (x : State)
     → Covers m d before (l ∷ rest) steps x → (CanStand m x l → ⊥) → IsExplainable m (opening d) (before ++ l ∷ []) → ⊥
@@ -262,7 +261,7 @@ covers_opening m d lines x e = record {
       (record { cost = omega arith; due = λ k le. omega arith })));
 }
 
--- the lines from that index on, with what stands there
+-- the lines from that index on, and what holds there
 abbrev pub CoversAt : Setting → List ℕ → List LogLine → ℕ → List Step → State → Type 0
 CoversAt m d lines i steps x = Covers m d (take i lines) (drop i lines) steps x
 

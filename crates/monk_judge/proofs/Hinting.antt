@@ -1,4 +1,4 @@
--- What is known of overtaken threads, one line on
+-- What is known of overtaken threads, after one more line
 use Rattle.std.proofs.Common.{◌≡◌, ℕ, suc, ◌+◌, ◌<◌, ◌≤◌, ◌⊎◌, inl, inr, true, false, List, [], ◌∷◌, ◌++◌, Option, Some, None, length, refl, sym, ap, subst, arith, ◌∙◌}
 use Rattle.std.proofs.lemmas.Bool.{cases_Bool, false≢true}
 use Rattle.monk_logs.specs.Log.{line_seat}
@@ -20,7 +20,7 @@ use Rattle.monk_judge.proofs.Many.{many_skip, many_within, same_self}
 use Rattle.monk_judge.proofs.Nexts.{HasNext, at_last, next_kept, on_kept, overtaken_kept, seat_kept}
 use Rattle.monk_judge.proofs.Returning.{BackAt, Hinted, HintedBefore, IsBack, IsBackAt, again_same, before_same, before_waits, no_wait, others_line}
 
--- ---- who is back behind the line
+-- ---- who is back after the line
 
 none_some : (s : ℕ) (A : Type 0) → None ≡ Some s → A
 none_some s A h = cc
@@ -48,7 +48,7 @@ back_kept all t l x y b is moves at other =
       lock = moves.held frees b.seat at.lock other;
     }
 
--- the line's thread told a line since, if it came back last
+-- if the line's thread came back last, it has now written a line since
 next_now : (all : List Moment) (t : Moment) (l : LogLine) (x : State) (b : Back) → t.line ≡ l → BackAt all x b
     → line_seat l ≡ b.seat → HasNext (all ++ t ∷ []) b.line
 next_now all t l x b is at own =
@@ -63,7 +63,7 @@ next_now all t l x b is at own =
       };
     }
 
--- behind a line, before its own thread may have come back
+-- after a line, before its own thread may have come back
 pub record Half (all : List Moment) (t : Moment) (y : State) (h : Hints) : Type 0 where
   pub counts : HintedBefore all t h
   pub back : IsBack (all ++ t ∷ []) y h.back
@@ -139,7 +139,7 @@ half_by all t l x y h mid (Some b) back is moves was goes =
           (half_other all t l x y h b back is moves was other.0)
     ]
 
--- no more than there are lines
+-- the counts are no greater than the number of lines
 pub hinted_few : (all : List Moment) (x : State) (h : Hints) → Hinted all x h
     → (h.many ≤ length all) × (h.again ≤ length all)
 hinted_few all x h was = (

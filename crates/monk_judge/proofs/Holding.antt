@@ -1,4 +1,4 @@
--- Who has the lock took it last
+-- The thread that has the lock is the one that took it last
 use Rattle.std.proofs.Common.{◌≡◌, ℕ, zero, suc, ◌<◌, ◌⊎◌, inl, inr, true, false, List, [], ◌∷◌, Option, Some, None, length, get_or, refl, sym, ap, subst, arith, ◌∙◌}
 use Rattle.std.proofs.lemmas.Bool.{false≢true}
 use Rattle.monk_logs.specs.Log.{line_seat}
@@ -15,7 +15,7 @@ use Rattle.monk_judge.proofs.Complete.{no_lock}
 abbrev NoneTakes : List LogLine → Type 0
 NoneTakes lines = (k : ℕ) → k < length lines → takes_lock (get_or lines k (Enter 0)) ≡ false
 
--- the seat is the last that does
+-- the seat is the last that takes it
 record TookLast (lines : List LogLine) (s : ℕ) : Type 0 where
   at : ℕ
   within : at < length lines
@@ -106,12 +106,12 @@ took_last m d steps s h =
     elim (held m (opening d) steps s h) as (λ k. TookLast (lines_of steps) s)
     [ inl none ↦ no_lock s _ None refl none.0 | inr took ↦ took ]
 
--- ---- as it is told
+-- ---- in the words of the report
 
 which : (j k : ℕ) → (j ≡ k) ⊎ (j < k) ⊎ (k < j)
 which j k = grind arith
 
--- the last that is named is that seat's
+-- the last line that is named is that seat's
 last_is : (lines : List LogLine) (s k : ℕ) → TookLast lines s → NamesLastTaking lines (Some k)
     → line_seat (get_or lines k (Enter 0)) ≡ s
 last_is lines s k took named =

@@ -13,7 +13,7 @@ use Rattle.monk_judge.proofs.LinesAhead.{past_other, past_own}
 use Rattle.monk_judge.proofs.Complete.{Foreseen}
 use Rattle.monk_judge.proofs.Counting.{count_below, count_drop, count_moved, count_none, count_same, count_some, lt_or}
 
--- whether a thread there came to sleep on the condition and wasn't woken
+-- whether a thread in that place came to sleep on the condition and wasn't woken
 abbrev pub asleep_on : ℕ → Place → Bool
 asleep_on c Outside = false
 asleep_on c Active = false
@@ -21,7 +21,7 @@ asleep_on c (Waiting e) = e == c
 asleep_on c (Woken e) = false
 asleep_on c (RanOut e) = e == c
 
--- and goes on within so many lines
+-- and it goes on within the first `d` lines
 abbrev pub due : ℕ → (ℕ → Place) → ℕ → List LogLine → ℕ → Bool
 due c place d lines j = asleep_on c (place j) && resumes_within j d lines
 
@@ -62,7 +62,7 @@ pub due_elsewhere : (s : ℕ) (p : Place) (f : ℕ → Place) (c d : ℕ) (lines
     → due c (with_place s p f) d lines j ≡ due c f d lines j
 due_elsewhere s p f c d lines j ne = ap (λ q. asleep_on c q && resumes_within j d lines) (elsewhere s p f j ne)
 
--- a thread that wakes unasked: one less at most, and none if it slept elsewhere
+-- if a thread wakes unasked, at most one less is due, and none if it slept elsewhere
 pub unasked_drop : (n s : ℕ) (p : Place) (f : ℕ → Place) (c d : ℕ) (lines : List LogLine) → Sleeps p → f s ≡ p
     → count (due c f d lines) n ≤ count (due c (with_place s (woken_unasked p) f) d lines) n + one (waits_on c p)
 unasked_drop n s Outside f c d lines h e = absurd h
@@ -84,7 +84,7 @@ unasked_drop n s (RanOut x) f c d lines h e = absurd h
 
 -- ---- past a line
 
--- the line moves its own thread alone
+-- the line moves only its own thread
 moved_count : (n c d : ℕ) (l : LogLine) (rest : List LogLine) (f g : ℕ → Place) → line_seat l < n
     → ((j : ℕ) → (j ≡ line_seat l → ⊥) → g j ≡ f j)
     → count (due c f (suc d) (l ∷ rest)) n + one (asleep_on c (g (line_seat l)) && resumes_within (line_seat l) d rest)
@@ -95,7 +95,7 @@ moved_count n c d l rest f g lt same =
     ∙ ap (λ p. asleep_on c p && resumes_within j d rest) (sym (same j ne))) lt
     ∙ ap (λ b. count (due c g d rest) n + one (asleep_on c (f (line_seat l)) && b)) (past_own l rest d)
 
--- ---- the judge beside another run
+-- ---- the judge compared with another run
 
 pub record Dom (n c : ℕ) (f g : ℕ → Place) (lines : List LogLine) (most kx ky : ℕ) : Type 0 where
   pub cost : kx ≤ ky
@@ -104,7 +104,7 @@ pub record Dom (n c : ℕ) (f g : ℕ → Place) (lines : List LogLine) (most kx
 none_due : (n c : ℕ) (p : Place) (l : LogLine) → is_resume l ≡ false → one (asleep_on c p && is_resume l) ≡ 0
 none_due n c p l h = ap (λ b. one (asleep_on c p && b)) h ∙ ap one (and_false (asleep_on c p))
 
--- a line that is no resume moves its own thread alone, to where it sleeps in both or in neither
+-- a line other than a resume moves only its own thread, to where it sleeps in both runs or in neither
 pub dom_still : (n c most kx ky : ℕ) (l : LogLine) (rest : List LogLine) (f g f2 g2 : ℕ → Place) → line_seat l < n
     → is_resume l ≡ false
     → ((j : ℕ) → (j ≡ line_seat l → ⊥) → f2 j ≡ f j) → ((j : ℕ) → (j ≡ line_seat l → ⊥) → g2 j ≡ g j)
@@ -159,7 +159,7 @@ dom_back n c most kx ky s rest f g f2 g2 lt ox oy zf zg zy h = record {
       let old = h.due (suc d) (omega arith) in omega arith;
 }
 
--- a signal's line moves nobody itself, and its own thread doesn't sleep
+-- the line of a signal moves nobody itself, and its own thread doesn't sleep
 pub dom_past : (n c most kx ky : ℕ) (l : LogLine) (rest : List LogLine) (f g : ℕ → Place) → line_seat l < n
     → is_resume l ≡ false
     → asleep_on c (f (line_seat l)) ≡ false → asleep_on c (g (line_seat l)) ≡ false
@@ -167,7 +167,7 @@ pub dom_past : (n c most kx ky : ℕ) (l : LogLine) (rest : List LogLine) (f g :
 dom_past n c most kx ky l rest f g lt plain zf zg h =
     dom_still n c most kx ky l rest f g f g lt plain (λ j ne. refl) (λ j ne. refl) (zf ∙ sym zg) h
 
--- a signal on that condition: the judge wakes the first that goes on
+-- a signal on that condition: the judge wakes the first thread that goes on
 less_or : (f g : ℕ → Bool) (s n : ℕ) → ((j : ℕ) → (j ≡ s → ⊥) → f j ≡ g j) → g s ≡ false → s < n
     → count f n ≡ count g n + one (f s)
 less_or f g s n h z lt = let a = count_moved f g s n h lt in let b : one (g s) ≡ 0 = ap one z in omega arith
@@ -207,7 +207,7 @@ dom_signal n c e most kx ky rest f g g2 k is same drop first h = record {
       ];
 }
 
--- the judge finds nobody there who goes on
+-- the judge finds no sleeper there that goes on
 pub dom_nobody : (n c most kx ky : ℕ) (rest : List LogLine) (f g2 : ℕ → Place) → ((j d : ℕ) → due c f d rest j ≡ false)
     → kx ≤ ky → Dom n c f g2 rest most kx ky
 dom_nobody n c most kx ky rest f g2 none cost = record {
@@ -255,7 +255,7 @@ pub and_parts_true : (a b : Bool) → (a && b) ≡ true → (a ≡ true) × (b �
 and_parts_true true b h = (refl, h)
 and_parts_true false b h = absurd (false≢true h)
 
--- who is due for the judge sleeps there
+-- a thread that is due for the judge sleeps there
 pub due_sleeps : (c e j d : ℕ) (p : Place) (rest : List LogLine) → Foreseen p (lapses_next j rest) → (e == c) ≡ true
     → (asleep_on c p && resumes_within j d rest) ≡ true → p ≡ Waiting e
 due_sleeps c e j d Outside rest f same h = absurd (false≢true h)
@@ -268,7 +268,7 @@ due_sleeps c e j d (RanOut x) rest f same h =
     let parts = and_parts_true (x == c) (resumes_within j d rest) h in
     absurd (false≢true (sym (lapses_not j d rest f) ∙ parts.1))
 
--- behind a broadcast nobody is due
+-- after a broadcast nobody is due
 woken_calm_by : (c e x : ℕ) (b : Bool) → (x == e) ≡ b → (e == c) ≡ true
     → asleep_on c (if b then Woken x else Waiting x) ≡ false
 woken_calm_by c e x true h same = refl

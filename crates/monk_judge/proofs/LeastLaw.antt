@@ -1,4 +1,4 @@
--- A line more: no run wakes fewer threads unasked on a condition than the judge's
+-- One more line: no run wakes fewer threads unasked on a condition than the judge's
 use Rattle.std.proofs.Common.{◌≡◌, ℕ, suc, ◌+◌, ◌<◌, ◌≤◌, ◌==◌, ◌&&◌, ◌⊎◌, inl, inr, Bool, true, false, List, [], ◌∷◌, ◌++◌, Option, Some, None, refl, sym, ap, subst, arith, ◌∙◌}
 use Rattle.std.proofs.lemmas.Bool.{cases_Bool}
 use Rattle.monk_logs.specs.Log.{line_seat}
@@ -24,7 +24,7 @@ unasked_on m c x (RunsOut s ∷ steps) = unasked_on m c (after m x (RunsOut s)) 
 unasked_on m c x (WakesUnasked s ∷ steps) = one (waits_on c (x.place s)) + unasked_on m c
     (after m x (WakesUnasked s)) steps
 
--- the signal wakes a thread that goes on as early as any that sleeps there
+-- the signal wakes a thread that goes on as early as any other that sleeps there
 abbrev pub GoesOnWithin : ℕ → ℕ → List LogLine → Option ℕ → Type 0
 GoesOnWithin seats d rest None = ⊥
 GoesOnWithin seats d rest (Some k) = (k < seats) × (resumes_within k d rest ≡ true)

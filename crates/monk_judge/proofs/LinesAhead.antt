@@ -11,7 +11,7 @@ use Rattle.monk_judge.specs.Ends.{IsEnd, ResumesBy, is_resume, lapses_next, resu
 
 -- ---- past a line
 
--- of other threads than the line's, whether they go on within one line less
+-- whether other threads than the line's go on, within one line less
 pub past_other : (l : LogLine) (rest : List LogLine) (j d : ℕ) → (j ≡ line_seat l → ⊥)
     → resumes_within j (suc d) (l ∷ rest) ≡ resumes_within j d rest
 past_other l rest j d ne = ap (λ b. if b then is_resume l else resumes_within j d rest) (ne_eqb j (line_seat l) ne)
@@ -34,7 +34,7 @@ by_later (Resumes k) n m le h = omega arith
 by_later RunsOut n m le h = absurd h
 by_later Never n m le h = absurd h
 
--- behind the last line no wait ends
+-- after the last line no wait ends
 none_within : (s d : ℕ) (A : Type 0) → resumes_within s d [] ≡ true → A
 none_within s zero A h = absurd (false≢true h)
 none_within s (suc d) A h = absurd (false≢true h)
@@ -42,7 +42,7 @@ none_within s (suc d) A h = absurd (false≢true h)
 pub end_never : (s past : ℕ) → IsEnd s past Never []
 end_never s past = record { lapses = refl; by = λ d h. none_within s d _ h; within = λ d h. absurd h }
 
--- of another thread than the line's
+-- for another thread than the line's
 other_by : (j k : ℕ) (e : WaitEnd) (l : LogLine) (rest : List LogLine) → (j ≡ line_seat l → ⊥) → IsEnd j (k + 1) e rest
     → (d : ℕ) → resumes_within j d (l ∷ rest) ≡ true → ResumesBy e (k + d)
 other_by j k e l rest ne h zero r = absurd (false≢true r)
@@ -76,7 +76,7 @@ end_past j k e l rest ne h = record {
       ∙ h.within (suc d) (by_later e (k + 1 + d) (k + suc d) (omega arith) r);
 }
 
--- what the end of a wait has to be if that is its thread's next line, with that number
+-- how a wait has to end if `l` is its thread's next line; `number` is that line's number
 pub record IsEndBy (l : LogLine) (number : ℕ) (e : WaitEnd) : Type 0 where
   pub lapses : runs_out e ≡ is_lapse l
   pub by : is_resume l ≡ true → (n : ℕ) → number ≤ n → ResumesBy e n
@@ -120,7 +120,7 @@ next_kept next l rest k e lt own s h =
           (end_other s k (get_or next s (Resumes 0)) l rest other h)
     ]
 
--- the end of a wait in the line with that index
+-- the end of a wait in the line with index `k`
 abbrev pub IsEndAt : List LogLine → ℕ → WaitEnd → Type 0
 IsEndAt lines k e = IsEnd (line_seat (get_or lines k (Enter 0))) (k + 1) e (drop (k + 1) lines)
 

@@ -1,4 +1,4 @@
--- How many of the first numbers have a property, one number on
+-- How many of the first numbers have a property, one number further on
 use Rattle.std.proofs.Common.{◌≡◌, ℕ, zero, suc, ◌<◌, ◌≤◌, ◌⊎◌, inl, inr, Option, Some, None, subst, arith}
 use Rattle.monk_judge.specs.Among.{AreMany, NamesFirst}
 use Rattle.monk_judge.proofs.Among.{SameBelow}
@@ -32,7 +32,7 @@ below_same : (P Q : ℕ → Type 0) (n f : ℕ) → f ≡ n
     → ((k : ℕ) → k < suc n → (k ≡ f → ⊥) → (P k → Q k) × (Q k → P k)) → SameBelow P Q n
 below_same P Q n f here same k less = same k (omega arith) (λ e. absurd (omega arith))
 
--- one more has it than had it
+-- one more number has the property than before
 pub many_one : (P Q : ℕ → Type 0) (n many f : ℕ) → f < n → ((k : ℕ) → k < n → (k ≡ f → ⊥) → (P k → Q k) × (Q k → P k))
     → (P f → ⊥) → Q f → AreMany P n many → AreMany Q n (suc many)
 many_one P Q zero many f lt same nope now h = absurd (omega arith)

@@ -1,4 +1,4 @@
--- The first missed signal, one line on
+-- The first missed signal, after one more line
 use Rattle.std.proofs.Common.{◌≡◌, ℕ, ◌+◌, ◌<◌, ◌||◌, ◌⊎◌, inl, inr, Bool, true, false, List, [], ◌∷◌, ◌++◌, Option, None, length, refl, sym, ap, subst, arith, ◌∙◌}
 use Rattle.std.proofs.lemmas.List.{length-append}
 use Rattle.std.proofs.lemmas.Bool.{cases_Bool, false≢true}
@@ -22,7 +22,7 @@ pub record Came (all : List Moment) : Type 0 where
   pub within : at < length all
   pub out : is_out all at ≡ true
 
--- what is known of these lines
+-- what is known of the lines so far
 pub record Known (o : Object) (means : List WaitsFor) (all : List Moment) (s : Missed) : Type 0 where
   pub line : NamesFirstMissed o means all s.line
   pub none : s.from_outside ≡ false → (j : ℕ) → j < length all → is_out all j ≡ false
@@ -78,7 +78,7 @@ some_now all t h = record {
   out = out_last all t ∙ h;
 }
 
--- a line before stays as it was
+-- an earlier line stays as it was
 missed_kept : (o : Object) (means : List WaitsFor) (all : List Moment) (t : Moment) (k : ℕ) → k < length all
     → (IsMissedAt o means all k → IsMissedAt o means (all ++ t ∷ []) k)
     × (IsMissedAt o means (all ++ t ∷ []) k → IsMissedAt o means all k)
@@ -94,7 +94,7 @@ missed_kept o means all t k lt =
       ),
     )
 
--- the line itself
+-- the new line itself
 missed_last : (o : Object) (means : List WaitsFor) (all : List Moment) (t : Moment)
     → LacksBehind o means t.line t.behind → ((j : ℕ) → j < length all → is_out all j ≡ false)
     → IsMissedAt o means (all ++ t ∷ []) (length all)

@@ -1,4 +1,4 @@
--- What the lines of a run meet, one line on
+-- What the lines of a run find, after one more line
 use Rattle.std.proofs.Common.{◌≡◌, ℕ, ◌<◌, Bool, true, false, List, [], ◌∷◌, ◌++◌, Option, None, length, refl, arith}
 use Rattle.std.proofs.Math.ListN.{get_or-append}
 use Rattle.std.proofs.Math.Seq.{get_or-append_seam}
@@ -61,7 +61,7 @@ moment_last all t = get_or-append_seam all t []
 
 -- ---- the steps of one line
 
--- these steps tell that line alone, which meets that
+-- these steps tell only that line, and this is its moment
 pub record Meets (m : Setting) (x : State) (l : LogLine) (own : List Step) : Type 0 where
   pub t : Moment
   pub none_out : NoneOut own
@@ -71,7 +71,7 @@ pub record Meets (m : Setting) (x : State) (l : LogLine) (own : List Step) : Typ
   pub behind : t.behind ≡ after_all m x own
   pub nobody : finds_nobody m.seats t.before (Tells t.line t.whom) ≡ total (finds_nobody m.seats) m x own
 
--- a line that is its only step
+-- a line that has one step
 alone : (m : Setting) (x : State) (l : LogLine) (w : Option ℕ) → Meets m x l (Tells l w ∷ [])
 alone m x l w = record {
   t = record { line = l; whom = w; before = x; behind = after m x (Tells l w) };

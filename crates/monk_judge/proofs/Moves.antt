@@ -1,4 +1,4 @@
--- What a line that the judge takes does to the lock and to woken threads
+-- How a line that the judge takes changes the lock and woken threads
 use Rattle.std.proofs.Common.{◌≡◌, ℕ, Bool, true, false, ◌∷◌, [], ◌++◌, Option, Some, None, refl, sym, ap, subst, ◌∙◌}
 use Rattle.std.proofs.lemmas.Bool.{false≢true}
 use Rattle.monk_logs.specs.Log.{line_seat}
@@ -73,7 +73,7 @@ comes_back m x s (Waiting d) free =
 comes_back m x s (Woken d) free = took x (Resume s) refl free (λ c h. refl)
 comes_back m x s (RanOut d) free = took x (Resume s) refl free (λ c h. refl)
 
--- the holder of the lock lets it go
+-- a line of the holder of the lock, by which it lets it go
 let_go : (x y : State) (l : LogLine) → takes_lock l ≡ false → x.lock ≡ Some (line_seat l)
     → ((j c : ℕ) → x.place j ≡ Woken c → y.place j ≡ Woken c) → Moves x l y
 let_go x y l is lock still =

@@ -1,4 +1,4 @@
--- The next line of a thread that came back overtaken, one line on
+-- The next line of a thread that came back overtaken, after one more line
 use Rattle.std.proofs.Common.{◌≡◌, ℕ, ◌-◌, ◌<◌, inl, inr, List, [], ◌∷◌, ◌++◌, length, sym, ap, subst, arith, ◌∙◌}
 use Rattle.monk_logs.specs.Log.{line_seat}
 use Rattle.monk_logs.specs.declared.text.line.LogLine.{LogLine}
@@ -12,7 +12,7 @@ use Rattle.monk_judge.proofs.Missing.{more_many}
 use Rattle.monk_judge.proofs.Moments.{moment_kept, moment_last}
 use Rattle.monk_judge.proofs.Passing.{passed_kept}
 
--- ---- the lines before, beside one line more
+-- ---- the lines before, after one more line
 
 pub seat_kept : (all : List Moment) (t : Moment) (k : ℕ) → k < length all → seat_at (all ++ t ∷ []) k ≡ seat_at all k
 seat_kept all t k lt = ap (λ z. line_seat z.line) (moment_kept all t k lt)
@@ -97,12 +97,12 @@ again_back all t k lt h within = record {
       ∙ ap (λ s. Wait s h.cond) (seat_kept all t k lt);
 }
 
--- the thread has told a line since
+-- the thread has written a line since
 pub record HasNext (all : List Moment) (k : ℕ) : Type 0 where
   pub at : ℕ
   pub next : IsNext all k at
 
--- if so, one line more changes nothing
+-- if so, one more line changes nothing
 pub again_if_next : (all : List Moment) (t : Moment) (k : ℕ) → k < length all → HasNext all k
     → (again : WaitsAgain (all ++ t ∷ []) k) → again.at < length all
 again_if_next all t k lt has h =

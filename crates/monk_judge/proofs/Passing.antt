@@ -1,4 +1,4 @@
--- Which woken threads were passed, one line on
+-- Which woken threads were passed, after one more line
 use Rattle.std.proofs.Common.{◌≡◌, ℕ, ◌+◌, ◌-◌, ◌<◌, ◌≤◌, ◌==◌, ◌⊎◌, inl, inr, Bool, true, false, List, [], ◌∷◌, ◌++◌, Option, Some, None, length, get_or, if◌then◌else◌, refl, sym, ap, subst, arith, ◌∙◌}
 use Rattle.std.proofs.lemmas.Bool.{cases_Bool, eq-eqb, false≢true}
 use Rattle.monk_logs.specs.Log.{line_seat}
@@ -67,7 +67,7 @@ passed_now all t y s c leads woken takes = record {
   woken = λ i from lt. woken_by all t y s c i leads woken lt (λ less. absurd (omega arith));
 }
 
--- it was passed by this line or before, and is woken behind it
+-- it was passed by this line or before, and is woken after it
 passed_back : (all : List Moment) (t : Moment) (y : State) (s c : ℕ) → t.behind ≡ y
     → IsPassed (all ++ t ∷ []) (length all + 1) s c
     → (y.place s ≡ Woken c) × ((takes_lock t.line ≡ true) ⊎ IsPassed all (length all) s c)
@@ -121,14 +121,14 @@ unmarked_by s j c was false e h = (λ same. false≢true (sym e ∙ eq-eqb j s s
 unmarked_some : (s j c : ℕ) (was : Option ℕ) → unmarked s j was ≡ Some c → (j ≡ s → ⊥) × (was ≡ Some c)
 unmarked_some s j c was h = unmarked_by s j c was (j == s) refl h
 
--- of each seat it is kept on which condition it was woken, if it was passed
+-- for each seat that was passed, the condition on which it was woken is kept
 pub record Marks (all : List Moment) (x : State) (seats : List (Option ℕ)) : Type 0 where
   pub many : length seats ≡ 256
   pub some : (s c : ℕ) → s < 256 → get_or seats s None ≡ Some c → IsPassed all (length all) s c
   pub none : (s c : ℕ) → s < 256 → get_or seats s None ≡ None → IsPassed all (length all) s c → ⊥
   pub last : (k : ℕ) → k + 1 ≡ length all → (moment all k).behind ≡ x
 
--- who was passed is woken still
+-- a thread that was passed is still woken
 still_woken : (all : List Moment) (x : State) (seats : List (Option ℕ)) (s c : ℕ) → Marks all x seats
     → IsPassed all (length all) s c → x.place s ≡ Woken c
 still_woken all x seats s c was h =

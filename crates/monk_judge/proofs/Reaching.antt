@@ -82,7 +82,7 @@ reached_next o m d lines ends i v new steps what lt are was does =
       ends = ends_next m v new l (whom what) e i rest (seats ∙ sym was.many) acts stands ends_here end leads does.ends;
     }
 
--- ---- it ends
+-- ---- the end
 
 pub least_of : (o : Object) (m : Setting) (d : List ℕ) (lines : List LogLine) (i : ℕ) (v : Shown) (steps : List Step)
     → Reached o m d lines i v steps → (others : List Step) → IsRun m (opening d) others
@@ -122,7 +122,7 @@ run_stop o m d lines i v new steps f lt was refused at =
       least = λ others run told. least_of o m d lines i v steps was others run (told ∙ was.covers.told);
     }
 
--- the moments of one line more
+-- the moments after one more line
 pub many_moments : (o : Object) (m : Setting) (d : List ℕ) (lines : List LogLine) (i : ℕ) (v : Shown)
     (steps : List Step) → i ≤ length lines → Reached o m d lines i v steps → length (moments m (opening d) steps) ≡ i
 many_moments o m d lines i v steps le was = moments_many m (opening d) steps ∙ ap length was.covers.told

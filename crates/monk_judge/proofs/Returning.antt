@@ -55,13 +55,13 @@ hinted_opening x h back many again first = record {
 
 -- ---- what it does next
 
--- of the lines before, one line on
+-- the counts over the lines before, after one more line
 pub record HintedBefore (all : List Moment) (t : Moment) (h : Hints) : Type 0 where
   pub many : AreMany (λ k. IsOvertaken (all ++ t ∷ []) k) (length all) h.many
   pub again : AreMany (λ k. WaitsAgain (all ++ t ∷ []) k) (length all) h.again
   pub first : NamesFirst (λ k. GoesOn (all ++ t ∷ []) k) (length all) h.first_not_again
 
--- all that wait again did so before, but perhaps one
+-- all that wait again did so before, with at most one exception
 abbrev AgainSame : List Moment → Moment → Type 0
 AgainSame all t = SameBelow (λ k. WaitsAgain all k) (λ k. WaitsAgain (all ++ t ∷ []) k) (length all)
 
@@ -147,7 +147,7 @@ now_waits all t l x b is at wait =
 not_yet : (all : List Moment) (x : State) (b : Back) → BackAt all x b → WaitsAgain all b.line → ⊥
 not_yet all x b at w = at.none w.at w.next.behind w.next.within (w.next.same ∙ at.seat)
 
--- all others wait again as before
+-- all others wait again, as before
 rest_same : (all : List Moment) (t : Moment) (x : State) (h : Hints) (b : Back) → h.back ≡ Some b → Hinted all x h
     → (k : ℕ) → k < length all → (k ≡ b.line → ⊥)
     → (WaitsAgain all k → WaitsAgain (all ++ t ∷ []) k) × (WaitsAgain (all ++ t ∷ []) k → WaitsAgain all k)
@@ -168,7 +168,7 @@ by_apart k b = grind arith
 which : (j k : ℕ) → (j ≡ k) ⊎ (j < k) ⊎ (k < j)
 which j k = grind arith
 
--- it is no longer the first that goes on
+-- it is no longer the first that doesn't wait again
 first_without : (all : List Moment) (t : Moment) (x : State) (h : Hints) (b : Back) (found : Option ℕ)
     → h.back ≡ Some b → Hinted all x h → BackAt all x b → WaitsAgain (all ++ t ∷ []) b.line
     → NamesFirst (λ k. GoesOn all k) (length all) found

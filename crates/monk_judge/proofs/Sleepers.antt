@@ -1,4 +1,4 @@
--- Who sleeps behind a line, and how the waits end then
+-- Who sleeps after a line, and how the waits end then
 use Rattle.std.proofs.Common.{◌≡◌, ℕ, zero, suc, ◌<◌, ◌+◌, ◌==◌, ◌⊎◌, inl, inr, Bool, true, false, List, [], ◌∷◌, ◌++◌, length, get_or, Option, Some, None, if◌then◌else◌, refl, sym, ap, subst, arith, ◌∙◌}
 use Rattle.std.proofs.lemmas.Bool.{eq-eqb, eqb-true, false≢true}
 use Rattle.std.proofs.lemmas.List.{get_or-set_same, get_or-set_other}
@@ -19,7 +19,7 @@ use Rattle.monk_judge.proofs.Covers.{GoesFirst}
 use Rattle.monk_judge.proofs.Least.{elsewhere}
 use Rattle.monk_judge.proofs.LeastLaw.{GoesOnWithin}
 
--- ---- one thread elsewhere
+-- ---- one thread in another place
 
 placed_by : (s j c : ℕ) (p : Place) (f : ℕ → Place) (b : Bool) → (j == s) ≡ b → (p ≡ Waiting c → ⊥)
     → (if b then p else f j) ≡ Waiting c → (j ≡ s → ⊥) × (f j ≡ Waiting c)
@@ -71,9 +71,9 @@ pub signalled_back : (e j c : ℕ) (w : Option ℕ) (f : ℕ → Place) → sign
 signalled_back e j c None f h = h
 signalled_back e j c (Some k) f h = (placed_sleeps k j c (Woken e) f (woken_not e c) h).1
 
--- ---- who sleeps behind a line
+-- ---- who sleeps after a line
 
--- who has the lock is active
+-- the thread that has the lock is active
 abbrev pub HoldersAct : State → Type 0
 HoldersAct x = (s : ℕ) → x.lock ≡ Some s → x.place s ≡ Active
 
@@ -139,7 +139,7 @@ sleeper m x (Act s op r) w b j c acts can h = inl (other_than x s j c (inl (acts
 
 -- ---- how the waits end
 
--- of each thread that sleeps, by the lines behind the first so many
+-- for each thread that sleeps, by the lines after the first `i`
 abbrev pub EndsAt : Shown → ℕ → List LogLine → Type 0
 EndsAt v i rest = (j c : ℕ) → get_or v.places j Outside ≡ Waiting c → IsEnd j i (get_or v.ends j (Resumes 0)) rest
 

@@ -1,4 +1,4 @@
--- The steps of a line that can stand are a run, and tell the line
+-- If a line can follow, its steps are a run, and tell the line
 use Rattle.std.proofs.Common.{◌≡◌, ℕ, ◌<◌, Bool, true, false, List, [], ◌∷◌, ◌++◌, Option, None, if◌then◌else◌, refl, sym, ap, subst, ◌∙◌}
 use Rattle.std.proofs.lemmas.Bool.{eq-eqb}
 use Rattle.monk_logs.specs.declared.text.line.LogLine.{LogLine}
@@ -10,7 +10,7 @@ use Rattle.monk_judge.specs.declared.step.Step.{Step}
 use Rattle.monk_judge.specs.declared.step.Step.TheVariants.{Tells, RunsOut, WakesUnasked}
 use Rattle.monk_judge.specs.Judged.{CanResume, CanStand, IsRight, after_all, running_out, steps_at, waking}
 
--- one run behind another
+-- one run after another
 pub run_on : (m : Setting) (x : State) (a b : List Step) → IsRun m x a → IsRun m (after_all m x a) b
     → IsRun m x (a ++ b)
 run_on m x [] b h k = k
@@ -22,7 +22,7 @@ lines_on (Tells l w ∷ a) b = ap (λ k. l ∷ k) (lines_on a b)
 lines_on (RunsOut s ∷ a) b = lines_on a b
 lines_on (WakesUnasked s ∷ a) b = lines_on a b
 
--- whoever stands there
+-- the place of the thread that was put there
 here : (s : ℕ) (p : Place) (place : ℕ → Place) → with_place s p place s ≡ p
 here s p place = ap (λ b. if b then p else place s) (eq-eqb s s refl)
 
@@ -44,7 +44,7 @@ wait_run : (m : Setting) (x : State) (s c : ℕ) (lapses : Bool) → May m x (Te
 wait_run m x s c true h = (h, (subst Sleeps (sym (here s (Waiting c) x.place)) tt, tt))
 wait_run m x s c false h = (h, tt)
 
--- the steps of a line that can stand are a run
+-- if a line can follow, its steps are a run
 pub line_run : (m : Setting) (x : State) (l : LogLine) (w : Option ℕ) (lapses : Bool) → IsRight x l w → CanStand m x l
     → IsRun m x (steps_at x l w lapses)
 line_run m x (Enter s) w lapses right h = (h, tt)

@@ -70,7 +70,7 @@ taken_opening o m d lines means v t s seats h same many fresh none line inside m
   room = let a = none.served in let b = none.passed in let c = none.spurious in let e = none.unheard in omega arith;
 }
 
--- a signal leaves the lock
+-- a signal doesn't change the lock
 outside_same : (m : Setting) (x : State) (l : LogLine) (w : Option ℕ) (b : Bool)
     → is_from_outside (after_all m x (steps_at x l w b)).lock l ≡ is_from_outside x.lock l
 outside_same m x (Enter s) w b = refl
@@ -224,7 +224,7 @@ taken_stop o m d lines means i v new t s seats h f lt was refused at = record {
   seats = ap length refused.places ∙ ap (λ (k : Setting). k.seats) was.reached.same;
 }
 
--- as a report
+-- the same as a report
 pub report_is : (m : Setting) (d : List ℕ) (lines : List LogLine) (means : List WaitsFor) (v : Shown)
     (misfit : Option Misfit) (t : Tally)
     (lock found : Option ℕ) (holder : Option Holder) (asleep woken : ℕ) (missed : Option ℕ) (g : Hints)

@@ -1,4 +1,4 @@
--- What is counted over a run, one line on
+-- The counts over a run, after one more line
 use Rattle.std.proofs.Common.{◌≡◌, ℕ, ◌<◌, ◌≤◌, ◌+◌, List, [], ◌∷◌, ◌++◌, Option, Some, None, length, get_or, take, sym, ap, subst, arith, ◌∙◌}
 use Rattle.monk_object.specs.Object.{Object}
 use Rattle.monk_logs.specs.declared.text.line.LogLine.{LogLine}
@@ -35,7 +35,7 @@ unasked_both (Tells l w ∷ a) b = unasked_both a b
 unasked_both (RunsOut s ∷ a) b = unasked_both a b
 unasked_both (WakesUnasked s ∷ a) b = let more = unasked_both a b in omega arith
 
--- behind one line more
+-- the counts after one more line
 pub record CountsMore (i : ℕ) (t u : Tally) (what : Told) : Type 0 where
   pub served : u.served ≡ t.served + wakes_in what
   pub passed : u.passed ≡ t.passed + passed_in what

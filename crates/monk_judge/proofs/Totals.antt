@@ -1,4 +1,4 @@
--- Wake-ups that nobody sent are those on each condition together
+-- Wake-ups that nobody sent are the sum of those on each condition
 use Rattle.std.proofs.Common.{◌≡◌, ℕ, zero, suc, ◌+◌, ◌<◌, ◌≤◌, ◌==◌, ◌⊎◌, inl, inr, Bool, true, false, List, [], ◌∷◌, if◌then◌else◌, refl, sym, ap, subst, arith}
 use Rattle.std.proofs.lemmas.Bool.{eq-eqb, ne_eqb}
 use Rattle.monk_logs.specs.declared.text.line.LogLine.TheVariants.{Enter, Resume, Lapse, Leave, Wait, Signal, Broadcast, Until, Act}
@@ -104,7 +104,7 @@ unasked_is_sum m x (WakesUnasked s ∷ steps) run old =
 opening_within : (m : Setting) (d : List ℕ) → AreWithin m (opening d)
 opening_within m d j c h = absurd (outside_not c h)
 
--- no more on each condition are no more in all
+-- if no condition has more, there are no more in all
 pub fewest : (m : Setting) (d : List ℕ) (steps others : List Step) → IsRun m (opening d) steps
     → IsRun m (opening d) others
     → ((c : ℕ) → unasked_on m c (opening d) steps ≤ unasked_on m c (opening d) others) → unasked steps ≤ unasked others

@@ -1,4 +1,4 @@
--- The words and sentences of the reasons why a line can't stand where it does
+-- The words and sentences of the reasons why a line can't follow the lines before it
 use Rattle.std.specs.Prelude.{ℕ, List, codes}
 use Rattle.monk_judge.specs.declared.blame.Blame.{Blame}
 use Rattle.monk_judge.specs.declared.blame.Blame.TheVariants.{Range, Call, Held, NoLock, Asleep, Awake, Reply}

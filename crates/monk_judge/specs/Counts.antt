@@ -9,11 +9,11 @@ use Rattle.monk_judge.specs.Run.{Setting, State, after, unasked}
 use Rattle.monk_judge.specs.declared.step.Step.{Step}
 use Rattle.monk_judge.specs.declared.step.Step.TheVariants.{Tells, RunsOut, WakesUnasked}
 
--- 1 for what holds, and else 0
+-- 1 for true, else 0
 abbrev pub one : Bool → ℕ
 one b = if b then 1 else 0
 
--- how many of the first so many numbers pass
+-- how many of the numbers below `n` pass the test
 abbrev pub count : (ℕ → Bool) → ℕ → ℕ
 count f zero = 0
 count f (suc n) = count f n + one (f n)
@@ -42,7 +42,7 @@ is_woken (Waiting e) = false
 is_woken (Woken e) = true
 is_woken (RanOut e) = false
 
--- how many of so many threads sleep on the condition
+-- how many of the first `n` threads sleep on the condition
 abbrev pub sleepers_on : ℕ → ℕ → State → ℕ
 sleepers_on c n x = count (λ j. waits_on c (x.place j)) n
 
@@ -54,7 +54,7 @@ sleepers n x = count (λ j. is_asleep (x.place j)) n
 abbrev pub woken_ones : ℕ → State → ℕ
 woken_ones n x = count (λ j. is_woken (x.place j)) n
 
--- ---- what a step counts in the state where it stands, with so many threads
+-- ---- what a step counts in the state before it, with `n` threads
 
 -- how many threads it wakes
 abbrev pub wakes : ℕ → State → Step → ℕ
@@ -71,7 +71,7 @@ wakes n x (Tells (Act s op r) w) = 0
 wakes n x (RunsOut s) = 0
 wakes n x (WakesUnasked s) = 0
 
--- a signal that finds nobody
+-- a signal that finds nobody asleep
 abbrev pub finds_nobody : ℕ → State → Step → ℕ
 finds_nobody n x (Tells (Enter s) w) = 0
 finds_nobody n x (Tells (Resume s) w) = 0
@@ -86,7 +86,7 @@ finds_nobody n x (Tells (Act s op r) w) = 0
 finds_nobody n x (RunsOut s) = 0
 finds_nobody n x (WakesUnasked s) = 0
 
--- a thread that takes the lock past a woken one: it comes in, or back from a wait that ran out
+-- a thread that takes the lock before a woken one: it comes in, or comes back from a wait that ran out
 abbrev pub passes : ℕ → State → Step → ℕ
 passes n x (Tells (Enter s) w) = one (nat_lt 0 (woken_ones n x))
 passes n x (Tells (Resume s) w) = 0
@@ -102,7 +102,7 @@ passes n x (WakesUnasked s) = 0
 
 -- ---- over a run
 
--- the sum of what its steps count
+-- the sum of what the steps count
 abbrev pub total : (State → Step → ℕ) → Setting → State → List Step → ℕ
 total counts m x [] = 0
 total counts m x (step ∷ steps) = counts x step + total counts m (after m x step) steps
@@ -118,7 +118,7 @@ wakes_in (told.Woke s) = 1
 wakes_in (told.WokeAll n) = n
 wakes_in told.Spurious = 0
 
--- how many woke unasked
+-- how many threads woke unasked
 abbrev pub spurious_in : Told → ℕ
 spurious_in told.Plain = 0
 spurious_in told.Passed = 0
@@ -127,7 +127,7 @@ spurious_in (told.Woke s) = 0
 spurious_in (told.WokeAll n) = 0
 spurious_in told.Spurious = 1
 
--- how many passed a woken one
+-- how many threads passed a woken one
 abbrev pub passed_in : Told → ℕ
 passed_in told.Plain = 0
 passed_in told.Passed = 1
@@ -136,7 +136,7 @@ passed_in (told.Woke s) = 0
 passed_in (told.WokeAll n) = 0
 passed_in told.Spurious = 0
 
--- how many signals found nobody
+-- how many signals found nobody asleep
 abbrev pub unheard_in : Told → ℕ
 unheard_in told.Plain = 0
 unheard_in told.Passed = 0
@@ -145,11 +145,11 @@ unheard_in (told.Woke s) = 0
 unheard_in (told.WokeAll n) = 0
 unheard_in told.Spurious = 0
 
--- what a line tells with which a thread takes the lock that no signal woke, while so many woken ones are not back
+-- what a line tells if a thread that no signal woke takes the lock with it, while `n` woken threads are not back
 abbrev pub passing : ℕ → Told
 passing n = if nat_lt 0 n then told.Passed else told.Plain
 
--- the first of the lines that told a wake-up that nobody sent, behind the line with that index
+-- the first of the lines that told a wake-up that nobody sent, after the line with index `i`
 abbrev pub first_after : Option ℕ → ℕ → Told → Option ℕ
 first_after (Some k) i what = Some k
 first_after None i told.Plain = None
@@ -159,7 +159,7 @@ first_after None i (told.Woke s) = None
 first_after None i (told.WokeAll n) = None
 first_after None i told.Spurious = Some i
 
--- the last of the lines that told a signal that found nobody, behind the line with that index
+-- the last of the lines that told a signal that found nobody, after the line with index `i`
 abbrev pub last_after : Option ℕ → ℕ → Told → Option ℕ
 last_after found i told.Plain = found
 last_after found i told.Passed = found
@@ -168,7 +168,7 @@ last_after found i (told.Woke s) = found
 last_after found i (told.WokeAll n) = found
 last_after found i told.Spurious = found
 
--- it names what the steps of one line count
+-- what a line told names what its steps count
 pub record Names (m : Setting) (x : State) (own : List Step) (what : Told) : Type 0 where
   pub spurious : unasked own ≡ spurious_in what
   pub served : total (wakes m.seats) m x own ≡ wakes_in what

@@ -1,4 +1,4 @@
--- How waits end, from the lines behind them
+-- How waits end, from the lines after them
 use Rattle.std.specs.Prelude.{◌≡◌, ℕ, zero, suc, ◌+◌, ◌<◌, ◌≤◌, ◌==◌, Bool, true, false, List, [], ◌∷◌, slice_index_or, slice_set, length, drop, if◌then◌else◌}
 use Rattle.monk_logs.specs.Log.{is_lapse, line_seat}
 use Rattle.monk_logs.specs.declared.text.line.LogLine.{LogLine}
@@ -23,7 +23,7 @@ is_resume (Broadcast s c) = false
 is_resume (Until s p) = false
 is_resume (Act s op r) = false
 
--- whether the thread's next line is a `resume`, and one of the first so many
+-- whether the thread's next line is a `resume`, and among the first lines, as many as the number says
 abbrev pub resumes_within : ℕ → ℕ → List LogLine → Bool
 resumes_within s zero lines = false
 resumes_within s (suc d) [] = false
@@ -41,20 +41,20 @@ ResumesBy (Resumes n) line = n ≤ line
 ResumesBy RunsOut line = ⊥
 ResumesBy Never line = ⊥
 
--- it tells how a wait of the seat ends by the lines behind the first so many
+-- it says how a wait of the seat ends by `rest`, the lines after the first `past`
 pub record IsEnd (seat past : ℕ) (end : WaitEnd) (rest : List LogLine) : Type 0 where
   pub lapses : runs_out end ≡ lapses_next seat rest
   pub by : (d : ℕ) → resumes_within seat d rest ≡ true → ResumesBy end (past + d)
   pub within : (d : ℕ) → ResumesBy end (past + d) → resumes_within seat d rest ≡ true
 
--- each tells how a wait of the line's seat there would end
+-- each says how a wait of its line's seat there would end
 pub record AreEnds (ends : List WaitEnd) (lines : List LogLine) : Type 0 where
   pub many : length ends ≡ length lines
   pub each : (k : ℕ) → k < length lines
       → IsEnd (line_seat (slice_index_or lines k (Enter 0))) (k + 1) (slice_index_or ends k (Resumes 0))
       (drop (k + 1) lines)
 
--- the ends of the seats' waits behind a line that would end a wait like this
+-- the ends of the seats' waits after a line that would end a wait like this
 abbrev pub ends_after : List WaitEnd → LogLine → WaitEnd → List WaitEnd
 ends_after ends (Enter s) e = ends
 ends_after ends (Resume s) e = ends

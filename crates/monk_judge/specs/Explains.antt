@@ -11,14 +11,14 @@ pub record IsExplainable (m : Setting) (x : State) (lines : List LogLine) : Type
   pub run : IsRun m x steps
   pub told : lines_of steps ≡ lines
 
--- it is none exactly if some run tells the lines; else it is the first line, from 0, with which no run tells them
+-- it is none exactly if some run tells the lines; else it is the first line, from 0, with which no run does
 abbrev pub IsMisfit : Setting → List ℕ → List LogLine → Option Misfit → Type 0
 IsMisfit m d lines found = MatchOption found (IsExplainable m (opening d) lines)
     (λ f. (f.line < length lines) × IsExplainable m (opening d) (take f.line lines)
     × (IsExplainable m (opening d) (take (f.line + 1) lines) → ⊥))
 
--- that line, from 0, is the first that needs a wake-up that nobody sent: some run tells the lines before without
--- one, and none that line too
+-- line `k`, from 0, is the first that needs a wake-up that nobody sent: some run tells the lines
+-- before it without one, and none tells that line too without one
 pub record IsFirstNeed (m : Setting) (d : List ℕ) (lines : List LogLine) (k : ℕ) : Type 0 where
   pub steps : List Step
   pub run : IsRun m (opening d) steps

@@ -5,12 +5,12 @@ use Rattle.monk_judge.specs.declared.step.Step.{Step}
 use Rattle.monk_judge.specs.declared.step.Step.TheVariants.{Tells, RunsOut, WakesUnasked}
 use Rattle.monk_judge.specs.Run.{Setting, State, after}
 
--- each step, with the state behind it
+-- each step, with the state after it
 abbrev pub followed : Setting → State → List Step → List (Step × State)
 followed m x [] = []
 followed m x (step ∷ steps) = (step, after m x step) ∷ followed m (after m x step) steps
 
--- the steps that tell the first so many lines
+-- the steps that tell the first lines, as many as the number says
 abbrev pub telling : ℕ → List Step → List Step
 telling zero steps = []
 telling (suc n) [] = []
@@ -18,7 +18,7 @@ telling (suc n) (Tells l w ∷ steps) = Tells l w ∷ telling n steps
 telling (suc n) (RunsOut s ∷ steps) = RunsOut s ∷ telling (suc n) steps
 telling (suc n) (WakesUnasked s ∷ steps) = WakesUnasked s ∷ telling (suc n) steps
 
--- the steps behind these
+-- the steps after these
 abbrev pub behind_lines : ℕ → List Step → List Step
 behind_lines zero steps = steps
 behind_lines (suc n) [] = []
@@ -26,13 +26,13 @@ behind_lines (suc n) (Tells l w ∷ steps) = behind_lines n steps
 behind_lines (suc n) (RunsOut s ∷ steps) = behind_lines (suc n) steps
 behind_lines (suc n) (WakesUnasked s ∷ steps) = behind_lines (suc n) steps
 
--- how many lines are left behind a step, of one more than so many before it
+-- how many lines are left after a step, if one more than the number were left before it
 abbrev pub left_by : Step → ℕ → ℕ
 left_by (Tells l w) n = n
 left_by (RunsOut s) n = suc n
 left_by (WakesUnasked s) n = suc n
 
--- where the first so many threads are, in order
+-- where the threads below a number are, in order
 abbrev pub places_below : ℕ → (ℕ → Place) → List Place
 places_below zero place = []
 places_below (suc n) place = places_below n place ++ place n ∷ []

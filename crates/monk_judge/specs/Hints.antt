@@ -1,4 +1,4 @@
--- How what is known of overtaken threads changes with a line
+-- How a line changes what is known of overtaken threads
 use Rattle.std.specs.Prelude.{◌≡◌, ℕ, ◌+◌, ◌==◌, ◌⊎◌, List, Option, Some, None, slice_index_or, if◌then◌else◌}
 use Rattle.monk_logs.specs.Log.{line_seat}
 use Rattle.monk_logs.specs.declared.text.line.LogLine.{LogLine}
@@ -9,7 +9,7 @@ use Rattle.monk_judge.specs.declared.place.Place.{Place}
 use Rattle.monk_judge.specs.declared.place.Place.TheVariants.{Outside, Active, Waiting, Woken, RanOut}
 use Rattle.monk_judge.specs.Holding.{takes_lock}
 
--- what is kept of a seat that is there while a thread takes the lock
+-- what is known of a seat in that place after a thread takes the lock
 abbrev pub marked : Place → Option ℕ → Option ℕ
 marked Outside was = was
 marked Active was = was
@@ -17,25 +17,25 @@ marked (Waiting c) was = was
 marked (Woken c) was = Some c
 marked (RanOut c) was = was
 
--- what is kept of seat j once seat s is back
+-- what is known of seat j after seat s is back
 abbrev pub unmarked : ℕ → ℕ → Option ℕ → Option ℕ
 unmarked s j was = if j == s then None else was
 
--- the condition that is kept of the line's seat, if it takes the lock
+-- the condition that is known of the line's seat, if it takes the lock
 abbrev pub passed_of : LogLine → List (Option ℕ) → Option ℕ
 passed_of l seats = if takes_lock l then slice_index_or seats (line_seat l) None else None
 
--- the line that is named, unless it is that one
+-- the named line, unless it is `line`
 abbrev pub without : Option ℕ → ℕ → Option ℕ
 without None line = None
 without (Some first) line = if first == line then None else Some first
 
--- the first of the two that is there
+-- the first of the two that is named
 abbrev pub first_of : Option ℕ → ℕ → Option ℕ
 first_of None line = Some line
 first_of (Some first) line = Some first
 
--- the thread that came back last does what the line tells: it waits on that condition again, or it doesn't
+-- the thread that came back last does what the line says: it waits on that condition again, or it doesn't
 abbrev pub Answers : LogLine → Back → Hints → Hints → Type 0
 Answers l b old new = (new.back ≡ None) × (new.many ≡ old.many)
     × (((l ≡ Wait b.seat b.cond) × (new.again ≡ old.again + 1)
@@ -48,11 +48,11 @@ AnswersBy l None old new = new ≡ old
 AnswersBy l (Some b) old new = ((line_seat l ≡ b.seat) × Answers l b old new)
     ⊎ ((line_seat l ≡ b.seat → ⊥) × (new ≡ old))
 
--- whoever came back last answers, if the line is its own
+-- the thread that came back last answers, if the line is its own
 abbrev pub AnswersOwn : LogLine → Hints → Hints → Type 0
 AnswersOwn l old new = AnswersBy l old.back old new
 
--- the line's thread comes back, overtaken if a condition is named
+-- the line's thread comes back; it was overtaken if a condition is named
 abbrev pub ComesBack : LogLine → ℕ → Option ℕ → Hints → Hints → Type 0
 ComesBack l i None old new = new ≡ old
 ComesBack l i (Some c) old new = (new.back ≡ Some (record { seat = line_seat l; cond = c; line = i }))

@@ -6,7 +6,7 @@ use Rattle.monk_logs.specs.declared.text.line.LogLine.TheVariants.{Enter, Resume
 use Rattle.monk_judge.specs.declared.holder.Holder.{Holder}
 use Rattle.monk_judge.specs.Among.{NamesLast}
 
--- whether a thread takes the lock with that line
+-- whether a thread takes the lock with the line
 abbrev pub takes_lock : LogLine → Bool
 takes_lock (Enter s) = true
 takes_lock (Resume s) = true
@@ -22,13 +22,13 @@ takes_lock (Act s op r) = false
 abbrev pub NamesLastTaking : List LogLine → Option ℕ → Type 0
 NamesLastTaking lines found = NamesLast (λ k. takes_lock (slice_index_or lines k (Enter 0)) ≡ true) (length lines) found
 
--- it tells who has the lock, and the last of the lines with which a thread took it: that thread's
+-- it says who has the lock, and the last line with which a thread took it: that thread's line
 abbrev pub IsHolder : List LogLine → Option ℕ → Option Holder → Type 0
 IsHolder lines lock None = lock ≡ None
 IsHolder lines lock (Some h) = (lock ≡ Some h.seat) × NamesLastTaking lines (Some h.since)
     × (line_seat (slice_index_or lines h.since (Enter 0)) ≡ h.seat)
 
--- what is told of the holder if the lock is like this, and that is the last line that takes it
+-- who has the lock, by its holder and the last line that takes it
 abbrev pub holder_by : Option ℕ → Option ℕ → Option Holder
 holder_by None found = None
 holder_by (Some s) None = None

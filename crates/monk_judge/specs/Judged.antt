@@ -1,5 +1,5 @@
--- The run that the judge takes, line by line: a wait runs out at once if its thread's next line is a `lapse`, and a
--- thread that nobody woke wakes where it comes back
+-- The run that the judge takes, line by line: a wait runs out at once if its thread's next line is
+-- a `lapse`, and a thread that nobody woke wakes just before it comes back
 use Rattle.std.specs.Prelude.{◌≡◌, ℕ, ◌<◌, Bool, true, false, List, [], ◌∷◌, ◌++◌, Option, None}
 use Rattle.monk_logs.specs.declared.text.line.LogLine.{LogLine}
 use Rattle.monk_logs.specs.declared.text.line.LogLine.TheVariants.{Enter, Resume, Lapse, Leave, Wait, Signal, Broadcast, Until, Act}
@@ -9,7 +9,7 @@ use Rattle.monk_judge.specs.Run.{Setting, State, May, MaySignal, WakesRightly, a
 use Rattle.monk_judge.specs.declared.step.Step.{Step}
 use Rattle.monk_judge.specs.declared.step.Step.TheVariants.{Tells, RunsOut, WakesUnasked}
 
--- whether a thread there can come back by a `resume`
+-- whether a thread in that place can come back by a `resume`
 abbrev pub CanResume : Place → Type 0
 CanResume Outside = ⊥
 CanResume Active = ⊥
@@ -17,7 +17,7 @@ CanResume (Waiting c) = Unit {0}
 CanResume (Woken c) = Unit {0}
 CanResume (RanOut c) = ⊥
 
--- what the judge asks of a line: whom a signal woke and how a wait ended don't matter
+-- what the judge requires of a line; whom a signal woke and how a wait ended don't matter
 abbrev pub CanStand : Setting → State → LogLine → Type 0
 CanStand m x (Enter s) = May m x (Tells (Enter s) None)
 CanStand m x (Resume s) = (s < m.seats) × (x.lock ≡ None) × CanResume (x.place s)
@@ -29,7 +29,7 @@ CanStand m x (Broadcast s c) = May m x (Tells (Broadcast s c) None)
 CanStand m x (Until s p) = ⊥
 CanStand m x (Act s op r) = May m x (Tells (Act s op r) None)
 
--- the silent step before a thread there comes back
+-- the silent step before a thread in that place comes back
 abbrev pub waking : ℕ → Place → List Step
 waking s Outside = []
 waking s Active = []
@@ -37,12 +37,12 @@ waking s (Waiting c) = WakesUnasked s ∷ []
 waking s (Woken c) = []
 waking s (RanOut c) = []
 
--- the silent step behind a wait
+-- the silent step after a wait
 abbrev pub running_out : ℕ → Bool → List Step
 running_out s true = RunsOut s ∷ []
 running_out s false = []
 
--- the steps of a line, by whom a signal wakes and by whether a wait runs out at once
+-- the steps of a line, by whom a signal wakes and whether a wait runs out at once
 abbrev pub steps_at : State → LogLine → Option ℕ → Bool → List Step
 steps_at x (Enter s) w lapses = Tells (Enter s) None ∷ []
 steps_at x (Resume s) w lapses = waking s (x.place s) ++ Tells (Resume s) None ∷ []
@@ -54,7 +54,7 @@ steps_at x (Broadcast s c) w lapses = Tells (Broadcast s c) None ∷ []
 steps_at x (Until s p) w lapses = []
 steps_at x (Act s op r) w lapses = Tells (Act s op r) None ∷ []
 
--- whom the line wakes may be woken
+-- the thread that the line wakes may be woken
 abbrev pub IsRight : State → LogLine → Option ℕ → Type 0
 IsRight x (Enter s) w = Unit {0}
 IsRight x (Resume s) w = Unit {0}
@@ -66,7 +66,7 @@ IsRight x (Broadcast s c) w = Unit {0}
 IsRight x (Until s p) w = Unit {0}
 IsRight x (Act s op r) w = Unit {0}
 
--- where steps lead
+-- where the steps lead
 abbrev pub after_all : Setting → State → List Step → State
 after_all m x [] = x
 after_all m x (step ∷ steps) = after_all m (after m x step) steps

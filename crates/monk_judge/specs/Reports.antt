@@ -1,4 +1,4 @@
--- What is told of a log
+-- The report on a log
 use Rattle.std.specs.Prelude.{◌≡◌, ℕ, List, Option, Some, None, MatchOption, length, take}
 use Rattle.monk_logs.specs.declared.text.line.LogLine.{LogLine}
 use Rattle.monk_judge.specs.declared.misfit.Misfit.{Misfit}
@@ -24,8 +24,8 @@ abbrev pub fitting : Option Misfit → List LogLine → List LogLine
 fitting None lines = lines
 fitting (Some f) lines = take f.line lines
 
--- that is the misfit, and these steps are a run of the lines before it; no run of them has fewer wake-ups that nobody
--- sent
+-- `found` is the misfit, and the steps are a run of the lines before it; no run of them has fewer
+-- wake-ups that nobody sent
 pub record IsRunOf (m : Setting) (d : List ℕ) (lines : List LogLine) (found : Option Misfit)
     (steps : List Step) : Type 0 where
   pub misfit : IsMisfit m d lines found
@@ -33,7 +33,7 @@ pub record IsRunOf (m : Setting) (d : List ℕ) (lines : List LogLine) (found : 
   pub told : lines_of steps ≡ fitting found lines
   pub least : IsLeast m d steps
 
--- it names the first line that needs a wake-up that nobody sent, if so many are needed
+-- it names the first line that needs a wake-up that nobody sent, unless none is needed
 abbrev pub NamesFirstNeed : Setting → List ℕ → List LogLine → Option ℕ → ℕ → Type 0
 NamesFirstNeed m d lines first many = MatchOption first (many ≡ 0) (λ k. IsFirstNeed m d lines k)
 
@@ -41,11 +41,11 @@ NamesFirstNeed m d lines first many = MatchOption first (many ≡ 0) (λ k. IsFi
 abbrev pub IsUnheard : ℕ → Moment → Type 0
 IsUnheard n t = finds_nobody n t.before (Tells t.line t.whom) ≡ 1
 
--- it names the last signal that finds nobody, among these
+-- it names the last signal among these that finds nobody
 abbrev pub NamesLastUnheard : ℕ → List Moment → Option ℕ → Type 0
 NamesLastUnheard n all found = NamesLast (λ k. IsUnheard n (moment all k)) (length all) found
 
--- the tally counts over these steps what it says
+-- the tally has what these steps count
 pub record IsCounted (m : Setting) (d : List ℕ) (lines : List LogLine) (steps : List Step) (t : Tally) : Type 0 where
   pub spurious : t.spurious ≡ unasked steps
   pub served : t.served ≡ total (wakes m.seats) m (opening d) steps
@@ -54,7 +54,7 @@ pub record IsCounted (m : Setting) (d : List ℕ) (lines : List LogLine) (steps 
   pub first : NamesFirstNeed m d lines t.first_spurious t.spurious
   pub last : NamesLastUnheard m.seats (moments m (opening d) steps) t.last_unheard
 
--- it tells the misfit, and what is counted and where threads are at the end of such a run
+-- it gives the misfit, and the counts and the places of threads at the end of such a run
 pub record IsReport (m : Setting) (d : List ℕ) (lines : List LogLine) (means : List WaitsFor)
     (r : Report) : Type 0 where
   pub steps : List Step
@@ -67,7 +67,7 @@ pub record IsReport (m : Setting) (d : List ℕ) (lines : List LogLine) (means :
   pub overtaken : CountsOvertaken (moments m (opening d) steps) r.tally.overtaken r.tally.again
       r.tally.first_not_again
 
--- a judge has taken the lines up to that misfit
+-- a judge has taken the lines up to the misfit
 pub record IsTaken (m : Setting) (d : List ℕ) (lines : List LogLine) (means : List WaitsFor) (found : Option Misfit)
     (t : Tally) (lacking : Option ℕ) (h : Hints) (v : Shown) : Type 0 where
   pub steps : List Step

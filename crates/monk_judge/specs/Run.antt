@@ -1,4 +1,4 @@
--- What a mutex and its condition variables may do, as POSIX says it, and what a recorder tells of it
+-- What a mutex and its condition variables may do, as POSIX says, and what a recorder writes down of it
 use Rattle.std.specs.Prelude.{◌≡◌, ℕ, ◌+◌, ◌<◌, ◌==◌, ◌⊎◌, List, [], ◌∷◌, Option, Some, None, if◌then◌else◌}
 use Rattle.monk_object.specs.Object.{Object}
 use Rattle.monk_logs.specs.declared.text.line.LogLine.{LogLine}
@@ -14,7 +14,7 @@ pub record Setting : Type 0 where
   pub conds : ℕ
   pub object : Object
 
--- the setting of these numbers and that object
+-- the setting with these numbers and that object
 abbrev pub setting : ℕ → ℕ → Object → Setting
 setting seats conds o = record { seats = seats; conds = conds; object = o }
 
@@ -36,7 +36,7 @@ pub record MaySignal (m : Setting) (x : State) (s c : ℕ) : Type 0 where
   pub cond : c < m.conds
   pub sender : (x.lock ≡ Some s) ⊎ (x.place s ≡ Outside)
 
--- a signal wakes one thread that sleeps on the condition; nobody, only if nobody sleeps there
+-- a signal wakes one thread that sleeps on the condition; it wakes nobody only if nobody sleeps there
 abbrev pub WakesRightly : State → ℕ → Option ℕ → Type 0
 WakesRightly x c None = (j : ℕ) → x.place j ≡ Waiting c → ⊥
 WakesRightly x c (Some j) = x.place j ≡ Waiting c
@@ -82,7 +82,7 @@ May m x (WakesUnasked s) = Sleeps (x.place s)
 
 -- ---- what a step does
 
--- with that thread there
+-- the places, with the thread at that place
 abbrev pub with_place : ℕ → Place → (ℕ → Place) → ℕ → Place
 with_place s p place = λ j. if j == s then p else place j
 
@@ -114,20 +114,20 @@ woken_unasked (RanOut c) = RanOut c
 abbrev pub takes : ℕ → State → State
 takes s x = record { lock = Some s; place = with_place s Active x.place; data_now = x.data_now }
 
--- it lets the lock go, and is there then
+-- it lets the lock go, and is in that place then
 abbrev pub lets_go : ℕ → Place → State → State
 lets_go s p x = record { lock = None; place = with_place s p x.place; data_now = x.data_now }
 
--- places alone change
+-- only places change
 abbrev pub moved : (ℕ → Place) → State → State
 moved place x = record { lock = x.lock; place = place; data_now = x.data_now }
 
--- the places behind a signal that woke that thread
+-- the places after a signal that woke that thread
 abbrev pub signalled : ℕ → Option ℕ → (ℕ → Place) → ℕ → Place
 signalled c None place = place
 signalled c (Some j) place = with_place j (Woken c) place
 
--- the state behind a step
+-- the state after a step
 abbrev pub after : Setting → State → Step → State
 after m x (Tells (Enter s) w) = takes s x
 after m x (Tells (Resume s) w) = takes s x
@@ -143,12 +143,12 @@ after m x (WakesUnasked s) = moved (with_place s (woken_unasked (x.place s)) x.p
 
 -- ---- runs
 
--- each step may happen where it stands
+-- each step may happen in the state before it
 abbrev pub IsRun : Setting → State → List Step → Type 0
 IsRun m x [] = Unit {0}
 IsRun m x (step ∷ steps) = May m x step × IsRun m (after m x step) steps
 
--- what a recorder writes down of a run
+-- what a recorder writes for a run
 abbrev pub lines_of : List Step → List LogLine
 lines_of [] = []
 lines_of (Tells l w ∷ steps) = l ∷ lines_of steps

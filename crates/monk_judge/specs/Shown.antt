@@ -16,7 +16,7 @@ use Rattle.monk_judge.specs.Judged.{CanStand, IsRight, after_all, steps_at}
 use Rattle.monk_judge.specs.Run.{Setting, State}
 use Rattle.monk_judge.specs.declared.step.Step.{Step}
 
--- what a judge holds: `ends` has of each thread that waits how its wait ends
+-- what a judge holds; for each waiting thread, `ends` has how its wait ends
 pub record Shown : Type 0 where
   pub conds : ℕ
   pub lock : Option ℕ
@@ -24,15 +24,15 @@ pub record Shown : Type 0 where
   pub ends : List WaitEnd
   pub data_now : List ℕ
 
--- what a judge of these parts shows
+-- what a judge with these parts shows
 abbrev pub shown : ℕ → Option ℕ → List Place → List WaitEnd → List ℕ → Shown
 shown conds lock places ends d = record { conds = conds; lock = lock; places = places; ends = ends; data_now = d }
 
--- its state
+-- the state of a judge
 abbrev pub state_of : Shown → State
 state_of v = record { lock = v.lock; place = λ s. slice_index_or v.places s Outside; data_now = v.data_now }
 
--- its setting over that object
+-- the setting of a judge, over that object
 abbrev pub setting_of : Shown → Object → Setting
 setting_of v o = record { seats = length v.places; conds = v.conds; object = o }
 
@@ -42,7 +42,7 @@ pub record IsThere (places : List Place) (p : Place) : Type 0 where
   pub within : seat < length places
   pub there : slice_index_or places seat Outside ≡ p
 
--- whom a signal woke
+-- the thread that a signal woke
 abbrev pub whom : Told → Option ℕ
 whom told.Plain = None
 whom told.Passed = None
@@ -51,12 +51,12 @@ whom (told.Woke s) = Some s
 whom (told.WokeAll n) = None
 whom told.Spurious = None
 
--- where the wait of seat i ends by a `resume`, that of seat j ends by one that is no later
+-- if the wait of seat i ends by a `resume`, that of seat j ends by one that is no later
 abbrev pub ResumesNoLater : Shown → ℕ → ℕ → Type 0
 ResumesNoLater v j i = (line : ℕ) → ResumesBy (slice_index_or v.ends i (Resumes 0)) line
     → ResumesBy (slice_index_or v.ends j (Resumes 0)) line
 
--- no thread that sleeps on the condition comes back before that one does
+-- no thread that sleeps on the condition comes back before seat j
 abbrev pub IsEarliest : Shown → ℕ → Option ℕ → Type 0
 IsEarliest v c None = Unit {0}
 IsEarliest v c (Some j) = (i : ℕ) → slice_index_or v.places i Outside ≡ Waiting c → ResumesNoLater v j i
@@ -73,11 +73,11 @@ WakesEarliest v (Broadcast s c) w = Unit {0}
 WakesEarliest v (Until s p) w = Unit {0}
 WakesEarliest v (Act s op r) w = Unit {0}
 
--- the steps of a line that tells that
+-- the steps of a line that told that
 abbrev pub own_steps : Shown → LogLine → WaitEnd → Told → List Step
 own_steps v l e what = steps_at (state_of v) l (whom what) (runs_out e)
 
--- the line stands, and its steps lead there
+-- the line can follow, and its steps lead to the new state
 pub record Takes (o : Object) (old new : Shown) (l : LogLine) (e : WaitEnd) (what : Told) : Type 0 where
   pub stands : CanStand (setting_of old o) (state_of old) l
   pub right : IsRight (state_of old) l (whom what)
@@ -87,7 +87,7 @@ pub record Takes (o : Object) (old new : Shown) (l : LogLine) (e : WaitEnd) (wha
   pub ends : new.ends ≡ ends_after old.ends l e
   pub names : Names (setting_of old o) (state_of old) (own_steps old l e what) what
 
--- or it can't stand, and nobody moves
+-- or it can't follow, and nobody moves
 pub record Refuses (o : Object) (old new : Shown) (l : LogLine) : Type 0 where
   pub not_there : CanStand (setting_of old o) (state_of old) l → ⊥
   pub lock : new.lock ≡ old.lock

@@ -8,7 +8,7 @@ use Rattle.monk_judge.specs.declared.told.Told.{Told}
 use Rattle.monk_judge.specs.declared.told.Told.TheVariants as told
 use Rattle.monk_judge.specs.Shown.{whom}
 
--- whom the line woke
+-- the thread that the line woke
 abbrev pub woken_by : LogLine → Told → Option ℕ
 woken_by (Enter s) what = None
 woken_by (Resume s) what = None

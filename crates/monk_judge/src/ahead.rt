@@ -1,4 +1,4 @@
-//! How each wait ends, from the lines behind it.
+//! How each wait ends, from the lines after it.
 
 ghost use Rattle.std.specs.Prelude.{◌≤◌, IfOk, length};
 ghost use Rattle.monk_history.specs.Limits.{most_lines};
@@ -11,8 +11,8 @@ use std::alloc::{AllocError, Global};
 /// How many seats a line can name.
 const SEATS: usize = 256;
 
-/// For each line, how a wait of its seat there would end. One pass from the last line to the first
-/// finds this. It takes 8 bytes of memory for each line, and fails only where a request is refused.
+/// Returns for each line how a wait of its seat there would end. Makes one pass from the last line to the
+/// first. Takes 8 bytes of memory for each line, and fails only if a request for memory is refused.
 pub fn look_ahead(alloc: Global, lines: &[LogLine]) -> Result<Vec<WaitEnd>, AllocError>
     requires { length lines.now ≤ most_lines }
     ensures { IfOk result (λ v. AreEnds v.items lines.now) }

@@ -1,4 +1,4 @@
-//! Why a line can't stand where it does.
+//! Why a line can't follow the lines before it.
 
 ghost use Rattle.std.specs.Prelude.{◌≡◌};
 ghost use Rattle.monk_judge.specs.Blame.{blame_sentence, blame_word};
@@ -12,18 +12,18 @@ pub enum Blame {
     Call,
     /// A seat takes the lock while another holds it.
     Held,
-    /// A seat does what only the holder of the lock may do, and doesn't hold it.
+    /// A seat does what only the holder of the lock may do, and doesn't have the lock.
     NoLock,
-    /// A seat comes in that hasn't come back from its wait.
+    /// A seat comes in, but it hasn't come back from its wait.
     Asleep,
-    /// A seat comes back that doesn't wait.
+    /// A seat comes back, but it doesn't wait.
     Awake,
-    /// The object replies otherwise.
+    /// The object gives another reply.
     Reply,
 }
 
 impl Blame {
-    /// Its word.
+    /// Returns the word of the reason.
     pub fn text(self) -> &'static str
         ensures { result.now ≡ blame_word self }
     {
@@ -37,7 +37,7 @@ impl Blame {
             Blame::Reply => "reply",
         }
     }
-    /// What is wrong, in a sentence without its end: it also says what to look for.
+    /// Returns what is wrong, in a sentence without its end. It also says what to look for.
     pub fn sentence(self) -> &'static str
         ensures { result.now ≡ blame_sentence self }
     {

@@ -1,11 +1,11 @@
-//! The steps of the first lines of a run, and those behind them.
+//! The steps of the first lines of a run, and the steps after them.
 
 ghost use Rattle.std.specs.Prelude.{◌≡◌, ◌<◌, ◌-◌};
 ghost use Rattle.monk_judge.specs.Followed.{behind_lines, left_by, telling};
 
 use crate::step::Step;
 
-/// The steps that tell the first so many lines of a run, and those behind them. One pass over the first.
+/// Returns the steps that tell the first `lines` lines of a run, and the steps after them. One pass over the first.
 pub fn cut(steps: &[Step], lines: usize) -> (&[Step], &[Step])
     ensures first { result.0.now ≡ telling lines steps.now }
     ensures behind { result.1.now ≡ behind_lines lines steps.now }
@@ -20,7 +20,7 @@ pub fn cut(steps: &[Step], lines: usize) -> (&[Step], &[Step])
     (steps, &[])
 }
 
-/// How many lines are left to be told behind a step, of so many before it.
+/// Returns how many lines are left to tell after a step. `left` is how many there were before it.
 fn left_behind(step: Step, left: usize) -> usize
     requires { 0 < left }
     ensures { result ≡ left_by step (left - 1) }

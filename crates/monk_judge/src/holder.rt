@@ -10,7 +10,7 @@ use monk_logs::LogLine;
 pub struct Holder {
     /// The seat.
     pub seat: u8,
-    /// The line with which it took the lock, counted from 0 behind the header.
+    /// The line with which it took the lock, counted from 0 after the header.
     pub since: usize,
 }
 
@@ -29,7 +29,7 @@ pub(crate) fn takes_lock(line: LogLine) -> bool
     }
 }
 
-/// The last of the lines with which a thread takes the lock.
+/// Returns the index of the last line with which a thread takes the lock.
 pub(crate) fn last_taking(lines: &[LogLine]) -> Option<usize>
     ensures { NamesLastTaking lines.now result }
 {

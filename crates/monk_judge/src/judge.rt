@@ -1,4 +1,4 @@
-//! A mutex and its condition variables, line by line.
+//! A mutex and its condition variables, followed line by line.
 
 ghost use Rattle.std.specs.Prelude.{◌≡◌, ◌⊎◌, ◌<◌, ◌≤◌, ℕ, length, IfOk, MatchOption, MatchResult, Some, None, slice_index_or, slice_set};
 ghost use Rattle.monk_object.specs.Object.{Object};
@@ -22,14 +22,14 @@ use monk_object::{Guarded, Op};
 use std::alloc::{AllocError, Global};
 use std::marker::Model;
 
-/// A mutex and its condition variables in one run that tells the lines so far: the run with the fewest wake-ups that
-/// nobody sent.
+/// A mutex and its condition variables in a run that tells the lines so far. No run of them has
+/// fewer wake-ups that nobody sent.
 #[derive(Drop)]
 pub struct Judge<T: Guarded> {
     conds: u8,
     lock: Option<u8>,
     places: Vec<Place>,
-    /// How the wait of each seat that waits ends.
+    /// How the wait of each waiting seat ends.
     ends: Vec<WaitEnd>,
     object: T,
 }
@@ -46,7 +46,7 @@ impl<T: Guarded> Model for Judge<T> {
 }
 
 impl<T: Guarded> Judge<T> {
-    /// Nobody is inside.
+    /// Returns the state before the first line: nobody is inside.
     pub fn opening(alloc: Global, seats: u8, conds: u8, object: T) -> Result<Self, AllocError>
         ensures many { IfOk result (λ v. (length v.places ≡ seats) × (v.conds ≡ conds) × (v.lock ≡ None)
             × (v.data_now ≡ T.state object)) }
@@ -66,21 +66,21 @@ impl<T: Guarded> Judge<T> {
         })
     }
 
-    /// Who holds the lock.
+    /// Returns who holds the lock.
     pub fn lock(&self) -> Option<u8>
         ensures { result ≡ self.now.lock }
     {
         self.lock
     }
 
-    /// The object, in its state.
+    /// Returns the object in its present state.
     pub fn object(&self) -> &T
         ensures { T.state result.now ≡ self.now.data_now }
     {
         &self.object
     }
 
-    /// How many threads sleep.
+    /// Returns how many threads sleep.
     pub fn asleep(&self) -> u8
         ensures { result ≡ sleepers (length self.now.places) (state_of self.now) }
     {
@@ -93,7 +93,7 @@ impl<T: Guarded> Judge<T> {
         many
     }
 
-    /// How many threads sleep on the condition.
+    /// Returns how many threads sleep on the condition.
     fn asleep_on(&self, cond: u8) -> u8
         ensures { result ≡ sleepers_on cond (length self.now.places) (state_of self.now) }
     {
@@ -106,7 +106,7 @@ impl<T: Guarded> Judge<T> {
         many
     }
 
-    /// How many threads were woken and are not back.
+    /// Returns how many threads were woken and are not back.
     pub fn woken(&self) -> u8
         ensures { result ≡ woken_ones (length self.now.places) (state_of self.now) }
     {
@@ -119,7 +119,7 @@ impl<T: Guarded> Judge<T> {
         many
     }
 
-    /// Where the seat is; `None` if there is no such seat.
+    /// Returns where the seat is, or `None` if there is no such seat.
     pub fn place(&self, seat: u8) -> Option<Place>
         ensures { MatchOption result (length self.now.places ≤ seat)
             (λ p. (seat < length self.now.places) × (p ≡ slice_index_or self.now.places seat Outside)) }
@@ -132,7 +132,7 @@ impl<T: Guarded> Judge<T> {
         }
     }
 
-    /// Where each seat is.
+    /// Returns where each seat is.
     pub fn places(&self) -> &[Place]
         ensures places { result.now ≡ self.now.places }
         ensures shown { result.now ≡ places_below (length self.now.places) (state_of self.now).place }
@@ -141,7 +141,7 @@ impl<T: Guarded> Judge<T> {
         &self.places
     }
 
-    /// Where a seat of the header is.
+    /// Returns where the seat is. The reason is `Range` if the header has no such seat.
     fn at(&self, seat: u8) -> Result<Place, Blame>
         ensures { MatchResult result (λ p. (seat < length self.now.places)
             × (p ≡ slice_index_or self.now.places seat Outside))
@@ -150,7 +150,7 @@ impl<T: Guarded> Judge<T> {
         self.place(seat).ok_or(Blame::Range)
     }
 
-    /// Puts the seat there.
+    /// Moves the seat to the place.
     fn put(&mut self, seat: u8, place: Place)
         requires { seat < length self.old.places }
         ensures { self.new ≡ shown self.old.conds self.old.lock (slice_set self.old.places seat place) self.old.ends
@@ -159,9 +159,9 @@ impl<T: Guarded> Judge<T> {
         self.places[usize::from(seat)] = place;
     }
 
-    /// Takes the next line, with the silent steps that it shows, or says why no run tells it here.
-    /// `end` is how a wait of its seat there would end ([`look_ahead`](crate::look_ahead)). Behind an
-    /// `Err` nobody has moved, but the object may have changed.
+    /// Takes the next line, with the silent steps that it shows, or returns why no run tells it
+    /// here. `end` is how a wait of its seat there would end ([`look_ahead`](crate::look_ahead)).
+    /// After an `Err` nobody has moved, but the object may have changed.
     pub fn line(&mut self, line: LogLine, end: WaitEnd) -> Result<Told, Blame>
         ensures { Does T.meaning self.old self.new line end result }
     {
@@ -194,7 +194,7 @@ impl<T: Guarded> Judge<T> {
         Ok(told)
     }
 
-    /// What a line tells with which a thread takes the lock that no signal woke.
+    /// Returns what a line tells if a thread that no signal woke takes the lock with it.
     fn passing(&self) -> Told
         ensures { result ≡ passing (woken_ones (length self.now.places) (state_of self.now)) }
     {
@@ -205,7 +205,7 @@ impl<T: Guarded> Judge<T> {
         }
     }
 
-    /// The seat takes the lock.
+    /// Gives the seat the lock.
     fn take(&mut self, seat: u8)
         requires { seat < length self.old.places }
         ensures { self.new ≡ shown self.old.conds (Some seat) (slice_set self.old.places seat Active) self.old.ends
@@ -248,7 +248,7 @@ impl<T: Guarded> Judge<T> {
         Ok(told)
     }
 
-    /// Whether the seat holds the lock.
+    /// Tests whether the seat holds the lock.
     fn holds(&self, seat: u8) -> Result<(), Blame>
         ensures { MatchResult result (λ _. (seat < length self.now.places) × (self.now.lock ≡ Some seat))
             (λ e. (seat < length self.now.places) × (self.now.lock ≡ Some seat) → ⊥) }
@@ -286,7 +286,7 @@ impl<T: Guarded> Judge<T> {
         Ok(Told::Plain)
     }
 
-    /// The seat lets the lock go and is there, until its wait ends so.
+    /// Lets the seat's lock go, and moves the seat to the place. `end` is how its wait ends.
     fn sleep(&mut self, seat: u8, place: Place, end: WaitEnd)
         requires { seat < length self.old.places }
         ensures { self.new ≡ shown self.old.conds None (slice_set self.old.places seat place)
@@ -297,7 +297,7 @@ impl<T: Guarded> Judge<T> {
         self.ends[usize::from(seat)] = end;
     }
 
-    /// Whether the seat may signal: it holds the lock, or it is outside.
+    /// Tests whether the seat may signal: it holds the lock, or it is outside.
     fn may_signal(&self, seat: u8, cond: u8) -> Result<(), Blame>
         ensures { MatchResult result (λ _. MaySignal (setting_of self.now T.meaning) (state_of self.now) seat cond)
             (λ e. MaySignal (setting_of self.now T.meaning) (state_of self.now) seat cond → ⊥) }
@@ -313,7 +313,7 @@ impl<T: Guarded> Judge<T> {
         }
     }
 
-    /// The one of two seats whose wait ends earlier by a `resume`.
+    /// Returns the one of two seats whose wait ends earlier by a `resume`.
     fn earlier(&self, one: u8, other: u8) -> u8
         requires { (one < length self.now.places) × (other < length self.now.places) }
         ensures one_of_them { (result ≡ one) ⊎ (result ≡ other) }
@@ -326,7 +326,7 @@ impl<T: Guarded> Judge<T> {
         }
     }
 
-    /// Of those who sleep on the condition, one that comes back as early as any.
+    /// Returns a sleeper on the condition that comes back as early as any other.
     fn first_back(&self, cond: u8) -> Option<u8>
         ensures sleeps { MatchOption result ((j : ℕ) → slice_index_or self.now.places j Outside ≡ Waiting cond → ⊥)
             (λ j. (j < length self.now.places) × (slice_index_or self.now.places j Outside ≡ Waiting cond)) }

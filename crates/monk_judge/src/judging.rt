@@ -1,4 +1,4 @@
-//! A whole log, judged.
+//! Judges a whole log.
 
 ghost use Rattle.std.specs.Prelude.{◌≡◌, ◌<◌, ◌≤◌, IfOk, IfSome, length};
 ghost use Rattle.monk_history.specs.Limits.{most_lines};
@@ -22,18 +22,18 @@ use monk_logs::LogLine;
 use monk_object::Guarded;
 use std::alloc::{AllocError, Global};
 
-/// Judges the lines of a log of a program whose mutex guards the object, as `monk_logs::read_log` reads them.
-/// `means` tells what those wait for who wait on a condition.
+/// Judges the lines of a log of a program whose mutex guards the object, as `monk_logs::read_log`
+/// reads them. `means` says what the waiters on a condition wait for.
 ///
 /// # Errors
 ///
-/// A request for memory was refused. 8 bytes are taken for each line, and a few for each seat.
+/// A request for memory was refused. It takes 8 bytes for each line, and a few for each seat.
 ///
 /// # Cost
 ///
-/// Each line is read twice: from the last to the first, for how waits end, and from the first on. A
-/// signal looks over the seats, and so does a thread that takes the lock. A `leave` or `wait` does
-/// so for each of `means`.
+/// Each line is read twice: from the last to the first, to find how waits end, and from the first
+/// on. A signal looks over the seats, and so does a thread that takes the lock. A `leave` or `wait`
+/// does so for each of `means`.
 pub fn judge_log<T: Guarded>(
     alloc: Global,
     seats: u8,
@@ -43,8 +43,8 @@ pub fn judge_log<T: Guarded>(
     means: &[WaitsFor],
 ) -> Result<Report, AllocError>
     requires { length lines.now ≤ most_lines }
-    // It tells the misfit exactly. It counts in a run of the lines before, with as few wake-ups that
-    // nobody sent as any run of them has.
+    // The misfit is exact. The counts are those of a run of the lines before it, and no run of
+    // these lines has fewer wake-ups that nobody sent.
     ensures { IfOk result
         (λ r. IsReport (setting seats conds T.meaning) (T.state object) lines.now means.now r) }
 {
@@ -75,7 +75,7 @@ struct Seen {
     hints: Hints,
 }
 
-/// Takes the lines, up to the first that can't stand. `ends` says how a wait in each line would end.
+/// Takes the lines, up to the first that can't follow. `ends` says how a wait in each line would end.
 fn take_lines<T: Guarded>(
     judge: &mut Judge<T>,
     lines: &[LogLine],
@@ -108,7 +108,7 @@ fn take_lines<T: Guarded>(
     (seen, None)
 }
 
-/// The lines before the misfit.
+/// Returns the lines before the misfit.
 fn fitting(misfit: Option<Misfit>, lines: &[LogLine]) -> &[LogLine]
     requires { IfSome misfit (λ f. f.line ≤ length lines.now) }
     ensures { result.now ≡ fitting misfit lines.now }
@@ -119,7 +119,7 @@ fn fitting(misfit: Option<Misfit>, lines: &[LogLine]) -> &[LogLine]
     }
 }
 
-/// Who has the lock, if a thread took it last in that line.
+/// Returns who has the lock. `since` is the line in which a thread last took it.
 fn holder(lock: Option<u8>, since: Option<usize>) -> Option<Holder>
     ensures { result ≡ holder_by lock since }
 {

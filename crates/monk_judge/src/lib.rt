@@ -1,6 +1,6 @@
-//! Judges a log by the rules of a mutex with condition variables, as POSIX says them. The signaller
-//! goes on, and a woken thread competes for the lock with threads that come in. Queues promise no
-//! order, a wait may run out, and a thread may wake though nobody sent a signal.
+//! Judges a log by the rules of a mutex with condition variables, as POSIX gives them. The
+//! signaller goes on, and a woken thread competes for the lock with threads that come in. Queues
+//! promise no order, a wait may run out, and a thread may wake though nobody sent a signal.
 #![tactic(auto)]
 
 mod ahead;

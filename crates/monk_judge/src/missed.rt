@@ -1,4 +1,4 @@
-//! Signals that nobody sent though somebody should have.
+//! Signals that nobody sent, though somebody should have.
 
 ghost use Rattle.std.specs.Prelude.{◌≡◌};
 ghost use Rattle.monk_judge.specs.Among.{Decides};
@@ -10,23 +10,23 @@ use crate::waits_for::WaitsFor;
 use monk_logs::LogLine;
 use monk_object::Guarded;
 
-/// The first line that lets the lock go where a signal is lacking.
+/// The first line that lets the lock go although a signal is missing.
 #[derive(Clone, Copy)]
 pub(crate) struct Missed {
-    /// That line, counted from 0 behind the header.
+    /// That line, counted from 0 after the header.
     pub(crate) line: Option<usize>,
     /// Whether a thread without the lock has sent a signal.
     pub(crate) from_outside: bool,
 }
 
 impl Missed {
-    /// Of no lines.
+    /// Before any line.
     pub(crate) const NOTHING: Missed = Missed {
         line: None,
         from_outside: false,
     };
 
-    /// Looks at the line with that index, which the judge has taken.
+    /// Looks at the line with that index. The judge has taken it already.
     pub(crate) fn look_at<T: Guarded>(
         &mut self,
         judge: &Judge<T>,
@@ -43,7 +43,7 @@ impl Missed {
     }
 }
 
-/// Whether that line is a signal of a thread that hasn't the lock.
+/// Whether the line is a signal of a thread that doesn't have the lock.
 fn is_from_outside(lock: Option<u8>, line: LogLine) -> bool
     ensures { result ≡ is_from_outside lock line }
 {
@@ -59,7 +59,7 @@ fn is_from_outside(lock: Option<u8>, line: LogLine) -> bool
     }
 }
 
-/// Whether a thread let the lock go with that line, and a signal is lacking now.
+/// Whether a thread let the lock go with the line, and a signal is missing now.
 fn lacks_behind<T: Guarded>(judge: &Judge<T>, means: &[WaitsFor], line: LogLine) -> bool
     ensures { Decides result (LacksBehind T.meaning means.now line (state_of judge.now)) }
 {
@@ -75,7 +75,7 @@ fn lacks_behind<T: Guarded>(judge: &Judge<T>, means: &[WaitsFor], line: LogLine)
     }
 }
 
-/// Whether some condition lacks a signal.
+/// Whether a signal to some condition is missing.
 fn lacks_signal<T: Guarded>(judge: &Judge<T>, means: &[WaitsFor]) -> bool
     ensures { Decides result (LacksSignal T.meaning means.now (state_of judge.now)) }
 {
@@ -87,7 +87,7 @@ fn lacks_signal<T: Guarded>(judge: &Judge<T>, means: &[WaitsFor]) -> bool
     false
 }
 
-/// Whether all holds that is told of the condition.
+/// Whether all predicates hold that are given for the condition.
 fn all_hold<T: Guarded>(judge: &Judge<T>, means: &[WaitsFor], cond: u8) -> bool
     ensures { Decides result (AllHold T.meaning means.now judge.now.data_now cond) }
 {

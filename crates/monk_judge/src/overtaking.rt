@@ -15,15 +15,15 @@ use monk_object::Guarded;
 /// How many seats a line can name.
 const SEATS: usize = 256;
 
-/// Which woken threads were overtaken: of each seat, on which condition it was woken before another
-/// thread took the lock, if it was so and isn't back.
+/// Which woken threads were overtaken. A seat has a condition here if it was woken there, another
+/// thread has taken the lock since, and it isn't back.
 #[derive(Drop)]
 pub(crate) struct Passed {
     seats: [Option<u8>; SEATS],
 }
 
 impl Passed {
-    /// Of no lines.
+    /// Returns the state before any line: nobody was overtaken.
     pub(crate) fn nobody() -> Passed
         ensures many { length result.seats ≡ 256 }
         ensures nobody { (j : ℕ) → j < 256 → slice_index_or result.seats j None ≡ None }
@@ -33,8 +33,8 @@ impl Passed {
         }
     }
 
-    /// Looks at a line that the judge has taken. Says on which condition its thread was woken, if it
-    /// comes back overtaken.
+    /// Looks at a line that the judge has taken. If its thread comes back overtaken, returns the
+    /// condition on which it was woken.
     pub(crate) fn look_at<T: Guarded>(&mut self, judge: &Judge<T>, line: LogLine) -> Option<u8>
         requires { length self.old.seats ≡ 256 }
         ensures many { length self.new.seats ≡ 256 }
@@ -54,7 +54,7 @@ impl Passed {
         was
     }
 
-    /// A thread takes the lock: those who are woken are overtaken.
+    /// Marks those who are woken as overtaken, because a thread takes the lock.
     fn mark<T: Guarded>(&mut self, judge: &Judge<T>)
         requires { length self.old.seats ≡ 256 }
         ensures many { length self.new.seats ≡ 256 }
@@ -69,29 +69,29 @@ impl Passed {
     }
 }
 
-/// A thread that came back overtaken, and has told no line since.
+/// A thread that came back overtaken, and has written no line since.
 #[derive(Clone, Copy, Debug, PartialEq, Eq)]
 pub(crate) struct Back {
     pub(crate) seat: u8,
     pub(crate) cond: u8,
-    /// The line with which it came back, counted from 0 behind the header.
+    /// The line with which it came back, counted from 0 after the header.
     pub(crate) line: usize,
 }
 
 /// How many threads came back overtaken, and what they did next.
 #[derive(Clone, Copy, Debug, PartialEq, Eq)]
 pub(crate) struct Hints {
-    /// The last of them, if it has told no line since.
+    /// The last of them, if it has written no line since.
     pub(crate) back: Option<Back>,
     pub(crate) many: u64,
-    /// How many waited again.
+    /// How many of them waited again.
     pub(crate) again: u64,
-    /// The line with which the first came back that didn't.
+    /// The line with which the first that didn't came back.
     pub(crate) first_not_again: Option<usize>,
 }
 
 impl Hints {
-    /// Of no lines.
+    /// Before any line.
     pub(crate) const NONE: Hints = Hints {
         back: None,
         many: 0,
@@ -99,7 +99,7 @@ impl Hints {
         first_not_again: None,
     };
 
-    /// Whoever came back overtaken and tells this line goes on with it.
+    /// Notes what a seat that came back overtaken does next, if the line is that seat's.
     pub(crate) fn go_on(self, line: LogLine) -> Hints
         requires { self.again < 2 ^ 63 }
         ensures goes { AnswersOwn line self result }
@@ -122,7 +122,7 @@ impl Hints {
         }
     }
 
-    /// The thread of the line with that index comes back, overtaken if a condition is named.
+    /// Notes that the thread of the line with that index comes back. It was overtaken if `on` names a condition.
     pub(crate) fn come_back(self, line: LogLine, index: usize, on: Option<u8>) -> Hints
         requires { self.many < 2 ^ 63 }
         ensures { ComesBack line index on self result }
@@ -141,7 +141,7 @@ impl Hints {
     }
 }
 
-/// The line that is named, unless it is that one.
+/// Returns the named line, unless it is `line`.
 fn without(named: Option<usize>, line: usize) -> Option<usize>
     ensures { result ≡ without named line }
 {

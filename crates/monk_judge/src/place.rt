@@ -7,18 +7,18 @@ ghost use Rattle.monk_judge.specs.declared.place.Place.TheVariants.{Outside};
 
 use std::fmt;
 
-/// Where a thread is, as the log and the silent steps before it tell.
+/// Where a thread is, by the log and the silent steps before it.
 #[derive(Clone, Copy, Debug, PartialEq, Eq)]
 pub enum Place {
     /// It neither holds the lock nor waits.
     Outside,
     /// It holds the lock.
     Active,
-    /// It sleeps on that condition.
+    /// It sleeps on the condition.
     Waiting(u8),
-    /// It was woken on that condition, and hasn't the lock again.
+    /// It was woken on the condition, and doesn't have the lock yet.
     Woken(u8),
-    /// Its wait on that condition ran out, and it hasn't the lock again.
+    /// Its wait on the condition ran out, and it doesn't have the lock yet.
     RanOut(u8),
 }
 
@@ -47,7 +47,7 @@ impl Place {
         matches!(self, Place::Woken(_))
     }
 
-    /// Where a thread is whose wait runs out.
+    /// Returns the place of a thread after its wait runs out.
     pub(crate) fn run_out(self) -> Place
         ensures { result ≡ run_out self }
     {
@@ -57,7 +57,7 @@ impl Place {
         }
     }
 
-    /// Where a thread is that wakes though nobody sent a signal.
+    /// Returns the place of a thread after it wakes though nobody sent a signal.
     pub(crate) fn woken_unasked(self) -> Place
         ensures { result ≡ woken_unasked self }
     {
@@ -67,7 +67,7 @@ impl Place {
         }
     }
 
-    /// Where a thread is behind a broadcast to the condition.
+    /// Returns the place of a thread after a broadcast to the condition.
     fn woken(self, cond: u8) -> Place
         ensures { result ≡ woken cond self }
     {

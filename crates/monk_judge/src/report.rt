@@ -1,25 +1,25 @@
-//! What a log tells of its program.
+//! What a log says about its program.
 
 use crate::holder::Holder;
 use crate::misfit::Misfit;
 use crate::tally::Tally;
 
-/// What a log tells of its program: whether a run of a mutex with condition variables tells it, and
-/// what happens in the run that tells it with the fewest wake-ups that nobody sent.
+/// What a log says about its program: whether a run of a mutex with condition variables tells it,
+/// and what happens in such a run with the fewest wake-ups that nobody sent.
 #[derive(Clone, Copy, Debug, PartialEq, Eq)]
 pub struct Report {
-    /// The first line that no run tells; `None` if some run tells them all.
+    /// The first line that no run tells, or `None` if some run tells them all.
     pub misfit: Option<Misfit>,
-    /// What is counted in the run of the lines before.
+    /// The counts in the run of the lines before it.
     pub tally: Tally,
-    /// Who has the lock at its end.
+    /// Who has the lock at the end of the run.
     pub holder: Option<Holder>,
-    /// How many threads sleep at its end.
+    /// How many threads sleep at the end of the run.
     pub asleep: u8,
-    /// How many threads were woken and are not back at its end.
+    /// How many threads are woken and not back at the end of the run.
     pub woken: u8,
-    /// The first `leave` or `wait`, counted from 0 behind the header, behind which a thread sleeps on
-    /// a condition where nobody is woken, though all that is told of the condition holds. None is
-    /// named behind a signal of a thread without the lock: such a signal can be on its way to a sleeper.
+    /// The first `leave` or `wait`, counted from 0 after the header, that lacks a signal: after it a thread
+    /// sleeps on a condition and nobody is woken there, though all predicates given for it hold. No line is
+    /// named after a signal of a thread without the lock, because that signal can be on its way to a sleeper.
     pub missed: Option<usize>,
 }

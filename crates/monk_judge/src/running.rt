@@ -23,8 +23,8 @@ use monk_logs::LogLine;
 use monk_object::Guarded;
 use std::alloc::{AllocError, Global};
 
-/// The run that [`judge_log`](crate::judge_log) counts over: it tells the lines before the misfit,
-/// with as few wake-ups that nobody sent as any run of them.
+/// Returns the run that [`judge_log`](crate::judge_log) counts over. It tells the lines before the
+/// misfit, and no run of them has fewer wake-ups that nobody sent.
 ///
 /// # Errors
 ///
@@ -37,8 +37,8 @@ pub fn run_of_log<T: Guarded>(
     lines: &[LogLine],
 ) -> Result<Run, AllocError>
     requires { length lines.now ≤ most_lines }
-    // It tells the misfit exactly, and its steps are a run of the lines before, with as few wake-ups
-    // that nobody sent as any run of them has.
+    // The misfit is exact. The steps are a run of the lines before it, and no run of these lines
+    // has fewer wake-ups that nobody sent.
     ensures { IfOk result
         (λ r. IsRunOf (setting seats conds T.meaning) (T.state object) lines.now
         r.misfit r.steps.items) }
@@ -50,7 +50,7 @@ pub fn run_of_log<T: Guarded>(
     Ok(Run { steps, misfit })
 }
 
-/// Takes the lines, up to the first that can't stand, and writes down the steps.
+/// Takes the lines, up to the first that can't follow, and writes down the steps.
 fn take_steps<T: Guarded>(
     judge: &mut Judge<T>,
     lines: &[LogLine],
@@ -74,7 +74,7 @@ fn take_steps<T: Guarded>(
     Ok(None)
 }
 
-/// Writes down the steps of a line that told that, of whose seat a wait would end so.
+/// Writes down the steps of a line that told `told`. `end` is how a wait of its seat there would end.
 fn push_steps(
     steps: &mut Vec<Step>,
     line: LogLine,
@@ -94,7 +94,7 @@ fn push_steps(
     Ok(())
 }
 
-/// Whom the line woke, if it is a signal that told that.
+/// Returns the seat that the line woke, if it is a signal. `told` is what it told.
 fn woken_by(line: LogLine, told: Told) -> Option<u8>
     ensures { result ≡ woken_by line told }
 {
@@ -122,7 +122,7 @@ fn push_resume(steps: &mut Vec<Step>, seat: u8, told: Told) -> Result<(), AllocE
     Ok(())
 }
 
-/// Writes down the steps of a wait that ends so.
+/// Writes down the steps of a wait. `end` is how it ends.
 fn push_wait(steps: &mut Vec<Step>, seat: u8, cond: u8, end: WaitEnd) -> Result<(), AllocError>
     ensures { OnOk result (steps.new.items ≡ steps.old.items
         ++ Tells (Wait seat cond) None ∷ running_out seat (runs_out end)) }

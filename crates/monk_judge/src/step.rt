@@ -3,14 +3,14 @@
 use monk_logs::LogLine;
 use std::fmt;
 
-/// A step of a run: what a line tells, or something that no line tells.
+/// A step of a run: one that a line tells, or one that no line tells.
 #[derive(Clone, Copy, Debug, PartialEq, Eq)]
 pub enum Step {
-    /// A line, with the thread that a signal wakes.
+    /// The step of a line, with the thread that a signal wakes.
     Tells(LogLine, Option<u8>),
-    /// The wait of that thread runs out.
+    /// The wait of the seat runs out.
     RunsOut(u8),
-    /// That thread wakes though nobody sent a signal.
+    /// The seat wakes though nobody sent a signal.
     WakesUnasked(u8),
 }
 

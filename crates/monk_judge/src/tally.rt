@@ -10,27 +10,27 @@ use crate::told::Told;
 pub struct Tally {
     /// How many threads signals and broadcasts woke.
     pub served: u64,
-    /// How often a thread took the lock while a woken one wasn't back: it came in, or came back from
-    /// a wait that ran out.
+    /// How often a thread took the lock while a woken one wasn't back. It came in, or came back
+    /// from a wait that ran out.
     pub passed: u64,
     /// How many threads woke though nobody sent a signal.
     pub spurious: u64,
-    /// The first line that needs such a wake-up, counted from 0 behind the header.
+    /// The first line that needs such a wake-up, counted from 0 after the header.
     pub first_spurious: Option<usize>,
-    /// How many signals and broadcasts found nobody.
+    /// How many signals and broadcasts found nobody asleep.
     pub unheard: u64,
-    /// The last line that is such a signal, counted from 0 behind the header.
+    /// The last line with such a signal, counted from 0 after the header.
     pub last_unheard: Option<usize>,
-    /// How many woken threads came back by a `resume` behind others that took the lock since.
+    /// How many woken threads came back by a `resume` after others had taken the lock.
     pub overtaken: u64,
-    /// How many of these waited again on the same condition, as the next that they did.
+    /// How many of these waited on the same condition again as the next thing that they did.
     pub again: u64,
-    /// The `resume` of the first that didn't, counted from 0 behind the header.
+    /// The `resume` of the first that didn't, counted from 0 after the header.
     pub first_not_again: Option<usize>,
 }
 
 impl Tally {
-    /// Of no lines.
+    /// Before any line.
     pub(crate) const NOTHING: Tally = Tally {
         served: 0,
         passed: 0,
@@ -43,7 +43,7 @@ impl Tally {
         first_not_again: None,
     };
 
-    /// Counts the line with that index, which told that. A broadcast wakes 255 threads at most.
+    /// Counts the line with that index. `told` is what it told. A broadcast wakes 255 threads at most.
     pub(crate) fn line(&mut self, index: usize, told: Told)
         requires { self.old.served + self.old.passed + self.old.spurious + self.old.unheard + 255 < 2 ^ 64 }
         ensures served { self.new.served ≡ self.old.served + wakes_in told }

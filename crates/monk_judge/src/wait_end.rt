@@ -6,19 +6,19 @@ ghost use Rattle.monk_logs.specs.Log.{is_lapse};
 
 use monk_logs::LogLine;
 
-/// How a wait ends, as the lines behind it tell.
+/// How a wait ends, by the lines after it.
 #[derive(Clone, Copy, Debug, PartialEq, Eq)]
 pub enum WaitEnd {
-    /// Its seat comes back by a `resume`, in that line. The first line behind the header is line 1.
+    /// Its seat comes back by a `resume` in that line. The first line after the header is line 1.
     Resumes(u32),
     /// It runs out: the next line of its seat is a `lapse`.
     RunsOut,
-    /// No line tells how: the log ends first, or the next line of its seat is another.
+    /// No line says how: the log ends first, or the next line of its seat is another one.
     Never,
 }
 
 impl WaitEnd {
-    /// How a wait ends if that is the next line of its seat, with that number.
+    /// Returns how a wait ends if `line` is the next line of its seat. `number` is that line's number.
     pub(crate) fn by(line: LogLine, number: u32) -> WaitEnd
         ensures lapses { runs_out result ≡ is_lapse line }
         ensures by { is_resume line ≡ true → (n : ℕ) → number ≤ n → ResumesBy result n }
@@ -37,7 +37,7 @@ impl WaitEnd {
         }
     }
 
-    /// Whether it ends by a `resume`, and the other by a later one or by none.
+    /// Whether this wait ends by a `resume`, and the other by a later one or by none.
     pub(crate) fn is_before(self, other: WaitEnd) -> bool
         ensures before { result ≡ true → (n : ℕ) → ResumesBy other n → ResumesBy self n }
         ensures not_before { result ≡ false → (n : ℕ) → ResumesBy self n → ResumesBy other n }

@@ -1,12 +1,12 @@
-//! What those wait for who wait on a condition.
+//! What the waiters on a condition wait for.
 
-/// Those who wait on the condition wait until the predicate of the object holds. So somebody has to
-/// be signalled there where it holds. If several predicates are told of one condition, each of those
-/// who wait there waits for one of them. So somebody has to be signalled where all of them hold.
+/// The waiters on the condition wait until the predicate of the object holds. So if it holds,
+/// somebody has to be signalled there. If several predicates are given for one condition, each
+/// waiter there waits for one of them. So somebody has to be signalled there if all of them hold.
 #[derive(Clone, Copy, Debug, PartialEq, Eq)]
 pub struct WaitsFor {
-    /// The condition, from 0. A log with fewer conditions has nobody who waits there.
+    /// The condition, from 0. If a log has fewer conditions, nobody waits there.
     pub cond: u8,
-    /// The predicate, from 0. One that the object doesn't have never holds.
+    /// The predicate, from 0. If the object doesn't have it, it never holds.
     pub pred: u8,
 }

@@ -1,4 +1,4 @@
--- How the seats are found that a signal crossed on their way to sleep
+-- How the seats that a signal crossed are found
 use Rattle.std.proofs.Common.{◌≡◌, ℕ, zero, suc, ◌+◌, ◌-◌, ◌<◌, ◌≤◌, ◌∙◌, Bool, true, false, cond, ⊎_elim}
 use Rattle.std.proofs.Common.{List, [], ◌∷◌, ◌++◌, length, get_or, set, take, replicate, reverse, Option, Some, None}
 use Rattle.std.proofs.Common.{refl, sym, ap, arith, subst, length-take, take_all, get_or-set_same, get_or-set_other}
@@ -15,7 +15,7 @@ use Rattle.monk_logs.specs.declared.text.line.LogLine.{LogLine}
 use Rattle.monk_logs.specs.declared.text.line.LogLine.TheVariants.{Enter, Resume, Lapse, Leave, Wait, Signal, Broadcast, Until, Act}
 use Rattle.monk_logs.proofs.LastLineLaws.{last_more}
 
--- the lines before one, with that one
+-- the lines before a line, and that line
 before_more : (log : List LogLine) (i : ℕ) (l : LogLine) → i < length log
     → reverse (take (i + 1) log) ≡ get_or log i l ∷ reverse (take i log)
 before_more log i l lt = ap reverse (take_more log i l lt) ∙ reverse-append (take i log) (get_or log i l ∷ [])
@@ -50,7 +50,7 @@ numbers_more table log i at number l lt is_at is small has_last j =
 
 -- ---- the signal that crossed one seat
 
--- what the number of a seat's last line tells of it
+-- the crossing that the number of a seat's last line gives
 abbrev pub crossing_by : List LogLine → LogLine → Option ℕ → Option ℕ
 crossing_by log d None = None
 crossing_by log d (Some n) = crossing_at (get_or log (n - 1) d) (reverse (take (n - 1) log))
@@ -89,7 +89,7 @@ crossing_told s log d number is =
     ∙ sym (crossing_take s log d (length log) (omega arith))
     ∙ ap (λ (xs : List LogLine). crossing s (reverse xs)) (take_all (length log) log (omega arith))
 
--- ---- the number is one of a line
+-- ---- the number is that of a line
 
 or_within : (n k : ℕ) (b : Bool) (o : Option ℕ) → IfSome o (λ m. (suc n < m) × (m ≤ suc n + k))
     → IfSome (option_or o (cond b (Some (suc n)) None)) (λ m. (n < m) × (m ≤ n + suc k))
@@ -116,7 +116,7 @@ crossing_more s c log n at l is lt =
     else if begins s (get_or log n l) then None else crossing_in s c (reverse (take n log)))
     (let long = length-reverse (take n log) in let taken = length-take n log in omega (arith, lt, is, long, taken))
 
--- the last of them is a signal to the condition by another seat
+-- the last line is a signal to the condition by another seat
 pub found_crossing : (s c : ℕ) (log : List LogLine) (n at : ℕ) (l : LogLine) (whole : Option ℕ) → at ≡ n + 1
     → n < length log → crosses s c (get_or log n l) ≡ true
     → crossing_in s c (reverse (take at log)) ≡ whole → Some at ≡ whole
@@ -125,7 +125,7 @@ found_crossing s c log n at l whole is lt crossed same =
     else crossing_in s c (reverse (take n log))) crossed)
     ∙ sym (crossing_more s c log n at l is lt) ∙ same
 
--- the seat begins with the last of them
+-- the seat begins with the last line
 pub found_beginning : (s c : ℕ) (log : List LogLine) (n at : ℕ) (l : LogLine) (whole : Option ℕ) → at ≡ n + 1
     → n < length log → crosses s c (get_or log n l) ≡ false → begins s (get_or log n l) ≡ true
     → crossing_in s c (reverse (take at log)) ≡ whole → None ≡ whole
@@ -135,7 +135,7 @@ found_beginning s c log n at l whole is lt crossed begun same =
     else crossing_in s c (reverse (take n log))) crossed)
     ∙ sym (crossing_more s c log n at l is lt) ∙ same
 
--- the last of them is neither
+-- the last line is neither
 pub crossing_before : (s c : ℕ) (log : List LogLine) (n at : ℕ) (l : LogLine) (whole : Option ℕ) → at ≡ n + 1
     → n < length log → crosses s c (get_or log n l) ≡ false → begins s (get_or log n l) ≡ false
     → crossing_in s c (reverse (take at log)) ≡ whole → crossing_in s c (reverse (take n log)) ≡ whole
@@ -153,7 +153,7 @@ crossing_none s c log at whole is same =
 
 -- ---- the line that is found
 
--- the signal that crossed the last line, where these lines stand, the last first
+-- the signal that crossed the last line, if these are the lines, the last first
 abbrev head_crossing : List LogLine → Option ℕ
 head_crossing [] = None
 head_crossing (l ∷ before) = crossing_at l before

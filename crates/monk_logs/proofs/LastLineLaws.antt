@@ -1,4 +1,4 @@
--- The last line of a log, with one line more
+-- The last line of a log after one more line
 use Rattle.std.proofs.Common.{◌≡◌, ℕ, suc, ◌+◌, ◌<◌, Bool, true, false, cond, List, [], ◌∷◌, ◌++◌, length, take, get_or}
 use Rattle.std.proofs.Common.{Option, Some, None, refl, sym, ap, ◌∙◌, arith, length-take}
 use Rattle.std.specs.Option.{option_or}

@@ -26,13 +26,13 @@ begins s (Act t op r) = false
 abbrev pub crosses : ℕ → ℕ → LogLine → Bool
 crosses s c l = signals_to c l && not (line_seat l == s)
 
--- the number of the last such signal, since the seat came in or went on, where these lines stand, the last first
+-- the number of the last such signal since the seat came in or went on, if these are the lines, the last first
 unfoldable pub crossing_in : ℕ → ℕ → List LogLine → Option ℕ
 crossing_in s c [] = None
 crossing_in s c (l ∷ before) =
     if crosses s c l then Some (suc (length before)) else if begins s l then None else crossing_in s c before
 
--- the number of the signal that crossed the wait, if the line is one, where these lines stand before it, the last first
+-- the number of the signal that crossed the line, if it is a wait; these lines come before it, the last first
 abbrev pub crossing_at : LogLine → List LogLine → Option ℕ
 crossing_at (Enter s) before = None
 crossing_at (Resume s) before = None
@@ -44,20 +44,20 @@ crossing_at (Broadcast s c) before = None
 crossing_at (Until s p) before = None
 crossing_at (Act s op r) before = None
 
--- the same for the last line of a seat, where these lines stand, the last first
+-- the same for the last line of a seat, if these are the lines, the last first
 unfoldable pub crossing : ℕ → List LogLine → Option ℕ
 crossing s [] = None
 crossing s (l ∷ before) = if line_seat l == s then crossing_at l before else crossing s before
 
 -- ---- all seats
 
--- with a seat more, by the number of the signal that crossed it: how many seats were crossed, and the last signal
+-- adds a seat, by the number of the signal that crossed it: how many seats were crossed, and the last signal
 abbrev pub with_seat : Option ℕ → Option Crossed → Option Crossed
 with_seat None found = found
 with_seat (Some n) None = Some (record { seats = 1; line = n })
 with_seat (Some n) (Some x) = Some (record { seats = x.seats + 1; line = max x.line n })
 
--- those of the seats below that number, where these lines stand, the last first
+-- those among the seats below a number, if these are the lines, the last first
 unfoldable pub crossed_below : List LogLine → ℕ → Option Crossed
 crossed_below before zero = None
 crossed_below before (suc s) = with_seat (crossing s before) (crossed_below before s)
@@ -70,7 +70,7 @@ named_seats = 2 ^ 8
 abbrev pub crossed_of : List LogLine → Option Crossed
 crossed_of log = crossed_below (reverse log) named_seats
 
--- how many they are
+-- how many such seats there are
 abbrev pub number_crossed : Option Crossed → ℕ
 number_crossed None = 0
 number_crossed (Some x) = x.seats

@@ -24,7 +24,7 @@ abbrev pub has : Subject → LogLine → Bool
 has (Seat s) l = line_seat l == s
 has (Condition c) l = signals_to c l
 
--- the number of the last of these lines that is such a line, where n lines stand before them
+-- the number of the last of these lines that is such a line, if n lines come before them
 unfoldable pub last_behind : (LogLine → Bool) → ℕ → List LogLine → Option ℕ
 last_behind is_such n [] = None
 last_behind is_such n (l ∷ log) =

@@ -13,7 +13,7 @@ use Rattle.monk_history.specs.Text.Words.{Word}
 use Rattle.monk_logs.specs.declared.text.line.LogLine.{LogLine}
 use Rattle.monk_logs.specs.declared.text.line.LogLine.TheVariants.{Enter, Resume, Lapse, Leave, Wait, Signal, Broadcast, Until, Act}
 
--- a header as contracts see it
+-- a header, as contracts see it
 pub record LogHeading : Type 0 where
   pub seats : ℕ
   pub conds : ℕ
@@ -84,7 +84,7 @@ pub record HasLogText (h : LogHeading) (lines : List LogLine) : Type 0 where
   pub header_fits : IsLogHeading h
   pub lines_fit : AllByRecursion LineFits lines
 
--- ---- of a line
+-- ---- parts of a line
 
 -- the seat that wrote the line
 abbrev pub line_seat : LogLine → ℕ
@@ -98,7 +98,7 @@ line_seat (Broadcast s c) = s
 line_seat (Until s p) = s
 line_seat (Act s op r) = s
 
--- whether it tells of a wait that ran out
+-- whether it says that a wait ran out
 abbrev pub is_lapse : LogLine → Bool
 is_lapse (Enter s) = false
 is_lapse (Resume s) = false

@@ -16,8 +16,7 @@ const SEATS: usize = 256;
 pub struct Crossed {
     /// How many there are, at least one.
     pub seats: usize,
-    /// The last of the signals that crossed them. The lines behind the log's first one are counted
-    /// from 1.
+    /// The last of the signals that crossed them. Lines are counted from 1 after the log's header.
     pub line: usize,
 }
 
@@ -38,7 +37,7 @@ fn crosses(seat: u8, cond: u8, line: LogLine) -> bool
     Subject::Condition(cond).has(line) && line.seat() != seat
 }
 
-/// The number of the last such signal since the seat came in or went on.
+/// Returns the number of the last such signal since the seat came in or went on.
 fn last_crossing(before: &[LogLine], seat: u8, cond: u8) -> Option<usize>
     ensures { result ≡ crossings.crossing_in seat cond (reverse before.now) }
 {
@@ -56,7 +55,7 @@ fn last_crossing(before: &[LogLine], seat: u8, cond: u8) -> Option<usize>
     None
 }
 
-/// The number of the last line of each seat, counted from 1.
+/// Returns the number of the last line of each seat, counted from 1.
 fn last_numbers(lines: &[LogLine]) -> [Option<usize>; SEATS]
     ensures { (s : ℕ) → get_or result s None ≡ last_line (Seat s) lines.now }
 {
@@ -69,7 +68,7 @@ fn last_numbers(lines: &[LogLine]) -> [Option<usize>; SEATS]
     numbers
 }
 
-/// The number of the signal that crossed the seat whose last line has that number.
+/// Returns the number of the signal that crossed the seat. `number` is that of the seat's last line.
 fn crossing_of(lines: &[LogLine], number: Option<usize>) -> Option<usize>
     ensures { (s : ℕ) → number ≡ last_line (Seat s) lines.now
         → result ≡ crossings.crossing s (reverse lines.now) }
@@ -81,7 +80,7 @@ fn crossing_of(lines: &[LogLine], number: Option<usize>) -> Option<usize>
     }
 }
 
-/// With a seat more, by the number of the signal that crossed it.
+/// Adds a seat if a signal crossed it. `signal` is that signal's number.
 fn with_seat(signal: Option<usize>, found: Option<Crossed>) -> Option<Crossed>
     requires { crossings.number_crossed found ≤ 2 ^ 32 }
     ensures found { result ≡ crossings.with_seat signal found }
@@ -97,16 +96,15 @@ fn with_seat(signal: Option<usize>, found: Option<Crossed>) -> Option<Crossed>
     }
 }
 
-/// The seats that a signal crossed on their way to sleep. The last line of such a seat is a `wait`.
-/// Before that line, and behind its `enter`, `resume` or `lapse` before, another seat signals to the
-/// condition, to one or to all. Nobody else can do that who keeps the rules of a monitor. So only a
-/// program that signals without the lock has such seats. They may sleep for ever: the signal came
-/// between their test and their wait.
+/// Finds the seats that a signal crossed on their way to sleep. The last line of such a seat is a
+/// `wait`. Before that line, and after its last `enter`, `resume` or `lapse`, another seat signals
+/// to the condition, to one or to all. A seat that keeps the rules of a monitor can't do that. So
+/// only a program that signals without the lock has such seats. They may sleep for ever: the signal
+/// came between their test and their wait.
 ///
 /// # Cost
 ///
-/// One pass over the lines, and for each seat whose last line is a `wait` one over the lines of its
-/// last visit.
+/// One pass over the lines. Also one pass over the lines of its last visit for each seat whose last line is a `wait`.
 pub fn find_crossed(lines: &[LogLine]) -> Option<Crossed>
     ensures { result ≡ crossings.crossed_of lines.now }
 {

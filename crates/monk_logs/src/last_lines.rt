@@ -6,7 +6,7 @@ ghost use Rattle.monk_logs.specs.LastLine.{last_line};
 use crate::subject::Subject;
 use crate::text::line::LogLine;
 
-/// The number of the last line about the subject, counted from 1; `None` where there is none.
+/// Returns the number of the last line about the subject, counted from 1, or `None` if there is none.
 ///
 /// # Cost
 ///

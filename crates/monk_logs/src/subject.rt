@@ -1,11 +1,11 @@
-//! A seat or a condition, whose last line is asked for.
+//! A seat or a condition, to find the last line about it.
 
 ghost use Rattle.std.specs.Prelude.{◌≡◌};
 ghost use Rattle.monk_logs.specs.LastLine as last_lines;
 
 use crate::text::line::LogLine;
 
-/// What the last line of a log is asked of: a seat or a condition.
+/// What a line of a log may be about: a seat or a condition.
 #[derive(Clone, Copy, Debug, PartialEq, Eq)]
 pub enum Subject {
     /// A seat: each line that it wrote.
@@ -15,7 +15,7 @@ pub enum Subject {
 }
 
 impl Subject {
-    /// Whether the line is about it.
+    /// Whether the line is about the subject.
     pub fn has(self, line: LogLine) -> bool
         ensures { result ≡ last_lines.has self line }
     {

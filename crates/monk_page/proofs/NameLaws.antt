@@ -7,11 +7,11 @@ use Rattle.serde_json.specs.View.{items_view, view}
 use Rattle.serde_json.specs.declared.value.Value.{Value}
 use Rattle.monk_page.specs.Told.{texts_of}
 
--- what a value has for a name
+-- the name that a value has
 abbrev pub text_in : Value → List ℕ
 text_in v = unwrap_or (as_str (view v)) []
 
--- the texts of a list are those of its values
+-- the texts of a list are the texts of its values
 pub texts_viewed : (vs : List Value) → texts_of (items_view vs) ≡ map text_in vs
 texts_viewed [] = refl
 texts_viewed (v ∷ vs) = ap (λ rest. text_in v ∷ rest) (texts_viewed vs)

@@ -1,4 +1,4 @@
--- The value of what holds other data is that of these
+-- The value of something that holds other data is the value of those data
 use Rattle.std.proofs.Common.{◌≡◌, List, Option, Some, None, option_map, ap, refl, sym}
 use Rattle.std.proofs.lemmas.Simd.{map-map}
 use Rattle.monk_tell.specs.Told.{condition_lists}
@@ -8,13 +8,13 @@ use Rattle.serde_json.specs.Data.{Data, array}
 use Rattle.serde_json.specs.View.{items_of}
 use Rattle.monk_page.specs.Json.{list_json, numbers_json, option_json}
 
--- the value of what may be missing is that of what it holds
+-- the value of an option is the value of what it holds
 pub option_told : {X Y : Type 0} (f : Y → Data) (g : X → Y) (o : Option X)
     → option_json (λ x. f (g x)) o ≡ option_json f (option_map g o)
 option_told f g None = refl
 option_told f g (Some x) = refl
 
--- the value of the conditions is that of their seats
+-- the value of the conditions is the value of their seats
 pub conditions_told : (c : Conditions) → list_json (λ s. numbers_json s.0.items) c.0.items
     ≡ list_json numbers_json (condition_lists c)
 conditions_told c =

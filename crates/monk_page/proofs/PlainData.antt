@@ -1,4 +1,4 @@
--- The text of a value whose strings and keys are bare is one that markup shows as it stands
+-- If a value's strings and keys are bare, markup shows its text unchanged
 use Rattle.std.proofs.Common.{◌≡◌, ◌&&◌, ◌≤◌, ℕ, suc, Bool, true, false, cond, List, [], ◌∷◌, ◌++◌, Option, Some, None, map, refl, arith}
 use Rattle.std.specs.Fmt.{decimal}
 use Rattle.std.specs.Option.{option_map_or}
@@ -12,7 +12,7 @@ use Rattle.serde_json.specs.Written.{comma_if, compact_text, items_outline, item
 use Rattle.monk_page.specs.Plain.{is_plain_byte, is_plain_text}
 use Rattle.monk_page.proofs.PlainTexts.{all_append, bare_decimal, bare_text, is_bare}
 
--- null, whole numbers and bare strings, in lists and in objects with bare keys, at most so deep
+-- null, whole numbers and bare strings, in lists and in objects with bare keys, nested at most `n` deep
 abbrev mutual
   pub is_plain : ℕ → Data → Bool
   is_plain n null = true
@@ -48,10 +48,10 @@ pub both : (a b : Bool) → a ≡ true → b ≡ true → (a && b) ≡ true
 both true b p q = q
 both false b p q = p
 
--- by these a value is plain whose parts are
+-- by these rules a value is plain if its parts are
 pub ruleset plain_parts = (both, items_plain, option_plain, if_plain)
 
--- ---- how deep it is, and its text
+-- ---- its depth and its text
 
 comma_then : (later : Bool) (t : List ℕ) → is_plain_text t ≡ true → is_plain_text (comma_if later ++ t) ≡ true
 comma_then true t p = p

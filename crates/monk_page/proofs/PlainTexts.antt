@@ -1,4 +1,4 @@
--- Texts that stand in markup and in JSON as they are: numbers, and what is put together of such texts
+-- Texts that stay unchanged in markup and in JSON: numbers, and what is put together from such texts
 use Rattle.std.proofs.Common.{◌≡◌, ◌<◌, ◌≤◌, ◌/◌, ◌%◌, ◌==◌, ◌&&◌, ℕ, zero, suc, Bool, true, false, not, cond, List, [], ◌∷◌, ◌++◌, refl, arith, mod-lt}
 use Rattle.std.specs.Fmt.{decimal, digit_glyph, digits, digits_onto}
 use Rattle.std.specs.List.{join_with_byte, list_all}
@@ -9,7 +9,7 @@ use Rattle.json.specs.Print.{escape}
 use Rattle.json.proofs.Printed.Strings.{escape_byte_plain}
 use Rattle.monk_page.specs.Plain.{is_plain_byte, is_plain_text}
 
--- a byte that markup shows as it stands, and that JSON writes as it is
+-- a byte that markup shows unchanged and that JSON writes unchanged
 abbrev pub is_bare_byte : ℕ → Bool
 is_bare_byte b = is_plain_byte b && not (b == 34) && not (b == 92)
 
@@ -52,7 +52,7 @@ bare_is : (x : ℕ) → is_bare_byte x ≡ true
     → (x ≡ 34 → ⊥) × (x ≡ 92 → ⊥) × (32 ≤ x) × (is_plain_byte x ≡ true)
 bare_is x p = grind (arith, nat_tests)
 
--- JSON writes such a text as it is, and markup shows it so
+-- JSON writes such a text unchanged, and markup shows it so
 pub bare_text : (s : List ℕ) → is_bare s ≡ true → (escape s ≡ s) × (is_plain_text s ≡ true)
 bare_text [] p = (refl, refl)
 bare_text (x ∷ s) p =

@@ -1,4 +1,4 @@
--- What a writer leaves: the text of the value, from which it can be read, and which an article shows
+-- What a writer leaves: the text of the value. The value can be read from it, and an article shows it
 use Rattle.std.proofs.Common.{◌≡◌, ◌∙◌, ◌<◌, ◌≤◌, ◌^◌, arith, ◌++◌, true, List, ℕ, Some, [], ◌∷◌, map, ap, refl, sym, append_assoc, append-nil}
 use Rattle.json.proofs.Printed.Trees.{value-json_tokens}
 use Rattle.json.specs.Json.{value}
@@ -19,14 +19,14 @@ use Rattle.monk_page.specs.Json.{list_json, number_json}
 use Rattle.monk_page.specs.Writes.{AddsValue, Reads, with_value, with_items, with_members}
 use Rattle.monk_page.proofs.PlainData.{is_plain, value_plain}
 
--- a list is being written: behind what is, the values of these items are left of all
+-- a list is being written: after what is written, the values of the items `left` out of `all` are to come
 pub record WritesList {X : Type 0} (json : X → Data) (left all : List X) (old now : Written) : Type 0 where
   pub before : now.before ≡ old.before
   pub tokens : with_items (items_of (map json left)) now.tokens ++ token.end_array ∷ []
       ≡ with_value (list_json json all) old.tokens
   pub reads : Reads (list_json json left) → Reads (list_json json all)
 
--- whoever reads a number of 64 bits finds it
+-- a reader of a number of 64 bits finds the number
 pub number_reads : (n : ℕ) → n < 2 ^ 64 → Reads (number_json n)
 number_reads n small = rw (number_of-decimal n small) refl
 
@@ -54,7 +54,7 @@ mutual
       ∙ (ap (λ (us : List Token). us ++ members_tokens (members_outline ms)) (value_tokens d (ts ++ token.key k ∷ []))
       ∙ (append_assoc (ts ++ token.key k ∷ []) _ _ ∙ append_assoc ts _ _))
 
--- what stands around the text of plain data is an article of them
+-- the text of plain data, with what is around it, is an article of these data
 pub article_of : (n : ℕ) (d : Data) (old new : Written) (picture json told bytes : List ℕ)
     → AddsValue d old new → old.tokens ≡ [] → tokens (print new.tokens) ≡ new.tokens → is_plain n d ≡ true
     → n ≤ max_depth → json ≡ print new.tokens → bytes ≡ article picture json told → IsArticleOf d told bytes

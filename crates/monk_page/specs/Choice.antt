@@ -12,7 +12,7 @@ use Rattle.monk_page.specs.Json.{list_json, number_json, pair_json}
 abbrev pub front_json : From3 × ℕ → Data
 front_json f = pair_json (string (from_word f.0)) (number_json f.1)
 
--- a next, as a text has it
+-- a next, as in a text
 abbrev pub next_json : Next → Data
 next_json n = string (next_text n)
 

@@ -14,11 +14,11 @@ use Rattle.monk_page.specs.declared.template.ends.TheConstants.{HISTORY, LOG}
 use Rattle.monk_page.specs.declared.template.front.TheConstants.{FRONT}
 use Rattle.monk_page.specs.declared.template.shared.TheConstants.{SHARED}
 
--- what is told beside a history of which nothing is told
+-- what is put beside a history if its program says nothing
 abbrev pub nothing_told : List ℕ
 nothing_told = codes "null"
 
--- the rest of the page of a history: no proof looks at what it is
+-- the rest of the page of a history; no proof looks at its text
 unfoldable pub history_end : List ℕ
 history_end = HISTORY.now
 
@@ -32,7 +32,7 @@ window_json h es w =
     let last = last_of w (forbidden_step (account h es).verdict) es in
     page_json h es (not_shown w last) last
 
--- a picture and data, with what is told beside them, between the constant parts
+-- a picture and data, with what the program says beside them, between the constant parts
 unfoldable pub article : List ℕ → List ℕ → List ℕ → List ℕ
 article drawn data_text told =
     OPENING.now ++ (drawn ++ (MIDDLE.now ++ (data_text ++ (BESIDE.now ++ (told ++ CLOSING.now)))))
@@ -41,18 +41,18 @@ article drawn data_text told =
 unfoldable pub page_of : List ℕ → List ℕ → List ℕ
 page_of articles end = FRONT.now ++ (articles ++ (SHARED.now ++ end))
 
--- these bytes are a history or a run as one of a page: a picture, those data, which whoever reads their text finds, and
--- what is told beside them
+-- these bytes are a history or a run as one article of a page: a picture, those data, which a
+-- reader of their text finds, and what the program says beside them
 pub record IsArticleOf (json : Data) (told bytes : List ℕ) : Type 0 where
   pub picture : List ℕ
   pub is : bytes ≡ article picture (compact_text json) told
   pub reads_back : read (compact_text json) ≡ Some json
 
--- these bytes are those events as one of the histories of a page, with what is told beside them
+-- these bytes are those events as one article of a page, with what the program says beside them
 abbrev pub IsArticle : Heading → List Event → Option Window → List ℕ → List ℕ → Type 0
 IsArticle h es w told bytes = IsArticleOf (window_json h es w) told bytes
 
--- these bytes are a page with one article, beside which nothing is told, and with that end
+-- these bytes are a page with one article, beside which the program says nothing, and with that end
 pub record IsPageOf (json : Data) (end bytes : List ℕ) : Type 0 where
   pub article : List ℕ
   pub one : IsArticleOf json nothing_told article

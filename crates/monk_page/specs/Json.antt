@@ -12,7 +12,7 @@ number_json n = number (unsigned n)
 abbrev pub list_json : {X : Type 0} → (X → Data) → List X → Data
 list_json each xs = array (items_of (map each xs))
 
--- null, where there is none
+-- null if there is none
 abbrev pub option_json : {X : Type 0} → (X → Data) → Option X → Data
 option_json some o = option_map_or some o null
 

@@ -24,7 +24,7 @@ use Rattle.monk_page.specs.Json.{list_json, number_json, numbers_json, option_js
 abbrev pub place_json : Place → Data
 place_json p = string (place_text p)
 
--- who holds the lock, where so many threads are, and the data
+-- who holds the lock, where the first threads are, and the data
 abbrev pub with_state : ℕ → State → Members → Members
 with_state seats x ms =
     member (codes "lock") (option_json number_json x.lock)
@@ -35,13 +35,13 @@ with_state seats x ms =
 abbrev pub state_json : ℕ → State → Data
 state_json seats x = object (with_state seats x no_members)
 
--- a step, with the state behind it
+-- a step, with the state after it
 abbrev pub told_json : ℕ → Step × State → Data
 told_json seats t = object (with_state seats t.1 (member (codes "told") (string (step_text t.0)) no_members))
 
 -- ---- the line that misfits
 
--- the line, and why it can't stand
+-- the line, and why it can't follow
 abbrev pub wrong_json : Misfit → LogLine → Data
 wrong_json f l =
     object (member (codes "index") (number_json f.line) (member (codes "told") (string (line_text l))
@@ -54,7 +54,7 @@ misfit_json found lines = option_map_or (λ f. option_map_or (wrong_json f) (sli
 
 -- ---- all
 
--- the steps that tell the lines behind the first so many up to the last that is shown, and the state before them
+-- the steps that tell the lines after the first `before`, up to the last that is shown, and the state before them
 abbrev pub with_run : Setting → State → List Step → ℕ → ℕ → Members → Members
 with_run m x steps before last ms =
     let start = after_all m x (telling before steps) in
@@ -62,7 +62,7 @@ with_run m x steps before last ms =
     member (codes "start") (state_json m.seats start)
     (member (codes "steps") (list_json (told_json m.seats) (followed m start shown)) ms)
 
--- what the header says, how many lines stand before those that are shown, and the misfit
+-- what the header says, the number of lines before those that are shown, and the misfit
 abbrev pub with_header : LogHeading → Run → List LogLine → ℕ → Members → Members
 with_header h run lines before ms =
     member (codes "before") (number_json before) (member (codes "conditions") (number_json h.conds)
@@ -75,6 +75,6 @@ log_json h o d run lines before last =
     object (with_header h run lines before
     (with_run (setting h.seats h.conds o) (opening d) run.steps.items before last no_members))
 
--- these bytes are a page of it
+-- these bytes are a page of the log
 abbrev pub IsLogPage : LogHeading → Object → List ℕ → Run → List LogLine → ℕ → ℕ → List ℕ → Type 0
 IsLogPage h o d run lines before last bytes = IsPageOf (log_json h o d run lines before last) log_end bytes

@@ -19,8 +19,8 @@ use Rattle.monk_judge.specs.declared.step.Step.TheVariants.{Tells, RunsOut, Wake
 use Rattle.monk_logs.specs.declared.text.line.LogLine.{LogLine}
 use Rattle.monk_logs.specs.declared.text.line.LogLine.TheVariants as line
 
--- a line of a log as an event: one that lets the lock go as if the entry queue went on, a signal as one whose caller
--- stays
+-- a line of a log as an event: a line that lets the lock go as if the entry queue went on, a signal
+-- as if its caller stayed
 abbrev pub line_event : LogLine → Event
 line_event (line.Enter s) = event.Enter s Free
 line_event (line.Resume s) = event.Resume s Waiter
@@ -32,7 +32,7 @@ line_event (line.Broadcast s c) = event.SignalAll s c
 line_event (line.Until s p) = event.Until s p Entry
 line_event (line.Act s op r) = event.Act s op r
 
--- where a thread is, as a seat: one that is woken is in the waiter queue, one whose wait ran out still waits
+-- a thread's place as a seat's: a woken one is in the waiter queue, one whose wait ran out still waits
 abbrev pub seat_place : Place → SeatPlace
 seat_place Outside = seat.Outside
 seat_place Active = seat.Active
@@ -40,21 +40,21 @@ seat_place (Waiting c) = seat.Condition c
 seat_place (Woken c) = seat.Waiter
 seat_place (RanOut c) = seat.Condition c
 
--- where so many threads are
+-- where the first threads are
 abbrev pub row : ℕ → State → List SeatPlace
 row seats x = map seat_place (places_below seats x.place)
 
--- the same behind a step that tells a line
+-- the same after a step that tells a line
 abbrev pub rows_behind : ℕ → Step × State → List (List SeatPlace)
 rows_behind seats (Tells l w, x) = row seats x ∷ []
 rows_behind seats (RunsOut s, x) = []
 rows_behind seats (WakesUnasked s, x) = []
 
--- before those steps, and behind each of their lines
+-- before those steps, and after each of their lines
 abbrev pub rows : Setting → State → List Step → List (List SeatPlace)
 rows m x steps = row m.seats x ∷ flat_map (rows_behind m.seats) (followed m x steps)
 
--- the scene of the lines behind so many up to the last that is shown; the steps are those of a run from that state on
+-- the scene of the lines after the first `before`, up to the last that is shown; the steps are a run from that state
 abbrev pub run_scene : Setting → State → List Step → List LogLine → ℕ → ℕ → ShownScene
 run_scene m x steps lines before last =
     let events = map line_event (slice_range lines before last) in

@@ -16,25 +16,25 @@ use Rattle.monk_page.specs.Kinds.{kinds_json}
 use Rattle.monk_page.specs.Step.{step_json}
 use Rattle.monk_page.specs.declared.told_history.ToldHistory.{ToldHistory}
 
--- what is wrong with the forbidden event, if it is one of those behind so many events and up to the last that is shown
+-- what is wrong with the forbidden event, if it is among those after `before` events, up to the last that is shown
 abbrev pub shown_blame_json : ℕ → ℕ → Blamed → Data
 shown_blame_json before last b = if nat_lt before b.step && nat_le b.step last then blame_json b else null
 
--- the same of what is told, or null of a legal history
+-- the same from the answer for a history, or null for a legal one
 abbrev pub forbidden_json : ℕ → ℕ → Account → Data
 forbidden_json before last a = option_map_or (shown_blame_json before last) a.blame null
 
--- the steps behind so many events, up to the last that is shown
+-- the steps after the first `before` events, up to the last that is shown
 abbrev pub steps_json : Heading → List Event → ℕ → ℕ → Data
 steps_json h es before last = list_json (step_json h.object) (steps_between h es before last)
 
--- the kind, and how it and each other judge the events
+-- the kind, and how each kind judges the events
 abbrev pub with_kinds : Heading → List Event → Members → Members
 with_kinds h es ms =
     member (codes "kind") (string (kind_word h.kind)) (member (codes "kinds") (kinds_json h es)
     (member (codes "mode") (string (mode_word (rules_named h.kind).mode)) ms))
 
--- how many events there are, and how many before those that are shown; what is forbidden; and the kind
+-- the number of all events and of those before the first that is shown, what is forbidden, and the kind
 abbrev pub with_counts : Heading → List Event → ℕ → ℕ → Members → Members
 with_counts h es before last ms =
     member (codes "before") (number_json before) (member (codes "conditions") (number_json h.conds)
@@ -50,10 +50,10 @@ with_judged h es before last ms =
     (member (codes "verdict") (string (verdict_text (account h es).verdict))
     (member (codes "version") (number_json h.version) ms)))))))
 
--- what is shown of a history: the events behind so many up to the last, and how the whole is judged
+-- what is shown of a history: the events after the first `before`, up to the last, and how the whole is judged
 abbrev pub page_json : Heading → List Event → ℕ → ℕ → Data
 page_json h es before last = object (with_counts h es before last (with_judged h es before last no_members))
 
--- the data of what is told of a history
+-- the data of the answer for a history
 abbrev pub told_json : ToldHistory → Data
 told_json t = page_json t.header.now t.events.now t.span.before t.span.last

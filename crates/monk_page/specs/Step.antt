@@ -1,4 +1,4 @@
--- A step of a history in JSON: the event, what it chose from, and how the monitor stands after it
+-- A step of a history in JSON: the event, what it chose from, and the state of the monitor after it
 use Rattle.std.specs.Prelude.{ℕ, List, Option, codes}
 use Rattle.monk_history.specs.declared.event.Event.{Event}
 use Rattle.monk_object.specs.InWords.{state_in_words}
@@ -10,7 +10,7 @@ use Rattle.serde_json.specs.Data.{Data, string, object, Members, member, no_memb
 use Rattle.monk_page.specs.Choice.{choice_json}
 use Rattle.monk_page.specs.Json.{list_json, number_json, numbers_json, option_json, pair_json}
 
--- an event, as a text has it
+-- an event, as in a text
 abbrev pub event_json : Event → Data
 event_json e = string (event_text e)
 
@@ -18,11 +18,11 @@ event_json e = string (event_text e)
 abbrev pub wait_json : ℕ × ℕ → Data
 wait_json w = pair_json (number_json w.0) (number_json w.1)
 
--- the queue of a kind that has it, else null
+-- the queue if the kind has it, else null
 abbrev pub seats_json : Option (List ℕ) → Data
 seats_json queue = option_json numbers_json queue
 
--- the members of a step over the object of that name up to who is inside
+-- the members of a step over that object, in order up to who is inside
 abbrev pub with_event : ObjectName → ShownStep → Members → Members
 with_event o s ms =
     member (codes "choice") (option_json choice_json s.choice)
@@ -31,7 +31,7 @@ with_event o s ms =
     (member (codes "event") (option_json event_json s.event)
     (member (codes "inside") (numbers_json s.standing.inside) ms))))
 
--- those behind them
+-- the members after them
 abbrev pub with_queues : ShownStanding → Members → Members
 with_queues s ms =
     member (codes "ready") (seats_json s.queues.ready) (member (codes "signaller") (seats_json s.queues.signallers)
@@ -39,6 +39,6 @@ with_queues s ms =
     (member (codes "until") (option_json (list_json wait_json) s.queues.untils)
     (member (codes "waiter") (seats_json s.queues.waiters) ms)))))
 
--- the step of a monitor over that object: no proof of a list looks into it
+-- the step of a monitor over that object; no proof about a list looks into it
 unfoldable pub step_json : ObjectName → ShownStep → Data
 step_json o s = object (with_event o s (with_queues s.standing no_members))

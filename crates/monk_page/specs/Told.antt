@@ -1,16 +1,16 @@
--- The names in a text that is told beside a history
+-- The names in a text that is put beside a history
 use Rattle.std.specs.Prelude.{◌≡◌, ℕ, List, [], ◌∷◌, Some, map, option_and_then, codes, string_bytes, unwrap_or}
 use Rattle.serde_json.specs.Data.{Data, Items, item, no_items}
 use Rattle.serde_json.specs.Find.{as_array, as_str, get}
 use Rattle.serde_json.specs.Read.{read}
 use Rattle.monk_page.specs.declared.told.ToldNames.{ToldNames}
 
--- the texts of a list; what is none counts as an empty one
+-- the texts of a list; an item that is no text counts as an empty one
 abbrev pub texts_of : Items → List (List ℕ)
 texts_of no_items = []
 texts_of (item d ds) = unwrap_or (as_str d) [] ∷ texts_of ds
 
--- the names in the list that is the member of that name; none, if there is no such list
+-- the names in the list of the member with that name, or none if there is no such list
 abbrev pub names_in : List ℕ → Data → List (List ℕ)
 names_in name d = texts_of (unwrap_or (option_and_then as_array (get name d)) no_items)
 

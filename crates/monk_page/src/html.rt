@@ -16,7 +16,7 @@ use monk_history::{Event, Header};
 use monk_tell::{JudgedHistory, forbidden_step, tell_judged};
 use std::alloc::{AllocError, Global};
 
-/// A history of which that is told, as one of a page.
+/// Returns a history with its answer as one article of a page.
 fn article_told(alloc: Global, told: ToldHistory, beside: &str) -> Result<String, AllocError>
     ensures { IfOk result (λ text. IsArticleOf (told_json told.entry) beside.now (string_bytes text)) }
 {
@@ -35,22 +35,23 @@ fn article_told(alloc: Global, told: ToldHistory, beside: &str) -> Result<String
     article_around(alloc, picture.as_str(), data.as_str(), beside)
 }
 
-/// A history as one of a page: a picture, and the data of each step that is shown, which the page's script reads.
-/// [`page_of`] makes the page. The data stand there unbroken ([`data_are_unbroken`](crate::laws::data_are_unbroken)).
+/// Returns a history as one article of a page: a picture, and the data of each shown step, for the
+/// page's script. [`page_of`] makes the page. The data are unbroken
+/// ([`data_are_unbroken`](crate::laws::data_are_unbroken)).
 ///
-/// `window` says which events are shown, as [`draw`] does. `beside` is JSON that the program of the history tells, and
-/// that [`check_told`](crate::check_told) has let through, or `null`. It stands there as it is.
+/// `window` says which events are shown, as for [`draw`]. `beside` is JSON from the history's program that
+/// [`check_told`](crate::check_told) has let through, or `null`. It is put in unchanged.
 ///
 /// # Errors
 ///
-/// [`AuditFault::Object`] exactly where the size is above the object's greatest. [`AuditFault::Memory`] where a growth
-/// was refused.
+/// [`AuditFault::Object`] exactly if the size is above the object's greatest.
+/// [`AuditFault::Memory`] if a growth was refused.
 ///
 /// # Cost
 ///
-/// An audit of the events under each of the ten kinds, and where another kind than their own forbids one, a replay of
-/// those before it; of their own kind one replay. Memory for the text: some 1 kB for each event that is shown,
-/// and more for the data while they are written.
+/// An audit of the events under each of the ten kinds. One replay for their own kind, and for each
+/// other kind that forbids an event a replay of those before it. Memory for the text: some 1 kB for
+/// each event that is shown, and more for the data while they are written.
 pub fn article(
     alloc: Global,
     header: &Header,
@@ -82,7 +83,7 @@ pub fn article(
     Ok(article_told(alloc, told, beside)?)
 }
 
-/// The page of these histories, as one HTML text: each is what [`article`] makes, and they stand one after the other.
+/// Returns the page of these histories, as one HTML text. `articles` are what [`article`] returns, in order.
 ///
 /// # Errors
 ///

@@ -1,4 +1,4 @@
-//! What has a JSON value, which it writes.
+//! Things that have a JSON value, and write it.
 
 ghost use Rattle.std.specs.Prelude.{◌≡◌, [], IfOk, OnOk, string_bytes};
 ghost use Rattle.json.specs.Lex.{tokens};
@@ -13,14 +13,14 @@ use std::alloc::{AllocError, Global};
 /// A JSON text that is being written.
 #[derive(Drop)]
 pub struct JsonText {
-    /// Gives memory for what is put together before it is written.
+    /// The memory for what is put together before it is written.
     pub(crate) alloc: Global,
-    /// What was written.
+    /// The writer, with what was written so far.
     pub(crate) writer: Writer,
 }
 
 impl JsonText {
-    /// None is written.
+    /// Returns a text of which nothing is written.
     pub(crate) fn new(alloc: Global) -> JsonText
         ensures before { result.writer.before ≡ [] }
         ensures tokens { result.writer.tokens ≡ [] }
@@ -31,7 +31,7 @@ impl JsonText {
         }
     }
 
-    /// The text, of which all is written.
+    /// Returns the text, after all of it is written.
     pub(crate) fn text(self) -> Result<String, AllocError>
         requires { self.writer.before ≡ [] }
         ensures text { IfOk result (λ s. string_bytes s ≡ print self.writer.tokens) }
@@ -47,7 +47,7 @@ impl JsonText {
     }
 }
 
-/// What has a JSON value.
+/// A thing that has a JSON value.
 pub trait InJson {
     // The value, as data.
     ghost json: { Self → Data };
@@ -56,7 +56,7 @@ pub trait InJson {
     ///
     /// # Errors
     ///
-    /// `AllocError` where a growth was refused.
+    /// `AllocError` if a growth was refused.
     fn write(&self, out: &mut JsonText) -> Result<(), AllocError>
         ensures { OnOk result (AddsValue (json self.now) out.old.writer out.new.writer) };
 }
@@ -87,7 +87,7 @@ impl InJson for &str {
     }
 }
 
-/// Null, if there is none.
+/// Null if there is none.
 impl<T: InJson> InJson for Option<T> {
     ghost json = { option_json T.json };
 
@@ -107,7 +107,7 @@ impl<T: InJson> InJson for Vec<T> {
     }
 }
 
-/// Writes the list of the values of these.
+/// Writes the list of the values of these items.
 pub(crate) fn write_list<T: InJson>(out: &mut JsonText, items: &[T]) -> Result<(), AllocError>
     ensures { OnOk result (AddsValue (list_json T.json items.now) out.old.writer out.new.writer) }
 {

@@ -28,7 +28,7 @@ fn write_why(out: &mut JsonText, blame: &Option<ForbiddenEvent>) -> Result<(), A
     }
 }
 
-/// Writes the verdict on a monitor of that kind, and why an event is forbidden.
+/// Writes the verdict for a monitor of that kind, and why an event is forbidden.
 fn write_verdict(
     out: &mut JsonText,
     kind: KindName,
@@ -47,8 +47,8 @@ fn write_verdict(
     Ok(())
 }
 
-/// Writes what an audit of the events finds if the monitor is of another kind. Only where that forbids an event are
-/// those before it replayed.
+/// Writes what an audit of the events finds if the monitor is of another kind. The events before a
+/// forbidden one are replayed only if there is one.
 #[tactic(auto, unfolding(crate::specs::Kinds::kind_json))]
 fn write_other(out: &mut JsonText, told: ToldHistory, kind: KindName) -> Result<(), AllocError>
     ensures { OnOk result
@@ -68,7 +68,7 @@ fn write_other(out: &mut JsonText, told: ToldHistory, kind: KindName) -> Result<
         events: told.events,
         verdict,
     };
-    // (no step is behind one event and up to none)
+    // (`before` is above `last`, so there are no steps)
     match tell_judged(out.alloc, history, 1, 0) {
         Ok((telling, _)) => write_verdict(out, kind, verdict, &telling.blame),
         Err(AuditFault::Memory) => Err(AllocError),
@@ -87,7 +87,7 @@ fn write_kind(out: &mut JsonText, told: ToldHistory, kind: KindName) -> Result<(
     write_verdict(out, kind, told.telling.verdict, &told.telling.blame)
 }
 
-/// Writes the values of these kinds.
+/// Writes the values for these kinds.
 pub(crate) fn write_kinds(
     out: &mut JsonText,
     told: ToldHistory,

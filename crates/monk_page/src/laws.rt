@@ -1,4 +1,4 @@
-//! What holds of every page.
+//! What holds for every page.
 //!
 //! The functions do nothing: their contracts are the laws.
 ghost use Rattle.std.specs.Prelude.{◌≡◌, true, ℕ, List, Option};
@@ -14,14 +14,14 @@ ghost use Rattle.serde_json.specs.Written.{compact_text};
 ghost use Rattle.monk_page.specs.Html.{window_json};
 ghost use Rattle.monk_page.specs.Log.{log_json};
 
-/// The data of a page stand in it unbroken: they hold no `<`, `>` or `&` and no control character, so
-/// neither an end of the script nor anything else that HTML would read.
+/// The data of a page are in it unbroken: they hold no `<`, `>` or `&` and no control character. So
+/// they hold no end of the script, and nothing else that HTML would read.
 pub fn data_are_unbroken()
     ensures { (h : Heading) (es : List Event) (w : Option Window)
         → is_plain_text (compact_text (window_json h es w)) ≡ true }
 {}
 
-/// The same of the data of a log's page.
+/// The same for the data of a log's page.
 pub fn logs_are_unbroken()
     ensures { (h : LogHeading) (o : Object) (d : List ℕ) (run : Run) (lines : List LogLine) (before last : ℕ)
         → is_plain_text (compact_text (log_json h o d run lines before last)) ≡ true }

@@ -16,7 +16,7 @@ use monk_logs::{LogHeader, LogLine};
 use monk_object::Listed;
 use std::alloc::{AllocError, Global};
 
-/// Writes what the header says, how many lines stand before those that are shown, and the misfit.
+/// Writes what the header says, the number of lines before those that are shown, and the misfit.
 fn write_header(
     out: &mut JsonText,
     header: &LogHeader,
@@ -57,10 +57,11 @@ fn write_log<T: Listed>(
     Ok(())
 }
 
-/// The page of a log, as one HTML text: the picture of a run that tells it, and that run step by step, which its script
-/// reads. The data stand there unbroken ([`logs_are_unbroken`](crate::laws::logs_are_unbroken)).
+/// Returns the page of a log, as one HTML text: the picture of a run that tells it, and its data
+/// step by step, for the page's script. The data are in it unbroken
+/// ([`logs_are_unbroken`](crate::laws::logs_are_unbroken)).
 ///
-/// `object` is the one that the lock guards, as it is at first.
+/// `object` is the object that the lock guards, in its opening state.
 ///
 /// # Errors
 ///
@@ -68,8 +69,8 @@ fn write_log<T: Listed>(
 ///
 /// # Cost
 ///
-/// One pass over the steps of the run; memory for the page: some 100 bytes for each line that is shown, and a few for
-/// each seat.
+/// One pass over the steps of the run. Memory for the page: some 100 bytes for each line that is
+/// shown, and a few for each seat.
 pub fn log_page<T: Listed>(
     alloc: Global,
     picture: &str,

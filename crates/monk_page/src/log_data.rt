@@ -48,7 +48,7 @@ fn write_state<T: Listed>(out: &mut JsonText, judge: &Judge<T>) -> Result<(), Al
     out.writer.end_object()
 }
 
-/// Writes a step, with the state behind it, in which the judge is.
+/// Writes a step, with the state after it, in which the judge is.
 fn write_told<T: Listed>(out: &mut JsonText, judge: &Judge<T>, step: Step) -> Result<(), AllocError>
     ensures { OnOk result
         (AddsValue (told_json (length judge.now.places) (step, state_of judge.now)) out.old.writer out.new.writer) }
@@ -60,7 +60,7 @@ fn write_told<T: Listed>(out: &mut JsonText, judge: &Judge<T>, step: Step) -> Re
     out.writer.end_object()
 }
 
-/// Writes the steps, each with the state behind it.
+/// Writes the steps, each with the state after it.
 fn write_steps<T: Listed>(
     out: &mut JsonText,
     judge: &mut Judge<T>,
@@ -78,7 +78,7 @@ fn write_steps<T: Listed>(
     out.writer.end_array()
 }
 
-/// Leads the judge to where the span begins. The steps that tell the lines of the span are left.
+/// Leads the judge to where the span begins. Returns the steps that tell the lines of the span.
 pub(crate) fn lead<'a, T: Listed>(judge: &mut Judge<T>, steps: &'a [Step], span: Span) -> &'a [Step]
     requires { IsRun (setting_of judge.old T.meaning) (state_of judge.old) steps.now }
     ensures setting { setting_of judge.new T.meaning ≡ setting_of judge.old T.meaning }
@@ -124,7 +124,7 @@ fn write_wrong(out: &mut JsonText, misfit: Misfit, line: LogLine) -> Result<(), 
     out.writer.end_object()
 }
 
-/// Writes the misfit; null, if there is none.
+/// Writes the misfit, or null if there is none.
 pub(crate) fn write_misfit(
     out: &mut JsonText,
     misfit: Option<Misfit>,

@@ -15,8 +15,8 @@ use monk_object::Listed;
 use monk_tell::SeatPlace;
 use std::alloc::{AllocError, Global};
 
-/// A line of a log as an event of a history, by which it is drawn: one that lets the lock go as if the entry queue went
-/// on, and a signal as one whose caller stays.
+/// Returns a line of a log as an event of a history, to draw it. A line that lets the lock go is
+/// drawn as if the entry queue went on, and a signal as if its caller stayed.
 fn line_event(line: LogLine) -> Event
     ensures { result ≡ scene.line_event line }
 {
@@ -32,7 +32,7 @@ fn line_event(line: LogLine) -> Event
     }
 }
 
-/// The events by which these lines are drawn.
+/// Returns the events by which these lines are drawn.
 fn line_events(alloc: Global, lines: &[LogLine]) -> Result<Vec<Event>, AllocError>
     ensures { IfOk result (λ events. events.items ≡ map scene.line_event lines.now) }
 {
@@ -60,7 +60,7 @@ fn row<T: Listed>(alloc: Global, judge: &Judge<T>) -> Result<Vec<SeatPlace>, All
         .collect(alloc)
 }
 
-/// Puts where the threads are behind the step, if it tells a line.
+/// Adds where the threads are after the step, if it tells a line.
 fn put_row<T: Listed>(
     alloc: Global,
     rows: &mut Vec<Vec<SeatPlace>>,
@@ -77,7 +77,7 @@ fn put_row<T: Listed>(
     Ok(())
 }
 
-/// Where the threads are before the steps, and behind each of their lines.
+/// Returns where the threads are before the steps, and after each of their lines.
 fn rows<T: Listed>(
     alloc: Global,
     judge: &mut Judge<T>,
@@ -96,9 +96,9 @@ fn rows<T: Listed>(
     Ok(rows)
 }
 
-/// The scene of a run; `lines` are those that are drawn, up to the one that misfits.
+/// Returns the scene of a run. `lines` are those that are drawn, up to the one that misfits.
 ///
-/// `object` is the one that the lock guards, as it is at first. `span` says which lines are shown.
+/// `object` is the object that the lock guards, in its opening state. `span` says which lines are shown.
 ///
 /// # Errors
 ///
@@ -106,7 +106,7 @@ fn rows<T: Listed>(
 ///
 /// # Cost
 ///
-/// One pass over the steps of the run; for each line that is shown one over the threads.
+/// One pass over the steps of the run, and for each line that is shown one over the threads.
 pub fn run_scene<T: Listed>(
     alloc: Global,
     header: &LogHeader,

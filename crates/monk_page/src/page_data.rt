@@ -35,7 +35,7 @@ fn write_list(out: &mut JsonText, object: ObjectName, steps: &[Step]) -> Result<
     out.writer.end_array()
 }
 
-/// Writes the steps behind so many events, up to the last that is shown.
+/// Writes the steps after the first `before` events, up to the last that is shown.
 fn write_steps(out: &mut JsonText, told: ToldHistory) -> Result<(), AllocError>
     ensures { OnOk result (AddsValue (steps_json told.entry.header.now told.entry.events.now
         told.entry.span.before told.entry.span.last) out.old.writer out.new.writer) }
@@ -71,7 +71,7 @@ fn write_own_kind(out: &mut JsonText, told: ToldHistory) -> Result<(), AllocErro
     Ok(())
 }
 
-/// Writes how many events there are, which is forbidden, and the kind.
+/// Writes how many events there are, which one is forbidden, and the kind.
 fn write_counts(out: &mut JsonText, told: ToldHistory) -> Result<(), AllocError>
     ensures { OnOk result (AddsMembers (with_counts told.entry.header.now told.entry.events.now
         told.entry.span.before told.entry.span.last no_members) out.old.writer out.new.writer) }
@@ -105,7 +105,7 @@ fn write_judged(out: &mut JsonText, told: ToldHistory) -> Result<(), AllocError>
     Ok(())
 }
 
-/// Writes the data of a page: the events behind so many up to the last that is shown, and how all are judged.
+/// Writes the data of a page: the events that are shown, and how all events are judged.
 pub(crate) fn write_page(out: &mut JsonText, told: ToldHistory) -> Result<(), AllocError>
     ensures { OnOk result (AddsValue (told_json told.entry) out.old.writer out.new.writer) }
 {

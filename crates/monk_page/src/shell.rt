@@ -1,4 +1,4 @@
-//! What stands around the pictures and the data of a page.
+//! The text around the pictures and the data of a page.
 
 ghost use Rattle.std.specs.Prelude.{◌≡◌, IfOk, string_bytes};
 ghost use Rattle.monk_page.specs.Html.{article, page_of};
@@ -8,10 +8,10 @@ use crate::template::front::FRONT;
 use crate::template::shared::SHARED;
 use std::alloc::{AllocError, Global};
 
-/// What is told beside a history of which nothing is told.
+/// What is put beside a history if its program says nothing.
 pub const NOTHING_TOLD: &str = "null";
 
-/// A picture and data, with what is told beside them.
+/// Returns a picture and data, with what the program says beside them.
 pub(crate) fn article_around(
     alloc: Global,
     picture: &str,
@@ -23,7 +23,7 @@ pub(crate) fn article_around(
     format!(in alloc; "{OPENING}{picture}{MIDDLE}{json}{BESIDE}{told}{CLOSING}")
 }
 
-/// Articles as a page with that end.
+/// Returns articles as a page with that end.
 pub(crate) fn page_with(alloc: Global, articles: &str, end: &str) -> Result<String, AllocError>
     ensures { IfOk result (λ page. string_bytes page ≡ page_of articles.now end.now) }
 {

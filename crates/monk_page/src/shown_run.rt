@@ -7,8 +7,8 @@ use monk_logs::LogLine;
 pub struct ShownRun<'a> {
     /// The run.
     pub run: &'a Run,
-    /// The lines that it tells, up to the one that misfits.
+    /// The lines of the log, up to the one that misfits.
     pub lines: &'a [LogLine],
-    /// Those that are shown.
+    /// The lines that are shown.
     pub span: Span,
 }

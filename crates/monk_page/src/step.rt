@@ -22,7 +22,7 @@ impl InJson for Event {
     }
 }
 
-/// Writes the event, and of the monitor that stands over the object the members up to who is inside.
+/// Writes the event, and the members for the monitor and the object, in order up to who is inside.
 #[tactic(auto, using(crate::proofs::PageLaws::option_told))]
 fn write_event(out: &mut JsonText, object: ObjectName, step: &Step) -> Result<(), AllocError>
     ensures { OnOk result (AddsMembers (with_event object (step_of step.now) no_members)

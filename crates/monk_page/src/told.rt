@@ -1,4 +1,4 @@
-//! What may be told beside a history, and where a text of it is at fault.
+//! What a program may say beside its history on a page, and where a text of it is at fault.
 
 ghost use Rattle.std.specs.Prelude.{◌≡◌, IfOk, OnOk, Some, map, option_and_then, option_map, string_bytes};
 ghost use Rattle.serde_json.specs.Data.{Data};
@@ -10,15 +10,15 @@ ghost use Rattle.monk_page.specs.Told.{AreNames, names_in};
 use serde_json::Value;
 use std::alloc::{AllocError, Global};
 
-/// How long the name of a seat or of a condition may be.
+/// The greatest length of the name of a seat or of a condition.
 const LONGEST_NAME: u8 = 16;
 
-/// What is wrong with a text of what is told, and where.
+/// What is wrong with such a text, and where.
 #[derive(Clone, Copy, Debug, PartialEq, Eq)]
 pub enum ToldFault {
     /// A request for memory was refused.
     Memory,
-    /// It isn't as [`check_told`] says: the line and the column, which count from 1.
+    /// The text isn't as [`check_told`] says. The numbers are the line and the column, counted from 1.
     At(usize, usize, ToldWrong),
 }
 
@@ -28,16 +28,16 @@ impl From<AllocError> for ToldFault {
     }
 }
 
-/// The names that are told beside a history: that of number 0 first.
+/// The names that a program gives beside its history, from number 0 on.
 #[derive(Debug, Drop)]
 pub struct ToldNames {
-    /// Those of the seats.
+    /// The names of the seats.
     pub seats: Vec<String>,
-    /// Those of the conditions.
+    /// The names of the conditions.
     pub conditions: Vec<String>,
 }
 
-/// What is wrong there.
+/// What is wrong at a place of the text.
 #[derive(Clone, Copy, Debug, PartialEq, Eq)]
 pub enum ToldWrong {
     /// It isn't JSON.
@@ -46,18 +46,18 @@ pub enum ToldWrong {
     Object,
     /// The object has a member of another name.
     Member,
-    /// A list must stand there.
+    /// A list must be there.
     List,
-    /// A text must stand there.
+    /// A text must be there.
     Text,
-    /// A name is empty, or longer than 16, or has something else than letters, digits, spaces, `_` and `-`.
+    /// A name is empty, or longer than 16, or has something other than letters, digits, spaces, `_` and `-`.
     Name,
-    /// A `<` stands there, which a page can't hold.
+    /// There is a `<`, which a page can't hold.
     Less,
 }
 
 impl ToldWrong {
-    /// What must be there in its place.
+    /// Returns what must be there instead.
     pub fn sentence(self) -> &'static str {
         match self {
             ToldWrong::Json => "this isn't JSON",
@@ -71,7 +71,7 @@ impl ToldWrong {
     }
 }
 
-/// A member of what is told.
+/// A member of the text's object.
 #[derive(Clone, Copy)]
 enum Member {
     /// Names of seats or of conditions.
@@ -91,7 +91,7 @@ fn member_of(key: Option<&[u8]>) -> Option<Member> {
     }
 }
 
-/// Where a reader of JSON stands that is told so.
+/// Where a reader of the text is.
 #[derive(Clone, Copy)]
 enum At {
     /// Before the object.
@@ -104,11 +104,11 @@ enum At {
     Value(Member),
     /// In the list of a member.
     List(Member),
-    /// In a text of a member, behind so many bytes.
+    /// In a text of a member. For a name, the number is how many bytes were read.
     Text(Member, u8),
-    /// Behind a `\` in such a text.
+    /// After a `\` in such a text.
     Escape(Member),
-    /// Behind the object.
+    /// After the object.
     Behind,
 }
 
@@ -116,7 +116,7 @@ fn is_of_name(byte: u8) -> bool {
     byte.is_ascii_alphanumeric() || matches!(byte, b' ' | b'_' | b'-')
 }
 
-/// In a text, behind the byte.
+/// Returns where the reader is after the byte in a text.
 fn in_text(member: Member, length: u8, byte: u8) -> Result<At, ToldWrong> {
     match (member, byte) {
         (Member::Names, b'"') if length == 0 => Err(ToldWrong::Name),
@@ -129,7 +129,7 @@ fn in_text(member: Member, length: u8, byte: u8) -> Result<At, ToldWrong> {
     }
 }
 
-/// Behind the byte, which ends the name of a member if that is the key. JSON allows few others in most places.
+/// Returns where the reader is after the byte; `key` is the member's name if it ends there. The text is JSON.
 fn behind(at: At, byte: u8, key: Option<&[u8]>) -> Result<At, ToldWrong> {
     match (at, byte) {
         (_, b'<') => Err(ToldWrong::Less),
@@ -155,7 +155,7 @@ fn behind(at: At, byte: u8, key: Option<&[u8]>) -> Result<At, ToldWrong> {
     }
 }
 
-/// Where a text that is JSON isn't as it must be.
+/// Returns where a text that is JSON isn't as it must be.
 fn misshapen(text: &[u8]) -> Option<ToldFault> {
     let mut at = At::Start;
     let (mut line, mut column, mut key) = (1usize, 0usize, 0usize);
@@ -176,14 +176,14 @@ fn misshapen(text: &[u8]) -> Option<ToldFault> {
     None
 }
 
-/// Whether a text can stand beside a history on a page. It is a JSON object whose members are, if they are there,
-/// `seats` and `conditions`, lists of names; `data`, a list of texts, the program's data before the first event and
-/// after each; and `end`, a text that says how the run ended. A name has 1 to 16 letters, digits, spaces, `_` and `-`.
-/// A `<` stands nowhere, so that no script ends there: JSON has `\u003c` for it.
+/// Tests whether a text can be beside a history on a page. It is a JSON object whose members, if they are
+/// there, are `seats` and `conditions`, lists of names; `data`, a list of texts, the program's data before
+/// the first event and after each; and `end`, a text that says how the run ended. A name has 1 to 16 letters,
+/// digits, spaces, `_` and `-`. No `<` may occur, so that no script ends there: JSON has `\u003c` for it.
 ///
 /// # Errors
 ///
-/// What is wrong first: it isn't JSON, or else it isn't such an object.
+/// The first fault: the text isn't JSON, or else it isn't such an object.
 pub fn check_told(alloc: Global, text: &str) -> Result<(), ToldFault>
     // It is JSON.
     ensures { OnOk result ((d : Data) × (read text.now ≡ Some d)) }
@@ -192,11 +192,11 @@ pub fn check_told(alloc: Global, text: &str) -> Result<(), ToldFault>
     Ok(())
 }
 
-/// The names of seats and conditions in a text that can stand beside a history.
+/// Returns the names of seats and conditions in a text that can be beside a history.
 ///
 /// # Errors
 ///
-/// Those of [`check_told`].
+/// As [`check_told`].
 pub fn told_names(alloc: Global, text: &str) -> Result<ToldNames, ToldFault>
     ensures { IfOk result (AreNames text.now) }
 {
@@ -207,7 +207,7 @@ pub fn told_names(alloc: Global, text: &str) -> Result<ToldNames, ToldFault>
     })
 }
 
-/// The list that is the member of that name.
+/// Returns the list that is the member with that name.
 fn list_at<'a>(told: &'a Value, member: &str) -> Option<&'a Vec<Value>>
     ensures { option_map (λ list. items_view list.now.items) result
         ≡ option_and_then as_array (get member.now (view told.now)) }
@@ -215,7 +215,7 @@ fn list_at<'a>(told: &'a Value, member: &str) -> Option<&'a Vec<Value>>
     told.get(member)?.as_array()
 }
 
-/// The names in the list of that member, none if there is no such member.
+/// Returns the names in the list of that member, or none if there is no such member.
 fn names_at(alloc: Global, told: &Value, member: &str) -> Result<Vec<String>, AllocError>
     ensures { IfOk result (λ names. map string_bytes names.items ≡ names_in member.now (view told.now)) }
 {
@@ -229,7 +229,7 @@ fn names_at(alloc: Global, told: &Value, member: &str) -> Result<Vec<String>, Al
     Ok(names)
 }
 
-/// The text as JSON, if it can stand beside a history.
+/// Returns the text as JSON, if it can be beside a history.
 fn told_value(alloc: Global, text: &str) -> Result<Value, ToldFault>
     ensures { IfOk result (λ told. read text.now ≡ Some (view told)) }
 {

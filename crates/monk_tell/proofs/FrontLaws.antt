@@ -1,4 +1,4 @@
--- What is permitted is stay, entry or the front of a queue
+-- Only stay, entry and the front of a queue are permitted
 use Rattle.std.proofs.Common.{◌≡◌, ℕ, Bool, true, false, cond, not, List, [], ◌∷◌, ◌++◌, take, map, Some}
 use Rattle.std.proofs.Common.{refl, sym, subst, arith, ap, ◌∙◌}
 use Rattle.std.proofs.lemmas.Bool.{eqb-true}

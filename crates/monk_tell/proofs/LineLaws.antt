@@ -1,4 +1,4 @@
--- One item more of what a loop has gone through
+-- One more item that a loop has gone through
 use Rattle.std.proofs.Common.{◌≡◌, ℕ, ◌+◌, ◌<◌, Bool, true, false, cond, not, List, [], ◌∷◌}
 use Rattle.std.proofs.Common.{◌++◌, length, map, take, get_or, ap, sym, arith, refl, ◌∙◌}
 use Rattle.std.proofs.lemmas.List.{length-map, map-append, take_more}
@@ -22,7 +22,7 @@ use Rattle.monk_tell.specs.declared.queues.Conditions.{Conditions}
 abbrev seats_of : SeatList → List ℕ
 seats_of s = s.0.items
 
--- the queue of one condition more
+-- the queue of one more condition
 pub conditions_more : (queue : ℕ → List ℕ) (i : ℕ) (xs : List SeatList) (x : SeatList)
     → map seats_of xs ≡ conditions_below queue i → x.0.items ≡ queue i
     → map seats_of (xs ++ x ∷ []) ≡ conditions_below queue (i + 1)
@@ -35,12 +35,12 @@ first_of_lists : (p : List ℕ → Bool) (xs : List SeatList)
 first_of_lists p [] = refl
 first_of_lists p (x ∷ xs) = ap (λ (n : ℕ). cond (not (p x.0.items)) (1 + n) 0) (first_of_lists p xs)
 
--- a queue is looked for as it is kept
+-- a search in the queues finds the same in their lists
 pub waits_of_lists : (c : Conditions) (s : ℕ) → position (λ (x : SeatList). has s x.0.items) c.0.items
     ≡ waits_at (condition_lists c) s
 waits_of_lists c s = sym (rw (first_of_lists (has s) c.0.items, length-map) refl)
 
--- where there is no first seat, there is none
+-- if there is no first seat, the queue is empty
 pub empty_if_none_first : (xs : List ℕ) → is_none (slice_get xs 0) ≡ is_empty xs
 empty_if_none_first [] = refl
 empty_if_none_first (x ∷ xs) = refl
@@ -56,7 +56,7 @@ ready_one : (o : Object) (d : List ℕ) (w : ℕ × ℕ) (b : Bool) → o.holds 
 ready_one o d w true h = rw h refl
 ready_one o d w false h = rw h refl
 
--- those ready, of one wait more
+-- the ready seats after one more wait
 pub ready_more : (o : Object) (d : List ℕ) (ws : List (ℕ × ℕ)) (i : ℕ) (b : Bool) → i < length ws
     → o.holds d (get_or ws i (0, 0)).1 ≡ b
     → ready_of o d (take (i + 1) ws) ≡ ready_of o d (take i ws) ++ cond b ((get_or ws i (0, 0)).0 ∷ []) []
@@ -65,7 +65,7 @@ ready_more o d ws i b there holds =
     ∙ (ready_append o d (take i ws) (get_or ws i (0, 0) ∷ [])
     ∙ ap (λ (l : List ℕ). ready_of o d (take i ws) ++ l) (ready_one o d (get_or ws i (0, 0)) b holds))
 
--- of those ready the first alone decides
+-- the first ready seat alone decides
 pub permits_front : (k : Rules) (ws ss xs : List ℕ) (stays : Bool) (e : Event)
     → permits k (record { waiters = ws; signallers = ss; ready = just (slice_get xs 0) }) stays e
     ≡ permits k (record { waiters = ws; signallers = ss; ready = xs }) stays e

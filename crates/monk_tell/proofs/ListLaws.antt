@@ -1,4 +1,4 @@
--- What a list that prints itself has written, with one item more
+-- What a list that prints itself has written, with one more item
 use Rattle.std.proofs.Common.{◌≡◌, ℕ, ◌+◌, ◌<◌, List, [], ◌∷◌, ◌++◌, length, take, get_or, sym, ap, ◌∙◌}
 use Rattle.std.proofs.Common.{append_assoc}
 use Rattle.std.proofs.lemmas.List.{append-nil, take_more}
@@ -8,7 +8,7 @@ one_more : {X : Type 0} (f : X → List ℕ) (xs : List X) (x : X) → flat_map 
 one_more f [] x = append-nil (f x)
 one_more f (y ∷ xs) x = ap (λ (l : List ℕ). f y ++ l) (one_more f xs x) ∙ sym (append_assoc (f y) (flat_map f xs) (f x))
 
--- of the items up to a place, and the one there
+-- the text of the items up to a place and of the one there
 pub printed_more : {X : Type 0} (f : X → List ℕ) (xs : List X) (i : ℕ) (d : X) → i < length xs
     → flat_map f (take i xs) ++ f (get_or xs i d) ≡ flat_map f (take (i + 1) xs)
 printed_more {X = X} f xs i d there =

@@ -6,7 +6,7 @@ use Rattle.monk_history.specs.declared.event.Event.{Event}
 use Rattle.monk_history.specs.Meaning.Acts.{is_refused_act, refused_from, refused_steps}
 use Rattle.monk_tell.specs.Told.{ShownSteps, most_told, told_steps}
 
--- ---- the steps of one event more
+-- ---- the steps of one more event
 
 abbrev step_of : Event → ℕ → List ℕ
 step_of e step = cond (is_refused_act e) (step ∷ []) []
@@ -29,12 +29,12 @@ refused_more es i d b there is =
     ∙ (refused_next 1 (take i es) (get_or es i d)
     ∙ (λ j. refused_from 1 (take i es) ++ cond (is j) (at j ∷ []) []))
 
--- ---- of these the first ten, and how many more there are
+-- ---- the first ten of these, and how many more there are
 
 abbrev pub shown : List ℕ → ℕ → ShownSteps
 shown first more = record { first = first; more = more }
 
--- one more step is told while there are fewer
+-- one more step is listed while there are fewer
 pub told_within : (first : List ℕ) (more step : ℕ) (steps : List ℕ) → length first < most_told
     → shown first more ≡ told_steps steps → shown (first ++ step ∷ []) more ≡ told_steps (steps ++ step ∷ [])
 told_within first more step steps few is =
@@ -48,7 +48,7 @@ told_within first more step steps few is =
     let none : more ≡ length (steps ++ step ∷ []) - 10 = omega (arith, counted, longer, less) in
     λ i. shown (told i) (none i)
 
--- and else counted
+-- or else only counted
 pub told_past : (first : List ℕ) (more step : ℕ) (steps : List ℕ) → most_told ≤ length first
     → shown first more ≡ told_steps steps → shown first (more + 1) ≡ told_steps (steps ++ step ∷ [])
 told_past first more step steps many is =

@@ -1,4 +1,4 @@
--- The steps of a legal history, with one event more
+-- The steps of a legal history, with one more event
 use Rattle.std.proofs.Common.{◌≡◌, ℕ, ◌+◌, ◌-◌, ◌<◌, ◌≤◌, Bool, cond, List, [], ◌∷◌, ◌++◌}
 use Rattle.std.proofs.Common.{length, map, take, get_or}
 use Rattle.std.proofs.Common.{sym, ap, subst, arith, ◌∙◌}
@@ -30,7 +30,7 @@ use Rattle.monk_tell.specs.Steps.{ShownStep, event_step, opening_step, step_afte
 use Rattle.monk_tell.specs.declared.step.Step.{Step}
 use Rattle.monk_tell.proofs.TellLaws.{reason_opening}
 
--- so many events are there, and are legal
+-- there are `n` events, and they are legal
 allowed_there : (m : Monitor) (es : List Event) (v : Verdict) (n : ℕ) → IsVerdict m es v → n ≤ allowed_events v
     → n ≤ length es
 allowed_there m es (Legal count) n is few = omega (arith, is.1, few)
@@ -44,7 +44,7 @@ allowed_legal m es (Forbidden step reason) n is few =
     subst (λ (xs : List Event). IsLegal m xs) (take-take n is.before es (omega (arith, few, is.is_step)))
     (legal_take m (take is.before es) n is.legal_before)
 
--- of a history with that verdict
+-- the verdict on a history
 verdict_is : (h : Heading) (es : List Event) (v : Verdict) → v ≡ verdict_of (named_monitor h) es
     → IsVerdict (named_monitor h) es v
 verdict_is h es v is = subst (IsVerdict (named_monitor h) es) (sym is) (is_verdict (named_monitor h) es)
@@ -64,7 +64,7 @@ judged_legal h es v n is few = allowed_legal (named_monitor h) es v n (verdict_i
 abbrev event_of : List Event → ℕ → Event
 event_of es n = get_or es n (Enter 0 Free)
 
--- against an event of legal ones is no reason, whatever the opening state is
+-- there is no reason against an event of legal ones, for any opening state
 none_against : (k : Rules) (seats conds : ℕ) (o : Object) (d : List ℕ) (es : List Event) (n : ℕ) (t : Situation)
     → IsLegal (monitor k seats conds o d) (take (n + 1) es) → n < length es
     → t ≡ situation (monitor k seats conds o d) (take n es)
@@ -79,7 +79,7 @@ none_against k seats conds o d es n t legal within stands =
     ∙ ap (λ (x : Situation). reason_in m x (event_of es n)) stands
     ∙ no_reason m front n (Enter 0 Free) _ there legal (λ i. reason_of m (sym before i) (sym same i))
 
--- against the next event that is allowed there is no reason, whatever the opening state is
+-- there is no reason against the next event that is allowed, for any opening state
 pub next_allowed : (h : Heading) (es : List Event) (v : Verdict) (n : ℕ) (k : Rules) (seats conds : ℕ) (o : Object)
     (t : Situation) → v ≡ verdict_of (named_monitor h) es → n < allowed_events v
     → t ≡ situation (named_monitor h) (take n es)
@@ -99,7 +99,7 @@ next_reached h es v n o t u is few stands named leads =
     (judged_legal h es v n is (omega (arith, few))) stands
     (leads ∙ ap (λ (x : Object). after x t (event_of es n)) named)
 
--- one step more
+-- one more step
 pub step_told : (m : Monitor) (es : List Event) (before i : ℕ) (xs : List Step) (x : Step)
     → map step_of xs ≡ map (step_after m es before) (range_with_len before (i + 1))
     → step_of x ≡ event_step m es (before + i + 1)

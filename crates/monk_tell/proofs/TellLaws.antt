@@ -1,4 +1,4 @@
--- What a reason says of an event, and a first fault of a history
+-- What a reason says about an event, and a first fault about a history
 use Rattle.std.proofs.Common.{◌≡◌, ◌≢◌, ℕ, Bool, true, false, cond, not, List, []}
 use Rattle.std.proofs.Common.{◌⊎◌, ◌≤◌, ◌<◌, ◌-◌, get_or, inl, inr, length, refl, sym, take, ap, subst, arith, ◌∙◌}
 use Rattle.std.proofs.lemmas.Option.{get_or_from_slice_get, slice_get_within}
@@ -38,14 +38,14 @@ in_range : (m : Monitor) (t : Situation) (e : Event) (k : ℕ) → reason_in m t
 unfolding reason_in
 in_range m t e k h other = passed_first (is_in_range m.seats m.conds m.object.codes m.object.predicates e) _ k h other
 
--- an event that is not out of range fits the object
+-- if an event is not out of range, it fits the object
 pub in_range_fits : (m : Monitor) (t : Situation) (e : Event) (k codes predicates : ℕ) → reason_in m t e ≡ k → k ≢ 1
     → m.object.codes ≡ codes → m.object.predicates ≡ predicates → fits_object codes predicates e ≡ true
 in_range_fits m t e k codes predicates h other c p =
     sym (ap (λ (n : ℕ). fits_object n predicates e) c) ∙ sym (ap (λ (n : ℕ). fits_object m.object.codes n e) p)
     ∙ and_right _ (fits_object m.object.codes m.object.predicates e) (in_range m t e k h other)
 
--- the opening state has no part in a reason
+-- a reason doesn't depend on the opening state
 pub reason_opening : (k : Rules) (seats conds : ℕ) (o : Object) (d : List ℕ) (t : Situation) (e : Event)
     → reason_in (monitor k seats conds o d) t e ≡ reason_in (monitor k seats conds o []) t e
 unfolding reason_in
@@ -65,7 +65,7 @@ fault_there h es v step reason is forbids =
     let there : f.before < length es = slice_get_within es f.before f.fault f.is_there in
     (omega (arith, f.is_step), omega (arith, f.is_step, there))
 
--- the reason against its event, whatever the opening state is
+-- the reason against its event, for any opening state
 pub fault_reason : (h : Heading) (es : List Event) (step reason : ℕ) (k : Rules) (o : Object) (t : Situation)
     → IsFirstFault (named_monitor h) es step reason → k ≡ rules_named h.kind → o ≡ meaning_named h.object
     → t ≡ situation (named_monitor h) (take (step - 1) es)
@@ -85,7 +85,7 @@ fault_reason h es step reason k o t f kind named stands =
 abbrev early_by : KindName → ℕ → ℕ → Situation → Event → Reason → Why
 early_by kind seats conds t e r = early_cause kind seats conds t (number_of r) e
 
--- why the seat of an event may not enter, as the cause by its reason
+-- why the seat of an event may not enter, as its reason's cause
 pub place_caused : (kind : KindName) (seats conds : ℕ) (t : Situation) (e : Event) (r : Reason) (why : Why)
     → (r ≡ reasons.Place) ⊎ ((r ≡ reasons.Reply) ⊎ (r ≡ reasons.Choice))
     → why ≡ Turn (no_entry (t.inside (seat_of e)) (via_of e) (seat_of e)) → why ≡ early_by kind seats conds t e r

@@ -1,4 +1,4 @@
--- Why an event is not allowed: of each reason the sentence that tells it, by how the monitor stands
+-- Why an event is not allowed: for each reason the sentence that says it, by the state of the monitor
 use Rattle.std.specs.Prelude.{ℕ, ◌==◌, nat_le, nat_lt, Bool, false, Option, Some, None, List, slice_get}
 use Rattle.std.specs.Prelude.{map, option_map, if◌then◌else◌, is_some}
 use Rattle.std.specs.List.{position, range_with_len}
@@ -31,7 +31,7 @@ use Rattle.monk_tell.specs.declared.why.Why.{Why}
 use Rattle.monk_tell.specs.declared.why.Why.TheVariants.{NoSeat, NoCondition, NoOperation, NoPredicate}
 use Rattle.monk_tell.specs.declared.why.Why.TheVariants.{Call, NoUntils, Turn as Away, Reply, Stay, Order}
 
--- ---- 1. a number that is out of range: of its seats the first, else what the call is about
+-- ---- 1. a number that is out of range: the first of its seats, else a number of the call itself
 
 -- the number of a call that is out of range
 abbrev pub call_beyond : ℕ → ℕ → Event → Why
@@ -46,11 +46,11 @@ call_beyond seats conds (Resume s q) = NoSeat s seats
 call_beyond seats conds (SignalAll s c) = NoCondition c conds
 call_beyond seats conds (SignalWait s c d x) = NoCondition (if nat_le conds c then c else d) conds
 
--- that seat if it is out of range, and else the other number
+-- that seat if it is out of range, else the other number
 abbrev pub seat_beyond : ℕ → Why → ℕ → Why
 seat_beyond seats other s = if nat_le seats s then NoSeat s seats else other
 
--- the chosen seat if it is out of range, and else the other number
+-- the chosen seat if it is out of range, else the other number
 abbrev pub chosen_beyond : ℕ → Why → Option Next → Why
 chosen_beyond seats other None = other
 chosen_beyond seats other (Some next.Stay) = other
@@ -64,13 +64,13 @@ abbrev pub number_beyond : ℕ → ℕ → Event → Why
 number_beyond seats conds e =
     seat_beyond seats (chosen_beyond seats (call_beyond seats conds e) (next_of e)) (seat_of e)
 
--- ---- 3. whose turn it is, and not that of seat s
+-- ---- 3. whose turn it is, if not that of seat s
 
 -- the queues of the conditions below that number
 abbrev pub conditions_below : (ℕ → List ℕ) → ℕ → List (List ℕ)
 conditions_below queue conds = map queue (range_with_len 0 conds)
 
--- of these queues of conditions the one in which the seat waits, by its number
+-- the number of the first of these queues of conditions in which the seat waits
 abbrev pub waits_at : List (List ℕ) → ℕ → Option ℕ
 waits_at conditions s = position (has s) conditions
 
@@ -80,7 +80,7 @@ other_turn turn.Open s = away.Open s
 other_turn (turn.Due j q) s = if j == s then away.Resumes s q else away.Due s j q
 other_turn (turn.Owned j) s = if j == s then away.Already s else away.Active s j
 
--- it waits on a condition, or the turn is another's
+-- it waits on a condition, or it is another's turn
 abbrev pub out_of_turn : Option ℕ → Turn → ℕ → OutOfTurn
 out_of_turn waits t s = option_map_or (λ c. away.Unsignalled s c) waits (other_turn t s)
 
@@ -121,7 +121,7 @@ has_to_stay e =
     option_map_or (λ c. stay.NobodyWaits c (seat_of e)) (steps_back e)
     (option_map_or (λ p. stay.HoldsAlready p (seat_of e)) (awaited_predicate e) (stay.GivesUp (seat_of e)))
 
--- it may not stay: waiters go first, or another signaller does, or its call gives the monitor up
+-- it may not stay: waiters go first, another signaller goes first, or its call gives the monitor up
 abbrev pub signaller_yields : KindName → Rules → Option ℕ → ℕ → Staying
 signaller_yields kind k first s =
     if nat_lt k.signaller k.waiter then stay.MustYield s kind
@@ -132,7 +132,7 @@ abbrev pub may_not_stay : KindName → Rules → Firsts → Event → Staying
 may_not_stay kind k f e =
     if is_some (steps_back e) then signaller_yields kind k f.signaller (seat_of e) else stay.GivesUp (seat_of e)
 
--- entry may not be chosen: of those above it the one that comes first
+-- entry may not be chosen: the first of those above it
 abbrev pub may_not_admit : KindName → Rules → ℕ → Option ℕ → Option ℕ → Option ℕ → Why
 may_not_admit kind k s (Some w) (Some j) ready =
     if nat_lt k.waiter k.signaller
@@ -147,11 +147,11 @@ may_not_admit kind k s None None None = Stay (stay.GivesUp s)
 abbrev pub is_first : ℕ → Option ℕ → Bool
 is_first j first = option_map_or (λ i. i == j) first false
 
--- it is not the first of that queue, where one is
+-- it is not the first of that queue, or the queue is empty
 abbrev pub behind_first : Option ℕ → ℕ → From3 → Why
 behind_first first j queue = option_map_or (λ i. Order (order.NotFirst j queue)) first (Order (order.NobodyIn queue))
 
--- of a seat that was chosen as a waiter and isn't in the waiter queue, the condition on which it waits
+-- if a seat was chosen as a waiter and isn't in the waiter queue, the condition on which it waits
 abbrev pub still_waits : List (List ℕ) → List ℕ → Option Next → Option ℕ
 still_waits conditions waiters None = None
 still_waits conditions waiters (Some next.Stay) = None
@@ -169,11 +169,11 @@ may_not_wake kind f waits s j =
     (Stay (stay.GivesUp s))
     else option_map_or (λ c. Away (away.Unsignalled j c)) waits (behind_first f.waiter j from.Waiter)
 
--- that signaller may not be chosen: it is not the first, or a waiter goes before it, or it is the caller
+-- why the first signaller may not be chosen if no waiter goes before it: it may be the caller
 abbrev pub caller_or_none : ℕ → ℕ → Why
 caller_or_none s j = if j == s then Stay (stay.OwnSignal s) else Stay (stay.GivesUp s)
 
--- why that seat may not go on from the signaller queue
+-- why that seat may not go on from the signaller queue: it isn't first, a waiter goes before it, or it is the caller
 abbrev pub may_not_recall : KindName → Rules → Firsts → ℕ → ℕ → Why
 may_not_recall kind k f s j =
     if is_first j f.signaller
@@ -182,7 +182,7 @@ may_not_recall kind k f s j =
     (caller_or_none s j)
     else behind_first f.signaller j from.Signaller
 
--- that seat may not be chosen of those whose predicate holds: it is not the first of them, where there is one
+-- that seat may not be chosen as one whose predicate holds: it is not the first of them, or there is none
 abbrev pub may_not_continue : KindName → Rules → Option ℕ → ℕ → Why
 may_not_continue kind k first j =
     if has_conditions k.mode then NoUntils kind
@@ -222,7 +222,7 @@ early_cause kind seats conds t reason e =
 
 -- ---- all
 
--- why e is not allowed in this situation, where that is the first reason against it
+-- why e is not allowed in this situation, if that is the first reason against it
 abbrev pub cause : KindName → Rules → ℕ → ℕ → Object → Situation → ℕ → Event → Why
 cause kind k seats conds o t reason e =
     if reason == 6 then choice_cause kind k conds o t e

@@ -22,7 +22,7 @@ candidates q =
     next.Stay ∷ next.Entry ∷ (map (λ j. next.Waiter j) (take 1 q.waiters)
     ++ (map (λ j. next.Signaller j) (take 1 q.signallers) ++ map (λ j. next.Until j) (take 1 q.ready)))
 
--- of those each that is permitted, by these queues and whether the event must stay. By the law `permitted_are_listed`
--- no other is
+-- the candidates that are permitted, by these queues and whether the event must stay; the law
+-- `permitted_are_listed` says that nothing else is
 abbrev pub permitted_nexts : Rules → Queues → Bool → Event → List Next
 permitted_nexts k q stays e = filter (λ x. permits k q stays (with_next x e)) (candidates q)

@@ -1,4 +1,4 @@
--- Where a seat is, as a monitor stands
+-- Where a seat is, in a state of the monitor
 use Rattle.std.specs.Prelude.{ℕ, ◌==◌, Bool, false, Option, Some, None, List, [], ◌++◌, if◌then◌else◌, codes}
 use Rattle.std.specs.Prelude.{option_and_then, option_map}
 use Rattle.std.specs.Fmt.{decimal}
@@ -14,13 +14,13 @@ use Rattle.monk_tell.specs.Told.{ShownQueues, ShownStanding}
 use Rattle.monk_tell.specs.declared.place.SeatPlace.{SeatPlace}
 use Rattle.monk_tell.specs.declared.place.SeatPlace.TheVariants.{Outside, Active, Condition, Waiter, Signaller, Until}
 
--- the queue from which it was chosen, until it resumes
+-- the place of a chosen seat until it resumes, by the queue from which it was chosen
 abbrev pub chosen_from : From3 → SeatPlace
 chosen_from from.Waiter = Waiter
 chosen_from from.Signaller = Signaller
 chosen_from from.Until = Until None
 
--- by whose turn it is; `waits` is where the queues have the seat
+-- the place by whose turn it is; `waits` is the seat's place in the queues
 abbrev pub by_turn : Turn → ℕ → SeatPlace → SeatPlace
 by_turn Open s waits = waits
 by_turn (Due j q) s waits = if j == s then chosen_from q else waits
@@ -38,7 +38,7 @@ until_of untils s = option_and_then (λ ws. option_map (λ w. w.1) (find (λ w. 
 abbrev pub is_in : Option (List ℕ) → ℕ → Bool
 is_in queue s = option_map_or (has s) queue false
 
--- where the queues have the seat
+-- the seat's place in the queues
 abbrev pub in_queues : ShownQueues → ℕ → SeatPlace
 in_queues q s =
     option_map_or (λ c. Condition c) (condition_of q.conditions s)

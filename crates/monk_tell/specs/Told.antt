@@ -1,4 +1,4 @@
--- What is told of a history, as data
+-- The answer for a history, as data
 use Rattle.std.specs.Prelude.{ℕ, ◌-◌, ◌==◌, Bool, Option, Some, None, List, length, map, take}
 use Rattle.std.specs.Prelude.{filter, if◌then◌else◌, option_map, get_or}
 use Rattle.std.specs.List.{range_with_len}
@@ -47,7 +47,7 @@ pub record ShownQueues : Type 0 where
   pub untils : Option (List (ℕ × ℕ))
   pub ready : Option (List ℕ)
 
--- of some steps the first that are told, and how many more there are
+-- the first of some steps, which are listed, and how many more there are
 pub record ShownSteps : Type 0 where
   pub first : List ℕ
   pub more : ℕ
@@ -72,7 +72,7 @@ pub record Blamed : Type 0 where
   pub choice : Option Chosen
   pub why : Why
 
--- what is told of a history
+-- the answer for a history
 pub record Account : Type 0 where
   pub kind : KindName
   pub object : ObjectName
@@ -101,7 +101,7 @@ queues_of q = record {
 abbrev pub refused_of : Refused → ShownSteps
 refused_of r = record { first = r.first.0.items; more = r.more }
 
--- how the monitor stands, as data
+-- the state of the monitor, as data
 abbrev pub standing_of : Standing → ShownStanding
 standing_of s = record {
   turn = s.turn;
@@ -119,7 +119,7 @@ abbrev pub blame_of : ForbiddenEvent → Blamed
 blame_of b =
     record { step = b.step; event = b.event; reply = b.reply; choice = option_map choice_of b.choice; why = b.why }
 
--- what is told, as data
+-- the answer, as data
 abbrev pub telling_of : Telling → Account
 telling_of t = record {
   kind = t.kind;
@@ -134,9 +134,9 @@ telling_of t = record {
 abbrev pub lines_of : Lines → Lined
 lines_of l = record { waiters = l.waiters.items; signallers = l.signallers.items; ready = l.ready.items }
 
--- ---- what is so of a history
+-- ---- what holds for a history
 
--- the seats below that number that are inside, rising
+-- the seats below that number that are inside, in rising order
 abbrev pub inside_below : (ℕ → Bool) → ℕ → List ℕ
 inside_below inside seats = filter inside (range_with_len 0 seats)
 
@@ -168,15 +168,15 @@ queues_shown QuasiBlocking conds o t = with_conditions conds t (Some t.signaller
 queues_shown ImmediateReturn conds o t = with_conditions conds t None
 queues_shown Automatic conds o t = with_untils o t
 
--- at most so many steps are told by their numbers
+-- the most steps that are listed
 abbrev pub most_told : ℕ
 most_told = 10
 
--- the steps that are told, and how many more there are
+-- the steps that are listed, and how many more there are
 abbrev pub told_steps : List ℕ → ShownSteps
 told_steps steps = record { first = take most_told steps; more = length steps - most_told }
 
--- how a monitor of that mode stands, with so many seats and conditions
+-- the state of a monitor of that mode, with these numbers of seats and conditions
 abbrev pub shown_standing : Mode → ℕ → ℕ → Object → Situation → ShownStanding
 shown_standing mode seats conds o t = record {
   turn = t.turn;
@@ -203,11 +203,11 @@ blame_of_event kind k seats conds o t step reason e = record {
   why = cause kind k seats conds o t reason e;
 }
 
--- how the monitor stands in that situation
+-- the state of the monitor in that situation
 abbrev pub standing_in : Monitor → Situation → ShownStanding
 standing_in m t = shown_standing m.kind.mode m.seats m.conds m.object t
 
--- the event of that step, counted from 1, and those before it
+-- the event of that step, counted from 1
 abbrev pub event_at : List Event → ℕ → Event
 event_at es step = get_or es (step - 1) (Enter 0 Free)
 
@@ -215,7 +215,7 @@ event_at es step = get_or es (step - 1) (Enter 0 Free)
 abbrev pub events_before : List Event → ℕ → List Event
 events_before es step = take (step - 1) es
 
--- how many events stand before the first that is not allowed, or all
+-- the number of events before the first that is not allowed, or of all
 abbrev pub allowed_events : Verdict → ℕ
 allowed_events (Legal n) = n
 allowed_events (Forbidden step reason) = step - 1
@@ -232,8 +232,8 @@ blame_by kind m es (Forbidden step reason) =
     Some (blame_of_event kind m.kind m.seats m.conds m.object (situation m (events_before es step)) step reason
     (event_at es step))
 
--- what is told of a history of a monitor of that kind over the object of that name, with that verdict: how it stands,
--- and what the object refused, before the first event that is not allowed
+-- the answer for a history of a monitor of that kind and object, with that verdict: the state, and
+-- what the object refused, before the first event that is not allowed
 abbrev pub account_by : KindName → ObjectName → Monitor → List Event → Verdict → Account
 account_by kind name m es v = let past = take (allowed_events v) es in record {
   kind = kind;
@@ -244,6 +244,6 @@ account_by kind name m es v = let past = take (allowed_events v) es in record {
   blame = blame_by kind m es v;
 }
 
--- what is told of a history
+-- the answer for a history
 abbrev pub account : Heading → List Event → Account
 account h es = account_by h.kind h.object (named_monitor h) es (verdict_of (named_monitor h) es)

@@ -1,4 +1,4 @@
--- What is told of a history, in words
+-- The answer for a history, in words
 use Rattle.std.specs.Prelude.{ℕ, List, ◌++◌, codes}
 use Rattle.std.specs.List.{flat_map, join_with_byte}
 use Rattle.std.specs.Fmt.{decimal}

@@ -7,13 +7,13 @@ use std::fmt;
 #[derive(Debug, Drop)]
 pub struct Choice {
     /// The first seats of the waiter queue, the signaller queue and the ready seats, in this order,
-    /// of each that isn't empty after the event's own moves.
+    /// after the event's own moves. An empty one has none.
     pub fronts: FrontList,
     /// Each next that is permitted, in the order stay, entry, waiter, signaller, until.
     pub may: Nexts,
 }
 
-/// In two lines.
+/// Prints two lines.
 impl fmt::Display for Choice {
     fn fmt<W: fmt::Write>(&self, f: &mut fmt::Formatter<W>) -> fmt::Result {
         let (fronts, may) = (&self.fronts, &self.may);

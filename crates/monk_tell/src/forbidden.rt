@@ -12,15 +12,15 @@ pub struct ForbiddenEvent {
     pub step: u32,
     /// The event.
     pub event: Event,
-    /// The reply that the object would have given, where the event's is another.
+    /// The reply that the object would have given, if the event's reply is wrong.
     pub reply: Option<u64>,
-    /// What it chose from and what it might have chosen, where its choice is not permitted.
+    /// What it chose from and what it might have chosen, if its choice is not permitted.
     pub choice: Option<Choice>,
-    /// In a sentence.
+    /// Why it is not allowed, in a sentence.
     pub why: Why,
 }
 
-/// In lines: what its reason adds, and why.
+/// Prints what its reason adds, and why, each in lines of its own.
 impl fmt::Display for ForbiddenEvent {
     fn fmt<W: fmt::Write>(&self, f: &mut fmt::Formatter<W>) -> fmt::Result {
         if let Some(reply) = self.reply {

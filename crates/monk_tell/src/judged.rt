@@ -1,4 +1,4 @@
-//! A history, and what an audit finds of it.
+//! A history, and what an audit finds in it.
 
 ghost use Rattle.std.specs.Prelude.{◌≡◌};
 ghost use Rattle.monk_history.specs.Meaning.Named.{named_monitor};
@@ -8,7 +8,7 @@ ghost use Rattle.monk_tell.specs.Told.{allowed_events, forbidden_step};
 use monk_audit::Verdict;
 use monk_history::{Event, Header};
 
-/// A history, and what [`monk_audit::audit`] finds of it.
+/// A history, and what [`monk_audit::audit`] finds in it.
 #[derive(Clone, Copy)]
 pub struct JudgedHistory<'a> {
     /// Its header.
@@ -20,7 +20,7 @@ pub struct JudgedHistory<'a> {
     pub ghost judged: { verdict ≡ verdict_of (named_monitor header.now) events.now },
 }
 
-/// How many events stand before the first that is not allowed, or all.
+/// Returns the number of events before the first that is not allowed, or of all.
 pub(crate) fn allowed_events(verdict: Verdict) -> usize
     ensures { result ≡ allowed_events verdict }
 {
@@ -30,7 +30,7 @@ pub(crate) fn allowed_events(verdict: Verdict) -> usize
     }
 }
 
-/// The step that the verdict forbids, if it forbids one.
+/// Returns the step that the verdict forbids, if it forbids one.
 pub fn forbidden_step(verdict: Verdict) -> Option<u32>
     ensures { result ≡ forbidden_step verdict }
 {

@@ -21,7 +21,7 @@ use monk_kinds::Rules;
 use monk_object::Guarded;
 use std::alloc::{AllocError, Global};
 
-/// The reply that the object would have given, if the event is an act.
+/// Returns the reply that the object would have given, if the event is an act.
 fn own_reply<T: Guarded>(object: &mut T, event: Event) -> Option<u64>
     requires { fits_object T.CODES T.PREDICATES event ≡ true }
     ensures { result ≡ own_reply T.meaning (T.state object.old) event }
@@ -32,7 +32,7 @@ fn own_reply<T: Guarded>(object: &mut T, event: Event) -> Option<u64>
     }
 }
 
-/// What the event chose from and might have chosen, and why not what it chose.
+/// Returns what the event chose from and might have chosen, and why it may not choose what it chose.
 fn choice<T: Guarded>(
     alloc: Global,
     header: &Header,
@@ -70,7 +70,7 @@ pub(crate) struct FirstFault {
     pub(crate) event: Event,
 }
 
-/// What is wrong with it.
+/// Returns what is wrong with it.
 pub(crate) fn blame<T: Guarded>(
     alloc: Global,
     header: &Header,

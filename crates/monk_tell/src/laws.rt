@@ -1,4 +1,4 @@
-//! What holds of all that is told.
+//! What holds for all answers.
 
 ghost use Rattle.std.specs.Prelude.{IsTrue, is_some};
 ghost use Rattle.std.specs.List.{Contains};
@@ -12,8 +12,8 @@ ghost use Rattle.monk_history.specs.Meaning.Release.{with_next};
 ghost use Rattle.monk_history.specs.Meaning.Situation.{Situation};
 ghost use Rattle.monk_tell.specs.Told.{chosen_at};
 
-/// Exactly the choices that a release might have made instead are listed: apart from stay and entry, only the front of
-/// a queue is ever permitted.
+/// The list has exactly the choices that a release might have made. Apart from stay and entry, only
+/// the front of a queue is ever permitted.
 pub fn permitted_are_listed()
     ensures all { (k : Rules) (o : Object) (t : Situation) (e : Event) (x : Next) → IsTrue (is_some (next_of e))
         → IsTrue (is_permitted k o t (with_next x e)) → Contains (chosen_at k o t e).may x }

@@ -1,4 +1,4 @@
-//! Tells how a monitor stands after a history, and of a forbidden one what was wrong and what would have been allowed.
+//! Says how a monitor stands after a history, and what was wrong with a forbidden one and what would have been allowed.
 #![tactic(auto)]
 
 mod choice;

@@ -22,7 +22,7 @@ pub(crate) struct Firsts {
     pub(crate) waiter: Option<u8>,
     /// The first signaller.
     pub(crate) signaller: Option<u8>,
-    /// The first of those whose predicate holds.
+    /// The first seat whose predicate holds.
     pub(crate) ready: Option<u8>,
 }
 
@@ -35,7 +35,7 @@ pub(crate) struct Lines {
 }
 
 impl Lines {
-    /// The first of each.
+    /// Returns the first seat of each.
     pub(crate) fn firsts(&self) -> Firsts
         ensures { result ≡ firsts_of (lines_of self.now) }
     {
@@ -47,7 +47,7 @@ impl Lines {
     }
 }
 
-/// The seats whose predicate holds, in order of the waits.
+/// Returns the seats whose predicate holds, in order of the waits.
 pub(crate) fn ready_seats<T: Guarded>(
     alloc: Global,
     object: &T,
@@ -65,7 +65,7 @@ pub(crate) fn ready_seats<T: Guarded>(
     Ok(ready)
 }
 
-/// The waiter queue, the signaller queue, and the seats that wait until a predicate holds, each with its predicate.
+/// Returns the waiter queue, the signaller queue, and the seats that wait until a predicate holds, each with it.
 pub(crate) fn inner_queues(
     alloc: Global,
     replay: &Replay,
@@ -78,7 +78,7 @@ pub(crate) fn inner_queues(
     Ok((waiters, signallers, replay.untils(alloc)?))
 }
 
-/// The seats that wait on the condition.
+/// Returns the seats that wait on the condition.
 pub(crate) fn queue_at(alloc: Global, replay: &Replay, cond: u8) -> Result<Vec<u8>, AllocError>
     ensures { IfOk result (λ v. v.items ≡ (replay_situation replay.now []).condition cond) }
 {
@@ -93,7 +93,7 @@ fn is_empty_at(replay: &Replay, cond: u8) -> bool
     replay.first_at(cond).is_none()
 }
 
-/// Whom the event serves.
+/// Returns the seats that the event serves.
 fn served(alloc: Global, replay: &Replay, event: Event) -> Result<Vec<u8>, AllocError>
     ensures { IfOk result (λ v. v.items ≡ serves (replay_situation replay.now []).condition event) }
 {
@@ -110,7 +110,7 @@ fn served(alloc: Global, replay: &Replay, event: Event) -> Result<Vec<u8>, Alloc
     }
 }
 
-/// The seat that steps back by the event, unless nobody waits on its condition.
+/// Returns the seat that steps back by the event, unless nobody waits on its condition.
 fn stepping_back(alloc: Global, replay: &Replay, event: Event) -> Result<Vec<u8>, AllocError>
     ensures { IfOk result (λ v. v.items ≡ signals (replay_situation replay.now []).condition event) }
 {
@@ -132,7 +132,7 @@ pub(crate) fn must_stay<T: Guarded>(replay: &Replay, object: &T, event: Event) -
     }
 }
 
-/// The queues that the event chooses from.
+/// Returns the queues that the event chooses from.
 pub(crate) fn line_up<T: Guarded>(
     alloc: Global,
     replay: &Replay,

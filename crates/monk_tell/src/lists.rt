@@ -35,7 +35,7 @@ impl fmt::Display for NumberList {
     }
 }
 
-/// Seats that wait until a predicate holds, each with its predicate. Printed ` 0 1, 2 0`.
+/// Seats that wait until a predicate holds, each with its predicate. Printed as ` 0 1, 2 0`.
 #[derive(Debug, Drop)]
 pub struct Waits(pub Vec<(u8, u8)>);
 
@@ -49,7 +49,7 @@ impl fmt::Display for Waits {
     }
 }
 
-/// Queues that aren't empty, each with its first seat. Printed ` waiter 0, signaller 1`.
+/// Queues that aren't empty, each with its first seat. Printed as ` waiter 0, signaller 1`.
 #[derive(Debug, Drop)]
 pub struct FrontList(pub Vec<(From3, u8)>);
 
@@ -63,7 +63,7 @@ impl fmt::Display for FrontList {
     }
 }
 
-/// What a release may choose. Printed `stay, waiter 2`.
+/// What a release may choose. Printed as `stay, waiter 2`.
 #[derive(Debug, Drop)]
 pub struct Nexts(pub Vec<Next>);
 

@@ -17,7 +17,7 @@ use monk_history::{Event, From3, Next};
 use monk_kinds::Rules;
 use std::alloc::{AllocError, Global};
 
-/// The first seats of the queues that aren't empty.
+/// Returns the first seats of the queues that aren't empty.
 fn fronts(alloc: Global, lines: &Lines) -> Result<Vec<(From3, u8)>, AllocError>
     ensures { IfOk result (λ v. v.items ≡ fronts (lines_of lines.now)) }
 {
@@ -34,7 +34,7 @@ fn fronts(alloc: Global, lines: &Lines) -> Result<Vec<(From3, u8)>, AllocError>
     Ok(fronts)
 }
 
-/// What could be chosen at most.
+/// Returns all that could be chosen at most.
 fn candidates(alloc: Global, lines: &Lines) -> Result<Vec<Next>, AllocError>
     ensures { IfOk result (λ v. v.items ≡ candidates (lines_of lines.now)) }
 {
@@ -51,7 +51,7 @@ fn candidates(alloc: Global, lines: &Lines) -> Result<Vec<Next>, AllocError>
     Ok(nexts)
 }
 
-/// Whether the event might have chosen this, where these are the queues that it chooses from.
+/// Whether the event might have chosen `next` from these queues.
 fn is_permitted(rules: Rules, lines: &Lines, stays: bool, event: Event, next: Next) -> bool
     ensures { result ≡ permits rules (lines_of lines.now) stays (with_next next event) }
 {
@@ -66,7 +66,7 @@ fn is_permitted(rules: Rules, lines: &Lines, stays: bool, event: Event, next: Ne
     )
 }
 
-/// Those of the nexts that the event might have chosen.
+/// Returns those of the nexts that the event might have chosen.
 fn permitted_of(
     alloc: Global,
     nexts: &[Next],
@@ -85,7 +85,7 @@ fn permitted_of(
         .collect(alloc)
 }
 
-/// What the event chooses from and what it might choose, by its queues and by whether it must stay.
+/// Returns what the event chooses from and what it might choose. `stays` says whether it must stay.
 pub(crate) fn choice_from(
     alloc: Global,
     rules: Rules,

@@ -13,26 +13,26 @@ use crate::standing::Standing;
 use monk_history::{From3, Turn};
 use std::fmt;
 
-/// Where a seat is. Printed as the queue in which it waits, with a space before it: ` condition 1`; nothing is printed
-/// of a seat that waits in none.
+/// Where a seat is. Printed as the queue in which it waits, with a space before it: ` condition 1`.
+/// If it waits in none, nothing is printed.
 #[derive(Clone, Copy, Debug, PartialEq, Eq)]
 pub enum SeatPlace {
     /// Outside the monitor, or in none of its queues.
     Outside,
     /// Inside, and active.
     Active,
-    /// Inside, waiting on that condition.
+    /// Inside, waiting on the condition.
     Condition(usize),
     /// Inside, in the waiter queue, or chosen from it.
     Waiter,
     /// Inside, in the signaller queue, or chosen from it.
     Signaller,
-    /// Inside, waiting until that predicate holds; `None` if the seat is chosen, because it does.
+    /// Inside, waiting until the predicate holds; `None` if the seat was chosen, because it holds.
     Until(Option<u8>),
 }
 
 impl SeatPlace {
-    /// Where the seat is, as the monitor stands.
+    /// Returns where the seat is in that state of the monitor.
     pub fn in_standing(standing: &Standing, seat: u8) -> SeatPlace
         ensures { result ≡ place_in (standing_of standing.now) seat }
     {
@@ -45,7 +45,7 @@ impl SeatPlace {
         }
     }
 
-    /// Where the queues have the seat.
+    /// Returns where the seat is in the queues.
     pub fn in_queues(queues: &QueueLists, seat: u8) -> SeatPlace
         ensures { result ≡ in_queues (queues_of queues.now) seat }
     {
@@ -64,7 +64,7 @@ impl SeatPlace {
     }
 }
 
-/// The condition on which the seat waits.
+/// Returns the condition on which the seat waits.
 fn condition_of(conditions: &Option<Conditions>, seat: u8) -> Option<usize>
     ensures { result ≡ condition_of (option_map condition_lists conditions.now) seat }
 {
@@ -74,7 +74,7 @@ fn condition_of(conditions: &Option<Conditions>, seat: u8) -> Option<usize>
     }
 }
 
-/// Whether the seat is in that queue, if the kind has it.
+/// Whether the seat is in the queue, if the kind has that queue.
 fn is_in(queue: &Option<SeatList>, seat: u8) -> bool
     ensures { result ≡ is_in (option_map (λ (s : SeatList). s.0.items) queue.now) seat }
 {
@@ -84,7 +84,7 @@ fn is_in(queue: &Option<SeatList>, seat: u8) -> bool
     }
 }
 
-/// The predicate until which the seat waits.
+/// Returns the predicate until which the seat waits.
 fn until_of(untils: &Option<Waits>, seat: u8) -> Option<u8>
     ensures { result ≡ until_of (option_map (λ (w : Waits). w.0.items) untils.now) seat }
 {

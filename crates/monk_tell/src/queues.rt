@@ -1,4 +1,4 @@
-//! The queues inside a monitor, by what its kind has.
+//! The queues that the kind of a monitor has inside.
 
 ghost use Rattle.std.specs.Prelude.{◌≡◌, ◌<◌, [], All, IfOk};
 ghost use Rattle.std.specs.List.{position};
@@ -15,7 +15,7 @@ use monk_object::Guarded;
 use std::alloc::{AllocError, Global};
 use std::fmt;
 
-/// Whether the seat stands in the queue.
+/// Whether the seat is in the queue.
 pub(crate) fn has(queue: &[u8], seat: u8) -> bool
     ensures { result ≡ has seat queue.now }
 {
@@ -27,7 +27,7 @@ pub(crate) fn has(queue: &[u8], seat: u8) -> bool
 pub struct Conditions(pub Vec<SeatList>);
 
 impl Conditions {
-    /// Those of a monitor with so many conditions.
+    /// Returns the queues of a monitor with `conds` conditions.
     #[tactic(auto, using(crate::proofs::LineLaws::conditions_more))]
     pub(crate) fn of(alloc: Global, replay: &Replay, conds: u8) -> Result<Conditions, AllocError>
         ensures { IfOk result (λ c. condition_lists c ≡ conditions_below (replay_situation replay.now []).condition
@@ -40,7 +40,7 @@ impl Conditions {
         Ok(Conditions(queues))
     }
 
-    /// The condition on which the seat waits.
+    /// Returns the condition on which the seat waits.
     pub(crate) fn of_seat(&self, seat: u8) -> Option<usize>
         ensures { result ≡ waits_at (condition_lists self.now) seat }
     {
@@ -48,14 +48,14 @@ impl Conditions {
     }
 }
 
-/// The first of the queues that has the seat, by its number.
+/// Returns the number of the first queue that has the seat.
 fn first_with(queues: &[SeatList], seat: u8) -> Option<usize>
     ensures { result ≡ position (λ (q : SeatList). has seat q.0.items) queues.now }
 {
     queues.iter().position(|queue| has(&queue.0, seat))
 }
 
-/// A line for each condition: `condition 1: 0 2`.
+/// Prints a line for each condition: `condition 1: 0 2`.
 impl fmt::Display for Conditions {
     fn fmt<W: fmt::Write>(&self, f: &mut fmt::Formatter<W>) -> fmt::Result {
         for (cond, seats) in self.0.iter().enumerate() {
@@ -65,23 +65,23 @@ impl fmt::Display for Conditions {
     }
 }
 
-/// The queues inside a monitor, front first: those that its kind has.
+/// The queues inside a monitor that its kind has, front first.
 #[derive(Debug, Drop)]
 pub struct QueueLists {
-    /// Who waits on each condition, unless the kind is automatic.
+    /// The seats that wait on each condition, unless the kind is automatic.
     pub conditions: Option<Conditions>,
     /// The waiter queue, unless the kind is automatic.
     pub waiters: Option<SeatList>,
-    /// The signaller queue of an explicit kind.
+    /// The signaller queue, if the kind has one.
     pub signallers: Option<SeatList>,
-    /// Of an automatic kind: who waits until a predicate holds.
+    /// The seats that wait until a predicate holds, if the kind is automatic.
     pub untils: Option<Waits>,
-    /// Of an automatic kind: the seats of those whose predicate holds.
+    /// The seats among them whose predicate holds.
     pub ready: Option<SeatList>,
 }
 
 impl QueueLists {
-    /// Those of a monitor of that mode with so many conditions, from its replay. Takes memory and time as long as they.
+    /// Returns the queues of a monitor of that mode with `conds` conditions. Time and memory by their length.
     ///
     /// # Errors
     ///
@@ -123,7 +123,7 @@ impl QueueLists {
     }
 }
 
-/// A line for each queue.
+/// Prints a line for each queue.
 impl fmt::Display for QueueLists {
     fn fmt<W: fmt::Write>(&self, f: &mut fmt::Formatter<W>) -> fmt::Result {
         if let Some(conditions) = &self.conditions {

@@ -9,20 +9,20 @@ use monk_history::Event;
 use std::alloc::{AllocError, Global};
 use std::fmt;
 
-/// The most steps that are told by their numbers.
+/// The greatest number of steps that are listed.
 const MOST_TOLD: usize = 10;
 
 /// The steps of the acts that the object refused: the first of them, at most ten, and how many more there are.
 #[derive(Debug, Drop)]
 pub struct Refused {
-    /// The steps, counted from 1, rising.
+    /// The steps, counted from 1, in rising order.
     pub first: NumberList,
     /// How many more there are.
     pub more: usize,
 }
 
 impl Refused {
-    /// One more step.
+    /// Adds a step.
     #[tactic(auto, using(crate::proofs::RefusedLaws::told_within, crate::proofs::RefusedLaws::told_past))]
     fn note(&mut self, step: u64) -> Result<(), AllocError>
         requires { self.old.more < 2 ^ 64 - 1 }
@@ -39,7 +39,7 @@ impl Refused {
     }
 }
 
-/// The acts that the object refused.
+/// Returns the acts that the object refused.
 pub(crate) fn refused_acts(alloc: Global, events: &[Event]) -> Result<Refused, AllocError>
     ensures { IfOk result (λ r. refused_of r ≡ told_steps (refused_steps events.now)) }
 {
@@ -55,7 +55,7 @@ pub(crate) fn refused_acts(alloc: Global, events: &[Event]) -> Result<Refused, A
     Ok(refused)
 }
 
-/// A line, where there is one: `refused: 3 11`.
+/// Prints a line if there is such an act: `refused: 3 11`.
 impl fmt::Display for Refused {
     fn fmt<W: fmt::Write>(&self, f: &mut fmt::Formatter<W>) -> fmt::Result {
         if self.first.0.is_empty() {

@@ -6,7 +6,7 @@ ghost use Rattle.monk_tell.specs.Words.{mode_word, ranks_text};
 use monk_kinds::{Mode, Rules};
 use std::fmt;
 
-/// The priorities of the entry and waiter queues, and of the signaller queue where the kind has one: `1 1 2`.
+/// The priorities of the entry and waiter queues, and of the signaller queue if the kind has one: `1 1 2`.
 #[derive(Drop)]
 pub struct Ranks(pub Rules);
 
@@ -27,7 +27,7 @@ impl fmt::Display for Ranks {
     }
 }
 
-/// What becomes of a seat that signals: `blocking`, and so on.
+/// Returns the word for what happens to a seat that signals: `blocking`, and so on.
 pub fn mode_word(mode: Mode) -> &'static str
     ensures { result.now ≡ mode_word mode }
 {

@@ -1,4 +1,4 @@
-//! Events and turns as they are said.
+//! Events and turns as the answers print them.
 
 ghost use Rattle.std.specs.Prelude.{◌≡◌, [], Some, get_or};
 ghost use Rattle.monk_history.specs.Text.{event_words, from_word, via_word};
@@ -7,7 +7,7 @@ ghost use Rattle.monk_tell.specs.Words.{event_text, turn_text};
 use monk_history::{Event, From3, Turn, Via};
 use std::fmt;
 
-/// The queue's name, as a text has it: `waiter`, `signaller` or `until`.
+/// Returns the queue's name, as in a text: `waiter`, `signaller` or `until`.
 pub fn queue_word(queue: From3) -> &'static str
     ensures { result.now ≡ from_word queue }
 {
@@ -18,7 +18,7 @@ pub fn queue_word(queue: From3) -> &'static str
     }
 }
 
-/// How a seat came in, as a text has it: `free` or `handed`.
+/// Returns how a seat came in, as in a text: `free` or `handed`.
 pub fn via_word(via: Via) -> &'static str
     ensures { result.now ≡ via_word via }
 {
@@ -28,7 +28,7 @@ pub fn via_word(via: Via) -> &'static str
     }
 }
 
-/// The first word of an event's line.
+/// Returns the first word of an event's line.
 fn call_word(event: Event) -> &'static str
     ensures { result.now ≡ get_or (event_words event) 0 [] }
 {

@@ -1,4 +1,4 @@
-//! Which sentence tells why an event is not allowed.
+//! Which sentence says why an event is not allowed.
 
 ghost use Rattle.std.specs.Prelude.{◌≡◌, [], IfOk};
 ghost use Rattle.monk_history.specs.Meaning.Events.{next_of, seat_of, via_of};
@@ -18,7 +18,7 @@ use monk_history::{Event, From3, Header, Next, Turn, Via};
 use monk_kinds::{KindName, Mode, Rules};
 use std::alloc::{AllocError, Global};
 
-/// What the call is about, where that is out of range.
+/// Returns which of the call's own numbers is out of range: its code, predicate or condition.
 fn call_beyond(seats: u8, conds: u8, event: Event) -> Why
     ensures { result ≡ call_beyond seats conds event }
 {
@@ -38,7 +38,7 @@ fn call_beyond(seats: u8, conds: u8, event: Event) -> Why
     }
 }
 
-/// Of the numbers of an event the first that is out of range.
+/// Returns the first number of an event that is out of range.
 fn number_beyond(seats: u8, conds: u8, event: Event) -> Why
     ensures { result ≡ number_beyond seats conds event }
 {
@@ -51,7 +51,7 @@ fn number_beyond(seats: u8, conds: u8, event: Event) -> Why
     }
 }
 
-/// Whose turn it is.
+/// Returns why it is not the seat's turn, by whose turn it is.
 fn other_turn(turn: Turn, seat: u8) -> OutOfTurn
     ensures { result ≡ other_turn turn seat }
 {
@@ -64,7 +64,7 @@ fn other_turn(turn: Turn, seat: u8) -> OutOfTurn
     }
 }
 
-/// Why it is not the turn of the seat, which waits on that condition, if it waits on one.
+/// Returns why it is not the turn of the seat. `waits` is the condition on which it waits, if it waits on one.
 fn out_of_turn(waits: Option<usize>, turn: Turn, seat: u8) -> OutOfTurn
     ensures { result ≡ out_of_turn waits turn seat }
 {
@@ -74,7 +74,7 @@ fn out_of_turn(waits: Option<usize>, turn: Turn, seat: u8) -> OutOfTurn
     }
 }
 
-/// Why the seat may not enter.
+/// Returns why the seat may not enter.
 fn no_entry(inside: bool, event: Event) -> OutOfTurn
     ensures { result ≡ no_entry inside (via_of event) (seat_of event) }
 {
@@ -86,7 +86,7 @@ fn no_entry(inside: bool, event: Event) -> OutOfTurn
     }
 }
 
-/// Why an event fails one of the first four tests.
+/// Returns why an event fails one of the first four tests.
 pub(crate) fn early(
     alloc: Global,
     header: &Header,
@@ -111,7 +111,7 @@ pub(crate) fn early(
     }
 }
 
-/// Why an act has another reply.
+/// Returns why the reply of an act is wrong.
 pub(crate) fn wrong_reply(reply: Option<u64>, event: Event) -> Why
     ensures { result ≡ other_reply reply event }
 {
@@ -121,7 +121,7 @@ pub(crate) fn wrong_reply(reply: Option<u64>, event: Event) -> Why
     }
 }
 
-/// Why an event that has to stay may choose nothing else.
+/// Returns why an event that has to stay may choose nothing else.
 fn has_to_stay(event: Event) -> Staying
     ensures { result ≡ has_to_stay event }
 {
@@ -133,7 +133,7 @@ fn has_to_stay(event: Event) -> Staying
     }
 }
 
-/// Why the seat may not stay.
+/// Returns why the seat may not stay.
 fn may_not_stay(kind: KindName, rules: Rules, firsts: Firsts, event: Event) -> Staying
     ensures { result ≡ may_not_stay kind rules firsts event }
 {
@@ -145,7 +145,7 @@ fn may_not_stay(kind: KindName, rules: Rules, firsts: Firsts, event: Event) -> S
     }
 }
 
-/// Why entry may not be chosen: who is above it, and of these the one that comes first.
+/// Returns why entry may not be chosen: the first of those above it.
 fn may_not_admit(kind: KindName, rules: Rules, firsts: Firsts, seat: u8) -> Why
     ensures { result ≡ may_not_admit kind rules seat firsts.waiter firsts.signaller firsts.ready }
 {
@@ -166,7 +166,7 @@ fn may_not_admit(kind: KindName, rules: Rules, firsts: Firsts, seat: u8) -> Why
     }
 }
 
-/// Whether that seat is the first.
+/// Whether the seat is the first.
 fn is_first(seat: u8, first: Option<u8>) -> bool
     ensures { result ≡ is_first seat first }
 {
@@ -176,7 +176,7 @@ fn is_first(seat: u8, first: Option<u8>) -> bool
     }
 }
 
-/// Why a seat may not be chosen that is not the first of that queue.
+/// Returns why a seat may not be chosen that is not the first of its queue.
 fn behind_first(first: Option<u8>, chosen: u8, queue: From3) -> Why
     ensures { result ≡ behind_first first chosen queue }
 {
@@ -186,7 +186,7 @@ fn behind_first(first: Option<u8>, chosen: u8, queue: From3) -> Why
     }
 }
 
-/// The condition on which the seat still waits that the event chose as a waiter.
+/// If the event chose a waiter that still waits on a condition, returns the condition.
 pub(crate) fn still_waits(conditions: &Conditions, waiters: &[u8], event: Event) -> Option<usize>
     ensures { result ≡ still_waits (condition_lists conditions.now) waiters.now (next_of event) }
 {
@@ -196,7 +196,7 @@ pub(crate) fn still_waits(conditions: &Conditions, waiters: &[u8], event: Event)
     }
 }
 
-/// Why that waiter may not be chosen, which waits on that condition, if nobody has signalled it.
+/// Returns why the waiter may not be chosen. If nobody has signalled it, `waits` is its condition.
 fn may_not_wake(kind: KindName, firsts: Firsts, waits: Option<usize>, seat: u8, chosen: u8) -> Why
     ensures { result ≡ may_not_wake kind firsts waits seat chosen }
 {
@@ -213,7 +213,7 @@ fn may_not_wake(kind: KindName, firsts: Firsts, waits: Option<usize>, seat: u8, 
     }
 }
 
-/// Why that signaller may not be chosen.
+/// Returns why the signaller may not be chosen.
 fn may_not_recall(kind: KindName, rules: Rules, firsts: Firsts, seat: u8, chosen: u8) -> Why
     ensures { result ≡ may_not_recall kind rules firsts seat chosen }
 {
@@ -229,7 +229,7 @@ fn may_not_recall(kind: KindName, rules: Rules, firsts: Firsts, seat: u8, chosen
     }
 }
 
-/// Why that seat may not be chosen of those whose predicate holds.
+/// Returns why the seat may not be chosen as one whose predicate holds.
 fn may_not_continue(kind: KindName, rules: Rules, first: Option<u8>, chosen: u8) -> Why
     ensures { result ≡ may_not_continue kind rules first chosen }
 {
@@ -240,8 +240,8 @@ fn may_not_continue(kind: KindName, rules: Rules, first: Option<u8>, chosen: u8)
     }
 }
 
-/// Why an event may not choose what it chose. If it chose a waiter whom nobody has signalled, that
-/// one waits on the condition.
+/// Returns why an event may not choose what it chose. If it chose a waiter that nobody has
+/// signalled, `waits` is that seat's condition.
 pub(crate) fn wrong_choice(
     kind: KindName,
     rules: Rules,

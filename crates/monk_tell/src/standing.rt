@@ -1,4 +1,4 @@
-//! How a monitor stands: whose turn it is, and who is where.
+//! The state of a monitor: whose turn it is, and who is where.
 
 ghost use Rattle.std.specs.Prelude.{◌≡◌, ◌<◌, [], All, IfOk};
 ghost use Rattle.monk_audit.specs.Replay.{replay_situation};
@@ -12,12 +12,12 @@ use monk_kinds::Mode;
 use monk_object::Listed;
 use std::alloc::{AllocError, Global};
 
-/// How a monitor stands, whatever its kind and its object are.
+/// The state of a monitor of any kind and object.
 #[derive(Debug, Drop)]
 pub struct Standing {
     /// Whose turn it is.
     pub turn: Turn,
-    /// The seats inside, also those that wait there, rising.
+    /// The seats inside, also those that wait there, in rising order.
     pub inside: SeatList,
     /// The state of the object.
     pub data: NumberList,
@@ -26,7 +26,7 @@ pub struct Standing {
 }
 
 impl Standing {
-    /// From a replay, with the object in its state.
+    /// Returns the state from a replay, with the object in its own state.
     pub(crate) fn of<T: Listed>(
         alloc: Global,
         header: &Header,
@@ -54,7 +54,7 @@ fn is_inside(replay: &Replay, seat: u8) -> bool
     replay.is_inside(seat)
 }
 
-/// The seats inside, rising.
+/// Returns the seats inside, in rising order.
 fn inside_seats(alloc: Global, replay: &Replay, seats: u8) -> Result<Vec<u8>, AllocError>
     ensures { IfOk result (λ v. v.items ≡ inside_below (replay_situation replay.now []).inside seats) }
 {
@@ -63,7 +63,7 @@ fn inside_seats(alloc: Global, replay: &Replay, seats: u8) -> Result<Vec<u8>, Al
         .collect(alloc)
 }
 
-/// The state of the object, as numbers. Takes memory and time as long as it.
+/// Returns the state of the object, as numbers. Time and memory by their number.
 ///
 /// # Errors
 ///

@@ -19,19 +19,19 @@ use monk_kinds::Rules;
 use monk_object::{Guarded, Listed};
 use std::alloc::{AllocError, Global};
 
-/// An event, what it chose from, and how the monitor stands after it.
+/// An event, what it chose from, and the state of the monitor after it.
 #[derive(Debug, Drop)]
 pub struct Step {
-    /// The event; none for the situation in which the steps begin.
+    /// The event; `None` for the situation in which the steps begin.
     pub event: Option<Event>,
     /// What it chose from and what it might have chosen, if it is a release.
     pub choice: Option<Choice>,
-    /// How the monitor stands after it.
+    /// The state of the monitor after it.
     pub standing: Standing,
 }
 
 impl Step {
-    /// That of the event behind so many, which is allowed: replay and object carry it out.
+    /// Returns the step of the event after the first `before`. It is allowed, and replay and object carry it out.
     pub(crate) fn behind<T: Listed>(
         alloc: Global,
         history: JudgedHistory<'_>,
@@ -61,7 +61,7 @@ impl Step {
     }
 }
 
-/// Carries out the event behind so many, which is allowed.
+/// Carries out the event after the first `before`, which is allowed.
 pub(crate) fn carry_out<T: Guarded>(
     alloc: Global,
     history: JudgedHistory<'_>,
@@ -82,7 +82,7 @@ pub(crate) fn carry_out<T: Guarded>(
     Ok(())
 }
 
-/// What the event chooses from and what it might choose, if it is a release.
+/// Returns what the event chooses from and what it might choose, if it is a release.
 fn release_choice<T: Guarded>(
     alloc: Global,
     rules: Rules,

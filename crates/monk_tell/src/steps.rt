@@ -13,7 +13,7 @@ use monk_audit::{Replay, rules_by_name};
 use monk_object::{Guarded, Listed};
 use std::alloc::{AllocError, Global};
 
-/// Carries out the events behind so many (`from`) up to the last of these (`to`), which are allowed.
+/// Carries out the events after the first `from`, up to number `to`. They are allowed.
 pub(crate) fn follow<T: Guarded>(
     alloc: Global,
     history: JudgedHistory<'_>,
@@ -35,7 +35,8 @@ pub(crate) fn follow<T: Guarded>(
     Ok(())
 }
 
-/// The steps behind so many events up to the last of these, which are allowed; none where `end` is less than `before`.
+/// Returns the steps after the first `before` events up to number `end`, all allowed. None if `end`
+/// is below `before`.
 pub(crate) fn steps_from<T: Listed>(
     alloc: Global,
     history: JudgedHistory<'_>,

@@ -1,4 +1,4 @@
-//! What is told of a history.
+//! The answer for a history.
 
 use crate::data::Data;
 use crate::forbidden::ForbiddenEvent;
@@ -11,7 +11,7 @@ use monk_kinds::KindName;
 use monk_object::ObjectName;
 use std::fmt;
 
-/// What is told of a history: the verdict, how the monitor stands, and what is wrong.
+/// The answer for a history: the verdict, the state of the monitor, and what is wrong.
 #[derive(Debug, Drop)]
 pub struct Telling {
     /// The kind of the monitor.
@@ -20,17 +20,17 @@ pub struct Telling {
     pub object: ObjectName,
     /// Whether the history is legal, or which event is the first that is not allowed.
     pub verdict: Verdict,
-    /// How the monitor stands before that event, or after all events of a legal history.
+    /// The state of the monitor before that event, or after all events of a legal history.
     pub standing: Standing,
-    /// The acts of the events up to there that the object refused.
+    /// The acts that the object refused up to there.
     pub refused: Refused,
     /// What is wrong with that event.
     pub blame: Option<ForbiddenEvent>,
 }
 
-/// In lines, behind the one of the verdict: of a forbidden event which one it is; the kind with its mode and
-/// priorities, the turn, who is inside, the data, also in words, the refused acts and the queues; and of that event
-/// what its reason adds, and why.
+/// Prints the lines after the verdict's: for a forbidden history, which event it is. Then the kind
+/// with its mode and priorities, the turn, who is inside, the data, also in words, the refused acts
+/// and the queues. For a forbidden history, also what the event's reason adds, and why.
 impl fmt::Display for Telling {
     fn fmt<W: fmt::Write>(&self, f: &mut fmt::Formatter<W>) -> fmt::Result {
         if let Some(blame) = &self.blame {

@@ -1,4 +1,4 @@
-//! What is told of a history.
+//! The answer for a history.
 
 ghost use Rattle.std.specs.Prelude.{◌≡◌, ◌≤◌, ◌<◌, ◌^◌, IfOk, OnOk, IsErrOf, length, map, option_map};
 ghost use Rattle.monk_object.specs.Names.{meaning_named, most, opening_named};
@@ -19,7 +19,7 @@ use monk_history::{Event, Header};
 use monk_object::{Book, Buffer, Flags, Guarded, Listed, ObjectFault, ObjectName, Shop};
 use std::alloc::{AllocError, Global};
 
-/// What is wrong with the first event that is not allowed, if there is one. The replay is that of the events before it.
+/// Returns what is wrong with the first event that is not allowed, if there is one. `replay` has the events before it.
 fn blamed<T: Guarded>(
     alloc: Global,
     history: JudgedHistory<'_>,
@@ -47,7 +47,7 @@ fn blamed<T: Guarded>(
     }
 }
 
-/// What is told of a history, from the replay of the events before the first that is not allowed.
+/// Returns the answer for a history, from the replay of the events before the first that is not allowed.
 fn telling<T: Listed>(
     alloc: Global,
     history: JudgedHistory<'_>,
@@ -75,7 +75,7 @@ fn telling<T: Listed>(
     })
 }
 
-/// What is told of a history, and its steps that are asked for, over the object in its opening state.
+/// Returns the answer for a history and the steps that are asked for, over the object in its opening state.
 fn tell_over<T: Listed>(
     alloc: Global,
     history: JudgedHistory<'_>,
@@ -102,7 +102,7 @@ fn tell_over<T: Listed>(
     Ok((telling, steps))
 }
 
-/// The same over an object in its opening state, if it was made.
+/// Does the same over an object in its opening state, if it was made.
 fn tell_made<T: Listed>(
     alloc: Global,
     history: JudgedHistory<'_>,
@@ -122,16 +122,16 @@ fn tell_made<T: Listed>(
     Ok(tell_over(alloc, history, made?, before, last)?)
 }
 
-/// Tells what [`tell`] and [`tell_steps`] do, by one replay, of a history whose verdict is known.
+/// Returns what [`tell`] and [`tell_steps`] return, by one replay, for a history whose verdict is known.
 ///
 /// # Errors
 ///
-/// [`AuditFault::Object`] only where the size is above the object's greatest. [`AuditFault::Memory`] if a request for
-/// memory was refused.
+/// [`AuditFault::Object`] only if the size is above the object's greatest. [`AuditFault::Memory`]
+/// if a request for memory was refused.
 ///
 /// # Cost
 ///
-/// One replay of the events before the first that is not allowed, and that of the steps.
+/// One replay of the events before the first that is not allowed, and the cost of the steps.
 pub fn tell_judged(
     alloc: Global,
     history: JudgedHistory<'_>,
@@ -154,24 +154,23 @@ pub fn tell_judged(
     }
 }
 
-/// Tells of a history what [`audit`] finds, how the monitor stands before the first event that is
-/// not allowed, or at the end of a legal history, with the acts that the object refused up to
-/// there, and of an event that is not allowed what is wrong with it: the event, the object's own
-/// reply where the reply is wrong, and where the choice is wrong, what the event chose from and
-/// each next that is permitted.
+/// Returns what [`audit`] finds, and the state of the monitor before the first event that is not allowed, or
+/// at the end of a legal history. Also lists the acts that the object refused up to there. If an event is not
+/// allowed, gives it and what is wrong with it. If its reply is wrong, gives the object's own reply. If its
+/// choice is wrong, gives what the event chose from and each next that is permitted.
 ///
 /// # Errors
 ///
-/// [`AuditFault::Object`] exactly where the size is above the object's greatest.
+/// [`AuditFault::Object`] exactly if the size is above the object's greatest.
 /// [`AuditFault::Memory`] if a request for memory was refused.
 ///
 /// # Cost
 ///
-/// Two passes over the events, each as [`audit`] takes one, and a third that looks for refused
-/// acts; memory for the queues, the object and what is told.
+/// Two passes over the events, each as [`audit`] takes one, and a third one for refused acts.
+/// Memory is needed for the queues, the object and the result.
 pub fn tell(alloc: Global, header: &Header, events: &[Event]) -> Result<Telling, AuditFault>
     requires { length events.now ≤ 2 ^ 25 }
-    // All that is told is so, the sentence too.
+    // All of the result is right, and so is the sentence.
     ensures told { IfOk result (λ t. telling_of t ≡ account header.now events.now) }
     ensures fits { OnOk result (header.now.size ≤ most header.now.object) }
     ensures object { IsErrOf result AuditFault.Object → most header.now.object < header.now.size }
@@ -183,24 +182,24 @@ pub fn tell(alloc: Global, header: &Header, events: &[Event]) -> Result<Telling,
         events,
         verdict,
     };
-    // (no step is behind one event and up to none)
+    // (`before` is above `last`, so there are no steps)
     let (telling, _) = tell_judged(alloc, history, 1, 0)?;
     Ok(telling)
 }
 
-/// Tells how the monitor stands after so many events (`before`). Then it tells of each event up to the last that is
-/// asked for (`last`, counted from 1) what it chose from, and how the monitor stands after it. The steps end before the
-/// first event that is not allowed, or with the last event of a legal history. Behind that there are none.
+/// Returns the state of the monitor after the first `before` events. Then, for each event up to number `last`,
+/// counted from 1, returns what it chose from and the state after it. The steps end before the first event that is
+/// not allowed, or with the last event of a legal history. If they would begin after that, there are none.
 ///
 /// # Errors
 ///
-/// [`AuditFault::Object`] exactly where the size is above the object's greatest.
+/// [`AuditFault::Object`] exactly if the size is above the object's greatest.
 /// [`AuditFault::Memory`] if a request for memory was refused.
 ///
 /// # Cost
 ///
-/// That of [`tell`], and memory for the steps. A step takes time and memory by the seats, the conditions and the size
-/// of the object, however many events there are.
+/// As [`tell`], and memory for the steps. The time and memory of a step depend on the seats, the
+/// conditions and the size of the object, and not on the number of events.
 pub fn tell_steps(
     alloc: Global,
     header: &Header,

@@ -16,9 +16,9 @@ use std::fmt;
 /// Why an event is not allowed, with the numbers of the case.
 #[derive(Clone, Copy, Debug)]
 pub enum Why {
-    /// The seat is out of range; there are so many.
+    /// The first number is the seat, which is out of range. The second is the number of seats.
     NoSeat(u8, u8),
-    /// The condition is out of range; there are so many.
+    /// The first number is the condition, which is out of range. The second is the number of conditions.
     NoCondition(u8, u8),
     /// The object has no operation of that code.
     NoOperation(u8),
@@ -30,11 +30,11 @@ pub enum Why {
     NoUntils(KindName),
     /// The seat may not make the call now.
     Turn(OutOfTurn),
-    /// The object replies the first number, and not the second.
+    /// The object replies the first number, not the second.
     Reply(u64, u64),
     /// The seat may not stay active, or has to.
     Stay(Staying),
-    /// Another has to go on first.
+    /// Another seat has to go on first.
     Order(Precedence),
 }
 

@@ -1,5 +1,5 @@
-//! A replay beside queues that are kept elsewhere: whose turn it is, who is inside, and who waits
-//! until a predicate holds.
+//! The part of a replay without the queues, which are kept elsewhere: whose turn it is, who is
+//! inside, and who waits until a predicate holds.
 
 ghost use Rattle.std.specs.Prelude.{◌≡◌, ◌<◌, ◌++◌, ◌&&◌, ◌||◌, ℕ, List, []};
 ghost use Rattle.std.specs.Prelude.{All, OnOk, filter, length, not, slice_get, slice_index_or, false, true};
@@ -18,8 +18,8 @@ use monk_object::Guarded;
 use std::alloc::{AllocError, Global};
 
 impl Replay {
-    /// Carries out what an event does beside the queues of the conditions, of the waiters and of
-    /// the signallers, part by part.
+    /// Carries out what an event does apart from the queues of the conditions, of the waiters and
+    /// of the signallers, part by part.
     #[inline(always)]
     pub(crate) fn go_on(&mut self, event: Event) -> Result<(), AllocError>
         requires { seat_of event < length self.old.inside.items }
@@ -43,9 +43,8 @@ impl Replay {
         join_untils(&mut self.untils, event)
     }
 
-    /// Carries out what an event does beside the queues of the conditions, of the waiters and of
-    /// the signallers. The list of waits-until that may grow by it is the replay's own; `_alloc`
-    /// says that it may.
+    /// Carries out what an event does apart from the queues of the conditions, of the waiters and of the
+    /// signallers. The replay's own list of waits-until may grow by it; `_alloc` says that it may.
     #[inline(always)]
     pub fn pass_on(&mut self, _alloc: Global, event: Event) -> Result<(), AllocError>
         requires { seat_of event < seats_in self.old }
@@ -69,7 +68,7 @@ impl Replay {
         self.begun = true;
     }
 
-    /// The first seat that waits until a predicate that holds.
+    /// Returns the first ready seat: it waits until a predicate, and the predicate holds.
     pub fn first_ready<T: Guarded>(&self, object: &T) -> Option<u8>
         requires { All (λ w. w.1 < T.PREDICATES) (replay_situation self.now []).untils }
         ensures { result ≡ slice_get (ready_of T.meaning (T.state object.now) (replay_situation self.now []).untils) 0 }
@@ -77,7 +76,7 @@ impl Replay {
         first_ready(object, &self.untils)
     }
 
-    /// Whether the seat waits until a predicate that holds.
+    /// Whether the seat is ready: it waits until a predicate, and the predicate holds.
     pub fn is_ready<T: Guarded>(&self, object: &T, seat: u8) -> bool
         requires { All (λ w. w.1 < T.PREDICATES) (replay_situation self.now []).untils }
         ensures { result ≡ has seat (ready_of T.meaning (T.state object.now) (replay_situation self.now []).untils) }

@@ -1,4 +1,4 @@
-//! A replay event by event, where the events aren't all known beforehand.
+//! A replay event by event, for events that aren't all known beforehand.
 
 ghost use Rattle.std.specs.Prelude.{◌≡◌, ℕ, List, [], None, IfOk, OnOk};
 ghost use Rattle.monk_kinds.specs.declared.mode.Rules.{Rules};
@@ -17,7 +17,7 @@ use monk_object::Guarded;
 use std::alloc::{AllocError, Global};
 
 impl Replay {
-    /// How a monitor stands before any event.
+    /// Returns the state of a monitor before any event.
     pub fn opening(alloc: Global, seats: u8, conds: u8) -> Result<Replay, AllocError>
         ensures stands { IfOk result
             (λ r. (rules : Rules) (o : Object) (state : List ℕ)
@@ -27,8 +27,8 @@ impl Replay {
         Replay::new(alloc, seats, conds)
     }
 
-    /// The first of the first four reasons against an event, if there is one. These don't ask what it chooses and
-    /// what the object replies.
+    /// Returns the first of the first four reasons against an event, if there is one. These four
+    /// don't look at what it chooses or at the object's reply.
     #[inline(always)]
     pub fn call_reason<T: Guarded>(
         &self,
@@ -44,9 +44,9 @@ impl Replay {
         self.early_reason(rules, object, conds, event)
     }
 
-    /// Judges an event, and carries it out where no reason is against it. Gives the first
-    /// reason, if there is one; the replay is of no further use. The queues that may grow by it
-    /// are the replay's own; `_alloc` says that they may.
+    /// Judges an event, and carries it out if there is no reason against it. Returns the first
+    /// reason, if there is one; then the replay is of no further use. The replay's own queues may
+    /// grow by it; `_alloc` says that they may.
     pub fn carry_out<T: Guarded>(
         &mut self,
         _alloc: Global,

@@ -1,4 +1,4 @@
-//! What others see of a replay: how a monitor stands after legal events.
+//! What others see of a replay: the state of a monitor after legal events.
 
 ghost use Rattle.std.specs.Prelude.{◌≡◌, ◌<◌, ℕ, List, [], IfOk, All, slice_get};
 ghost use Rattle.monk_history.specs.Meaning.Legal.{IsLegal};
@@ -13,8 +13,8 @@ use monk_object::Guarded;
 use std::alloc::{AllocError, Global};
 
 impl Replay {
-    /// How the monitor of those rules stands after the events, which are legal. The object comes in
-    /// its opening state, and is then in the one that the events lead to. One pass over the events.
+    /// Returns the state of the monitor of those rules after the events, which are legal. The object comes in
+    /// its opening state, and leaves in the state that the events lead to. One pass over the events.
     pub fn after_all<T: Guarded>(
         alloc: Global,
         object: &mut T,
@@ -37,14 +37,14 @@ impl Replay {
         Ok(replay)
     }
 
-    /// Whose turn it is.
+    /// Returns whose turn it is.
     pub fn turn(&self) -> Turn
         ensures { (state : List ℕ) → result ≡ (replay_situation self.now state).turn }
     {
         self.turn
     }
 
-    /// Whether the seat is inside. No seat is whose number is too great.
+    /// Whether the seat is inside. A seat whose number is too great is not.
     pub fn is_inside(&self, seat: u8) -> bool
         ensures { (state : List ℕ) → result ≡ (replay_situation self.now state).inside seat }
     {
@@ -54,7 +54,7 @@ impl Replay {
         }
     }
 
-    /// The seats that wait on the condition, in order; none where there is no such condition.
+    /// Returns the seats that wait on the condition, in order; none if there is no such condition.
     #[tactic(auto, using(crate::proofs::QueueLaws::queue_past))]
     pub fn condition(&self, alloc: Global, cond: u8) -> Result<Vec<u8>, AllocError>
         ensures { IfOk result (λ v. (state : List ℕ) → v.items ≡ (replay_situation self.now state).condition cond) }
@@ -65,28 +65,28 @@ impl Replay {
         self.conditions[cond as usize].to_vec(alloc)
     }
 
-    /// The waiter queue, in order.
+    /// Returns the waiter queue, in order.
     pub fn waiters(&self, alloc: Global) -> Result<Vec<u8>, AllocError>
         ensures { IfOk result (λ v. (state : List ℕ) → v.items ≡ (replay_situation self.now state).waiters) }
     {
         self.waiters.to_vec(alloc)
     }
 
-    /// The first of the waiter queue.
+    /// Returns the first seat of the waiter queue.
     pub fn first_waiter(&self) -> Option<u8>
         ensures { result ≡ slice_get (replay_situation self.now []).waiters 0 }
     {
         self.waiters.first().copied()
     }
 
-    /// The first of the signaller queue.
+    /// Returns the first seat of the signaller queue.
     pub fn first_signaller(&self) -> Option<u8>
         ensures { result ≡ slice_get (replay_situation self.now []).signallers 0 }
     {
         self.signallers.first().copied()
     }
 
-    /// The first that waits on the condition; none where there is no such condition.
+    /// Returns the first seat that waits on the condition; none if there is no such condition.
     #[tactic(auto, using(crate::proofs::QueueLaws::queue_past))]
     pub fn first_at(&self, cond: u8) -> Option<u8>
         ensures { result ≡ slice_get ((replay_situation self.now []).condition cond) 0 }
@@ -97,14 +97,14 @@ impl Replay {
         self.conditions[cond as usize].first().copied()
     }
 
-    /// The signaller queue, in order.
+    /// Returns the signaller queue, in order.
     pub fn signallers(&self, alloc: Global) -> Result<Vec<u8>, AllocError>
         ensures { IfOk result (λ v. (state : List ℕ) → v.items ≡ (replay_situation self.now state).signallers) }
     {
         self.signallers.to_vec(alloc)
     }
 
-    /// The seats that wait until a predicate holds, each with its predicate, in order of the waits.
+    /// Returns the seats that wait until a predicate holds, each with its predicate, in order of the waits.
     pub fn untils(&self, alloc: Global) -> Result<Vec<(u8, u8)>, AllocError>
         ensures { IfOk result (λ v. (state : List ℕ) → v.items ≡ (replay_situation self.now state).untils) }
     {

@@ -6,8 +6,8 @@ use crate::scene::lane_of;
 use std::alloc::AllocError;
 
 impl Canvas<'_> {
-    /// Puts an arrow for each event that hands the monitor to another seat; of a forbidden event one that says what it
-    /// would.
+    /// Writes an arrow for each event that hands the monitor to another seat. For a forbidden event
+    /// the arrow shows where it would hand it.
     pub(super) fn put_arrows(&mut self) -> Result<(), AllocError> {
         let scene = self.scene;
         for (column, event) in scene.events.iter().enumerate() {
@@ -29,7 +29,7 @@ impl Canvas<'_> {
         Ok(())
     }
 
-    /// Puts an arrow, between the words of its column and those of the next one; none from a lane to itself.
+    /// Writes an arrow between the words of its column and those of the next one. None leads from a lane to itself.
     fn put_arrow(
         &mut self,
         class: &str,

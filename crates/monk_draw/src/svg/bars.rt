@@ -7,7 +7,7 @@ use crate::scene::{handed, lane_of};
 use monk_tell::SeatPlace;
 use std::alloc::{AllocError, Global};
 
-/// The class by which the style gives a place its look.
+/// Returns the class that has the look of the place in the style.
 fn class_of(place: SeatPlace) -> &'static str {
     match place {
         SeatPlace::Outside => OUTSIDE,
@@ -19,8 +19,8 @@ fn class_of(place: SeatPlace) -> &'static str {
     }
 }
 
-/// Whether a seat that was there first is still there. One that waits until a predicate holds stays there when it is
-/// chosen, because it does.
+/// Whether a seat is in the same place as before. A seat that waits until a predicate holds is
+/// still there after it is chosen.
 fn stays(before: SeatPlace, then: SeatPlace) -> bool {
     before == then || matches!((before, then), (SeatPlace::Until(_), SeatPlace::Until(_)))
 }
@@ -34,7 +34,7 @@ struct Stay {
 }
 
 impl Canvas<'_> {
-    /// Puts the bars of all seats.
+    /// Writes the bars of all seats.
     pub(super) fn put_bars(&mut self, alloc: Global) -> Result<(), AllocError> {
         let (scene, layout) = (self.scene, self.layout);
         let mut stays_now: Vec<Stay> = (0..layout.seats)
@@ -46,7 +46,7 @@ impl Canvas<'_> {
             .collect(alloc)?;
         for column in 0..scene.allowed() {
             if let Some(seat) = handed(scene.events.get(column).copied()) {
-                // For one column it has waited at the entry.
+                // Its wait at the entry is drawn one column wide.
                 let x = column_at(column);
                 let from = x.saturating_sub(COLUMN).max(LEFT);
                 self.put_bar("entry", lane_of(seat, layout.seats), from, x)?;
@@ -59,7 +59,7 @@ impl Canvas<'_> {
         Ok(())
     }
 
-    /// Puts the bars that end in the column, since seats come to another place.
+    /// Writes the bars that end in the column, because their seats come to another place.
     fn put_ended(&mut self, stays_now: &mut Vec<Stay>, column: usize) -> Result<(), AllocError> {
         let from = column_at(column);
         for stay in stays_now.iter_mut() {
@@ -73,14 +73,14 @@ impl Canvas<'_> {
         Ok(())
     }
 
-    /// Puts the bar of a seat that has stayed so, up to there.
+    /// Writes the bar of a seat's stay, up to `to`.
     fn put_stay(&mut self, stay: Stay, to: u64) -> Result<(), AllocError> {
         let Stay { seat, place, from } = stay;
         self.put_bar(class_of(place), seat, from, to)?;
         self.put_what(place, seat, from, to)
     }
 
-    /// Puts a bar of that class. Of a time outside nothing is drawn.
+    /// Writes a bar of the class. A time outside is not drawn.
     fn put_bar(
         &mut self,
         class: &'static str,
@@ -99,8 +99,8 @@ impl Canvas<'_> {
         )
     }
 
-    /// Puts the condition or the predicate that is waited for: behind the arrow that may begin with the bar, in front
-    /// of the next column.
+    /// Writes the condition or the predicate that is waited for, after the arrow that may begin
+    /// with the bar, and before the next column.
     fn put_what(
         &mut self,
         place: SeatPlace,

@@ -1,5 +1,5 @@
-//! What everything stands on: the heading, a line for each column, a rail for each lane; in a wide picture the numbers
-//! of the seats once more, for who looks at a part of it.
+//! The ground of a picture: the heading, a line for each column, a rail for each lane. A wide
+//! picture also repeats the numbers of the seats, for a reader who sees only a part of it.
 
 use super::Canvas;
 use super::layout::{LANE, LEFT, column_at, lane_at, left_of};
@@ -8,13 +8,13 @@ use crate::label::plural;
 use monk_history::Header;
 use std::alloc::AllocError;
 
-/// The most columns of which all are seen at once.
+/// The most columns that can all be seen at once.
 const NARROW: usize = 20;
-/// In a wide picture the numbers of the seats stand at each column whose number this divides.
+/// A wide picture repeats the numbers of the seats at each column whose number this divides.
 const EACH: usize = 10;
 
 impl Canvas<'_> {
-    /// Puts what everything stands on.
+    /// Writes the ground of the picture.
     pub(super) fn put_ground(&mut self, header: &Header) -> Result<(), AllocError> {
         let (width, height) = (self.layout.width(), self.layout.height());
         write!(
@@ -28,7 +28,7 @@ impl Canvas<'_> {
         self.put_lanes()
     }
 
-    /// Puts what the history is of: its kind, its seats, its conditions and its object.
+    /// Writes what the history is of: its kind, its seats, its conditions and its object.
     fn put_heading(&mut self, header: &Header) -> Result<(), AllocError> {
         let (kind, object, size) = (header.kind(), header.object(), header.size());
         let (seats, conds) = (header.seats(), header.conds());
@@ -43,7 +43,7 @@ impl Canvas<'_> {
         )
     }
 
-    /// Puts a thin line for each column.
+    /// Writes a thin line for each column.
     fn put_columns(&mut self) -> Result<(), AllocError> {
         let foot = self.layout.base().saturating_sub(LANE / 2);
         for column in 0..self.layout.columns {
@@ -56,7 +56,7 @@ impl Canvas<'_> {
         Ok(())
     }
 
-    /// Puts a rail for each lane, with its seat.
+    /// Writes a rail for each lane, with its seat.
     fn put_lanes(&mut self) -> Result<(), AllocError> {
         let end = self.layout.end();
         for lane in 0..self.layout.lanes {
@@ -76,7 +76,7 @@ impl Canvas<'_> {
         Ok(())
     }
 
-    /// Puts the numbers of the seats once more at each tenth column of a wide picture.
+    /// Repeats the numbers of the seats at each tenth column of a wide picture.
     pub(super) fn put_tags(&mut self) -> Result<(), AllocError> {
         let columns = self.layout.columns;
         for column in 1..columns {
@@ -87,7 +87,7 @@ impl Canvas<'_> {
         Ok(())
     }
 
-    /// Puts the number of each seat, at the left edge of a column.
+    /// Writes the number of each seat at the left edge of a column.
     fn put_tags_at(&mut self, x: u64) -> Result<(), AllocError> {
         for seat in 0..self.layout.seats {
             let y = lane_at(seat) + 4;

@@ -1,33 +1,33 @@
-//! Where what is drawn stands, in pixels.
+//! The places of what is drawn, in pixels.
 
 ghost use Rattle.std.specs.Prelude.{◌≤◌, ◌^◌};
 
 use crate::scene::Scene;
 use monk_history::Header;
 
-/// How far the middles of two columns are apart.
+/// The distance between the middles of two columns.
 pub(crate) const COLUMN: u64 = 76;
-/// How far the middles of two lanes are apart.
+/// The distance between the middles of two lanes.
 pub(crate) const LANE: u64 = 62;
 /// The left edge of the first column.
 pub(crate) const LEFT: u64 = 84;
-/// Columns behind so many stand upon each other; a window has far fewer.
+/// Columns from this number on lie on top of each other. A window has far fewer.
 const MOST_COLUMNS: usize = 1_000_000;
 /// The middle of the first lane.
 const FIRST_LANE: u64 = 107;
-/// The least width of a picture; its heading and its legend need as much.
+/// The least width of a picture. Its heading and its legend need as much.
 const LEAST_WIDTH: u64 = 760;
 /// The room at the right of the lanes, and again at the right of the picture.
 const MARGIN: u64 = 16;
 
-/// How large a picture is.
+/// The size of a picture.
 #[derive(Clone, Copy)]
 pub(crate) struct Layout {
-    /// How many seats there are.
+    /// The number of seats.
     pub(crate) seats: u8,
-    /// How many columns there are: one for each event.
+    /// The number of columns: one for each event.
     pub(crate) columns: usize,
-    /// How many lanes there are: one for each seat, and one if the last event is of no seat.
+    /// The number of lanes: one for each seat, and one more if the last event's seat doesn't exist.
     pub(crate) lanes: u8,
 }
 
@@ -45,7 +45,7 @@ impl Layout {
         }
     }
 
-    /// Where the lanes end, a little behind the last column.
+    /// Returns where the lanes end, a little after the last column.
     pub(crate) fn end(self) -> u64
         ensures { result ≤ 2 ^ 41 }
     {
@@ -60,7 +60,7 @@ impl Layout {
         self.base() + 70
     }
 
-    /// The line below the last lane.
+    /// Returns the line below the last lane.
     pub(crate) fn base(self) -> u64
         ensures { result ≤ 2 ^ 20 }
     {
@@ -68,21 +68,21 @@ impl Layout {
     }
 }
 
-/// The left edge of a column, numbered from 0.
+/// Returns the left edge of a column, numbered from 0.
 pub(crate) fn left_of(column: usize) -> u64
     ensures { result ≤ 2 ^ 40 }
 {
     LEFT + COLUMN * column.min(MOST_COLUMNS) as u64
 }
 
-/// The middle of a column, numbered from 0.
+/// Returns the middle of a column, numbered from 0.
 pub(crate) fn column_at(column: usize) -> u64
     ensures { result ≤ 2 ^ 41 }
 {
     left_of(column) + COLUMN / 2
 }
 
-/// The middle of a lane, numbered from 0.
+/// Returns the middle of a lane, numbered from 0.
 pub(crate) fn lane_at(lane: u8) -> u64
     ensures { result ≤ 2 ^ 20 }
 {

@@ -1,13 +1,13 @@
-//! What the colours, hatchings and signs mean, of those that occur.
+//! The legend: what the colours, hatchings and signs of the picture mean.
 
 use super::Canvas;
 use std::alloc::AllocError;
 
-/// A seat that is outside, or the rail of a lane.
+/// The class of a seat that is outside, and of the rail of a lane.
 pub(super) const OUTSIDE: &str = "rail";
 
-/// What a picture shows by a colour, a hatching or a sign, in the order of the legend: the class by which the style
-/// gives it a look, and what the legend calls it.
+/// What a picture shows by a colour, a hatching or a sign, in the order of the legend: the class
+/// that has the look in the style, and its words in the legend.
 const LOOKS: [(&str, &str); 9] = [
     ("active", "active"),
     ("entry", "waits at the entry"),
@@ -21,7 +21,7 @@ const LOOKS: [(&str, &str); 9] = [
 ];
 
 impl Canvas<'_> {
-    /// Notes that the look of that class occurs.
+    /// Notes that the look of the class occurs.
     pub(super) fn note(&mut self, class: &'static str) -> Result<(), AllocError> {
         if !self.looks.contains(&class) {
             self.looks.push(class)?;
@@ -29,7 +29,7 @@ impl Canvas<'_> {
         Ok(())
     }
 
-    /// Notes whether the object refused an act.
+    /// Notes if the object refused an act.
     pub(super) fn note_refused(&mut self) -> Result<(), AllocError> {
         for column in 0..self.layout.columns {
             if self.scene.is_refused(column) {
@@ -39,7 +39,7 @@ impl Canvas<'_> {
         Ok(())
     }
 
-    /// Puts the legend of what occurs, four in a row; outside does in each picture.
+    /// Writes the legend of the looks that occur, four in a row. The look of outside occurs in each picture.
     pub(super) fn put_legend(&mut self) -> Result<(), AllocError> {
         let mut at = 0u8;
         for look in LOOKS.iter() {
@@ -52,7 +52,7 @@ impl Canvas<'_> {
         Ok(())
     }
 
-    /// Puts a sample and its words, behind so many of the legend.
+    /// Writes a sample and its words, after the first `at` of the legend.
     fn put_look(&mut self, at: u8, class: &str, words: &str) -> Result<(), AllocError> {
         let (column, row) = (u64::from(at % 4), u64::from(at / 4));
         let (x, y) = (16 + 180 * column, self.layout.base() + 22 * row);
@@ -64,7 +64,7 @@ impl Canvas<'_> {
         )
     }
 
-    /// Puts a sample of how it looks.
+    /// Writes a sample of the look.
     fn put_sample(&mut self, class: &str) -> Result<(), AllocError> {
         let (shape, rest) = match class {
             OUTSIDE => ("path", "d=\"M0 6h22\"/>"),

@@ -1,4 +1,4 @@
-//! The marks of events, and a frame round the one that is forbidden.
+//! The marks of events, and a frame around the one that is forbidden.
 
 use super::Canvas;
 use super::layout::{column_at, lane_at};
@@ -9,11 +9,11 @@ use monk_object::ObjectName;
 use monk_tell::SaidEvent;
 use std::alloc::AllocError;
 
-/// From where on the caption doesn't reach to the one at the left.
+/// From this x on, the second caption doesn't reach the one at the left.
 const FAR: u64 = 1400;
 
 impl Canvas<'_> {
-    /// Puts the marks of the events in order, the first of them in the first column.
+    /// Writes the marks of the events in order, the first of them in the first column.
     pub(super) fn put_marks(&mut self, object: ObjectName) -> Result<(), AllocError> {
         let scene = self.scene;
         for (column, event) in scene.events.iter().enumerate() {
@@ -23,8 +23,8 @@ impl Canvas<'_> {
         Ok(())
     }
 
-    /// Puts the number of the step above its column, and a dot in its seat's lane; a crossed one for an act that the
-    /// object refused.
+    /// Writes the number of the step above its column, and a dot in its seat's lane. If the object
+    /// refused the act, the dot is crossed.
     fn put_dot(&mut self, column: usize, seat: u8) -> Result<(), AllocError> {
         let (x, y) = (column_at(column), lane_at(lane_of(seat, self.layout.seats)));
         let step = self.scene.step(column);
@@ -41,8 +41,8 @@ impl Canvas<'_> {
         Ok(())
     }
 
-    /// Puts the line of the event, which shows where its mark is pointed at, its word above the dot, and what belongs
-    /// to it below.
+    /// Writes the event's line, which is shown when a pointer is on its mark, its word above the
+    /// dot, and its numbers below.
     fn put_words(
         &mut self,
         object: ObjectName,
@@ -59,8 +59,8 @@ impl Canvas<'_> {
         self.page.push_str("</text></g>\n")
     }
 
-    /// Marks the last event as forbidden, if it is: by a frame round it, and by which step that is and why, at the
-    /// left, and above its column too where that is far from there.
+    /// Marks the last event as forbidden, if it is, by a frame around it and a caption. The caption has the
+    /// step and the reason. It is at the left, and also above the column if that is far from there.
     pub(super) fn put_fault(&mut self, reason: &str) -> Result<(), AllocError> {
         let column = self.scene.allowed();
         let Some(event) = self.scene.events.get(column) else {

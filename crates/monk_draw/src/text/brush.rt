@@ -10,7 +10,7 @@ use crate::scene::{Scene, lane_of};
 use monk_history::Header;
 use std::alloc::{AllocError, Global};
 
-/// What stands before the numbers of the steps.
+/// The title of the line with the numbers of the steps.
 const STEPS: &str = "step";
 
 /// An arrow from the lane of a release to that of the seat that goes on.
@@ -27,7 +27,7 @@ impl Arrow {
     }
 }
 
-/// What draws the strips of a scene.
+/// Draws the strips of a scene.
 #[derive(Clone, Copy)]
 pub(crate) struct Brush<'a> {
     pub(crate) alloc: Global,
@@ -38,14 +38,14 @@ pub(crate) struct Brush<'a> {
     pub(crate) signs: &'static Signs,
 }
 
-/// Puts the line, without the blanks at its end.
+/// Writes the line, without the blanks at its end.
 fn put_line(page: &mut String, line: &str) -> Result<(), AllocError> {
     page.push_str(line.trim_end())?;
     page.push_str("\n")
 }
 
 impl Brush<'_> {
-    /// How wide the titles of the lanes are, with a blank behind them.
+    /// Returns the width of the titles of the lanes, with a blank after them.
     fn margin(self) -> usize {
         let titles = self.lanes.iter().map(|lane| lane.title.len());
         titles
@@ -53,7 +53,7 @@ impl Brush<'_> {
             .saturating_add(1)
     }
 
-    /// Puts the heading and the strips of a picture of that width, and why the last event is forbidden, if it is.
+    /// Writes the heading and the strips of a picture of that width, and why the last event is forbidden, if it is.
     pub(crate) fn put_picture(
         self,
         page: &mut String,
@@ -71,12 +71,12 @@ impl Brush<'_> {
         Ok(())
     }
 
-    /// How much room a strip of that width has for its columns.
+    /// Returns how much room a strip of that width has for its columns.
     fn room(self, width: usize) -> usize {
         width.saturating_sub(self.margin()).saturating_sub(GAP)
     }
 
-    /// Where the words of a strip's last event begin.
+    /// Returns where the words of a strip's last event begin.
     fn column_at(self, strip: Strip) -> usize {
         let mut at = self.margin().saturating_add(GAP);
         for index in strip.first..strip.last.saturating_sub(1) {
@@ -89,7 +89,7 @@ impl Brush<'_> {
         self.columns.get(index).map_or(0, |column| column.width)
     }
 
-    /// Puts what the picture is of: the kind, the events, and how many seats have no lane.
+    /// Writes what the picture shows: the kind, the events, and how many seats have no lane.
     fn put_heading(self, page: &mut String, header: &Header) -> Result<(), AllocError> {
         let (kind, count) = (header.kind(), self.columns.len());
         let (kind, before) = (kind.as_str(), self.scene.before);
@@ -121,7 +121,7 @@ impl Brush<'_> {
         write!(page, ", {idle} seat{} {what}", plural(idle))
     }
 
-    /// Puts a strip, with a blank line before each but the first.
+    /// Writes a strip, with a blank line before each but the first.
     fn put_strip(self, page: &mut String, strip: Strip) -> Result<(), AllocError> {
         if strip.first > 0 {
             page.push_str("\n")?;
@@ -133,7 +133,7 @@ impl Brush<'_> {
         Ok(())
     }
 
-    /// Puts the numbers of the steps.
+    /// Writes the numbers of the steps.
     fn put_steps(self, page: &mut String, strip: Strip) -> Result<(), AllocError> {
         let mut line = String::new(self.alloc);
         put_padded(&mut line, STEPS, self.margin())?;
@@ -146,7 +146,7 @@ impl Brush<'_> {
         put_line(page, line.as_str())
     }
 
-    /// Puts the line of a lane.
+    /// Writes the line of a lane.
     fn put_lane(self, page: &mut String, lane: &Lane, strip: Strip) -> Result<(), AllocError> {
         let mut line = String::new(self.alloc);
         put_padded(&mut line, lane.title.as_str(), self.margin())?;
@@ -158,13 +158,14 @@ impl Brush<'_> {
         put_line(page, line.as_str())
     }
 
-    /// The lane of an event that is shown.
+    /// Returns the lane of an event that is shown.
     fn lane_at(self, index: usize) -> Option<u8> {
         let event = self.scene.events.get(index)?;
         Some(lane_of(event.seat(), self.seats))
     }
 
-    /// The arrow that leads to an event, or out of the picture behind the last; none from a lane to itself.
+    /// Returns the arrow that leads to an event, or out of the picture after the last. None stays
+    /// in its lane.
     fn arrow_to(self, index: usize) -> Option<Arrow> {
         let before = index.checked_sub(1)?;
         let from = self.lane_at(before)?;
@@ -175,12 +176,12 @@ impl Brush<'_> {
         Some(Arrow { from, to })
     }
 
-    /// What fills a lane before an event.
+    /// Returns what fills a lane before an event.
     fn fill(self, lane: u8, index: usize) -> &'static str {
         self.signs.fill(self.scene.place(index, lane))
     }
 
-    /// Puts what stands before an event, or behind the last: the part of the arrow that leads there.
+    /// Writes what is before an event, or after the last: the part of the arrow that leads there.
     fn put_gap(self, line: &mut String, lane: u8, index: usize) -> Result<(), AllocError> {
         let fill = self.fill(lane, index);
         let last = if self.lane_at(index) == Some(lane) {
@@ -210,7 +211,7 @@ impl Brush<'_> {
         Ok(())
     }
 
-    /// Puts the words of an event in its lane, and how the seat waits in another.
+    /// Writes the words of an event in its own lane, and how the seat waits in any other lane.
     fn put_cell(self, line: &mut String, lane: u8, index: usize) -> Result<(), AllocError> {
         if self.lane_at(index) != Some(lane) {
             return put_times(line, self.fill(lane, index), self.width(index));
@@ -227,8 +228,8 @@ impl Brush<'_> {
         Ok(())
     }
 
-    /// Puts what stands behind the last event of a strip: the arrow that leads out of the picture, or the beginning of
-    /// one that goes on in the next strip.
+    /// Writes what is after the last event of a strip: the arrow that leads out of the picture, or
+    /// the beginning of one that goes on in the next strip.
     fn put_end(self, line: &mut String, lane: u8, index: usize) -> Result<(), AllocError> {
         if index >= self.columns.len() {
             return self.put_gap(line, lane, index);

@@ -6,7 +6,7 @@ use crate::scene::Scene;
 use monk_history::Header;
 use std::alloc::{AllocError, Global};
 
-/// How many columns of characters stand before each event: for the arrow that leads to it.
+/// The number of character columns before each event, for the arrow that leads to it.
 pub(crate) const GAP: usize = 3;
 
 /// The column of an event.
@@ -16,11 +16,11 @@ pub(crate) struct Column {
     pub(crate) number: String,
     /// The event in words.
     pub(crate) words: String,
-    /// How wide it is: as its words, or as that number.
+    /// Its width: that of its words or of its number, whichever is wider.
     pub(crate) width: usize,
 }
 
-/// The columns of the events that are shown.
+/// Returns the columns of the events that are shown.
 pub(crate) fn columns(
     alloc: Global,
     header: &Header,

@@ -1,12 +1,12 @@
-//! The event that is forbidden.
+//! The mark of the event that is forbidden.
 
 use super::signs::put_times;
 use std::alloc::AllocError;
 
 const CAPTION: &str = "forbidden: ";
 
-/// Puts a sign below the column that begins there, and behind it why its event is forbidden. Where there is no room for
-/// that, it stands in a line of its own.
+/// Writes a sign below the column that begins at `at`, and after it why its event is forbidden. If
+/// there is no room for the reason, it gets a line of its own.
 pub(crate) fn put_fault(
     page: &mut String,
     at: usize,

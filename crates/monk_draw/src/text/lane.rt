@@ -8,9 +8,9 @@ use std::alloc::{AllocError, Global};
 /// The lane of a seat.
 #[derive(Debug, Drop)]
 pub(crate) struct Lane {
-    /// The seat's number; that of the seats that aren't there is how many there are.
+    /// The seat's number. The lane for seats that don't exist has the number of seats.
     pub(crate) number: u8,
-    /// What the seat is called.
+    /// The name of the seat.
     pub(crate) title: String,
 }
 
@@ -31,7 +31,7 @@ fn title(alloc: Global, seats: u8, names: Names<'_>, lane: u8) -> Result<String,
     }
 }
 
-/// The lanes of the seats that come, by their numbers.
+/// Returns the lanes of the seats that come, by their numbers.
 pub(crate) fn lanes(
     alloc: Global,
     seats: u8,

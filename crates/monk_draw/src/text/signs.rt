@@ -1,4 +1,4 @@
-//! What the lines of a picture are made of.
+//! The signs of which the lines of a picture are made.
 
 use monk_tell::SeatPlace;
 use std::alloc::AllocError;
@@ -9,12 +9,12 @@ pub(crate) struct Signs {
     condition: &'static str,
     waiter: &'static str,
     signaller: &'static str,
-    /// The way of an arrow along a lane, and across one.
+    /// The part of an arrow along a lane, and the part across one.
     pub(crate) along: &'static str,
     pub(crate) through: &'static str,
     /// The corners at which an arrow that leads down leaves its first lane, and reaches its last.
     pub(crate) down: (&'static str, &'static str),
-    /// The same of one that leads up.
+    /// The same corners for an arrow that leads up.
     pub(crate) up: (&'static str, &'static str),
 }
 
@@ -43,7 +43,7 @@ impl Signs {
         if is_ascii { &ASCII } else { &UNICODE }
     }
 
-    /// What fills the line of a seat that is there.
+    /// Returns what fills the line of a seat in that place.
     pub(crate) fn fill(&self, place: SeatPlace) -> &'static str {
         match place {
             SeatPlace::Outside | SeatPlace::Active => " ",
@@ -54,7 +54,7 @@ impl Signs {
     }
 }
 
-/// Puts the sign that often.
+/// Writes the sign `times` times.
 pub(crate) fn put_times(line: &mut String, sign: &str, times: usize) -> Result<(), AllocError> {
     for _ in 0..times {
         line.push_str(sign)?;
@@ -62,7 +62,7 @@ pub(crate) fn put_times(line: &mut String, sign: &str, times: usize) -> Result<(
     Ok(())
 }
 
-/// Puts a text of ASCII, and blanks up to that width.
+/// Writes a text of ASCII, and blanks up to that width.
 pub(crate) fn put_padded(line: &mut String, text: &str, width: usize) -> Result<(), AllocError> {
     line.push_str(text)?;
     put_times(line, " ", width.saturating_sub(text.len()))

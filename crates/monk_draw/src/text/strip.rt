@@ -3,14 +3,14 @@
 use super::column::{Column, GAP};
 use std::alloc::{AllocError, Global};
 
-/// A strip: the columns from the first up to the last but one of these numbers.
+/// A strip: the columns from `first` up to the one before `last`.
 #[derive(Clone, Copy, Debug, PartialEq, Eq)]
 pub(crate) struct Strip {
     pub(crate) first: usize,
     pub(crate) last: usize,
 }
 
-/// The strips of the columns. Each has as many of them as there is room for, and at least one.
+/// Returns the strips of the columns. Each has as many of them as there is room for, and at least one.
 pub(crate) fn strips(
     alloc: Global,
     columns: &[Column],

@@ -1,4 +1,4 @@
-//! An event in the words of a picture of text.
+//! An event in words, for a picture of text.
 
 use crate::label::{act_word, verb};
 use crate::names::Names;
@@ -6,7 +6,7 @@ use monk_history::{Event, Header};
 use monk_object::{Buffer, Flags, ObjectName, Op};
 use std::alloc::AllocError;
 
-/// Puts the name of a condition or a predicate, or its number.
+/// Writes the name of a condition or a predicate, or its number.
 fn put_name(line: &mut String, names: Names<'_>, number: u8) -> Result<(), AllocError> {
     match names.conditions.get(usize::from(number)) {
         Some(name) => write!(line, " {name}"),
@@ -14,7 +14,7 @@ fn put_name(line: &mut String, names: Names<'_>, number: u8) -> Result<(), Alloc
     }
 }
 
-/// Puts the bits that are set, as many as there are flags, or more if higher ones are.
+/// Writes the bits of the flags, as many as there are flags, or more if higher bits are set.
 fn put_bits(line: &mut String, bits: u32, size: u8) -> Result<(), AllocError> {
     line.push_str(" ")?;
     for bit in (0..32u32).rev() {
@@ -26,7 +26,7 @@ fn put_bits(line: &mut String, bits: u32, size: u8) -> Result<(), AllocError> {
     Ok(())
 }
 
-/// Puts what an act was called with or brought, if its object has such.
+/// Writes what an act was called with or what it brought, if its object has that.
 fn put_item(line: &mut String, header: &Header, op: Op, reply: u64) -> Result<(), AllocError> {
     match (header.object(), op.code) {
         (ObjectName::Buffer, Buffer::PUT) => write!(line, " {}", op.arg),
@@ -42,7 +42,7 @@ fn put_act(line: &mut String, header: &Header, op: Op, reply: u64) -> Result<(),
     line.push_str(if reply == 0 { "?" } else { "" })
 }
 
-/// Puts the words of an event: what it is, and on which condition; an act that was refused has a question mark.
+/// Writes the words of an event: what it is, and on which condition. An act that was refused has a question mark.
 pub(crate) fn put_words(
     line: &mut String,
     header: &Header,

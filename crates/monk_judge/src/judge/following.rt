@@ -1,4 +1,4 @@
-//! A run, step by step.
+//! Follows a run step by step.
 
 ghost use Rattle.std.specs.Prelude.{◌≡◌, ◌<◌, length, slice_index_or, slice_set, None};
 ghost use Rattle.monk_judge.specs.Judged.{after_all};
@@ -39,7 +39,7 @@ impl<T: Guarded> Judge<T> {
         }
     }
 
-    /// What a line tells happens, and its signal wakes that thread.
+    /// Carries out the step of a line. Its signal wakes the thread `woken`.
     fn tell(&mut self, line: LogLine, woken: Option<u8>)
         requires { May (setting_of self.old T.meaning) (state_of self.old) (Tells line woken) }
         ensures state { state_of self.new
@@ -57,7 +57,7 @@ impl<T: Guarded> Judge<T> {
         }
     }
 
-    /// The seat lets the lock go and is there.
+    /// Lets the seat's lock go, and moves the seat to the place.
     fn let_go(&mut self, seat: u8, place: Place)
         requires { seat < length self.old.places }
         ensures { self.new ≡ shown self.old.conds None (slice_set self.old.places seat place) self.old.ends
@@ -67,7 +67,7 @@ impl<T: Guarded> Judge<T> {
         self.put(seat, place);
     }
 
-    /// A signal to the condition wakes that thread.
+    /// Wakes the thread that a signal to the condition wakes.
     fn wake_named(&mut self, cond: u8, woken: Option<u8>)
         requires { WakesRightly (state_of self.old) cond woken }
         ensures state { state_of self.new
@@ -79,7 +79,7 @@ impl<T: Guarded> Judge<T> {
         }
     }
 
-    /// The object carries an operation out.
+    /// Carries out an operation on the object.
     fn change(&mut self, op: Op)
         requires { op.code < T.CODES }
         ensures { self.new ≡ shown self.old.conds self.old.lock self.old.places self.old.ends
@@ -88,7 +88,7 @@ impl<T: Guarded> Judge<T> {
         let _reply = self.object.act(op);
     }
 
-    /// The wait of the seat runs out.
+    /// Lets the wait of the seat run out.
     fn run_out(&mut self, seat: u8)
         requires { Sleeps (slice_index_or self.old.places seat Outside) }
         ensures state { state_of self.new
@@ -100,7 +100,7 @@ impl<T: Guarded> Judge<T> {
         self.put(seat, place.run_out());
     }
 
-    /// The seat wakes though nobody sent a signal.
+    /// Wakes the seat though nobody sent a signal.
     fn wake_unasked(&mut self, seat: u8)
         requires { Sleeps (slice_index_or self.old.places seat Outside) }
         ensures state { state_of self.new

@@ -1,4 +1,4 @@
-//! What a signal is lacking for.
+//! What a missing signal is judged by.
 
 ghost use Rattle.monk_judge.specs.Among.{Decides};
 ghost use Rattle.monk_judge.specs.Missed.{Holds, IsUnsignalled};
@@ -9,7 +9,7 @@ use crate::place::Place;
 use monk_object::Guarded;
 
 impl<T: Guarded> Judge<T> {
-    /// Whether somebody is there.
+    /// Whether somebody is in that place.
     fn has_at(&self, there: Place) -> bool
         ensures { Decides result (IsThere self.now.places there) }
     {

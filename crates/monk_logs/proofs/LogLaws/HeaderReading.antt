@@ -1,4 +1,4 @@
--- What is read as a log's first line is how it is written, and one that is written is read again.
+-- A log's first line is read from the words that it is written as, and one that is written is read again.
 use Rattle.std.proofs.Common.{lit<, ◌≡◌, ℕ, ◌≤◌, ◌==◌, Bool, true, false, cond, List, [], ◌∷◌, Option, Some, None, Ok}
 use Rattle.std.proofs.Common.{refl, sym, subst, arith}
 use Rattle.std.specs.Prelude.{nat_le, ◌&&◌, codes}
@@ -60,7 +60,7 @@ heading_fits s c o z ws x le e =
       },
     )
 
--- the version is that of the logs that name the object
+-- the version is the one of the logs that name the object
 of_version : (b : Bool) (ws : List Word) (h : Option LogHeading) (x : LogHeading × List Word)
     → with_rest ws (cond b h None) ≡ Ok x
     → (b ≡ true) × (with_rest ws h ≡ Ok x)

@@ -1,4 +1,4 @@
--- What is read as a line of a log is how it is written, and a line that is written is read again.
+-- A line is read from the words that it is written as, and a line that is written is read again.
 use Rattle.std.proofs.Common.{arith, lit<, ◌≡◌, ℕ, ◌≤◌, List, [], ◌∷◌, ◌++◌, Some, Ok, refl, ap, subst, ◌∙◌}
 use Rattle.std.specs.Fmt.{decimal}
 use Rattle.std.proofs.lemmas.List.{append-nil}
@@ -17,9 +17,9 @@ use Rattle.monk_logs.specs.declared.text.verb.LineVerb.TheVariants as verb
 verb_again : (v : LineVerb) → with_text log_verb_word log_verbs (log_verb_word v) ≡ Some v
 verb_again v = grind (arith)
 
--- ---- behind verb and seat
+-- ---- after verb and seat
 
--- what a line is where its verb and its seat have been read
+-- what a line is after its verb and its seat have been read
 abbrev Ends : LineVerb → ℕ → List Word → LogLine × List Word → Type 0
 Ends v s ws y = (log_verb_word v ∷ decimal s ∷ ws ≡ log_words y.0 ++ y.1) × LineFits y.0
 

@@ -1,4 +1,4 @@
--- The laws of the text of a log: what is read has that text, and what has a text is read from it.
+-- The laws of the text of a log: the text is that of the log that is read, and each log is read from its text.
 use Rattle.std.proofs.Common.{◌≡◌, ℕ, ◌≤◌, List, length, Result, Ok, Err, ap, subst, ◌∙◌, arith}
 use Rattle.std.specs.Prelude.{IfOk, IfSome, Option}
 use Rattle.std.specs.Global.{Vec}
@@ -52,7 +52,7 @@ log_one h g xs ys one two same =
     xs ys one.header_fits one.lines_fit two.header_fits two.lines_fit same in
     ap (λ (x : LogHeading). log x xs) is.0 ∙ ap (λ (x : List LogLine). log g x) is.1
 
--- what was read of a log has its text
+-- the bytes are the text of the log that was read
 pub log_read : (limit : ℕ) (bytes : List ℕ) (x : Log) → log_at limit bytes ≡ Ok x
     → HasLogText x.0 x.1 × (length x.1 ≤ limit) × (bytes ≡ log_text x.0 x.1)
 log_read limit bytes x is =
@@ -60,7 +60,7 @@ log_read limit bytes x is =
     limit bytes x.0 x.1 is in
     (record { header_fits = r.head_fits; lines_fit = r.fit }, r.few, r.whole)
 
--- ---- what a function gives
+-- ---- what a function returns
 
 pub is_found : (limit : ℕ) (bytes : List ℕ) (r : Result (LogHeading × Vec LogLine) ReadFault)
     → Gives log_view r (log_at limit bytes)
@@ -79,7 +79,7 @@ is_only limit bytes r h ls has le same given =
     subst (λ (x : Result Log ReadFault). Gives log_view r x)
     (ap (log_at limit) same ∙ log_again limit h ls has le) given
 
--- ---- a line that stands at the front
+-- ---- the line at the front
 
 pub line_at_front : (h : LogHeading) (bytes : List ℕ) (r : Option (LogLine × ℕ))
     → IfSome r (λ x. StandsAt bytes 0 (line (log_words x.0)) x.1) → IfSome r (λ x. LineFits x.0)

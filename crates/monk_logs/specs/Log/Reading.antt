@@ -33,7 +33,7 @@ abbrev pub log_verbs : List LineVerb
 log_verbs = verb.Enter ∷ verb.Resume ∷ verb.Lapse ∷ verb.Leave ∷ verb.Wait ∷ verb.Signal ∷ verb.Broadcast ∷ verb.Until
     ∷ verb.Act ∷ []
 
--- the line that the words after its verb and its seat tell
+-- the line that the words after its verb and its seat give
 unfoldable pub line_after : LineVerb → ℕ → List Word → Taken LogLine
 line_after verb.Enter s ws = Ok (Enter s, ws)
 line_after verb.Resume s ws = Ok (Resume s, ws)
@@ -62,7 +62,7 @@ log_heading_of seats conds object size =
     if nat_le 1 seats && nat_le seats most_seats && nat_le conds most_conds && nat_le 1 size
     then Some (log_heading seats conds object size) else None
 
--- the heading that those words tell
+-- the heading that those words give
 unfoldable pub log_header_at : List Word → Taken LogHeading
 log_header_at ws = do
   l ← literal_at (codes "log") ws
@@ -84,7 +84,7 @@ Log = LogHeading × List LogLine
 abbrev pub log : LogHeading → List LogLine → Log
 log h lines = (h, lines)
 
--- the same of what a function returned
+-- the same from what a function returned
 abbrev pub log_view : LogHeading × Vec LogLine → Log
 log_view r = log r.0 r.1.items
 
@@ -92,6 +92,6 @@ log_view r = log r.0 r.1.items
 abbrev pub line_under : LogHeading → List Word → Taken LogLine
 line_under h ws = log_line_at ws
 
--- the log that the text is of, or its first fault
+-- the log of the text, or the text's first fault
 abbrev pub log_at : ℕ → List ℕ → Result Log ReadFault
 log_at limit bytes = lines_at log_header_at line_under limit (lines_of bytes)

@@ -1,4 +1,4 @@
-//! What stands before the lines of a log.
+//! The header of a log.
 
 ghost use Rattle.std.specs.Prelude.{◌≡◌};
 ghost use Rattle.monk_object.specs.Names.{object_word, objects};
@@ -11,8 +11,7 @@ use monk_history::{MOST_CONDS, MOST_SEATS};
 use monk_object::ObjectName;
 use std::marker::Model;
 
-/// What stands before the lines of a log: a monitor of which the kind isn't known. Contracts see a
-/// `LogHeading` with the same parts.
+/// The header of a log: a monitor whose kind isn't known. Contracts see a `LogHeading` with the same parts.
 #[derive(Clone, Copy)]
 pub struct LogHeader {
     seats: u8,
@@ -34,8 +33,8 @@ impl Model for LogHeader {
 }
 
 impl LogHeader {
-    /// `None` unless there are 1 to [`MOST_SEATS`] seats, at most [`MOST_CONDS`] conditions and a
-    /// size of 1 or more. The greatest size of the object isn't tested here.
+    /// Returns a header, or `None` unless there are 1 to [`MOST_SEATS`] seats, at most [`MOST_CONDS`]
+    /// conditions and a size of 1 or more. The greatest size of the object isn't tested here.
     pub fn new(seats: u8, conds: u8, object: ObjectName, size: u8) -> Option<LogHeader>
         ensures { result ≡ log_heading_of seats conds object size }
     {
@@ -50,28 +49,28 @@ impl LogHeader {
         })
     }
 
-    /// How many seats there are, 1 to 32. Each thread has one; they are numbered from 0.
+    /// Returns the number of seats, 1 to 32. Each thread has one; they are numbered from 0.
     pub fn seats(&self) -> u8
         ensures { result ≡ self.now.seats }
     {
         self.seats
     }
 
-    /// How many conditions there are, 0 to 8, numbered from 0.
+    /// Returns the number of conditions, 0 to 8. They are numbered from 0.
     pub fn conds(&self) -> u8
         ensures { result ≡ self.now.conds }
     {
         self.conds
     }
 
-    /// The object that the monitor guards. Of a log without acts it means nothing.
+    /// Returns the object that the monitor guards. It means nothing in a log without acts.
     pub fn object(&self) -> ObjectName
         ensures { result ≡ self.now.object }
     {
         self.object
     }
 
-    /// The size of the object, 1 to 255.
+    /// Returns the size of the object, 1 to 255.
     pub fn size(&self) -> u8
         ensures value { result ≡ self.now.size }
         ensures fits { IsLogHeading self.now }
@@ -118,7 +117,7 @@ fn object(words: &mut LineWords<'_>) -> Result<ObjectName, Flaw>
     ObjectName::of_text(word).ok_or(Flaw::Word)
 }
 
-/// The version of the logs that name the object.
+/// Returns the version of the logs that name the object.
 fn log_version(object: ObjectName) -> u8
     ensures { result ≡ log_version object }
 {

@@ -5,32 +5,32 @@ ghost use Rattle.monk_logs.specs.Log.{line_seat};
 
 use monk_object::Op;
 
-/// What a thread knows and writes down while it holds the lock. The first number is its seat. Whom the scheduler chose,
-/// and from which queue, it can't know.
+/// What a thread knows and writes down while it holds the lock. The first number is its seat. It
+/// can't know whom the scheduler chose, and from which queue.
 #[derive(Clone, Copy, Debug, PartialEq, Eq)]
 pub enum LogLine {
-    /// It came in.
+    /// The seat came in.
     Enter(u8),
-    /// It goes on behind a wait, or behind a signal that handed the monitor over.
+    /// The seat goes on after a wait, or after a signal that handed the monitor over.
     Resume(u8),
-    /// It goes on behind a timed wait that ran out.
+    /// The seat goes on after a timed wait that ran out.
     Lapse(u8),
-    /// It goes out. Written before the call.
+    /// The seat goes out. Written before the call.
     Leave(u8),
-    /// It waits on the condition. Written before the call.
+    /// The seat waits on the condition. Written before the call.
     Wait(u8, u8),
-    /// It signals the condition. Written before the call.
+    /// The seat signals the condition. Written before the call.
     Signal(u8, u8),
-    /// It signals to all who wait on the condition. Written before the call.
+    /// The seat signals to all who wait on the condition. Written before the call.
     Broadcast(u8, u8),
-    /// It waits until the predicate holds. Written before the call.
+    /// The seat waits until the predicate holds. Written before the call.
     Until(u8, u8),
-    /// It did that to the object, with this reply.
+    /// The seat called the object's act, and got this reply.
     Act(u8, Op, u64),
 }
 
 impl LogLine {
-    /// The seat that wrote the line.
+    /// Returns the seat that wrote the line.
     pub fn seat(self) -> u8
         ensures { result ≡ line_seat self }
     {

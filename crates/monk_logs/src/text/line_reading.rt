@@ -67,7 +67,7 @@ fn line_after(words: &mut LineWords<'_>, verb: LineVerb, seat: u8) -> Result<Log
     }
 }
 
-/// A code, an argument and a reply.
+/// Reads a code, an argument and a reply.
 #[tactic(auto, unfolding(monk_history::specs::Text::Reading::act_at))]
 fn act(words: &mut LineWords<'_>) -> Result<(Op, u64), Flaw>
     ensures { Reads result words.new (act_at words.old) }

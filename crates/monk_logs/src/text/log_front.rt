@@ -1,5 +1,5 @@
-//! The line of a log that stands at the front of some bytes, read with no search for the line's
-//! end, where the line is short and each of its seats, conditions, predicates and codes has at most
+//! Reads the line of a log at the front of some bytes, without a search for the line's end. The
+//! line must be short, and each of its seats, conditions, predicates and codes must have at most
 //! two digits. Recorders write such lines.
 
 ghost use Rattle.std.specs.Prelude.{◌∷◌, [], ◌+◌, ◌≤◌, IfSome, length, codes, decimal};
@@ -13,10 +13,10 @@ use monk_history::lines::places::{
 };
 use monk_object::Op;
 
-/// No line that is read here is longer.
+/// The greatest length of a line that is read here.
 pub(crate) const WINDOW: usize = 32;
 
-/// The line that stands at the front, and the place behind it.
+/// Returns the line at the front, and the place after it.
 #[inline(always)]
 pub(crate) fn line_at_front(bytes: &[u8]) -> Option<(LogLine, usize)>
     requires window { WINDOW ≤ length bytes.now }
@@ -40,7 +40,7 @@ pub(crate) fn line_at_front(bytes: &[u8]) -> Option<(LogLine, usize)>
     }
 }
 
-/// A line that few logs have, or have often.
+/// Reads a line with a verb that most logs use seldom or never.
 #[inline(always)]
 fn rare_line(bytes: &[u8]) -> Option<(LogLine, usize)>
     requires window { WINDOW ≤ length bytes.now }
@@ -191,7 +191,7 @@ fn until(bytes: &[u8]) -> Option<(LogLine, usize)>
     Some((LogLine::Until(seat, pred), place))
 }
 
-/// A seat, and a condition or a predicate, to the line's end.
+/// Reads a seat and a condition or a predicate, up to the line's end.
 #[inline(always)]
 fn two_numbers_at(bytes: &[u8], place: usize) -> Option<(u8, u8, usize)>
     requires { place + 6 ≤ length bytes.now }

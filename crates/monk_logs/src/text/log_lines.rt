@@ -1,4 +1,4 @@
-//! The lines of a log's text, one after the other.
+//! Reads the lines of a log's text one after the other.
 
 ghost use Rattle.std.specs.Prelude.{◌≡◌, ◌≤◌, ◌∷◌, [], List, length, IfOk, MatchOption, None, Ok};
 ghost use Rattle.monk_history.specs.Limits.{most_lines};
@@ -33,34 +33,34 @@ impl<'a> Model for LogLines<'a> {
 }
 
 impl<'a> LogLines<'a> {
-    /// The log that the text is of, or its first fault, as [`read_log`](crate::read_log) gives it, without the fault
-    /// `MEMORY`.
+    /// Returns the log of the text, or its first fault: what [`read_log`](crate::read_log) returns,
+    /// without the fault `MEMORY`.
     ///
     /// # Cost
     ///
     /// One pass over the bytes, which keeps no line and takes no memory.
     pub fn check(bytes: &'a [u8]) -> Result<LogLines<'a>, ReadFault>
-        // What is found has this text.
+        // The bytes are the text of what is found.
         ensures found { IfOk result (λ l. HasLogText l.0 l.1 × (length l.1 ≤ most_lines)
             × (bytes.entry.now ≡ log_text l.0 l.1)) }
-        // What has a text is found in it.
+        // What the bytes are the text of is found.
         ensures only { (h : LogHeading) (ls : List LogLine) → HasLogText h ls → length ls ≤ most_lines
             → bytes.entry.now ≡ log_text h ls → result ≡ Ok (log h ls) }
-        // Which fault it is.
+        // Says which fault it is.
         ensures exact { result ≡ log_at most_lines bytes.entry.now }
     {
         let lines = CheckedLines::check(bytes, MOST_LOG_LINES)?;
         Ok(LogLines { lines })
     }
 
-    /// What stands in the first line.
+    /// Returns the header, which is the first line.
     pub fn header(&self) -> LogHeader
         ensures { result ≡ self.now.0 }
     {
         self.lines.header()
     }
 
-    /// Reads the next line; `None` where all are read. It takes no memory.
+    /// Reads the next line, or returns `None` if all are read. It takes no memory.
     #[inline(always)]
     pub fn next(&mut self) -> Option<LogLine>
         ensures line { MatchOption result (self.old.1 ≡ []) (λ l. self.old.1 ≡ l ∷ self.new.1) }
@@ -70,7 +70,7 @@ impl<'a> LogLines<'a> {
         self.lines.next()
     }
 
-    /// The same lines once more. Constant time.
+    /// Returns the same lines once more. Constant time.
     pub fn again(&self) -> LogLines<'a>
         ensures { result ≡ self.now }
     {

@@ -1,4 +1,4 @@
-//! The header and the lines of a log's text, or its first fault.
+//! The header and the lines of a log, read from its text, or the text's first fault.
 
 ghost use Rattle.std.specs.Prelude.{◌≡◌, ◌≤◌, List, length, IfOk, Ok};
 ghost use Rattle.monk_history.specs.Limits.{most_lines};
@@ -14,21 +14,21 @@ use monk_history::MOST_LINES;
 use monk_history::lines::{ReadFault, read_lines};
 use std::alloc::Global;
 
-/// The most lines of a log behind its first: 2^25.
+/// The most lines of a log after its first: 2^25.
 pub const MOST_LOG_LINES: u32 = MOST_LINES;
 
-/// The header and the lines of the log, or the first fault of its text.
+/// Returns the header and the lines of the log, or the first fault of its text.
 ///
-/// Each line ends by one byte 10, and exactly one byte 32 separates the words of a line. The first line is
-/// `log VERSION SEATS CONDS OBJECT SIZE`, as behind the kind in the header of a history; the
-/// version is 2 where the object is flags, else 1. Each further line is one of
+/// Each line ends with one byte 10, and exactly one byte 32 separates the words of a line. The first line is
+/// `log VERSION SEATS CONDS OBJECT SIZE`; after the version come the same words as after the kind in a
+/// history's header. The version is 2 if the object is flags, else 1. Each further line is one of
 ///
 /// - `enter SEAT`, `resume SEAT`, `lapse SEAT`, `leave SEAT`;
 /// - `wait SEAT COND`, `signal SEAT COND`, `broadcast SEAT COND`, `until SEAT PRED`;
 /// - `act SEAT CODE ARG REPLY`.
 ///
-/// A seat, a code, a condition and a predicate are 0 to 255, an argument 0 to 2^32 - 1, a reply 0
-/// to 2^64 - 1; whether the monitor has them isn't tested here.
+/// A seat, a code, a condition and a predicate are 0 to 255, an argument is 0 to 2^32 - 1, a reply
+/// 0 to 2^64 - 1. Whether the monitor has them isn't tested here.
 ///
 /// # Errors
 ///
@@ -47,19 +47,19 @@ pub const MOST_LOG_LINES: u32 = MOST_LINES;
 ///
 /// One pass over the bytes. Memory is taken for the list of lines alone, up to twice its length while it grows.
 pub fn read_log(alloc: Global, bytes: &[u8]) -> Result<(LogHeader, Vec<LogLine>), ReadFault>
-    // What is read has this text.
+    // The bytes are the text of what is read.
     ensures found { IfOk result (λ r. HasLogText r.0 r.1.items × (length r.1.items ≤ most_lines)
         × (bytes.now ≡ log_text r.0 r.1.items)) }
-    // What has a text is read from it, unless memory runs out.
+    // What the bytes are the text of is read, unless memory runs out.
     ensures only { (h : LogHeading) (ls : List LogLine) → HasLogText h ls → length ls ≤ most_lines
         → bytes.now ≡ log_text h ls → Gives log_view result (Ok (log h ls)) }
-    // Which fault it is.
+    // Says which fault it is.
     ensures exact { Gives log_view result (log_at most_lines bytes.now) }
 {
     read_lines(alloc, bytes, MOST_LOG_LINES)
 }
 
-/// A law: two texts differ where the headers or the lines of their logs do. It does nothing.
+/// A law: if two logs differ in their headers or lines, their texts differ. It does nothing.
 pub fn one_log_each()
     ensures { OneLogEach }
 {}

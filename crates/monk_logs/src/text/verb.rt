@@ -4,7 +4,7 @@ ghost use Rattle.std.specs.Prelude.{◌≡◌};
 ghost use Rattle.monk_kinds.specs.Names.{with_text};
 ghost use Rattle.monk_logs.specs.Log.Reading.{log_verb_word, log_verbs};
 
-/// Which line it is.
+/// The verb of a line.
 #[derive(Clone, Copy)]
 pub(crate) enum LineVerb {
     Enter,
@@ -19,7 +19,7 @@ pub(crate) enum LineVerb {
 }
 
 impl LineVerb {
-    /// The verb whose word this is.
+    /// Returns the verb with that word.
     pub(crate) fn of_text(word: &[u8]) -> Option<LineVerb>
         ensures { result ≡ with_text log_verb_word log_verbs word.now }
     {

@@ -1,12 +1,12 @@
 //! Constant parts of a page, which template/make makes.
 
-/// What stands before the picture of a history.
+/// The text before the picture of a history.
 pub(crate) const OPENING: &str = "\
 <article class=\"history\">\n<h2 class=\"heading\"><span class=\"about\"></span> <span class=\"\
 verdict\"></span></h2>\n<div class=\"picture card\" role=\"group\"\n  aria-label=\"Picture of \
 the history. The table at the end of the page tells the same.\">\n";
 
-/// What stands between the picture and the data.
+/// The text between the picture and the data.
 pub(crate) const MIDDLE: &str = "\
 \n</div>\n<div class=\"strips\" aria-hidden=\"true\"></div>\n<noscript>\n<p>Stepping through n\
 eeds this page's script. The picture shows the history as it is.</p>\n</noscript>\n<div class=\
@@ -20,10 +20,10 @@ s=\"notes\"></div>\n</section>\n<details class=\"all\" hidden><summary>All steps
 ummary><div class=\"table\"></div></details>\n<script type=\"application/json\" class=\"histor\
 y-data\">\n";
 
-/// What stands between the data and what is told beside them.
+/// The text between the data and what was given beside the history.
 pub(crate) const BESIDE: &str = "\
 \n</script>\n<script type=\"application/json\" class=\"told-data\">\n";
 
-/// What stands behind that.
+/// The text after that.
 pub(crate) const CLOSING: &str = "\
 \n</script>\n</article>\n";

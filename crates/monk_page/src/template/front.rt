@@ -1,6 +1,6 @@
 //! Constant parts of a page, which template/make makes.
 
-/// What stands before the first history.
+/// The text before the first history.
 pub(crate) const FRONT: &str = "\
 <!DOCTYPE html>\n<html lang=\"en\">\n<head>\n<meta charset=\"utf-8\">\n<meta name=\"viewport\" \
 content=\"width=device-width, initial-scale=1\">\n<meta name=\"color-scheme\" content=\"light \

@@ -1,6 +1,6 @@
 //! Constant parts of a page, which template/make makes.
 
-/// What stands behind the last history, up to what each kind of page has of its own.
+/// The text after the last history, up to what each kind of page has of its own.
 pub(crate) const SHARED: &str = "\
 </main>\n<dialog id=\"help\" aria-labelledby=\"help-head\">\n  <form method=\"dialog\"><h2 id=\
 \"help-head\">Keys</h2><button aria-label=\"Close\">&#215;</button></form>\n  <dl>\n    <dt><k\

@@ -10,13 +10,13 @@ use std::fmt;
 /// Why a seat may not make its call now: whose turn it is, or where the seat is.
 #[derive(Clone, Copy, Debug)]
 pub enum OutOfTurn {
-    /// The seat isn't active: whoever enters is next.
+    /// The seat isn't active: a caller who enters is next.
     Open(u8),
-    /// The seat isn't next: another has to resume from that queue first.
+    /// The seat isn't next: the second seat has to resume from that queue first.
     Due(u8, u8, From3),
     /// The seat has to resume from that queue first.
     Resumes(u8, From3),
-    /// The seat isn't next: another is active.
+    /// The seat isn't next: the second seat is active.
     Active(u8, u8),
     /// The seat is active already.
     Already(u8),
@@ -26,7 +26,7 @@ pub enum OutOfTurn {
     Inside(u8),
     /// The seat can't find the monitor free: somebody inside could go on.
     NotFree(u8),
-    /// Nobody was there who could hand the monitor over to the seat.
+    /// Nobody came before the seat who could hand the monitor over to it.
     FirstOfAll(u8),
 }
 

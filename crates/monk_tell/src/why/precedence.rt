@@ -15,9 +15,9 @@ pub enum Precedence {
     NotFirst(u8, From3),
     /// That queue is empty.
     NobodyIn(From3),
-    /// The seat isn't the first of those whose predicate holds.
+    /// The seat isn't the first whose predicate holds.
     NotReady(u8),
-    /// There is nobody whose predicate holds.
+    /// Nobody waits whose predicate holds.
     NobodyReady,
     /// The kind puts waiters above signallers, and the seat is the first waiter.
     WaitersFirst(u8, KindName),

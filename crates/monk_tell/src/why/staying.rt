@@ -19,9 +19,9 @@ pub enum Staying {
     MustYield(u8, KindName),
     /// The kind puts signallers above waiters, so the seat has to stay active.
     MustStay(u8, KindName),
-    /// The first seat steps back behind the second, which signalled before it.
+    /// The first seat steps back after the second, which signalled before it.
     StepsBehind(u8, u8),
-    /// The seat signals itself, and may at most stay.
+    /// The seat's own signal put it in the queue, so it goes on only by staying.
     OwnSignal(u8),
 }
 

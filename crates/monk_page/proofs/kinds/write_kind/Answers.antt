@@ -10,7 +10,7 @@ use Rattle.monk_page.specs.Kinds.{kind_json, verdict_json}
 use Rattle.monk_page.specs.Writes.{AddsValue}
 use Rattle.monk_page.proofs.kinds.write_kind.Goals as goal
 
--- what is told under a history's own kind is what is told of it
+-- the answer under a history's own kind is the answer for the history
 own_kind : (h : Heading) (es : List Event) (k : KindName) → k ≡ h.kind → account h es ≡ account (under k h) es
 own_kind h es k is = subst (λ (l : KindName). account h es ≡ account (under l h) es) (sym is) refl
 

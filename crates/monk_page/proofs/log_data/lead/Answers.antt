@@ -7,7 +7,7 @@ use Rattle.monk_judge.specs.Shown.{setting_of, state_of}
 use Rattle.monk_judge.specs.declared.step.Step.{Step}
 use Rattle.monk_page.proofs.log_data.lead.Goals as goal
 
--- the steps that are shown are a run from the state in which the steps before them end
+-- the steps that are shown are a run from the state after the steps before them
 shown_run : (m k : Setting) (x y : State) (steps early rest shown : List Step) (before many : ℕ)
     → IsRun m x steps → early ≡ telling before steps → rest ≡ behind_lines before steps
     → shown ≡ telling many rest → k ≡ m → y ≡ after_all m x early → IsRun k y shown

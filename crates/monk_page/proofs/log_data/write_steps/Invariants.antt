@@ -6,7 +6,7 @@ use Rattle.monk_page.specs.Log.{told_json}
 use Rattle.monk_page.proofs.WriteLaws.{WritesList}
 use Rattle.monk_page.proofs.log_data.write_steps.Given as goal
 
--- what is left is a run from the state in which the judge is
+-- the remaining steps are a run from the state in which the judge is
 abbrev pub invariant-loop-step : goal.invariant-loop-step
 invariant-loop-step g l =
     let m = setting_of l.initial.judge g.T.Guarded.meaning in

@@ -7,7 +7,7 @@ use Rattle.monk_judge.specs.Shown.{setting_of, state_of}
 use Rattle.monk_page.specs.LogScene.{rows, rows_behind}
 use Rattle.monk_page.proofs.log_scene.rows.Given as goal
 
--- the rows so far and those of what is left, which is a run, are those of all steps
+-- the rows so far and the rows of the remaining steps, which are a run, are the rows of all steps
 abbrev pub invariant-loop-step : goal.invariant-loop-step
 invariant-loop-step g l =
     let o = g.T.Guarded.meaning in

@@ -1,7 +1,7 @@
 use Rattle.monk_page.specs.Html.{article}
 use Rattle.monk_page.proofs.shell.article_around.Goals as goal
 
--- (the constants are the same, and aren't looked at)
+-- (the constants are the same; the proof doesn't look at them)
 pub returns : goal.returns
 unfolding article
 returns c = c.format.ensures.ok

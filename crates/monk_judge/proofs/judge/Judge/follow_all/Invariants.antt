@@ -4,7 +4,7 @@ use Rattle.monk_judge.specs.Run.{IsRun}
 use Rattle.monk_judge.specs.Shown.{setting_of, state_of}
 use Rattle.monk_judge.proofs.judge.Judge.follow_all.Given as goal
 
--- what is left is a run, and leads where all of it leads
+-- the remaining steps are a run, and lead where all steps lead
 abbrev pub invariant-loop-step : goal.invariant-loop-step
 invariant-loop-step g l =
     let o = g.T.Guarded.meaning in
