@@ -3,8 +3,8 @@
 use crate::word::{Form, Word};
 use clap::builder::ValueParser;
 
-/// A command. Its help says what it does. Then follow an example, its exit statuses, and the page
-/// to read.
+/// A command. Its help says what it does. Then follow an example, exit statuses, and a page to
+/// read.
 #[derive(Clone, Copy)]
 pub(crate) struct CommandWords {
     pub(crate) name: &'static str,

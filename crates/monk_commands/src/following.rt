@@ -17,8 +17,7 @@ use monk_object::Guarded;
 use monk_world::{Answer, Command, World};
 use std::alloc::{AllocError, Global};
 
-/// A replay of a monitor with `conds` conditions. It has an object of its own, because a world doesn't show its
-/// object.
+/// A replay of a monitor with `conds` conditions, over an object of its own, because a world doesn't show its.
 #[derive(Drop)]
 pub(crate) struct Follower<T: Guarded> {
     pub(crate) replay: Replay,

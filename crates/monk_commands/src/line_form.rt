@@ -55,8 +55,8 @@ const LOG_LINES: [&str; 9] = [
     "act SEAT CODE ARG REPLY",
 ];
 
-/// The lines that a text may have after its first line. In a history and in a play they depend on
-/// the version.
+/// The lines that a text may have after its first. In a history and a play they depend on the
+/// version.
 #[derive(Clone, Copy, Debug, PartialEq, Eq)]
 pub struct LineSet {
     text: TextName,
@@ -91,8 +91,7 @@ impl LineSet {
         }
     }
 
-    /// Returns the form that the word names among those of every version or, except in version 1,
-    /// among the later ones.
+    /// Returns the form that the word names among those of every version, or among the later ones.
     fn form_among(
         self,
         forms: &[&'static str],
@@ -116,8 +115,7 @@ impl LineSet {
         None
     }
 
-    /// Returns how lines should begin. It is used if no form belongs to the word that should name
-    /// a line.
+    /// Returns how lines should begin. It is for a line whose naming word belongs to no form.
     pub(crate) fn beginnings(self) -> &'static str {
         match (self.text, self.is_of_version_1) {
             (TextName::History, true) => {

@@ -115,8 +115,7 @@ fn play_over<T: Listed, W: Write>(
     }
 }
 
-/// Does the same over a buffer of that size. It takes memory, so there is a second one only for a
-/// trace.
+/// Does the same over a buffer of that size. It takes memory, so only a trace has a second one.
 fn play_buffer<W: Write>(
     alloc: Global,
     report: Report,

@@ -39,8 +39,7 @@ fn upgrade_text<W: Write>(
 }
 
 /// Reads all of the reader and writes the text of the same events with status 0. A text of version 1 is written in
-/// version 2, another as it is. It judges neither the size nor whether the history is legal: an illegal history stays
-/// the same.
+/// version 2, another as it is. The size and whether the history is legal aren't judged.
 ///
 /// If the reader has no text of a history, the line `unreadable LINE NUMBER WORD` is written with status 2.
 ///

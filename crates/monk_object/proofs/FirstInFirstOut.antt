@@ -9,8 +9,7 @@ use Rattle.monk_object.specs.Laws.{IsFirstInFirstOut, items_put, items_taken}
 use Rattle.monk_object.specs.Runs.{Answered, state_after, answers_of, is_done}
 use Rattle.monk_object.specs.declared.op.Op.{Op}
 
--- from tests for a put, for a take and for room: the reply, the items after, the items that were put and
--- taken
+-- from tests for a put, a take and room: the reply, the items after, and the items put and taken
 abbrev reply_by : Bool → Bool → Bool → List ℕ → ℕ
 reply_by put take room items = cond put (cond room 1 0) (cond take (take_reply items) 0)
 
