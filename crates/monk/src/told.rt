@@ -28,7 +28,7 @@ impl<T: Drop> From<AllocFailed<T>> for Unmade {
     }
 }
 
-/// Why nothing is made if the file of that name can't be read.
+/// Says that the file of that name can't be read, and returns why nothing is made.
 pub(crate) fn unread(rt: &impl Eprint, name: &str, error: &io::Error) -> Unmade {
     if error.kind() == io::ErrorKind::OutOfMemory {
         return Unmade::Fault(StreamFault::Memory);
@@ -36,7 +36,7 @@ pub(crate) fn unread(rt: &impl Eprint, name: &str, error: &io::Error) -> Unmade 
     Unmade::Told(failed_file(rt, name, error))
 }
 
-/// Why nothing is made if the file of that name says something that it may not.
+/// Says what is wrong in the file of that name, and returns why nothing is made.
 fn unfit(rt: &impl Eprint, file: &str, fault: ToldFault) -> Unmade {
     match fault {
         ToldFault::Memory => Unmade::Fault(StreamFault::Memory),

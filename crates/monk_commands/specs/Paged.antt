@@ -6,8 +6,7 @@ use Rattle.monk_history.specs.declared.text.fault.ReadFault.{ReadFault}
 use Rattle.monk_page.specs.Html.{IsArticle, history_end, page_of}
 use Rattle.monk_commands.specs.declared.paging.Paged.{Paged}
 
--- these bytes are the part for what was read, with what its program says; a text that is no
--- history has none
+-- these bytes are the part for what was read, with what its program says; only a history has one
 abbrev pub IsReadArticle : Option Window → List ℕ → Result History ReadFault → List ℕ → Type 0
 IsReadArticle w beside (Ok h) bytes = IsArticle h.0 h.1 w beside bytes
 IsReadArticle w beside (Err f) bytes = ⊥

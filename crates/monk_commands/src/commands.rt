@@ -3,7 +3,7 @@
 use crate::word::{Form, Word};
 use clap::builder::ValueParser;
 
-/// A command. Its help says what it does. Then follow an example, exit statuses, and a page to
+/// A command. Its help says what it does. Then come an example, exit statuses, and a page to
 /// read.
 #[derive(Clone, Copy)]
 pub(crate) struct CommandWords {

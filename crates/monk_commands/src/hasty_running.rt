@@ -131,8 +131,7 @@ pub fn hasty_stream<R: Threads + Wait + Sync, F: Write, W: Write>(
     requires files { has_failed file.old ≡ false }
     requires works { has_failed writer.old ≡ false }
 
-    // The file gets the text of the legal history that a hasty run of this kind left. The lines are those of this
-    // history.
+    // The file gets the text of the legal history that a hasty run of this kind left. The lines are about it.
     ensures answer { IfOk result
         (λ status. IsHastyAnswer crew.kind crew.seats crew.rounds status
         (Appends (F.contents (inner_of file.old)) (F.contents (inner_of file.new)))

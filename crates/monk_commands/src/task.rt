@@ -34,17 +34,16 @@ pub enum Task<'a> {
     ///
     /// For a log, whose first word is `log`, one line is written after `NAME: `, or one line of JSON. It says whether
     /// the log fits, how its program ends, and what else is counted and found ([`judge_log`](monk_judge::judge_log)).
-    /// The status is 1 if the log misfits or misses a signal, or if it ends busy and its program didn't end by
-    /// itself; else 0. A log with another kind than NPNB, or with meanings but without acts, is refused by a line
-    /// with status 2.
+    /// The status is 1 if the log misfits, misses a signal, or ends busy and its program didn't end by itself; else
+    /// 0. A log with another kind than NPNB, or with meanings but without acts, is refused by a line with status 2.
     ///
     /// For a history ten lines are written, in the order of [`KindName::ALL`]: `KIND legal N` or `KIND forbidden STEP
-    /// REASON WORD`. With a kind only its line is written, after `NAME: `. The status is 0 if one line says `legal`,
+    /// REASON WORD`. With a kind only its line is written, after `NAME: `. The status is 0 if a line says `legal`,
     /// else 1.
     ///
-    /// A log takes one pass over its text and two over its lines. It takes memory for 24 bytes a line and the text,
-    /// or for 32 bytes a line, whichever is more. A history takes one pass over the text, and one over the events for
-    /// each kind.
+    /// A log takes one pass over its text and two over its lines. It takes 24 bytes of memory a line and the text, or
+    /// 32 bytes a line, whichever is more. A history takes a pass over the text, and one over the events for each
+    /// kind.
     Fit(FitForm, Question<'a>),
     /// Each command of a play with its answer, by [`trace_stream`].
     Trace,
@@ -54,8 +53,8 @@ pub enum Task<'a> {
     /// lines on how things are at the end, or before the forbidden event. Last come that event, the object's own
     /// reply or what might have been chosen, and a sentence that says why.
     ///
-    /// For a log the line of `Fit` is written, with its status. Then come the lines to look at, each with a sentence,
-    /// and with its place in the source if the recorder wrote that down. Last come the places of the seats, and since
+    /// For a log the line of `Fit` is written, with its status. Then come the lines to look at, each with a sentence
+    /// and, if the recorder wrote that down, with its place in the source. Last comes where each seat is, and since
     /// which line.
     ///
     /// A history takes two passes over the events. A log takes twice what `Fit` does, and memory for a run.
@@ -82,7 +81,7 @@ pub enum Task<'a> {
     ///
     /// A run begins with the line `run NPNB SEATS CONDS OBJECT SIZE`, and has a line for each step. A step is a line
     /// of the log, with ` wakes SEAT` after a signal that woke a thread. Or it is `out SEAT` if the thread's time ran
-    /// out, or `wake SEAT` if it woke though nobody sent a signal. No run that tells the log has fewer of these. If
+    /// out, or `wake SEAT` if it woke though nobody sent a signal. No run that tells the log has fewer such wakes. If
     /// no run tells it, `misfit at LINE: WORD` is written with status 1: the first line of the file with which none
     /// does.
     Complete(Option<KindName>),

@@ -63,8 +63,7 @@ impl fmt::Display for Told {
     }
 }
 
-/// Writes where a seat is, on which queue if it waits inside, and whether the grant it looks for is
-/// there.
+/// Writes a seat's place, its queue if it waits inside, and whether the grant it looks for is there.
 fn put_place<K: Kind, T: Guarded>(
     page: &mut String,
     world: &World<K, T>,

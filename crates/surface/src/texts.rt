@@ -29,8 +29,7 @@ pub fn seat_of(event: Event) -> u8 {
     }
 }
 
-/// The condition or the predicate comes second. If there are two conditions, this is the second
-/// one.
+/// The condition or the predicate comes second. Of two conditions, this is the second one.
 pub fn second_of(event: Event) -> Option<u8> {
     match event {
         Event::Wait(_, cond, _) => Some(cond),

@@ -50,8 +50,7 @@ pub fn wish_of(command: Command) -> Option<Pick> {
     }
 }
 
-/// The condition or the predicate comes first. If there are two conditions, this is the second
-/// one.
+/// The condition or the predicate comes first. Of two conditions, this is the second one.
 pub fn place_of(command: Command) -> Option<u8> {
     match command {
         Command::Wait(cond, _) => Some(cond),

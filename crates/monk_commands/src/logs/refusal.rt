@@ -14,8 +14,7 @@ use std::alloc::{AllocError, Global};
 pub(crate) enum LogRefusal {
     /// The size is above the object's greatest.
     TooBig,
-    /// It should be judged by the rules of this kind. The rules of a mutex with condition variables are
-    /// NPNB's.
+    /// It should be judged by the rules of this kind. A mutex with condition variables has NPNB's.
     OtherKind(KindName),
     /// The options say what threads wait for, but the log has no act on the object.
     NoActs,
