@@ -20,7 +20,7 @@ use std::time::Instant;
 /// The most events of a seat that a hall can have.
 const BUDGET: u32 = 1 << 20;
 
-/// How many chunks are timed. The least time is printed: that of a thread that nothing disturbs.
+/// How many chunks are timed. The least counts: a visit's time while nothing disturbs its thread.
 const CHUNKS: u32 = 150;
 
 /// The visits of a chunk.

@@ -14,7 +14,7 @@ use monk_history::{Device, ReadFault};
 use std::alloc::{AllocError, Global};
 use std::io::Write;
 
-/// What a command answers to an input.
+/// A command's answer to an input.
 #[derive(Drop)]
 pub struct LineAnswer {
     /// The exit status, 0 to 2.

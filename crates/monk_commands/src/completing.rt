@@ -108,7 +108,7 @@ fn complete_text<W: Write>(
 ///
 /// # Errors
 ///
-/// Those of [`audit_stream`](crate::audit_stream).
+/// The errors of [`audit_stream`](crate::audit_stream).
 ///
 /// # Cost
 ///

@@ -28,7 +28,7 @@ fn verdict_under(
     match audit(alloc, &under(history.header, kind), history.events) {
         Ok(verdict) => Ok(verdict),
         Err(AuditFault::Memory) => Err(AllocError),
-        // The size is within the object's greatest.
+        // The size isn't above the object's greatest.
         Err(AuditFault::Object) => unreachable!(),
     }
 }

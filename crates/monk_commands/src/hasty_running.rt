@@ -119,7 +119,7 @@ fn put_hasty<F: Write, W: Write>(
 ///
 /// # Cost
 ///
-/// That of [`run_hasty`], of one audit, and one more pass over the history. The text takes no memory.
+/// The cost of [`run_hasty`], of one audit, and one more pass over the history. The text takes no memory.
 pub fn hasty_stream<R: Threads + Wait + Sync, F: Write, W: Write>(
     rt: &R,
     alloc: Global,

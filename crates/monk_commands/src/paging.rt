@@ -80,7 +80,7 @@ fn page_answer(
 ///
 /// # Cost
 ///
-/// That of each history's [`monk_page::article`], and memory for the page twice.
+/// The cost of [`monk_page::article`] for each history, and memory for the page twice.
 pub fn pages_stream<W: Write>(
     alloc: Global,
     histories: &[Paged<'_>],

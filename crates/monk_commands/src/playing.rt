@@ -24,7 +24,7 @@ use std::io::{Read, Write};
 ///
 /// # Errors
 ///
-/// Those of [`audit_stream`](crate::audit_stream).
+/// The errors of [`audit_stream`](crate::audit_stream).
 ///
 /// # Cost
 ///

@@ -46,11 +46,11 @@ pub(crate) fn put_history<W: Write>(
 ///
 /// # Errors
 ///
-/// Those of [`run_stream`](crate::run_stream).
+/// The errors of [`run_stream`](crate::run_stream).
 ///
 /// # Cost
 ///
-/// That of [`run`](monk_samples::run), and one pass over the history. The text takes no memory.
+/// The cost of [`run`](monk_samples::run), and one pass over the history. The text takes no memory.
 pub fn record_stream<R: Threads + Wait + Sync, W: Write>(
     rt: &R,
     alloc: Global,

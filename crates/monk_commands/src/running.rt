@@ -70,7 +70,7 @@ pub(crate) fn audited(
             verdict_answer(alloc, Verdict::Forbidden { step, reason })
         }
         Err(AuditFault::Memory) => Err(AllocError),
-        // The size is within the object's greatest.
+        // The size isn't above the object's greatest.
         Err(AuditFault::Object) => unreachable!(),
     }
 }
@@ -133,7 +133,7 @@ pub(crate) fn ended(alloc: Global, fault: RunFault) -> Result<LineAnswer, Stream
 ///
 /// # Cost
 ///
-/// That of [`run`], and of one [`audit`].
+/// The cost of [`run`], and of one [`audit`].
 pub fn run_stream<R: Threads + Wait + Sync, W: Write>(
     rt: &R,
     alloc: Global,

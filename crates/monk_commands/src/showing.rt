@@ -50,7 +50,7 @@ fn shown_text(
     match shown {
         Ok(text) => Ok(text),
         Err(AuditFault::Memory) => Err(AllocError),
-        // The size is within the object's greatest.
+        // The size isn't above the object's greatest.
         Err(AuditFault::Object) => unreachable!(),
     }
 }

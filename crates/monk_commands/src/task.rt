@@ -92,11 +92,11 @@ impl Task<'_> {
     ///
     /// # Errors
     ///
-    /// Those of [`audit_stream`].
+    /// The errors of [`audit_stream`].
     ///
     /// # Cost
     ///
-    /// That of the stream.
+    /// The cost of the stream.
     pub fn stream<R: Read, W: Write>(
         self,
         alloc: Global,

@@ -34,12 +34,12 @@ use std::io::{Read, Write};
 ///
 /// # Errors
 ///
-/// Those of [`play_stream`](crate::play_stream).
+/// The errors of [`play_stream`](crate::play_stream).
 ///
 /// # Cost
 ///
-/// That of [`play_stream`](crate::play_stream), and for each command a line with the place of each seat, for which
-/// each queue is searched. Memory for all lines and for the queues, in addition to that of the play.
+/// The cost of [`play_stream`](crate::play_stream), and for each command a line with the place of each seat, for
+/// which each queue is searched. Memory for all lines and for the queues, in addition to the play's.
 pub fn trace_stream<R: Read, W: Write>(
     alloc: Global,
     reader: &mut Device<R>,

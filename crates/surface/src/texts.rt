@@ -83,7 +83,7 @@ pub fn header(
     Header::new(kind, seats, conds, object, size)
 }
 
-/// The reader of each part of a header.
+/// Reads each part of a header.
 pub fn parts_of_header(header: &Header) -> (KindName, u8, u8, ObjectName, u8) {
     (
         header.kind(),

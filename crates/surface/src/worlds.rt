@@ -63,7 +63,7 @@ pub fn place_of(command: Command) -> Option<u8> {
     }
 }
 
-/// The thirteen answers, four of which are refusals; this is the choice.
+/// The thirteen answers. Four of them are refusals. This is the choice.
 pub fn choice_of(answer: Answer) -> Option<Next> {
     match answer {
         Answer::Chose(next) => Some(next),

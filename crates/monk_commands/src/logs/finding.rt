@@ -13,9 +13,9 @@ pub(crate) struct Finding {
     pub(crate) report: Report,
     /// The seats that a signal crossed on their way to sleep.
     pub(crate) crossed: Option<Crossed>,
-    /// How many seats it has.
+    /// How many seats the log has.
     pub(crate) seats: u8,
-    /// The seat of the line that misfits; 0 if none does.
+    /// The seat of the line that misfits, or 0 if none does.
     pub(crate) wrong_seat: u8,
     /// Whether its program has ended by itself.
     pub(crate) has_ended: bool,

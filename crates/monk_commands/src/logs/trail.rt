@@ -22,7 +22,7 @@ pub(crate) struct Trail {
     pub(crate) woken: Option<WokenBy>,
     /// The line with which it waited last.
     pub(crate) waited: Option<usize>,
-    /// How many signals and broadcasts came to its condition since.
+    /// How many signals and broadcasts have come to its condition since then.
     pub(crate) signals: usize,
 }
 
