@@ -108,9 +108,9 @@ fn put_hasty<F: Write, W: Write>(
 /// their own. After an audit has found the history legal, its text goes into the file, in version 1. Then lines about
 /// it go to the writer, with status 0.
 ///
-/// The lines are `put N SUM` and `taken N SUM`, as for a buffer; `missed N`, how many acts were refused; `first
-/// STEP`, the step of the first of them, or `first none`; and `legal`. If the run ends as `Tired`, `Late` or `Busy`,
-/// the line `tired`, `late` or `busy` is written with status 1, and nothing goes into the file.
+/// The lines are `put N SUM` and `taken N SUM`, as for a buffer; `missed N`, how many acts were refused;
+/// `first STEP`, the step of the first of them, or `first none`; and `legal`. If the run ends as `Tired`, `Late` or
+/// `Busy`, the line `tired`, `late` or `busy` is written with status 1, and nothing goes into the file.
 ///
 /// # Errors
 ///

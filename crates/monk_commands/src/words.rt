@@ -75,8 +75,7 @@ fn fault_text(alloc: Global, words: &[&str], error: &clap::Error) -> Result<Stri
     Ok(text)
 }
 
-/// Returns what to do in place of an option that is gone, or of a kind in a place where none may be
-/// now.
+/// Returns what to do in place of an option that is gone, or of a kind where none may be now.
 fn advice_on(word: &str) -> Option<&'static str> {
     if word == "--lapses" {
         return Some("spurious wake-ups are always allowed and counted: leave --lapses out");
