@@ -3,8 +3,7 @@
 use crate::word::{Form, Word};
 use clap::builder::ValueParser;
 
-/// A command. Its help says what it does. Then come an example, exit statuses, and a page to
-/// read.
+/// A command. Its help says what it does. Then come an example, exit statuses, and what to read.
 #[derive(Clone, Copy)]
 pub(crate) struct CommandWords {
     pub(crate) name: &'static str,

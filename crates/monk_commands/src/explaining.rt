@@ -17,7 +17,7 @@ use monk_kinds::KindName;
 use monk_tell::{Telling, tell};
 use std::alloc::{AllocError, Global};
 
-/// Returns the line of the verdict, and what explains it after it.
+/// Returns the line of the verdict, followed by what explains it.
 fn told(alloc: Global, telling: &Telling) -> Result<LineAnswer, AllocError>
     ensures { IfOk result (λ a. IsTold (telling_of telling.now) a.status (string_bytes a.text)) }
 {

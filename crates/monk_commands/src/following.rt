@@ -17,7 +17,7 @@ use monk_object::Guarded;
 use monk_world::{Answer, Command, World};
 use std::alloc::{AllocError, Global};
 
-/// A replay of a monitor with `conds` conditions, over an object of its own, because a world doesn't show its.
+/// A replay of a monitor with `conds` conditions, over an object of its own, because nobody sees the world's.
 #[derive(Drop)]
 pub(crate) struct Follower<T: Guarded> {
     pub(crate) replay: Replay,

@@ -58,7 +58,7 @@ pub enum Hint {
     NoHeader(TextName),
 }
 
-/// Returns the article before the object's word in a sentence. Flags have none, because they are many.
+/// Returns the article before the object's word in a sentence. Flags have none, because the word is a plural.
 fn article(object: ObjectName) -> &'static str {
     match object {
         ObjectName::Buffer | ObjectName::Book | ObjectName::Shop => "a ",

@@ -91,7 +91,7 @@ fn play_named<T: Listed, W: Write>(
     }
 }
 
-/// Does the same over this object. `shown` is its equal, for a trace to show.
+/// Does the same over this object. `shown` is another with its state, for a trace to show.
 fn play_over<T: Listed, W: Write>(
     alloc: Global,
     report: Report,

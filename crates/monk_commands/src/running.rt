@@ -123,8 +123,7 @@ pub(crate) fn ended(alloc: Global, fault: RunFault) -> Result<LineAnswer, Stream
 ///
 /// For a buffer the totals are the lines `put N SUM` and `taken N SUM`. For a book they are `reads BEGUN ENDED` and
 /// `writes BEGUN ENDED`. For a shop they are `sat N`, `called N`, `finished N` and `departed N`. The line `legal`
-/// ends them. If [`run`] ends as `Tired`, `Late` or `Busy`, the line `tired`, `late` or `busy` is written with status
-/// 1.
+/// ends them. If [`run`] ends as `Tired`, `Late` or `Busy`, `tired`, `late` or `busy` is written with status 1.
 ///
 /// # Errors
 ///

@@ -114,8 +114,7 @@ fn answer_to_read(
     }
 }
 
-/// Reads the log that has this text. The text isn't kept: it takes a third of what its lines
-/// take.
+/// Reads the log that has this text. The text isn't kept: it takes a third of the lines' memory.
 fn read_and_drop(alloc: Global, bytes: Vec<u8>) -> Result<(LogHeader, Vec<LogLine>), ReadFault>
     ensures few { IfOk result (λ r. length r.1.items ≤ 2 ^ 25) }
     ensures exact { Gives log_view result (log_at (2 ^ 25) bytes.items) }

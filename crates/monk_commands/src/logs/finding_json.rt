@@ -5,8 +5,7 @@ use crate::logs::verdict_words::number;
 use serde_json::{Map, Value, json, put};
 use std::alloc::{AllocError, Global};
 
-/// Returns a finding as one line of JSON, for other programs. Lines count as in the file; what isn't there is
-/// null.
+/// Returns a finding as a line of JSON, for other programs. Lines count as in the file; what isn't there is null.
 pub(crate) fn finding_json(
     alloc: Global,
     name: &str,
