@@ -1,9 +1,9 @@
 //! Your first monitor: two threads share a buffer, and an auditor judges what they did.
 //!
-//! A hall is a monitor for running threads. It guards an object, here a buffer of one item, and has
-//! a seat for each thread. A thread holds its seat by a pass: `put` and `take` go in by it, wait
-//! until they can do their work, and give it back. When the threads have ended, a pass comes in a
-//! last time and closes the hall, which gives the history of all that was done.
+//! A hall is a monitor for running threads. It guards an object, here a buffer of one item, and has a seat for each
+//! thread. A thread holds its seat by a pass. `put` and `take` go in by the pass, wait until they can do their work,
+//! and give it back. When the threads have ended, a pass comes in once more and closes the hall. This gives the
+//! history of all that was done.
 #![tactic(auto)]
 
 ghost use Rattle.std.specs.Prelude.{◌≡◌, ℕ, IfOk, [], ◌∷◌};
@@ -31,7 +31,7 @@ const SEATS: u8 = 3;
 /// What a thread can wait for: that there is room, and that an item is there.
 const CONDITIONS: u8 = 2;
 
-/// How many events the history has room for.
+/// How many events each seat may make.
 const BUDGET: u32 = 64;
 
 fn main(rt: HostRuntime) -> anyhow::Result<()> {
@@ -97,7 +97,7 @@ fn header() -> Header
     header
 }
 
-/// Whether a word stands behind the program's name.
+/// Whether a word follows the program's name.
 fn asks_for_history(rt: &(impl Env + AllocGlobal)) -> anyhow::Result<bool> {
     Ok(env::args(rt)?.len() > 1)
 }

@@ -1,4 +1,4 @@
--- What a driver of a floor knows of it
+-- What a driver of a floor knows about it
 use Rattle.std.specs.Prelude.{◌≡◌, ℕ, ◌<◌}
 use Rattle.monk_history.specs.Meaning.Counts.{left_of}
 use Rattle.monk_history.specs.Meaning.Turn.{turn}

@@ -13,7 +13,7 @@ impl Chance {
         Chance { state: 1995 }
     }
 
-    /// A number below the bound.
+    /// Returns a number below the bound.
     pub fn below(&mut self, bound: u8) -> u8
         requires { 0 < bound }
         ensures { result < bound }
@@ -25,7 +25,7 @@ impl Chance {
         ((self.state >> 16) % u32::from(bound)) as u8
     }
 
-    /// A wish.
+    /// Returns a wish.
     pub fn pick(&mut self) -> Pick {
         match self.below(3) {
             0 => Pick::Entry,

@@ -1,6 +1,6 @@
 //! Random legal calls on a floor, in one thread: what `bench/floor` times.
 //!
-//! `floor_calls KIND SEATS` has KIND one of PB, PNB, PIS. It prints how many calls were recorded.
+//! In `floor_calls KIND SEATS`, KIND is PB, PNB or PIS. It prints how many calls were recorded.
 #![tactic(auto)]
 
 ghost use Rattle.std.specs.Prelude.{◌≡◌, ◌<◌, IfSome, not};
@@ -19,13 +19,13 @@ use monk_object::{Buffer, Op};
 use std::alloc::Global;
 use std::env;
 
-/// The condition variables of a floor, as many as there can be.
+/// How many condition variables a floor has: the most that it can have.
 const CONDS: u8 = 8;
 
 /// The items of its buffer.
 const SIZE: u8 = 8;
 
-/// The events of each seat, and how often a floor is asked for one call more: so no seat runs out of events.
+/// The events of each seat, and how many more calls a floor is asked for. So no seat runs out of events.
 const CALLS: u32 = 1 << 18;
 
 /// How many floors there are, one after another.
@@ -69,7 +69,7 @@ fn automatic<K: Automatic>(alloc: Global, seats: u8) -> anyhow::Result<usize> {
     Ok(floor.history().len())
 }
 
-/// Whose turn it is after a history.
+/// Returns whose turn it is after a history.
 fn turn_of(history: &[Event]) -> Turn
     ensures { result ≡ turn history.now }
 {
@@ -85,7 +85,7 @@ fn has_begun(history: &[Event]) -> bool
     history.first().is_some()
 }
 
-/// A seat that is outside enters an open monitor; says whether it did.
+/// Lets a seat that is outside enter an open monitor. Returns whether it did.
 fn enter<K: Kind>(floor: &mut Floor<K, Buffer>, seat: u8) -> bool
     requires { seat < floor.old.seats }
     ensures { IsSameSize floor.old floor.new }
@@ -102,7 +102,7 @@ fn enter<K: Kind>(floor: &mut Floor<K, Buffer>, seat: u8) -> bool
     true
 }
 
-/// The seat to which the turn is due goes on.
+/// Lets the seat go on to which the turn is due.
 fn resume<K: Kind>(floor: &mut Floor<K, Buffer>, seats: u8)
     requires { floor.old.seats ≡ seats }
     ensures { IsSameSize floor.old floor.new }
@@ -114,7 +114,7 @@ fn resume<K: Kind>(floor: &mut Floor<K, Buffer>, seats: u8)
     }
 }
 
-/// The seat that has the turn and an event left, if there is one.
+/// Returns the seat that has the turn and an event left, if there is one.
 fn caller<K: Kind>(floor: &Floor<K, Buffer>, seats: u8) -> Option<u8>
     requires { floor.now.seats ≡ seats }
     ensures { IfSome result (OwnsTurn floor.now) }
@@ -125,7 +125,7 @@ fn caller<K: Kind>(floor: &Floor<K, Buffer>, seats: u8) -> Option<u8>
     }
 }
 
-/// The first seat that can enter, from a random one on, does.
+/// Lets the first seat enter that can, from a random one on.
 fn let_in<K: Kind>(floor: &mut Floor<K, Buffer>, chance: &mut Chance, seats: u8)
     requires seats { floor.old.seats ≡ seats }
     requires some { 0 < seats }
@@ -140,7 +140,7 @@ fn let_in<K: Kind>(floor: &mut Floor<K, Buffer>, chance: &mut Chance, seats: u8)
     }
 }
 
-/// Whether a seat is left that may still come, should one more be parked.
+/// Whether a seat would be left that may still come if one more were parked.
 fn may_park<K: Kind>(floor: &Floor<K, Buffer>, seats: u8) -> bool
     requires { floor.now.seats ≡ seats }
 {
@@ -153,7 +153,7 @@ fn may_park<K: Kind>(floor: &Floor<K, Buffer>, seats: u8) -> bool
     parked < seats
 }
 
-/// An act or a leave of the seat that has the turn.
+/// Makes an act or a leave of the seat that has the turn.
 fn common<K: Kind>(floor: &mut Floor<K, Buffer>, chance: &mut Chance, seat: u8)
     requires { OwnsTurn floor.old seat }
     ensures { IsSameSize floor.old floor.new }
@@ -167,7 +167,7 @@ fn common<K: Kind>(floor: &mut Floor<K, Buffer>, chance: &mut Chance, seat: u8)
     }
 }
 
-/// Random calls on a floor of a kind with a signaller queue.
+/// Makes random calls on a floor of a kind with a signaller queue.
 fn drive_explicit<K: Explicit>(floor: &mut Floor<K, Buffer>, seats: u8)
     requires seats { floor.old.seats ≡ seats }
     requires conds { floor.old.conds ≡ CONDS }
@@ -193,7 +193,7 @@ fn drive_explicit<K: Explicit>(floor: &mut Floor<K, Buffer>, seats: u8)
     }
 }
 
-/// Random calls on a floor of an automatic kind.
+/// Makes random calls on a floor of an automatic kind.
 fn drive_automatic<K: Automatic>(floor: &mut Floor<K, Buffer>, seats: u8)
     requires seats { floor.old.seats ≡ seats }
     requires some { 0 < seats }

@@ -1,8 +1,8 @@
 //! Visits to a hall by one thread: what `bench/hall` times.
 //!
-//! `hall_visits` prints how many visits it makes in each of two ways. With a word more it prints the
-//! least nanoseconds of a visit instead: one that arrives, polls and leaves, and one that arrives,
-//! resumes, acts and leaves.
+//! `hall_visits` prints how many visits it makes in each of two ways. With one more word it prints
+//! the least nanoseconds of a visit instead. One kind of visit arrives, polls and leaves. The other
+//! arrives, resumes, acts and leaves.
 #![tactic(auto)]
 
 ghost use Rattle.std.specs.Prelude.{◌≡◌, IfSome};
@@ -20,7 +20,7 @@ use std::time::Instant;
 /// The most events of a seat that a hall can have.
 const BUDGET: u32 = 1 << 20;
 
-/// The least of so many chunks is told: what a visit takes while nothing disturbs its thread.
+/// How many chunks are timed. The least counts: a visit's time while nothing disturbs its thread.
 const CHUNKS: u32 = 150;
 
 /// The visits of a chunk.
@@ -39,7 +39,7 @@ enum Way {
     Act,
 }
 
-/// One visit; none where the seat has too few events left, or the monitor isn't free.
+/// Makes one visit. Returns none if the seat has too few events left, or if the monitor isn't free.
 fn visit<R: Wait>(
     rt: &R,
     hall: &Hall<Pnb, Flags>,
@@ -71,7 +71,7 @@ fn visit<R: Wait>(
     }
 }
 
-/// A chunk of visits.
+/// Makes a chunk of visits.
 fn visits<R: Wait>(
     rt: &R,
     hall: &Hall<Pnb, Flags>,
@@ -88,7 +88,7 @@ fn visits<R: Wait>(
     Some(pass)
 }
 
-/// The least nanoseconds of a chunk of visits.
+/// Returns the least nanoseconds of a chunk of visits.
 fn least<R: Clock + Wait>(
     rt: &R,
     hall: &Hall<Pnb, Flags>,
@@ -113,7 +113,7 @@ fn least<R: Clock + Wait>(
     Ok(best)
 }
 
-/// The least of the chunks of one hall after another.
+/// Returns the least time of the chunks of one hall after another.
 fn least_of_halls<R: Clock + Wait>(rt: &R, alloc: Global, way: Way) -> anyhow::Result<u64> {
     let mut best = u64::MAX;
     for _ in 0..HALLS {

@@ -1,4 +1,4 @@
-//! A reader that keeps the front of what was read, and what the system said where a read failed.
+//! A reader that keeps the front of what was read, and what the system said if a read failed.
 
 ghost use Rattle.std.specs.Prelude.{◌≡◌};
 
@@ -28,17 +28,17 @@ impl<R> Heard<R> {
         }
     }
 
-    /// What the system said of the last read that failed, if it said anything.
+    /// Returns what the system said about the last read that failed, if it said anything.
     pub(crate) fn error(&self) -> Option<io::Error> {
         self.code.map(io::Error::from_raw_os_error)
     }
 
-    /// The first bytes that were read, as many as are kept.
+    /// Returns the first bytes that were read, as many as are kept.
     pub(crate) fn front(&self) -> &[u8] {
         self.front.get(..self.kept).unwrap_or(&[])
     }
 
-    /// Keeps of these bytes, which came behind those that are kept, as many as there is room for.
+    /// Keeps as many of these bytes as there is room for, after those that are kept.
     fn keep(&mut self, bytes: &[u8])
         ensures { self.new.inner ≡ self.old.inner }
     {

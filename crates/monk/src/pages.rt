@@ -1,4 +1,4 @@
-//! Pages of files: each with what is told in the file beside it.
+//! Pages of files, each with what the file beside it says.
 
 ghost use Rattle.std.specs.Prelude.{◌≡◌, false};
 ghost use Rattle.monk_history.specs.Text.Device.{has_failed};
@@ -13,14 +13,14 @@ use std::fs;
 use std::io::Write;
 use std::rt::Files;
 
-/// A file, with what is told beside it.
+/// A file, with what the file beside it says.
 #[derive(Drop)]
 struct Source {
     text: Vec<u8>,
     beside: String,
 }
 
-/// The file of that name, and what is told beside it.
+/// Reads the file of that name, and the one beside it.
 fn read_source<R: Files + Eprint + AllocGlobal>(rt: &R, name: &str) -> Result<Source, Unmade> {
     if name == STANDARD_INPUT {
         let _ = rt.eprintln("monk: standard input is a page by itself: name files");
@@ -36,7 +36,7 @@ fn read_source<R: Files + Eprint + AllocGlobal>(rt: &R, name: &str) -> Result<So
     }
 }
 
-/// Makes one page of files, each with what is told beside it; the result is the exit status.
+/// Makes one page of files, each with what the file beside it says. Returns the exit status.
 fn page_of_files<R: Files + Eprint + AllocGlobal, W: Write>(
     rt: &R,
     files: &[String],
@@ -71,7 +71,7 @@ fn page_of_files<R: Files + Eprint + AllocGlobal, W: Write>(
     }
 }
 
-/// Makes a page of files, or of standard input where none is named; the result is the exit status.
+/// Makes a page of files, or of standard input if none is named. Returns the exit status.
 pub(crate) fn page<R: Files + Input + Eprint + AllocGlobal, W: Write>(
     rt: &R,
     files: &[String],

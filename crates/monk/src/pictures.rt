@@ -1,4 +1,4 @@
-//! Pictures of text, with the names that are told in the file beside the history.
+//! Pictures as text, with the names from the file beside the history.
 
 ghost use Rattle.std.specs.Prelude.{◌≡◌, false};
 ghost use Rattle.monk_history.specs.Text.Device.{has_failed};
@@ -13,7 +13,7 @@ use std::alloc::{AllocError, Global};
 use std::io::Write;
 use std::rt::Files;
 
-/// The names beside the file, if there are some; standard input has none.
+/// Returns the names in the file beside it, if there are some. Standard input has none.
 fn names_of<R: Files + Eprint + AllocGlobal>(
     rt: &R,
     file: &Option<String>,
@@ -32,7 +32,7 @@ fn borrowed<'a>(alloc: Global, names: &'a [String]) -> Result<Vec<&'a str>, Allo
     Ok(borrowed)
 }
 
-/// Draws the file as text, with these names; the result is the exit status.
+/// Draws the file as text, with these names. Returns the exit status.
 fn draw_named<R: Files + Input + Eprint + AllocGlobal, W: Write>(
     rt: &R,
     file: Option<String>,
@@ -57,7 +57,7 @@ fn draw_named<R: Files + Input + Eprint + AllocGlobal, W: Write>(
     )
 }
 
-/// Draws the file as text, or standard input where none is named; the result is the exit status.
+/// Draws the file as text, or standard input if none is named. Returns the exit status.
 pub(crate) fn draw_text<R: Files + Input + Eprint + AllocGlobal, W: Write>(
     rt: &R,
     file: Option<String>,

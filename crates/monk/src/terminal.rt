@@ -9,14 +9,14 @@ const STANDARD_INPUT: &str = "/dev/stdin";
 /// Standard error, as a file.
 const STANDARD_ERROR: &str = "/dev/stderr";
 
-/// The major number of a device, in the number that the system gives it.
+/// Returns the major number of a device, from the number that the system gives it.
 fn major(device: u64) -> u64 {
     (device >> 8) & 0xfff
 }
 
-/// Whether the file is a terminal, by the number of its device: Linux gives 4 and 5 to
-/// terminals, and 136 to 143 to those of windows. It is none where the system doesn't say. The kit
-/// has no call that asks the terminal itself.
+/// Whether the file is a terminal, by the number of its device. Linux gives 4 and 5 to terminals,
+/// and 136 to 143 to those of windows. If the system doesn't say, it is none. The kit has no call
+/// that asks the terminal itself.
 fn is_terminal(files: &impl Files, name: &str) -> bool {
     match fs::metadata(files, name) {
         Ok(file) => matches!(major(file.rdev()), 4 | 5 | 136..=143),

@@ -1,4 +1,4 @@
-//! What is told in the file beside a history.
+//! What the file beside a history says.
 
 use crate::{UNREADABLE, failed_file};
 use monk_commands::StreamFault;
@@ -10,7 +10,7 @@ use std::{fs, io};
 /// Why nothing is made.
 #[derive(Drop)]
 pub(crate) enum Unmade {
-    /// Standard error has been told: the exit status.
+    /// Standard error says why. This is the exit status.
     Told(u8),
     /// The stream's fault.
     Fault(StreamFault),
@@ -28,7 +28,7 @@ impl<T: Drop> From<AllocFailed<T>> for Unmade {
     }
 }
 
-/// The file of that name can't be read.
+/// Says that the file of that name can't be read, and returns why nothing is made.
 pub(crate) fn unread(rt: &impl Eprint, name: &str, error: &io::Error) -> Unmade {
     if error.kind() == io::ErrorKind::OutOfMemory {
         return Unmade::Fault(StreamFault::Memory);
@@ -36,7 +36,7 @@ pub(crate) fn unread(rt: &impl Eprint, name: &str, error: &io::Error) -> Unmade 
     Unmade::Told(failed_file(rt, name, error))
 }
 
-/// The file of that name has something else than what is told.
+/// Says what is wrong in the file of that name, and returns why nothing is made.
 fn unfit(rt: &impl Eprint, file: &str, fault: ToldFault) -> Unmade {
     match fault {
         ToldFault::Memory => Unmade::Fault(StreamFault::Memory),
@@ -50,7 +50,7 @@ fn unfit(rt: &impl Eprint, file: &str, fault: ToldFault) -> Unmade {
     }
 }
 
-/// The text of the file of that name, if there is one.
+/// Reads the text of the file of that name, if there is one.
 fn read<R: Files + Eprint + AllocGlobal>(rt: &R, file: &str) -> Result<Option<String>, Unmade> {
     match fs::read_to_string(rt, file) {
         Ok(text) => Ok(Some(text)),
@@ -59,7 +59,7 @@ fn read<R: Files + Eprint + AllocGlobal>(rt: &R, file: &str) -> Result<Option<St
     }
 }
 
-/// What is told in the file beside the history of that name, if there is one.
+/// Reads the file beside the history of that name, if there is one.
 pub(crate) fn told_beside<R: Files + Eprint + AllocGlobal>(
     rt: &R,
     name: &str,
@@ -74,7 +74,7 @@ pub(crate) fn told_beside<R: Files + Eprint + AllocGlobal>(
     }
 }
 
-/// The names that are told in the file beside the history of that name, if there is one.
+/// Reads the names in the file beside the history of that name, if there is one.
 pub(crate) fn names_beside<R: Files + Eprint + AllocGlobal>(
     rt: &R,
     name: &str,

@@ -1,4 +1,4 @@
--- What a close through a handle is refused for, or has done
+-- Why a close through a handle is refused, or what it has done
 use Rattle.std.specs.Prelude.{◌≡◌, ◌≢◌, ◌<◌, ◌⊎◌, ℕ, zero, suc, ℤ, pos, List, length, slice_get, slice_index_or, slice_set, Option, Some, None, IfSome}
 use Rattle.std.proofs.Common.{refl, sym, ap, subst, ◌∙◌, inl, inr, arith}
 use Rattle.std.proofs.lemmas.List.{set-get_or}
@@ -36,7 +36,7 @@ also : (r : Option Refusal) (P Q : Type 0) (R : Refusal → Type 0) → (P → Q
 also None P Q R more has = tt
 also (Some f) P Q R more has = (more has.0, has.1)
 
--- an arrival leads to a ticket only where another isn't passed on
+-- an arrival leads to a ticket only if another isn't passed on
 taken : (t n : ℕ) → stage (place_after_arrive t n) ≢ due_stage → 0 < n
 taken t zero waits = absurd (waits refl)
 taken t (suc n) waits = omega arith
@@ -72,7 +72,7 @@ is_in_or_taken (Some a) (Some b) (Some d) answer code arrived polled =
     (subst (λ (k : Rules). IsWaiting b.seat.at (λ p. HasPolled k p d.seat.at)) same polled.1.2.1)
     polled.1.1
 
--- through a handle of the list, where the seats refuse nothing; it is t then
+-- through a handle of the list, if the seats refuse nothing; it is t then
 module _ (old seen : List MonkSeat) (by : ℕ) (d t : MonkSeat) (code shown : ℤ) (kept : seen ≡ old)
     (low : by < length old)
     (fine : refusal_of_seats old ≡ None) (same : t ≡ record (slice_index_or seen by d) { has = t.has })

@@ -12,7 +12,7 @@ use Rattle.monk_c.specs.declared.any_seat.AnySeat.{AnySeat}
 use Rattle.monk_c.specs.declared.any_seat.AnySeat.TheVariants.{Pb, Npb, Pnb, Npnb, Pqb, Npqb, Pir, Npir, Pis, Npis}
 use Rattle.monk_c.specs.declared.call.Call.TheVariants.{Arrive}
 
--- what a seat of a kind has done its handle has done
+-- what a seat of a kind has done, its handle has done
 has_come : (n : KindName) (s t : SeatView) (code : ℤ) → Comes (rules_named n) s code t
     → HasCome (seat_named n s) code (seat_named n t)
 has_come kind.Pb s t code x = record {

@@ -14,7 +14,7 @@ refusal_number Range = negsuc 3
 refusal_number Memory = negsuc 4
 refusal_number Closed = negsuc 9
 
--- the number for C of where a seat stands
+-- the number for C of where a seat is
 abbrev pub place_number : At → ℤ
 place_number (Outside p) = pos 1
 place_number (Waiting p) = pos 2

@@ -35,7 +35,7 @@ refusal_of_seats handles =
     else if not (are_outside handles) then Some NotNow
     else None
 
--- the first of the refusals that apply: no handle has the number, or the seats stand so, or its own seat can't arrive
+-- the first refusal that applies: no handle has the number, the seats refuse it, or its own seat can't arrive
 abbrev pub refusal_through : Option MonkSeat → Option Refusal → Option Refusal
 refusal_through None seats = Some Range
 refusal_through (Some h) (Some f) = Some f
@@ -50,8 +50,8 @@ abbrev pub FoundTaken : At → At → Type 0
 FoundTaken s t = IsOutside s (λ p. IsWaiting t (λ q.
     (found : ℕ) × (q.me ≡ record_after_arrive p.me found) × (0 < unpassed found)))
 
--- the seat is inside; or it waits, since the one that arrived found the monitor taken. While each seat of the hall is
--- outside no ticket is left, which is a law of the hall (`idle_hall_is_free`)
+-- the seat is inside; or it waits, because the one that arrived found the monitor taken. If each seat of the hall is
+-- outside, no ticket is left, which is a law of the hall (`idle_hall_is_free`)
 abbrev pub IsInOrTaken : Option Booked → Option Booked → ℤ → Type 0
 IsInOrTaken None arrived code = ⊥
 IsInOrTaken (Some a) None code = ⊥

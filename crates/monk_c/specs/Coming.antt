@@ -16,7 +16,7 @@ pub record HasCome (s : AnySeat) (code : ℤ) (t : AnySeat) : Type 0 where
   pub arrived : AnswersAt Arrive pick.Waiter (booked s) answer 0 (booked between)
   pub polled : AnswersAt Poll pick.Waiter (booked between) code 0 (booked t)
 
--- the same of a seat of a monitor of a kind
+-- the same for a seat of a monitor of a kind
 pub record Comes (k : Rules) (s : SeatView) (code : ℤ) (t : SeatView) : Type 0 where
   pub between : SeatView
   pub answer : ℤ
@@ -27,6 +27,6 @@ pub record Comes (k : Rules) (s : SeatView) (code : ℤ) (t : SeatView) : Type 0
 abbrev pub IfComes : Rules → SeatView → ℤ → SeatView → Type 0
 IfComes k s code t = refusal_of k.mode s Arrive ≡ None → Comes k s code t
 
--- the same of what a handle has
+-- the same for what a handle has
 abbrev pub IfComesAt : AnySeat → ℤ → AnySeat → Type 0
 IfComesAt s code t = refusal_at (booked s) Arrive ≡ None → HasCome s code t

@@ -13,7 +13,7 @@ use Rattle.monk_c.specs.declared.refusal.Refusal.{Refusal}
 use Rattle.monk_c.specs.declared.refusal.Refusal.TheVariants.{Range, Memory}
 use Rattle.monk_c.specs.declared.numbers.Numbers.{Numbers}
 
--- a hall, and how many passes are left of its first seats
+-- a hall, and how many passes of its first seats are left
 pub record DealView : Type 0 where
   pub room : RoomView
   pub left : ℕ

@@ -39,14 +39,14 @@ seat_named kind.Npir s = Npir s
 seat_named kind.Pis s = Pis s
 seat_named kind.Npis s = Npis s
 
--- the same of what a handle has: where a call is refused nothing has changed
+-- the same for what a handle has: if a call is refused, nothing has changed
 abbrev pub AnswersAt : Call → Pick → Option Booked → ℤ → ℕ → Option Booked → Type 0
 AnswersAt call wish None code told t = ⊥
 AnswersAt call wish (Some a) code told None = ⊥
 AnswersAt call wish (Some a) code told (Some b) =
     (b.kind ≡ a.kind) × Answers (rules_named a.kind) call wish a.seat code told b.seat
 
--- a call that isn't refused is done
+-- a call that isn't refused is carried out
 abbrev pub IfTakenAt : Call → Pick → AnySeat → ℤ → ℕ → AnySeat → Type 0
 IfTakenAt call wish s code told t = refusal_at (booked s) call ≡ None
     → AnswersAt call wish (booked s) code told (booked t)
@@ -55,6 +55,6 @@ IfTakenAt call wish s code told t = refusal_at (booked s) call ≡ None
 abbrev pub IfRefusedAt : Call → AnySeat → ℤ → AnySeat → Type 0
 IfRefusedAt call s code t = IfSome (refusal_at (booked s) call) (λ f. (t ≡ s) × (code ≡ refusal_number f))
 
--- a call that is refused tells no word
+-- a call that is refused gives no word
 abbrev pub IfUntoldAt : Call → AnySeat → ℕ → Type 0
 IfUntoldAt call s told = IfSome (refusal_at (booked s) call) (λ f. told ≡ 0)

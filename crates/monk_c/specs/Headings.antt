@@ -16,7 +16,7 @@ abbrev pub heading_for : KindName → RoomView → Heading
 heading_for k r =
     heading (object_version Flags) k r.house.setting.seats r.house.setting.conds Flags (flags_made r.flags)
 
--- a hall over so many flags, and its header
+-- a hall with this number of flags, and its header
 pub record IsRoom (k : KindName) (r : RoomView) (h : Heading) : Type 0 where
   pub few : r.flags ≤ 32
   pub opening : r.house.setting.opening ≡ opening_named Flags (flags_made r.flags)

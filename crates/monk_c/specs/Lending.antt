@@ -1,4 +1,4 @@
--- What a handle ends with that lent what it has
+-- What a handle has after it lent what it has
 use Rattle.std.specs.Borrow.{Lends, MutBor, Fml}
 use Rattle.monk_c.specs.contracts.any_seat.AnySeat.{the_row as seat_row}
 use Rattle.monk_c.specs.contracts.handle.MonkSeat.{the_row as handle_row}
@@ -9,6 +9,6 @@ use Rattle.monk_c.specs.declared.handle.MonkSeat.{MonkSeat}
 abbrev pub with_has : MonkSeat → AnySeat → MonkSeat
 with_has s x = record s { has = x }
 
--- once the borrow ends, the handle has what was written last
+-- when the borrow ends, the handle has what was written last
 abbrev pub LendsHeld : MutBor MonkSeat → MutBor AnySeat → Fml
 LendsHeld s r = Lends handle_row seat_row s r (with_has s.now)

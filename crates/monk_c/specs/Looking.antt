@@ -11,7 +11,7 @@ use Rattle.monk_c.specs.Stands.At.{Outside, Waiting, Inside}
 use Rattle.monk_c.specs.declared.refusal.Refusal.{Refusal}
 use Rattle.monk_c.specs.declared.refusal.Refusal.TheVariants.{NotNow, NotOfKind, Range, Closed}
 
--- why it isn't told, if it isn't
+-- why it isn't known, if it isn't
 abbrev pub look_refusal : Mode → SeatView → ℕ → Option Refusal
 look_refusal m s c =
     if not (has_conditions m) then Some NotOfKind
@@ -25,11 +25,11 @@ waiting_at (Outside p) c = 0
 waiting_at (Waiting p) c = 0
 waiting_at (Inside a) c = length (condition c a.floor.history)
 
--- that is how many seats wait on the condition, or why they can't be counted
+-- the code is how many seats wait on the condition, or why they can't be counted
 abbrev pub IsCount : Mode → SeatView → ℕ → ℤ → Type 0
 IsCount m s c code = MatchOption (look_refusal m s c) (code ≡ pos (waiting_at s.at c)) (λ f. code ≡ refusal_number f)
 
--- the same of a handle
+-- the same for a handle
 abbrev pub IsCountOf : Option Booked → ℕ → ℤ → Type 0
 IsCountOf None c code = code ≡ refusal_number Closed
 IsCountOf (Some b) c code = IsCount (rules_named b.kind).mode b.seat c code

@@ -45,7 +45,7 @@ abbrev pub numbers_for : ℕ → ℕ → ℕ → List MonkSeat → Numbers
 numbers_for conds flags budget handles =
     record { seats = length handles; conds = conds; flags = flags; budget = budget }
 
--- what C is answered: 0 where each handle has its seat, or why not, and then nothing has changed
+-- the answer to C: 0 if each handle has its seat, or why not, and then nothing has changed
 abbrev pub Answered : Option KindName → Numbers → List MonkSeat → ℤ → List MonkSeat → Type 0
 Answered k n old code new =
     ((code ≡ pos 0) × MadeOf {U = Unit {0}} k n old (Ok tt) new)

@@ -25,7 +25,7 @@ has_call m (SignalWait c d) = returns_at_once m
 has_call m (SetFlags bits) = true
 has_call m (WaitUntil p) = not (has_conditions m)
 
--- whether its condition, its flag or its bits are there
+-- whether its condition, its flag or its bits are in range
 abbrev pub is_within : ℕ → ℕ → Call → Bool
 is_within conds flags Arrive = true
 is_within conds flags Poll = true
@@ -56,7 +56,7 @@ is_inside (Outside p) = false
 is_inside (Waiting p) = false
 is_inside (Inside a) = true
 
--- whether a seat calls it from there
+-- whether a seat that is there may make the call
 abbrev pub is_from : At → Call → Bool
 is_from at Arrive = is_outside at
 is_from at Poll = is_waiting at
@@ -69,7 +69,7 @@ is_from at (SignalWait c d) = is_inside at
 is_from at (SetFlags bits) = is_inside at
 is_from at (WaitUntil p) = is_inside at
 
--- how many events it wants to be left
+-- how many events must be left
 abbrev pub wants : Call → ℕ
 wants Arrive = 2
 wants Poll = 0
@@ -95,7 +95,7 @@ refusal_of m s call =
     else if is_spent (me_of s.at) call then Some Spent
     else None
 
--- of what a handle has
+-- the same for what a handle has
 abbrev pub refusal_at : Option Booked → Call → Option Refusal
 refusal_at None call = Some Closed
 refusal_at (Some b) call = refusal_of (rules_named b.kind).mode b.seat call

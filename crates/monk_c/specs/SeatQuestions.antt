@@ -5,12 +5,12 @@ use Rattle.monk_c.specs.Answers.{place_number}
 use Rattle.monk_c.specs.Stands.{At, Booked, me_of}
 use Rattle.monk_c.specs.Stands.At.{Outside, Waiting, Inside}
 
--- the number for C of where a handle's seat stands
+-- the number for C of where a handle's seat is
 abbrev pub place_at : Option Booked → ℤ
 place_at None = pos 0
 place_at (Some b) = place_number b.seat.at
 
--- so many events are left of its budget
+-- n events are left of its budget
 abbrev pub IsLeft : Option Booked → ℕ → Type 0
 IsLeft None n = n ≡ 0
 IsLeft (Some b) n = n + length (me_of b.seat.at).mine ≡ (me_of b.seat.at).setting.budget

@@ -10,7 +10,7 @@ pub record RoomView : Type 0 where
   pub house : House
   pub flags : ℕ
 
--- where a seat stands, with its token
+-- where a seat is, with its token
 pub data At : Type 0 where
   Outside : Token → At
   Waiting : Token → At
@@ -33,7 +33,7 @@ pub record SeatView : Type 0 where
   pub room : RoomView
   pub at : At
 
--- the token is of the seat's hall
+-- the token belongs to the seat's hall
 pub record IsAtHome (r : RoomView) (at : At) : Type 0 where
   pub table : table_of at ≡ r.house.id
   pub setting : (me_of at).setting ≡ r.house.setting

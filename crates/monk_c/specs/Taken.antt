@@ -19,28 +19,28 @@ use Rattle.monk_c.specs.Stands.At.{Outside, Waiting, Inside}
 use Rattle.monk_c.specs.declared.call.Call.{Call}
 use Rattle.monk_c.specs.declared.call.Call.TheVariants as call
 
--- a wish as C writes it: 0 for entry, 2 for a signaller, and any other for a waiter
+-- a wish from C's number: 0 for entry, 2 for a signaller, and any other for a waiter
 abbrev pub wish_of : ℕ → Pick
 wish_of n = if n == 0 then pick.Entry else if n == 2 then pick.Signaller else pick.Waiter
 
--- the word that was granted as C is told it: 0 for none, since no grant comes to word 0
+-- the granted word as C gets it: 0 for none, because no grant comes to word 0
 abbrev pub told_word : Option Grant → ℕ
 told_word None = 0
 told_word (Some g) = g.word
 
--- the seat is outside, with a pass of which that holds
+-- the seat is outside, with a pass for which f holds
 abbrev pub IsOutside : At → (Token → Type 0) → Type 0
 IsOutside (Outside p) f = f p
 IsOutside (Waiting p) f = ⊥
 IsOutside (Inside a) f = ⊥
 
--- the seat waits, with a pass of which that holds
+-- the seat waits, with a pass for which f holds
 abbrev pub IsWaiting : At → (Token → Type 0) → Type 0
 IsWaiting (Outside p) f = ⊥
 IsWaiting (Waiting p) f = f p
 IsWaiting (Inside a) f = ⊥
 
--- the seat is inside, with a token of which that holds
+-- the seat is inside, with a token for which f holds
 abbrev pub IsInside : At → (Holder → Type 0) → Type 0
 IsInside (Outside p) f = ⊥
 IsInside (Waiting p) f = ⊥
@@ -52,9 +52,9 @@ HasPolled k p (Outside q) = ⊥
 HasPolled k p (Waiting q) = StillWaits k flags_meaning p q × (stage p.me.place ≢ due_stage)
 HasPolled k p (Inside a) = HasEntered k flags_meaning p a
 
--- by this release it went out, or parked inside, and told C what it granted: the word of the seat
--- that the release chose, or the word of the ticket that enters next, whose number is that of the
--- enters so far
+-- by this release it went out, or parked inside, and C got what it granted: the word of the seat
+-- that the release chose, or the word of the ticket that enters next. The number of that ticket
+-- is the number of enters so far
 abbrev pub WentOut : Rules → House → Holder → Event → Pick → Token → ℕ → Type 0
 WentOut k h a e wish p told = (g : Option Grant) × (told ≡ told_word g) × GrantsOut k flags_meaning a e wish p h g
 
@@ -76,7 +76,7 @@ abbrev pub HasSet : Rules → Holder → ℕ → Holder → Type 0
 HasSet k a bits b =
     (reply : ℕ) × HasDone k flags_meaning a (event.Act a.me.seat (record { code = SET; arg = bits }) reply) b
 
--- what the call made of a seat of a hall, and which word it told
+-- what the call did to a seat of a hall, and which word it gave
 abbrev pub IsTaken : Rules → House → Call → Pick → At → At → ℕ → Type 0
 IsTaken k h call.Arrive wish s t told =
     (told ≡ 0) × IsOutside s (λ p. IsWaiting t (λ q. HasArrived k flags_meaning p q))
@@ -102,7 +102,7 @@ abbrev pub Answers : Rules → Call → Pick → SeatView → ℤ → ℕ → Se
 Answers k call wish a code told b =
     (b.room ≡ a.room) × (code ≡ place_number b.at) × IsTaken k a.room.house call wish a.at b.at told
 
--- a call that isn't refused is done
+-- a call that isn't refused is carried out
 abbrev pub IfTaken : Rules → Call → Pick → SeatView → ℤ → ℕ → SeatView → Type 0
 IfTaken k call wish a code told b = refusal_of k.mode a call ≡ None → Answers k call wish a code told b
 
@@ -110,6 +110,6 @@ IfTaken k call wish a code told b = refusal_of k.mode a call ≡ None → Answer
 abbrev pub IfRefused : Rules → Call → SeatView → ℤ → SeatView → Type 0
 IfRefused k call a code b = IfSome (refusal_of k.mode a call) (λ f. (b ≡ a) × (code ≡ refusal_number f))
 
--- no grant is told of a call that is refused
+-- a call that is refused gives no grant
 abbrev pub IfUntold : Rules → Call → SeatView → ℕ → Type 0
 IfUntold k call a told = IfSome (refusal_of k.mode a call) (λ f. told ≡ 0)

@@ -43,16 +43,16 @@ abbrev pub IsTextRefusalOf : Option Booked → Refusal → Type 0
 IsTextRefusalOf None f = f ≡ Closed
 IsTextRefusalOf (Some b) f = IsTextRefusal b.seat.at f
 
--- the bytes stand at the front of memory of C's where they have room, and else it is unchanged
+-- the bytes are at the front of C's memory if they have room there; else it is unchanged
 abbrev pub filled : List ℕ → List ℕ → List ℕ
 filled bytes old = if nat_le (length bytes) (length old) then bytes ++ drop (length bytes) old else old
 
--- what C is answered of a text that is there
+-- the answer to C for a text that is there
 abbrev pub IsPut : List ℕ → ℤ → List ℕ → List ℕ → Type 0
 IsPut bytes code old new =
     ((code ≡ pos (length bytes)) × (new ≡ filled bytes old)) ⊎ ((code ≡ refusal_number Memory) × (new ≡ old))
 
--- what C is answered: the length of the text, or why there is none
+-- the answer to C: the length of the text, or why there is none
 abbrev pub IsTold : Option Booked → ℤ → List ℕ → List ℕ → Type 0
 IsTold s code old new =
     ((bytes : List ℕ) × HasTextBooked s bytes × IsPut bytes code old new)

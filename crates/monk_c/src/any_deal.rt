@@ -11,7 +11,7 @@ use crate::refusal::Refusal;
 use monk_kinds::{KindName, Npb, Npir, Npis, Npnb, Npqb, Pb, Pir, Pis, Pnb, Pqb};
 use std::alloc::Global;
 
-/// A new hall of a kind, whose seats are yet to be given to handles.
+/// A new hall of a kind, whose seats are not yet given to handles.
 #[derive(Drop)]
 pub enum AnyDeal {
     Pb(Deal<Pb>),
@@ -47,7 +47,7 @@ impl AnyDeal {
         }
     }
 
-    /// The seat of the last pass that is left.
+    /// Returns the seat of the last pass that is left.
     pub fn deal(&mut self) -> Option<AnySeat>
         ensures kind { kind_dealt self.new ≡ kind_dealt self.old }
         ensures room { (deal_in self.new).room ≡ (deal_in self.old).room }

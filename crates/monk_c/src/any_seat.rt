@@ -50,7 +50,7 @@ impl Drop for AnySeat {
 }
 
 impl AnySeat {
-    /// Does what is asked, or refuses it.
+    /// Carries out a call, or refuses it.
     pub fn ask(&mut self, call: Call, wish: Pick) -> Reply
         requires { is_plain call ≡ true }
         ensures refused { IfRefusedAt call self.old result.code self.new }
@@ -72,7 +72,7 @@ impl AnySeat {
         }
     }
 
-    /// Comes to the monitor, and in where it may, or is refused.
+    /// Comes to the monitor and goes in if it may, or is refused.
     #[inline(always)]
     pub fn come(&mut self) -> i32
         ensures refused { IfRefusedAt Call.Arrive self.old result self.new }
@@ -157,7 +157,7 @@ impl AnySeat {
         }
     }
 
-    /// The number for C of where it stands, 0 where there is no seat.
+    /// Returns the number for C of where it is, or 0 if there is no seat.
     pub fn place(&self) -> i32
         ensures { result ≡ place_at (booked self.now) }
     {
@@ -176,7 +176,7 @@ impl AnySeat {
         }
     }
 
-    /// How many events it has left, 0 where there is no seat.
+    /// Returns how many events it has left, or 0 if there is no seat.
     pub fn left(&self) -> u32
         ensures { IsLeft (booked self.now) result }
     {
@@ -195,7 +195,7 @@ impl AnySeat {
         }
     }
 
-    /// The word where its grant will come, if it waits, and else 0.
+    /// Returns the word where its grant will come if it waits, or else 0.
     pub fn word(&self) -> usize
         ensures { result ≡ word_at (booked self.now) }
     {
@@ -214,7 +214,7 @@ impl AnySeat {
         }
     }
 
-    /// How many wait on a condition, or why that isn't told: its number is below 0.
+    /// Returns how many wait on a condition, or a number below 0 that says why that isn't known.
     pub fn waiting(&self, cond: u8) -> i64
         ensures { IsCountOf (booked self.now) cond result }
     {
@@ -233,7 +233,7 @@ impl AnySeat {
         }
     }
 
-    /// The text of the history up to now, or why there is none.
+    /// Returns the text of the history up to now, or why there is none.
     pub fn text(&self, alloc: Global) -> Result<Vec<u8>, Refusal>
         ensures text { IfOk result (λ v. HasTextBooked (booked self.now) v.items) }
         ensures refused { IfErr result (λ f. IsTextRefusalOf (booked self.now) f) }

@@ -46,7 +46,7 @@ impl Call {
         }
     }
 
-    /// Whether its numbers are in range, where there are so many conditions and flags.
+    /// Whether its numbers are in range for this many conditions and flags.
     #[inline(always)]
     pub fn is_within(self, conds: u8, flags: u8) -> bool
         requires { flags ≤ 32 }
@@ -62,7 +62,7 @@ impl Call {
         }
     }
 
-    /// How many events it wants to be left of the seat's budget.
+    /// Returns how many events must be left of the seat's budget.
     #[inline(always)]
     pub fn wants(self) -> u32
         ensures { result ≡ wants self }

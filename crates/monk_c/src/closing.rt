@@ -5,7 +5,7 @@ ghost use Rattle.monk_c.specs.Closing.{IfCloseRefused, IfClosed, refusal_of_seat
 use crate::handle::MonkSeat;
 use crate::refusal::Refusal;
 
-/// Why the monitor can't be closed through any handle, if it can't.
+/// Returns why the monitor can't be closed through any handle, if it can't.
 fn refusal_of_seats(handles: &mut [MonkSeat]) -> Option<Refusal>
     ensures same { handles.new ≡ handles.old }
     ensures refusal { result ≡ refusal_of_seats handles.old }

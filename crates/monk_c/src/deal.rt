@@ -1,4 +1,4 @@
-//! A new hall whose seats are yet to be given to handles.
+//! A new hall whose seats are not yet given to handles.
 ghost use Rattle.std.specs.Prelude.{◌≡◌, ◌≤◌, ◌+◌, length, All, IfSome, IfOk, IfErr, MatchOption};
 ghost use Rattle.std.specs.Arc.{arc_value};
 ghost use Rattle.monk_hall.specs.Rule.{setting_of};
@@ -18,8 +18,8 @@ use std::alloc::Global;
 use std::marker::Model;
 use std::sync::Arc;
 
-/// A new hall and the passes of its first seats, with as many shares of the hall. To contracts it
-/// is the hall and how many passes are left.
+/// A new hall and the passes of its first seats, with as many shares of the hall. Contracts see
+/// it as the hall and how many passes are left.
 #[derive(Drop)]
 pub struct Deal<K: Kind> {
     first: Shared<K>,
@@ -41,7 +41,7 @@ impl<K: Kind> Model for Deal<K> {
         × ArePasses (arc_value d.first) d.passes.items };
 }
 
-/// The hall with its header. A hall's numbers always have one.
+/// Returns the hall with its header. A hall's numbers always have one.
 fn headed<K: Kind>(hall: Hall<K, Flags>, numbers: Numbers) -> Option<Room<K>>
     requires setting { hall.setting ≡ setting_of (first_bits numbers.flags) numbers.seats numbers.conds numbers.budget }
     requires few { numbers.flags ≤ 32 }
@@ -61,7 +61,7 @@ fn headed<K: Kind>(hall: Hall<K, Flags>, numbers: Numbers) -> Option<Room<K>>
     })
 }
 
-/// A hall and its passes.
+/// Makes a hall and its passes.
 fn open<K: Kind>(alloc: Global, numbers: Numbers) -> Result<(Room<K>, Vec<Pass<K, Flags>>), Refusal>
     ensures made { IfOk result (λ r. IsMadeOf numbers r.0) }
     ensures count { IfOk result (λ r. length r.1.items ≡ numbers.seats) }
@@ -89,7 +89,7 @@ fn open<K: Kind>(alloc: Global, numbers: Numbers) -> Result<(Room<K>, Vec<Pass<K
     }
 }
 
-/// The hall as its seats share it, once and then so often.
+/// Shares the hall among its seats: once, and then `count` times.
 fn shared<K: Kind>(
     alloc: Global,
     room: Room<K>,
@@ -123,7 +123,7 @@ impl<K: Kind> Deal<K> {
         })
     }
 
-    /// The seat of the last pass that is left.
+    /// Returns the seat of the last pass that is left.
     pub fn deal(&mut self) -> Option<Seat<K>>
         ensures room { self.new.room ≡ self.old.room }
         ensures seat { MatchOption result (self.old.left ≡ 0) (λ s. (self.old.left ≡ self.new.left + 1)

@@ -1,4 +1,4 @@
-//! What a C program has of a seat.
+//! What a C program has for a seat.
 ghost use Rattle.std.specs.Prelude.{◌≡◌, true, IfOk, IfErr};
 ghost use Rattle.monk_kinds.specs.declared.mode.Pick.TheVariants as pick;
 ghost use Rattle.monk_c.specs.Coming.{IfComesAt};
@@ -17,7 +17,7 @@ use monk_kinds::Pick;
 use std::alloc::Global;
 use std::marker::Model;
 
-/// A handle of a C program: a pointer to memory of the program's, where an `AnySeat` stands.
+/// A handle of a C program: a pointer to memory of the program's that holds an `AnySeat`.
 #[repr(C)]
 pub struct MonkSeat {
     pub at: *mut u8,
@@ -36,14 +36,14 @@ impl Model for MonkSeat {
 unsafe impl Send for MonkSeat {}
 
 impl MonkSeat {
-    /// Puts another in its place, and gives up what was there.
+    /// Puts another seat in its place, and gives up what was there.
     pub fn put(&mut self, next: AnySeat)
         ensures { self.new ≡ record self.old { has = next } }
     {
         *self.held() = next;
     }
 
-    /// Does what is asked, or refuses it.
+    /// Carries out a call, or refuses it.
     pub fn ask(&mut self, call: Call, wish: Pick) -> Reply
         requires { is_plain call ≡ true }
         ensures same { self.new ≡ record self.old { has = self.new.has } }
@@ -54,7 +54,7 @@ impl MonkSeat {
         self.held().ask(call, wish)
     }
 
-    /// Comes to the monitor, and in where it may. The place where it stands then, or why it can't come.
+    /// Comes to the monitor, and goes in if it may. Returns the place where it is then, or why it can't come.
     ///
     /// Two exports call it. It isn't inlined into them, because the move of the seat is inlined here only if it has one
     /// caller, and otherwise an arrival takes more than twice the instructions.
@@ -100,7 +100,7 @@ impl MonkSeat {
         self.held().signal_wait(cond, wait_cond, wish)
     }
 
-    /// The number for C of where it stands.
+    /// Returns the number for C of where it is.
     pub fn place(&mut self) -> i32
         ensures same { self.new ≡ self.old }
         ensures place { result ≡ place_at (booked self.old.has) }
@@ -108,7 +108,7 @@ impl MonkSeat {
         self.held().place()
     }
 
-    /// How many events it has left.
+    /// Returns how many events it has left.
     pub fn left(&mut self) -> u32
         ensures same { self.new ≡ self.old }
         ensures left { IsLeft (booked self.old.has) result }
@@ -116,7 +116,7 @@ impl MonkSeat {
         self.held().left()
     }
 
-    /// The word where its grant will come, if it waits.
+    /// Returns the word where its grant will come, if it waits.
     pub fn word(&mut self) -> usize
         ensures same { self.new ≡ self.old }
         ensures word { result ≡ word_at (booked self.old.has) }
@@ -124,7 +124,7 @@ impl MonkSeat {
         self.held().word()
     }
 
-    /// How many wait on a condition, or why that isn't told: its number is below 0.
+    /// Returns how many wait on a condition, or a number below 0 that says why that isn't known.
     pub fn waiting(&mut self, cond: u8) -> i64
         ensures same { self.new ≡ self.old }
         ensures count { IsCountOf (booked self.old.has) cond result }
@@ -132,7 +132,7 @@ impl MonkSeat {
         self.held().waiting(cond)
     }
 
-    /// The text of the history up to now, or why there is none.
+    /// Returns the text of the history up to now, or why there is none.
     pub fn text(&mut self, alloc: Global) -> Result<Vec<u8>, Refusal>
         ensures same { self.new ≡ self.old }
         ensures text { IfOk result (λ v. HasTextBooked (booked self.old.has) v.items) }

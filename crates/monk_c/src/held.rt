@@ -10,7 +10,7 @@ use crate::any_seat::AnySeat;
 use crate::handle::MonkSeat;
 
 impl MonkSeat {
-    /// What stands in its place. When the borrow ends, the handle has what was written there.
+    /// Lends what is in its place. When the borrow ends, the handle has what was written there.
     #[inline(always)]
     pub(crate) fn held(&mut self) -> &mut AnySeat
         ensures* writes_back { sem 𝓛 (LendsHeld self.entry result) }

@@ -1,11 +1,11 @@
 //! The monitor behind C exports: a handle of a C program stands for a seat of a hall of any of the ten kinds.
 //!
-//! A call answers where the seat stands then (1 outside, 2 waiting, 3 inside), or below 0 why it is refused. Then the
-//! handle is as it was, and no grant is told. The first reason that applies is answered: -10, the
-//! handle has no seat; -3, the kind has no such call; -4, a condition, a flag or bits are out of
-//! range; -1, the seat stands elsewhere; -2, the seat has too few events left of its budget
-//! (`Call::wants`). No call waits or wakes: a release tells the word that it granted, and C wakes
-//! the thread whose seat waits there (`monk_k_word`). A word is 1 or more.
+//! A call answers where the seat is then (1 outside, 2 waiting, 3 inside), or a number below 0 that says why it is
+//! refused. After a refusal the handle is as it was, and no grant is given. The first reason that applies is
+//! answered: -10, the handle has no seat; -3, the kind has no such call; -4, a condition, a flag or bits are out of
+//! range; -1, the seat is elsewhere; -2, the seat has too few events left of its budget (`Call::wants`). No call
+//! waits or wakes. A release gives the word that it granted, and C wakes the thread whose seat waits there
+//! (`monk_k_word`). A word is 1 or more.
 #![tactic(auto)]
 
 ghost use Rattle.std.specs.Prelude.{◌≡◌};
@@ -51,7 +51,7 @@ use monk_kinds::Pick;
 use std::alloc::Global;
 use std::mem::size_of;
 
-/// A wish as C writes it: 0 for entry, 2 for a signaller, and any other for a waiter.
+/// Returns a wish from C's number: 0 for entry, 2 for a signaller, and any other for a waiter.
 fn wished(wish: u8) -> Pick
     ensures { result ≡ wish_of wish }
 {
@@ -62,10 +62,10 @@ fn wished(wish: u8) -> Pick
     }
 }
 
-/// How many bytes a seat or none takes.
+/// How many bytes a seat, or none, takes.
 const SEAT_BYTES: usize = size_of::<AnySeat>();
 
-/// How many bytes the memory behind a handle has. All of them 0 are no seat.
+/// Returns how many bytes the memory of a handle has. If all of them are 0, there is no seat.
 #[unsafe(no_mangle)]
 pub extern "C" fn monk_k_seat_size() -> usize
     ensures { result ≡ SEAT_BYTES }
@@ -73,10 +73,10 @@ pub extern "C" fn monk_k_seat_size() -> usize
     size_of::<AnySeat>()
 }
 
-/// Makes a monitor of a kind, with a seat for each handle, and gives up what the handles had. The
-/// kinds are numbered as in `KindName::ALL`; with no flags it has one that C can't set. 0; -4 where
-/// a number is out of its range (1 to 32 handles, at most 8 conditions and 32 flags, 2 to 2^20
-/// events of each seat), or -5 where memory was refused: then nothing has changed.
+/// Makes a monitor of a kind, with a seat for each handle, and gives up what the handles had. The kinds are numbered
+/// as in `KindName::ALL`. With no flags it has one that C can't set. Returns 0; or -4 if a number is out of range (1
+/// to 32 handles, at most 8 conditions and 32 flags, 2 to 2^20 events for each seat), or -5 if memory was refused.
+/// Then nothing has changed.
 ///
 /// It takes memory for all events of all seats at once, and no later call keeps any.
 #[unsafe(no_mangle)]
@@ -116,7 +116,7 @@ pub extern "C" fn monk_k_poll(seat: &mut MonkSeat) -> i32
     seat.ask(Call::Poll, Pick::Waiter).code
 }
 
-/// The seat comes to the monitor, and in where it may.
+/// The seat comes to the monitor, and goes in if it may.
 #[unsafe(no_mangle)]
 pub extern "C" fn monk_k_enter(seat: &mut MonkSeat) -> i32
     ensures same { seat.new ≡ record seat.old { has = seat.new.has } }
@@ -251,7 +251,7 @@ pub extern "C" fn monk_k_start_signal_wait(
     reply.code
 }
 
-/// Where the seat stands: 1 outside, 2 waiting, 3 inside, and 0 where the handle has no seat.
+/// Returns where the seat is: 1 outside, 2 waiting, 3 inside, or 0 if the handle has no seat.
 #[unsafe(no_mangle)]
 pub extern "C" fn monk_k_place(seat: &mut MonkSeat) -> i32
     ensures same { seat.new ≡ seat.old }
@@ -260,7 +260,7 @@ pub extern "C" fn monk_k_place(seat: &mut MonkSeat) -> i32
     seat.place()
 }
 
-/// How many events the seat has left of its budget; 0 where the handle has no seat.
+/// Returns how many events the seat has left of its budget, or 0 if the handle has no seat.
 #[unsafe(no_mangle)]
 pub extern "C" fn monk_k_left(seat: &mut MonkSeat) -> u32
     ensures same { seat.new ≡ seat.old }
@@ -269,7 +269,7 @@ pub extern "C" fn monk_k_left(seat: &mut MonkSeat) -> u32
     seat.left()
 }
 
-/// The word where the grant of a waiting seat will come; 0 of any other.
+/// Returns the word where the grant of a waiting seat will come, or 0 for any other seat.
 #[unsafe(no_mangle)]
 pub extern "C" fn monk_k_word(seat: &mut MonkSeat) -> usize
     ensures same { seat.new ≡ seat.old }
@@ -278,7 +278,7 @@ pub extern "C" fn monk_k_word(seat: &mut MonkSeat) -> usize
     seat.word()
 }
 
-/// How many wait on a condition, as the seat sees it from inside; or -10, -3, -4 or -1, as of a wait there.
+/// Returns how many wait on a condition, as the seat sees it from inside; or -10, -3, -4 or -1, as for a wait there.
 #[unsafe(no_mangle)]
 pub extern "C" fn monk_k_waiting(seat: &mut MonkSeat, condition: u8) -> i64
     ensures same { seat.new ≡ seat.old }
@@ -287,9 +287,8 @@ pub extern "C" fn monk_k_waiting(seat: &mut MonkSeat, condition: u8) -> i64
     seat.waiting(condition)
 }
 
-/// Puts the text of the history up to now into `out`, where there is room for it. Its length; or
-/// -10 where the handle has no seat, -1 where that isn't inside, -5 where memory for the text was
-/// refused. One pass over the history.
+/// Writes the text of the history up to now into `out`, if there is room for it. Returns its length; or -10 if the
+/// handle has no seat, -1 if the seat isn't inside, -5 if memory for the text was refused. One pass over the history.
 #[unsafe(no_mangle)]
 pub extern "C" fn monk_k_history(alloc: Global, seat: &mut MonkSeat, out: &mut [u8]) -> i64
     ensures same { seat.new ≡ seat.old }
@@ -301,7 +300,7 @@ pub extern "C" fn monk_k_history(alloc: Global, seat: &mut MonkSeat, out: &mut [
     }
 }
 
-/// Puts the text where there is room for it, and gives its length.
+/// Writes the text if there is room for it, and returns its length.
 fn tell(text: &[u8], out: &mut [u8]) -> i64
     ensures { IsPut text.now result out.old out.new }
 {
@@ -314,8 +313,8 @@ fn tell(text: &[u8], out: &mut [u8]) -> i64
     length
 }
 
-/// Closes the monitor that these handles are of: the seat of handle `by` comes to it, polls and
-/// stays there. The place of that seat, which is inside where the monitor was free.
+/// Closes the monitor of these handles: the seat of handle `by` comes to it, polls and stays there. Returns the place
+/// of that seat, which is inside if the monitor was free.
 ///
 /// It is refused for the first of these reasons that applies: -4, there is no handle `by`; -10, a
 /// handle has no seat; -1, a seat isn't outside; -2, the seat of `by` has too few events left to
@@ -328,8 +327,8 @@ pub extern "C" fn monk_k_close(seats: &mut [MonkSeat], by: usize) -> i32
     close(seats, by)
 }
 
-/// Gives a seat up, and the handle has none then. One that is inside leaves, and nobody is told
-/// whom that let in; one that waits keeps its place, and the monitor for good once its turn comes.
+/// Gives a seat up; then the handle has none. A seat that is inside leaves, and nobody is told whom that let in. A
+/// seat that waits keeps its place, and it keeps the monitor for good once its turn comes.
 #[unsafe(no_mangle)]
 pub extern "C" fn monk_k_drop(seat: &mut MonkSeat)
     ensures { seat.new ≡ record seat.old { has = any.Empty } }

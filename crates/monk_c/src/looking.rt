@@ -12,7 +12,7 @@ use monk_kinds::{Kind, rules_of};
 use std::alloc::Global;
 
 impl<K: Kind> Seat<K> {
-    /// How many wait on a condition, or why that isn't told: its number is below 0.
+    /// Returns how many wait on a condition, or a number below 0 that says why that isn't known.
     pub fn waiting(&self, cond: u8) -> i64
         ensures { IsCount K.rules.mode self.now cond result }
     {
@@ -28,7 +28,7 @@ impl<K: Kind> Seat<K> {
         }
     }
 
-    /// The text of the history up to now.
+    /// Returns the text of the history up to now.
     pub fn text(&self, alloc: Global) -> Result<Vec<u8>, Refusal>
         ensures text { IfOk result (λ v. HasTextAt K.NAME self.now.room self.now.at v.items) }
         ensures refused { IfErr result (λ f. IsTextRefusal self.now.at f) }

@@ -28,7 +28,7 @@ fn seat_all(deal: AnyDeal, handles: &mut [MonkSeat])
     }
 }
 
-/// The kind that C has this number for.
+/// Returns the kind that has this number in C.
 fn kind_name(number: u8) -> Option<KindName>
     ensures { result ≡ kind_of number }
 {

@@ -1,4 +1,4 @@
-//! What kinds of a mode have.
+//! What the kinds of a mode have.
 ghost use Rattle.std.specs.Prelude.{◌≡◌};
 ghost use Rattle.monk_history.specs.Meaning.Events as events;
 

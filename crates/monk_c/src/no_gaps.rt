@@ -1,5 +1,5 @@
-//! What stands behind a handle has no gaps but those behind the tags of its enums, each of which takes a word: see
-//! `monk_hall`, whose tokens have none.
+//! The memory of a handle has no gaps except after the tags of its enums. Each tag takes a word. The tokens have
+//! no gaps: see `monk_hall`.
 use crate::any_seat::AnySeat;
 use crate::seat::{Seat, Shared};
 use crate::token::SeatToken;
@@ -8,7 +8,7 @@ use monk_kinds::Pb;
 use monk_object::Flags;
 use std::mem::size_of;
 
-/// A tag, as far as the word that comes behind it.
+/// A tag, up to the word that comes after it.
 const TAG: usize = size_of::<u64>();
 
 const _: () = prove!(size_of::<SeatToken<Pb>>() == TAG + size_of::<Parked<Pb, Flags>>());

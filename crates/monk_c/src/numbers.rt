@@ -1,4 +1,4 @@
-//! The numbers that a hall is made of.
+//! The numbers that a hall is made with.
 
 /// How many seats, conditions and flags a hall has, and how many events each seat may make.
 #[derive(Clone, Copy)]

@@ -5,7 +5,7 @@ ghost use Rattle.monk_c.specs.Answers.{refusal_number};
 /// Why a call is refused. Nothing has changed then.
 #[derive(Clone, Copy)]
 pub enum Refusal {
-    /// The seat stands where it has no such call.
+    /// The seat is where it has no such call.
     NotNow,
     /// The seat has too few events left of its budget.
     Spent,
@@ -20,7 +20,7 @@ pub enum Refusal {
 }
 
 impl Refusal {
-    /// Its number for C, below 0.
+    /// Returns its number for C, below 0.
     pub fn number(self) -> i32
         ensures { result ≡ refusal_number self }
     {

@@ -1,4 +1,4 @@
-//! What C is answered.
+//! The answer to C.
 ghost use Rattle.std.specs.Prelude.{◌≡◌};
 ghost use Rattle.monk_c.specs.Answers.{refusal_number};
 
@@ -12,7 +12,7 @@ pub struct Reply {
 }
 
 impl Reply {
-    /// That the call was refused.
+    /// Returns the reply that the call was refused.
     pub fn refused(refusal: Refusal) -> Reply
         ensures { (result.code ≡ refusal_number refusal) × (result.granted ≡ 0) }
     {

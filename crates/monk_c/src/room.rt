@@ -1,4 +1,4 @@
-//! A hall with the numbers that it was made of.
+//! A hall with the numbers that it was made with.
 ghost use Rattle.std.specs.Prelude.{◌≡◌, List, IsTrue};
 ghost use Rattle.monk_object.specs.Names.{opening_named};
 ghost use Rattle.monk_object.specs.declared.name.ObjectName.TheVariants as object;
@@ -12,8 +12,8 @@ use monk_kinds::Kind;
 use monk_object::Flags;
 use std::marker::Model;
 
-/// A hall, the header of its history, and how many flags the program has. To contracts it is the hall and the number of
-/// flags.
+/// A hall, the header of its history, and how many flags the program has. Contracts see it as the hall and the number
+/// of flags.
 #[derive(Drop)]
 pub struct Room<K: Kind> {
     pub hall: Hall<K, Flags>,
@@ -33,15 +33,15 @@ impl<K: Kind> Model for Room<K> {
 }
 
 impl<K: Kind> Room<K> {
-    /// How many conditions it has.
+    /// Returns how many conditions it has.
     pub fn conds(&self) -> u8
         ensures { result ≡ self.now.house.setting.conds }
     {
         self.header.conds()
     }
 
-    /// The header of its history, in a version that has every event. The hall has its numbers, and
-    /// no flag was set at first.
+    /// Returns the header of its history, in a version that has every event. The hall has its numbers, and no flag
+    /// was set at first.
     pub fn header(&self) -> Header
         ensures header { result ≡ heading_for K.NAME self.now }
         ensures writable { (events : List Event) → IsTrue (is_writable result events) }

@@ -50,7 +50,7 @@ impl<K: Kind> Model for Seat<K> {
 }
 
 impl<K: Kind> Seat<K> {
-    /// The seat of this hall that has the token.
+    /// Returns the seat of this hall that has the token.
     #[inline(always)]
     pub fn new(room: Shared<K>, token: SeatToken<K>) -> Seat<K>
         requires { IsAtHome (arc_value room) (at_of token) }
@@ -59,7 +59,7 @@ impl<K: Kind> Seat<K> {
         Seat { room, token }
     }
 
-    /// Its hall and its token.
+    /// Returns its hall and its token.
     #[inline(always)]
     pub fn into_parts(self) -> (Shared<K>, SeatToken<K>)
         ensures home { IsAtHome (arc_value result.0) (at_of result.1) }
@@ -69,14 +69,14 @@ impl<K: Kind> Seat<K> {
         (room, token)
     }
 
-    /// Its hall.
+    /// Returns its hall.
     pub fn room(&self) -> &Room<K>
         ensures { result.now ≡ self.now.room }
     {
         &self.room
     }
 
-    /// The header of its hall's history, in a version that has every event.
+    /// Returns the header of its hall's history, in a version that has every event.
     pub fn header(&self) -> Header
         ensures header { result ≡ heading_for K.NAME self.now.room }
         ensures writable { (events : List Event) → IsTrue (is_writable result events) }
@@ -86,7 +86,7 @@ impl<K: Kind> Seat<K> {
         self.room.header()
     }
 
-    /// Its token.
+    /// Returns its token.
     pub fn token(&self) -> &SeatToken<K>
         ensures token { at_of result.now ≡ self.now.at }
         ensures home { IsAtHome self.now.room self.now.at }
@@ -94,8 +94,8 @@ impl<K: Kind> Seat<K> {
         &self.token
     }
 
-    /// Gives the seat up. One that is inside leaves, and nobody is told whom that let in; where one that waits is given
-    /// up, its place stays, and the monitor with it once its turn comes.
+    /// Gives the seat up. A seat that is inside leaves, and nobody is told whom that let in. A seat that waits keeps
+    /// its place, and it keeps the monitor once its turn comes.
     pub fn shut(self) {
         let Seat { room, token } = self;
         match token {
@@ -108,7 +108,7 @@ impl<K: Kind> Seat<K> {
         }
     }
 
-    /// Why the call is refused, if it is.
+    /// Returns why the call is refused, if it is.
     #[inline(always)]
     fn refusal(&self, call: Call) -> Option<Refusal>
         ensures { result ≡ refusal_of K.rules.mode self.now call }
@@ -128,21 +128,21 @@ impl<K: Kind> Seat<K> {
         None
     }
 
-    /// The number for C of where it stands.
+    /// Returns the number for C of where it is.
     pub fn place(&self) -> i32
         ensures { result ≡ place_number self.now.at }
     {
         self.token.place()
     }
 
-    /// How many events it has left.
+    /// Returns how many events it has left.
     pub fn left(&self) -> u32
         ensures { result + length (me_of self.now.at).mine ≡ (me_of self.now.at).setting.budget }
     {
         self.token.left()
     }
 
-    /// The word where its grant will come, if it waits, and else 0.
+    /// Returns the word where its grant will come if it waits, or else 0.
     pub fn word(&self) -> usize
         ensures { result ≡ word_of self.now.at }
     {
@@ -152,7 +152,7 @@ impl<K: Kind> Seat<K> {
         }
     }
 
-    /// Does what is not refused.
+    /// Carries out a call that is not refused.
     fn take(self, call: Call, wish: Pick) -> (Seat<K>, Reply)
         requires ready { IsReady K.rules.mode self call }
         requires plain { is_plain call ≡ true }
@@ -172,7 +172,7 @@ impl<K: Kind> Seat<K> {
         }
     }
 
-    /// Does what is asked, or refuses it.
+    /// Carries out a call, or refuses it.
     pub fn ask(&mut self, call: Call, wish: Pick) -> Reply
         requires { is_plain call ≡ true }
         ensures refused { IfRefused K.rules call self.old result.code self.new }
@@ -193,8 +193,8 @@ impl<K: Kind> Seat<K> {
 }
 
 impl<K: Kind> Seat<K> {
-    /// Comes to the monitor, and in where it may, or is refused. It does what `ask` does for an arrival and then for a
-    /// poll, and moves the seat once.
+    /// Comes to the monitor and goes in if it may, or is refused. It does what `ask` does for an arrival and then for
+    /// a poll, but moves the seat only once.
     #[inline(always)]
     pub fn come(&mut self) -> i32
         ensures refused { IfRefused K.rules Call.Arrive self.old result self.new }
@@ -212,7 +212,7 @@ impl<K: Kind> Seat<K> {
         }
     }
 
-    /// Leaves the monitor, or is refused. It does what `ask` does for this call, which is known where it is compiled.
+    /// Leaves the monitor, or is refused. It does what `ask` does for this call, which is known when it is compiled.
     #[inline(always)]
     pub fn go(&mut self, wish: Pick) -> Reply
         ensures refused { IfRefused K.rules Call.Leave self.old result.code self.new }

@@ -1,4 +1,4 @@
-//! What a seat does once its call is not refused.
+//! What a seat does if its call is not refused.
 ghost use Rattle.std.specs.Prelude.{◌≡◌};
 ghost use Rattle.std.specs.Arc.{arc_value};
 ghost use Rattle.monk_kinds.specs.declared.mode.Pick.TheVariants as pick;
@@ -18,7 +18,7 @@ use monk_hall::After;
 use monk_kinds::{ImmediateReturn, Kind, NonBlocking, Pick};
 use monk_object::{Flags, Op};
 
-/// A seat that stands there now, and what C is told of it.
+/// Returns a seat that is there now, and the reply to C.
 #[inline(always)]
 fn stands<K: Kind>(room: Shared<K>, token: SeatToken<K>, granted: usize) -> (Seat<K>, Reply)
     requires { IsAtHome (arc_value room) (at_of token) }
@@ -30,7 +30,7 @@ fn stands<K: Kind>(room: Shared<K>, token: SeatToken<K>, granted: usize) -> (Sea
     (Seat::new(room, token), Reply { code, granted })
 }
 
-/// The token after a call by which the seat may stay inside.
+/// Returns the token after a call by which the seat may stay inside.
 fn token_after<K: Kind>(after: After<K, Flags>) -> SeatToken<K>
     ensures { at_of result ≡ at_after after }
 {
@@ -73,7 +73,7 @@ impl<K: Kind> Seat<K> {
         }
     }
 
-    /// Comes to the monitor, and in where it may. The number for C of where it stands then.
+    /// Comes to the monitor, and goes in if it may. Returns the number for C of where it is then.
     #[inline(always)]
     pub(crate) fn arrive_and_poll(self) -> (Seat<K>, i32)
         requires { IsReady K.rules.mode self Call.Arrive }

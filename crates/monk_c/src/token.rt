@@ -1,4 +1,4 @@
-//! The token of a seat, wherever the seat stands.
+//! The token of a seat, wherever the seat is.
 ghost use Rattle.std.specs.Prelude.{◌≡◌, ◌+◌, length};
 ghost use Rattle.monk_c.specs.Answers.{place_number};
 ghost use Rattle.monk_c.specs.Refusal.{is_from};
@@ -10,7 +10,7 @@ use monk_hall::{Active, Parked, Pass};
 use monk_kinds::Kind;
 use monk_object::Flags;
 
-/// The token of a seat, by where the seat stands.
+/// The token of a seat, by where the seat is.
 pub enum SeatToken<K: Kind> {
     /// It is outside the monitor.
     Outside(Pass<K, Flags>),
@@ -21,7 +21,7 @@ pub enum SeatToken<K: Kind> {
 }
 
 impl<K: Kind> SeatToken<K> {
-    /// Whether a seat that stands there has the call.
+    /// Whether a seat that is there has the call.
     #[inline(always)]
     pub fn is_from(&self, call: Call) -> bool
         ensures { result ≡ is_from (at_of self.now) call }
@@ -33,7 +33,7 @@ impl<K: Kind> SeatToken<K> {
         }
     }
 
-    /// How many events its seat has left.
+    /// Returns how many events its seat has left.
     #[inline(always)]
     pub fn left(&self) -> u32
         ensures { result + length (me_of (at_of self.now)).mine ≡ (me_of (at_of self.now)).setting.budget }
@@ -45,7 +45,7 @@ impl<K: Kind> SeatToken<K> {
         }
     }
 
-    /// The number for C of where the seat stands.
+    /// Returns the number for C of where the seat is.
     #[inline(always)]
     pub fn place(&self) -> i32
         ensures { result ≡ place_number (at_of self.now) }

@@ -5,7 +5,7 @@ use monk_hall::Granted;
 use monk_kinds::Kind;
 use monk_object::Flags;
 
-/// The word that was granted, or 0.
+/// Returns the word that was granted, or 0.
 #[inline(always)]
 pub fn told<K: Kind>(granted: Option<Granted<K, Flags>>) -> usize
     ensures { result ≡ told_word granted }

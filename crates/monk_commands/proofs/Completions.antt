@@ -1,4 +1,4 @@
--- A log is completed exactly where it is open under the kind
+-- A log is completed exactly if it is open under the kind
 use Rattle.std.proofs.Common.{◌≡◌, ℕ, ◌<◌, ◌≤◌, ◌^◌, inl, inr, List, Some, None, Result, Ok, Err}
 use Rattle.std.proofs.Common.{refl, ap, subst, ◌∙◌, arith}
 use Rattle.std.specs.Prelude.{◌↔◌}
@@ -17,7 +17,7 @@ use Rattle.monk_completion.proofs.PublicLaws.{kind_fits, kind_misfits}
 use Rattle.monk_logs.proofs.PublicLaws.{log_again, log_read}
 use Rattle.monk_commands.specs.Completed.{IsAnswerToLog, IsLogAnswer, IsLogOf, IsMisfitText, IsOpenText, IsReadingAnswer, IsVerdictAnswer}
 
--- of the answer to a log
+-- for the answer to a log
 module _ (kind : KindName) (h : LogHeading) (ls : List LogLine) (status : ℕ) (Puts : List ℕ → Type 0) where
   open_by : (v : LogVerdict) → FitsExactly (log_monitor kind h) ls v → IsVerdictAnswer kind h ls v status Puts
       → (status ≡ 0) ↔ IsOpen (log_monitor kind h) ls
@@ -43,7 +43,7 @@ module _ (kind : KindName) (h : LogHeading) (ls : List LogLine) (status : ℕ) (
   of_log size (inl a) = a.1
   of_log size (inr a) = absurd (omega (arith, size, a.0))
 
--- of the answer to bytes
+-- for the answer to bytes
 module _ (kind : KindName) (input : List ℕ) (status : ℕ) (Puts : List ℕ → Type 0) where
   log_is : (l : Log) → log_at (2 ^ 25) input ≡ Ok l → l.0.size ≤ most l.0.object → IsLogOf input l.0 l.1
   log_is l is size =
@@ -56,7 +56,7 @@ module _ (kind : KindName) (input : List ℕ) (status : ℕ) (Puts : List ℕ �
       (subst (λ (r : Result Log ReadFault). IsReadingAnswer kind r status Puts)
       (ap (log_at (2 ^ 25)) t.whole ∙ log_again (2 ^ 25) h ls t.has_text t.few) a)
 
-  -- a status below 2 is answered exactly to the logs of which that holds
+  -- a status below 2 is answered exactly to the logs for which P holds
   exactly : (P : LogHeading → List LogLine → Type 0) (n : ℕ) → n < 2
       → ((h : LogHeading) (ls : List LogLine)
       → IsVerdictAnswer kind h ls (verdict_on (log_monitor kind h) ls) status Puts → (status ≡ n) ↔ P h ls)

@@ -21,7 +21,7 @@ use Rattle.monk_audit.specs.declared.verdict.Verdict.TheVariants.{Legal, Forbidd
 use Rattle.monk_commands.specs.Answer.{LineAnswer, answer_of, reading_answer, too_big, verdict_answer}
 use Rattle.monk_commands.specs.Legal.{IsTextOf, IsLegalText, HasFault, IsForbiddenText}
 
--- what an answer with status 0 or 1 says of the size and the verdict
+-- what an answer with status 0 or 1 says about the size and the verdict
 judged_by : (h : History) (b : Bool) (v : Verdict) (n : ℕ) → ltb (most h.0.object) h.0.size ≡ b
     → (cond b too_big (verdict_answer v)).status ≡ n → n < 2 → (h.0.size ≤ most h.0.object)
     × ((verdict_answer v).status ≡ n)
@@ -44,7 +44,7 @@ answered_by input h es v t is =
     subst (λ (r : Result History ReadFault). reading_answer r ≡ verdict_answer v) (sym read_is)
     (rw size (ap verdict_answer is))
 
--- a status below 2 is answered exactly to the histories of which that holds
+-- a status below 2 is answered exactly to the histories for which P holds
 exactly : (P : Heading → List Event → Type 0) (n : ℕ) → n < 2
     → ((h : Heading) (es : List Event) (v : Verdict) → IsVerdict (named_monitor h) es v
     → ((verdict_answer v).status ≡ n) ↔ P h es)
@@ -83,7 +83,7 @@ fault_by h es (Legal n) w = (
 )
 fault_by h es (Forbidden s r) w = (λ e. record { step = s; reason = r; first = w }, λ f. refl)
 
--- the status that was given of what was found is that of the text
+-- the status that was given for what was found is that of the text
 pub status_is : (known : Option (List ℕ)) (found : Result TextVerdict ReadFault) (given status : ℕ) → status ≡ given
     → IfSome known (λ input. Gives same found (text_verdict input))
     → ((input : List ℕ) → Gives same found (text_verdict input) → given ≡ (answer_of input).status)
@@ -91,7 +91,7 @@ pub status_is : (known : Option (List ℕ)) (found : Result TextVerdict ReadFaul
 status_is None found given status is gives says = tt
 status_is (Some input) found given status is gives says = is ∙ says input gives
 
--- where a status is the answer's, it stands for exactly what it stands for of the answer
+-- if a status is the answer's, it means exactly what it means for the answer
 known_exactly : (n : ℕ) (Is : List ℕ → Type 0) → ((input : List ℕ) → ((answer_of input).status ≡ n) ↔ Is input)
     → (known : Option (List ℕ)) (status : ℕ) → IfSome known (λ input. status ≡ (answer_of input).status)
     → IfSome known (λ input. (status ≡ n) ↔ Is input)

@@ -1,4 +1,4 @@
--- A replay that carries out one event more of a legal history
+-- A replay that carries out one more event of a legal history
 use Rattle.std.proofs.Common.{◌≡◌, ◌+◌, ◌<◌, ◌∙◌, ℕ, List, [], ap, get_or, length, refl, take}
 use Rattle.monk_kinds.specs.declared.mode.Rules.{Rules}
 use Rattle.monk_object.specs.Object.{Object}

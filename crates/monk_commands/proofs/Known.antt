@@ -1,4 +1,4 @@
--- What holds of the bytes that were read holds of what a reader had, where that is known.
+-- What holds for the bytes that were read holds for what a reader had, if that is known.
 use Rattle.std.proofs.Common.{◌≡◌, ℕ, List, Option, Some, None, subst}
 use Rattle.std.specs.Prelude.{IfSome}
 

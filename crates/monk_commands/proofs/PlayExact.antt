@@ -1,4 +1,4 @@
--- A play is played exactly where the bytes are its text, and what is written then.
+-- A play is played exactly if the bytes are its text, and what is written then.
 use Rattle.std.proofs.Common.{◌≡◌, ℕ, ◌≤◌, ◌^◌, inl, inr, List, length, Result, Ok, Err}
 use Rattle.std.proofs.Common.{refl, sym, ap, subst, ◌∙◌, arith}
 use Rattle.std.specs.Prelude.{◌↔◌}

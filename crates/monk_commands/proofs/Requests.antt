@@ -1,4 +1,4 @@
--- What clap's matches say of the command and its values.
+-- What clap's matches say about the command and its values.
 use Rattle.std.proofs.Common.{◌≡◌, ℕ, ◌+◌, ◌<◌, List, [], ◌∷◌, ◌++◌, length, get_or, take, map, Option, Some, None, Result, Ok, true}
 use Rattle.std.proofs.Common.{refl, sym, ap, subst, ◌∙◌, Bor}
 use Rattle.std.proofs.lemmas.List.{map-append, take_more}
@@ -13,7 +13,7 @@ use Rattle.monk_judge.specs.declared.waits_for.WaitsFor.{WaitsFor}
 use Rattle.monk_commands.specs.Request.{AreMeanings, IsAsked, IsMeaning, IsRead, MayHaveNumber, NameList}
 use Rattle.monk_commands.specs.Request.{monk_app, words_or_none}
 
--- what is read in the rows of a command is asked for where that command was found
+-- what is read in the rows of a command is asked for if that command was found
 pub asked_in : (o : Option (Text × List Row)) (word : Text) (rows : List Row) (l : Line)
     → option_map (λ p. p.0) o ≡ Some word → option_map (λ p. p.1) o ≡ Some rows
     → IsRead word l rows → IsAsked l o
@@ -57,7 +57,7 @@ words_more [] (v ∷ ws) t w are is = absurd are
 words_more (s ∷ ts) [] t w are is = absurd are
 words_more (s ∷ ts) (v ∷ ws) t w are is = (are.0, words_more ts ws t w are.1 is)
 
--- with the meaning of one word more
+-- with the meaning of one more word
 pub meanings_more : (words : List (Bor Text)) (i : ℕ) (t : Bor Text) (ws new : List WaitsFor) (w : WaitsFor)
     → i < length words
     → AreMeanings (texts (take i words)) ws → IsMeaning (get_or words i t).now w → new ≡ ws ++ w ∷ []
@@ -69,7 +69,7 @@ meanings_more words i t ws new w within are is more =
     ∙ map-append (λ (x : Bor Text). x.now) (take i words) (get_or words i t ∷ [])))
     (words_more (texts (take i words)) ws (get_or words i t).now w are is))
 
--- what clap has found for a name, and what it gives of it
+-- what clap has found for a name, and what it returns for it
 pub found_words : (id : Text) (f : Found) (words : List Text) → Some words ≡ option_map raw_values (matched_of f id)
     → words ≡ words_or_none (all_of id (rows_of f))
 found_words id f words is = ap words_or_none (is ∙ raw_values-rows f id)

@@ -16,11 +16,11 @@ pub places_more : (s : State) (stands : ℕ → SeatPlace) (j : ℕ)
 unfolding places_text
 places_more s stands j = let on : j + 1 ≡ suc j = omega arith in ap (λ n. places_text s stands n) on
 
--- what stood on a page, and the seats so far with one more
+-- what was on a page, and the seats so far with one more
 pub with_seat : (page places seat more : List ℕ) → more ≡ places ++ seat → (page ++ places) ++ seat ≡ page ++ more
 with_seat page places seat more is = append_assoc page places seat ∙ ap (λ (all : List ℕ). page ++ all) (sym is)
 
--- the line of a command stands before those of the commands behind it
+-- the line of a command comes before those of the commands after it
 pub traced_on : (name : ObjectName) (m : Monitor) (before : ℕ) (s : State) (all cs : List (ℕ × Command))
     (c : ℕ × Command) (a : Answer) (u last : State) (rest : List ℕ)
     → all ≡ c ∷ cs → IsStep m.kind m.object s c.0 c.1 a u → AreTraced name m (before + 1) u cs last rest
@@ -31,7 +31,7 @@ traced_on name m before s all cs c a u last rest is step are =
     (trace_line name m (before + 1) c a u (situation m u.floor.history) ++ rest)) (sym is)
     (a, (u, (rest, (step, (refl, are)))))
 
--- where no command is left, the lines are all there are
+-- if no command is left, the lines are all there are
 pub traced_all : (name : ObjectName) (m : Monitor) (before : ℕ) (s last : State) (all left : List (ℕ × Command))
     (page : List ℕ)
     → left ≡ []

@@ -1,4 +1,4 @@
--- A text is upgraded exactly where it is of a history, and then by the text of the same events
+-- A text is upgraded exactly if it is a history, and then to the text of the same events
 use Rattle.std.proofs.Common.{◌≡◌, ℕ, ◌^◌, ◌⊎◌, inl, inr, Bool, true, false, cond, List, Result, Ok, Err}
 use Rattle.std.proofs.Common.{refl, sym, ap, subst, ◌∙◌, arith}
 use Rattle.std.specs.Prelude.{◌↔◌, nat_le}

@@ -42,18 +42,18 @@ IsMisfitText kind input =
 
 -- ---- what is written
 
--- the header of a history of that kind over what the first line of a log names, in a version that has every event
+-- the header of a history of that kind, with the numbers of a log's header, in a version that has every event
 abbrev pub completed_heading : KindName → LogHeading → Heading
 completed_heading kind h = upgraded_heading (heading (object_version h.object) kind h.seats h.conds h.object h.size)
 
--- with what writing these bytes means: the text of a history is written that is legal and tells the log
+-- given what writing bytes means: the text of a history is written that is legal and tells the log
 pub record IsCompleted (kind : KindName) (h : LogHeading) (log : List LogLine) (Puts : List ℕ → Type 0) : Type 0 where
   pub history : List Event
   pub completes : Completes (log_monitor kind h) log history
   pub has_text : HasText (completed_heading kind h) history
   pub told : Puts (text (completed_heading kind h) history)
 
--- what stands behind the kind
+-- the words after the kind
 abbrev pub misfit_words : ℕ → Blame → List ℕ
 misfit_words n why =
     codes " misfit " ++ decimal n ++ codes " " ++ decimal (blame_number why) ++ codes " " ++ blame_word why
@@ -74,7 +74,7 @@ IsLogAnswer kind l status Puts =
     ((l.0.size ≤ most l.0.object) × IsVerdictAnswer kind l.0 l.1 (verdict_on (log_monitor kind l.0) l.1) status Puts)
     ⊎ ((most l.0.object < l.0.size) × (status ≡ 2) × Puts too_big.text)
 
--- the same, or the answer to a text that is of none
+-- the same, or the answer to a text that is no log
 abbrev pub IsReadingAnswer : KindName → Result Log ReadFault → ℕ → (List ℕ → Type 0) → Type 0
 IsReadingAnswer kind (Ok l) status Puts = IsLogAnswer kind l status Puts
 IsReadingAnswer kind (Err f) status Puts = (status ≡ 2) × Puts (unreadable f).text

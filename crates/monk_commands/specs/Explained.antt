@@ -8,12 +8,12 @@ use Rattle.monk_tell.specs.Told.{Account, account}
 use Rattle.monk_commands.specs.Answer.{IsSized, verdict_answer}
 use Rattle.monk_commands.specs.LogAnswered.{BeginsWith}
 
--- the status and the line of an audit; nothing is said of the lines behind it
+-- the status and the line of an audit; nothing is said about the lines after it
 pub record IsTold (t : Account) (status : ℕ) (text : List ℕ) : Type 0 where
   pub status_is : status ≡ (verdict_answer t.verdict).status
   pub begins : BeginsWith (verdict_answer t.verdict).text text
 
--- the kind under which a history is judged: the one that is named, or its own
+-- the kind under which a history is judged: the named one, or its own
 abbrev pub judged_under : Option KindName → Heading → Heading
 judged_under None h = h
 judged_under (Some k) h = under k h

@@ -1,4 +1,4 @@
--- The answer to a text that is judged: of a log a finding, of a history the verdict under one kind or under each
+-- The answer to a text that is judged: a finding for a log, the verdict under one kind or each for a history
 use Rattle.std.specs.Prelude.{◌≡◌, ◌==◌, ◌^◌, ℕ, Bool, List, [], ◌∷◌, ◌++◌, Option, Some, None, codes, if◌then◌else◌}
 use Rattle.std.specs.List.{flat_map, list_any}
 use Rattle.monk_kinds.specs.Names.{kind_word, kinds}
@@ -23,7 +23,7 @@ use Rattle.monk_commands.specs.declared.question.Question.{Question}
 abbrev pub verdict_under : Heading → List Event → KindName → Verdict
 verdict_under h events k = verdict_of (named_monitor (under k h)) events
 
--- they fit a kind where they are legal under it
+-- they fit a kind if they are legal under it
 abbrev pub is_fit : Verdict → Bool
 is_fit v = (verdict_answer v).status == 0
 
@@ -54,22 +54,22 @@ IsFitText ks input status text = IsReading (IsFit ks) (text_at (2 ^ 25) input) s
 
 -- ---- a text
 
--- the line behind a name
+-- the line after a name
 abbrev pub named_line : List ℕ → List ℕ → List ℕ
 named_line name line = name ++ (codes ": " ++ line)
 
--- the text is that of an answer behind a name
+-- the text is an answer after a name
 pub record IsNamed (Is : ℕ → List ℕ → Type 0) (name : List ℕ) (status : ℕ) (text : List ℕ) : Type 0 where
   pub line : List ℕ
   pub is : Is status line
   pub named : text ≡ named_line name line
 
--- the answer to a history: ten lines, or one line under the kind behind its name
+-- the answer to a history: ten lines, or one line under the kind after its name
 abbrev pub IsHistoryFit : Option KindName → List ℕ → List ℕ → ℕ → List ℕ → Type 0
 IsHistoryFit None name input status text = IsFitText kinds input status text
 IsHistoryFit (Some k) name input status text = IsNamed (IsFitText (k ∷ []) input) name status text
 
--- the answer to a log: one line, behind its name or in JSON
+-- the answer to a log: one line, after its name or in JSON
 abbrev pub IsLogFit : FitForm → Question → List ℕ → ℕ → List ℕ → Type 0
 IsLogFit Words q input status text = IsNamed (IsAnswerToLog view.Line q input) q.name.now status text
 IsLogFit Json q input status text = IsAnswerToLog view.Json q input status text

@@ -6,7 +6,7 @@ use Rattle.monk_history.specs.declared.event.Event.{Event}
 use Rattle.monk_audit.specs.Replay.{IsReplayOf, replay_situation}
 use Rattle.monk_audit.specs.declared.replay.Replay.{Replay}
 
--- the replay, with so many predicates and conditions, and beside this state of the object, is that of the events
+-- the replay is that of the events, with this state of the object and these numbers of predicates and conditions
 pub record IsBehind (m : Monitor) (predicates conds : ℕ) (r : Replay) (state : List ℕ) (events : List Event)
     : Type 0 where
   pub stands : replay_situation r state ≡ situation m events

@@ -1,4 +1,4 @@
--- With what writing these bytes means: an answer's text is written, with its status
+-- Given what writing bytes means: an answer's text is written, with its status
 use Rattle.std.specs.Prelude.{◌≡◌, ℕ, List}
 use Rattle.monk_commands.specs.Answer.{LineAnswer}
 

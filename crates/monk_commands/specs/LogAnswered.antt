@@ -16,29 +16,29 @@ use Rattle.monk_commands.specs.declared.logs.view.LogView.{LogView}
 use Rattle.monk_commands.specs.declared.logs.view.LogView.TheVariants.{Line, Json, Explanation}
 use Rattle.monk_commands.specs.declared.question.Question.{Question}
 
--- a text whose first word is that of a log
+-- the first word of a text is `log`
 abbrev pub is_log_text : List ℕ → Bool
 is_log_text input = starts_with (λ (a b : ℕ). a == b) input (codes "log ")
 
--- a text begins with that one
+-- the text begins with `front`
 pub record BeginsWith (front text : List ℕ) : Type 0 where
   pub rest : List ℕ
   pub is : text ≡ front ++ rest
 
--- the text tells the finding: as its line, or as sentences behind its line; of the form for other programs nothing is
--- said
+-- the text tells the finding: as its line, or as sentences after its line; nothing is said about the form for other
+-- programs
 abbrev pub Tells : LogView → Finding → List ℕ → Type 0
 Tells Line f text = text ≡ finding_line f
 Tells Json f text = Unit {0}
 Tells Explanation f text = BeginsWith (finding_line f) text
 
--- a line that tells why nothing is found; of the form for other programs nothing is said
+-- a line that says why nothing is found; nothing is said about the form for other programs
 abbrev pub Says : LogView → List ℕ → List ℕ → Type 0
 Says Line line text = text ≡ line
 Says Json line text = Unit {0}
 Says Explanation line text = text ≡ line
 
--- a finding of the log is told, with its status
+-- the answer is a finding of the log, with its status
 pub record IsJudged (view : LogView) (means : List WaitsFor) (ended : Bool) (h : LogHeading) (lines : List LogLine)
     (status : ℕ) (text : List ℕ) : Type 0 where
   pub finding : Finding
@@ -46,7 +46,7 @@ pub record IsJudged (view : LogView) (means : List WaitsFor) (ended : Bool) (h :
   pub status_is : status ≡ finding_status finding
   pub tells : Tells view finding text
 
--- it is refused
+-- the log is refused
 abbrev pub IsRefused : LogView → LogRefusal → ℕ → List ℕ → Type 0
 IsRefused view r status text = (status ≡ 2) × Says view (refusal_line r) text
 

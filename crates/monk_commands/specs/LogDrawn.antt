@@ -25,7 +25,7 @@ abbrev pub status_of : Option Misfit → ℕ
 status_of None = 0
 status_of (Some f) = 1
 
--- what shows it, by the lines that are drawn: a page has its data; nothing is said of how a picture looks
+-- how it is shown, by the lines that are drawn: a page has its data; nothing is said about how a picture looks
 abbrev pub IsRunShownAs : Show → Option Window → LogHeading → Run → List LogLine → List ℕ → Type 0
 IsRunShownAs (Picture form) w h run drawn text = ⊤
 IsRunShownAs Page w h run drawn text =
@@ -37,14 +37,14 @@ abbrev pub HasRun : LogHeading → Run → Type 0
 HasRun h run =
     IsRun (setting h.seats h.conds (meaning_named h.object)) (opening (opening_named h.object h.size)) run.steps.items
 
--- a run of the log is shown by these lines; or the answer where the lines that are asked for are behind the last
+-- a run of the log is shown by these lines, or the answer is that the lines asked for are after the last
 pub record IsRunShown (show : Show) (w : Option Window) (h : LogHeading) (run : Run) (drawn : List LogLine)
     (status : ℕ) (text : List ℕ) : Type 0 where
   pub shown : is_behind w (length drawn) ≡ false
       → (status ≡ status_of run.misfit) × IsRunShownAs show w h run drawn text
   pub none : is_behind w (length drawn) ≡ true → IsOf (behind (length drawn)) status text
 
--- some run of the log is
+-- some run of the log is shown
 pub record IsSomeRunShown (show : Show) (w : Option Window) (h : LogHeading) (lines : List LogLine) (status : ℕ)
     (text : List ℕ) : Type 0 where
   pub run : Run

@@ -1,4 +1,4 @@
--- What is said of a judged log, in one line
+-- What is said about a judged log, in one line
 use Rattle.std.specs.Prelude.{◌≡◌, ℕ, ◌+◌, ◌==◌, ◌&&◌, ◌||◌, Bool, not, List, [], ◌++◌, codes, slice_get, if◌then◌else◌}
 use Rattle.std.specs.Prelude.{Option, Some, None, is_some, nat_lt, nat_le, option_map, min, ◌^◌, ◌-◌}
 use Rattle.std.specs.Fmt.{decimal}
@@ -31,12 +31,12 @@ wrong_seat (Some f) lines = seat_or_0 (option_map line_seat (slice_get lines f.l
     seat_or_0 None = 0
     seat_or_0 (Some s) = s
 
--- the report tells of a log with that header what it is to tell
+-- the report says about a log with that header what it should say
 abbrev pub IsReportOf : List WaitsFor → LogHeading → List LogLine → Report → Type 0
 IsReportOf means h lines r =
     IsReport (setting h.seats h.conds (meaning_named h.object)) (opening_named h.object h.size) lines means r
 
--- it is found of the log of a program that has ended by itself or hasn't
+-- it is found for the log of a program that has ended by itself or hasn't
 pub record IsFinding (means : List WaitsFor) (ended : Bool) (h : LogHeading) (lines : List LogLine)
     (f : Finding) : Type 0 where
   pub report : IsReportOf means h lines f.report
@@ -58,19 +58,19 @@ finding_status f =
 
 -- ---- the words
 
--- the number in the file of the line with that index behind the header, as far as numbers reach
+-- the number in the file of the line with that index after the header, up to the greatest number
 abbrev pub number : ℕ → ℕ
 number index = min (index + 2) (2 ^ 64 - 1)
 
--- what stands behind the number of spurious wake-ups
+-- what follows the number of spurious wake-ups
 abbrev pub wake_up_words : ℕ → List ℕ
 wake_up_words n = if n == 1 then codes " spurious wake-up" else codes " spurious wake-ups"
 
--- so many spurious wake-ups, of which that is the first
+-- the number of spurious wake-ups, and the line of the first
 abbrev pub wake_ups : ℕ → ℕ → List ℕ
 wake_ups n k = decimal n ++ (wake_up_words n ++ (codes ", first at " ++ decimal (number k)))
 
--- the same behind these words, if there are some
+-- the same after these words, if there are some
 abbrev pub spurious_words : List ℕ → ℕ → Option ℕ → List ℕ
 spurious_words front n None = []
 spurious_words front n (Some k) = front ++ wake_ups n k
@@ -81,7 +81,7 @@ busy_words ended h =
     (if ended then codes "; busy at the end" else codes "; busy")
     ++ (codes ", seat " ++ (decimal h.seat ++ (codes " holds the lock since " ++ decimal (number h.since))))
 
--- how a log of so many seats ends in which nobody holds the lock, by how many sleep and how many were woken
+-- how a log ends if nobody holds the lock, by its seats, how many sleep and how many were woken
 abbrev pub idle_words : ℕ → ℕ → ℕ → List ℕ
 idle_words seats asleep woken =
     if nat_lt 0 woken then codes "; owed, " ++ (decimal woken ++ codes " woken and not back")
@@ -133,31 +133,31 @@ abbrev pub verdict_words : Option Misfit → Finding → List ℕ
 verdict_words None f = fitting_words f
 verdict_words (Some wrong) f = misfit_words wrong f
 
--- a number behind a word, if it isn't 0
+-- a number after a word, if it isn't 0
 abbrev pub counted : List ℕ → ℕ → List ℕ
 counted word n = if n == 0 then [] else word ++ decimal n
 
--- the number of a line behind a word, if there is one
+-- the number of a line after a word, if there is one
 abbrev pub placed : List ℕ → Option ℕ → List ℕ
 placed word None = []
 placed word (Some k) = word ++ decimal (number k)
 
--- the seats that a signal crossed on their way to sleep, and the last of these signals, which counts from 1 behind the
+-- the seats that a signal crossed on their way to sleep, and the last of these signals, which counts from 1 after the
 -- header
 abbrev pub crossed_words : Option Crossed → List ℕ
 crossed_words None = []
 crossed_words (Some c) =
     codes "; crossed " ++ (decimal c.seats ++ (codes " at " ++ decimal (min (c.line + 1) (2 ^ 64 - 1))))
 
--- how many threads have to be overtaken before something is said of it
+-- how many threads must be overtaken before something is said about it
 abbrev pub enough_overtaken : ℕ
 enough_overtaken = 8
 
--- whether of enough threads that were overtaken none waited again
+-- whether enough threads were overtaken, and none of them waited again
 abbrev pub never_again : ℕ → ℕ → Bool
 never_again overtaken again = again == 0 && nat_le enough_overtaken overtaken
 
--- that none of so many threads that were overtaken waited again
+-- that none of the threads that were overtaken waited again
 abbrev pub overtaken_words : ℕ → List ℕ
 overtaken_words n = codes "; never waits again (0 of " ++ (decimal n ++ codes " overtaken)")
 
@@ -171,7 +171,7 @@ never_words t None = []
 never_words t (Some k) =
     if never_again t.overtaken t.again then with_first (overtaken_words t.overtaken) k else []
 
--- what is counted of signals
+-- the counts of signals
 abbrev pub tally_words : Tally → List ℕ
 tally_words t =
     counted (codes "; served ") t.served ++ (counted (codes ", passed ") t.passed

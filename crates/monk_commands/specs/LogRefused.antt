@@ -38,12 +38,12 @@ unlike_mesa Npir = Some Npir
 unlike_mesa Pis = Some Pis
 unlike_mesa Npis = Some Npis
 
--- the kind that is named, if it is such a one
+-- the kind that is named, if it is such a kind
 abbrev pub other_kind : Option KindName → Option KindName
 other_kind None = None
 other_kind (Some k) = unlike_mesa k
 
--- that it is told what threads wait for, but not what happened to the object
+-- the options say what threads wait for, but the log has no act on the object
 abbrev pub lacks_acts : List WaitsFor → List LogLine → Bool
 lacks_acts means lines = not (length means == 0) && not (list_any is_act lines)
 

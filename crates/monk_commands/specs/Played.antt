@@ -1,4 +1,4 @@
--- Plays that can be played, and what is answered to a play's text
+-- Plays that can be played, and the answer to a play's text
 use Rattle.std.specs.Prelude.{◌≡◌, ℕ, ◌<◌, ◌≤◌, ◌^◌, ◌⊎◌, List, length, None, Result, Ok, Err}
 use Rattle.monk_kinds.specs.declared.mode.Rules.{Rules}
 use Rattle.monk_kinds.specs.Names.{rules_named}
@@ -47,12 +47,12 @@ pub record IsLedTo (k : Rules) (o : Object) (opening : List ℕ) (h : Heading) (
   pub has_text : HasText h events
   pub few : length events ≤ 2 ^ 25
 
--- with what writing these bytes means: the text of such a history is written
+-- given what writing bytes means: the text of such a history is written
 abbrev pub IsPlayedBy : Rules → Object → List ℕ → Heading → ℕ → List (ℕ × Command) → (List ℕ → Type 0) → Type 0
 IsPlayedBy k o opening h budget commands Puts =
     (events : List Event) × (IsLedTo k o opening h budget commands events × Puts (text h events))
 
--- what of a play is put, by its header, its budget and its commands
+-- what is written for a play, from its header, its budget and its commands
 abbrev pub Telling : Type 1
 Telling = Heading → ℕ → List (ℕ × Command) → (List ℕ → Type 0) → Type 0
 
@@ -67,7 +67,7 @@ IsPlayAnswer Tells p status Puts =
     ((p.0.size ≤ most p.0.object) × (status ≡ 0) × Tells p.0 p.1 p.2 Puts)
     ⊎ ((most p.0.object < p.0.size) × (status ≡ 2) × Puts too_big.text)
 
--- the same, or the answer to a text that is of none
+-- the same, or the answer to a text that is no play
 abbrev pub IsAnswer : Telling → Result Play ReadFault → ℕ → (List ℕ → Type 0) → Type 0
 IsAnswer Tells (Ok p) status Puts = IsPlayAnswer Tells p status Puts
 IsAnswer Tells (Err f) status Puts = (status ≡ 2) × Puts (unreadable f).text

@@ -1,4 +1,4 @@
--- What is answered to a run of a sample: its totals, its history, or both of a run in haste
+-- The answer to a run of a sample: its totals, its history, or both for a run in haste
 use Rattle.std.specs.Prelude.{◌≡◌, ℕ, ◌⊎◌, Bool, true, List, [], ◌++◌, Option, Some, None, codes, slice_index}
 use Rattle.std.specs.Fmt.{decimal}
 use Rattle.monk_kinds.specs.Names.{rules_named}
@@ -26,7 +26,7 @@ rows_text Shop t =
     ++ (codes "\nfinished " ++ (decimal (slice_index t 2)
     ++ (codes "\ndeparted " ++ (decimal (slice_index t 3) ++ codes "\n")))))))
 
--- the lines that tell the totals of a legal run
+-- the lines with the totals of a legal run
 abbrev pub totals_text : Sample → List ℕ → List ℕ
 totals_text sample t = rows_text sample t ++ codes "legal\n"
 
@@ -41,7 +41,7 @@ pub record HasServed (k : KindName) (s : Played) (sample : Sample) (seats rounds
   pub outcome : IsOutcome k s seats heading history totals
   pub totals_are : HasTotals sample seats rounds totals
 
--- the totals of such a run are told
+-- the totals of such a run are written
 pub record IsTold (k : KindName) (sample : Sample) (seats rounds : ℕ) (Puts : List ℕ → Type 0) : Type 0 where
   pub heading : Heading
   pub history : List Event
@@ -49,7 +49,7 @@ pub record IsTold (k : KindName) (sample : Sample) (seats rounds : ℕ) (Puts : 
   pub ran : HasServed k (patiently sample) sample seats rounds heading history totals
   pub told : Puts (totals_text sample totals)
 
--- the text of its history is told
+-- the text of its history is written
 pub record IsRecorded (k : KindName) (sample : Sample) (seats rounds : ℕ) (Puts : List ℕ → Type 0) : Type 0 where
   pub heading : Heading
   pub history : List Event
@@ -68,7 +68,7 @@ abbrev pub hasty_text : List ℕ → ℕ → Option ℕ → List ℕ
 hasty_text t missed first =
     rows_text Buffer t ++ (codes "missed " ++ (decimal missed ++ (codes "\n" ++ (first_line first ++ codes "legal\n"))))
 
--- of a run in haste the file gets the text of its history, and what is told is read from this history
+-- for a run in haste the file gets the text of its history, and the lines are read from this history
 pub record IsHastyTold (k : KindName) (seats rounds : ℕ) (Files Puts : List ℕ → Type 0) : Type 0 where
   pub heading : Heading
   pub history : List Event
@@ -78,8 +78,8 @@ pub record IsHastyTold (k : KindName) (seats rounds : ℕ) (Files Puts : List �
   pub filed : Files (text heading history)
   pub told : Puts (hasty_text totals (missed_in history) (first_missed history))
 
--- the line that tells how a run has ended that left nothing; of want of memory, and of a thread that was not started,
--- none is told, since the stream itself fails
+-- the line that says how a run ended that left nothing; there is none for want of memory, and for a thread that was
+-- not started, because the stream itself fails
 abbrev pub end_word : RunFault → Option (List ℕ)
 end_word Tired = Some (codes "tired\n")
 end_word Late = Some (codes "late\n")
@@ -88,7 +88,7 @@ end_word Memory = None
 end_word Thread = None
 end_word Range = None
 
--- a run has ended without totals, and its end is told
+-- a run has ended without totals, and a line says how
 pub record IsEnd (k : KindName) (s : Played) (seats rounds : ℕ) (Puts : List ℕ → Type 0) : Type 0 where
   pub fault : RunFault
   pub why : IsFaultOfRun (rules_named k) lets_in s seats rounds fault
@@ -96,22 +96,22 @@ pub record IsEnd (k : KindName) (s : Played) (seats rounds : ℕ) (Puts : List �
   pub is : end_word fault ≡ Some word
   pub told : Puts word
 
--- a run has ended since a thread of it was not started: then the stream itself fails
+-- a run has ended because a thread of it was not started: then the stream itself fails
 abbrev pub IsUnstarted : KindName → Played → ℕ → ℕ → Type 0
 IsUnstarted k s seats rounds = IsFaultOfRun (rules_named k) lets_in s seats rounds Thread
 
--- the answer of a run: its totals, or how it ended without them
+-- the answer to a run: its totals, or how it ended without them
 abbrev pub IsRunAnswer : KindName → Sample → ℕ → ℕ → ℕ → (List ℕ → Type 0) → Type 0
 IsRunAnswer k sample seats rounds status Puts =
     ((status ≡ 0) × IsTold k sample seats rounds Puts) ⊎ ((status ≡ 1) × IsEnd k (patiently sample) seats rounds Puts)
 
--- the answer of a record: the text of its history, or how it ended without one
+-- the answer to a record: the text of its history, or how it ended without one
 abbrev pub IsRecordAnswer : KindName → Sample → ℕ → ℕ → ℕ → (List ℕ → Type 0) → Type 0
 IsRecordAnswer k sample seats rounds status Puts =
     ((status ≡ 0) × IsRecorded k sample seats rounds Puts)
     ⊎ ((status ≡ 1) × IsEnd k (patiently sample) seats rounds Puts)
 
--- the answer of a hasty run: that; or how it ended without a history, and then the file gets nothing
+-- the answer to a hasty run: that; or how it ended without a history, and then the file gets nothing
 abbrev pub IsHastyAnswer : KindName → ℕ → ℕ → ℕ → (List ℕ → Type 0) → (List ℕ → Type 0) → Type 0
 IsHastyAnswer k seats rounds status Files Puts = ((status ≡ 0) × IsHastyTold k seats rounds Files Puts)
     ⊎ ((status ≡ 1) × IsEnd k in_haste seats rounds Puts × Files [])

@@ -1,4 +1,4 @@
--- What is put of a play that is told one way or the other
+-- What is written for a play: its history or its trace
 use Rattle.std.specs.Prelude.{ℕ, List, Option, Some, None}
 use Rattle.monk_kinds.specs.Names.{rules_named}
 use Rattle.monk_kinds.specs.declared.mode.Rules.{Rules}
@@ -9,7 +9,7 @@ use Rattle.monk_commands.specs.Traced.{IsTracedBy}
 use Rattle.monk_commands.specs.declared.report.Report.{Report}
 use Rattle.monk_commands.specs.declared.report.Report.TheVariants.{History, Trace}
 
--- what is to be told of a play with these objects to show: a trace shows one
+-- what is written for a play with these objects to show: a trace shows one
 abbrev pub report_with : {T : Type 0} → Option T → Report
 report_with None = History
 report_with (Some shown) = Trace

@@ -83,7 +83,7 @@ bare_app =
           record (new_app (codes "monk")).top { has_version = true; subcommand_required = true };
     }
 
--- the program with these commands more
+-- the program with these commands added
 abbrev pub with_commands : App → List CommandWords → App
 with_commands a cs = fold (λ b c. with_subcommand b (command_app c).top) a cs
 
@@ -95,7 +95,7 @@ NameList = Bor (List (Bor Text))
 abbrev pub words_in : NameList → List Text
 words_in w = map (λ x. x.now) w.now
 
--- a sample is called as its object is
+-- a sample has the name of its object
 abbrev pub sample_word : Sample → Text
 sample_word sample = object_word (sample_object sample)
 
@@ -111,11 +111,11 @@ file_rule = form_rule (codes "FILE") Optional
 abbrev pub files_rule : Rule
 files_rule = form_rule (codes "FILE") Several
 
--- a whole number in that range, which must stand there
+-- a whole number in that range, which must be there
 abbrev pub number_rule : Text → ℕ → ℕ → Rule
 number_rule name least greatest = form_rule name (Required (Signed (pos least) (pos greatest)))
 
--- a kind that must stand there
+-- a kind that must be there
 abbrev pub kind_rule : NameList → Rule
 kind_rule kinds = form_rule (codes "KIND") (Required (Names kinds))
 
@@ -192,13 +192,12 @@ pub record HasNumber (name : Text) (n : ℕ) (rows : List Row) : Type 0 where
   pub found : one_of name rows ≡ Some text
   pub is : IsInDigits text n
 
--- the same where clap may have found none
+-- the same, but clap may have found none
 abbrev pub MayHaveNumber : Text → Option ℕ → List Row → Type 0
 MayHaveNumber name None rows = one_of name rows ≡ None
 MayHaveNumber name (Some n) rows = HasNumber name n rows
 
--- the events that are asked for are those that the numbers mean which clap has found for `from` and
--- `to`, and these are fine
+-- the events that are asked for are those that the numbers for `from` and `to` mean, and these are fine
 pub record IsWindowIn (window : Option Window) (rows : List Row) : Type 0 where
   pub from : Option ℕ
   pub to : Option ℕ
@@ -213,7 +212,7 @@ pub record IsFlag (name : Text) (is_set : Bool) (rows : List Row) : Type 0 where
   pub set : one_of name rows ≡ Some (codes "true") → is_set ≡ true
   pub unset : one_of name rows ≡ Some (codes "false") → is_set ≡ false
 
--- how wide a picture of text is where no width is told
+-- how wide a picture of text is if no width is given
 abbrev pub usual_width : ℕ
 usual_width = 80
 
@@ -236,7 +235,7 @@ abbrev pub is_json : FitForm → Bool
 is_json Words = false
 is_json Json = true
 
--- a word COND=PRED says what is waited for there: two numbers, with the sign `=` between them
+-- a word COND=PRED says what threads wait for: two numbers, with the sign `=` between them
 pub record IsMeaning (word : Text) (w : WaitsFor) : Type 0 where
   pub cond : Text
   pub pred : Text
@@ -277,7 +276,7 @@ pub record AreJudging (j : Judging) (rows : List Row) : Type 0 where
 abbrev pub AreSizes : ℕ → ℕ → List Row → Type 0
 AreSizes seats rounds rows = HasNumber (codes "SEATS") seats rows × HasNumber (codes "ROUNDS") rounds rows
 
--- a kind, a sample, seats and rounds are
+-- so are a kind, a sample, seats and rounds
 abbrev pub AreRunValues : KindName → Sample → ℕ → ℕ → List Row → Type 0
 AreRunValues kind sample seats rounds rows =
     (first_of (codes "KIND") rows ≡ Some (kind_word kind))
@@ -307,7 +306,7 @@ IsFor (Record kind sample seats rounds) name rows =
 IsFor (Hasty kind seats rounds file) name rows = (name ≡ codes "hasty")
     × (first_of (codes "KIND") rows ≡ Some (kind_word kind)) × AreSizes seats rounds rows × IsFile file rows
 
--- a run is asked for within its ranges alone
+-- a run is asked for only within its ranges
 abbrev pub RunIsInRange : Line → Type 0
 RunIsInRange (Classify e w s) = Unit {0}
 RunIsInRange (Audit file) = Unit {0}

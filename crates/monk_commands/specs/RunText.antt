@@ -1,4 +1,4 @@
--- The text of a run that tells a log, and the answer to a log of which a run is asked for
+-- The text of a run that tells a log, and the answer to a log if a run is asked for
 use Rattle.std.specs.Prelude.{◌≡◌, ◌^◌, MatchOption, ℕ, List, ◌∷◌, [], ◌++◌, codes}
 use Rattle.std.specs.Fmt.{decimal}
 use Rattle.std.specs.List.{flat_map}
@@ -44,7 +44,7 @@ IsRunOfLog h lines run =
 abbrev pub misfit_line : Misfit → List ℕ
 misfit_line f = codes "misfit at " ++ (decimal (number f.line) ++ (codes ": " ++ (blame_word f.why ++ codes "\n")))
 
--- of a run the text, if it tells all lines
+-- the text of a run, if it tells all lines
 abbrev pub IsRunGiven : LogHeading → Run → ℕ → List ℕ → Type 0
 IsRunGiven h run status text = MatchOption run.misfit ((status ≡ 0) × (text ≡ run_text h run.steps.items))
     (λ f. (status ≡ 1) × (text ≡ misfit_line f))

@@ -20,18 +20,18 @@ use Rattle.monk_commands.specs.declared.show.Show.TheVariants as show
 abbrev pub last_shown : Verdict → List Event → ℕ
 last_shown v events = showable (forbidden_step v) (length events)
 
--- what shows the events that are asked for: a page or its part has their data; nothing is said of how a picture looks
+-- how the events are shown: a page or its part has their data; nothing is said about how a picture looks
 abbrev pub IsShownAs : HistoryForm → Option Window → Heading → List Event → List ℕ → Type 0
 IsShownAs (form.Picture picture) w h events text = ⊤
 IsShownAs form.Page w h events text = IsPage h events w text
 IsShownAs (form.Article beside) w h events text = IsArticle h events w beside.now text
 
--- the form of a history that shows it so
+-- the form of a history for this
 abbrev pub form_of : Show → HistoryForm
 form_of (show.Picture picture) = form.Picture picture
 form_of show.Page = form.Page
 
--- the answer by a verdict: this, with its status, unless the events that are asked for are behind the last
+-- the answer by a verdict: this, with its status, unless the events that are asked for are after the last
 pub record IsAnsweredBy (f : HistoryForm) (w : Option Window) (v : Verdict) (h : Heading) (events : List Event)
     (status : ℕ) (text : List ℕ) : Type 0 where
   pub shown : is_behind w (last_shown v events) ≡ false

@@ -12,7 +12,7 @@ abbrev pub Answers : (List ℕ → LineAnswer) → Option (List ℕ) → Option 
 Answers answer input before after status =
     IfSome input (λ bytes. (status ≡ (answer bytes).status) × Appends before after (answer bytes).text)
 
--- such a text is put, with that status
+-- such a text is written, with that status
 pub record IsPut (Is : ℕ → List ℕ → Type 0) (status : ℕ) (Puts : List ℕ → Type 0) : Type 0 where
   pub text : List ℕ
   pub is : Is status text
@@ -27,8 +27,8 @@ pub record IsYoung {R : Type 0} (d : Device R) : Type 0 where
 abbrev pub IsPastBound : {R : Type 0} → Device R → Device R → Type 0
 IsPastBound old new = (reads_of old + 2 ^ 31 ≤ reads_of new) ⊎ (bytes_of old + 2 ^ 31 < bytes_of new)
 
--- how a call leaves a reader of which nothing had failed: it has read all where it went well; where
--- it tells of a file, a read failed or the input was too long, and where of memory, no read failed
+-- how a call leaves a reader that had not failed: if it went well, it has read all; if it reports a
+-- file, a read failed or the input was too long; if it reports memory, no read failed
 pub record IsReading {R T : Type 0} (remaining : R → Option (List ℕ)) (old new : Device R)
     (result : Result T StreamFault) : Type 0 where
   pub all_read : OnOk result (IsAtEnd (remaining (inner_of new)))
@@ -37,15 +37,15 @@ pub record IsReading {R T : Type 0} (remaining : R → Option (List ℕ)) (old n
   pub memory : IsErrOf result Memory → has_failed new ≡ false
   pub reads : reads_of new ≤ reads_of old + 2 ^ 31
 
--- how a call leaves a writer of which nothing had failed: where it tells of a file, a write failed,
--- and where of memory, nothing was written
+-- how a call leaves a writer that had not failed: if it reports a file, a write failed; if it
+-- reports memory, nothing was written
 pub record IsWriting {W T : Type 0} (old new : Device W) (result : Result T StreamFault) : Type 0 where
   pub file : IsErrOf result File → has_failed new ≡ true
   pub memory : IsErrOf result Memory → new ≡ old
 
--- how a stream leaves its reader and its writer, of which nothing had failed: it has read all where
--- it answers; where it tells of a file, a read or a write failed or the input was too long, and
--- where of memory, no call failed and nothing was written
+-- how a stream leaves its reader and its writer, which had not failed: if it answers, it has read
+-- all; if it reports a file, a read or a write failed or the input was too long; if it reports
+-- memory, no call failed and nothing was written
 pub record IsStreamOutcome {R W : Type 0} (remaining : R → Option (List ℕ)) (reader reader_after : Device R)
     (writer writer_after : Device W) (result : Result ℕ StreamFault) : Type 0 where
   pub all_read : OnOk result (IsAtEnd (remaining (inner_of reader_after)))

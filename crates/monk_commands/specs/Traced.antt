@@ -1,5 +1,4 @@
--- The trace of a play: a line for each command, with its answer, the words, the data and where each
--- seat stands after it
+-- The trace of a play: a line for each command, with its answer, the words, the data and where each seat is after it
 use Rattle.std.specs.Prelude.{◌≡◌, ℕ, zero, suc, ◌+◌, ◌==◌, List, [], ◌∷◌, ◌++◌, if◌then◌else◌, codes}
 use Rattle.std.specs.List.{join_with_byte}
 use Rattle.std.specs.Fmt.{decimal}
@@ -25,14 +24,14 @@ use Rattle.monk_world.specs.Shown.{answer_words, is_granted, place_words}
 use Rattle.monk_world.specs.State.{State}
 use Rattle.monk_world.specs.StepTable.{IsStep}
 
--- where seat j stands, on which queue if it waits inside, and whether the grant is there that it
--- looks for; a comma before each but the first
+-- where seat j is, on which queue if it waits inside, and whether the grant that it looks for is there; a comma
+-- before each but the first
 abbrev pub seat_text : State → (ℕ → SeatPlace) → ℕ → List ℕ
 seat_text s stands j =
     (if j == 0 then [] else codes ", ") ++ join_with_byte 32 (place_words (s.world.place j)) ++ place_text (stands j)
     ++ (if is_granted s j then codes " granted" else [])
 
--- of the seats below that
+-- the same for the seats below that
 unfoldable pub places_text : State → (ℕ → SeatPlace) → ℕ → List ℕ
 places_text s stands zero = []
 places_text s stands (suc j) = places_text s stands j ++ seat_text s stands j
@@ -53,13 +52,13 @@ refusal_text NoCall = []
 refusal_text NotNow = []
 refusal_text Tired = []
 
--- the number of a command, what it told a seat, and what that answered
+-- a command for a seat, with its number and its answer
 abbrev pub told_text : ℕ → ℕ × Command → Answer → List ℕ
 told_text number c a =
     decimal number ++ codes " | " ++ join_with_byte 32 (command_words c) ++ codes " | "
     ++ join_with_byte 32 (answer_words a) ++ refusal_text a
 
--- the line of the command of that number, after which the world stands so: what stands before the places, and all of it
+-- the front of the line of the command of that number, by the world after it: what comes before the data
 unfoldable pub line_front : ℕ → ℕ × Command → Answer → State → List ℕ
 line_front number c a s =
     told_text number c a
@@ -69,14 +68,14 @@ line_front number c a s =
 unfoldable pub data_part : ObjectName → List ℕ → List ℕ
 data_part name state = codes "data:" ++ (data_text name state ++ codes " | ")
 
--- by the situation of the monitor over the object of that name
+-- the whole line, by the situation of the monitor over the object of that name
 abbrev pub trace_line : ObjectName → Monitor → ℕ → ℕ × Command → Answer → State → Situation → List ℕ
 trace_line name m number c a s t =
     line_front number c a s ++ data_part name t.state
     ++ places_text s (in_queues (queues_shown m.kind.mode m.conds m.object t)) s.floor.seats ++ codes "\n"
 
--- the commands in turn, behind so many others, from state to state, each with its line, by the situation of the monitor
--- after its history
+-- the commands in turn, after `before` others, from state to state, each with its line, by the situation of the
+-- monitor after its history
 abbrev pub AreTraced : ObjectName → Monitor → ℕ → State → List (ℕ × Command) → State → List ℕ → Type 0
 AreTraced name m before s [] t text = (t ≡ s) × (text ≡ [])
 AreTraced name m before s (c ∷ cs) t text =
@@ -84,7 +83,7 @@ AreTraced name m before s (c ∷ cs) t text =
     × ((text ≡ trace_line name m (before + 1) c a u (situation m u.floor.history) ++ rest)
     × AreTraced name m (before + 1) u cs t rest))))
 
--- with what writing these bytes means: the lines of all commands, from the start, are written
+-- given what writing bytes means: the lines of all commands, from the start, are written
 abbrev pub IsTracedBy : Rules → Object → List ℕ → Heading → ℕ → List (ℕ × Command) → (List ℕ → Type 0) → Type 0
 IsTracedBy k o opening h budget commands Puts =
     (last : State) × ((text : List ℕ)

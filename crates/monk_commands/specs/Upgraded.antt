@@ -1,4 +1,4 @@
--- The answer to a text that is to be upgraded: the text of the same events in a version that has every event
+-- The answer to a text that is upgraded: the text of the same events in a version that has every event
 use Rattle.std.specs.Prelude.{◌≡◌, ℕ, ◌≤◌, ◌^◌, List, length, Result, Ok, Err}
 use Rattle.monk_history.specs.declared.event.Event.{Event}
 use Rattle.monk_history.specs.declared.text.fault.ReadFault.{ReadFault}
@@ -15,7 +15,7 @@ upgrade_answer (Err f) = unreadable f
 abbrev pub upgrade_of : List ℕ → LineAnswer
 upgrade_of input = upgrade_answer (text_at (2 ^ 25) input)
 
--- the text of a history, of whatever size and legal or not
+-- the text of a history, of any size, legal or not
 pub record IsHistoryOf (input : List ℕ) (h : Heading) (events : List Event) : Type 0 where
   pub has_text : HasText h events
   pub few : length events ≤ 2 ^ 25
@@ -25,7 +25,7 @@ pub record IsHistoryOf (input : List ℕ) (h : Heading) (events : List Event) : 
 abbrev pub IsHistoryText : List ℕ → Type 0
 IsHistoryText input = (h : Heading) × ((events : List Event) × IsHistoryOf input h events)
 
--- with what writing these bytes means: a text is written that is answered by itself
+-- given what writing bytes means: a text is written that is its own upgrade
 pub record IsUpgraded (Puts : List ℕ → Type 0) : Type 0 where
   pub written : List ℕ
   pub puts : Puts written

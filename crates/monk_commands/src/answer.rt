@@ -14,7 +14,7 @@ use monk_history::{Device, ReadFault};
 use std::alloc::{AllocError, Global};
 use std::io::Write;
 
-/// What a command answers to an input.
+/// A command's answer to an input.
 #[derive(Drop)]
 pub struct LineAnswer {
     /// The exit status, 0 to 2.
@@ -24,7 +24,7 @@ pub struct LineAnswer {
     pub ghost in_range: { status ≤ 2 },
 }
 
-/// The answer to what was found of a text: its verdict, or why there is none.
+/// Returns the answer for what was found in a text: its verdict, or why there is none.
 pub(crate) fn answer_to(
     alloc: Global,
     found: Result<TextVerdict, ReadFault>,
@@ -39,7 +39,7 @@ pub(crate) fn answer_to(
     }
 }
 
-/// The answer to a text with a fault; where the fault is want of memory, there is none.
+/// Returns the answer to a text with a fault. If the fault is want of memory, there is none.
 pub(crate) fn unreadable(alloc: Global, fault: ReadFault) -> Result<LineAnswer, AllocError>
     ensures { IfOk result
         (λ a. (fault ≢ memory) × (a.status ≡ (unreadable fault).status)
@@ -60,7 +60,7 @@ pub(crate) fn too_big(alloc: Global) -> Result<LineAnswer, AllocError>
     Ok(LineAnswer { status: 2, text })
 }
 
-/// Writes the answer's line; the result is its status.
+/// Writes the line of the answer, and returns its status.
 pub(crate) fn put<W: Write>(answer: &LineAnswer, writer: &mut Device<W>) -> Result<u8, StreamFault>
     requires { has_failed writer.old ≡ false }
     ensures line { IfOk result
@@ -99,7 +99,7 @@ pub(crate) fn verdict_answer(alloc: Global, verdict: Verdict) -> Result<LineAnsw
     Ok(LineAnswer { status, text })
 }
 
-/// The answer where events are asked for that are behind the last that can be shown.
+/// Returns the answer if the events that are asked for begin after the last that can be shown.
 pub(crate) fn behind(alloc: Global, last: usize) -> Result<LineAnswer, AllocError>
     ensures { IfOk result (λ a. (a.status ≡ (behind last).status) × (string_bytes a.text ≡ (behind last).text)) }
 {

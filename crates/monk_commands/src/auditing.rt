@@ -1,4 +1,4 @@
-//! The auditor's stream: all of a reader in, by pieces, and one line out.
+//! The auditor's stream. It reads all of a reader by pieces, and writes one line.
 
 ghost use Rattle.std.specs.Prelude.{◌≡◌, ◌≤◌, false, IfOk, IfSome, ◌↔◌};
 ghost use Rattle.monk_audit.specs.Audits.{owes, IsGoingOn};
@@ -17,7 +17,7 @@ use monk_history::{Device, ReadFault};
 use std::alloc::{AllocError, Global};
 use std::io::{Read, Write};
 
-/// What an audit of all bytes answers.
+/// An audit takes the bytes of a text, by pieces.
 impl Taker for TextAudit {
     ghost use Rattle.std.specs.Prelude.{Result};
     ghost use Rattle.monk_history.specs.declared.text.fault.ReadFault.{ReadFault};
@@ -35,9 +35,9 @@ impl Taker for TextAudit {
     }
 }
 
-/// Audits the text that the reader has, at most 2^31 bytes in at most 2^31 reads: what
-/// [`audit_text`](monk_audit::audit_text) answers to it. Each piece is judged when it comes, and of
-/// the text no more is held than that piece and a line.
+/// Audits the text that the reader has, at most 2^31 bytes in at most 2^31 reads. The result is that of
+/// [`audit_text`](monk_audit::audit_text). Each piece is judged when it comes. No more of the text is held than that
+/// piece and a line.
 fn audit_all<R: Read>(
     alloc: Global,
     reader: &mut Device<R>,
@@ -52,21 +52,19 @@ fn audit_all<R: Read>(
     Ok(audit.end(alloc))
 }
 
-/// Reads all of the reader and writes the one line that answers it; the result is the exit status that goes with it:
-/// 0 for `legal N`, 1 for `forbidden STEP REASON WORD`, 2 for `unreadable LINE NUMBER WORD` and for `object`
-/// (the size is above the object's greatest).
+/// Reads all of the reader and writes one line, the answer. Returns the exit status of that line: 0 for `legal N`, 1
+/// for `forbidden STEP REASON WORD`, 2 for `unreadable LINE NUMBER WORD` and for `object` (the size is above the
+/// object's greatest).
 ///
 /// # Errors
 ///
-/// [`StreamFault::File`] where the reader or the writer failed, or where the input has more than
-/// 2^31 bytes or takes more than 2^31 reads. [`StreamFault::Memory`] if a request for memory was
-/// refused.
+/// [`StreamFault::File`] if the reader or the writer failed, or if the input has more than 2^31 bytes or takes more
+/// than 2^31 reads. [`StreamFault::Memory`] if a request for memory was refused.
 ///
 /// # Cost
 ///
-/// One pass over the text, in which each event takes time independent of how long the history is;
-/// memory for a piece of the text, for its longest line and for the queues, so that it doesn't
-/// depend on how long the text is.
+/// One pass over the text. The time for an event doesn't depend on how long the history is. Memory for a piece of
+/// the text, for its longest line and for the queues: it doesn't depend on how long the text is.
 pub fn audit_stream<R: Read, W: Write>(
     alloc: Global,
     reader: &mut Device<R>,
@@ -75,7 +73,7 @@ pub fn audit_stream<R: Read, W: Write>(
     requires reader_works { has_failed reader.old ≡ false }
     requires writer_works { has_failed writer.old ≡ false }
 
-    // The one line, and its status, are the answer to what the reader had.
+    // The line and its status are the answer to what the reader had.
     ensures answer { IfOk result
         (Answers answer_of (R.remaining (inner_of reader.old)) (W.contents (inner_of writer.old))
         (W.contents (inner_of writer.new))) }

@@ -12,13 +12,13 @@ use monk_kinds::{Ordering13, classify};
 use std::io;
 use std::io::Write;
 
-/// Writes two lines: the ordering of the priorities of the entry, waiter and signaller queues (greater is higher),
-/// as `Ep<Sp<Wp`, and then the kind of monitor that has it, or `rejected` where calling tasks could keep those inside
-/// waiting without bound. The result is the exit status 0. It takes no memory.
+/// Writes two lines. The first is the ordering of the priorities of the entry, waiter and signaller queues (greater
+/// is higher), as `Ep<Sp<Wp`. The second is its kind of monitor, or `rejected` if calling tasks could keep those
+/// inside waiting without bound. Returns the exit status 0. It takes no memory.
 ///
 /// # Errors
 ///
-/// [`StreamFault::File`] where the writer failed.
+/// [`StreamFault::File`] if the writer failed.
 pub fn classify_stream<W: Write>(
     e: u8,
     w: u8,

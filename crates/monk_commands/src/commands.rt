@@ -1,9 +1,9 @@
-//! The commands of the program: their words, and what their help says.
+//! The commands of the program: their words and their help.
 
 use crate::word::{Form, Word};
 use clap::builder::ValueParser;
 
-/// A command. Its help says what it does; then an example, its exit statuses, and the page to read.
+/// A command. Its help says what it does. Then come an example, exit statuses, and what to read.
 #[derive(Clone, Copy)]
 pub(crate) struct CommandWords {
     pub(crate) name: &'static str,
@@ -74,7 +74,7 @@ const ROUNDS: Word = Word(
     "How often, 1 to 1000",
 );
 
-/// In the order of the help.
+/// The commands, in the order of the help.
 pub(crate) static COMMANDS: [CommandWords; 13] = [
     CommandWords {
         name: "classify",
@@ -155,7 +155,7 @@ pub(crate) static COMMANDS: [CommandWords; 13] = [
                 Form::Flag,
                 "Draw it as text, with the names that FILE.told has",
             ),
-            // In 40 columns there is room for each event without names.
+            // 40 columns have room for each event without names.
             Word(
                 "width",
                 Form::Chosen("N", ValueParser::Signed(40, 1_000_000)),

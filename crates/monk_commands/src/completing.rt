@@ -1,4 +1,4 @@
-//! The completing stream: the text of a log in, the text of a legal history that tells it out, or why there is none.
+//! The completing stream. It reads a log, and writes a legal history that tells it, or why there is none.
 
 ghost use Rattle.std.specs.Prelude.{◌≡◌, ◌≤◌, ◌^◌, ◌↔◌, false, length, IfOk, IfSome, IsTrue, List, string_bytes};
 ghost use Rattle.std.specs.Io.KnownBytes.{Appends};
@@ -22,7 +22,8 @@ use monk_logs::{LogHeader, LogLine, read_log};
 use std::alloc::{AllocError, Global};
 use std::io::{Read, Write};
 
-/// The header of a history of the kind over what the log's first line names, in the version that has every event.
+/// Returns the header of a history of the kind with the numbers of the log's header, in the version that has every
+/// event.
 pub(crate) fn header_of(kind: KindName, header: &LogHeader) -> Header
     ensures header { result ≡ completed_heading kind header.now }
     ensures writable { (events : List Event) → IsTrue (is_writable result events) }
@@ -30,7 +31,7 @@ pub(crate) fn header_of(kind: KindName, header: &LogHeader) -> Header
     let (seats, conds) = (header.seats(), header.conds());
     match Header::new(kind, seats, conds, header.object(), header.size()) {
         Some(header) => header.upgraded(),
-        // What stood in the header of a log is in range.
+        // The numbers in the header of a log are in range.
         None => unreachable!(),
     }
 }
@@ -93,28 +94,26 @@ fn complete_text<W: Write>(
     }
 }
 
-/// Reads all of the reader, the text of a log, and writes the text of a history of a monitor of the
-/// kind that tells the log, with status 0: what a recorder would write down of it is the log. The
-/// history is legal, and its queues are in order of arrival. It is that of [`complete`], which says
-/// what it makes of the release with which a log ends; its text is in version 2, or in version 3
-/// where the log's object is flags.
+/// Reads all of the reader, the text of a log, and writes the text of a history of a monitor of the kind, with
+/// status 0. The history tells the log: a recorder would write down the log for it. It is legal, and its queues are
+/// in order of arrival. It is the history of [`complete`], which says how it completes the release with which a log
+/// ends. Its text is in version 2, or in version 3 if the log's object is flags.
 ///
-/// Where no such history begins with the log, the line `KIND misfit STEP NUMBER WORD` is written
-/// with status 1: the first line of the log with which none does, counted from 1 behind the log's
-/// first line, and the number and the word of what is to blame ([`Blame`]).
+/// If no such history begins with the log, the line `KIND misfit STEP NUMBER WORD` is written with status 1. STEP is
+/// the first line of the log with which none does, counted from 1 after the log's first line. NUMBER and WORD say
+/// what is to blame ([`Blame`]).
 ///
-/// Where the reader has no text of a log, the line `unreadable LINE NUMBER WORD` is written with
-/// status 2, and where the size is above the object's greatest, `object` with status 2.
+/// If the reader has no text of a log, the line `unreadable LINE NUMBER WORD` is written with status 2. If the size
+/// is above the object's greatest, `object` is written with status 2.
 ///
 /// # Errors
 ///
-/// Those of [`audit_stream`](crate::audit_stream).
+/// The errors of [`audit_stream`](crate::audit_stream).
 ///
 /// # Cost
 ///
-/// One pass over the text, one over its lines, in which a line takes as long as an event or two of
-/// an audit, and one over the events. Memory for the text, for its lines, for the events and for
-/// the queues.
+/// One pass over the text, one over its lines, and one over the events. A line takes as long as an event or two of
+/// an audit. Memory for the text, for its lines, for the events and for the queues.
 pub fn complete_stream<R: Read, W: Write>(
     alloc: Global,
     kind: KindName,
@@ -124,17 +123,16 @@ pub fn complete_stream<R: Read, W: Write>(
     requires reader_works { has_failed reader.old ≡ false }
     requires writer_works { has_failed writer.old ≡ false }
 
-    // What is written, and its status, are the answer to what the reader had: to a log that is
-    // open, the text of a history that is legal under a monitor of the kind and whose erasure is
-    // the log.
+    // What is written, and its status, are the answer to what the reader had. For a log that is open, it is the text
+    // of a history that is legal under a monitor of the kind and whose erasure is the log.
     ensures answer { IfOk result
         (λ status. IfSome (R.remaining (inner_of reader.old))
         (λ input. IsAnswerToLog kind input status
         (Appends (W.contents (inner_of writer.old)) (W.contents (inner_of writer.new))))) }
-    // The status is 0 exactly for the text of a log with which some legal history begins.
+    // The status is 0 exactly if the text is a log with which some legal history begins.
     ensures open { IfOk result (λ status. IfSome (R.remaining (inner_of reader.old))
         (λ input. (status ≡ 0) ↔ IsOpenText kind input)) }
-    // The status is 1 exactly for the text of a log that has a first line with which none does.
+    // The status is 1 exactly if the text is a log with a first line with which none does.
     ensures misfit { IfOk result
         (λ status. IfSome (R.remaining (inner_of reader.old)) (λ input. (status ≡ 1) ↔ IsMisfitText kind input)) }
     ensures statuses { IfOk result (λ status. status ≤ 2) }

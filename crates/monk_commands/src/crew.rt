@@ -1,6 +1,6 @@
 use monk_kinds::KindName;
 
-/// Who is at work in a run of a sample.
+/// Who works in a run of a sample.
 #[derive(Clone, Copy)]
 pub struct Crew {
     /// The kind of their monitor.

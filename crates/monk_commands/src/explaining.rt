@@ -17,7 +17,7 @@ use monk_kinds::KindName;
 use monk_tell::{Telling, tell};
 use std::alloc::{AllocError, Global};
 
-/// The line of the verdict, and what is told behind it.
+/// Returns the line of the verdict, followed by what explains it.
 fn told(alloc: Global, telling: &Telling) -> Result<LineAnswer, AllocError>
     ensures { IfOk result (λ a. IsTold (telling_of telling.now) a.status (string_bytes a.text)) }
 {
@@ -27,7 +27,7 @@ fn told(alloc: Global, telling: &Telling) -> Result<LineAnswer, AllocError>
     Ok(answer)
 }
 
-/// The answer to a history that was read, under the kind that is named, or its own.
+/// Returns the answer to a history that was read, under the kind that is named, or its own.
 pub(crate) fn explained(
     alloc: Global,
     kind: Option<KindName>,
@@ -46,7 +46,7 @@ pub(crate) fn explained(
     }
 }
 
-/// The header with the kind that is named.
+/// Returns the header, with the named kind if one is named.
 fn judged_under(kind: Option<KindName>, header: &Header) -> Header
     ensures heading { result ≡ judged_under kind header.now }
     ensures object { result.object ≡ header.now.object }
@@ -58,7 +58,7 @@ fn judged_under(kind: Option<KindName>, header: &Header) -> Header
     }
 }
 
-/// How the text of a history is judged, by the kind that is named or its own, and why. See
+/// Explains how the text of a history is judged, by the kind that is named or its own. See
 /// [`Task::Explain`](crate::Task::Explain). It fails only for want of memory.
 pub fn explain_history(
     alloc: Global,
@@ -74,7 +74,7 @@ pub fn explain_history(
     }
 }
 
-/// How the text of a log is judged, and why. See [`Task::Explain`](crate::Task::Explain). It fails only for want of
+/// Explains how the text of a log is judged. See [`Task::Explain`](crate::Task::Explain). It fails only for want of
 /// memory.
 pub fn explain_log(
     alloc: Global,

@@ -4,20 +4,20 @@ ghost use Rattle.monk_commands.specs.declared.fault.StreamFault.TheVariants.{Mem
 use std::alloc::AllocError;
 use thiserror::Error;
 
-/// Why a stream gave no answer. Nothing is promised about what had been written by then.
+/// Why a stream gave no answer. What it had written before is not specified.
 #[derive(Clone, Copy, Debug, PartialEq, Eq, Error)]
 pub enum StreamFault {
     /// A request for memory was refused: number 1.
     #[error("memory")]
     Memory,
-    /// The reader or the writer failed, or the input was longer than a stream reads; of a run, also
-    /// where a thread was not started: number 2.
+    /// The reader or the writer failed, or the input was longer than a stream reads. In a run,
+    /// also: a thread was not started. Number 2.
     #[error("file")]
     File,
 }
 
 impl StreamFault {
-    /// The fault's number: 1 for `Memory`, 2 for `File`.
+    /// Returns the fault's number: 1 for `Memory`, 2 for `File`.
     pub fn number(self) -> u8
         ensures memory { (result ≡ 1) ↔ (self ≡ StreamFault.Memory) }
         ensures file { (result ≡ 2) ↔ (self ≡ StreamFault.File) }

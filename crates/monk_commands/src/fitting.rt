@@ -16,7 +16,7 @@ use monk_history::{Event, Header, read};
 use monk_kinds::KindName;
 use std::alloc::{AllocError, Global};
 
-/// The verdict on the events under the kind, whatever kind the header names.
+/// Returns the verdict on the events under the kind, whatever kind the header names.
 fn verdict_under(
     alloc: Global,
     history: FittingHistory<'_>,
@@ -28,12 +28,12 @@ fn verdict_under(
     match audit(alloc, &under(history.header, kind), history.events) {
         Ok(verdict) => Ok(verdict),
         Err(AuditFault::Memory) => Err(AllocError),
-        // The size is within the object's greatest.
+        // The size isn't above the object's greatest.
         Err(AuditFault::Object) => unreachable!(),
     }
 }
 
-/// Puts the line of the kind behind the page. Gives whether the events are legal under it.
+/// Appends the line of the kind to the page. Returns whether the events are legal under the kind.
 fn put_line(
     alloc: Global,
     page: &mut String,
@@ -54,7 +54,7 @@ fn put_line(
     Ok(answer.status == 0)
 }
 
-/// A line for each of these kinds, and whether the events are legal under one of them.
+/// Returns a line for each of these kinds. The status is 0 if the events are legal under one of them, else 1.
 fn lines_under(
     alloc: Global,
     kinds: &[KindName],
@@ -73,7 +73,7 @@ fn lines_under(
     Ok(LineAnswer { status, text })
 }
 
-/// The answer to a history that was read, under these kinds.
+/// Returns the answer to a history that was read, under these kinds.
 fn fit(
     alloc: Global,
     kinds: &[KindName],
@@ -90,7 +90,7 @@ fn fit(
     lines_under(alloc, kinds, FittingHistory { header, events })
 }
 
-/// The answer to the text of a history under these kinds.
+/// Returns the answer to the text of a history under these kinds.
 fn fit_bytes(alloc: Global, kinds: &[KindName], bytes: &[u8]) -> Result<LineAnswer, AllocError>
     ensures { IfOk result (λ a. answered.IsFitText kinds.now bytes.now a.status (string_bytes a.text)) }
 {
@@ -100,7 +100,7 @@ fn fit_bytes(alloc: Global, kinds: &[KindName], bytes: &[u8]) -> Result<LineAnsw
     }
 }
 
-/// The answer behind a name.
+/// Returns the answer with the name and `: ` before it.
 pub(crate) fn named(alloc: Global, name: &str, answer: LineAnswer) -> Result<LineAnswer, AllocError>
     ensures same { IfOk result (λ a. a.status ≡ answer.status) }
     ensures text { IfOk result (λ a. string_bytes a.text ≡ answered.named_line name.now (string_bytes answer.text)) }
@@ -110,8 +110,8 @@ pub(crate) fn named(alloc: Global, name: &str, answer: LineAnswer) -> Result<Lin
     Ok(LineAnswer { status, text })
 }
 
-/// Under which kinds the text of a history is legal, or why that isn't known. See [`Task::Fit`](crate::Task::Fit). It
-/// fails only for want of memory.
+/// Says under which kinds the text of a history is legal, or why that isn't known. See
+/// [`Task::Fit`](crate::Task::Fit). It fails only for want of memory.
 pub fn fit_history(
     alloc: Global,
     question: Question<'_>,
@@ -126,8 +126,8 @@ pub fn fit_history(
     }
 }
 
-/// How the text of a log is judged, or why it isn't. See [`Task::Fit`](crate::Task::Fit). It fails only for want of
-/// memory.
+/// Says how the text of a log is judged, or why it isn't. See [`Task::Fit`](crate::Task::Fit). It fails only for want
+/// of memory.
 pub fn fit_log(
     alloc: Global,
     form: FitForm,

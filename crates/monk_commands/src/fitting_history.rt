@@ -1,4 +1,4 @@
-//! A history that was read, over an object of a size that there is.
+//! A history that was read, and whose object has a size in range.
 
 ghost use Rattle.std.specs.Prelude.{◌≤◌, ◌^◌, length};
 ghost use Rattle.monk_object.specs.Names.{most};

@@ -17,7 +17,7 @@ use monk_object::Guarded;
 use monk_world::{Answer, Command, World};
 use std::alloc::{AllocError, Global};
 
-/// A replay of a monitor with so many conditions, over an object of its own, since nobody sees those of a world.
+/// A replay of a monitor with `conds` conditions, over an object of its own, because nobody sees the world's.
 #[derive(Drop)]
 pub(crate) struct Follower<T: Guarded> {
     pub(crate) replay: Replay,
@@ -26,7 +26,7 @@ pub(crate) struct Follower<T: Guarded> {
 }
 
 impl<T: Guarded> Follower<T> {
-    /// Carries out the events of a legal history behind so many, which it has carried out.
+    /// Carries out the events of a legal history after the first `done`, which it has carried out already.
     fn follow(
         &mut self,
         alloc: Global,
@@ -52,7 +52,7 @@ impl<T: Guarded> Follower<T> {
         Ok(())
     }
 
-    /// Tells a seat of the world a command, and follows.
+    /// Gives a command to a seat of the world, and carries out the events that this adds.
     pub(crate) fn step<K: Kind>(
         &mut self,
         alloc: Global,

@@ -1,4 +1,4 @@
-//! What clap has found in the words of a command.
+//! What clap found in the words of a command.
 
 ghost use Rattle.std.specs.Prelude.{◌≡◌, IfOk, map, option_map, string_bytes};
 ghost use Rattle.clap.specs.Words.{first_of, found_of, rows_of};
@@ -10,13 +10,13 @@ use clap::ArgMatches;
 use monk_kinds::KindName;
 use std::alloc::{AllocError, Global};
 
-/// The fault where a value isn't there, or isn't what clap has tested that it is. clap lets no such words through, and
-/// has no contract that says so.
+/// Returns the fault for a value that is missing, or that isn't what clap tested it to be. clap lets no such words
+/// through, but has no contract that says so.
 pub(crate) fn missing(alloc: Global) -> LineFault {
     LineFault::Words(String::new(alloc))
 }
 
-/// The first word for a name, if there is one.
+/// Returns the first word for a name, if there is one.
 pub(crate) fn word_of<'a>(matches: &ArgMatches<'a>, name: &str) -> Option<&'a str>
     ensures { first_of name.now (rows_of (found_of matches.now)) ≡ option_map (λ w. w.now) result }
 {
@@ -30,7 +30,7 @@ pub(crate) fn is_set(matches: &ArgMatches<'_>, name: &str) -> bool
     matches.get_flag(name)
 }
 
-/// The number for a name, if there is one.
+/// Returns the number for a name, if there is one.
 pub(crate) fn number_of(
     alloc: Global,
     matches: &ArgMatches<'_>,
@@ -44,7 +44,7 @@ pub(crate) fn number_of(
     }
 }
 
-/// The number for a name, which must stand there.
+/// Returns the number for a name, which must be there.
 pub(crate) fn number(alloc: Global, matches: &ArgMatches<'_>, name: &str) -> Result<u32, LineFault>
     ensures { IfOk result (λ n. HasNumber name.now n (rows_of (found_of matches.now))) }
 {
@@ -54,7 +54,7 @@ pub(crate) fn number(alloc: Global, matches: &ArgMatches<'_>, name: &str) -> Res
     }
 }
 
-/// The number up to 255 for a name, which must stand there.
+/// Returns the number up to 255 for a name, which must be there.
 pub(crate) fn byte(alloc: Global, matches: &ArgMatches<'_>, name: &str) -> Result<u8, LineFault>
     ensures { IfOk result (λ n. HasNumber name.now n (rows_of (found_of matches.now))) }
 {
@@ -64,7 +64,7 @@ pub(crate) fn byte(alloc: Global, matches: &ArgMatches<'_>, name: &str) -> Resul
     }
 }
 
-/// The kind of a word.
+/// Returns the kind that the word names.
 pub(crate) fn kind_of(alloc: Global, word: &str) -> Result<KindName, LineFault>
     ensures { IfOk result (λ kind. word.now ≡ kind_word kind) }
 {
@@ -74,7 +74,7 @@ pub(crate) fn kind_of(alloc: Global, word: &str) -> Result<KindName, LineFault>
     }
 }
 
-/// The kind that is named, if one is.
+/// Returns the kind that is named, if one is.
 pub(crate) fn one_kind(
     alloc: Global,
     matches: &ArgMatches<'_>,
@@ -87,7 +87,7 @@ pub(crate) fn one_kind(
     }
 }
 
-/// The file that is named first, if one is.
+/// Returns the file that is named first, if one is.
 pub(crate) fn file_of(alloc: Global, matches: &ArgMatches<'_>) -> Result<Option<String>, LineFault>
     ensures { IfOk result (λ file. IsFile file (rows_of (found_of matches.now))) }
 {
@@ -107,7 +107,7 @@ fn kept(alloc: Global, words: &[&str]) -> Result<Vec<String>, AllocError>
     Ok(kept)
 }
 
-/// The files that are named.
+/// Returns the files that are named.
 pub(crate) fn files_of(alloc: Global, matches: &ArgMatches<'_>) -> Result<Vec<String>, LineFault>
     ensures { IfOk result (λ files. AreFiles files.items (rows_of (found_of matches.now))) }
 {

@@ -1,4 +1,4 @@
-//! The stream of a hasty run: a buffer with an `if` where a `while` belongs, and what came too late.
+//! The stream of a hasty run: a buffer with an `if` in place of a `while`, and the acts that came too late.
 
 ghost use Rattle.std.specs.Prelude.{◌≡◌, ◌⊎◌, false, true, IfErr, IfOk, IsErrOf, string_bytes};
 ghost use Rattle.std.specs.Io.KnownBytes.{Appends};
@@ -23,7 +23,7 @@ use std::io::Write;
 use std::sync::Wait;
 use std::thread::Threads;
 
-/// Runs a buffer in haste under the kind of that name, with a gate that is always open.
+/// Runs a buffer in haste under the named kind, with a gate that is always open.
 fn hasty_named<R: Threads + Wait + Sync>(
     rt: &R,
     alloc: Global,
@@ -54,7 +54,7 @@ fn hasty_named<R: Threads + Wait + Sync>(
     }
 }
 
-/// The lines of a legal run in haste.
+/// Returns the lines of a legal run in haste.
 fn told(alloc: Global, outcome: &HastyOutcome) -> Result<String, AllocError>
     ensures { IfOk result (λ text. string_bytes text
         ≡ hasty_text outcome.now.totals outcome.now.missed outcome.now.first) }
@@ -65,7 +65,7 @@ fn told(alloc: Global, outcome: &HastyOutcome) -> Result<String, AllocError>
     Ok(format!(in alloc; "{rows}missed {missed}\n{first}legal\n")?)
 }
 
-/// The step of the first act that was refused, if there is one.
+/// Returns the line with the step of the first act that was refused, or `first none`.
 fn told_first(alloc: Global, first: Option<u32>) -> Result<String, AllocError>
     ensures { IfOk result (λ text. string_bytes text ≡ first_line first) }
 {
@@ -75,7 +75,7 @@ fn told_first(alloc: Global, first: Option<u32>) -> Result<String, AllocError>
     }
 }
 
-/// Writes the history of a hasty run into the file, and then what is told of it.
+/// Writes the history of a hasty run into the file, and then the lines of the run to the writer.
 fn put_hasty<F: Write, W: Write>(
     alloc: Global,
     outcome: &HastyOutcome,
@@ -104,22 +104,22 @@ fn put_hasty<F: Write, W: Write>(
     }
 }
 
-/// Runs a buffer in haste under the kind, with 2 to 16 seats at work for 1 to 1000 rounds each in threads of their own
-/// ([`run_hasty`]). Once an audit has found its history legal, the text of it goes into the file, in version 1. Then
-/// lines that tell of it go to the writer, with status 0.
+/// Runs a buffer in haste under the kind ([`run_hasty`]). 2 to 16 seats work for 1 to 1000 rounds each, in threads of
+/// their own. After an audit has found the history legal, its text goes into the file, in version 1. Then lines about
+/// it go to the writer, with status 0.
 ///
-/// They are `put N SUM` and `taken N SUM`, as of a buffer; `missed N`, how many acts were refused; `first STEP`, the
-/// step of the first of them, or `first none`; and `legal`. Where the run ends as `Tired`, `Late` or `Busy`, the line
-/// `tired`, `late` or `busy` is written with status 1, and nothing into the file.
+/// The lines are `put N SUM` and `taken N SUM`, as for a buffer; `missed N`, how many acts were refused;
+/// `first STEP`, the step of the first of them, or `first none`; and `legal`. If the run ends as `Tired`, `Late` or
+/// `Busy`, the line `tired`, `late` or `busy` is written with status 1, and nothing goes into the file.
 ///
 /// # Errors
 ///
-/// [`StreamFault::File`] where a thread was not started, or the file failed, and then nothing is told; or where the
+/// [`StreamFault::File`] if a thread was not started or the file failed, and then the writer gets nothing; or if the
 /// writer failed. [`StreamFault::Memory`] if a request for memory was refused, and then nothing is written.
 ///
 /// # Cost
 ///
-/// That of [`run_hasty`], of one audit, and one pass over the history more. The text takes no memory.
+/// The cost of [`run_hasty`], of one audit, and one more pass over the history. The text takes no memory.
 pub fn hasty_stream<R: Threads + Wait + Sync, F: Write, W: Write>(
     rt: &R,
     alloc: Global,
@@ -131,12 +131,12 @@ pub fn hasty_stream<R: Threads + Wait + Sync, F: Write, W: Write>(
     requires files { has_failed file.old ≡ false }
     requires works { has_failed writer.old ≡ false }
 
-    // The file gets the text of the legal history that a hasty run of this kind has left, and what is told is its own.
+    // The file gets the text of the legal history that a hasty run of this kind left. The lines are about it.
     ensures answer { IfOk result
         (λ status. IsHastyAnswer crew.kind crew.seats crew.rounds status
         (Appends (F.contents (inner_of file.old)) (F.contents (inner_of file.new)))
         (Appends (W.contents (inner_of writer.old)) (W.contents (inner_of writer.new)))) }
-    // The writer has failed; or it is as it was, and the file has failed, or a thread was not started.
+    // Either the writer has failed; or it is unchanged, and the file has failed or a thread was not started.
     ensures file { IsErrOf result StreamFault.File → (has_failed writer.new ≡ true)
         ⊎ ((writer.new ≡ writer.old) × ((has_failed file.new ≡ true)
         ⊎ ((file.new ≡ file.old) × IsUnstarted crew.kind in_haste crew.seats crew.rounds))) }

@@ -11,25 +11,25 @@ use thiserror::Error;
 /// What is odd about an input that a command can't read. It prints itself as one sentence that says what to do.
 #[derive(Clone, Copy, Debug, PartialEq, Eq, Error)]
 pub enum Hint {
-    /// There is nothing; this text is wanted.
+    /// The input is empty. This text is wanted.
     #[error("the input is empty: {} begins with `{}`", .0, .0.first_line())]
     Empty(TextName),
     /// It begins with a byte-order mark, of UTF-8 or UTF-16.
     #[error("a byte-order mark stands in front: save the text as UTF-8 without one")]
     Mark,
-    /// It has a control character, and so is no text.
+    /// It has a control character, so it is no text.
     #[error("the input is binary: a text has printable characters alone")]
     Binary,
     /// A line ends in a carriage return.
     #[error("a line ends in CR LF: end each line in LF alone")]
     Return,
-    /// The text is another one than the command reads.
+    /// It is this text, which the command doesn't read.
     #[error("this is {}: give it to {}", .0, .0.commands())]
     Another(TextName),
-    /// The version in the header is none of this text.
+    /// The header has a version that this text doesn't have.
     #[error("there is no such version: {} begins with `{}`", .0, .0.first_line())]
     Version(TextName),
-    /// The kind in the header is in small letters: this one is meant.
+    /// The kind in the header isn't in capital letters. This kind is meant.
     #[error("a kind has capital letters: did you mean {}?", .0.as_str())]
     Capitals(KindName),
     /// The header names no kind.
@@ -44,7 +44,7 @@ pub enum Hint {
     /// The header names no object.
     #[error("there is no such object: the objects are buffer, book, shop, flags")]
     NoObject,
-    /// The size in the header is out of the range of this object.
+    /// The size in the header is out of range for this object.
     #[error("the size is out of range: that of {}{} is 1 to {}", article(*.0), .0.as_str(), .0.greatest_size())]
     Size(ObjectName),
     /// A line begins with `#`.
@@ -53,12 +53,12 @@ pub enum Hint {
     /// A line has no bytes.
     #[error("a line is blank: a text has no blank lines")]
     Blank,
-    /// The first line is no header; this text is wanted.
+    /// The first line is no header. This text is wanted.
     #[error("the first line is no header: {} begins with `{}`", .0, .0.first_line())]
     NoHeader(TextName),
 }
 
-/// What stands before the word of the object in a sentence: flags are many.
+/// Returns the article before the object's word in a sentence. Flags have none, because the word is a plural.
 fn article(object: ObjectName) -> &'static str {
     match object {
         ObjectName::Buffer | ObjectName::Book | ObjectName::Shop => "a ",
@@ -66,12 +66,12 @@ fn article(object: ObjectName) -> &'static str {
     }
 }
 
-/// The hint for an input that the task can't read, by the front of the input; `None` where the
-/// front has nothing of what a hint tells.
+/// Returns the hint for an input that the task can't read, from the front of the input, or `None` if the front has
+/// nothing that a hint names.
 ///
-/// The first of these that the front has decides: no bytes, a byte-order mark, a control character,
-/// a carriage return, a header of another text, a header whose version, kind, seats, conditions, object or size
-/// there aren't (in this order), a line that begins with `#`, a line of no bytes, a first line of none of the three
+/// The first of these that the front has decides: no bytes, a byte-order mark, a control character, a carriage
+/// return, a header of another text, a header with a wrong version, kind, seats, conditions, object or size (in
+/// this order), a line that begins with `#`, a line with no bytes, a first line that begins as none of the three
 /// texts.
 ///
 /// # Cost
@@ -94,7 +94,7 @@ pub fn hint_for(task: &Task<'_>, front: &[u8]) -> Option<Hint> {
     no_header_hint(task, line)
 }
 
-/// By single bytes.
+/// Returns the hint that single bytes give.
 fn bytes_hint(task: &Task<'_>, front: &[u8]) -> Option<Hint> {
     if front.is_empty() {
         Some(Hint::Empty(TextName::wanted_by(task)))
@@ -109,19 +109,19 @@ fn bytes_hint(task: &Task<'_>, front: &[u8]) -> Option<Hint> {
     }
 }
 
-/// Whether a byte-order mark stands in front.
+/// Whether the input begins with a byte-order mark.
 fn has_mark(front: &[u8]) -> bool {
     front.starts_with(&[0xEF, 0xBB, 0xBF])
         || front.starts_with(&[0xFF, 0xFE])
         || front.starts_with(&[0xFE, 0xFF])
 }
 
-/// Whether it is a control character other than a tab, a line feed and a carriage return.
+/// Whether it is a control character other than a tab, a line feed or a carriage return.
 fn is_control(byte: u8) -> bool {
     byte < b' ' && byte != b'\t' && byte != b'\n' && byte != b'\r'
 }
 
-/// The line of that number, from 0.
+/// Returns the line of that number, from 0.
 pub(crate) fn line_at(front: &[u8], number: usize) -> Option<&[u8]> {
     front.split(|byte| *byte == b'\n').nth(number)
 }
@@ -138,7 +138,7 @@ fn begins_line(bytes: &[u8], byte: u8) -> bool {
     false
 }
 
-/// Whether the next word is no number of that range; `None` where there is no word.
+/// Whether the next word is no number of that range, or `None` if there is no word.
 fn is_out(words: &mut LineWords<'_>, least: u64, greatest: u64) -> Option<bool> {
     match words.number(greatest) {
         Ok(number) => Some(number < least),
@@ -147,7 +147,7 @@ fn is_out(words: &mut LineWords<'_>, least: u64, greatest: u64) -> Option<bool> 
     }
 }
 
-/// By the first line, where it begins as a header.
+/// Returns the hint from the first line, if it begins as a header.
 fn header_hint(task: &Task<'_>, line: Option<&[u8]>) -> Option<Hint> {
     let mut words = LineWords::of(line?);
     let text = TextName::of_word(words.next()?)?;
@@ -165,7 +165,7 @@ fn header_hint(task: &Task<'_>, line: Option<&[u8]>) -> Option<Hint> {
     guarded_hint(words)
 }
 
-/// By the words from the number of seats on.
+/// Returns the hint from the words that begin with the number of seats.
 fn guarded_hint(words: LineWords<'_>) -> Option<Hint> {
     let mut words = words;
     if is_out(&mut words, 1, u64::from(MOST_SEATS))? {
@@ -183,7 +183,7 @@ fn guarded_hint(words: LineWords<'_>) -> Option<Hint> {
     None
 }
 
-/// By the word of the kind.
+/// Returns the hint from the word of the kind.
 fn kind_hint(word: &[u8]) -> Option<Hint> {
     for kind in KindName::ALL.iter() {
         if word == kind.text() {
@@ -196,7 +196,7 @@ fn kind_hint(word: &[u8]) -> Option<Hint> {
     Some(Hint::NoKind)
 }
 
-/// Where the first line begins as none of the three texts.
+/// Returns the hint if the first line begins as none of the three texts.
 fn no_header_hint(task: &Task<'_>, line: Option<&[u8]>) -> Option<Hint> {
     let word = LineWords::of(line?).next()?;
     match TextName::of_word(word) {

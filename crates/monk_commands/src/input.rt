@@ -1,4 +1,4 @@
-//! All that a reader has, within bounds.
+//! Reading all that a reader has, within bounds.
 
 ghost use Rattle.std.specs.Prelude.{◌≡◌, ◌<◌, [], false, length, IfOk, OnOk, IfSome};
 ghost use Rattle.monk_history.specs.Text.Device.{inner_of, has_failed};
@@ -12,7 +12,7 @@ use std::io::Read;
 /// The most bytes of an input, and the most reads for it.
 const MOST: usize = 1 << 31;
 
-/// How many bytes are asked for at a time.
+/// How many bytes one read asks for.
 const CHUNK: usize = 1 << 16;
 
 fn zeroes(alloc: Global, count: usize) -> Result<Vec<u8>, AllocError>
@@ -21,27 +21,27 @@ fn zeroes(alloc: Global, count: usize) -> Result<Vec<u8>, AllocError>
     vec![in alloc; 0u8; count]
 }
 
-/// What takes the bytes of an input, by pieces.
+/// A type that takes the bytes of an input, by pieces.
 pub(crate) trait Taker {
     ghost use Rattle.std.specs.Prelude.{ℕ, List, [], OnOk};
     ghost use Rattle.monk_audit.specs.Pieces.{IsCarried};
 
     ghost Told: { Type 0 };
 
-    // what it comes to, where these bytes still come
+    // the result, if these bytes are still to come
     ghost tells: { Self → List ℕ → Told };
 
     // it can take more
     ghost is_sound: { Self → Type 0 };
 
-    /// Takes the next piece, wherever the input is cut.
+    /// Takes the next piece, no matter where the input is cut.
     fn take(&mut self, alloc: Global, piece: &[u8]) -> Result<(), AllocError>
         requires { is_sound self.old }
         ensures carried { OnOk result (IsCarried (tells self.old) piece.now (tells self.new) []) }
         ensures sound { OnOk result (is_sound self.new) };
 }
 
-/// The bytes themselves.
+/// Keeps the bytes themselves.
 impl Taker for Vec<u8> {
     ghost use Rattle.std.specs.Prelude.{ℕ, List, ◌++◌, ⊤};
 
@@ -56,8 +56,8 @@ impl Taker for Vec<u8> {
     }
 }
 
-/// Hands on all that the reader has, at most 2^31 bytes in at most 2^31 reads, a piece of at most
-/// the chunk's length at a time.
+/// Hands on all that the reader has to the taker, at most 2^31 bytes in at most 2^31 reads. A
+/// piece has at most the chunk's length.
 fn hand_on<R: Read, T: Taker>(
     alloc: Global,
     reader: &mut Device<R>,
@@ -89,7 +89,7 @@ fn hand_on<R: Read, T: Taker>(
     Err(StreamFault::File)
 }
 
-/// The taker takes all that the reader has, at most 2^31 bytes in at most 2^31 reads.
+/// Lets the taker take all that the reader has, at most 2^31 bytes in at most 2^31 reads.
 pub(crate) fn take_all<R: Read, T: Taker>(
     alloc: Global,
     reader: &mut Device<R>,
@@ -106,7 +106,7 @@ pub(crate) fn take_all<R: Read, T: Taker>(
     hand_on(alloc, reader, &mut chunk, taker)
 }
 
-/// All that the reader has, at most 2^31 bytes in at most 2^31 reads.
+/// Returns all that the reader has, at most 2^31 bytes in at most 2^31 reads.
 pub(crate) fn read_all<R: Read>(
     alloc: Global,
     reader: &mut Device<R>,

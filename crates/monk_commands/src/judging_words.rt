@@ -18,7 +18,7 @@ fn number(digits: &str) -> Option<u8>
     digits.parse().ok()
 }
 
-/// What a word `COND=PRED` says is waited for.
+/// Reads a word `COND=PRED`: threads that wait on the condition wait for the predicate.
 fn meaning_of(word: &str) -> Option<WaitsFor>
     ensures { IfSome result (IsMeaning word.now) }
 {
@@ -27,7 +27,7 @@ fn meaning_of(word: &str) -> Option<WaitsFor>
     Some(WaitsFor { cond, pred })
 }
 
-/// What is waited for, word by word.
+/// Reads each of the words as `COND=PRED`.
 fn meanings(alloc: Global, words: &[&str]) -> Result<Vec<WaitsFor>, LineFault>
     ensures { IfOk result (λ means. AreMeanings (map (λ w. w.now) words.now) means.items) }
 {
@@ -44,7 +44,7 @@ fn meanings(alloc: Global, words: &[&str]) -> Result<Vec<WaitsFor>, LineFault>
     Ok(means)
 }
 
-/// What those wait for who wait on a condition.
+/// Returns what the words of `--means` say, in order.
 fn meanings_of(alloc: Global, matches: &ArgMatches<'_>) -> Result<Vec<WaitsFor>, LineFault>
     ensures { IfOk result
         (λ means. AreMeanings (words_or_none (all_of (codes "means") (rows_of (found_of matches.now)))) means.items) }
@@ -55,7 +55,7 @@ fn meanings_of(alloc: Global, matches: &ArgMatches<'_>) -> Result<Vec<WaitsFor>,
     }
 }
 
-/// How a text is to be judged.
+/// Returns how a text is to be judged.
 fn judging(alloc: Global, matches: &ArgMatches<'_>) -> Result<Judging, LineFault>
     ensures { IfOk result (λ j. AreJudging j (rows_of (found_of matches.now))) }
 {
@@ -64,7 +64,7 @@ fn judging(alloc: Global, matches: &ArgMatches<'_>) -> Result<Judging, LineFault
     Ok(Judging { kind, means })
 }
 
-/// How findings are written.
+/// Returns how findings are written.
 fn form_of(matches: &ArgMatches<'_>) -> FitForm
     ensures { IsFlag (codes "json") (is_json result) (rows_of (found_of matches.now)) }
 {

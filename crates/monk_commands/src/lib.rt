@@ -1,7 +1,7 @@
 //! The commands of `monk`: the words of a command line give a request, and each request has a stream that answers it.
 //!
-//! A stream reads all of its input, and answers it by what it writes and by a status; what that is,
-//! is said by its contract as a function of what was read.
+//! A stream reads all of its input. It answers by what it writes and by a status. Its contract says what these are,
+//! as a function of what was read.
 #![tactic(auto)]
 
 mod answer;

@@ -15,7 +15,7 @@ const EVENTS: [&str; 8] = [
     "resume SEAT (waiter | signaller | until)",
 ];
 
-/// Those that all versions have but the first.
+/// The events that all versions but the first have.
 const LATER_EVENTS: [&str; 2] = [
     "signal-all SEAT COND",
     "signal-wait SEAT COND COND (stay | entry | waiter SEAT | signaller SEAT | until SEAT)",
@@ -37,7 +37,7 @@ const COMMANDS: [&str; 12] = [
     "SEAT until PRED (entry | waiter | signaller)",
 ];
 
-/// Those that all versions have but the first.
+/// The commands that all versions but the first have.
 const LATER_COMMANDS: [&str; 2] = [
     "SEAT signal-all COND",
     "SEAT signal-wait COND COND (entry | waiter | signaller)",
@@ -55,7 +55,7 @@ const LOG_LINES: [&str; 9] = [
     "act SEAT CODE ARG REPLY",
 ];
 
-/// The lines that a text may have behind its first: those of a history and of a play depend on the
+/// The lines that a text may have after its first. In a history and a play they depend on the
 /// version.
 #[derive(Clone, Copy, Debug, PartialEq, Eq)]
 pub struct LineSet {
@@ -64,7 +64,7 @@ pub struct LineSet {
 }
 
 impl LineSet {
-    /// Those of a text of that name, where this word stands for the version.
+    /// Returns the lines of a text of that name, if this word stands for the version.
     pub(crate) fn of(text: TextName, version: &[u8]) -> LineSet {
         let is_of_version_1 = version == b"1".as_slice();
         LineSet {
@@ -73,7 +73,7 @@ impl LineSet {
         }
     }
 
-    /// The word that names a line of these words: of a play the one behind the seat.
+    /// Returns the word that names a line of these words. In a play it is the word after the seat.
     pub(crate) fn naming_word<'a>(self, words: LineWords<'a>) -> Option<&'a [u8]> {
         let mut words = words;
         if self.text == TextName::Play {
@@ -82,7 +82,7 @@ impl LineSet {
         words.next()
     }
 
-    /// The form of the lines that the word names, if it names one.
+    /// Returns the form of the lines that the word names, if it names one.
     pub(crate) fn form(self, word: &[u8]) -> Option<&'static str> {
         match self.text {
             TextName::History => self.form_among(&EVENTS, &LATER_EVENTS, word),
@@ -91,7 +91,7 @@ impl LineSet {
         }
     }
 
-    /// The form among those of every version, or those of the later ones.
+    /// Returns the form that the word names among those of every version, or among the later ones.
     fn form_among(
         self,
         forms: &[&'static str],
@@ -105,7 +105,7 @@ impl LineSet {
         self.form_in(later, word)
     }
 
-    /// The form among these that the word names.
+    /// Returns the form among these that the word names.
     fn form_in(self, forms: &[&'static str], word: &[u8]) -> Option<&'static str> {
         for form in forms {
             if self.naming_word(LineWords::of(form.as_bytes())) == Some(word) {
@@ -115,7 +115,7 @@ impl LineSet {
         None
     }
 
-    /// What stands where no line has the word that should name it.
+    /// Returns how lines should begin. It is for a line whose naming word belongs to no form.
     pub(crate) fn beginnings(self) -> &'static str {
         match (self.text, self.is_of_version_1) {
             (TextName::History, true) => {

@@ -1,4 +1,4 @@
-//! What form a line should have that can't be read.
+//! The form that an unreadable line should have.
 
 use crate::hint::line_at;
 use crate::line_form::LineSet;
@@ -10,21 +10,21 @@ use monk_logs::LogLines;
 use monk_world::PlayLines;
 use std::fmt;
 
-/// What form a line should have that can't be read. It prints itself as one sentence.
+/// The form that an unreadable line should have. It prints itself as one sentence.
 #[derive(Clone, Copy, Debug, PartialEq, Eq)]
 pub struct LineHint {
     /// Which line it is. The first line of the text has number 1.
     pub line: u32,
     /// The lines that the text may have.
     pub lines: LineSet,
-    /// The form of the lines that begin as it does; `None` where none does.
+    /// The form of the lines that begin as it does, or `None` if none does.
     pub form: Option<&'static str>,
     /// What is wrong: a word or a number.
     pub flaw: Flaw,
 }
 
-/// The hint for an input that the task can't read, by the front of the input; `None` where no line of
-/// the front is at fault but the first.
+/// Returns the hint for an input that the task can't read, from the front of the input. It is `None`
+/// if no line of the front is at fault, or only the first.
 ///
 /// # Cost
 ///
@@ -61,13 +61,13 @@ fn fault_in(text: TextName, front: &[u8]) -> Option<ReadFault> {
     }
 }
 
-/// The form that a line should have, by the word that names it. The first line has number 1.
+/// Returns the form that a line should have, by the word that names it. The first line has number 1.
 fn form_at(lines: LineSet, front: &[u8], line: u32) -> Option<&'static str> {
     let line = line_at(front, line.saturating_sub(1) as usize)?;
     lines.form(lines.naming_word(LineWords::of(line))?)
 }
 
-/// One sentence, without a line's end: which line it is, and what it should be.
+/// Prints one sentence, without a line end: which line it is, and what it should be.
 impl fmt::Display for LineHint {
     fn fmt<W: fmt::Write>(&self, f: &mut fmt::Formatter<W>) -> fmt::Result {
         write!(f, "line {} should ", self.line)?;
@@ -79,7 +79,7 @@ impl fmt::Display for LineHint {
     }
 }
 
-/// What is said of numbers, where one is wrong.
+/// Returns what is said about numbers, if one is wrong.
 fn number_words(flaw: Flaw) -> &'static str {
     match flaw {
         Flaw::Word => "",

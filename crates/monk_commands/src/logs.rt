@@ -1,4 +1,4 @@
-//! What is said of a log.
+//! The answers for a log.
 
 pub(crate) mod answering;
 pub(crate) mod beside;

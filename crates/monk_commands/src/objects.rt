@@ -7,7 +7,7 @@ ghost use Rattle.monk_object.specs.declared.name.ObjectName.TheVariants as objec
 use monk_object::{Book, Buffer, Flags, ObjectFault, Shop};
 use std::alloc::{AllocError, Global};
 
-/// A buffer with no items.
+/// Makes a buffer with no items.
 pub(crate) fn buffer(alloc: Global, size: u8) -> Result<Buffer, AllocError>
     requires some { 1 ≤ size }
     requires few { size ≤ most object.Buffer }
@@ -21,7 +21,7 @@ pub(crate) fn buffer(alloc: Global, size: u8) -> Result<Buffer, AllocError>
     }
 }
 
-/// A book that nobody reads or writes.
+/// Makes a book that nobody reads or writes.
 pub(crate) fn book(size: u8) -> Book
     requires some { 1 ≤ size }
     requires few { size ≤ most object.Book }
@@ -34,7 +34,7 @@ pub(crate) fn book(size: u8) -> Book
     }
 }
 
-/// A shop with nobody in it.
+/// Makes a shop with nobody in it.
 pub(crate) fn shop(size: u8) -> Shop
     requires some { 1 ≤ size }
     requires few { size ≤ most object.Shop }
@@ -47,7 +47,7 @@ pub(crate) fn shop(size: u8) -> Shop
     }
 }
 
-/// Flags of which none is set.
+/// Makes flags, none of them set.
 pub(crate) fn flags(size: u8) -> Flags
     requires some { 1 ≤ size }
     requires few { size ≤ most object.Flags }

@@ -1,4 +1,4 @@
-//! What the options of `fit` and `explain` name that the input doesn't have.
+//! What the options of `fit` and `explain` name, but the input doesn't have.
 
 use crate::hint::line_at;
 use crate::task::Task;
@@ -10,14 +10,13 @@ use monk_object::{Book, Buffer, Flags, Guarded, ObjectName, Shop};
 use std::fmt;
 use thiserror::Error;
 
-/// What the options of `fit` and `explain` name that the input doesn't have. It prints itself as one
-/// sentence.
+/// What the options of `fit` and `explain` name, but the input doesn't have. It prints itself as one sentence.
 #[derive(Clone, Copy, Debug, PartialEq, Eq, Error)]
 pub enum OptionHint {
     /// The log has no such condition.
     #[error("--means {}={}: the log has no condition {}; it has {}", .meaning.cond, .meaning.pred, .meaning.cond, HowMany(*.conds))]
     Condition {
-        /// What is said of the condition.
+        /// The option's value that names the condition.
         meaning: WaitsFor,
         /// How many conditions the log has, 0 to 8.
         conds: u8,
@@ -25,7 +24,7 @@ pub enum OptionHint {
     /// The object of the log has no such predicate.
     #[error("--means {}={}: {} has no predicate {}; it has {}", .meaning.cond, .meaning.pred, called(*.object), .meaning.pred, HowMany(predicates(*.object)))]
     Predicate {
-        /// What is said of the predicate.
+        /// The option's value that names the predicate.
         meaning: WaitsFor,
         /// The object.
         object: ObjectName,
@@ -35,7 +34,7 @@ pub enum OptionHint {
     History,
 }
 
-/// How many there are.
+/// How many conditions or predicates there are.
 #[derive(Clone, Copy)]
 struct HowMany(u8);
 
@@ -48,7 +47,7 @@ impl fmt::Display for HowMany {
     }
 }
 
-/// The object, with its article.
+/// Returns the object with its article.
 fn called(object: ObjectName) -> &'static str {
     match object {
         ObjectName::Buffer => "a buffer",
@@ -58,12 +57,12 @@ fn called(object: ObjectName) -> &'static str {
     }
 }
 
-/// The hint for an input that the task has read, by the front of the input; `None` where the task has
-/// no such options, or where they name nothing that isn't there.
+/// Returns the hint for an input that the task has read, from the front of the input. It is `None` if the task has
+/// no such options, or if the input has all that they name.
 ///
-/// Of a log the first line says how many conditions there are, and which object. The first of the meanings whose
-/// condition or whose predicate isn't there decides, and of one meaning the condition. For a history there is a hint
-/// where an option is given.
+/// For a log the first line says how many conditions there are, and which object. The first of the meanings whose
+/// condition or predicate isn't there decides. In one meaning the condition goes first. For a history there is a
+/// hint if an option is given.
 ///
 /// # Cost
 ///
@@ -80,7 +79,7 @@ pub fn option_hint_for(task: &Task<'_>, front: &[u8]) -> Option<OptionHint> {
     }
 }
 
-/// By the first line of a log: it has no such condition, or its object no such predicate.
+/// Returns the hint from the first line of a log: it has no such condition, or its object no such predicate.
 fn log_hint(means: &[WaitsFor], line: &[u8]) -> Option<OptionHint> {
     let header = LogHeader::parse(&mut LineWords::of(line)).ok()?;
     let (conds, object) = (header.conds(), header.object());

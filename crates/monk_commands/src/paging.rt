@@ -1,4 +1,4 @@
-//! The stream of a page of several histories: their texts in, one page out.
+//! The stream of a page of several histories: it takes their texts, and writes one page.
 
 ghost use Rattle.std.specs.Prelude.{◌≡◌, ◌≤◌, false, length, IfOk, string_bytes};
 ghost use Rattle.std.specs.Io.KnownBytes.{Appends};
@@ -17,18 +17,18 @@ use monk_page::page_of;
 use std::alloc::{AllocError, Global};
 use std::io::Write;
 
-/// A history as one of a page.
+/// One history of a page.
 #[derive(Clone, Copy)]
 pub struct Paged<'a> {
-    /// What it is called where it is refused.
+    /// The name that is written if it is refused.
     pub name: &'a str,
     /// Its text.
     pub text: &'a [u8],
-    /// What its program tells, which [`monk_page::check_told`] has let through; `null` if it tells nothing.
+    /// What its program says about it, which [`monk_page::check_told`] has let through; `null` if it says nothing.
     pub beside: &'a str,
 }
 
-/// The answer to the text of a history: its part of the page, or why it has none.
+/// Returns the answer to the text of a history: its part of the page, or why it has none.
 fn text_answer(
     alloc: Global,
     history: Paged<'_>,
@@ -44,7 +44,7 @@ fn text_answer(
     )
 }
 
-/// The page of the histories, or the answer to the first that has no part in it.
+/// Returns the page of the histories, or the answer to the first that has no part in it.
 fn page_answer(
     alloc: Global,
     histories: &[Paged<'_>],
@@ -67,20 +67,20 @@ fn page_answer(
     Ok(LineAnswer { status, text })
 }
 
-/// Writes one page of several histories, in their order, each with what is told beside it. Of each the events of the
-/// window are shown, as [`Task::Page`](crate::Task::Page) shows them.
+/// Writes one page of several histories, in their order, each with what its program says about it. For each the
+/// events of the window are shown, as [`Task::Page`](crate::Task::Page) shows them.
 ///
-/// The status is 0 if all are legal, and 1 if one has an event that its kind forbids. If there is one of which
-/// [`Task::Page`](crate::Task::Page) would show nothing, its name and that answer are written in place of the page,
-/// with status 2.
+/// The status is 0 if all are legal, and 1 if one has an event that its kind forbids. If
+/// [`Task::Page`](crate::Task::Page) would show nothing for one of them, its name and that answer are written in
+/// place of the page, with status 2.
 ///
 /// # Errors
 ///
-/// [`StreamFault::File`] where the writer failed. [`StreamFault::Memory`] where a growth was refused.
+/// [`StreamFault::File`] if the writer failed. [`StreamFault::Memory`] if a request for memory was refused.
 ///
 /// # Cost
 ///
-/// That of each history's [`monk_page::article`], and memory for the page twice.
+/// The cost of [`monk_page::article`] for each history, and memory for the page twice.
 pub fn pages_stream<W: Write>(
     alloc: Global,
     histories: &[Paged<'_>],

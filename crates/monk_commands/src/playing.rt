@@ -1,4 +1,4 @@
-//! The player's stream: the text of a play in, the text of the history that it leads to out.
+//! The player's stream. It reads the text of a play, and writes the text of the history that it leads to.
 
 ghost use Rattle.std.specs.Prelude.{◌≡◌, ◌⊎◌, false, IfOk, IfSome, ◌↔◌, ℕ, List};
 ghost use Rattle.std.specs.Io.KnownBytes.{Appends};
@@ -17,20 +17,20 @@ use std::alloc::Global;
 use std::io::{Read, Write};
 
 /// Reads all of the reader, plays its commands in order from the start, and writes the text of the history that they
-/// lead to, with status 0. A command that is refused changes nothing, and the play goes on behind it.
+/// lead to, with status 0. A command that is refused changes nothing, and the play goes on after it.
 ///
-/// Where the reader has no play, the line `unreadable LINE NUMBER WORD` is written with status 2, and where the size
-/// is above the object's greatest, `object` with status 2.
+/// If the reader has no play, the line `unreadable LINE NUMBER WORD` is written with status 2. If the size is above
+/// the object's greatest, `object` is written with status 2.
 ///
 /// # Errors
 ///
-/// Those of [`audit_stream`](crate::audit_stream).
+/// The errors of [`audit_stream`](crate::audit_stream).
 ///
 /// # Cost
 ///
-/// Two passes over the text, one that looks for its first fault and one that carries out each
-/// command as it is read, in a time that doesn't grow with the history; memory for the text, and
-/// for as many events as the budget leaves to all seats together.
+/// Two passes over the text. One looks for its first fault. The other carries out each command as it is read, in a
+/// time that doesn't grow with the history. Memory for the text, and for as many events as the budget leaves to all
+/// seats together.
 pub fn play_stream<R: Read, W: Write>(
     alloc: Global,
     reader: &mut Device<R>,
@@ -44,10 +44,10 @@ pub fn play_stream<R: Read, W: Write>(
         (λ status. IfSome (R.remaining (inner_of reader.old))
         (λ input. IsAnswerTo IsPlayed input status
         (Appends (W.contents (inner_of writer.old)) (W.contents (inner_of writer.new))))) }
-    // The status is 0 exactly for the text of a play.
+    // The status is 0 exactly if the text is a play.
     ensures played { IfOk result (λ status. IfSome (R.remaining (inner_of reader.old))
         (λ input. (status ≡ 0) ↔ IsPlayText input)) }
-    // To a play nothing is written but the text of its history, which is legal.
+    // For a play only the text of its history is written, which is legal.
     ensures history { IfOk result
         (λ status. IfSome (R.remaining (inner_of reader.old))
         (λ input. (h : Heading) (budget : ℕ) (commands : List (ℕ × Command)) → IsPlayOf input h budget commands

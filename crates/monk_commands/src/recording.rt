@@ -38,19 +38,19 @@ pub(crate) fn put_history<W: Write>(
     }
 }
 
-/// Runs the sample under the kind, with 2 to 16 seats at work for 1 to 1000 rounds each in threads of their own, and
-/// writes the text of the history that they left, in version 1, with status 0. An audit finds it legal.
+/// Runs the sample under the kind, and writes the text of the history that it left, in version 1, with status 0. 2
+/// to 16 seats work for 1 to 1000 rounds each, in threads of their own. An audit finds the history legal.
 ///
-/// Where [`run`](monk_samples::run) ends as `Tired`, `Late` or `Busy`, the line `tired`, `late` or
-/// `busy` is written alone, with status 1.
+/// If [`run`](monk_samples::run) ends as `Tired`, `Late` or `Busy`, only the line `tired`, `late` or `busy` is
+/// written, with status 1.
 ///
 /// # Errors
 ///
-/// Those of [`run_stream`](crate::run_stream).
+/// The errors of [`run_stream`](crate::run_stream).
 ///
 /// # Cost
 ///
-/// That of [`run`](monk_samples::run), and one pass over the history. The text takes no memory.
+/// The cost of [`run`](monk_samples::run), and one pass over the history. The text takes no memory.
 pub fn record_stream<R: Threads + Wait + Sync, W: Write>(
     rt: &R,
     alloc: Global,
@@ -61,11 +61,11 @@ pub fn record_stream<R: Threads + Wait + Sync, W: Write>(
     requires in_range { IsInRange crew.seats crew.rounds }
     requires works { has_failed writer.old ≡ false }
 
-    // With status 0 the text is that of the legal history that a run of this kind and sample has left.
+    // With status 0 the text is that of a legal history that a run of this kind and sample left.
     ensures answer { IfOk result
         (λ status. IsRecordAnswer crew.kind sample crew.seats crew.rounds status
         (Appends (W.contents (inner_of writer.old)) (W.contents (inner_of writer.new)))) }
-    // The writer has failed; or it is as it was, and a thread was not started.
+    // Either the writer has failed, or it is unchanged and a thread was not started.
     ensures file { IsErrOf result StreamFault.File → (has_failed writer.new ≡ true)
         ⊎ ((writer.new ≡ writer.old) × IsUnstarted crew.kind (patiently sample) crew.seats crew.rounds) }
     ensures memory { IsErrOf result StreamFault.Memory → writer.new ≡ writer.old }

@@ -1,4 +1,4 @@
-/// What is told of a play.
+/// What is written for a play.
 #[derive(Clone, Copy)]
 pub(crate) enum Report {
     /// The text of the history that it leads to.

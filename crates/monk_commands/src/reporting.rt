@@ -1,4 +1,4 @@
-//! What is told of a play: the history that it leads to, or a trace.
+//! What is written for a play: the history that it leads to, or a trace.
 
 ghost use Rattle.std.specs.Prelude.{◌≡◌, ◌≤◌, false, IfOk, OnOk};
 ghost use Rattle.std.specs.Option.{ForSome};
@@ -24,9 +24,9 @@ use monk_world::{PlayLines, World};
 use std::alloc::Global;
 use std::io::Write;
 
-/// Plays the commands over the object, by the kind K, and writes the history, or a trace where
-/// there is a second object, which is as the first: a trace shows its data, since nobody sees the
-/// world's own.
+/// Plays the commands over the object, by the kind K. Writes the history, or a trace if there is a
+/// second object, which is as the first. A trace shows the second's data, because the world doesn't
+/// show its own.
 fn play_as<K: Kind, T: Listed, W: Write>(
     alloc: Global,
     object: T,
@@ -60,7 +60,7 @@ fn play_as<K: Kind, T: Listed, W: Write>(
     }
 }
 
-/// The same by the kind that the header names.
+/// Does the same by the kind that the header names.
 fn play_named<T: Listed, W: Write>(
     alloc: Global,
     object: T,
@@ -91,7 +91,7 @@ fn play_named<T: Listed, W: Write>(
     }
 }
 
-/// The same over this object, which is there once more for a trace to show.
+/// Does the same over this object. `shown` is another with its state, for a trace to show.
 fn play_over<T: Listed, W: Write>(
     alloc: Global,
     report: Report,
@@ -115,7 +115,7 @@ fn play_over<T: Listed, W: Write>(
     }
 }
 
-/// The same over a buffer of that size. It takes memory, so there is a second one only for a trace.
+/// Does the same over a buffer of that size. It takes memory, so only a trace has a second one.
 fn play_buffer<W: Write>(
     alloc: Global,
     report: Report,
@@ -142,7 +142,7 @@ fn play_buffer<W: Write>(
     }
 }
 
-/// The same over the object that the header names.
+/// Does the same over the object that the header names.
 fn play_object<W: Write>(
     alloc: Global,
     report: Report,

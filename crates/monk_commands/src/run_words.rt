@@ -14,7 +14,7 @@ use monk_object::ObjectName;
 use monk_samples::Sample;
 use std::alloc::Global;
 
-/// The kind that is named.
+/// Returns the kind that is named.
 fn kind(alloc: Global, matches: &ArgMatches<'_>) -> Result<KindName, LineFault>
     ensures { IfOk result
         (λ kind. first_of (codes "KIND") (rows_of (found_of matches.now)) ≡ Some (kind_word kind)) }
@@ -25,7 +25,7 @@ fn kind(alloc: Global, matches: &ArgMatches<'_>) -> Result<KindName, LineFault>
     }
 }
 
-/// The sample that is named.
+/// Returns the sample that is named.
 fn sample(alloc: Global, matches: &ArgMatches<'_>) -> Result<Sample, LineFault>
     ensures { IfOk result
         (λ sample. first_of (codes "SAMPLE") (rows_of (found_of matches.now)) ≡ Some (sample_word sample)) }
@@ -41,8 +41,8 @@ fn sample(alloc: Global, matches: &ArgMatches<'_>) -> Result<Sample, LineFault>
     }
 }
 
-/// The seats and the rounds that are asked for. clap has tested the ranges, and has no contract that
-/// says so of a subcommand's numbers, so they are tested once more.
+/// Returns the seats and the rounds that are asked for. clap has tested the ranges, but has no
+/// contract that says so for a subcommand's numbers. So they are tested once more.
 fn sizes(alloc: Global, matches: &ArgMatches<'_>) -> Result<(u8, u32), LineFault>
     ensures values { IfOk result (λ r. AreSizes r.0 r.1 (rows_of (found_of matches.now))) }
     ensures in_range { IfOk result (λ r. IsInRange r.0 r.1) }
@@ -55,7 +55,7 @@ fn sizes(alloc: Global, matches: &ArgMatches<'_>) -> Result<(u8, u32), LineFault
     Ok((seats, rounds))
 }
 
-/// What `run` or `record` asks for.
+/// Returns what `run` or `record` asks for.
 pub(crate) fn line_to_run(
     alloc: Global,
     name: &str,

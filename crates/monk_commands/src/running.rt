@@ -22,7 +22,7 @@ use std::io::Write;
 use std::sync::Wait;
 use std::thread::Threads;
 
-/// Runs the sample under the kind of that name, with a gate that is always open.
+/// Runs the sample under the named kind, with a gate that is always open.
 pub(crate) fn run_named<R: Threads + Wait + Sync>(
     rt: &R,
     alloc: Global,
@@ -52,7 +52,7 @@ pub(crate) fn run_named<R: Threads + Wait + Sync>(
     }
 }
 
-/// The answer that a run's history is legal, with this text; an audit of it says so.
+/// Returns the answer that a run's history is legal, with this text. An audit of it says so.
 pub(crate) fn audited(
     alloc: Global,
     header: &Header,
@@ -70,12 +70,12 @@ pub(crate) fn audited(
             verdict_answer(alloc, Verdict::Forbidden { step, reason })
         }
         Err(AuditFault::Memory) => Err(AllocError),
-        // The size is within the object's greatest.
+        // The size isn't above the object's greatest.
         Err(AuditFault::Object) => unreachable!(),
     }
 }
 
-/// The answer to a run that left this: its totals, once its history was found legal.
+/// Returns the answer to a run that left this: its totals, after its history was found legal.
 fn audited_run(alloc: Global, sample: Sample, outcome: &Outcome) -> Result<LineAnswer, AllocError>
     requires { (k : _) × IsOutcome k (patiently sample) outcome.now.header.seats outcome.now.header
         outcome.now.history.items outcome.now.totals }
@@ -99,7 +99,7 @@ pub(crate) fn rows(alloc: Global, sample: Sample, totals: &[u64; 4]) -> Result<S
     }
 }
 
-/// The answer to a run without an outcome, of which this is the end.
+/// Returns the answer to a run that ended in this way, without an outcome.
 pub(crate) fn ended(alloc: Global, fault: RunFault) -> Result<LineAnswer, StreamFault>
     requires { fault ≢ RunFault.Range }
     ensures answer { IfOk result (λ a. (a.status ≡ 1) × (end_word fault ≡ Some (string_bytes a.text))) }
@@ -118,23 +118,21 @@ pub(crate) fn ended(alloc: Global, fault: RunFault) -> Result<LineAnswer, Stream
     Ok(LineAnswer { status: 1, text })
 }
 
-/// Runs the sample under the kind, with 2 to 16 seats at work for 1 to 1000 rounds each in threads of their own, and
-/// writes its totals with status 0, once its history was audited and found legal.
+/// Runs the sample under the kind, and writes its totals with status 0, after its history was audited and found
+/// legal. 2 to 16 seats work for 1 to 1000 rounds each, in threads of their own.
 ///
-/// Of a buffer the totals are the lines `put N SUM` and `taken N SUM`, of a book `reads BEGUN ENDED` and
-/// `writes BEGUN ENDED`, and of a shop `sat N`, `called N`, `finished N` and `departed N`; the line
-/// `legal` ends them. Where [`run`] ends as `Tired`, `Late` or `Busy`, the line `tired`, `late` or
-/// `busy` is written with status 1.
+/// For a buffer the totals are the lines `put N SUM` and `taken N SUM`. For a book they are `reads BEGUN ENDED` and
+/// `writes BEGUN ENDED`. For a shop they are `sat N`, `called N`, `finished N` and `departed N`. The line `legal`
+/// ends them. If [`run`] ends as `Tired`, `Late` or `Busy`, `tired`, `late` or `busy` is written with status 1.
 ///
 /// # Errors
 ///
-/// [`StreamFault::File`] where a thread was not started, or the writer failed.
-/// [`StreamFault::Memory`] if a request for memory was refused. The writer has changed only where
-/// it failed.
+/// [`StreamFault::File`] if a thread was not started, or the writer failed. [`StreamFault::Memory`] if a request for
+/// memory was refused. The writer has changed only if it failed.
 ///
 /// # Cost
 ///
-/// That of [`run`], and of one [`audit`].
+/// The cost of [`run`], and of one [`audit`].
 pub fn run_stream<R: Threads + Wait + Sync, W: Write>(
     rt: &R,
     alloc: Global,
@@ -147,11 +145,12 @@ pub fn run_stream<R: Threads + Wait + Sync, W: Write>(
     requires in_range { IsInRange seats rounds }
     requires works { has_failed writer.old ≡ false }
 
-    // The totals that are told are those of a legal history of this kind and sample, in which the sample's law holds.
+    // The totals that are written are those of a legal history of this kind and sample, in which the sample's law
+    // holds.
     ensures answer { IfOk result
         (λ status. IsRunAnswer kind sample seats rounds status
         (Appends (W.contents (inner_of writer.old)) (W.contents (inner_of writer.new)))) }
-    // The writer has failed; or it is as it was, and a thread was not started.
+    // Either the writer has failed, or it is unchanged and a thread was not started.
     ensures file { IsErrOf result StreamFault.File → (has_failed writer.new ≡ true)
         ⊎ ((writer.new ≡ writer.old) × IsUnstarted kind (patiently sample) seats rounds) }
     ensures memory { IsErrOf result StreamFault.Memory → writer.new ≡ writer.old }

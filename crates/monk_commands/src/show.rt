@@ -1,25 +1,24 @@
 use monk_draw::Picture;
 
-/// What shows a history, or a run that tells a log.
+/// How a history, or a run that tells a log, is shown.
 #[derive(Clone, Copy)]
 pub enum Show<'a> {
-    /// A picture, with a lane for each seat and a column for each event, where each seat was, and who went on by a
-    /// release. The first forbidden event is marked, with its reason.
+    /// A picture, with a lane for each seat and a column for each event. It shows where each seat was, and who
+    /// went on by a release. The first forbidden event is marked, with its reason.
     Picture(Picture<'a>),
-    /// A page: an HTML text that stands alone, with that picture, and for each of its steps the
-    /// event, how the monitor stands, and of a release whom it might have chosen. Of a log it tells who
-    /// has the lock, who sleeps and who is woken, and how a thread came back that relied on what no
-    /// longer held.
+    /// A page: one HTML text that needs no other file, with that picture. It shows for each step the event, the
+    /// state of the monitor, and for a release whom it might have chosen. For a log it shows who has the lock, who
+    /// sleeps and who is woken. It also shows how a thread came back that relied on what no longer held.
     Page,
 }
 
-/// What shows a history.
+/// How a history is shown.
 #[derive(Clone, Copy)]
 pub(crate) enum HistoryForm<'a> {
     /// As [`Show::Picture`].
     Picture(Picture<'a>),
     /// As [`Show::Page`].
     Page,
-    /// Its part of a page of several, with what its program tells.
+    /// Its part of a page of several, with what its program says.
     Article(&'a str),
 }

@@ -24,7 +24,7 @@ fn status_of(verdict: Verdict) -> u8
     }
 }
 
-/// What shows a history on which there is this verdict.
+/// Returns the text that shows a history with this verdict.
 fn shown_text(
     alloc: Global,
     form: HistoryForm<'_>,
@@ -50,12 +50,12 @@ fn shown_text(
     match shown {
         Ok(text) => Ok(text),
         Err(AuditFault::Memory) => Err(AllocError),
-        // The size is within the object's greatest.
+        // The size isn't above the object's greatest.
         Err(AuditFault::Object) => unreachable!(),
     }
 }
 
-/// The answer that shows it, if the events that are asked for begin with one that can be shown.
+/// Returns the answer that shows it, if the first event that is asked for can be shown.
 fn shown_if_there(
     alloc: Global,
     form: HistoryForm<'_>,
@@ -77,7 +77,7 @@ fn shown_if_there(
     })
 }
 
-/// The answer to a history that was read.
+/// Returns the answer to a history that was read.
 fn shown(
     alloc: Global,
     form: HistoryForm<'_>,
@@ -99,7 +99,7 @@ fn shown(
     }
 }
 
-/// The answer to the text of a history.
+/// Returns the answer to the text of a history.
 pub(crate) fn shown_in_form(
     alloc: Global,
     form: HistoryForm<'_>,
@@ -115,8 +115,8 @@ pub(crate) fn shown_in_form(
     }
 }
 
-/// The picture or the page of a history, from its text, or why there is none. See [`Task::Draw`](crate::Task::Draw).
-/// It fails only for want of memory.
+/// Returns the picture or the page of a history, from its text, or why there is none. See
+/// [`Task::Draw`](crate::Task::Draw). It fails only for want of memory.
 pub fn show_history(
     alloc: Global,
     show: Show<'_>,

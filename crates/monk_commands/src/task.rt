@@ -18,10 +18,10 @@ use monk_kinds::KindName;
 use std::alloc::Global;
 use std::io::{Read, Write};
 
-/// A command that reads an input: what is made of it.
+/// A command that reads an input, and what it makes of it.
 ///
-/// Where the input isn't such a text, the line `unreadable LINE NUMBER WORD` is written with status 2, and where the
-/// size is above the object's greatest, `object` with status 2. docs/TEXT.md and docs/LOGS.md have the texts.
+/// If the input isn't such a text, the line `unreadable LINE NUMBER WORD` is written with status 2. If the size is
+/// above the object's greatest, `object` is written with status 2. docs/TEXT.md and docs/LOGS.md describe the texts.
 #[derive(Clone, Copy)]
 pub enum Task<'a> {
     /// The verdict on a history, by [`audit_stream`].
@@ -32,39 +32,42 @@ pub enum Task<'a> {
     Upgrade,
     /// How a history or a log is judged.
     ///
-    /// Of a log, whose first word is `log`, one line is written behind `NAME: `, or one line of JSON: whether it fits,
-    /// how its program ends, and what is counted and found beside ([`judge_log`](monk_judge::judge_log)). The status is
-    /// 1 if the log misfits, misses a signal or ends busy, though its program didn't end by itself; else 0. A log with
-    /// another kind than NPNB, or with meanings but without acts, is refused by a line with status 2.
+    /// For a log, whose first word is `log`, one line is written after `NAME: `, or one line of JSON. It says whether
+    /// the log fits, how its program ends, and what else is counted and found ([`judge_log`](monk_judge::judge_log)).
+    /// The status is 1 if the log misfits, misses a signal, or ends busy and its program didn't end by itself; else
+    /// 0. A log with another kind than NPNB, or with meanings but without acts, is refused by a line with status 2.
     ///
-    /// Of a history ten lines are written, in the order of [`KindName::ALL`]: `KIND legal N` or `KIND forbidden STEP
-    /// REASON WORD`; with a kind its line alone, behind `NAME: `. The status is 0 if one of them says `legal`, else 1.
+    /// For a history ten lines are written, in the order of [`KindName::ALL`]: `KIND legal N` or `KIND forbidden STEP
+    /// REASON WORD`. With a kind only its line is written, after `NAME: `. The status is 0 if a line says `legal`,
+    /// else 1.
     ///
-    /// A log takes one pass over its text and two over its lines, and memory for 24 bytes a line and the text, or for
-    /// 32 bytes a line, whichever is more. A history takes one pass over the text, and one over the events for each
+    /// A log takes one pass over its text and two over its lines. It takes 24 bytes of memory a line and the text, or
+    /// 32 bytes a line, whichever is more. A history takes a pass over the text, and one over the events for each
     /// kind.
     Fit(FitForm, Question<'a>),
     /// Each command of a play with its answer, by [`trace_stream`].
     Trace,
     /// How a history or a log is judged, and why.
     ///
-    /// Of a history the line of an audit is written, with its status, under the kind if one is named. Behind it stands
-    /// how things are at the end, or before the forbidden event; then that event, the object's own reply or what might
-    /// have been chosen, and a sentence that says why.
+    /// For a history the line of an audit is written, with its status, under the kind if one is named. Then come
+    /// lines on how things are at the end, or before the forbidden event. Last come that event, the object's own
+    /// reply or what might have been chosen, and a sentence that says why.
     ///
-    /// Of a log the line of `Fit` is written, with its status. Then come the lines to look at, each with its place in
-    /// the source if the recorder wrote that down, and a sentence; last where each seat is, and since which line.
+    /// For a log the line of `Fit` is written, with its status. Then come the lines to look at, each with a sentence
+    /// and, if the recorder wrote that down, with its place in the source. Last comes where each seat is, and since
+    /// which line.
     ///
     /// A history takes two passes over the events. A log takes twice what `Fit` does, and memory for a run.
     Explain(Question<'a>),
-    /// The picture of a history or of a log: of the events that are asked for.
+    /// The picture of a history or of a log, with the events that are asked for.
     ///
-    /// Of a log the run is shown that `Complete` writes: a column for each line up to the one that misfits, which is
-    /// framed, with the word for what is wrong and its number in the file. The status is 1 if the log misfits, else 0.
+    /// For a log the run that `Complete` writes is shown, with a column for each line up to the one that misfits.
+    /// That line is framed, with the word for what is wrong and its number in the file. The status is 1 if the log
+    /// misfits, else 0.
     ///
-    /// Of a history the events are shown up to the first that is forbidden, or up to the end; without a window the last
-    /// 200. The status is that of an audit. Where the window begins behind the last event that can be shown, the line
-    /// `window LAST` is written with status 2 and the number of that event, which is 0 where there is none.
+    /// For a history the events up to the first forbidden one or up to the end are shown; without a window, the last
+    /// 200. The status is that of an audit. If the window begins after the last event that can be shown, the line
+    /// `window LAST` is written with status 2. LAST is the number of that event, or 0 if there is none.
     ///
     /// It takes two passes over the events, and memory for the text, for the events and for what is written.
     Draw(Option<Window>),
@@ -73,27 +76,27 @@ pub enum Task<'a> {
     /// The page of a history or of a log: that picture, and each step that is shown. It costs what
     /// [`monk_page::article`] does.
     Page(Option<Window>),
-    /// A legal history of a monitor of the kind that tells a log, by [`complete_stream`]; with no kind, a run of a
+    /// A legal history of a monitor of the kind that tells a log, by [`complete_stream`]. With no kind, a run of a
     /// mutex with condition variables that tells it, with status 0.
     ///
-    /// A run begins with the line `run NPNB SEATS CONDS OBJECT SIZE`, and has a line for each step. A step is a line of
-    /// the log, with ` wakes SEAT` behind a signal that woke a thread; or `out SEAT`, where the thread's time ran out;
-    /// or `wake SEAT`, where it woke though nobody sent a signal. No run that tells the log has fewer of these. If no
-    /// run tells it, `misfit at LINE: WORD` is written with status 1: the first line of the file with which none does.
+    /// A run begins with the line `run NPNB SEATS CONDS OBJECT SIZE`, and has a line for each step. A step is a line
+    /// of the log, with ` wakes SEAT` after a signal that woke a thread. Or it is `out SEAT` if the thread's time ran
+    /// out, or `wake SEAT` if it woke though nobody sent a signal. No run that tells the log has fewer such wakes. If
+    /// no run tells it, `misfit at LINE: WORD` is written with status 1: the first line of the file with which none
+    /// does.
     Complete(Option<KindName>),
 }
 
 impl Task<'_> {
-    /// Reads all input and runs the stream that the variant names; the result is the exit status, 0
-    /// to 2.
+    /// Reads all input and runs the stream that the variant names. Returns the exit status, 0 to 2.
     ///
     /// # Errors
     ///
-    /// Those of [`audit_stream`].
+    /// The errors of [`audit_stream`].
     ///
     /// # Cost
     ///
-    /// That of the stream.
+    /// The cost of the stream.
     pub fn stream<R: Read, W: Write>(
         self,
         alloc: Global,

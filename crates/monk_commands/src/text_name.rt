@@ -21,7 +21,7 @@ pub enum TextName {
 }
 
 impl TextName {
-    /// The text whose first word this is, byte for byte; `None` where it is the first word of none.
+    /// Returns the text whose first word this is, byte for byte, or `None` if there is none.
     pub fn of_word(word: &[u8]) -> Option<TextName> {
         match word {
             b"monk" => Some(TextName::History),
@@ -31,7 +31,7 @@ impl TextName {
         }
     }
 
-    /// Its newest version.
+    /// Returns its newest version.
     pub(crate) fn newest_version(self) -> u8 {
         match self {
             TextName::History | TextName::Play => NEWEST,
@@ -39,7 +39,7 @@ impl TextName {
         }
     }
 
-    /// How its first line is written in version 1.
+    /// Returns its first line, as it is in version 1.
     pub(crate) fn first_line(self) -> &'static str {
         match self {
             TextName::History => "monk 1 KIND SEATS CONDS OBJECT SIZE",
@@ -48,7 +48,7 @@ impl TextName {
         }
     }
 
-    /// The commands that read it.
+    /// Returns the commands that read it.
     pub(crate) fn commands(self) -> &'static str {
         match self {
             TextName::History => "monk audit, explain, draw, page, fit or upgrade",
@@ -68,7 +68,7 @@ impl TextName {
         }
     }
 
-    /// The text that the task reads; a history where it reads two.
+    /// Returns the text that the task reads, or a history if it reads two.
     pub fn wanted_by(task: &Task<'_>) -> TextName {
         match task {
             Task::Play | Task::Trace => TextName::Play,
@@ -78,7 +78,7 @@ impl TextName {
     }
 }
 
-/// With its article: `a history`.
+/// Prints it with its article: `a history`.
 impl fmt::Display for TextName {
     fn fmt<W: fmt::Write>(&self, f: &mut fmt::Formatter<W>) -> fmt::Result {
         match *self {

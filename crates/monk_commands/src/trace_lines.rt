@@ -1,4 +1,4 @@
-//! The lines of a trace: one for each command of a play, with where all seats stand after it.
+//! The lines of a trace: one for each command of a play, with where all seats are after it.
 
 ghost use Rattle.std.specs.Prelude.{◌≡◌, ◌<◌, ◌≤◌, ◌^◌, ◌++◌, false, All, IfOk, OnOk, ℕ, List, [], length};
 ghost use Rattle.std.specs.Prelude.{string_bytes};
@@ -28,7 +28,7 @@ use std::alloc::{AllocError, Global};
 use std::fmt;
 use std::io::Write;
 
-/// What is said behind an answer: that the object refused an act, if it did.
+/// Returns what follows an answer: that the object refused an act, if it did.
 fn refusal(answer: Answer) -> &'static str
     ensures { result.now ≡ refusal_text answer }
 {
@@ -38,7 +38,7 @@ fn refusal(answer: Answer) -> &'static str
     }
 }
 
-/// The number of a command, what it told a seat, and what that answered.
+/// A command for a seat, with its number and its answer.
 #[derive(Drop)]
 struct Told {
     number: usize,
@@ -63,7 +63,7 @@ impl fmt::Display for Told {
     }
 }
 
-/// Where a seat stands, on which queue if it waits inside, and whether the grant is there that it looks for.
+/// Writes a seat's place, its queue if it waits inside, and whether the grant it looks for is there.
 fn put_place<K: Kind, T: Guarded>(
     page: &mut String,
     world: &World<K, T>,
@@ -114,7 +114,7 @@ fn put_data<T: Listed>(
     write!(page, "data:{} | ", Data(name, &numbers))
 }
 
-/// What stands in a line before the places: what the command came to, and the words after it.
+/// Writes what comes first in a line: what the command came to, and the numbers of tickets after it.
 #[tactic(auto, unfolding(crate::specs::Traced::line_front))]
 fn put_front<K: Kind, T: Guarded>(
     page: &mut String,
@@ -129,7 +129,7 @@ fn put_front<K: Kind, T: Guarded>(
     write!(page, "{told} | t={drawn} n={unpassed} | ")
 }
 
-/// The line of a command, which has brought the world to where it is.
+/// Writes the line of a command, which has brought the world to where it is.
 fn put_line<K: Kind, T: Listed>(
     alloc: Global,
     page: &mut String,
@@ -160,7 +160,7 @@ fn put_line<K: Kind, T: Listed>(
     Ok(())
 }
 
-/// Carries out the commands that are left of the play, in order, and gives the lines of all of them.
+/// Carries out the commands that are left of the play, in order, and returns the lines of all of them.
 fn lines_of<K: Kind, T: Listed>(
     alloc: Global,
     world: &mut World<K, T>,
@@ -192,8 +192,8 @@ fn lines_of<K: Kind, T: Listed>(
     Ok(page)
 }
 
-/// Carries out the commands of the play in order, and writes the lines of all of them. The world
-/// hasn't begun, and the object is one as the world's own is.
+/// Carries out the commands of the play in order, and writes the lines of all of them. The world hasn't
+/// begun, and the object equals the world's own.
 pub(crate) fn put_trace<K: Kind, T: Listed, W: Write>(
     alloc: Global,
     world: &mut World<K, T>,

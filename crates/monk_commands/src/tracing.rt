@@ -1,4 +1,4 @@
-//! The tracer's stream: the text of a play in, a line for each of its commands out.
+//! The tracer's stream. It reads the text of a play, and writes a line for each of its commands.
 
 ghost use Rattle.std.specs.Prelude.{◌≡◌, ◌⊎◌, false, IfOk, IfSome, ◌↔◌, ℕ, List};
 ghost use Rattle.std.specs.Io.KnownBytes.{Appends};
@@ -24,24 +24,22 @@ use std::io::{Read, Write};
 /// 4 | 1 arrive | arrived 1 1 | t=2 n=1 | data: 1 (buffer of 1: empty) | inner condition 0, ticket 1
 /// ```
 ///
-/// its number, the seat and what it is told, its answer, how many tickets are drawn (`t`) and not
-/// passed on (`n`) after it, the data as numbers and in words, and where each seat stands then. The
-/// queue of a seat that waits inside stands behind its place, and `granted` where the grant is
-/// there that the seat looks for. So each line shows where the right to be active is. A command
-/// that is refused has its line too, and changes nothing.
+/// The line has its number, the seat and its command, the answer, and how many tickets are drawn (`t`) and not passed
+/// on (`n`) after it. Then come the data as numbers and in words, and where each seat is then. The queue of a seat
+/// that waits inside follows its place, and then `granted` if the grant that the seat looks for is there. So each
+/// line shows where the right to be active is. A command that is refused has its line too, and changes nothing.
 ///
-/// Where the reader has no play, the line `unreadable LINE NUMBER WORD` is written with status 2, and where the size is
-/// above the object's greatest, `object` with status 2.
+/// If the reader has no play, the line `unreadable LINE NUMBER WORD` is written with status 2. If the size is above
+/// the object's greatest, `object` is written with status 2.
 ///
 /// # Errors
 ///
-/// Those of [`play_stream`](crate::play_stream).
+/// The errors of [`play_stream`](crate::play_stream).
 ///
 /// # Cost
 ///
-/// That of [`play_stream`](crate::play_stream), and for each command a line with the place of each
-/// seat, for which each queue is looked through; memory for all lines and for the queues beside that
-/// of the play.
+/// The cost of [`play_stream`](crate::play_stream), and for each command a line with the place of each seat, for
+/// which each queue is searched. Memory for all lines and for the queues, in addition to the play's.
 pub fn trace_stream<R: Read, W: Write>(
     alloc: Global,
     reader: &mut Device<R>,
@@ -55,10 +53,10 @@ pub fn trace_stream<R: Read, W: Write>(
         (λ status. IfSome (R.remaining (inner_of reader.old))
         (λ input. IsAnswerTo IsTraced input status
         (Appends (W.contents (inner_of writer.old)) (W.contents (inner_of writer.new))))) }
-    // The status is 0 exactly for the text of a play.
+    // The status is 0 exactly if the text is a play.
     ensures played { IfOk result (λ status. IfSome (R.remaining (inner_of reader.old))
         (λ input. (status ≡ 0) ↔ IsPlayText input)) }
-    // Of a play the line of each command is written, in order, and nothing else.
+    // For a play the line of each command is written, in order, and nothing else.
     ensures traced { IfOk result
         (λ status. IfSome (R.remaining (inner_of reader.old))
         (λ input. (h : Heading) (budget : ℕ) (commands : List (ℕ × Command)) → IsPlayOf input h budget commands

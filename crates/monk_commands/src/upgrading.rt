@@ -1,4 +1,4 @@
-//! The upgrading stream: the text of a history in, the text of the same events in a version that has every event out.
+//! The upgrading stream. It reads a history, and writes the same events in a version that has every event.
 
 ghost use Rattle.std.specs.Prelude.{◌≡◌, ◌⊎◌, ◌↔◌, false, IfOk, IfSome, List};
 ghost use Rattle.std.specs.Io.KnownBytes.{Appends};
@@ -38,14 +38,14 @@ fn upgrade_text<W: Write>(
     }
 }
 
-/// Reads all of the reader and writes the text of the same events with status 0: a text of version 1 in version 2, any
-/// other as it is. It judges neither the size nor whether the history is legal: an illegal history stays the same.
+/// Reads all of the reader and writes the text of the same events with status 0. A text of version 1 is written in
+/// version 2, another as it is. The size and whether the history is legal aren't judged.
 ///
-/// Where the reader has no text of a history, the line `unreadable LINE NUMBER WORD` is written with status 2.
+/// If the reader has no text of a history, the line `unreadable LINE NUMBER WORD` is written with status 2.
 ///
 /// # Errors
 ///
-/// Those of [`audit_stream`](crate::audit_stream).
+/// The errors of [`audit_stream`](crate::audit_stream).
 ///
 /// # Cost
 ///
@@ -63,16 +63,16 @@ pub fn upgrade_stream<R: Read, W: Write>(
     ensures answer { IfOk result
         (Answers upgrade_of (R.remaining (inner_of reader.old)) (W.contents (inner_of writer.old))
         (W.contents (inner_of writer.new))) }
-    // The status is 0 exactly for the text of a history.
+    // The status is 0 exactly if the text is a history.
     ensures histories { IfOk result
         (λ status. IfSome (R.remaining (inner_of reader.old)) (λ input. (status ≡ 0) ↔ IsHistoryText input)) }
-    // To a history, the text of the upgraded header and of the events read is written.
+    // For a history the text of the upgraded header and of the events read is written.
     ensures upgraded { IfOk result
         (λ status. IfSome (R.remaining (inner_of reader.old))
         (λ input. (h : Heading) (events : List Event) → IsHistoryOf input h events
         → Appends (W.contents (inner_of writer.old)) (W.contents (inner_of writer.new))
         (text (upgraded_heading h) events))) }
-    // What is written to a history is answered by itself.
+    // If what is written for a history is read again, it is written unchanged.
     ensures again { IfOk result
         (λ status. status ≡ 0
         → IsUpgraded (Appends (W.contents (inner_of writer.old)) (W.contents (inner_of writer.new)))) }

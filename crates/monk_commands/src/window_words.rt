@@ -13,12 +13,12 @@ use std::alloc::Global;
 /// How many histories a page has at most.
 const MOST_PAGED: usize = 4;
 
-/// The events that are asked for, if any are.
+/// Returns the events that are asked for, if any are.
 ///
 /// # Errors
 ///
-/// [`LineFault::Words`] with what is said of a [`WindowFault`](monk_draw::WindowFault), in one line.
-/// [`LineFault::Memory`] where a growth was refused.
+/// [`LineFault::Words`] with the words of a [`WindowFault`](monk_draw::WindowFault), in one line.
+/// [`LineFault::Memory`] if a request for memory was refused.
 fn window_of(alloc: Global, matches: &ArgMatches<'_>) -> Result<Option<Window>, LineFault>
     ensures { IfOk result (λ window. IsWindowIn window (rows_of (found_of matches.now))) }
 {

@@ -17,13 +17,13 @@ pub(crate) enum Form {
     Required(ValueParser<'static>),
     /// An option without a value.
     Flag,
-    /// An option with a value that is called so, any number of times.
+    /// An option with a value of this name, any number of times.
     Repeated(&'static str),
-    /// An option with a value that is called so, and that the parser takes.
+    /// An option with a value of this name, which the parser takes.
     Chosen(&'static str, ValueParser<'static>),
 }
 
-/// A word of a command: its name, how it is written, and what the help says of it.
+/// A word of a command: its name, how it is written, and its help.
 #[derive(Clone, Copy)]
 pub(crate) struct Word(
     pub(crate) &'static str,
@@ -32,7 +32,7 @@ pub(crate) struct Word(
 );
 
 impl Word {
-    /// The argument of `clap` that reads it.
+    /// Returns the argument of `clap` that reads it.
     pub(crate) fn arg<'a>(self, alloc: Global) -> Arg<'a>
         ensures { IsOwnArg (word_rule self) result }
     {

@@ -18,7 +18,7 @@ use std::alloc::{AllocError, Global};
 
 const VERSION: &str = "1.0.0";
 
-/// The program with these commands.
+/// Returns the program with these commands.
 fn program<'a>(alloc: Global, commands: &'static [CommandWords]) -> Result<Command<'a>, AllocError>
     ensures { IfOk result (λ c. app_of c ≡ with_commands bare_app commands.entry.now) }
 {
@@ -29,7 +29,7 @@ fn program<'a>(alloc: Global, commands: &'static [CommandWords]) -> Result<Comma
     Ok(program)
 }
 
-/// The program without commands.
+/// Returns the program without commands.
 fn bare<'a>(alloc: Global) -> Result<Command<'a>, AllocError>
     ensures { IfOk result (λ c. app_of c ≡ bare_app) }
 {
@@ -37,7 +37,7 @@ fn bare<'a>(alloc: Global) -> Result<Command<'a>, AllocError>
     Ok(program.version(VERSION).subcommand_required(true))
 }
 
-/// The program with one command more.
+/// Returns the program with one more command.
 fn adding<'a>(program: Command<'a>, made: Command<'a>) -> Result<Command<'a>, AllocError>
     ensures { (a : App) → IsOwnApp a made.entry
         → IfOk result (λ r. app_of r ≡ with_subcommand (app_of program.entry) a.top) }
@@ -45,7 +45,7 @@ fn adding<'a>(program: Command<'a>, made: Command<'a>) -> Result<Command<'a>, Al
     program.subcommand(made)
 }
 
-/// The command of these words.
+/// Returns the command of these words.
 fn command<'a>(alloc: Global, words: &CommandWords) -> Result<Command<'a>, AllocError>
     ensures { IfOk result (IsOwnApp (command_app words.now)) }
 {
@@ -58,7 +58,7 @@ fn command<'a>(alloc: Global, words: &CommandWords) -> Result<Command<'a>, Alloc
     Ok(command)
 }
 
-/// clap's text, and what to do in place of an option that is gone.
+/// Returns clap's text, and advice if an option is used that is gone.
 fn fault_text(alloc: Global, words: &[&str], error: &clap::Error) -> Result<String, LineFault> {
     if error.kind() == ErrorKind::OutOfMemory {
         return Err(LineFault::Memory);
@@ -75,7 +75,7 @@ fn fault_text(alloc: Global, words: &[&str], error: &clap::Error) -> Result<Stri
     Ok(text)
 }
 
-/// What to do in place of an option that is gone, or of a kind where none stands any more.
+/// Returns what to do in place of an option that is gone, or of a kind where none may be now.
 fn advice_on(word: &str) -> Option<&'static str> {
     if word == "--lapses" {
         return Some("spurious wake-ups are always allowed and counted: leave --lapses out");
@@ -103,7 +103,7 @@ fn line_to_complete(alloc: Global, matches: &ArgMatches<'_>) -> Result<Line, Lin
     Ok(Line::Complete(file, kind))
 }
 
-/// What a command of that name asks for that takes a file alone.
+/// Returns what a command of that name asks for, if it takes a file alone.
 fn line_to_read(alloc: Global, name: &str, matches: &ArgMatches<'_>) -> Result<Line, LineFault>
     ensures { IfOk result (λ l. IsRead name.now l (rows_of (found_of matches.now))) }
 {
@@ -117,7 +117,7 @@ fn line_to_read(alloc: Global, name: &str, matches: &ArgMatches<'_>) -> Result<L
     }
 }
 
-/// What a command of that name asks for.
+/// Returns what a command of that name asks for.
 fn line_of(alloc: Global, name: &str, matches: &ArgMatches<'_>) -> Result<Line, LineFault>
     ensures { IfOk result (λ l. IsRead name.now l (rows_of (found_of matches.now))) }
 {
@@ -134,7 +134,7 @@ fn line_of(alloc: Global, name: &str, matches: &ArgMatches<'_>) -> Result<Line, 
     }
 }
 
-/// What the matches ask for.
+/// Returns what the matches ask for.
 fn asked(alloc: Global, matches: &ArgMatches<'_>) -> Result<Line, LineFault>
     ensures { IfOk result (λ l. IsAsked l (subcommand_rows_of matches.now)) }
 {
@@ -144,7 +144,7 @@ fn asked(alloc: Global, matches: &ArgMatches<'_>) -> Result<Line, LineFault>
     }
 }
 
-/// The program with its commands.
+/// Returns the program with its commands.
 fn monk<'a>(alloc: Global) -> Result<Command<'a>, AllocError>
     ensures { IfOk result (λ c. IsMonk (app_of c)) }
 {
@@ -154,14 +154,13 @@ fn monk<'a>(alloc: Global) -> Result<Command<'a>, AllocError>
 /// Reads the words, the program's own name first.
 ///
 /// The line is for the command that clap finds in the words, with the values that clap finds there:
-/// a file, a kind, or a kind and a sample, and whole numbers: of `classify` from 0 to 255, of `run`,
-/// `record` and `hasty` from 2 to 16 and from 1 to 1000.
+/// a file, a kind, or a kind and a sample, and whole numbers. For `classify` these are from 0 to
+/// 255. For `run`, `record` and `hasty` they are from 2 to 16 and from 1 to 1000.
 ///
 /// # Errors
 ///
-/// [`LineFault::Words`] with clap's own text where the words are no command of the program, and
-/// where they ask for help or for the version. [`LineFault::Memory`] if a request for memory was
-/// refused.
+/// [`LineFault::Words`] with clap's own text if the words are no command of the program, or if they
+/// ask for help or for the version. [`LineFault::Memory`] if a request for memory was refused.
 pub fn line(alloc: Global, words: &[&str]) -> Result<Line, LineFault>
     ensures { IfOk result (λ l. (a : App)
         × (IsMonk a × IsAsked l (subcommand_of a (map (λ w. w.now) words.entry.now)))) }

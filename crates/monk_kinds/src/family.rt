@@ -1,4 +1,4 @@
-//! The families of kinds: a bound on one says which operations a kind has.
+//! The families of kinds. A bound on a family says which operations a kind has.
 
 ghost use Rattle.std.specs.Prelude.{◌≡◌, ◌≢◌};
 
@@ -32,7 +32,7 @@ pub trait NonBlocking: Explicit {
     ghost mode: { Self.MODE ≡ NonBlockingMode };
 }
 
-/// A kind that has the signaller and the task that it signalled at one priority.
+/// A kind whose signaller has the same priority as the task that it signalled.
 pub trait QuasiBlocking: Explicit {
     ghost use Rattle.monk_kinds.specs.declared.mode.Mode.TheVariants.{QuasiBlocking as QuasiBlockingMode};
 

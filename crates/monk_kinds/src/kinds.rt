@@ -1,5 +1,5 @@
-//! The ten kinds, a file for each mode. Of its two the first ("priority") has entry below each other queue that
-//! it has, and the second ("non-priority") has a tie with entry.
+//! The ten kinds, a file for each mode. Each mode has two kinds. In the first ("priority") entry is below each
+//! other queue of the kind. In the second ("non-priority") entry ties with another queue.
 
 mod automatic;
 mod blocking;

@@ -1,5 +1,5 @@
-//! What holds of the types and of the lists of the kinds and of the orderings. The contract of each
-//! function is the law.
+//! What holds for the types and for the lists of the kinds and of the orderings. The contract of each function is
+//! the law.
 ghost use Rattle.std.specs.Prelude.{◌≡◌};
 ghost use Rattle.monk_kinds.specs.Names.{kind_word, kinds, StandsOnce};
 ghost use Rattle.monk_kinds.specs.Orderings.{ordering_text};
@@ -13,19 +13,19 @@ use crate::{
     Pnb, Pqb, QuasiBlocking,
 };
 
-/// Every kind stands in `KindName::ALL` exactly once, in the order in which a number names it.
+/// Every kind is in `KindName::ALL` exactly once, in the order of the kinds' numbers.
 pub fn every_kind_is_listed()
     ensures once { (k : KindName) → StandsOnce kind_word KindName.ALL k }
     ensures order { KindName.ALL ≡ kinds }
 {}
 
-/// Every ordering stands in `Ordering13::ALL` exactly once.
+/// Every ordering is in `Ordering13::ALL` exactly once.
 pub fn every_ordering_is_listed()
     ensures { (o : Ordering13) → StandsOnce ordering_text Ordering13.ALL o }
 {}
 
-/// The ten types, by the names under which this crate exports them, are the ten kinds, in the order of
-/// `KindName::ALL`: so no name leads to another kind's type. Each is asked for its name by the bound of its family.
+/// The ten types that this crate exports are the ten kinds, in the order of `KindName::ALL`. So no name leads to
+/// another kind's type. Each type is asked for its name by the bound of its family.
 pub fn each_type_is_its_kind() -> [KindName; 10]
     ensures { result ≡ kinds }
 {
@@ -43,35 +43,35 @@ pub fn each_type_is_its_kind() -> [KindName; 10]
     ]
 }
 
-/// The name of a kind whose signaller waits.
+/// Returns the name of a kind whose signaller waits.
 fn blocking<K: Blocking>() -> KindName
     ensures { result ≡ K.NAME }
 {
     K::NAME
 }
 
-/// The name of a kind whose signaller goes on.
+/// Returns the name of a kind whose signaller goes on.
 fn non_blocking<K: NonBlocking>() -> KindName
     ensures { result ≡ K.NAME }
 {
     K::NAME
 }
 
-/// The name of a kind that has both at one priority.
+/// Returns the name of a kind whose signaller ties with the signalled task.
 fn quasi_blocking<K: QuasiBlocking>() -> KindName
     ensures { result ≡ K.NAME }
 {
     K::NAME
 }
 
-/// The name of a kind whose signaller leaves.
+/// Returns the name of a kind whose signaller leaves.
 fn immediate_return<K: ImmediateReturn>() -> KindName
     ensures { result ≡ K.NAME }
 {
     K::NAME
 }
 
-/// The name of a kind without signals.
+/// Returns the name of a kind without signals.
 fn automatic<K: Automatic>() -> KindName
     ensures { result ≡ K.NAME }
 {

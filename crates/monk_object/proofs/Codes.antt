@@ -40,7 +40,7 @@ joined : (first second rest others before between after : ℕ) → first + befor
     → first + rest + before ≡ second + others + after
 joined first second rest others before between after one more = omega arith
 
--- an operation in front: what came is what went and what is there
+-- a list with one more operation in front: what came is what went and what is there
 pub counted : (came went : ℕ) (act : Answered) (acts : List Answered) (before between after : ℕ)
     → cond (is_done came act) 1 0 + before ≡ cond (is_done went act) 1 0 + between
     → times_done came acts + between ≡ times_done went acts + after

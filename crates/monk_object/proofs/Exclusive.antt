@@ -10,7 +10,7 @@ use Rattle.monk_object.specs.Runs.{Answered, state_after, answers_of, times_done
 use Rattle.monk_object.specs.declared.op.Op.{Op}
 use Rattle.monk_object.proofs.Codes.{both, by_code, once, once-false, counted}
 
--- the state after, where one operation of this code may be served
+-- the state after an operation of this code, if it may be served
 record Step (size readers writers code : ℕ) (served : Bool) (next : List ℕ) : Type 0 where
   readers_next : ℕ
   writers_next : ℕ

@@ -9,7 +9,7 @@ use Rattle.monk_object.specs.Laws.{IsFirstInFirstOut, items_put, items_taken}
 use Rattle.monk_object.specs.Runs.{Answered, state_after, answers_of, is_done}
 use Rattle.monk_object.specs.declared.op.Op.{Op}
 
--- of tests for a put, for a take and for room: the reply, the items after, the items that were put and taken
+-- from tests for a put, a take and room: the reply, the items after, and the items put and taken
 abbrev reply_by : Bool → Bool → Bool → List ℕ → ℕ
 reply_by put take room items = cond put (cond room 1 0) (cond take (take_reply items) 0)
 
@@ -44,7 +44,7 @@ fits_by size false true room [] arg fits less = fits
 fits_by size false true room (x ∷ xs) arg fits less = omega arith
 fits_by size false false room items arg fits less = fits
 
--- an operation in front
+-- a list with one more operation in front
 mapped : (f : Answered → ℕ) (b : Bool) (act : Answered) (acts : List Answered)
     → map f (cond b (act ∷ acts) acts) ≡ cond b (f act ∷ []) [] ++ map f acts
 mapped f true act acts = refl

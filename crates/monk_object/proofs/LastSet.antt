@@ -17,7 +17,7 @@ record Run (size bits : ℕ) (start : List ℕ) (ops : List Op) : Type 0 where
   in_order : bits ∷ bits_set (answers_of flags_meaning start ops) ≡ earlier ++ last ∷ []
   within : last < 2 ^ size
 
--- an operation in front, of which it is known whether it is a set and whether the bits fit
+-- one more operation in front, if it is known whether it is a set and whether the bits fit
 abbrev set_by : Bool → Bool → ℕ → List ℕ
 set_by code fits arg = cond (code && nat_lt 0 (cond (code && fits) 1 0)) (arg ∷ []) []
 

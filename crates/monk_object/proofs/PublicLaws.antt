@@ -1,4 +1,4 @@
--- What other crates may cite of these proofs: nothing else of `proofs` is public.
+-- What other crates may cite from these proofs: nothing else in `proofs` is public.
 
 -- A shop loses no customer
 pub use Rattle.monk_object.proofs.Customers.{customers}

@@ -10,7 +10,7 @@ use Rattle.monk_object.specs.declared.name.ObjectName.TheVariants.{Buffer, Book,
 abbrev pub spaced : List ℕ → List ℕ
 spaced numbers = flat_map (λ n. codes " " ++ decimal n) numbers
 
--- how many do it: none and one in words, with the verb for one, and any other number with the verb for many
+-- how many do it: 0 and 1 as words, with the verb for one, and any other number with the verb for many
 abbrev pub how_many : ℕ → List ℕ → List ℕ → List ℕ
 how_many n does do_it =
     if n == 0 then codes "none " ++ does
@@ -33,7 +33,7 @@ book_in_words state =
     how_many (get_or state 1 0) (codes "reads") (codes "read") ++ (codes ", "
     ++ how_many (get_or state 2 0) (codes "writes") (codes "write"))
 
--- what a chair of that number is
+-- the words for a chair of that number
 abbrev pub chair_in_words : ℕ → List ℕ
 chair_in_words chair =
     if chair == 0 then codes "chair empty"
@@ -45,7 +45,7 @@ abbrev pub shop_in_words : List ℕ → List ℕ
 shop_in_words state =
     how_many (get_or state 1 0) (codes "sits") (codes "sit") ++ (codes ", " ++ chair_in_words (get_or state 2 0))
 
--- the bits that are set below that place, each with a space before it
+-- the set bits below that place, each with a space before it
 unfoldable pub bits_below : ℕ → ℕ → List ℕ
 bits_below bits zero = []
 bits_below bits (suc place) =
@@ -56,7 +56,7 @@ abbrev pub flags_in_words : List ℕ → List ℕ
 flags_in_words state =
     if get_or state 1 0 == 0 then codes "no bit set" else codes "bits set:" ++ bits_below (get_or state 1 0) 32
 
--- the state of the object of that name
+-- the words for the state of the object of that name
 abbrev pub state_in_words : ObjectName → List ℕ → List ℕ
 state_in_words Buffer state = buffer_in_words state
 state_in_words Book state = book_in_words state

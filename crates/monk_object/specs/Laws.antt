@@ -1,4 +1,4 @@
--- What holds of every list of operations on an object made with some size
+-- What holds for every list of operations on an object made with some size
 use Rattle.std.specs.Prelude.{◌≡◌, ℕ, ◌+◌, ◌-◌, ◌^◌, ◌<◌, ◌≤◌, ◌==◌, ◌⊎◌, List, [], ◌∷◌, ◌++◌, length, map, filter, if◌then◌else◌}
 use Rattle.monk_object.specs.Buffer.{PUT, TAKE}
 use Rattle.monk_object.specs.Book.{START_READ, END_READ, START_WRITE, END_WRITE}
@@ -10,7 +10,7 @@ use Rattle.monk_object.specs.declared.name.ObjectName.{ObjectName}
 use Rattle.monk_object.specs.declared.name.ObjectName.TheVariants.{Buffer, Book, Shop, Flags}
 use Rattle.monk_object.specs.declared.op.Op.{Op}
 
--- of the object of that name and size: its state after the operations, and these with their replies
+-- the state after the operations, from the opening state of the object of that name and size
 abbrev pub state_of : ObjectName → ℕ → List Op → List ℕ
 state_of o size ops = state_after (meaning_named o) (opening_named o size) ops
 
@@ -26,15 +26,15 @@ items_put acts = map (λ act. act.op.arg) (filter (is_done PUT) acts)
 abbrev pub items_taken : List Answered → List ℕ
 items_taken acts = map (λ act. act.reply - 1) (filter (is_done TAKE) acts)
 
--- a buffer: what was put is what was taken and then what is there, in order, and never more than the size is there
+-- a buffer: the items put are those taken and then those there, in order; there are never more than its size
 pub record IsFirstInFirstOut (size : ℕ) (ops : List Op) : Type 0 where
   pub items : List ℕ
   pub state : state_of Buffer size ops ≡ size ∷ items
   pub in_order : items_put (acts_of Buffer size ops) ≡ items_taken (acts_of Buffer size ops) ++ items
   pub within : length items ≤ size
 
--- a book: there is at most one writer, never beside a reader, and never more readers than the size; whoever started
--- and has not ended is there
+-- a book: there is at most one writer, never beside a reader, and never more readers than the size; all who started
+-- and have not ended are there
 pub record IsExclusive (size : ℕ) (ops : List Op) : Type 0 where
   pub readers : ℕ
   pub writers : ℕ
@@ -45,8 +45,8 @@ pub record IsExclusive (size : ℕ) (ops : List Op) : Type 0 where
   pub reads : times_done START_READ (acts_of Book size ops) ≡ times_done END_READ (acts_of Book size ops) + readers
   pub writes : times_done START_WRITE (acts_of Book size ops) ≡ times_done END_WRITE (acts_of Book size ops) + writers
 
--- a shop: whoever sat down was called or sits, whoever was called was served or is in the chair, and whoever was
--- served departed or is still in the chair
+-- a shop: all who sat down were called or sit; all who were called were served, except one in the chair; all who
+-- were served departed, except one who is still in the chair
 pub record LosesNoCustomer (size : ℕ) (ops : List Op) : Type 0 where
   pub sitting : ℕ
   pub chair : ℕ
@@ -62,7 +62,7 @@ pub record LosesNoCustomer (size : ℕ) (ops : List Op) : Type 0 where
 abbrev pub bits_set : List Answered → List ℕ
 bits_set acts = map (λ act. act.op.arg) (filter (is_done SET) acts)
 
--- flags: the bits are those of the last set that was done, and none before the first; there is a flag for each
+-- flags: the bits are those of the last set that was done, 0 before the first; there is a flag for each bit
 pub record HoldsTheLastSet (size : ℕ) (ops : List Op) : Type 0 where
   pub bits : ℕ
   pub earlier : List ℕ

@@ -1,5 +1,5 @@
--- An operation that is answered 0 changes nothing: what the objects say of themselves, so it stands
--- here and not among the proofs
+-- An operation with the reply 0 changes nothing. The objects say this about themselves, so it is
+-- here and not among the proofs.
 use Rattle.std.proofs.Common.{◌≡◌, ℕ, ◌+◌, ◌==◌, Bool, true, false, cond, List, [], ◌∷◌, ◌++◌, length, drop, refl, sym, ap, ◌∙◌, add-one}
 use Rattle.std.proofs.Math.Dec.{eqb-suc-zero}
 use Rattle.std.proofs.lemmas.Bool.{false≢true}
@@ -32,7 +32,7 @@ state_stays : (served : Bool) (next state : List ℕ) → ◌≡◌ {A = ℕ} (c
 state_stays true next state e = absurd (one_is_more e)
 state_stays false next state e = refl
 
--- an operation that is answered 0 changes nothing, of each object
+-- for each object: an operation with the reply 0 changes nothing
 pub refused : (o : ObjectName) → KeepsWhatItRefuses (meaning_named o)
 refused Buffer [] op e = refl
 refused Buffer (size ∷ items) op e =

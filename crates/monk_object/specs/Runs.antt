@@ -9,16 +9,16 @@ pub record Answered : Type 0 where
   pub op : Op
   pub reply : ℕ
 
--- from a state, the state after the operations
+-- the state after the operations, from a first state
 abbrev pub state_after : Object → List ℕ → List Op → List ℕ
 state_after o state ops = fold o.after state ops
 
--- from a state, the operations with their replies
+-- the operations with their replies, from a first state
 abbrev pub answers_of : Object → List ℕ → List Op → List Answered
 answers_of o state [] = []
 answers_of o state (op ∷ ops) = record { op = op; reply = o.reply state op } ∷ answers_of o (o.after state op) ops
 
--- it is of that code and was done
+-- the operation has that code and was done
 abbrev pub is_done : ℕ → Answered → Bool
 is_done code act = act.op.code == code && nat_lt 0 act.reply
 
@@ -26,6 +26,6 @@ is_done code act = act.op.code == code && nat_lt 0 act.reply
 abbrev pub times_done : ℕ → List Answered → ℕ
 times_done code acts = count_by (is_done code) acts
 
--- the object refused it, and so is as it was (`IsUnchangedByRefusal`)
+-- the object refused the operation, so it is unchanged (`KeepsWhatItRefuses`)
 abbrev pub is_refused : Answered → Bool
 is_refused act = act.reply == 0

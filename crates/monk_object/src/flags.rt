@@ -9,8 +9,8 @@ use crate::name::ObjectName;
 use crate::op::Op;
 use std::marker::Model;
 
-/// Flags that the active seat sets, all at once: what a program tells of data that it keeps to itself. Predicate `p`
-/// is that bit `p` is set. Contracts see it as the number of flags and the bits.
+/// Flags that the active seat sets, all at once. A program shows by them what holds for data that it keeps to
+/// itself. Predicate `p` is that bit `p` is set. Contracts see them as the number of flags and the bits.
 #[derive(Drop)]
 pub struct Flags {
     size: u8,
@@ -28,12 +28,12 @@ impl Model for Flags {
 }
 
 impl Flags {
-    /// The code of setting the bits to the argument: done where there is a flag for each bit, with the reply 1.
+    /// The operation that sets the bits to the argument. It is done, with reply 1, if there is a flag for each bit.
     pub const SET: u8 = 0;
 
-    /// That many flags, none of them set.
+    /// Makes `size` flags, none of them set.
     ///
-    /// Error `Size` where `size` is 0 or above `ObjectName::Flags.greatest_size()`; no other.
+    /// Error `Size` if `size` is 0 or above `ObjectName::Flags.greatest_size()`; no other.
     pub fn make(size: u8) -> Result<Self, ObjectFault>
         ensures made { IfOk result (λ b. b ≡ opening_named FlagsName size) }
         ensures within { OnOk result ((1 ≤ size) × (size ≤ most FlagsName)) }

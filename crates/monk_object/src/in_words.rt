@@ -33,7 +33,7 @@ impl fmt::Display for InWords<'_> {
     }
 }
 
-/// The number at that place of a state, or 0.
+/// Returns the number at that place of a state, or 0 if there is none.
 fn number_at(state: &[u64], place: usize) -> u64
     ensures { result ≡ get_or state.now place 0 }
 {
@@ -43,7 +43,7 @@ fn number_at(state: &[u64], place: usize) -> u64
     }
 }
 
-/// How many do something, with the verb for one of them and the verb for many.
+/// A number of tasks that do something, with the verb for one of them and the verb for many.
 #[derive(Clone, Copy)]
 struct HowMany(u64, &'static str, &'static str);
 
@@ -104,7 +104,7 @@ impl fmt::Display for BookState<'_> {
     }
 }
 
-/// What a chair of that number is.
+/// Returns the words for a chair of that number.
 fn chair_in_words(chair: u64) -> &'static str
     ensures { result.now ≡ chair_in_words chair }
 {
@@ -130,7 +130,7 @@ impl fmt::Display for ShopState<'_> {
 /// No object has more flags.
 const MOST_FLAGS: u8 = 32;
 
-/// Whether the bit at that place is set.
+/// Whether the bit at `place` is set.
 fn is_set(bits: u64, place: u8) -> bool
     requires { place < MOST_FLAGS }
     ensures { result ≡ (bit_at bits place == 1) }

@@ -11,7 +11,7 @@ pub fn judge(alloc: Global, header: &Header, events: &[Event]) -> Result<Verdict
     audit(alloc, header, events)
 }
 
-/// How many events are legal, or the first that isn't, and the number of the reason.
+/// Returns how many events are legal, or the first that isn't and the number of the reason.
 pub fn parts_of_verdict(verdict: Verdict) -> Result<u32, (u32, u8)> {
     match verdict {
         Verdict::Legal(count) => Ok(count),

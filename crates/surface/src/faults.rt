@@ -69,7 +69,7 @@ pub fn line_fault(fault: &LineFault) {
     prove!(told == number);
 }
 
-/// The number of a fault of a text, and its line.
+/// Returns the number of a fault of a text, and its line.
 pub fn parts_of_read_fault(fault: ReadFault) -> (u8, u32) {
     let ReadFault { number, line } = fault;
     (number, line)

@@ -1,4 +1,4 @@
-//! The floor's releases by the path of each mode. A call is there where its family is.
+//! The floor's releases by the path of each mode. A kind has the calls of its families.
 ghost use Rattle.std.specs.Prelude.{◌<◌};
 ghost use Rattle.monk_history.specs.Meaning.Counts.{left_of};
 ghost use Rattle.monk_floor.specs.Releases.{MayCallOn};
@@ -72,7 +72,7 @@ pub fn until<K: Automatic, T: Guarded>(
     floor.until(seat, pred, pick, entry_known)
 }
 
-/// How many it served.
+/// Returns how many it served.
 pub fn signal_all<K: NonBlocking, T: Guarded>(floor: &mut Floor<K, T>, seat: u8, cond: u8) -> u32
     requires call { MayCallOn K.rules T.meaning floor.old (Event.SignalAll seat cond) }
     requires left { 0 < left_of floor.old.budget floor.old.history seat }

@@ -1,4 +1,4 @@
-//! The calls by which an active seat lets another one in. A call is there where its family is.
+//! The calls by which an active seat lets another one in. A kind has the calls of its families.
 ghost use Rattle.std.specs.Prelude.{◌≡◌, ◌+◌, ◌<◌, ◌≤◌, length};
 
 use monk_hall::{Active, After, Hall, Parked, Pass};
@@ -44,7 +44,7 @@ pub fn signal_stay<K: NonBlocking, T: Guarded>(active: &mut Active<K, T>, cond: 
     active.signal_stay(cond);
 }
 
-/// How many it served.
+/// Returns how many it served.
 pub fn signal_all<K: NonBlocking, T: Guarded>(active: &mut Active<K, T>, cond: u8) -> u32
     requires cond { cond < active.old.me.setting.conds }
     requires left { length active.old.me.mine + 2 ≤ active.old.me.setting.budget }

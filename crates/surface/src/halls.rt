@@ -36,7 +36,7 @@ pub fn poll<K: Kind, T: Guarded>(
     parked.poll(hall)
 }
 
-/// The only call that waits.
+/// This is the only call that waits.
 pub fn resume<K: Kind, T: Guarded, R: Wait>(
     parked: Parked<K, T>,
     rt: &R,
@@ -78,7 +78,7 @@ pub fn history<K: Kind, T: Guarded>(active: &Active<K, T>) -> &[Event] {
     active.history()
 }
 
-/// The seat of each token, and how many events are left to it.
+/// The seat of each token, and how many events it has left.
 pub fn numbers_of_pass<K: Kind, T: Guarded>(pass: &Pass<K, T>) -> (u8, u32) {
     (pass.seat(), pass.left())
 }
@@ -136,7 +136,7 @@ pub fn is_complete<K: Kind, T: Guarded>(history: &[Event], seat: u8, passes: &[P
     complete(history, seat, passes)
 }
 
-/// A hall and a pass may be dropped; of the tokens no other may.
+/// A hall and a pass may be dropped. No other token may.
 pub fn may_be_dropped<K: Kind, T: Guarded>() {
     is_droppable::<Hall<K, T>>();
     is_droppable::<Pass<K, T>>();

@@ -1,13 +1,12 @@
 //! The surface of `monk`, word for word: each type, variant, field, call, order of parameters, bound
 //! and result that a client may rely on.
 //!
-//! The lines of this crate aren't changed. Whoever changes the surface has to change this crate, and
-//! that is the point: what grows stands beside the surface, in types, calls and commands of its own.
-//! Of each enum one match names every variant there is. Two enums have grown:
-//! [`monk_object::ObjectName`] by `Flags`, which is named, and [`monk_commands::Line`] by the
-//! commands that came later, which are not.
+//! The lines of this crate aren't changed. A change of the surface has to change this crate, and that
+//! is the point: what is new is beside the surface, in types, calls and commands of its own. For each
+//! enum one match names every variant. Two enums have grown: [`monk_object::ObjectName`] by `Flags`,
+//! which is named, and [`monk_commands::Line`] by the commands that came later, which are not.
 //!
-//! Each call stands in a function of its own, which requires what the call requires and nothing more.
+//! Each call is in a function of its own, which requires what the call requires and nothing more.
 #![tactic(auto)]
 
 pub mod audits;

@@ -47,7 +47,7 @@ pub fn holds<T: Guarded>(object: &T, pred: u8) -> bool
     object.holds(pred)
 }
 
-/// How many operations and how many predicates it has.
+/// Returns how many operations and how many predicates it has.
 pub fn counts<T: Guarded>() -> [u8; 2] {
     [T::CODES, T::PREDICATES]
 }

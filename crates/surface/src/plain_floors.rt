@@ -72,7 +72,7 @@ pub fn plain_until<K: Kind, T: Guarded>(
     floor.plain_until(seat, pred, pick, entry_known)
 }
 
-/// How many it served.
+/// Returns how many it served.
 pub fn plain_signal_all<K: Kind, T: Guarded>(floor: &mut Floor<K, T>, seat: u8, cond: u8) -> u32
     requires call { MayCallOn K.rules T.meaning floor.old (Event.SignalAll seat cond) }
     requires left { 0 < left_of floor.old.budget floor.old.history seat }

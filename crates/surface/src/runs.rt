@@ -37,7 +37,7 @@ pub fn parts_of_outcome(outcome: Outcome) -> ([u64; 4], Header, Vec<Event>) {
     (totals, header, history)
 }
 
-/// A gate of a client's own.
+/// A gate that a client defines.
 pub struct ShutGate;
 
 impl Gate for ShutGate {

@@ -13,7 +13,7 @@ use monk_object::{ObjectName, Op};
 use std::alloc::Global;
 use std::io::{Read, Write};
 
-/// The ten events; the seat stands first.
+/// The ten events. The seat comes first.
 pub fn seat_of(event: Event) -> u8 {
     match event {
         Event::Enter(seat, Via::Free | Via::Handed) => seat,
@@ -29,7 +29,7 @@ pub fn seat_of(event: Event) -> u8 {
     }
 }
 
-/// The condition or the predicate stands second; of two conditions this is the second one.
+/// The condition or the predicate comes second. Of two conditions, this is the second one.
 pub fn second_of(event: Event) -> Option<u8> {
     match event {
         Event::Wait(_, cond, _) => Some(cond),
@@ -42,7 +42,7 @@ pub fn second_of(event: Event) -> Option<u8> {
     }
 }
 
-/// The choice stands last.
+/// The choice comes last.
 pub fn choice_of(event: Event) -> Option<Next> {
     match event {
         Event::Leave(_, next) => Some(next),
@@ -55,7 +55,7 @@ pub fn choice_of(event: Event) -> Option<Next> {
     }
 }
 
-/// The reply of an act stands last.
+/// The reply of an act comes last.
 pub fn reply_of(event: Event) -> Option<u64> {
     match event {
         Event::Act(_, _, reply) => Some(reply),
@@ -83,7 +83,7 @@ pub fn header(
     Header::new(kind, seats, conds, object, size)
 }
 
-/// The reader of each part of a header.
+/// Reads each part of a header.
 pub fn parts_of_header(header: &Header) -> (KindName, u8, u8, ObjectName, u8) {
     (
         header.kind(),
@@ -135,7 +135,7 @@ pub fn has_device_failed<D>(device: &Device<D>) -> bool {
     device.failed()
 }
 
-/// A device reads where what it holds reads, and writes where that writes.
+/// A device reads if its inner value does, and writes if that does.
 pub fn passes_on<R: Read, W: Write>() {
     is_reader::<Device<R>>();
     is_writer::<Device<W>>();

@@ -34,7 +34,7 @@ pub fn play(alloc: Global, bytes: &[u8]) -> Result<(Header, u32, Vec<(u8, Comman
     read_play(alloc, bytes)
 }
 
-/// The fourteen commands; the wish stands last.
+/// The fourteen commands. The wish comes last.
 pub fn wish_of(command: Command) -> Option<Pick> {
     match command {
         Command::Arrive | Command::Look | Command::Out => None,
@@ -50,7 +50,7 @@ pub fn wish_of(command: Command) -> Option<Pick> {
     }
 }
 
-/// The condition or the predicate stands first; of two conditions this is the second one.
+/// The condition or the predicate comes first. Of two conditions, this is the second one.
 pub fn place_of(command: Command) -> Option<u8> {
     match command {
         Command::Wait(cond, _) => Some(cond),
@@ -63,7 +63,7 @@ pub fn place_of(command: Command) -> Option<u8> {
     }
 }
 
-/// The thirteen answers, four of which are refusals; this is the choice.
+/// The thirteen answers. Four of them are refusals. This is the choice.
 pub fn choice_of(answer: Answer) -> Option<Next> {
     match answer {
         Answer::Chose(next) => Some(next),
@@ -82,7 +82,7 @@ pub fn arrived(answer: Answer) -> Option<(u32, u32)> {
     }
 }
 
-/// The number that the others of 32 bits tell.
+/// The number in the other answers that have one of 32 bits.
 pub fn count_of(answer: Answer) -> Option<u32> {
     match answer {
         Answer::Found(count) => Some(count),

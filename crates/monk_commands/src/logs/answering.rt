@@ -22,14 +22,14 @@ use monk_judge::{Misfit, WaitsFor};
 use monk_logs::{LogHeader, LogLine, find_crossed, read_log};
 use std::alloc::{AllocError, Global};
 
-/// Whether the first word of the text is that of a log.
+/// Whether the first word of the text is `log`.
 pub(crate) fn is_log(bytes: &[u8]) -> bool
     ensures { result ≡ answered.is_log_text bytes.now }
 {
     bytes.starts_with(b"log ")
 }
 
-/// The seat of the line that misfits; 0 if none does.
+/// Returns the seat of the line that misfits, or 0 if none does.
 fn wrong_seat(misfit: Option<Misfit>, lines: &[LogLine]) -> u8
     ensures { result ≡ found.wrong_seat misfit lines.now }
 {
@@ -42,7 +42,7 @@ fn wrong_seat(misfit: Option<Misfit>, lines: &[LogLine]) -> u8
     }
 }
 
-/// What is found of a log.
+/// Returns what is found for a log.
 fn finding(
     alloc: Global,
     means: &[WaitsFor],
@@ -61,7 +61,7 @@ fn finding(
     })
 }
 
-/// The answer that tells by this line why nothing is found.
+/// Returns the answer that says by this line why nothing is found.
 fn refused(alloc: Global, view: LogView, name: &str, line: String) -> Result<LineAnswer, AllocError>
     ensures { IfOk result
         (λ a. (a.status ≡ 2) × answered.Says view (string_bytes line) (string_bytes a.text)) }
@@ -76,7 +76,7 @@ fn refused(alloc: Global, view: LogView, name: &str, line: String) -> Result<Lin
     }
 }
 
-/// The answer to a log that is judged.
+/// Returns the answer to a log that is judged.
 fn judged(
     alloc: Global,
     view: LogView,
@@ -96,7 +96,7 @@ fn judged(
     Ok(LineAnswer { status, text })
 }
 
-/// The answer to a log that was read.
+/// Returns the answer to a log that was read.
 fn answer_to_read(
     alloc: Global,
     view: LogView,
@@ -114,7 +114,7 @@ fn answer_to_read(
     }
 }
 
-/// The log that has this text. The text isn't kept, since it takes a third of what its lines take.
+/// Reads the log that has this text. The text isn't kept: it takes a third of the lines' memory.
 fn read_and_drop(alloc: Global, bytes: Vec<u8>) -> Result<(LogHeader, Vec<LogLine>), ReadFault>
     ensures few { IfOk result (λ r. length r.1.items ≤ 2 ^ 25) }
     ensures exact { Gives log_view result (log_at (2 ^ 25) bytes.items) }
@@ -122,7 +122,7 @@ fn read_and_drop(alloc: Global, bytes: Vec<u8>) -> Result<(LogHeader, Vec<LogLin
     read_log(alloc, &bytes)
 }
 
-/// The answer to the text of a log.
+/// Returns the answer to the text of a log.
 pub(crate) fn answer_to_log(
     alloc: Global,
     view: LogView,

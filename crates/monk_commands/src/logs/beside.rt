@@ -1,4 +1,4 @@
-//! What stands in the file beside a log.
+//! The file that a recorder writes beside a log.
 
 /// The row with which a recorder says that the program ended by itself.
 const ENDED: &[u8] = b"ended by itself";

@@ -1,4 +1,4 @@
-//! What led to a misfit or to a bad end, as an explanation tells it.
+//! What led to a misfit or to a bad end, for an explanation.
 
 use crate::logs::finding::Finding;
 use crate::logs::lines_told::LinesTold;
@@ -9,7 +9,7 @@ use monk_judge::{Blame, Misfit};
 use monk_logs::LogLine;
 use std::alloc::AllocError;
 
-/// Puts the lines to look at, each with a sentence.
+/// Writes the lines to look at, each with a sentence.
 pub(crate) fn put_cause(
     told: &mut LinesTold<'_>,
     trails: &Trails,
@@ -21,7 +21,7 @@ pub(crate) fn put_cause(
     }
 }
 
-/// Puts the line that misfits, and what led to it.
+/// Writes the line that misfits, and what led to it.
 fn put_misfit(
     told: &mut LinesTold<'_>,
     trail: Trail,
@@ -43,7 +43,7 @@ fn put_misfit(
     }
 }
 
-/// Puts on what a seat relied whose act has another reply: what it tested before its wait, or before it came in.
+/// Writes why a seat's act has another reply: it relied on what it tested before its wait, or before it came in.
 fn put_reliance(told: &mut LinesTold<'_>, seat: u8, trail: Trail) -> Result<(), AllocError> {
     match (trail.since, trail.woken, trail.waited) {
         (None, _, _) => Ok(()),
@@ -59,7 +59,7 @@ fn put_reliance(told: &mut LinesTold<'_>, seat: u8, trail: Trail) -> Result<(), 
     }
 }
 
-/// Puts who woke the seat, and who came in before it was back.
+/// Writes who woke the seat, and who came in before it was back.
 fn put_woken(
     told: &mut LinesTold<'_>,
     seat: u8,
@@ -82,7 +82,7 @@ fn put_woken(
     )
 }
 
-/// The first line between these two with which another seat takes the lock.
+/// Returns the first line between these two with which another seat takes the lock.
 fn taken_between(lines: &[LogLine], seat: u8, from: usize, to: usize) -> Option<usize> {
     for (index, line) in lines.iter().enumerate() {
         let takes_lock = matches!(
@@ -96,7 +96,7 @@ fn taken_between(lines: &[LogLine], seat: u8, from: usize, to: usize) -> Option<
     None
 }
 
-/// Puts what to look at in a log that fits.
+/// Writes what to look at in a log that fits.
 fn put_end(told: &mut LinesTold<'_>, finding: &Finding) -> Result<(), AllocError> {
     let (report, tally) = (&finding.report, &finding.report.tally);
     told.put(

@@ -49,8 +49,8 @@ fn answer_to_log(
     Ok(given(alloc, header, &run)?)
 }
 
-/// A run that tells the text of a log, or why there is none. See [`Task::Complete`](crate::Task::Complete). It fails
-/// only for want of memory.
+/// Returns a run that tells the text of a log, or why there is none. See [`Task::Complete`](crate::Task::Complete).
+/// It fails only for want of memory.
 pub fn run_answer(alloc: Global, bytes: &[u8]) -> Result<LineAnswer, AllocError>
     ensures { IfOk result (λ a. IsRunAnswer bytes.now a.status (string_bytes a.text)) }
 {

@@ -18,7 +18,7 @@ use monk_logs::{LogHeader, LogLine, read_log};
 use monk_page::ShownRun;
 use std::alloc::{AllocError, Global};
 
-/// The lines that are drawn: those up to the one that misfits.
+/// Returns the lines that are drawn: those up to the one that misfits.
 fn drawn_lines(misfit: Option<Misfit>, lines: &[LogLine]) -> &[LogLine]
     ensures { result.now ≡ drawn.drawn_lines misfit lines.now }
 {
@@ -28,7 +28,7 @@ fn drawn_lines(misfit: Option<Misfit>, lines: &[LogLine]) -> &[LogLine]
     }
 }
 
-/// What the picture says of the line that misfits, if one does.
+/// Returns what the picture says about the line that misfits, if one does.
 fn reason(alloc: Global, misfit: Option<Misfit>) -> Result<String, AllocError> {
     match misfit {
         None => Ok(String::new(alloc)),
@@ -39,7 +39,7 @@ fn reason(alloc: Global, misfit: Option<Misfit>) -> Result<String, AllocError> {
     }
 }
 
-/// The picture of a run, or the page with it.
+/// Returns the picture of a run, or the page with it.
 fn shown(
     alloc: Global,
     show: Show<'_>,
@@ -75,7 +75,7 @@ fn shown(
     })
 }
 
-/// The exit status: 1 if the log misfits.
+/// Returns the exit status: 1 if the log misfits.
 fn status(misfit: Option<Misfit>) -> u8
     ensures { result ≡ drawn.status_of misfit }
 {
@@ -85,7 +85,7 @@ fn status(misfit: Option<Misfit>) -> u8
     }
 }
 
-/// The same, if the lines that are asked for begin with one of those that are drawn.
+/// Returns the same, if the lines that are asked for begin with one that is drawn.
 fn shown_if_there(
     alloc: Global,
     show: Show<'_>,
@@ -105,7 +105,7 @@ fn shown_if_there(
     shown(alloc, show, window, header, run, lines)
 }
 
-/// The answer to a log that was read.
+/// Returns the answer to a log that was read.
 fn answer_to_read(
     alloc: Global,
     show: Show<'_>,
@@ -125,8 +125,8 @@ fn answer_to_read(
     shown_if_there(alloc, show, window, header, &run, drawn)
 }
 
-/// The picture or the page of a log, from its text, with a column for each line up to the one that misfits; or why
-/// there is none. See [`Task::Draw`](crate::Task::Draw). It fails only for want of memory.
+/// Returns the picture or the page of a log, from its text, or why there is none. It has a column for each line up
+/// to the one that misfits. See [`Task::Draw`](crate::Task::Draw). It fails only for want of memory.
 pub fn show_log(
     alloc: Global,
     show: Show<'_>,

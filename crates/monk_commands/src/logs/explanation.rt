@@ -15,8 +15,8 @@ use crate::logs::sites::Sites;
 use crate::logs::trails::Trails;
 use std::alloc::{AllocError, Global};
 
-/// The line of the finding, and sentences behind it: the line that misfits and those that led to it, or what is wrong
-/// at the end; and last where each seat is, and since when.
+/// Returns the line of the finding, followed by sentences. They name the line that misfits and those that led to it,
+/// or what is wrong at the end. Last comes where each seat is, and since when.
 pub(crate) fn explanation(
     alloc: Global,
     beside: &[u8],

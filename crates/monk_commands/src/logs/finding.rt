@@ -1,4 +1,4 @@
-//! What is found of a log.
+//! What is found for a log.
 
 ghost use Rattle.std.specs.Prelude.{◌≡◌, ◌≤◌};
 ghost use Rattle.monk_commands.specs.LogFound.{finding_status, never_again};
@@ -6,28 +6,28 @@ ghost use Rattle.monk_commands.specs.LogFound.{finding_status, never_again};
 use monk_judge::Report;
 use monk_logs::Crossed;
 
-/// What is found of a log.
+/// What is found for a log.
 #[derive(Clone, Copy, Debug, PartialEq, Eq)]
 pub(crate) struct Finding {
-    /// What it tells of its program.
+    /// What the log shows of its program.
     pub(crate) report: Report,
     /// The seats that a signal crossed on their way to sleep.
     pub(crate) crossed: Option<Crossed>,
-    /// How many seats it has.
+    /// How many seats the log has.
     pub(crate) seats: u8,
-    /// The seat of the line that misfits; 0 if none does.
+    /// The seat of the line that misfits, or 0 if none does.
     pub(crate) wrong_seat: u8,
     /// Whether its program has ended by itself.
     pub(crate) has_ended: bool,
 }
 
-/// How many threads have to be overtaken before it is said that none waits again. Under contention a `while` waits
-/// again now and then, and an `if` never does. With fewer it would often be said of a right program.
+/// How many threads must be overtaken before it is said that none waits again. Under contention a `while` waits
+/// again now and then, and an `if` never does. With fewer it would often be said about a right program.
 const ENOUGH_OVERTAKEN: u64 = 8;
 
 impl Finding {
-    /// The exit status: 1 if the log misfits, if a signal is missed, or if the program is busy at its end. A program
-    /// that ends by itself isn't stuck, so its end is no fault.
+    /// Returns the exit status: 1 if the log misfits, if a signal is missed, or if the program is busy at its end. A
+    /// program that ends by itself isn't stuck, so its end is no fault.
     pub(crate) fn status(&self) -> u8
         ensures status { result ≡ finding_status self.now }
         ensures few { result ≤ 1 }
@@ -43,7 +43,7 @@ impl Finding {
         }
     }
 
-    /// Whether of enough threads that were overtaken on their way back none waited again.
+    /// Whether enough threads were overtaken on their way back, and none of them waited again.
     pub(crate) fn never_waits_again(&self) -> bool
         ensures { result ≡ never_again self.now.report.tally.overtaken self.now.report.tally.again }
     {
@@ -51,17 +51,17 @@ impl Finding {
         tally.again == 0 && tally.overtaken >= ENOUGH_OVERTAKEN
     }
 
-    /// The line since which the lock is held at the end, if it is, by its index behind the header.
+    /// Returns the line since which the lock is held at the end, if it is, by its index after the header.
     pub(crate) fn held_since(&self) -> Option<usize> {
         self.report.holder.map(|holder| holder.since)
     }
 
-    /// The line of the last signal that crossed a thread, if one did, by its index behind the header.
+    /// Returns the line of the last signal that crossed a thread, if one did, by its index after the header.
     pub(crate) fn crossed_at(&self) -> Option<usize> {
         self.crossed.map(|crossed| crossed.line.saturating_sub(1))
     }
 
-    /// The word for how the run of the lines that fit ends.
+    /// Returns the word for how the run of the lines that fit ends.
     pub(crate) fn end_name(&self) -> &'static str {
         let report = &self.report;
         if report.holder.is_some() {

@@ -5,7 +5,7 @@ use crate::logs::verdict_words::number;
 use serde_json::{Map, Value, json, put};
 use std::alloc::{AllocError, Global};
 
-/// A finding as one line of JSON, for other programs. Lines are counted as in the file; what is not there is null.
+/// Returns a finding as a line of JSON, for other programs. Lines count as in the file; what isn't there is null.
 pub(crate) fn finding_json(
     alloc: Global,
     name: &str,
@@ -37,7 +37,7 @@ pub(crate) fn finding_json(
     line_of(alloc, &value)
 }
 
-/// Why nothing is found, as one line of JSON.
+/// Returns why nothing is found, as one line of JSON.
 pub(crate) fn fault_json(alloc: Global, name: &str, line: &str) -> Result<String, AllocError> {
     let error = line.trim_end();
     line_of(alloc, &json!(in alloc; {"file": name, "error": error})?)
@@ -49,7 +49,7 @@ fn line_of(alloc: Global, value: &Value) -> Result<String, AllocError> {
     Ok(line)
 }
 
-/// The number of a line in the file, or null.
+/// Returns the number of a line in the file, or null.
 fn line_value(index: Option<usize>) -> Value {
     match index {
         Some(index) => Value::from(number(index)),
@@ -57,7 +57,7 @@ fn line_value(index: Option<usize>) -> Value {
     }
 }
 
-/// Puts what is wrong with which line, if the log misfits.
+/// Adds what is wrong with which line, if the log misfits.
 fn put_misfit(
     alloc: Global,
     map: &mut Map<String, Value>,
@@ -72,7 +72,7 @@ fn put_misfit(
     put(map, alloc, "seat", Value::from(finding.wrong_seat))
 }
 
-/// Puts who holds the lock at the end, if somebody does.
+/// Adds who holds the lock at the end, if somebody does.
 fn put_holder(
     alloc: Global,
     map: &mut Map<String, Value>,

@@ -9,7 +9,7 @@ use monk_judge::Tally;
 use monk_logs::Crossed;
 use std::alloc::{AllocError, Global};
 
-/// A number behind a word, if it isn't 0.
+/// Returns a number after a word, if it isn't 0.
 fn counted(alloc: Global, word: &str, many: u64) -> Result<String, AllocError>
     ensures { IfOk result (λ text. string_bytes text ≡ found.counted word.now many) }
 {
@@ -19,7 +19,7 @@ fn counted(alloc: Global, word: &str, many: u64) -> Result<String, AllocError>
     Ok(format!(in alloc; "{word}{many}")?)
 }
 
-/// The number of a line behind a word, if there is one.
+/// Returns the number of a line after a word, if there is one.
 fn placed(alloc: Global, word: &str, index: Option<usize>) -> Result<String, AllocError>
     ensures { IfOk result (λ text. string_bytes text ≡ found.placed word.now index) }
 {
@@ -32,28 +32,28 @@ fn placed(alloc: Global, word: &str, index: Option<usize>) -> Result<String, All
     }
 }
 
-/// The seats that a signal crossed on their way to sleep.
+/// Returns the seats that a signal crossed on their way to sleep.
 fn crossed_words(alloc: Global, crossed: Option<Crossed>) -> Result<String, AllocError>
     ensures { IfOk result (λ text. string_bytes text ≡ found.crossed_words crossed) }
 {
     match crossed {
         None => Ok(String::new(alloc)),
         Some(crossed) => {
-            // Behind the header lines are counted from 1 there.
+            // `crossed.line` counts from 1 after the header.
             let (seats, line) = (crossed.seats, crossed.line.saturating_add(1));
             Ok(format!(in alloc; "; crossed {seats} at {line}")?)
         }
     }
 }
 
-/// That none of so many threads that were overtaken on their way back waited again.
+/// Says that none of the threads that were overtaken on their way back waited again.
 fn overtaken_words(alloc: Global, overtaken: u64) -> Result<String, AllocError>
     ensures { IfOk result (λ text. string_bytes text ≡ found.overtaken_words overtaken) }
 {
     Ok(format!(in alloc; "; never waits again (0 of {overtaken} overtaken)")?)
 }
 
-/// These words, with the line of the first.
+/// Returns these words, with the line of the first.
 fn with_first(alloc: Global, words: &str, first: usize) -> Result<String, AllocError>
     ensures { IfOk result (λ text. string_bytes text ≡ found.with_first words.now first) }
 {
@@ -61,7 +61,7 @@ fn with_first(alloc: Global, words: &str, first: usize) -> Result<String, AllocE
     Ok(format!(in alloc; "{words}, first at {line}")?)
 }
 
-/// The same, if there are enough of them, and none waited again.
+/// Says the same, if there are enough of them, and none waited again.
 fn never_words(alloc: Global, finding: &Finding) -> Result<String, AllocError>
     ensures { IfOk result (λ text. string_bytes text
         ≡ found.never_words finding.now.report.tally finding.now.report.tally.first_not_again) }
@@ -76,7 +76,7 @@ fn never_words(alloc: Global, finding: &Finding) -> Result<String, AllocError>
     }
 }
 
-/// What is counted of signals.
+/// Returns the counts of signals.
 fn tally_words(alloc: Global, tally: &Tally) -> Result<String, AllocError>
     ensures { IfOk result (λ text. string_bytes text ≡ found.tally_words tally.now) }
 {
@@ -87,7 +87,7 @@ fn tally_words(alloc: Global, tally: &Tally) -> Result<String, AllocError>
     Ok(format!(in alloc; "{served}{passed}{unheard}{last}")?)
 }
 
-/// The line of a finding.
+/// Returns the line of a finding.
 pub(crate) fn finding_line(alloc: Global, finding: &Finding) -> Result<String, AllocError>
     ensures { IfOk result (λ text. string_bytes text ≡ found.finding_line finding.now) }
 {

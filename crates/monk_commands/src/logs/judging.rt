@@ -10,7 +10,7 @@ use monk_judge::{Report, Run, WaitsFor, judge_log, run_of_log};
 use monk_object::ObjectName;
 use std::alloc::{AllocError, Global};
 
-/// What the log tells of its program.
+/// Returns what the log shows of its program.
 pub(crate) fn report(
     alloc: Global,
     means: &[WaitsFor],
@@ -28,7 +28,7 @@ pub(crate) fn report(
     }
 }
 
-/// The run that the log tells, up to the line that misfits.
+/// Returns a run that tells the log, up to the line that misfits.
 pub(crate) fn run(alloc: Global, log: FittingLog<'_>) -> Result<Run, AllocError>
     ensures { IfOk result (λ run. IsRunOfLog log.entry.header.now log.entry.lines.now run) }
 {

@@ -6,18 +6,18 @@ use monk_judge::Step;
 use monk_logs::LogLine;
 use std::alloc::AllocError;
 
-/// What is told of the lines of a log, with where they stand in the source of its program.
+/// Text about the lines of a log, with their places in the source of its program.
 #[derive(Drop)]
 pub(crate) struct LinesTold<'a> {
-    /// What is told so far.
+    /// The text so far.
     pub(crate) page: String,
     pub(crate) lines: &'a [LogLine],
     pub(crate) sites: Sites<'a>,
 }
 
 impl LinesTold<'_> {
-    /// Puts the line with that index, if there is one, as in `line 13: act 0 1 0 8 (buffer.c:41)`, and a sentence
-    /// about it.
+    /// Writes the line with that index, if there is one, as in `line 13: act 0 1 0 8 (buffer.c:41)`, and a
+    /// sentence about it.
     pub(crate) fn put(&mut self, index: Option<usize>, sentence: &str) -> Result<(), AllocError> {
         let Some(index) = index else {
             return Ok(());
@@ -32,7 +32,7 @@ impl LinesTold<'_> {
         writeln!(page, ": {sentence}")
     }
 
-    /// Puts where the line stands in the source, if that is known and is text.
+    /// Writes the line's place in the source, if it is known and is text.
     pub(crate) fn put_place(&mut self, index: usize) -> Result<(), AllocError> {
         let Some(place) = self.sites.of_line(index) else {
             return Ok(());

@@ -16,7 +16,7 @@ use monk_object::ObjectName;
 use monk_page::{ShownRun, log_page, run_scene};
 use std::alloc::{AllocError, Global};
 
-/// The scene of a run by the lines that are drawn.
+/// Returns the scene of a run by the lines that are drawn.
 pub(crate) fn scene(
     alloc: Global,
     header: &LogHeader,
@@ -42,7 +42,7 @@ pub(crate) fn scene(
     }
 }
 
-/// The page of a run by the lines that are drawn, with that picture.
+/// Returns the page of a run by the lines that are drawn, with that picture.
 pub(crate) fn page_around(
     alloc: Global,
     picture: &str,

@@ -1,4 +1,4 @@
-//! Where each seat is, as an explanation tells it.
+//! Where each seat is, for an explanation.
 
 use crate::logs::lines_told::LinesTold;
 use crate::logs::trail::Trail;
@@ -7,7 +7,7 @@ use crate::logs::verdict_words::number;
 use monk_judge::Place;
 use std::alloc::AllocError;
 
-/// Puts a row for each seat: where it is, and since when.
+/// Writes a row for each seat: where it is, and since when.
 pub(crate) fn put_places(told: &mut LinesTold<'_>, trails: &Trails) -> Result<(), AllocError> {
     for (seat, trail) in trails.all().iter().enumerate() {
         let page = &mut told.page;
@@ -24,7 +24,7 @@ pub(crate) fn put_places(told: &mut LinesTold<'_>, trails: &Trails) -> Result<()
     Ok(())
 }
 
-/// Puts where it is, and who woke it.
+/// Writes where it is, and who woke it.
 fn put_place(page: &mut String, trail: Trail) -> Result<(), AllocError> {
     match (trail.place, trail.woken) {
         (Place::Outside, _) => page.push_str("outside"),
@@ -38,7 +38,7 @@ fn put_place(page: &mut String, trail: Trail) -> Result<(), AllocError> {
     }
 }
 
-/// Puts how many signals came to the condition on which it sleeps.
+/// Writes how many signals came to the condition on which it sleeps.
 fn put_signals(page: &mut String, trail: Trail) -> Result<(), AllocError> {
     match (trail.place, trail.signals) {
         (Place::Waiting(_), 0) => page.push_str("; no signal came there since"),

@@ -14,9 +14,9 @@ use std::alloc::{AllocError, Global};
 pub(crate) enum LogRefusal {
     /// The size is above the object's greatest.
     TooBig,
-    /// It is asked for by the rules of this kind. Those of a mutex with condition variables are NPNB's.
+    /// It should be judged by the rules of this kind. A mutex with condition variables has NPNB's.
     OtherKind(KindName),
-    /// It is told what threads wait for, but not what happened to the object.
+    /// The options say what threads wait for, but the log has no act on the object.
     NoActs,
 }
 
@@ -34,7 +34,7 @@ fn has_act(lines: &[LogLine]) -> bool
     lines.iter().any(|line| is_act(*line))
 }
 
-/// The kind that is named, if it is another than NPNB.
+/// Returns the kind that is named, if it is another than NPNB.
 fn other_kind(kind: Option<KindName>) -> Option<KindName>
     ensures { result ≡ refused.other_kind kind }
 {
@@ -55,7 +55,7 @@ fn other_kind(kind: Option<KindName>) -> Option<KindName>
 }
 
 impl LogRefusal {
-    /// Why the log isn't judged, if it isn't: the first of the reasons that applies.
+    /// Returns why the log isn't judged, if it isn't: the first of the reasons that applies.
     pub(crate) fn of(
         kind: Option<KindName>,
         means: &[WaitsFor],
@@ -76,7 +76,7 @@ impl LogRefusal {
         None
     }
 
-    /// Its line.
+    /// Returns its line.
     pub(crate) fn line(self, alloc: Global) -> Result<String, AllocError>
         ensures { IfOk result (λ text. string_bytes text ≡ refused.refusal_line self) }
     {

@@ -15,7 +15,7 @@ fn heading(alloc: Global, header: &LogHeader) -> Result<String, AllocError>
     Ok(format!(in alloc; "run NPNB {seats} {conds} {object} {size}\n")?)
 }
 
-/// The text of a run: a line for what it is of, and one for each step.
+/// Returns the text of a run: a header line, and a line for each step.
 pub(crate) fn run_text(
     alloc: Global,
     header: &LogHeader,

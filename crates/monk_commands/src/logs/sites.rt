@@ -1,4 +1,4 @@
-//! Where the lines of a log stand in the source of its program.
+//! Where the lines of a log are in the source of its program.
 
 use std::alloc::{AllocError, Global};
 
@@ -10,12 +10,12 @@ pub(crate) struct Sites<'a> {
 }
 
 impl<'a> Sites<'a> {
-    /// Those of that file.
+    /// Returns the places of that file.
     pub(crate) fn in_file(beside: &'a [u8]) -> Sites<'a> {
         Sites { beside }
     }
 
-    /// Where the line with that index behind the header stands in the source; `None` if the file doesn't say.
+    /// Returns the place in the source of the line with that index after the header, if the file says it.
     pub(crate) fn of_line(&self, index: usize) -> Option<&'a [u8]> {
         let numbers = row(self.beside, b"lines ")?;
         let number = numbers.split(|byte| *byte == b' ').nth(index)?;
@@ -26,13 +26,13 @@ impl<'a> Sites<'a> {
     }
 }
 
-/// What stands behind that word in the first row that begins with it.
+/// Returns what follows the word in the first row that begins with it.
 fn row<'a>(beside: &'a [u8], word: &[u8]) -> Option<&'a [u8]> {
     let mut rows = beside.split(|byte| *byte == b'\n');
     rows.find_map(|row| row.strip_prefix(word))
 }
 
-/// The place with that number.
+/// Returns the place with that number.
 fn site<'a>(beside: &'a [u8], number: &[u8]) -> Option<&'a [u8]> {
     let mut rows = beside.split(|byte| *byte == b'\n');
     rows.find_map(|row| {

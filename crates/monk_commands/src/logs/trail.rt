@@ -7,7 +7,7 @@ use monk_judge::Place;
 pub(crate) struct WokenBy {
     /// Who sent it.
     pub(crate) seat: u8,
-    /// The index of its line behind the header.
+    /// The index of its line after the header.
     pub(crate) line: usize,
 }
 
@@ -16,13 +16,13 @@ pub(crate) struct WokenBy {
 pub(crate) struct Trail {
     /// Where it is.
     pub(crate) place: Place,
-    /// Since which line it is there, by its index behind the header; `None` if it has been there from the start.
+    /// Since which line it is there, by its index after the header; `None` if it has been there from the start.
     pub(crate) since: Option<usize>,
     /// The last signal that woke it; `None` if no signal did since its last wait.
     pub(crate) woken: Option<WokenBy>,
     /// The line with which it waited last.
     pub(crate) waited: Option<usize>,
-    /// How many signals and broadcasts came to its condition since.
+    /// How many signals and broadcasts have come to its condition since then.
     pub(crate) signals: usize,
 }
 
@@ -36,7 +36,7 @@ impl Trail {
         signals: 0,
     };
 
-    /// It is there since that line.
+    /// The thread is there since that line.
     pub(crate) fn go(&mut self, place: Place, line: usize) {
         self.place = place;
         self.since = Some(line);

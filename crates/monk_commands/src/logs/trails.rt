@@ -9,12 +9,12 @@ use std::alloc::{AllocError, Global};
 #[derive(Drop)]
 pub(crate) struct Trails {
     trails: Vec<Trail>,
-    /// How many lines the steps have told.
+    /// How many lines the steps tell.
     lines: usize,
 }
 
 impl Trails {
-    /// Behind the steps.
+    /// Returns the trails after the steps.
     pub(crate) fn behind(alloc: Global, seats: u8, steps: &[Step]) -> Result<Trails, AllocError> {
         let trails = vec![in alloc; Trail::START; usize::from(seats)]?;
         let mut trails = Trails { trails, lines: 0 };
@@ -24,12 +24,12 @@ impl Trails {
         Ok(trails)
     }
 
-    /// All of them, by their seats.
+    /// Returns all of them, by their seats.
     pub(crate) fn all(&self) -> &[Trail] {
         &self.trails
     }
 
-    /// That of the seat.
+    /// Returns the trail of the seat.
     pub(crate) fn of(&self, seat: u8) -> Trail {
         let trail = self.trails.get(usize::from(seat));
         trail.copied().unwrap_or(Trail::START)
@@ -43,7 +43,7 @@ impl Trails {
         }
     }
 
-    /// Goes on by a line, with whom its signal wakes.
+    /// Follows a line, with the thread that its signal wakes.
     fn tell(&mut self, line: LogLine, woken: Option<u8>) {
         let index = self.lines;
         self.lines = index.saturating_add(1);

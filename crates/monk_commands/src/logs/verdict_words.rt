@@ -7,31 +7,31 @@ use crate::logs::finding::Finding;
 use monk_judge::{Blame, Holder, Misfit};
 use std::alloc::{AllocError, Global};
 
-/// How many lines of the file stand before the one with index 0, and itself: the header is line 1.
+/// The number in the file of the line with index 0. The header is line 1.
 const FIRST: usize = 2;
 
-/// The number in the file of the line with that index behind the header.
+/// Returns the number in the file of the line with that index after the header.
 pub(crate) fn number(index: usize) -> usize
     ensures { result ≡ found.number index }
 {
     index.saturating_add(FIRST)
 }
 
-/// The first words, or the others.
+/// Returns the first words, or the others.
 fn either(is_first: bool, first: &'static str, other: &'static str) -> &'static str
     ensures { result.now ≡ (if is_first then first.now else other.now) }
 {
     if is_first { first } else { other }
 }
 
-/// What stands behind the number of spurious wake-ups.
+/// Returns what follows the number of spurious wake-ups.
 fn wake_up_words(many: u64) -> &'static str
     ensures { result.now ≡ found.wake_up_words many }
 {
     either(many == 1, " spurious wake-up", " spurious wake-ups")
 }
 
-/// So many spurious wake-ups, of which that is the first.
+/// Returns the number of spurious wake-ups, with the line of the first.
 fn wake_ups(alloc: Global, many: u64, first: usize) -> Result<String, AllocError>
     ensures { IfOk result (λ text. string_bytes text ≡ found.wake_ups many first) }
 {
@@ -39,7 +39,7 @@ fn wake_ups(alloc: Global, many: u64, first: usize) -> Result<String, AllocError
     Ok(format!(in alloc; "{many}{words}, first at {line}")?)
 }
 
-/// The same behind these words, if there are some.
+/// Returns the same after these words, if there are some.
 fn spurious_words(
     alloc: Global,
     front: &str,
@@ -57,7 +57,7 @@ fn spurious_words(
     }
 }
 
-/// Who holds the lock at the end.
+/// Returns who holds the lock at the end.
 fn busy_words(alloc: Global, has_ended: bool, holder: Holder) -> Result<String, AllocError>
     ensures { IfOk result (λ text. string_bytes text ≡ found.busy_words has_ended holder) }
 {
@@ -66,7 +66,7 @@ fn busy_words(alloc: Global, has_ended: bool, holder: Holder) -> Result<String, 
     Ok(format!(in alloc; "{front}, seat {seat} holds the lock since {line}")?)
 }
 
-/// How a log of so many seats ends in which nobody holds the lock.
+/// Returns how a log with this number of seats ends, if nobody holds the lock.
 fn idle_words(alloc: Global, seats: u8, asleep: u8, woken: u8) -> Result<String, AllocError>
     ensures { IfOk result (λ text. string_bytes text ≡ found.idle_words seats asleep woken) }
 {
@@ -92,7 +92,7 @@ fn end_words(alloc: Global, finding: &Finding) -> Result<String, AllocError>
     }
 }
 
-/// That a log fits, and how its program ends.
+/// Says that a log fits, and how its program ends.
 fn fitting_words(alloc: Global, finding: &Finding) -> Result<String, AllocError>
     ensures { IfOk result (λ text. string_bytes text ≡ found.fitting_words finding.now) }
 {
@@ -102,14 +102,14 @@ fn fitting_words(alloc: Global, finding: &Finding) -> Result<String, AllocError>
     Ok(format!(in alloc; "fits{wake_ups}{end}")?)
 }
 
-/// A sentence about a seat.
+/// Returns a sentence about a seat.
 fn about(alloc: Global, seat: u8, words: &str) -> Result<String, AllocError>
     ensures { IfOk result (λ text. string_bytes text ≡ found.about seat words.now) }
 {
     Ok(format!(in alloc; "seat {seat}{words}")?)
 }
 
-/// That a seat takes the lock which another holds.
+/// Says that a seat takes the lock which another holds.
 fn held_words(alloc: Global, seat: u8, holder: Option<Holder>) -> Result<String, AllocError>
     ensures { IfOk result (λ text. string_bytes text ≡ found.held_words seat holder) }
 {
@@ -124,7 +124,7 @@ fn held_words(alloc: Global, seat: u8, holder: Option<Holder>) -> Result<String,
     }
 }
 
-/// What is wrong with a line of that seat.
+/// Says what is wrong with a line of that seat.
 fn blame_words(
     alloc: Global,
     why: Blame,
@@ -150,7 +150,7 @@ fn blame_words(
     }
 }
 
-/// That a log misfits. How its program ends isn't told: it went on.
+/// Says that a log misfits. How its program ends isn't said, because it went on.
 fn misfit_words(alloc: Global, misfit: Misfit, finding: &Finding) -> Result<String, AllocError>
     ensures { IfOk result (λ text. string_bytes text ≡ found.misfit_words misfit finding.now) }
 {
@@ -161,7 +161,7 @@ fn misfit_words(alloc: Global, misfit: Misfit, finding: &Finding) -> Result<Stri
     Ok(format!(in alloc; "misfit at {line}: {word}, {words}{wake_ups}")?)
 }
 
-/// Whether the log fits.
+/// Says whether the log fits.
 pub(crate) fn verdict_words(alloc: Global, finding: &Finding) -> Result<String, AllocError>
     ensures { IfOk result (λ text. string_bytes text ≡ found.verdict_words finding.now.report.misfit finding.now) }
 {

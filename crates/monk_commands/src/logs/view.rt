@@ -1,12 +1,12 @@
-//! How a finding is told.
+//! How a finding is written.
 
-/// How a finding is told.
+/// How a finding is written.
 #[derive(Clone, Copy, Debug, PartialEq, Eq)]
 pub(crate) enum LogView {
     /// In one line for a reader and for `grep`.
     Line,
     /// In one line of JSON.
     Json,
-    /// In that line, and sentences behind it.
+    /// In that line, and sentences after it.
     Explanation,
 }

@@ -1,4 +1,4 @@
-//! The kinds that have the signaller and the task that it signalled at one priority.
+//! The kinds whose signaller has the same priority as the task that it signalled.
 
 use crate::family::{Conditional, Explicit, QuasiBlocking};
 use crate::kind::Kind;

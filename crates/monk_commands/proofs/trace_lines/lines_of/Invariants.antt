@@ -7,7 +7,7 @@ use Rattle.monk_commands.specs.Following.{IsBehind}
 use Rattle.monk_commands.specs.Traced.{AreTraced}
 use Rattle.monk_commands.proofs.trace_lines.lines_of.Given as goal
 
--- the lines stand before those of the commands that are left, and the replay is behind the world
+-- the lines come before those of the commands that are left, and the replay follows the world
 abbrev pub invariant-loop-seat : goal.invariant-loop-seat
 invariant-loop-seat g l =
     let k = g.K.Kind.rules in

@@ -6,7 +6,7 @@ use Rattle.monk_tell.specs.Told.{queues_of}
 use Rattle.monk_commands.specs.Traced.{places_text}
 use Rattle.monk_commands.proofs.trace_lines.put_places.Given as goal
 
--- the places of the seats so far stand behind the page
+-- the places of the seats so far come after the page
 abbrev pub invariant-loop-seat : goal.invariant-loop-seat
 invariant-loop-seat g l =
     string_bytes l.page ≡ string_bytes l.fn.page

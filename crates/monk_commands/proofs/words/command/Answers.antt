@@ -6,7 +6,7 @@ use Rattle.monk_commands.specs.Request.{word_rule}
 use Rattle.monk_commands.specs.declared.word.Word.{Word}
 use Rattle.monk_commands.proofs.words.command.Goals as goal
 
--- with one word more
+-- with one more word
 words_more : (a b new : App) (rule : Rule) (ws : List Word) (i : ℕ) (w : Word) → i < length ws
     → fold with_rule a (map word_rule (drop i ws)) ≡ b → rule ≡ word_rule (get_or ws i w)
     → new ≡ with_rule a rule → fold with_rule new (map word_rule (drop (i + 1) ws)) ≡ b

@@ -5,7 +5,7 @@ use Rattle.monk_commands.specs.Request.{command_app, with_commands}
 use Rattle.monk_commands.specs.declared.commands.CommandWords.{CommandWords}
 use Rattle.monk_commands.proofs.words.program.Goals as goal
 
--- with one command more
+-- with one more command
 commands_more : (a b new : App) (cs : List CommandWords) (i : ℕ) (c : CommandWords) → i < length cs
     → with_commands a (drop i cs) ≡ b → new ≡ with_subcommand a (command_app (get_or cs i c)).top
     → with_commands new (drop (i + 1) cs) ≡ b

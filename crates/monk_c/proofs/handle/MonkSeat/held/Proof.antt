@@ -1,4 +1,4 @@
--- `held` lends what stands in the place behind the pointer, and the handle follows it: a walk.
+-- `held` lends what is in the place that the pointer names, and the handle follows it: a walk.
 use Rattle.std.proofs.Common.{List, [], ◌∷◌, ◌++◌, refl, sym, ap, ◌∙◌, subst}
 use denote.Exit.{no}
 use base.Fraction.{full_share}
@@ -81,8 +81,8 @@ held_spec 𝓤 𝓛 𝓜 𝓡 wired =
     suffices ! _ (ends_at 𝓛 f.ended stayed c y (vptr b' o') (lent δ) (tt, tt) (tt, tt)) $
     nothing ! $ nothing ! $ fjoin ! $ join ! $ nothing ! $ move ! (2 ∷ 0 ∷ []) $ join ! $ join ! $
     frame ! $ says ! refl $ done ! in
-    -- [what stands in the place; what the fields own; the handle's cell; the open borrow, in three entries;
-    -- the reference's word]
+    -- [what is in the place; what the fields own; the handle's cell; the open borrow, in three entries; the
+    -- reference's word]
     first ! $ blocks ! $
     sets ! (of_opd ! (load ! (through ! refl (fld ! refl (stop !))) (look_in ! 2 (sub ! 0 refl (whole !)))))
     refl (tt, tt) $
