@@ -118,7 +118,7 @@ impl WorldWords {
         Answer::Looked(found)
     }
 
-    /// Looks how many tickets are not passed on. From two or more the seat knows that somebody waits for entry.
+    /// Looks for the active seat how many tickets are not passed on. From two on, it knows of somebody at the entry.
     pub fn peek(&mut self, seat: u8) -> Answer
         requires { seat < self.old.seats }
         ensures answer { result ≡ Answer.Found self.old.unpassed }
