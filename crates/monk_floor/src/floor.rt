@@ -78,8 +78,8 @@ impl<K: Kind, T: Guarded> Floor<K, T> {
     /// Makes a floor over an object, with no event yet. It has 1 to 32 seats, at most 8 condition variables, and 2 to
     /// 2^20 events for each seat.
     ///
-    /// Returns the first fault that applies, lack of memory last, and then drops the object. Takes memory for `seats
-    /// * budget` events at once.
+    /// Returns the first fault that applies, lack of memory last, and then drops the object. Takes memory for
+    /// `seats * budget` events at once.
     pub fn make(
         alloc: Global,
         object: T,
@@ -163,7 +163,7 @@ impl<K: Kind, T: Guarded> Floor<K, T> {
         fronts.choose(rules_of::<K>(), event.seat(), entry_known, pick)
     }
 
-    /// Lets a seat in that is outside, if the turn is open. `via` is `Via::Free` if nobody could be chosen from an
+    /// Lets in a seat that is outside, if the turn is open. `via` is `Via::Free` if nobody could be chosen from an
     /// inner queue, and `Via::Handed` if somebody let the seat in. Constant time.
     #[inline(always)]
     pub fn enter(&mut self, seat: u8, via: Via)
@@ -174,7 +174,7 @@ impl<K: Kind, T: Guarded> Floor<K, T> {
         self.append(Event::Enter(seat, via));
     }
 
-    /// Lets the seat go on that was chosen from a queue. Returns that queue. Constant time.
+    /// Lets the seat that was chosen from a queue go on. Returns that queue. Constant time.
     #[inline(always)]
     pub fn resume(&mut self, seat: u8) -> From3
         requires seat { seat < self.old.seats }
@@ -199,8 +199,7 @@ impl<K: Kind, T: Guarded> Floor<K, T> {
         }
     }
 
-    /// Carries an operation of the active seat out on the object. Returns its reply. Costs what the object's `act`
-    /// costs.
+    /// Carries out an operation of the active seat, and returns the reply. Costs what the object's `act` costs.
     #[inline(always)]
     pub fn act(&mut self, seat: u8, op: Op) -> u64
         requires call { MayCallOn K.rules T.meaning self.old (Event.Act seat op 0) }

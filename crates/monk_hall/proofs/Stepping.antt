@@ -1,4 +1,4 @@
--- A table under the rule, as a seat finds it that is alone in its view
+-- A table under the rule, as it is for a seat that is alone in its view
 use Rattle.std.proofs.Common.{◌≡◌, ◌≢◌, ℕ, ◌-◌, ◌<◌, ◌≤◌, Bool, List, [], ◌∷◌, length, set, refl, sym, ap, ◌∙◌, subst, arith}
 use Rattle.std.specs.Prelude.{Option}
 use mathlib.Core.Option as maybe
@@ -64,7 +64,7 @@ module _ (k : Rules) (o : Object) (c : Setting) (kind : IsKind k) (s : table.Sta
   pub stands_at : (p : Place) → r.place ≡ p → world.place r.seat ≡ p
   stands_at p e = ap (λ (y : SeatRecord). y.place) is ∙ e
 
-  -- the events that a seat has left that isn't active
+  -- how many events a seat has left, if it isn't active
   pub left_is : stage r.place ≢ active_stage
       → left_of c.budget kept_hall.history r.seat ≡ r.setting.budget - length r.mine
   left_is not_active =

@@ -46,7 +46,7 @@ abbrev pub choice_in : Option Next → Next
 choice_in None = next.Stay
 choice_in (Some x) = x
 
--- where a seat is that has taken the floor home with this release
+-- the place of a seat that has taken the floor home with this release
 abbrev pub back_after : Option Event → Place
 back_after None = Idle
 back_after (Some e) = Back (choice_in (next_of e)) (if is_way_out e then home.Idle else home.Inner)

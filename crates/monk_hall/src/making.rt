@@ -26,9 +26,9 @@ impl<K: Kind, T: Guarded> Hall<K, T> {
     /// Makes a hall over an object, and a pass for each of its seats, in order. It has 1 to 32 seats, at most 8
     /// condition variables, and 2 to 2^20 events for each seat.
     ///
-    /// Returns the first fault that applies, lack of memory last, and then drops the object. Takes memory for `seats
-    /// * budget` events, all queues, the table and the passes at once. No call of the hall or of its tokens takes
-    /// any.
+    /// Returns the first fault that applies, lack of memory last, and then drops the object. Takes memory for
+    /// `seats * budget` events, all queues, the table and the passes at once. No call of the hall or of its tokens
+    /// takes any.
     pub fn make(
         alloc: Global,
         object: T,

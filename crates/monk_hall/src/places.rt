@@ -22,7 +22,7 @@ pub(crate) fn unpassed(word: u64) -> u32
     (word % TICKET) as u32
 }
 
-/// Returns where a seat is that drew a ticket and found this ticket word.
+/// Returns the place of a seat that drew a ticket and found this ticket word.
 pub(crate) fn place_after_arrive(word: u64) -> Place
     ensures { result ≡ place_after_arrive (tickets word) (unpassed word) }
 {
@@ -34,7 +34,7 @@ pub(crate) fn place_after_arrive(word: u64) -> Place
     }
 }
 
-/// Returns where a seat is that looked for its ticket and found this in the ticket's place.
+/// Returns the place of a seat that looked for its ticket and found this in the ticket's place.
 pub(crate) fn place_after_ticket_look(ticket: u32, found: u64) -> Place
     ensures { result ≡ place_after_ticket_look ticket (found == ticket + 1) }
 {
@@ -52,7 +52,7 @@ pub(crate) fn is_called(calls: u64, found: u64) -> bool
     found != 0 && found - 1 == calls
 }
 
-/// Returns where a seat is that looked for a call.
+/// Returns the place of a seat that looked for a call.
 pub(crate) fn place_after_seat_look(called: bool) -> Place
     ensures { result ≡ place_after_seat_look called }
 {

@@ -133,8 +133,8 @@ pub fn legal_book_excludes()
         → ExcludesEachOther size (data_of m h) (acts_in h) }
 {}
 
-/// In a legal history over a shop no customer is lost. Each who sat was called or still sits. Each who was called was
-/// served or is being served. Each who was served departed or is about to.
+/// In a legal history over a shop no customer is lost. Each that sat was called or still sits. Each that was called was
+/// served or is being served. Each that was served departed or is about to.
 pub fn legal_shop_loses_nobody()
     ensures { (rules : Rules) (seats conds size : ℕ) (h : List Event) → let m =
         monitor rules seats conds (meaning_named Shop) (opening_named Shop size) in IsLegal m h

@@ -121,7 +121,7 @@ turn_of_next (Waiter j) = due_to j
 turn_of_next (Signaller j) = due_to j
 turn_of_next (Until j) = due_to j
 
--- the turn that a seat has chosen which has taken the floor back; open elsewhere
+-- the turn that a seat has chosen, if it has taken the floor home and not yet handed on the right; open elsewhere
 abbrev pub back_turn : Place → ℕ
 back_turn Idle = 0
 back_turn (Ticket t) = 0

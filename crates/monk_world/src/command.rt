@@ -10,8 +10,7 @@ use std::fmt;
 pub enum Command {
     /// Draw a ticket.
     Arrive,
-    /// Look whether the right was handed over: in the place of its ticket or, if the seat is inside, in its own
-    /// place.
+    /// Look whether the right was handed over: in its ticket's place or, if it is inside, in its own place.
     Look,
     /// Take the floor, which records the enter or the resume.
     Out,

@@ -60,8 +60,7 @@ pub fn seat_grant_keeps_the_right()
     ensures { SeatGrantKeeps }
 {}
 
-/// The right to be active is in exactly one place, and each ticket after the one in use has a seat that waits with
-/// it.
+/// The right to be active is in exactly one place, and a seat waits with each ticket after the one in use.
 pub fn right_is_in_one_place()
     ensures { StandsInOnePlace }
 {}

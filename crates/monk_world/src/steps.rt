@@ -239,8 +239,7 @@ fn count_after_seat_look(count: u32, found: bool) -> u32
     if found { count + 1 } else { count }
 }
 
-/// Returns where a seat is after it took itself off the ticket word, with `drawn` tickets drawn and `found` not
-/// passed on.
+/// Returns where a seat is after it took itself off the ticket word. Of `drawn` tickets `found` were not passed on.
 fn place_after_drop(drawn: u32, found: u32, home: Home) -> Place
     requires some { 0 < found }
     requires found { found ≤ drawn }

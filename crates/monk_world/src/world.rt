@@ -56,8 +56,8 @@ impl<K: Kind, T: Guarded> World<K, T> {
     /// Makes a world over an object, before any step. It has 1 to 32 seats, at most 8 condition variables, and 2 to
     /// 2^20 events for each seat.
     ///
-    /// Returns the first fault that applies, lack of memory last, and then drops the object. Takes memory for `seats
-    /// * budget` events, all queues and all words at once. No later call takes any.
+    /// Returns the first fault that applies, lack of memory last, and then drops the object. Takes memory for
+    /// `seats * budget` events, all queues and all words at once. No later call takes any.
     pub fn make(
         alloc: Global,
         object: T,

@@ -21,7 +21,7 @@ unfolding walk
 length-walk next zero f = refl
 length-walk next (suc n) f = ap suc (length-walk next n (get_or next f 0))
 
--- a link has changed of a seat that the walk does not meet
+-- a link of a seat that the walk does not meet has changed
 pub walk-set : (next : List ℕ) (n f l v : ℕ) → times l (walk next n f) ≡ 0
     → walk (slice_set next l v) n f ≡ walk next n f
 unfolding walk

@@ -13,7 +13,7 @@ use Rattle.monk_history.specs.declared.event.Event.{Event}
 unfoldable pub others_than : ℕ → List Event → List Event
 others_than s h = filter (λ e. not (seat_of e == s)) h
 
--- what the seats did that are not among these
+-- what the other seats did
 abbrev pub rest_of : List ℕ → List Event → List Event
 rest_of [] h = h
 rest_of (s ∷ ss) h = rest_of ss (others_than s h)

@@ -20,15 +20,15 @@ pub const MOST_COMMANDS: u32 = MOST_LINES;
 
 /// Returns the header, the budget of each seat and the commands of the play, each with its seat, or the first fault.
 ///
-/// Each line ends in one byte 10, and exactly one byte 32 separates the words of a line. The first line is `play
-/// VERSION KIND SEATS CONDS OBJECT SIZE BUDGET`. It has the parts of the header of a history of that version, and a
-/// budget from [`monk_history::LEAST_BUDGET`] to [`monk_history::MOST_BUDGET`]. Each further line is a seat and an
-/// action, which is one of
+/// Each line ends in one byte 10, and exactly one byte 32 separates the words of a line. The first line is
+/// `play VERSION KIND SEATS CONDS OBJECT SIZE BUDGET`. It has the parts of the header of a history of that version,
+/// and a budget from [`monk_history::LEAST_BUDGET`] to [`monk_history::MOST_BUDGET`]. Each further line is a seat and
+/// an action, which is one of
 ///
 /// - `arrive`, `look`, `out`, `peek`, `drop`, `grant`;
 /// - `act CODE ARG`;
-/// - `leave PICK`, `wait COND PICK`, `signal COND PICK`, `signal-leave COND PICK`, `until PRED
-/// PICK`, where PICK is `entry`, `waiter` or `signaller`;
+/// - `leave PICK`, `wait COND PICK`, `signal COND PICK`, `signal-leave COND PICK`, `until PRED PICK`, where PICK is
+/// `entry`, `waiter` or `signaller`;
 /// - from version 2 on: `signal-all COND`, `signal-wait COND COND PICK`.
 ///
 /// A seat, a code, a condition and a predicate are 0 to 255, and an argument 0 to 2^32 - 1. Whether the header's
@@ -43,8 +43,7 @@ pub const MOST_COMMANDS: u32 = MOST_LINES;
 /// | [`ReadFault::LONG`] | 2^25 + 2 | that line is finished, whatever it holds |
 /// | [`ReadFault::MEMORY`] | 0 | a request for memory for the list of commands was refused |
 ///
-/// It makes one pass over the bytes. It takes memory only for the list of commands, up to twice its length as it
-/// grows.
+/// It makes one pass over the bytes. Memory is taken only for the list of commands, up to twice that while it grows.
 pub fn read_play(
     alloc: Global,
     bytes: &[u8],
