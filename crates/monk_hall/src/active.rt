@@ -52,7 +52,7 @@ impl<K: Kind, T: Guarded> Active<K, T> {
         self.floor.left(self.numbers.seat)
     }
 
-    /// Returns the history up to now, which is legal, and short enough for a text. It has the seat's own events.
+    /// Returns the history up to now, which is legal, and short enough for a text. The seat's events in it are its own.
     pub fn history(&self) -> &[Event]
         ensures history { result.now ≡ self.now.floor.history }
         ensures legal { IsLegal (monitor_of K.rules T.meaning self.now.floor) self.now.floor.history }

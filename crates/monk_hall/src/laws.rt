@@ -1,4 +1,4 @@
-//! What holds for a hall's table if its rule holds. Every step preserves the rule, so this is at every moment. Each
+//! What holds for a hall's table if its rule holds. Every step preserves the rule, so this holds at every moment. Each
 //! function does nothing: its contract is the law.
 ghost use Rattle.monk_hall.specs.Laws.{RightInOnePlace, IdleIsFree, ShowsWellLed, OneHasTheRight, OneIsActive, KnownWaits};
 ghost use Rattle.monk_hall.specs.Laws.{EntryWaits, ArriveSteps, TicketLookSteps, SeatLookSteps, PeekSteps};
@@ -12,10 +12,10 @@ ghost use Rattle.monk_hall.specs.Schedules.{EveryScheduleIsOneHistory};
 
 /// For every kind, object, number of seats and schedule of the table's steps from its opening: the right to be active
 /// is in exactly one place, and at most one seat is active. All that the steps took home, in order, is one history
-/// that only grows. It is legal and begins with all that each seat has seen. It has the events that the seat's own
-/// steps took home, each once. Seats enter in the order of their tickets. Each release that took the floor home chose
-/// by the wish rules. It knew of somebody at the entry only by a look that found somebody. If it chose entry, nobody
-/// could be chosen from a queue, or a ticket waits.
+/// that only grows. It is legal and begins with all that each seat has seen. For each seat it has the events that the
+/// seat's own steps took home, each once. Seats enter in the order of their tickets. Each release that took the floor
+/// home chose by the wish rules. It knew of somebody at the entry only by a look that found somebody. If it chose
+/// entry, nobody could be chosen from a queue, or a ticket waits.
 pub fn every_schedule_is_one_history()
     ensures { EveryScheduleIsOneHistory }
 {}

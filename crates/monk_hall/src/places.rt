@@ -5,7 +5,7 @@ ghost use Rattle.monk_hall.specs.Layout.{tickets, unpassed};
 
 use monk_world::{Place, Source};
 
-/// One ticket drawn: they are counted above the low 32 bits of the ticket word.
+/// What one drawn ticket adds to the ticket word, which counts them above its low 32 bits.
 const TICKET: u64 = 1 << 32;
 
 /// Returns how many tickets were drawn, by the ticket word.

@@ -44,7 +44,7 @@ impl<K: Kind, T: Guarded> Active<K, T> {
         hall.wake_granted(self.plain_wait_quietly(hall, cond, pick))
     }
 
-    /// As `plain_wait`, but wakes nobody: it returns what it granted, which only a wake spends (`Granted`).
+    /// As `plain_wait`, but wakes nobody: it returns what it granted, which must be spent (`Granted`).
     pub fn plain_wait_quietly(
         self,
         hall: &Hall<K, T>,
@@ -91,7 +91,7 @@ impl<K: Kind, T: Guarded> Active<K, T> {
         hall.wake_granted(self.plain_signal_quietly(hall, cond, pick))
     }
 
-    /// As `plain_signal`, but wakes nobody: it returns what it granted, which only a wake spends (`Granted`).
+    /// As `plain_signal`, but wakes nobody: it returns what it granted, which must be spent (`Granted`).
     pub fn plain_signal_quietly(
         self,
         hall: &Hall<K, T>,
@@ -137,7 +137,7 @@ impl<K: Kind, T: Guarded> Active<K, T> {
         hall.wake_granted(self.plain_signal_leave_quietly(hall, cond, pick))
     }
 
-    /// As `plain_signal_leave`, but wakes nobody: it returns what it granted, which only a wake spends (`Granted`).
+    /// As `plain_signal_leave`, but wakes nobody: it returns what it granted, which must be spent (`Granted`).
     pub fn plain_signal_leave_quietly(
         self,
         hall: &Hall<K, T>,
@@ -184,7 +184,7 @@ impl<K: Kind, T: Guarded> Active<K, T> {
         hall.wake_granted(self.plain_until_quietly(hall, pred, pick))
     }
 
-    /// As `plain_until`, but wakes nobody: it returns what it granted, which only a wake spends (`Granted`).
+    /// As `plain_until`, but wakes nobody: it returns what it granted, which must be spent (`Granted`).
     pub fn plain_until_quietly(
         self,
         hall: &Hall<K, T>,

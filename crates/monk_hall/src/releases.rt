@@ -67,7 +67,7 @@ impl<K: Kind, T: Guarded> Active<K, T> {
         hall.wake_granted(self.leave_quietly(hall, pick))
     }
 
-    /// As `leave`, but wakes nobody: it returns what it granted, which only a wake spends (`Granted`).
+    /// As `leave`, but wakes nobody: it returns what it granted, which must be spent (`Granted`).
     #[inline(always)]
     pub fn leave_quietly(self, hall: &Hall<K, T>, pick: Pick) -> (Pass<K, T>, Option<Granted<K, T>>)
         requires { self.hall ≡ hall.now.id }
@@ -109,7 +109,7 @@ impl<K: Conditional, T: Guarded> Active<K, T> {
         hall.wake_granted(self.wait_quietly(hall, cond, pick))
     }
 
-    /// As `wait`, but wakes nobody: it returns what it granted, which only a wake spends (`Granted`).
+    /// As `wait`, but wakes nobody: it returns what it granted, which must be spent (`Granted`).
     pub fn wait_quietly(
         self,
         hall: &Hall<K, T>,
@@ -144,7 +144,7 @@ impl<K: Explicit, T: Guarded> Active<K, T> {
         hall.wake_granted(self.signal_quietly(hall, cond, pick))
     }
 
-    /// As `signal`, but wakes nobody: it returns what it granted, which only a wake spends (`Granted`).
+    /// As `signal`, but wakes nobody: it returns what it granted, which must be spent (`Granted`).
     pub fn signal_quietly(
         self,
         hall: &Hall<K, T>,
@@ -206,7 +206,7 @@ impl<K: ImmediateReturn, T: Guarded> Active<K, T> {
         hall.wake_granted(self.signal_leave_quietly(hall, cond, pick))
     }
 
-    /// As `signal_leave`, but wakes nobody: it returns what it granted, which only a wake spends (`Granted`).
+    /// As `signal_leave`, but wakes nobody: it returns what it granted, which must be spent (`Granted`).
     pub fn signal_leave_quietly(
         self,
         hall: &Hall<K, T>,
@@ -235,7 +235,7 @@ impl<K: ImmediateReturn, T: Guarded> Active<K, T> {
         hall.wake_granted(self.signal_wait_quietly(hall, cond, wait_cond, pick))
     }
 
-    /// As `signal_wait`, but wakes nobody: it returns what it granted, which only a wake spends (`Granted`).
+    /// As `signal_wait`, but wakes nobody: it returns what it granted, which must be spent (`Granted`).
     pub fn signal_wait_quietly(
         self,
         hall: &Hall<K, T>,
@@ -293,7 +293,7 @@ impl<K: Automatic, T: Guarded> Active<K, T> {
         hall.wake_granted(self.until_quietly(hall, pred, pick))
     }
 
-    /// As `until`, but wakes nobody: it returns what it granted, which only a wake spends (`Granted`).
+    /// As `until`, but wakes nobody: it returns what it granted, which must be spent (`Granted`).
     pub fn until_quietly(
         self,
         hall: &Hall<K, T>,
