@@ -57,7 +57,6 @@ use std::thread::Threads;
 ///
 /// Memory for the budgets of all seats, `64 + rounds * (40 + 32 * seats)` events each, at once. Two to four passes
 /// over the history for the totals, and four more for a book.
-/// two to four passes over the history for the totals, and of a book four more.
 pub fn run<K: Style, R: Threads + Wait + Sync, G: Gate>(
     rt: &R,
     alloc: Global,

@@ -38,7 +38,7 @@ place_words (Back next home) = codes "back" ∷ next_words next
 place_words (Passing ticket home) = codes "passing" ∷ decimal ticket ∷ []
 place_words Inner = codes "inner" ∷ []
 
--- whether the grant is there that seat i at this place looks for: its ticket in the ticket's place, or one call more
+-- whether the grant that seat i at this place looks for is there: its ticket in the ticket's place, or one call more
 -- in its own place than it has counted
 abbrev pub is_granted_at : ℕ → World → ℕ → Place → Bool
 is_granted_at seats w i Idle = false

@@ -73,7 +73,7 @@ fn trade<K: Style, T: Guarded, R: Wait>(
     }
 }
 
-/// As [`trade`]; each visit pauses while its predicate is false.
+/// As `trade`; each visit pauses while its predicate is false.
 fn trade_patiently<K: Style, T: Guarded, R: Wait>(
     pass: Pass<K, T>,
     rt: &R,
@@ -96,7 +96,7 @@ fn trade_patiently<K: Style, T: Guarded, R: Wait>(
     }
 }
 
-/// As [`trade`], in haste.
+/// As `trade`, in haste.
 fn trade_hastily<K: Style, T: Guarded, R: Wait>(
     pass: Pass<K, T>,
     rt: &R,
