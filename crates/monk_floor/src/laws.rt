@@ -1,4 +1,4 @@
-//! What holds for every floor, as laws that other crates may cite. A function does nothing: its contract is the law.
+//! What holds for every floor, as laws that other crates may cite. Each function does nothing: its contract is the law.
 ghost use Rattle.monk_floor.specs.Headed.{LegalAsHeaded};
 
 /// If a header has a floor's numbers, and its object opens as the floor's did, it names the floor's monitor. Then a
