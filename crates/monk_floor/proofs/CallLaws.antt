@@ -1,4 +1,4 @@
--- What a release is, as its caller knows it, by what it says of itself
+-- What a release is, as its caller knows it
 use Rattle.std.proofs.Common.{◌≡◌, ℕ, true, true≢false, not, List, Some, None, refl, sym, ap, ◌∙◌}
 use Rattle.monk_kinds.specs.declared.mode.Mode.{Mode}
 use Rattle.monk_kinds.specs.declared.mode.Mode.TheVariants.{Blocking, ImmediateReturn}
@@ -25,7 +25,7 @@ replyless o (Resume s q) r = λ d. refl
 replyless o (SignalAll s c) r = λ d. refl
 replyless o (SignalWait s c d x) r = λ y. refl
 
--- the data stay, whatever it chooses
+-- the data stay the same, whatever it chooses
 pub keeps_data : (o : Object) (e : Event) (n : Next) → next_of e ≡ Some Stay → (d : List ℕ)
     → data_after o d (with_next n e) ≡ d
 keeps_data o (Enter s via) n r d = refl
@@ -54,7 +54,7 @@ same_seat (SignalWait s c d x) n = refl
 stay_is : (x : Next) → ◌≡◌ {A = Rattle.std.specs.Prelude.Option Next} (Some x) (Some Stay) → x ≡ Stay
 stay_is x e = cc
 
--- written with stay it is as it was
+-- an event written with stay is the same with the choice to stay
 pub as_it_was : (e : Event) → next_of e ≡ Some Stay → with_next Stay e ≡ e
 as_it_was (Enter s via) r = refl
 as_it_was (Act s op m) r = refl
@@ -67,7 +67,7 @@ as_it_was (Resume s q) r = refl
 as_it_was (SignalAll s c) r = refl
 as_it_was (SignalWait s c d x) r = ap (λ y. SignalWait s c d y) (sym (stay_is x r))
 
--- a release whose seat steps back is that signal
+-- a release whose seat may step back is that signal
 pub signal_is : (e : Event) (c : ℕ) → steps_back e ≡ Some c → next_of e ≡ Some Stay → e ≡ Signal (seat_of e) c Stay
 signal_is (Enter s via) c b r = absurd cc
 signal_is (Act s op m) c b r = absurd cc
@@ -80,7 +80,7 @@ signal_is (Resume s q) c b r = absurd cc
 signal_is (SignalAll s k) c b r = absurd cc
 signal_is (SignalWait s k d x) c b r = absurd cc
 
--- where its seat doesn't step back, it makes no signaller; and none of a kind without a signaller queue does
+-- if its seat doesn't step back, it makes no signaller. No release of a kind without a signaller queue steps back
 pub none_steps_back : (m : Mode) (e : Event) → m ≡ ImmediateReturn → is_call_of m e ≡ true → steps_back e ≡ None
 none_steps_back m (Enter s via) is o = refl
 none_steps_back m (Act s op n) is o = refl
@@ -94,7 +94,7 @@ none_steps_back m (Resume s q) is o = refl
 none_steps_back m (SignalAll s c) is o = refl
 none_steps_back m (SignalWait s c d x) is o = refl
 
--- an until is of no kind that has conditions
+-- no kind that has conditions has an until
 pub makes_no_signaller : (o : Object) (m : Mode) (e : Event) → has_conditions m ≡ true → is_call_of m e ≡ true
     → next_of e ≡ Some Stay → steps_back e ≡ None → MakesNoSignaller o e
 makes_no_signaller o m (Enter s via) h k r b = absurd cc

@@ -1,4 +1,4 @@
--- The choice by the fronts of the queues is the choice
+-- The choice by the fronts of the queues is that by the whole queues
 use Rattle.std.proofs.Common.{◌≡◌, ℕ, Bool, true, false, cond, not, ◌&&◌, ◌||◌, ◌==◌, Option, List, [], ◌∷◌, ◌++◌, refl}
 use Rattle.std.proofs.Common.{sym, ap, subst, ◌∙◌, eq-eqb}
 use Rattle.std.specs.Prelude.{slice_get, nat_le, if◌then◌else◌}

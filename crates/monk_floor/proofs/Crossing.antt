@@ -1,4 +1,4 @@
--- A floor may go to another thread where its object may
+-- A floor may go to another thread if its object may
 use denote.RattleType.{RattleType}
 use denote.Param.Send.{IsSend, sendable, view_send, struct_send, recorded_send, AllSend}
 use denote.Struct.Declared.{shape}

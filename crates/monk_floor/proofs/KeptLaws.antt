@@ -57,12 +57,12 @@ range_object : (m : Monitor) (e : Event) → is_in_range m.seats m.conds m.objec
     → fits_object m.object.codes m.object.predicates e ≡ true
 range_object m e h = and_right _ _ h
 
--- a condition of fewer is one of more
+-- a condition of a monitor with fewer is one of a monitor with more
 wider : (n m : ℕ) (o : Option ℕ) → n ≤ m → is_condition n o ≡ true → is_condition m o ≡ true
 wider n m None l h = refl
 wider n m (Some c) l h = grind (arith, l, h)
 
--- nobody waits on a condition past the last
+-- nobody waits on a condition that doesn't exist
 nobody_waits : (n c : ℕ) (e : Event) → n ≤ c → is_condition n (waits_on e) ≡ true → waiting_by c e ≡ []
 nobody_waits n c e l h = ap (λ b. cond b (seat_of e ∷ []) []) (past (waits_on e) h)
   where
@@ -79,7 +79,7 @@ still_unused c e xs n w =
     none zero = refl
     none (suc n) = refl
 
--- in the conditions that there are not, nobody stands
+-- a seat is in no queue of a condition that doesn't exist
 times_unused : (s n m : ℕ) (q : ℕ → List ℕ) → n ≤ m → ((c : ℕ) → n ≤ c → q c ≡ [])
     → times_in_conditions m s q ≡ times_in_conditions n s q
 times_unused s n zero q l h = ap (λ k. times_in_conditions k s q) (let same : 0 ≡ n = omega (arith, l) in same)
@@ -104,7 +104,7 @@ module _ {m : Monitor} {budget : ℕ} {h : List Event} {capacity : ℕ} {q : Que
       → IsInOrder m (situation m h)
   in_order kept k = legal_order m h k kept.legal
 
-  -- whoever calls stands in no queue
+  -- the caller is in no queue
   apart_kept : KeepsHistory m budget h capacity q state turn inside spent granted entered → IsKind m.kind
       → (e : Event) → IsAllowed m h e → in_lists (seat_of e) q ≡ 0
   apart_kept kept k e a =
@@ -221,7 +221,7 @@ module _ {m : Monitor} {budget : ℕ} {h : List Event} {capacity : ℕ} {q : Que
 pub some_left : (n b : ℕ) → 0 < b - n → n < b
 some_left n b h = omega (arith, h)
 
--- what is said of a floor's value is said of what it was before
+-- what holds for a floor's value holds for the equal value before
 pub allowed_here : (k : Rules) (o : Object) (f g : FloorView) (e : Event) → g ≡ f
     → IsAllowed (monitor_of k o f) f.history e → IsAllowed (monitor_of k o g) g.history e
 allowed_here k o f g e s a = subst (λ x. IsAllowed (monitor_of k o x) x.history e) (sym s) a

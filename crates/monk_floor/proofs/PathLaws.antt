@@ -1,4 +1,4 @@
--- The choice along the path of a mode, of what a floor keeps
+-- The choice by the path of a mode, with what a floor keeps
 use Rattle.std.proofs.Common.{◌≡◌, ℕ, Bool, true, false, not, Option, List, ◌++◌, refl, sym, ap, subst, ◌∙◌}
 use Rattle.std.specs.Prelude.{slice_get, nat_le}
 use Rattle.monk_kinds.specs.declared.mode.Rules.{Rules}
@@ -45,7 +45,7 @@ module _ {m : Monitor} {budget : ℕ} {h : List Event} {capacity : ℕ} {q : Que
       → IsChosen m.kind m.object y e known wish n) v
       (λ c. record { choice = x; allowed = kept_allowed kept k e known wish n c r x }) a
 
-  -- what must stay stays
+  -- an event that must stay stays
   pub stay_here : KeepsHistory m budget h capacity q state turn inside spent granted entered → IsKind m.kind
       → (f : FloorView) → view m budget h ≡ f → (e : Event) (known : Bool) (wish : Pick)
       → MayCall (monitor_of m.kind m.object f) f.history e → IsReplyless m.object e → (b : Bool)

@@ -1,4 +1,4 @@
--- What an event makes of the queues
+-- How an event changes the queues
 use Rattle.std.proofs.Common.{◌≡◌, ℕ, ◌≤◌, Bool, true, false, cond, List, [], ◌∷◌, filter, sym, ap, subst, arith}
 use Rattle.monk_history.specs.Limits.{most_conds}
 use Rattle.monk_history.specs.Meaning.Standing.{times, times_in_conditions}
@@ -13,7 +13,7 @@ times_fewer s p (w ∷ ws) = kept (p w) (times_fewer s p ws)
     kept true h = omega (arith, h)
     kept false h = omega (arith, h)
 
--- whoever is in none of the queues is in none after some have gone
+-- a seat that is in none of the queues is in none after some have gone
 pub still_apart : (s : ℕ) (old left : QueueLists) (p : ℕ × ℕ → Bool)
     → ((c : ℕ) → queue_at left.conditions c ≡ queue_at old.conditions c)
     → left.waiters ≡ old.waiters → left.signallers ≡ old.signallers → left.untils ≡ filter p old.untils

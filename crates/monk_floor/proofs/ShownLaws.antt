@@ -19,7 +19,7 @@ use Rattle.monk_floor.proofs.LinkLaws.Walks.{other, rest}
 use Rattle.monk_floor.proofs.LinkLaws.Chains.{times_le}
 use Rattle.monk_floor.proofs.LinkLaws.Passing.{times_both}
 
--- the conditions are behind the three other queues
+-- the conditions come after the three other queues
 three_more : (c : ℕ) → suc (suc (suc c)) ≡ 3 + c
 three_more c = omega arith
 
@@ -41,7 +41,7 @@ times_split : (n s : ℕ) (q : ℕ → List ℕ) → times_in_conditions (suc (s
 times_split zero s q = omega arith
 times_split (suc n) s q = omega (arith, times_split n s q, ap (λ c. times s (q c)) (three_more n))
 
--- whoever is in none of the lists is in none of the linked queues
+-- a seat that is in none of the lists is in none of the linked queues
 pub places_none : (s : ℕ) (p : List ℕ) (qs : List (List ℕ)) → in_lists s (lists_of p qs) ≡ 0
     → places s (queue_at qs) ≡ 0
 unfolding places
@@ -165,7 +165,7 @@ served_whole : (b : Bool) (xs : List ℕ) → cond b [] xs ++ [] ≡ drop (lengt
 served_whole true xs = ap (λ ys. ys ++ []) (sym (drop-length xs))
 served_whole false xs = refl
 
--- whoever is in none of the queues is in none after a front has gone to another
+-- a seat that is in none of the queues is in none after a front has gone to another
 none_moved : (s : ℕ) (b d : Bool) (xs ys : List ℕ) → times s xs ≡ 0 → times s ys ≡ 0
     → times s (drop (cond b 1 0) xs ++ cond d (take 1 ys) []) ≡ 0
 none_moved s b d xs ys h k =

@@ -29,7 +29,7 @@ one_wait p [] i s h = absurd (cc)
 one_wait p (x ∷ xs) zero s h = let same : s ≡ x = cc in ap (λ y. Some (y, get_or p y 0)) same
 one_wait p (x ∷ xs) (suc i) s h = one_wait p xs i s h
 
--- what is behind a seat in the waits-until, by what is behind it in its queue
+-- what comes after a seat in the waits-until, by what comes after it in its queue
 pub none_after : (p xs : List ℕ) (s : ℕ) (o : Option ℕ)
     → ((i : ℕ) → slice_get xs i ≡ Some s → o ≡ slice_get xs (i + 1)) → o ≡ None
     → (i r : ℕ) → slice_get (waits_in p xs) i ≡ Some (s, r) → None ≡ slice_get (waits_in p xs) (i + 1)

@@ -11,13 +11,13 @@ use Rattle.monk_history.specs.declared.event.Next.TheVariants.{Stay}
 use Rattle.monk_floor.specs.Grown.{IsGrown}
 use Rattle.monk_floor.specs.View.{FloorView, monitor_of, stands_of}
 
--- the choice by the wish rules, with which the event is allowed
+-- the choice by the wish rules. The event is allowed with it
 pub record IsChosen (k : Rules) (o : Object) (f : FloorView) (e : Event) (known : Bool) (pick : Pick)
     (next : Next) : Type 0 where
   pub choice : next ≡ choice_of k o (stands_of k o f) e known pick
   pub allowed : IsAllowed (monitor_of k o f) f.history (with_next next e)
 
--- the floor has taken this release: the wish rules choose who goes on, and the history has grown by exactly the event
+-- the floor has made this release: the wish rules choose who goes on, and the history has grown by exactly the event
 -- with that choice
 pub record HasChosen (k : Rules) (o : Object) (old : FloorView) (release : Next → Event) (known : Bool) (pick : Pick)
     (next : Next) (new : FloorView) : Type 0 where

@@ -1,4 +1,4 @@
--- What each call of a floor does to its value
+-- How each call of a floor changes its value
 use Rattle.std.specs.Prelude.{◌≡◌, [], ◌∷◌, ◌++◌}
 use Rattle.monk_kinds.specs.declared.mode.Rules.{Rules}
 use Rattle.monk_object.specs.Object.{Object}

@@ -1,4 +1,4 @@
--- What a floor's fields are of its history
+-- What a floor's fields say of its history
 use Rattle.std.specs.Prelude.{◌≡◌, ℕ, ◌≤◌, ◌<◌, ◌*◌, Bool, false, not, All, List, [], length, slice_index_or}
 use Rattle.monk_history.specs.Limits.{most_seats, most_conds, most_budget}
 use Rattle.monk_history.specs.Meaning.Monitor.{Monitor}
@@ -23,7 +23,7 @@ shown_situation q state turn inside begun = record {
   begun = begun;
 }
 
--- what the floor keeps of its history is right
+-- what the floor keeps with its history is right
 pub record KeepsHistory (m : Monitor) (budget : ℕ) (h : List Event) (capacity : ℕ) (q : QueueLists) (state : List ℕ)
     (turn : Turn) (inside : List Bool) (spent granted : List ℕ) (entered : ℕ) : Type 0 where
   pub legal : IsLegal m h

@@ -1,4 +1,4 @@
--- The queues of a floor as plain lists, and what one event makes of them
+-- The queues of a floor as plain lists, and how one event changes them
 use Rattle.std.specs.Prelude.{◌≡◌, ℕ, ◌+◌, Bool, false, not, Option, Some, None, if◌then◌else◌}
 use Rattle.std.specs.Prelude.{List, ◌++◌, map, length, drop, filter, slice_index_or}
 use Rattle.std.specs.Option.{option_map_or}
@@ -21,11 +21,11 @@ pub record QueueLists : Type 0 where
   pub signallers : List ℕ
   pub untils : List (ℕ × ℕ)
 
--- the queue at c, empty past the end
+-- queue number c, empty if there is no such queue
 abbrev pub queue_at : List (List ℕ) → ℕ → List ℕ
 queue_at = seats_at (λ q. q)
 
--- the waits-until of these seats, where each has its predicate
+-- the waits-until of these seats, each with its predicate
 abbrev pub waits_in : List ℕ → List ℕ → List (ℕ × ℕ)
 waits_in predicates seats = map (λ s. (s, slice_index_or predicates s 0)) seats
 
@@ -38,11 +38,11 @@ lists_of predicates queues = record {
   untils = waits_in predicates (queue_at queues 2);
 }
 
--- how often the seat waits for a predicate
+-- how often the seat waits until a predicate holds
 abbrev pub times_in_waits : ℕ → List (ℕ × ℕ) → ℕ
 times_in_waits s untils = times s (map (λ w. w.0) untils)
 
--- in how many of the queues a seat stands
+-- in how many of the queues a seat is
 abbrev pub in_lists : ℕ → QueueLists → ℕ
 in_lists s q =
     times_in_conditions most_conds s (queue_at q.conditions) + times s q.waiters + times s q.signallers
@@ -69,7 +69,7 @@ pub record IsServed (old : QueueLists) (e : Event) (new : QueueLists) : Type 0 w
 abbrev pub finds_none : (ℕ → List ℕ) → Event → Bool
 finds_none queue e = option_map_or (λ c. is_empty (queue c)) (steps_back e) false
 
--- what an event makes of the queues
+-- how an event changes the queues
 pub record IsMoved (old : QueueLists) (e : Event) (new : QueueLists) : Type 0 where
   pub condition : (c : ℕ) → queue_at new.conditions c ≡ drop (length (served_by c e (queue_at old.conditions c)))
       (queue_at old.conditions c) ++ waiting_by c e

@@ -1,4 +1,4 @@
--- When what a floor keeps can take one event more
+-- When a floor's fields can take one more event
 use Rattle.std.specs.Prelude.{◌≡◌, ℕ, ◌<◌, ◌^◌, Bool, false, true, List, length, slice_index_or, nat_lt}
 use Rattle.std.specs.List.{list_all}
 use Rattle.std.specs.Option.{option_map_or}
@@ -10,7 +10,7 @@ use Rattle.monk_history.specs.Meaning.Signallers.{is_empty}
 use Rattle.monk_history.specs.declared.event.Event.{Event}
 use Rattle.monk_floor.specs.Queues.{QueueLists, in_lists}
 
--- an event fits what a floor keeps
+-- an event fits the floor's fields
 pub record HasRoomFor (q : QueueLists) (inside : List Bool) (spent granted : List ℕ) (entered : ℕ)
     (e : Event) : Type 0 where
   pub few : seat_of e < most_seats

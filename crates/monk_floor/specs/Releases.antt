@@ -11,21 +11,21 @@ use Rattle.monk_history.specs.Meaning.Release.{MayCall}
 use Rattle.monk_history.specs.declared.event.Event.{Event}
 use Rattle.monk_floor.specs.View.{FloorView, monitor_of}
 
--- a floor may be called so, as it stands: the event is allowed apart from its choice and its reply
+-- this call may be made on a floor: the event is allowed apart from its choice and its reply
 abbrev pub MayCallOn : Rules → Object → FloorView → Event → Type 0
 MayCallOn k o f e = MayCall (monitor_of k o f) f.history e
 
--- it has no reply
+-- the event has no reply
 abbrev pub IsReplyless : Object → Event → Type 0
 IsReplyless o e = (d : List ℕ) → is_right_reply o d e ≡ true
 
--- it must choose, and makes nobody a signaller: a leave, a wait, a signal and leave
+-- the event must give the monitor up, and makes nobody a signaller: a leave, a wait, a signal and leave
 pub record MakesNoSignaller (o : Object) (e : Event) : Type 0 where
   pub replyless : IsReplyless o e
   pub chooses : (t : Situation) → must_stay o t e ≡ false
   pub signals : (queue : ℕ → List ℕ) → signals queue e ≡ []
 
--- and it serves nobody: a leave, a wait
+-- it also serves nobody: a leave, a wait
 pub record ServesNobody (o : Object) (e : Event) : Type 0 where
   pub replyless : IsReplyless o e
   pub chooses : (t : Situation) → must_stay o t e ≡ false

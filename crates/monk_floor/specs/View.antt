@@ -18,7 +18,7 @@ pub record FloorView : Type 0 where
 abbrev pub monitor_of : Rules → Object → FloorView → Monitor
 monitor_of k o f = monitor k f.seats f.conds o f.opening
 
--- how that monitor stands after its history
+-- the situation of that monitor after its history
 abbrev pub stands_of : Rules → Object → FloorView → Situation
 stands_of k o f = situation (monitor_of k o f) f.history
 

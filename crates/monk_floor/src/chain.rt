@@ -1,7 +1,6 @@
 ghost use Rattle.std.specs.Prelude.{◌≡◌};
 
-/// The first and the last seat of a queue, and its length. If the queue is empty, neither end means
-/// anything.
+/// The first and the last seat of a queue, and its length. If the queue is empty, neither end means anything.
 #[derive(Clone, Copy)]
 pub struct Chain {
     pub first: u8,
@@ -10,14 +9,14 @@ pub struct Chain {
 }
 
 impl Chain {
-    /// Nobody.
+    /// The empty queue.
     pub const EMPTY: Chain = Chain {
         first: 0,
         last: 0,
         length: 0,
     };
 
-    /// One seat.
+    /// Returns the queue of one seat.
     pub fn of(seat: u8) -> Chain
         ensures { result ≡ record { first = seat; last = seat; length = 1 } }
     {

@@ -12,7 +12,7 @@ use monk_history::{Event, From3, Next};
 use monk_kinds::Pick;
 use monk_object::Guarded;
 
-/// The first of the waits-until whose predicate holds. Costs a judgement of each wait-until before it.
+/// Returns the first of the waits-until whose predicate holds. It judges each wait-until up to that one.
 pub fn first_ready<T: Guarded>(object: &T, queues: &Queues) -> Option<u8>
     requires { All (λ w. w.1 < T.PREDICATES) queues.now.untils }
     ensures { result ≡ slice_get (ready_of T.meaning (T.state object.now) queues.now.untils) 0 }
@@ -30,7 +30,7 @@ pub fn first_ready<T: Guarded>(object: &T, queues: &Queues) -> Option<u8>
     None
 }
 
-/// Whether an event must stay: a signal on an empty condition, an until whose predicate holds.
+/// Whether an event must stay. A signal on an empty condition must, and an until whose predicate holds.
 pub fn must_stay<T: Guarded>(object: &T, queues: &Queues, event: Event) -> bool
     requires signals { is_condition most_conds (events.signals_on event) ≡ true }
     requires object { fits_object T.CODES T.PREDICATES event ≡ true }
@@ -43,7 +43,7 @@ pub fn must_stay<T: Guarded>(object: &T, queues: &Queues, event: Event) -> bool
     }
 }
 
-/// The choice of that seat from that queue.
+/// Returns the choice of that seat from that queue.
 fn next_from(queue: From3, seat: u8) -> Next
     ensures { result ≡ paths.next_from queue seat }
 {
@@ -54,7 +54,7 @@ fn next_from(queue: From3, seat: u8) -> Next
     }
 }
 
-/// The choice past one inner queue, by its front and whether entry ties with it.
+/// Returns the choice if only one inner queue counts. It is given the front, and whether entry ties with the queue.
 pub fn single_choice(
     queue: From3,
     ties: bool,
@@ -73,7 +73,7 @@ pub fn single_choice(
     }
 }
 
-/// The front of the signaller queue, which stays if it is the caller.
+/// Returns the choice of the front of the signaller queue. It is to stay if the front is the caller.
 fn staying(front: u8, caller: u8) -> Next
     ensures { result ≡ paths.staying front caller }
 {
@@ -84,8 +84,8 @@ fn staying(front: u8, caller: u8) -> Next
     }
 }
 
-/// The choice past a waiter queue and a signaller queue of one priority, by their fronts and whether entry ties
-/// with them.
+/// Returns the choice if the waiter queue and the signaller queue have one priority. It is given their fronts, and
+/// whether entry ties with them.
 pub fn equal_choice(
     ties: bool,
     waiter: Option<u8>,
@@ -111,7 +111,7 @@ pub fn equal_choice(
     }
 }
 
-/// The choice of a signal that hands over to the seat that it serves.
+/// Returns the choice of a signal that hands over to the seat that it serves.
 pub fn served_choice(served: Option<u8>) -> Next
     ensures { result ≡ paths.served_choice served }
 {

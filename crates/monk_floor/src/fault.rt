@@ -22,7 +22,7 @@ pub enum MakeFault {
 }
 
 impl MakeFault {
-    /// The fault's number: 1 for `Seats`, 2 for `Conds`, 3 for `Budget`, 4 for `Memory`.
+    /// Returns the fault's number: 1 for `Seats`, 2 for `Conds`, 3 for `Budget`, 4 for `Memory`.
     pub fn number(self) -> u8
         ensures seats { (result ≡ 1) ↔ (self ≡ MakeFault.Seats) }
         ensures conds { (result ≡ 2) ↔ (self ≡ MakeFault.Conds) }

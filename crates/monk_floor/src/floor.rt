@@ -34,12 +34,12 @@ mod plain;
 
 /// The floor of a monitor of kind `K` over an object `T`: the object, the queues and the history.
 ///
-/// In contracts, a floor is its object's opening state, its numbers and its history. The data, the
-/// queues, the turn and who is inside are computed from these by the definitions.
+/// In contracts, a floor is its object's opening state, its numbers and its history. The definitions compute the
+/// data, the queues, the turn and who is inside from these.
 ///
-/// Making a floor reserves `seats * budget` events and the counts of the seats; the queues are links in arrays of fixed
-/// size. No later call takes memory, and the time of each is independent of how long the history is: it is constant, or
-/// in the number of waits-until where the call says so.
+/// Making a floor takes memory for `seats * budget` events and for the counts of the seats. The queues are links in
+/// arrays of fixed size. No later call takes memory. The time of a call doesn't depend on the length of the history.
+/// It is constant, or linear in the number of waits-until if the call says so.
 #[derive(Drop)]
 pub struct Floor<K: Kind, T: Guarded> {
     object: T,
@@ -75,11 +75,11 @@ impl<K: Kind, T: Guarded> Model for Floor<K, T> {
 }
 
 impl<K: Kind, T: Guarded> Floor<K, T> {
-    /// A floor over an object, with no event yet: 1 to 32 seats, at most 8 condition variables, and 2 to 2^20 events
-    /// for each seat.
+    /// Makes a floor over an object, with no event yet. It has 1 to 32 seats, at most 8 condition variables, and 2 to
+    /// 2^20 events for each seat.
     ///
-    /// Returns the first fault that applies, lack of memory last, and then drops the object. Takes
-    /// memory for `seats * budget` events at once.
+    /// Returns the first fault that applies, lack of memory last, and then drops the object. Takes memory for
+    /// `seats * budget` events at once.
     pub fn make(
         alloc: Global,
         object: T,
@@ -103,7 +103,7 @@ impl<K: Kind, T: Guarded> Floor<K, T> {
         Ok(Self::build(alloc, object, seats, conds, budget)?)
     }
 
-    /// A floor with these numbers, which are in range.
+    /// Builds a floor with these numbers, which are in range.
     fn build(
         alloc: Global,
         object: T,
@@ -131,8 +131,8 @@ impl<K: Kind, T: Guarded> Floor<K, T> {
         })
     }
 
-    /// Appends an event that is allowed. It is no act, since that changes the object. Constant time, but for an event
-    /// that chose a wait-until, which costs those before it.
+    /// Appends an allowed event that is no act (an act changes the object). Takes constant time. Only an event that
+    /// chose a wait-until costs more: the waits-until before it.
     #[inline(always)]
     fn append(&mut self, event: Event)
         requires allowed { IsAllowed (monitor_of K.rules T.meaning self.old) self.old.history event }
@@ -144,8 +144,8 @@ impl<K: Kind, T: Guarded> Floor<K, T> {
         self.history.push_reserved(event);
     }
 
-    /// What a release chooses by the wish rules, over all queues as they are after its own moves. Any next may stand
-    /// in the event. Costs a judgement of each wait-until up to the first that is ready.
+    /// Returns what a release chooses by the wish rules, over all queues as they are after its own moves. The next in
+    /// `event` isn't read. It judges each wait-until up to the first that is ready.
     #[inline(always)]
     fn next_by(&self, event: Event, entry_known: bool, pick: Pick) -> Next
         requires call { MayCallOn K.rules T.meaning self.now event }
@@ -163,8 +163,8 @@ impl<K: Kind, T: Guarded> Floor<K, T> {
         fronts.choose(rules_of::<K>(), event.seat(), entry_known, pick)
     }
 
-    /// A seat that is outside enters where the monitor is free: `Via::Free` past no inner queue, `Via::Handed` after
-    /// somebody let it in. Constant time.
+    /// Lets in a seat that is outside, if the turn is open. `via` is `Via::Free` if nobody could be chosen from an
+    /// inner queue, and `Via::Handed` if somebody let the seat in. Constant time.
     #[inline(always)]
     pub fn enter(&mut self, seat: u8, via: Via)
         requires call { MayCallOn K.rules T.meaning self.old (Event.Enter seat via) }
@@ -174,7 +174,7 @@ impl<K: Kind, T: Guarded> Floor<K, T> {
         self.append(Event::Enter(seat, via));
     }
 
-    /// The seat that was chosen from a queue goes on, and learns from which queue. Constant time.
+    /// Lets the seat that was chosen from a queue go on. Returns that queue. Constant time.
     #[inline(always)]
     pub fn resume(&mut self, seat: u8) -> From3
         requires seat { seat < self.old.seats }
@@ -187,19 +187,19 @@ impl<K: Kind, T: Guarded> Floor<K, T> {
         queue
     }
 
-    /// The queue from which the turn is due.
+    /// Returns the queue from which the turn is due.
     fn due(&self) -> From3
         requires { IsDueSome (turn self.now.history) }
         ensures { turn self.now.history ≡ Turn.Due (due_seat (turn self.now.history)) result }
     {
         match self.ledger.turn {
             Turn::Due(_, queue) => queue,
-            // The turn is due to some seat.
+            // The turn is due to some seat, as required.
             _ => unreachable!(),
         }
     }
 
-    /// The active seat carries an operation out on the object, and gets its reply. Costs what the object's `act` costs.
+    /// Carries out an operation of the active seat, and returns the reply. Costs what the object's `act` costs.
     #[inline(always)]
     pub fn act(&mut self, seat: u8, op: Op) -> u64
         requires call { MayCallOn K.rules T.meaning self.old (Event.Act seat op 0) }
@@ -213,7 +213,7 @@ impl<K: Kind, T: Guarded> Floor<K, T> {
         reply
     }
 
-    /// Whether a predicate holds of the data. Constant time.
+    /// Whether a predicate holds for the data. Constant time.
     pub fn holds(&self, pred: u8) -> bool
         requires { pred < T.PREDICATES }
         ensures { result ≡ T.meaning.holds (data_of (monitor_of K.rules T.meaning self.now) self.now.history) pred }
@@ -221,7 +221,7 @@ impl<K: Kind, T: Guarded> Floor<K, T> {
         self.object.holds(pred)
     }
 
-    /// The history, which is always legal, and short enough for a text. Constant time.
+    /// Returns the history, which is always legal, and short enough for a text. Constant time.
     pub fn history(&self) -> &[Event]
         ensures history { result.now ≡ self.now.history }
         ensures legal { IsLegal (monitor_of K.rules T.meaning self.now) self.now.history }
@@ -230,7 +230,7 @@ impl<K: Kind, T: Guarded> Floor<K, T> {
         self.history.as_slice()
     }
 
-    /// How many events a seat has left of its budget. Constant time.
+    /// Returns how many events a seat has left of its budget. Constant time.
     pub fn left(&self, seat: u8) -> u32
         requires { seat < self.now.seats }
         ensures { result ≡ left_of self.now.budget self.now.history seat }
@@ -238,7 +238,7 @@ impl<K: Kind, T: Guarded> Floor<K, T> {
         self.budget - self.ledger.spent[seat as usize]
     }
 
-    /// How many seats wait on a condition variable. Constant time.
+    /// Returns how many seats wait on a condition variable. Constant time.
     pub fn waiting(&self, cond: u8) -> u32
         requires { cond < self.now.conds }
         ensures { result ≡ length (condition cond self.now.history) }
@@ -246,7 +246,7 @@ impl<K: Kind, T: Guarded> Floor<K, T> {
         self.ledger.queues.waiting(cond) as u32
     }
 
-    /// How many events chose the seat from a queue. A `stay` doesn't count. Constant time.
+    /// Returns how many events chose the seat from a queue. A `stay` doesn't count. Constant time.
     pub fn granted(&self, seat: u8) -> u32
         requires { seat < self.now.seats }
         ensures { result ≡ granted_of self.now.history seat }
@@ -254,15 +254,15 @@ impl<K: Kind, T: Guarded> Floor<K, T> {
         self.ledger.granted[seat as usize]
     }
 
-    /// How many enters there were. Constant time.
+    /// Returns how many enters there were. Constant time.
     pub fn enters(&self) -> u32
         ensures { result ≡ enters_of self.now.history }
     {
         self.ledger.entered
     }
 
-    /// Whether the seat is in a queue. No queue is searched: a seat is in one exactly if it is
-    /// inside and it is not its turn. Constant time.
+    /// Whether the seat is in a queue. It is in one if it is inside and doesn't have the turn, so no queue is
+    /// searched. Constant time.
     pub fn queued(&self, seat: u8) -> bool
         requires { seat < self.now.seats }
         ensures { result ≡ is_queued self.now.conds seat (stands_of K.rules T.meaning self.now) }
@@ -270,8 +270,8 @@ impl<K: Kind, T: Guarded> Floor<K, T> {
         is_parked(&self.ledger.inside, self.ledger.turn, seat)
     }
 
-    /// Gives the object and the history out. The object's state is the data of that history, which is legal and has
-    /// at most a budget of events for each seat. Constant time.
+    /// Returns the object and the history. The object's state is the data of that history, which is legal and has at
+    /// most a budget of events for each seat. Constant time.
     pub fn close(self) -> (T, Vec<Event>)
         ensures object { T.state result.0 ≡ data_of (monitor_of K.rules T.meaning self) self.history }
         ensures history { result.1.items ≡ self.history }
@@ -282,7 +282,7 @@ impl<K: Kind, T: Guarded> Floor<K, T> {
     }
 }
 
-/// Whether a seat is inside and has not the turn.
+/// Whether a seat is inside and doesn't have the turn.
 fn is_parked(inside: &[bool], turn: Turn, seat: u8) -> bool
     requires { seat < length inside.now }
     ensures { result ≡ (slice_index_or inside.now seat false && not (nat_lt 0 (has_turn seat turn))) }
@@ -290,7 +290,7 @@ fn is_parked(inside: &[bool], turn: Turn, seat: u8) -> bool
     inside[seat as usize] && !has_turn(turn, seat)
 }
 
-/// Whether a seat has the turn or is due to have it.
+/// Whether a seat has the turn, or is due to have it.
 fn has_turn(turn: Turn, seat: u8) -> bool
     ensures { result ≡ nat_lt 0 (has_turn seat turn) }
 {

@@ -79,7 +79,7 @@ impl Fronts {
         }
     }
 
-    /// The choice of a release of a seat, by its wish and by whether somebody is known to wait for entry.
+    /// Returns the choice of a seat's release, by its wish and by whether somebody is known to wait for entry.
     pub fn choose(self, rules: Rules, seat: u8, entry_known: bool, pick: Pick) -> Next
         ensures { result ≡ wish.choice_by rules (queues self) seat entry_known pick }
     {

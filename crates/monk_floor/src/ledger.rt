@@ -11,7 +11,7 @@ use crate::queues::Queues;
 use monk_history::{Event, From3, Next, Turn};
 use std::alloc::{AllocError, Global};
 
-/// Notes who is inside after an event.
+/// Updates who is inside after an event.
 #[inline(always)]
 pub fn mark_inside(inside: &mut [bool], event: Event)
     requires { events.seat_of event < length inside.old }
@@ -45,7 +45,7 @@ pub fn count_one(counts: &mut [u32], seat: u8)
     counts[seat as usize] += 1;
 }
 
-/// Counts the seat that an event chose from a queue.
+/// Counts the seat that an event chose from a queue, if it did.
 #[inline(always)]
 fn grant(granted: &mut [u32], event: Event)
     requires named { list_all (λ j. nat_lt j (length granted.old)) (events.named_seat (events.next_of event)) ≡ true }
@@ -62,7 +62,7 @@ fn grant(granted: &mut [u32], event: Event)
     }
 }
 
-/// Counts an enter.
+/// Returns the number of enters after an event.
 #[inline(always)]
 fn entered_after(entered: u32, event: Event) -> u32
     requires { entered < 2 ^ 25 }
@@ -74,8 +74,8 @@ fn entered_after(entered: u32, event: Event) -> u32
     }
 }
 
-/// What a floor keeps beside its object and its history: the queues, the turn, who is inside, and how
-/// many events each seat has made.
+/// What a floor keeps with its object and its history: the queues, the turn, who is inside, and how many events each
+/// seat has made.
 #[derive(Drop)]
 pub struct Ledger {
     pub queues: Queues,
@@ -89,7 +89,7 @@ pub struct Ledger {
 impl Ledger {
     ghost use Rattle.monk_floor.specs.Queues.{queue_at};
 
-    /// The ledger of no events.
+    /// Makes the ledger of no events.
     pub fn make(alloc: Global, seats: u8) -> Result<Ledger, AllocError>
         ensures conditions { IfOk result (λ l. (c : ℕ) → queue_at l.queues.conditions c ≡ []) }
         ensures waiters { IfOk result (λ l. l.queues.waiters ≡ []) }
@@ -114,7 +114,7 @@ impl Ledger {
         })
     }
 
-    /// Notes one event more.
+    /// Notes one more event.
     #[inline(always)]
     pub fn note(&mut self, event: Event)
         requires { HasRoomFor self.old.queues self.old.inside.items self.old.spent.items self.old.granted.items

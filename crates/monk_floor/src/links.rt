@@ -14,10 +14,10 @@ pub const QUEUES: u8 = MOST_CONDS + 3;
 
 /// Queues of seats, each linked from seat to seat.
 ///
-/// A seat is in at most one of them, so that one link for each seat serves all queues.
+/// A seat is in at most one of them, so one link for each seat serves all queues.
 #[derive(Drop)]
 pub struct Links {
-    // behind each seat the next one of its queue; behind the last of a queue any seat
+    // for each seat the next one of its queue; for the last of a queue any seat
     next: [u8; MOST_SEATS as usize],
     chains: [Chain; QUEUES as usize],
 }
@@ -34,7 +34,7 @@ impl Model for Links {
 }
 
 impl Links {
-    /// Queues with nobody in them.
+    /// Returns queues with nobody in them.
     pub fn new() -> Links
         ensures { (c : ℕ) → queue_at result c ≡ [] }
     {
@@ -44,7 +44,7 @@ impl Links {
         }
     }
 
-    /// How many seats a queue has. Constant time.
+    /// Returns how many seats a queue has. Constant time.
     pub fn len(&self, queue: u8) -> u8
         requires { queue < QUEUES }
         ensures { result ≡ length (queue_at self.now queue) }
@@ -60,7 +60,7 @@ impl Links {
         self.chains[queue as usize].length == 0
     }
 
-    /// The front of a queue. Constant time.
+    /// Returns the front of a queue. Constant time.
     pub fn front(&self, queue: u8) -> Option<u8>
         requires { queue < QUEUES }
         ensures front { result ≡ slice_get (queue_at self.now queue) 0 }
@@ -74,7 +74,7 @@ impl Links {
         }
     }
 
-    /// The seat behind one that is in a queue. Constant time.
+    /// Returns the seat after one that is in a queue. Constant time.
     pub fn after(&self, queue: u8, seat: u8) -> Option<u8>
         requires queue { queue < QUEUES }
         requires there { 1 ≤ times seat (queue_at self.now queue) }
@@ -109,7 +109,7 @@ impl Links {
         }
     }
 
-    /// Takes the front of a queue, if there is one. Constant time.
+    /// Takes the front out of a queue, if there is one. Constant time.
     pub fn pop(&mut self, queue: u8) -> Option<u8>
         requires { queue < QUEUES }
         ensures front { result ≡ slice_get (queue_at self.old queue) 0 }
@@ -130,7 +130,7 @@ impl Links {
         Some(front)
     }
 
-    /// Takes the front of a queue, if there is one, to the back of another. Constant time.
+    /// Moves the front of a queue, if there is one, to the back of another. Constant time.
     pub fn pass(&mut self, from: u8, to: u8)
         requires from { from < QUEUES }
         requires to { to < QUEUES }
@@ -143,7 +143,7 @@ impl Links {
         }
     }
 
-    /// Takes all seats of a queue, in order, to the back of another. Constant time.
+    /// Moves all seats of a queue, in order, to the back of another. Constant time.
     pub fn pass_all(&mut self, from: u8, to: u8)
         requires from { from < QUEUES }
         requires to { to < QUEUES }
@@ -170,7 +170,7 @@ impl Links {
         };
     }
 
-    /// Takes a seat out of a queue, wherever it stands in it, if it does. Costs the seats before it.
+    /// Takes a seat out of a queue, if it is in it. Costs the seats before it.
     pub fn remove(&mut self, queue: u8, seat: u8)
         requires { queue < QUEUES }
         ensures removed { queue_at self.new queue ≡ without seat (queue_at self.old queue) }
@@ -183,7 +183,7 @@ impl Links {
         }
     }
 
-    /// The seat in front of a seat of a queue. Costs the seats before it.
+    /// Returns the seat just before a seat of a queue. Costs the seats before it.
     fn before(&self, queue: u8, seat: u8) -> Option<u8>
         requires { queue < QUEUES }
         ensures { result ≡ seat_before seat (queue_at self.now queue) }
@@ -200,7 +200,7 @@ impl Links {
         None
     }
 
-    /// Takes out the seat behind another. Constant time.
+    /// Takes out the seat that comes after `before`. Constant time.
     fn unlink(&mut self, queue: u8, before: u8, seat: u8)
         requires queue { queue < QUEUES }
         requires before { seat_before seat (queue_at self.old queue) ≡ Some before }
@@ -217,7 +217,7 @@ impl Links {
     }
 }
 
-/// The last seat of a queue without a seat that is behind another.
+/// Returns the last seat of a queue after `seat`, which comes after `before`, is taken out.
 fn last_without(chain: Chain, seat: u8, before: u8) -> u8
     ensures { result ≡ (if chain.last == seat then before else chain.last) }
 {

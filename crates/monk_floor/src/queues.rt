@@ -16,7 +16,7 @@ const SIGNALLERS: u8 = 1;
 
 const UNTILS: u8 = 2;
 
-/// The number of a condition variable's queue.
+/// Returns the number of a condition variable's queue.
 fn condition(cond: u8) -> u8
     requires { cond < MOST_CONDS }
     ensures { result ≡ 3 + cond }
@@ -28,7 +28,7 @@ fn condition(cond: u8) -> u8
 #[derive(Drop)]
 pub struct Queues {
     links: Links,
-    // for each seat the predicate for which it waited last
+    // for each seat the last predicate for which it waited
     predicates: [u8; MOST_SEATS as usize],
 }
 
@@ -46,7 +46,7 @@ impl Queues {
     ghost use Rattle.monk_history.specs.Meaning.Waiters.{serves};
     ghost use Rattle.monk_history.specs.Meaning.Signallers.{signals};
 
-    /// Queues with nobody in them.
+    /// Returns queues with nobody in them.
     pub fn new() -> Queues
         ensures conditions { (c : ℕ) → lists.queue_at result.conditions c ≡ [] }
         ensures waiters { result.waiters ≡ [] }
@@ -59,14 +59,14 @@ impl Queues {
         }
     }
 
-    /// How many waits-until there are. Constant time.
+    /// Returns how many waits-until there are. Constant time.
     pub fn untils(&self) -> u8
         ensures { result ≡ length self.now.untils }
     {
         self.links.len(UNTILS)
     }
 
-    /// The first of the waits-until: its seat and its predicate. Constant time.
+    /// Returns the first of the waits-until: its seat and its predicate. Constant time.
     pub fn first_until(&self) -> Option<(u8, u8)>
         ensures { result ≡ slice_get self.now.untils 0 }
     {
@@ -74,7 +74,7 @@ impl Queues {
         Some((seat, self.predicates[seat as usize]))
     }
 
-    /// The wait-until behind that of a seat. Constant time.
+    /// Returns the wait-until after that of a seat. Constant time.
     pub fn until_after(&self, seat: u8) -> Option<(u8, u8)>
         requires { 1 ≤ lists.times_in_waits seat self.now.untils }
         ensures { (i pred : ℕ) → slice_get self.now.untils i ≡ Some (seat, pred)
@@ -84,7 +84,7 @@ impl Queues {
         Some((next, self.predicates[next as usize]))
     }
 
-    /// How many seats wait on a condition. Constant time.
+    /// Returns how many seats wait on a condition. Constant time.
     pub fn waiting(&self, cond: u8) -> u8
         requires { cond < MOST_CONDS }
         ensures { result ≡ length (lists.queue_at self.now.conditions cond) }
@@ -92,7 +92,7 @@ impl Queues {
         self.links.len(condition(cond))
     }
 
-    /// The front of a condition's queue. Constant time.
+    /// Returns the front of a condition's queue. Constant time.
     pub fn front_of(&self, cond: u8) -> Option<u8>
         requires { cond < MOST_CONDS }
         ensures { result ≡ slice_get (lists.queue_at self.now.conditions cond) 0 }
@@ -120,7 +120,7 @@ impl Queues {
         }
     }
 
-    /// The front of the waiter queue, with those that an event serves in it. Constant time.
+    /// Returns the front of the waiter queue, with those in it that an event serves. Constant time.
     #[inline(always)]
     pub fn front_waiter(&self, event: Event) -> Option<u8>
         requires { is_condition most_conds (events.signals_on event) ≡ true }
@@ -138,7 +138,7 @@ impl Queues {
         }
     }
 
-    /// The front of the signaller queue, with the caller of a served signal in it. Constant time.
+    /// Returns the front of the signaller queue, with the caller of a served signal in it. Constant time.
     #[inline(always)]
     pub fn front_signaller(&self, event: Event) -> Option<u8>
         requires { is_condition most_conds (events.signals_on event) ≡ true }
@@ -159,8 +159,8 @@ impl Queues {
         }
     }
 
-    /// Carries out an event. Constant time, but for an event that chose a seat of the waits-until, which costs those
-    /// before it.
+    /// Carries out an event. Takes constant time. Only an event that chose a seat of the waits-until costs more:
+    /// those before it.
     #[inline(always)]
     pub fn carry_out(&mut self, event: Event)
         requires seat { events.seat_of event < MOST_SEATS }
@@ -175,7 +175,7 @@ impl Queues {
         self.settle(event, none);
     }
 
-    /// Takes out the wait-until of the seat that an event chose.
+    /// Takes out the wait-until of the seat that an event chose, if it chose one.
     #[inline(always)]
     fn drop_chosen(&mut self, event: Event)
         ensures conditions { (c : ℕ) → lists.queue_at self.new.conditions c ≡ lists.queue_at self.old.conditions c }
@@ -188,7 +188,7 @@ impl Queues {
         }
     }
 
-    /// Carries out what an event joins and serves.
+    /// Moves the seats that an event puts into queues: its own, and those that it serves.
     #[inline(always)]
     fn join(&mut self, event: Event)
         requires seat { events.seat_of event < MOST_SEATS }
@@ -221,7 +221,7 @@ impl Queues {
         }
     }
 
-    /// Takes the fronts that an event chose, once it has served.
+    /// Takes the front that an event chose out of its queue. The event's seats are already in their queues.
     #[inline(always)]
     fn settle(&mut self, event: Event, none: bool)
         ensures conditions { (c : ℕ) → lists.queue_at self.new.conditions c ≡ lists.queue_at self.old.conditions c }
@@ -239,7 +239,7 @@ impl Queues {
     }
 }
 
-/// The seat of the waits-until that an event chose.
+/// Returns the seat of the waits-until that an event chose.
 fn chosen_until(event: Event) -> Option<u8>
     ensures { result ≡ lists.chosen_until (events.next_of event) }
 {
@@ -263,7 +263,7 @@ fn takes_waiter(event: Event) -> bool
     matches!(event.choice(), Some(Next::Waiter(_)))
 }
 
-/// Whether an event takes the front of the signaller queue: it chose it, or stays in a served signal.
+/// Whether an event takes the front of the signaller queue: it chose that, or it stays in a served signal.
 fn takes_front(event: Event, none: bool) -> bool
     ensures { result ≡ takes_front none event }
 {

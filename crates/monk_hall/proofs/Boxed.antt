@@ -1,4 +1,4 @@
--- What is known of a floor is known of what its box shows
+-- What holds for a floor holds for what its box shows
 use Rattle.std.proofs.Common.{◌≡◌, sym, subst}
 use Rattle.monk_kinds.specs.declared.mode.Rules.{Rules}
 use Rattle.monk_object.specs.Object.{Object}

@@ -1,4 +1,4 @@
--- Where no seat is in a queue, every queue is empty, and a leave lets the entry in
+-- If no seat is in a queue, every queue is empty, and a leave lets the entry in
 use Rattle.std.proofs.Common.{◌≡◌, ℕ, zero, suc, ◌*◌, ◌==◌, ◌<◌, ◌≤◌, ◌⊎◌, cond, Bool, true, false, nat_lt, ◌&&◌}
 use Rattle.std.proofs.Common.{List, [], ◌∷◌, ◌++◌, map, length, sym, refl, ap, ◌∙◌, subst, inl, inr, arith, eq-eqb}
 use Rattle.std.proofs.lemmas.List.{nil_from_length}
@@ -115,7 +115,7 @@ few_of h g m b n c same seats budget within =
     subst (λ (x : List Event). length x ≤ n * c) (sym same)
     (subst (λ (x : ℕ). length g ≤ n * x) budget (subst (λ (x : ℕ). length g ≤ x * b) seats within))
 
--- the active seat has left, where no seat was in a queue
+-- the active seat has left, when no seat was in a queue
 pub ended : (k : Rules) (o : Object) (a : Holder) (f : FloorView) (number : ℕ) (choice : Next) (g : FloorView)
     (history : List Event) (state : List ℕ) → a.floor ≡ f → a.me.seat ≡ number
     → events_of a.floor.history a.me.seat ≡ a.me.mine → IsLegal (monitor_of k o f) f.history
@@ -147,7 +147,7 @@ ended k o a f number choice g history state floor seat own legal unqueued grows 
           few_of history g.history g.seats g.budget a.floor.seats a.floor.budget is_history seats budget within;
     }
 
--- what holds of all seats of the hall holds of all seats of the floor, which a look at the ticket word leaves
+-- what holds for all seats of the hall holds for all seats of the floor, which a look doesn't change
 pub unqueued_all : (k : Rules) (o : Object) (f g : FloorView) (seats : ℕ) → IsUnqueued k o f seats → seats ≡ f.seats
     → g ≡ f → IsUnqueued k o g g.seats
 unqueued_all k o f g seats none all same =

@@ -1,4 +1,4 @@
--- How many events a history has that holds the calls of some seats, and what their number tells
+-- How many events a history has that holds the calls of some seats, and what their number shows
 use Rattle.std.proofs.Common.{◌≡◌, ◌≢◌, ℕ, ◌+◌, ◌<◌, ◌≤◌, ◌==◌, Bool, cond, zero, suc, List, [], ◌∷◌, ◌++◌, length, map, take}
 use Rattle.std.proofs.Common.{append-nil, length-append, refl, sym, ap, ◌∙◌, arith, eq-eqb, ⊎_elim}
 use Rattle.std.specs.Prelude.{All, AllPairs, slice_index_or, sum_by}
@@ -21,7 +21,7 @@ use Rattle.monk_hall.proofs.MeetLaws.{events_of-append}
 abbrev seats_of : ℕ → List Token → List ℕ
 seats_of seat ps = seat ∷ map (λ p. p.me.seat) ps
 
--- in what a seat has seen its own events are those that it knows
+-- the seat's events in what it has seen are those that it knows as its own
 abbrev pub KnowsItsOwn : Token → Type 0
 KnowsItsOwn p = events_of p.me.seen p.me.seat ≡ p.me.mine
 
@@ -73,8 +73,8 @@ sum_map f (p ∷ ps) =
     sum_by-cons f p.me.seat (map (λ q. q.me.seat) ps) ∙ ap (λ n. f p.me.seat + n) (sum_map f ps)
     ∙ sym (sum_by-cons (λ q. f q.me.seat) p ps)
 
--- the sum of a weight over a history that holds only these calls is that over the closing seat's,
--- and over each pass's own
+-- the sum of a weight over a history that holds only these calls is that over the closing seat's events, and over
+-- each pass's own
 pub holds_sum : (w : Event → ℕ) (h : List Event) (seat : ℕ) (ps : List Token) → AreApart seat ps → HoldsOnly h seat ps
     → sum_by w h ≡ sum_by w (events_of h seat) + sum_by (λ p. sum_by w p.me.mine) ps
 holds_sum w h seat ps apart only =
@@ -93,14 +93,14 @@ lengths ps =
     same_sums (λ p. sum_by (λ (e : Event). 1) p.me.mine) (λ p. length p.me.mine) ps
     (λ k d within. sym (length-sum_by _))
 
--- so it is as long as they have made events
+-- so its length is the number of the events that they have made
 pub holds_length : (h : List Event) (seat : ℕ) (ps : List Token) → AreApart seat ps → HoldsOnly h seat ps
     → length (events_of h seat) + made_by ps ≡ length h
 holds_length h seat ps apart only =
     let all = holds_sum (λ (e : Event). 1) h seat ps apart only in
     omega (arith, all, length-sum_by h, length-sum_by (events_of h seat), lengths ps)
 
--- each of these seats has all that it knows as its own in a history that begins with what it has seen
+-- in a history that begins with what a seat has seen, the seat has all events that it knows as its own
 own_le : (h : List Event) (p : Token) → StartsWith h p.me.seen → KnowsItsOwn p
     → length p.me.mine ≤ length (events_of h p.me.seat)
 own_le h p seen own =
@@ -128,7 +128,7 @@ sum_le a b (x ∷ xs) h =
       sum_le a b xs (All-tail (λ y. a y ≤ b y) x xs h),
     )
 
--- where none is greater, and the sums are the same, each is the same
+-- if none is greater, and the sums are the same, each is the same
 sum_tight : {X : Type 0} (a b : X → ℕ) (xs : List X) → All (λ x. a x ≤ b x) xs → sum_by a xs ≡ sum_by b xs
     → All (λ x. a x ≡ b x) xs
 sum_tight a b [] h same = All-nil (λ x. a x ≡ b x)
@@ -167,7 +167,7 @@ all_le : (h : List Event) (ps : List Token) → HaveSeenPart h ps → All KnowsI
     → All (λ p. length p.me.mine ≤ length (events_of h p.me.seat)) ps
 all_le h ps seen own k d within = own_le h (slice_index_or ps k d) (seen k d within) (own k d within)
 
--- their events fit in it
+-- their events fit into it
 pub known_fits : (h : List Event) (seat : ℕ) (ps : List Token) → AreApart seat ps → HaveSeenPart h ps
     → All KnowsItsOwn ps
     → length (events_of h seat) + made_by ps ≤ length h
@@ -189,7 +189,7 @@ nothing : (s : ℕ) → events_of [] s ≡ []
 unfolding events_of
 nothing s = refl
 
--- where they are as many as it has events, it holds nothing else
+-- if they are as many as the history has events, it holds nothing else
 pub holds_only : (h : List Event) (seat : ℕ) (ps : List Token) → AreApart seat ps → HaveSeenPart h ps
     → All KnowsItsOwn ps
     → length (events_of h seat) + made_by ps ≡ length h → HoldsOnly h seat ps
@@ -208,7 +208,7 @@ holds_only h seat ps apart seen own same =
           ∙ ap (λ (g : List Event). events_of g s) none ∙ nothing s;
     }
 
--- one event more of the history, in how many are of a seat
+-- the number of events of a seat, with one more event of the history
 one_counted : (h : List Event) (s n count : ℕ) (d : Event) → n < length h → count ≡ length (events_of (take n h) s)
     → count + cond (seat_of (slice_index_or h n d) == s) 1 0 ≡ length (events_of (take (n + 1) h) s)
 one_counted h s n count d lt is =
@@ -234,7 +234,7 @@ other_counted h s n count d lt is ne =
 pub starts_counted : (h : List Event) (s : ℕ) → (0 ≡ length (events_of [] s)) × (0 ≤ 0) × (0 ≤ length h)
 starts_counted h s = (sym (ap length (nothing s)), omega arith, omega arith)
 
--- one pass more, in how many events are known
+-- the number of known events, with one more pass
 pub one_made : (ps : List Token) (n base known more : ℕ) (d : Token) → n < length ps
     → known ≡ base + made_by (take n ps)
     → more ≡ length (slice_index_or ps n d).me.mine → known + more ≡ base + made_by (take (n + 1) ps)

@@ -1,4 +1,4 @@
--- Threads may share a hall, and a hall and its tokens may go to another thread, where the kind and the object may
+-- Threads may share a hall, and a hall and its tokens may go to another thread, if the kind and the object may
 use denote.RattleType.{RattleType}
 use denote.Param.Send.{IsSend, IsSync, AllSend, AllSync, sendable, part_keyless, struct_send, struct_sync}
 use denote.Param.Send.{recorded_send, recorded_sync, view_send, view_sync}

@@ -33,7 +33,7 @@ use Rattle.monk_hall.specs.declared.record.SeatRecord.{SeatRecord}
 use Rattle.monk_hall.specs.declared.setting.Setting.{Setting}
 use Rattle.monk_hall.proofs.Seats.{long, only}
 
--- a record of those of n seats from i on
+-- one of the records of n seats from i on
 record IsFresh (c : Setting) (n i : ℕ) (r : SeatRecord) : Type 0 where
   is : r ≡ opening_record c r.seat
   low : i ≤ r.seat
@@ -222,13 +222,13 @@ module _ (c : Setting) (views : List View) (at : ℕ → SeatRecord) (sh : AreSh
     seats = sh.seats;
   }
 
--- the rule holds of the table t as of s, with the same history at home
+-- the rule holds for the table t as for s, with the same history at home
 pub record IsStill (k : Rules) (o : Object) (c : Setting) (s : HallState) (h : IsHall k o c s) (t : HallState)
     : Type 0 where
   pub hall : IsHall k o c t
   pub past : hall.2.past ≡ h.2.past
 
--- the first record of a view goes to a seat of its own
+-- the first record of a view goes to a seat that has it alone
 pub deals_at : (k : Rules) (o : Object) (c : Setting) (id : ℕ) (r : SeatRecord) (rs : View) (s : HallState)
     (h : IsHall k o c s) → get_elem? s.views id ≡ maybe.some (r ∷ rs)
     → IsStill k o c s h (record s { views = set s.views id rs ++ (r ∷ []) ∷ [] })
@@ -249,7 +249,7 @@ fresh_step c zero d h = absurd (omega arith)
 fresh_step c (suc n) d h = let e : n ≡ suc n - 1 = omega arith in
     ap (λ (m : ℕ). opening_record c d ∷ opening_records c m (suc d)) e
 
--- the view of the seats from d on, of m in all
+-- the view of the seats from d on, out of m in all
 pub fresh_next : (c : Setting) (v : View) (m d : ℕ) → d < m → v ≡ opening_records c (m - d) d
     → v ≡ opening_record c d ∷ opening_records c (m - (d + 1)) (d + 1)
 fresh_next c v m d h e =
@@ -257,7 +257,7 @@ fresh_next c v m d h e =
     ∙ (let a : m - d - 1 ≡ m - (d + 1) = omega arith in let b : suc d ≡ d + 1 = omega arith in
     λ i. opening_record c d ∷ opening_records c (a i) (b i))
 
--- the tokens of one seat more
+-- the tokens of one more seat
 pub tokens_more : (z : TableId) (c : Setting) (n i : ℕ)
     → tokens z (opening_records c (n + 1) i) ≡ tokens z (opening_records c n i)
     ++ record { hall = z; me = opening_record c (i + n) } ∷ []

@@ -37,7 +37,7 @@ stepped looks most r w ds is n few = record {
 pub arrivals : ArrivalsAreFewSteps
 arrivals k o p q x = stepped 0 1 p.me q.me _ (ap (λ (w : SeatRecord). w.did) x.me) refl (omega arith)
 
--- a look where a seat waits is one
+-- the look of a waiting seat is one look
 one_look : (p : Place) (b : Bool) → IsLooking p → (looks_of (look_at p b) ≡ 1) × (steps_of (look_at p b) ≡ 1)
 one_look Idle b (inl e) = absurd (omega arith)
 one_look Idle b (inr e) = absurd (omega arith)

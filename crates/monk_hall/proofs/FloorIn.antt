@@ -1,4 +1,4 @@
--- The active seat brings the floor home
+-- The active seat takes the floor home
 use Rattle.std.proofs.Common.{◌≡◌, ◌≢◌, ℕ, ◌+◌, ◌<◌, ◌≤◌, cond, Bool, false, List, [], ◌∷◌, ◌++◌, length, set, sym}
 use Rattle.std.proofs.Common.{refl, ap, ◌∙◌, subst, inl, inr, arith, ne_eqb, append-nil, append_assoc, length-append}
 use Rattle.std.proofs.Common.{length-set}
@@ -82,7 +82,7 @@ not_counts h e x m chose ne =
     ∙ ap (λ (b : Bool). granted_of h m + cond b 1 0) (ap (chooses_seat m) chose ∙ names_not x m ne)
     ∙ (let z : granted_of h m + 0 ≡ granted_of h m = omega arith in z)
 
--- an event that keeps the turn chose nobody
+-- an event that keeps the turn has chosen nobody
 keeps_names : (i m : ℕ) (e : Event) → turn_by (seat_of e) (next_of e) ≡ Owned i → grants m e ≡ false
 keeps_names i m e own = by_next (next_of e) own
   where
@@ -112,7 +112,7 @@ out_counts h i m q =
     none (Granted t) = refl
     none Called = refl
 
--- only a seat that has the floor back has chosen
+-- only a seat that has taken the floor back has chosen
 chosen_low : (p : Place) (m : ℕ) → back_turn p ≡ due_to m → stage p ≡ back_stage
 chosen_low Idle m e = absurd (omega arith)
 chosen_low (Ticket t) m e = absurd (omega arith)
@@ -205,7 +205,7 @@ module _ (k : Rules) (o : Object) (c : Setting) (kind : IsKind k) (s : table.Sta
       })
   kept_after = taken.is_kept
 
-  -- where the seat stands now
+  -- where the seat is now
   pub back_is : w.place ≡ Back ret.choice ret.to
   back_is = ap (λ (g : List Event). back_after (last_or None g)) f_history ∙ ap back_after (last_more None before last)
       ∙ releasing.back_is r.seat ret.to ret.call ret.choice ret.release
@@ -233,7 +233,7 @@ module _ (k : Rules) (o : Object) (c : Setting) (kind : IsKind k) (s : table.Sta
       let other = held keeps j low high in
       ne cc
 
-  -- who was chosen how often, by the history that comes home
+  -- how often each seat was chosen, by the history that comes home
   before_counts : (m : ℕ) → granted_of before m ≡ granted_of past m
   before_counts m =
       ap (λ (g : List Event). granted_of g m) goes_is

@@ -66,7 +66,7 @@ module _ (k : Rules) (o : Object) (c : Setting) (kind : IsKind k) (s : table.Sta
   at_due : (h.0 r.seat).place ≡ Due (source_from r.place)
   at_due = stepping.stands_at k o c kind s h id r here (Due (source_from r.place)) (standing.due_at r.place due)
 
-  -- nobody is active: the seat that is due has the right
+  -- nobody is active, because the seat that is due has the right
   nobody : (j : ℕ) → stage (h.0 j).place ≢ active_stage
   nobody j three =
       let keeps = (stepping.sound k o c kind s h id r here).stands.keeps in

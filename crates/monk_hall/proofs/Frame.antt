@@ -80,7 +80,7 @@ step_kept k o s i c a t seats conds p kind kept ready at done =
     kept_done k o s i c a t seats conds kind kept (not_refused k o s i c ready)
     (subst (λ (q : Place). IsDone k o s i q c a t) (sym at) done)
 
--- a seat that is active, or none is
+-- seat j is active, or no seat is
 pub record IsActiveAt (w : World) (j : ℕ) : Type 0 where
   pub source : Source
   pub at : w.place j ≡ Active source
@@ -126,7 +126,7 @@ starts_enters h g s = let a = more_enters g s.0 in let e = ap enters_of s.1 in o
 pub starts_self : (h : List Event) → StartsWith h h
 starts_self h = ([], sym (append-nil h))
 
--- no more entered than drew tickets
+-- no more seats entered than drew tickets
 pub entered_few : (k : Rules) (o : Object) (s : State) (right : Whereabouts) (owner : ℕ → ℕ) → IsSound k o s right owner
     → enters_of s.floor.history ≤ s.world.drawn
 entered_few k o s right owner h = by right h.entered h.stands.keeps.holder.free.0
@@ -156,7 +156,7 @@ module _ (k : Rules) (o : Object) (c : Setting) (homes : Homes) (at : ℕ → Se
     (past history : List Event)
     (told : AreTold k o c homes at (shown_world words at) past history) (right : Whereabouts) (owner : ℕ → ℕ)
     (keeps : KeepsRight c.seats (shown_world words at) right owner) where
-  -- what is shown is what the floor at home has, and perhaps the event of the active seat
+  -- what is shown is the history of the floor at home, and perhaps the event of the active seat
   pub shows_past : StartsWith history past
   shows_past = elim (who c.seats (shown_world words at) right owner keeps) [
     | inl a ↦ let l = told.lent a.0 a.1.source a.1.at in (out_event a.0 a.1.source (turn past) ∷ [], l.1)

@@ -41,7 +41,7 @@ use Rattle.monk_hall.proofs.Standing as standing
 use Rattle.monk_hall.proofs.Stepping as stepping
 use Rattle.monk_hall.proofs.Stored as stored
 
--- a place where a seat is chosen
+-- a place at which a seat has chosen seat m
 pub record IsChoosing (p : Place) (m : ℕ) : Type 0 where
   pub choice : Next
   pub to : Home
@@ -147,7 +147,7 @@ module _ (k : Rules) (o : Object) (c : Setting) (kind : IsKind k) (s : table.Sta
       stepping.holds_after k o c kind s h id r here w ws moved (length-set s.words (place_word q) (n + 1)) kept same
       (stepping.knows_after k o c kind s h id r here w ws moved calls (λ e. absurd (omega arith)) apart)
 
-  -- the seat that is called stands inside
+  -- the seat that is called is a seat of the hall
   pub called_near : (m : ℕ) → back_turn r.place ≡ due_to m → m < c.seats
   called_near m names =
       let x = choosing_at r.place m names in
@@ -167,7 +167,7 @@ module _ (k : Rules) (o : Object) (c : Setting) (kind : IsKind k) (s : table.Sta
       by_range (inl l) none six = let z = none l in absurd (omega arith)
       by_range (inr l) none six = l
 
-  -- the calls are counted once the seat is called
+  -- the calls are counted after the seat was called
   calls_counted : (m : ℕ) (ws : List ℕ) → back_turn r.place ≡ due_to m
       → Path (ℕ → ℕ) (update (shown_world s.words h.0).seat_place m ((shown_world s.words h.0).seat_place m + 1))
       (shown_world ws (update h.0 r.seat (record_after_grant r (CallSeat m)))).seat_place

@@ -1,4 +1,4 @@
--- A grant stands in its word until the seat for which it is finds it there
+-- A grant is in its word until the seat that it is for finds it there
 use Rattle.std.proofs.Common.{◌≡◌, ◌≢◌, ℕ, ◌+◌, ◌%◌, ◌<◌, ◌⊎◌, Bool, true, List, [], ◌∷◌, ◌++◌, set, sym, refl}
 use Rattle.std.proofs.Common.{ap, subst, ◌∙◌, inl, inr, ⊎_elim, arith, eq-eqb, get_or-set_same, get_or-set_other, mod-lt}
 use Rattle.std.specs.Prelude.{Some, slice_index}
@@ -39,14 +39,14 @@ use Rattle.monk_hall.proofs.ScheduleLaws.{IsLed, records_after}
 use Rattle.monk_hall.proofs.ScheduleMoves.{IsMoveOf, each_as, step_led, led_by, led_opening}
 use Rattle.monk_hall.proofs.Standing as standing
 
--- the grant of seat j stands in the word w, where it waits
+-- the grant of seat j is in the word w, where the seat waits
 pub record Stands (c : Setting) (words : List ℕ) (at : ℕ → SeatRecord) (j w : ℕ) : Type 0 where
   pub near : j < c.seats
   pub waits : waiting_word_at c.seats j (at j).place ≡ w
   pub granted : ((stage (at j).place ≡ ticketed_stage) × (slice_index words w ≡ ticket (at j).place + 1))
       ⊎ ((stage (at j).place ≡ inside_stage) × (slice_index words w ≡ (at j).count + 1))
 
--- as long as neither the seat nor its word changes
+-- it is still there if neither the seat nor its word changes
 stands_still : (c : Setting) (words ws : List ℕ) (at bt : ℕ → SeatRecord) (j w : ℕ) → Stands c words at j w
     → (bt j).place ≡ (at j).place → (bt j).count ≡ (at j).count → slice_index ws w ≡ slice_index words w
     → Stands c ws bt j w
@@ -89,7 +89,7 @@ module _ (k : Rules) (o : Object) (c : Setting) (s : HallState) (h : IsHall k o 
   one : IsInOnePlace c.seats (shown_world s.words h.0)
   one = right_in_one_place k o c s h
 
-  -- while a grant stands, nobody has the right
+  -- while a grant is in its word, nobody has the right
   nobody_holds : (j w : ℕ) → Stands c s.words h.0 j w → (i : ℕ) → HoldsRight (h.0 i).place → ⊥
   nobody_holds j w x i holds = let with_i = (one.with_seat i).0 holds in ⊎_elim
       (λ y. let at = standing.ticket_at (h.0 j).place y.0 in
@@ -103,7 +103,7 @@ module _ (k : Rules) (o : Object) (c : Setting) (s : HallState) (h : IsHall k o 
       let there = (one.at_seat j).0 (at, word) in absurd cc)
       x.granted
 
--- one step more
+-- one more step
 module _ (k : Rules) (o : Object) (c : Setting) (kind : IsKind k) (steps : List Step) (s : HallState)
     (led : IsLed k o c steps s) where
   abbrev h : IsHall k o c s
@@ -115,7 +115,7 @@ module _ (k : Rules) (o : Object) (c : Setting) (kind : IsKind k) (steps : List 
   at_next more t next j near = let there = next.hall.1.there j near in
       record { id = next.hall.1.desk j; view = there.0; at = there.1; there = there.2 }
 
-  -- a step of one seat leaves the records of the others
+  -- a step of one seat doesn't change the records of the others
   others_stay : (id : ℕ) (r w : SeatRecord) (here : get_elem? s.views id ≡ some (r ∷ [])) (d : Deed) (ws : List ℕ)
       (hs : Homes) (t : HallState) → t ≡ after_step s id ws hs w → w.seat ≡ r.seat
       → (more : List Step) (next : IsLed k o c more t) (j : ℕ) → j < c.seats → r.seat ≢ j
@@ -127,7 +127,7 @@ module _ (k : Rules) (o : Object) (c : Setting) (kind : IsKind k) (steps : List 
       (λ old. sym (is k o c s h q old.0) ∙ ap h.0 (next.hall.1.seats j))
       (records_after k o c steps s led id r here d w q ws hs (subst (λ (u : HallState). IsRecord u q) is_t y))
 
-  -- a move leaves where each seat stands
+  -- a move of views doesn't change where each seat is
   moved_stays : (x : Step) (t : HallState) → IsStep k o c s x t → IsMoveOf x
       → (more : List Step) (next : IsLed k o c more t) (j : ℕ) → j < c.seats
       → ((next.hall.0 j).place ≡ (h.0 j).place) × ((next.hall.0 j).count ≡ (h.0 j).count)
@@ -140,7 +140,7 @@ module _ (k : Rules) (o : Object) (c : Setting) (kind : IsKind k) (steps : List 
         was.count ∙ ap (λ (z : SeatRecord). z.count) (sym old),
       )
 
-  -- a grant that stands is taken by the step, or stands after it
+  -- a grant that is in its word is taken by the step, or is there after it
   module _ (j w : ℕ) (x : Stands c s.words h.0 j w) where
     kept : (id : ℕ) (r v : SeatRecord) (here : get_elem? s.views id ≡ some (r ∷ [])) (d : Deed) (ws : List ℕ)
         (hs : Homes) (t : HallState) → t ≡ after_step s id ws hs v → v.seat ≡ r.seat
@@ -162,7 +162,7 @@ module _ (k : Rules) (o : Object) (c : Setting) (kind : IsKind k) (steps : List 
       no_right holds = nobody_holds k o c s h j w x r.seat
           (subst (λ (z : SeatRecord). HoldsRight z.place) (sym mine) holds)
 
-      -- by a step of another seat
+      -- by a step of another seat it stays
       by_another : r.seat ≢ j → (d : Deed) → IsDone k o c s id r d t → (more : List Step) (next : IsLed k o c more t)
           → Stands c t.words next.hall.0 j w
       by_another apart (Arrive n m) (idle, room, number, last, is_t) more next =
@@ -182,7 +182,7 @@ module _ (k : Rules) (o : Object) (c : Setting) (kind : IsKind k) (steps : List 
       by_another apart (CallSeat m) (names, is_t) more next = absurd (no_right (holds_chosen r.place m names))
       by_another apart Meet never more next = absurd never
 
-      -- by a step of its own: it looks, and finds it
+      -- by a step of its own seat it is taken: the seat looks and finds it
       module _ (same : r.seat ≡ j) where
         at_j : h.0 j ≡ r
         at_j = ap h.0 (sym same) ∙ mine
@@ -266,7 +266,7 @@ module _ (k : Rules) (o : Object) (c : Setting) (kind : IsKind k) (steps : List 
         inr (moved (Compare i id) t (a, b, view, idle_a, idle_b, second, is_t) tt
         (ap (λ (u : HallState). u.words) is_t) more next)
 
-    -- while it stands no step grants the word
+    -- while it is there no step grants the word
     pub no_second : (y : Step) (t : HallState) → IsStep k o c s y t → (g : ℕ) → granted_word c.seats y ≡ Some g → ⊥
     no_second (By i id (Arrive n m)) t step g e = none-some g e
     no_second (By i id (LookForTicket b)) t step g e = none-some g e
@@ -285,7 +285,7 @@ module _ (k : Rules) (o : Object) (c : Setting) (kind : IsKind k) (steps : List 
     no_second (Join i id other) t step g e = none-some g e
     no_second (Compare i id) t step g e = none-some g e
 
-  -- a step that grants a word lets a grant stand there
+  -- after a step that grants a word, a grant is there
   module _ (id : ℕ) (r : SeatRecord) (here : get_elem? s.views id ≡ some (r ∷ [])) (t : HallState) (more : List Step)
       (next : IsLed k o c more t) where
     granter : h.0 r.seat ≡ r
@@ -386,7 +386,7 @@ module _ (k : Rules) (o : Object) (c : Setting) (kind : IsKind k) (steps : List 
   grant_stands (Join i id other) t step w e more next = absurd (none-some w e)
   grant_stands (Compare i id) t step w e more next = absurd (none-some w e)
 
--- over many steps
+-- over many steps it is taken or still there
 taken_or_still : (k : Rules) (o : Object) (c : Setting) → IsKind k → (steps : List Step) (s : HallState)
     → (led : IsLed k o c steps s) (j w : ℕ) → Stands c s.words led.hall.0 j w → (xs : List Step) (u : HallState)
     → IsSchedule k o c s xs u

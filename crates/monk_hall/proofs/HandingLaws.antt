@@ -58,7 +58,7 @@ entry_is (next.Signaller j) s e = absurd (subst is_some e tt)
 entry_is (next.Until j) s e = absurd (subst is_some e tt)
 
 module _ {k : Rules} {o : Object} {z : TableId} {me : Me} {choice : Next} {to : Home} {f : FloorView} where
-  -- where the seat stands that has brought the floor home
+  -- the place of a seat that has taken the floor home
   pub back_place : HasRecordedRelease k o z me choice to f
       → (record_after_floor_in (the me.0) f.history).place ≡ Back choice to
   back_place x = let r = x.returns in

@@ -1,4 +1,4 @@
--- What the rule says of the history at home
+-- What the rule says about the history at home
 use Rattle.std.proofs.Common.{◌≡◌, ◌≢◌, ℕ, List, [], ◌∷◌, length, sym, ap, subst, ◌∙◌, arith}
 use Rattle.std.proofs.Math.Option.{some-injective}
 use mathlib.Core.Option.{some}
@@ -15,7 +15,7 @@ use Rattle.monk_hall.specs.declared.setting.Setting.{Setting}
 use Rattle.monk_hall.proofs.RecordLaws.{is, recorded}
 use Rattle.monk_hall.proofs.Standing.{active_at}
 
--- a list of one is its first
+-- a list of one element is its first
 alone_in : {A : Type 0} (xs : List A) (x : A) → length xs ≡ 1 → get_elem? xs 0 ≡ some x → xs ≡ x ∷ []
 alone_in [] x one first = absurd (omega arith)
 alone_in {A} (y ∷ []) x one first = ap (λ (z : A). z ∷ []) (some-injective y x first)

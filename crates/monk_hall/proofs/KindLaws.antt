@@ -1,4 +1,4 @@
--- What the bounds on a kind say of the mode that its rules have
+-- What the bounds on a kind say about the mode that its rules have
 use Rattle.std.proofs.Common.{arith, ◌≡◌, ◌≢◌, true, false, sym, ap, ◌∙◌}
 use Rattle.monk_kinds.specs.declared.mode.Mode.{Mode}
 use Rattle.monk_kinds.specs.declared.mode.Mode.TheVariants.{ImmediateReturn, Automatic}

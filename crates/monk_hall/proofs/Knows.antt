@@ -1,4 +1,4 @@
--- What the seats know of the history, where one seat's record changes
+-- What the seats know of the history after one seat's record changes
 use Rattle.std.proofs.Common.{◌≡◌, ◌≢◌, ℕ, ◌+◌, List, [], ◌∷◌, ◌++◌, sym, refl, ap, ◌∙◌, subst, arith}
 use mathlib.Core.Option.{none, some}
 use lib.ListN.{get_elem?}
@@ -20,7 +20,7 @@ use Rattle.monk_hall.specs.Rule.{AreTold, CountsCalls, Homes}
 use Rattle.monk_hall.specs.declared.record.SeatRecord.{SeatRecord}
 use Rattle.monk_hall.specs.declared.setting.Setting.{Setting}
 
--- where a seat steps that neither had chosen another nor has, and no seat's place changes, the calls stay counted
+-- if a seat steps that has chosen no other before or after, and no seat's word changes, the calls stay counted
 pub calls_stay : (s t : World) (h : List Event) (i : ℕ) (p : Place) → CountsCalls s h → t.place ≡ update s.place i p
     → t.seat_place ≡ s.seat_place → back_turn (s.place i) ≡ open_turn → back_turn p ≡ open_turn → CountsCalls t h
 calls_stay s t h i p c place seat_place old new = record {
@@ -51,7 +51,7 @@ module _ (k : Rules) (o : Object) (c : Setting) (homes : Homes) (at : ℕ → Se
   own = at_update at i w (λ j x. events_of x.seen j ≡ x.mine) (ap (λ (h : List Event). events_of h i) same_seen
       ∙ told.own i ∙ sym same_mine) (λ j _. told.own j)
 
-  -- it was not active, and is not; and it has not just brought the floor back
+  -- it was not active and is not, and it has not just taken the floor back
   pub told_moves : stage (at i).place ≢ active_stage → stage w.place ≢ active_stage → stage w.place ≢ back_stage
       → AreTold k o c homes (update at i w) t past history
   told_moves was is back = record {

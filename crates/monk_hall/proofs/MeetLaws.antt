@@ -1,4 +1,4 @@
--- Two idle seats' views are put together, and both records learn the longer history
+-- Two idle seats' views are joined, and both records learn the longer history
 use Rattle.std.proofs.Common.{◌≡◌, ◌≢◌, ℕ, ◌+◌, ◌<◌, ◌≤◌, ◌⊎◌, ◌==◌, Bool, true, false, cond, nat_le, List}
 use Rattle.std.proofs.Common.{[], ◌∷◌, ◌++◌, length, set, sym, refl, ap, ◌∙◌, subst, inl, inr, ⊎_elim, arith}
 use Rattle.std.proofs.Common.{append-nil, length-append}
@@ -61,7 +61,7 @@ same_tail : (x y : Event) (xs ys : List Event) → x ∷ xs ≡ y ∷ ys → xs 
 unfolding tl
 same_tail x y xs ys e = ap tl e
 
--- of two beginnings of a history one begins the other
+-- one of two beginnings of a history begins the other
 pub parts : (past a b x y : List Event) → past ≡ a ++ x → past ≡ b ++ y → AreOne a b
 parts past [] b x y p q = inr (b, refl)
 parts past (e ∷ a) [] x y p q = inl (e ∷ a, refl)
@@ -79,7 +79,7 @@ pub events_of-append : (g h : List Event) (i : ℕ) → events_of (g ++ h) i ≡
 unfolding events_of
 events_of-append g h i = filter-append (λ e. seat_of e == i) g h
 
--- what begins a history, and is begun by another that has all of a seat's events there, has them all
+-- a history between f and h has the same events of a seat, if these two have the same
 events_between : (h g f : List Event) (i : ℕ) → StartsWith h g → StartsWith g f → events_of h i ≡ events_of f i
     → events_of g i ≡ events_of f i
 events_between h g f i above below same =
@@ -123,7 +123,7 @@ longer_both a b one = by_length (nat_le (length a) (length b)) refl one
     by_length false e (inl s) = record { first = self a; second = s }
     by_length false e (inr s) = record { first = self a; second = equal b a s (at_most e) }
 
--- an idle seat takes steps of no kind, or learns more of the history
+-- an idle seat's record changes only in what it has seen and done
 module _ (k : Rules) (o : Object) (c : Setting) (words : List ℕ) (homes : Homes) (at : ℕ → SeatRecord)
     (kh : IsKeptHall k o c words homes at) (i : ℕ) (w : SeatRecord)
     (place : w.place ≡ (at i).place) (count : w.count ≡ (at i).count) (known : w.known ≡ (at i).known)
@@ -279,7 +279,7 @@ module _ (c : Setting) (views : List View) (at : ℕ → SeatRecord) (sh : AreSh
           (λ q. na (sym (sh.seats j) ∙ ap (λ (x : SeatRecord). x.seat) (sym q)))
           (λ q. nb (sym (sh.seats j) ∙ ap (λ (x : SeatRecord). x.seat) (sym q))) refl
 
--- two idle records lie in one view
+-- two idle records are in one view
 module _ (k : Rules) (o : Object) (c : Setting) (s : HallState) (h : IsHall k o c s) (id : ℕ) (a b : SeatRecord)
     (here : get_elem? s.views id ≡ maybe.some (a ∷ b ∷ [])) where
   abbrev past : List Event
@@ -469,7 +469,7 @@ meets_at k o c id v other w one_v one_w idle s h view ne_id view_w =
         let is_u : u ≡ x ∷ [] = some-injective u (x ∷ []) (sym e ∙ ap (λ (n : ℕ). get_elem? views n) is_d ∙ there) in
         sym (sh.seats j) ∙ ap (λ (y : SeatRecord). y.seat) (only (at j) x (subst (λ (z : View). In (at j) z) is_u i))
 
--- the second of two records goes to a seat of its own
+-- the second of two records goes to a seat that has it alone
 pub parts_at : (k : Rules) (o : Object) (c : Setting) (id : ℕ) (a b : SeatRecord) (s : HallState) (h : IsHall k o c s)
     → get_elem? s.views id ≡ maybe.some (a ∷ b ∷ [])
     → IsStill k o c s h (record s { views = set s.views id (a ∷ []) ++ (b ∷ []) ∷ [] })
@@ -493,7 +493,7 @@ parts_at k o c id a b s h view =
     either z (inr (inl e)) = inl e
     either z (inr (inr none)) = absurd none
 
--- whoever has seen the longer of two has seen what begins with both
+-- a seat that has seen the longer of two has seen what begins with both
 pub has_learned : (a b x y g : List Event) → AreOne a b → a ≡ x → b ≡ y → g ≡ longer a b
     → StartsWith g x × StartsWith g y
 has_learned a b x y g one is_x is_y is_longer =

@@ -23,7 +23,7 @@ use Rattle.monk_hall.proofs.HandingLaws.{grants_by}
 use Rattle.monk_hall.proofs.RecordLaws.{is, place, with, next_ticket, recorded}
 use Rattle.monk_hall.proofs.Standing.{ticket_at}
 
--- where a seat of this setting finds its grant that waits with this ticket
+-- where a seat of this setting that waits with this ticket finds its grant
 word_is : (c : Setting) (r : SeatRecord) (t : ℕ) → r.setting ≡ c → r.place ≡ Ticket t
     → waiting_word_at r.setting.seats r.seat r.place ≡ ticket_word c.seats t
 word_is c r t same at = ap (λ (p : Place). waiting_word_at r.setting.seats r.seat p) at

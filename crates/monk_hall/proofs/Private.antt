@@ -1,4 +1,4 @@
--- What an active seat does between its steps keeps a world kept
+-- What an active seat does between its steps keeps a world as every world is
 use Rattle.std.proofs.Common.{◌≡◌, ◌≢◌, ℕ, ◌+◌, ◌<◌, ◌≤◌, cond, Bool, List, [], ◌∷◌, ◌++◌, length, sym, refl, ap}
 use Rattle.std.proofs.Common.{◌∙◌, subst, arith, eq-eqb, append-nil, append_assoc, length-append}
 use Rattle.monk_kinds.specs.declared.mode.Rules.{Rules}
@@ -22,7 +22,7 @@ pub own_event : (h : List Event) (e : Event) (i : ℕ) → seat_of e ≡ i
 own_event h e i same = events_of-push h e i
     ∙ ap (λ (b : Bool). events_of h i ++ cond b (e ∷ []) []) (eq-eqb (seat_of e) i same)
 
--- its own events are all that is more
+-- only its own events are new
 pub own_more : (i : ℕ) (h es : List Event) → ArePrivate i es → events_of (h ++ es) i ≡ events_of h i ++ es
 own_more i h [] own = ap (λ (g : List Event). events_of g i) (append-nil h) ∙ sym (append-nil (events_of h i))
 own_more i h (e ∷ es) own =
@@ -31,7 +31,7 @@ own_more i h (e ∷ es) own =
     ∙ ap (λ (g : List Event). g ++ es) (own_event h e i own.0.seat)
     ∙ append_assoc (events_of h i) (e ∷ []) es
 
--- and nobody else has more
+-- and no other seat has new ones
 pub others_same : (i j : ℕ) → j ≢ i → (h es : List Event) → ArePrivate i es → events_of (h ++ es) j ≡ events_of h j
 others_same i j ne h [] own = ap (λ (g : List Event). events_of g j) (append-nil h)
 others_same i j ne h (e ∷ es) own =
@@ -56,7 +56,7 @@ one_kept k o s seats conds i q e kept near active own legal enough = record {
   conds_are = kept.conds_are;
 }
 
--- events of the active seat that keep the turn with it keep the world kept, while one event more is left to it
+-- events of the active seat that keep the turn with it keep the world so, while the seat has one more event left
 pub more_kept : (k : Rules) (o : Object) (s : State) (seats conds i : ℕ) (q : Source) (es : List Event)
     → IsKept k o seats conds s → i < s.floor.seats → s.world.place i ≡ Active q → ArePrivate i es
     → IsLegal (monitor_of k o s.floor) (s.floor.history ++ es)

@@ -1,4 +1,4 @@
--- Each call's step is one of a schedule: so the table is at every moment one to which some schedule leads
+-- Each call's step is one of a schedule. So at every moment some schedule leads to the table
 use Rattle.std.proofs.Common.{◌≡◌, ℕ, ◌+◌, ◌%◌, ◌≤◌, List, [], ◌∷◌, ◌++◌, length, replicate, set, sym, refl}
 use Rattle.std.proofs.Common.{ap, ◌∙◌, subst, inl, inr, arith, append_assoc, length-append}
 use Rattle.std.proofs.lemmas.List.{set-get_or}
@@ -57,7 +57,7 @@ schedule_push : (k : Rules) (o : Object) (c : Setting) (s t u : HallState) (xs :
 schedule_push k o c s t u [] x e step = (u, subst (λ (z : HallState). IsStep k o c z x u) e step, refl)
 schedule_push k o c s t u (y ∷ ys) x run step = (run.0, run.1, schedule_push k o c run.0 t u ys x run.2 step)
 
--- one step more
+-- one more step
 reached_on : (k : Rules) (o : Object) (c : Setting) (s t : HallState) (x : Step) → IsReached k o c s
     → IsStep k o c s x t → IsReached k o c t
 reached_on k o c s t x reached step =
@@ -70,7 +70,7 @@ pub opens : (k : Rules) (o : Object) (c : Setting) (words : List ℕ) → make_r
 opens k o c words made zeros =
     (made, [], ap (λ (ws : List ℕ). opening ws (Some (floor_of c []) ∷ []) (first_view c)) zeros)
 
--- where some schedule leads, the words and records are those of a hall
+-- if some schedule leads there, the words and records are those of a hall
 pub hall_of : (k : Rules) (o : Object) (c : Setting) → IsKind k → (s : HallState) → IsReached k o c s → IsHall k o c s
 hall_of k o c kind s reached =
     (led_by k o c kind [] (opening_table c) (led_opening k o c reached.0) reached.1 s reached.2).hall
@@ -347,7 +347,7 @@ compares k o c kind slots id me two idle_a idle_b s reached wide view small =
       ),
     )
 
--- two active seats never meet: there are none
+-- two active seats never meet, because there are never two
 pub never_joined : (k : Rules) (o : Object) (c : Setting) → IsKind k → (id : ℕ) (v : View) (other : ℕ) (w : View)
     → IsOne v → IsOne w → stage (the v).place ≡ active_stage → stage (the w).place ≡ active_stage
     → Joins {S = Option FloorView} (IsReached k o c) id v other w (view_after_join v w) []

@@ -1,4 +1,4 @@
--- What the rule says of the seat of one record
+-- What the rule says about the seat of one record
 use Rattle.std.proofs.Common.{◌≡◌, ◌≢◌, ℕ, zero, suc, ◌+◌, ◌<◌, ◌≤◌, ◌⊎◌, sym, ap, subst, ◌∙◌, inl, inr, arith}
 use Rattle.std.specs.Prelude.{slice_index}
 use Rattle.monk_kinds.specs.declared.mode.Rules.{Rules}
@@ -42,12 +42,12 @@ module _ (k : Rules) (o : Object) (c : Setting) (s : HallState) (h : IsHall k o 
   pub place : (h.0 r.seat).place ≡ r.place
   place = ap (λ (y : SeatRecord). y.place) is
 
-  -- the right is with a seat that stands where it has it
+  -- the right is with a seat that is at a place that has it
   pub with : due_stage ≤ stage r.place → stage r.place ≤ passing_stage → h.2.kept.sound.right ≡ With r.seat
   with low high = let at = ap stage place in
       held h.2.kept.sound.is_sound.stands.keeps r.seat (omega arith) (omega arith)
 
-  -- while it has the floor back, what it has seen is the history
+  -- while it has taken the floor back, what it has seen is the history
   pub back : stage r.place ≡ back_stage → h.2.history ≡ r.seen
   back four =
       let mine = with (omega arith) (omega arith) in
@@ -62,7 +62,7 @@ module _ (k : Rules) (o : Object) (c : Setting) (s : HallState) (h : IsHall k o 
           let here = ap stage place in
           omega arith
 
-  -- and the next ticket has the number of the enters there
+  -- and the number of the next ticket is that of the enters there
   pub next_ticket : (next : Next) (to : Home) → r.place ≡ Back next to
       → tickets (slice_index s.words 0) + 1 ≡ unpassed (slice_index s.words 0) + enters_of r.seen
   next_ticket next to back_at =

@@ -1,4 +1,4 @@
--- What a release makes of an active seat
+-- How a release changes an active seat
 use Rattle.std.proofs.Common.{◌≡◌, ℕ, ◌+◌, ◌<◌, ◌≤◌, Bool, true, false, true≢false, not, cond, List, [], ◌∷◌, ◌++◌}
 use Rattle.std.proofs.Common.{length, append-nil, append_assoc, Option, Some, refl, sym, ap, subst, ◌∙◌, arith}
 use Rattle.atomic_table.specs.Seated.{TableId}
@@ -48,14 +48,14 @@ use Rattle.monk_hall.proofs.Private.{own_event}
 use Rattle.monk_hall.proofs.Releasing.{said}
 use Rattle.monk_hall.proofs.TokenLaws.{grown_holds}
 
--- the wish rules ask who is known to wait for entry only for a wish of entry
+-- the wish rules ask whether somebody is known to wait for entry only if the wish is for entry
 knows_reads : (k : Rules) (q : Queues) (s : ℕ) (known : Bool) (wish : Pick)
     → choice_by k q s known wish ≡ choice_by k q s (is_entry_known wish known) wish
 knows_reads k q s known WishEntry = refl
 knows_reads k q s known WishWaiter = refl
 knows_reads k q s known WishSignaller = refl
 
--- and where there is something to choose
+-- and if there is something to choose
 choice_knows : (b : Bool) (kept : Next) (by : Bool → Next) (x y : Bool) → (b ≡ false → by x ≡ by y)
     → cond b kept (by x) ≡ cond b kept (by y)
 choice_knows true kept by x y e = refl
@@ -236,7 +236,7 @@ module _ {k : Rules} {o : Object} {z : TableId} {me : Me} {numbers : SeatNumbers
       → n < left_of f.budget f.history (the me.0).seat
   has_left h n more = let b = ap (λ (y : FloorView). y.budget) h.goes.is_floor in omega arith
 
-  -- what is told of a release with the active seat's own number
+  -- the contract of a release, with the active seat's own number
   pub released_of : {wish : Pick} {known : Bool} {choice : Next} {to : Home} {g : FloorView} → (call : ℕ → Event)
       → IsHolding k o z me numbers f → IsRelease k o (the me.0) f (call numbers.seat) wish known choice to g
       → is_stay (Some choice) ≡ false
@@ -353,7 +353,7 @@ module _ {k : Rules} {o : Object} {z : TableId} {me : Me} {numbers : SeatNumbers
     is_grown = grows;
   }
 
-  -- whoever may park inside has room for the way back
+  -- a seat that may park inside has events left for the way back
   pub room_inside : {call : Event} {wish : Pick} {known : Bool} {choice : Next} {g : FloorView}
       → IsHolding k o z me numbers f → IsRelease k o (the me.0) f call wish known choice home.Inner g
       → length (events_of f.history (the me.0).seat) + 2 ≤ (the me.0).setting.budget
@@ -464,7 +464,7 @@ module _ {k : Rules} {o : Object} {z : TableId} {me : Me} {numbers : SeatNumbers
   has_cond h c a is low = let b = ap (λ (y : FloorView). y.conds) h.goes.is_floor in let here =
       subst (λ (x : Holder). c < x.me.setting.conds) (sym is) low in omega arith
 
--- what is known where there is something to choose, of the floor in its hands
+-- what is known if there is something to choose, for the floor in its hands
 pub must_known : {k : Rules} {o : Object} {z : TableId} {me : Me} {numbers : SeatNumbers} {f : FloorView}
     → IsHolding k o z me numbers f → (a : Holder) → holder z (the me.0) f ≡ a
     → (call : ℕ → Event) {R : Type 0}
@@ -474,7 +474,7 @@ must_known {k} {o} {f = f} h a is call told free =
     told ((λ i. must_stay o (stands_of k o (sym is i).floor) (call (sym is i).me.seat))
     ∙ ap (λ n. must_stay o (stands_of k o f) (call n)) h.seated.is_seat ∙ free)
 
--- the same of a release with what it granted
+-- the same for a release with what it granted
 granted_peeked : {k : Rules} {o : Object} (peeks : ℕ) (a b : Holder) → HasPeeked peeks a b
     → (call : Event) (wish : Pick) (to : Home) (p : Token) (h : House) (g : Option Grant)
     → HasGranted k o b call wish to 0 p h g → HasGranted k o a call wish to peeks p h g
@@ -484,7 +484,7 @@ granted_peeked peeks a b x call wish to p h g m = record {
   granted = m.granted;
 }
 
--- a call after a look at the ticket word: one that gives the floor back, and one that may stay
+-- a call after a look at the ticket word: one that returns the floor, and one that may stay
 pub released_after : (k : Rules) (o : Object) (call : ℕ → Event) (wish : Pick) (to : Home) (peeks : ℕ) (a b : Holder)
     → HasPeeked peeks a b → (p : Token) (h : House) (g : Option Grant)
     → HasGranted k o b (call b.me.seat) wish to 0 p h g → HasGranted k o a (call a.me.seat) wish to peeks p h g

@@ -33,7 +33,7 @@ use Rattle.monk_hall.specs.Laws.{wish_of}
 use Rattle.monk_hall.specs.Tells.{IsReleaseTo}
 use Rattle.monk_hall.proofs.Frame.{step_kept, step_is}
 
--- where the seat stands after its release
+-- where the seat is after its release
 pub back_is : (i : ℕ) (to : Home) (call : Event) (x : Next) → IsReleaseTo i to call
     → back_after (Some (with_next x call)) ≡ Back x to
 back_is i to (Enter s via) x r = absurd r
@@ -53,7 +53,7 @@ back_is i to (SignalAll s c) x r = absurd r
 back_is i home.Idle (SignalWait s c d y) x r = absurd r
 back_is i home.Inner (SignalWait s c d y) x r = refl
 
--- whose it is, and whom it names
+-- the seat whose call it is, and the seat that it names
 pub record IsSaid (i : ℕ) (call : Event) (x : Next) : Type 0 where
   pub seat : seat_of (with_next x call) ≡ i
   pub chose : next_of (with_next x call) ≡ Some x

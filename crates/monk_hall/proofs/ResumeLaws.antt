@@ -1,4 +1,4 @@
--- A seat that has looked more often comes in as it would have before
+-- A seat that has looked several times comes in as it would have the first time
 use Rattle.std.proofs.Common.{◌≡◌, ℕ, zero, suc, false, true, sym, ap, subst, ◌∙◌, List, [], ◌∷◌, ◌++◌, append-nil, append_assoc}
 use Rattle.monk_kinds.specs.declared.mode.Rules.{Rules}
 use Rattle.monk_object.specs.Object.{Object}
@@ -30,13 +30,13 @@ entered_same k o p q a did hall me e =
       own = f.own;
     }
 
--- one look more in vain, behind the others
+-- one more look in vain, after the others
 pub one_more : (n : ℕ) (p : Place) → looks_in_vain n p ++ look_at p false ≡ looks_in_vain (suc n) p
 one_more zero p = sym (append-nil (look_at p false))
 one_more (suc n) p = append_assoc (look_at p false) (looks_in_vain n p) (look_at p false)
     ∙ ap (λ (ds : List Deed). look_at p false ++ ds) (one_more n p)
 
--- a seat that has looked in vain so often looks once more in vain
+-- a seat that has looked n times in vain looks once more in vain
 pub looks_again : (r w v : SeatRecord) (n : ℕ) → w ≡ record r { did = r.did ++ looks_in_vain n r.place }
     → v ≡ record w { did = w.did ++ look_at w.place false }
     → v ≡ record r { did = r.did ++ looks_in_vain (suc n) r.place }
@@ -47,7 +47,7 @@ looks_again r w v n is more = more
           ∙ ap (λ (ds : List Deed). r.did ++ ds) (one_more n r.place)) i;
     })
 
--- or comes in
+-- or it comes in
 pub comes_later : (r w v : SeatRecord) (n : ℕ) → w ≡ record r { did = r.did ++ looks_in_vain n r.place }
     → ComesAfter 0 w v → ComesAfter n r v
 comes_later r w v n is comes = comes

@@ -1,4 +1,4 @@
--- What holds of a hall's table whenever its rule does
+-- What holds for a hall's table if its rule does
 use Rattle.std.proofs.Common.{◌≡◌, ◌≢◌, ◌≤◌, ℕ, false, true≢false, refl, sym, ap, subst, ◌∙◌, inl, inr, arith}
 use Rattle.monk_kinds.specs.declared.mode.Rules.{Rules}
 use Rattle.monk_object.specs.Object.{Object}
@@ -63,7 +63,7 @@ idle_is_free k o c s h idle = free one.right refl
         let at = ap stage (sym called.0 ∙ is_idle j) in
         absurd (omega arith)
 
--- two with the right are one
+-- two seats that have the right are the same
 one : (k : Rules) (o : Object) (c : Setting) (s : HallState) → IsHall k o c s → (r q : SeatRecord)
     → (x : IsRecord s r) → (y : IsRecord s q)
     → (due_stage ≤ stage r.place) × (stage r.place ≤ passing_stage) → (due_stage ≤ stage q.place)

@@ -1,4 +1,4 @@
--- Each step of the table keeps what is said of a schedule
+-- Each step of the table keeps what holds for a schedule
 use Rattle.std.proofs.Common.{◌≡◌, ◌≢◌, ℕ, ◌⊎◌, cond, Bool, false, List, [], ◌∷◌, ◌++◌, length}
 use Rattle.std.proofs.Common.{sym, refl, ap, subst, ◌∙◌, inl, inr, ⊎_elim, eq-eqb, ne_eqb, append-nil}
 use Rattle.std.specs.Prelude.{Option, Some, None, slice_index}
@@ -29,13 +29,13 @@ use Rattle.monk_hall.proofs.MeetLaws.{events_of-append}
 use Rattle.monk_hall.proofs.ScheduleLists.{brought_push, deeds_push, home_append, knows_append, arrivals_push, AreOf, own_all, own_none}
 use Rattle.monk_hall.proofs.Seats.{only}
 
--- the ticket by which a seat came
+-- the ticket by which a seat came in, if it came by one
 abbrev pub ticket_by : Source → Option ℕ
 ticket_by (Free t) = Some t
 ticket_by (Granted t) = Some t
 ticket_by Called = None
 
--- the ticket that a seat waits with or came by
+-- the ticket with which a seat waits, or by which it came in
 abbrev pub held : Place → Option ℕ
 held Idle = None
 held (Ticket t) = Some t
@@ -45,8 +45,8 @@ held (Back x to) = None
 held (Passing t to) = None
 held Inner = None
 
--- how many have entered, where the place of a seat that has the right tells it: an active seat by its ticket, and one
--- that passes the right on by the next ticket
+-- how many have entered, if the place of a seat that has the right shows it. An active seat shows it by its ticket,
+-- and a seat that passes the right on by the next ticket
 abbrev pub came_by : Place → Option ℕ
 came_by Idle = None
 came_by (Ticket t) = None
@@ -65,14 +65,14 @@ came_right (Back x to) t e = absurd (none-some t e)
 came_right (Passing n to) t e = tt
 came_right Inner t e = absurd (none-some t e)
 
--- what these steps say of a seat's record
+-- how these steps fit a seat's record
 pub record Fits (steps : List Step) (r : SeatRecord) : Type 0 where
   pub did : r.did ≡ deeds_by r.seat steps
   pub known : r.known ≡ knows r.did
   pub ticket : (t : ℕ) → held r.place ≡ Some t → get_elem? (arrivals steps) t ≡ some r.seat
   pub came : (t : ℕ) → came_by r.place ≡ Some t → enters_of (brought steps) ≡ t
 
--- what is said after these steps
+-- what holds after these steps
 pub record IsLed (k : Rules) (o : Object) (c : Setting) (steps : List Step) (s : HallState) : Type 0 where
   pub hall : IsHall k o c s
   pub past : hall.2.past ≡ brought steps
@@ -81,7 +81,7 @@ pub record IsLed (k : Rules) (o : Object) (c : Setting) (steps : List Step) (s :
   pub own : (j : ℕ) → events_of (brought steps) j ≡ brought_home (deeds_by j steps)
   pub order : (waiting : List ℕ) × (arrivals steps ≡ entered (brought steps) ++ waiting)
 
--- a seat that has its view alone does this
+-- a seat that is alone in its view does this
 module _ (k : Rules) (o : Object) (c : Setting) (steps : List Step) (s : HallState) (led : IsLed k o c steps s)
     (id : ℕ) (r : SeatRecord) (here : get_elem? s.views id ≡ some (r ∷ [])) (d : Deed) where
   abbrev pub x : Step
@@ -90,7 +90,7 @@ module _ (k : Rules) (o : Object) (c : Setting) (steps : List Step) (s : HallSta
   pub its_record : IsRecord s r
   its_record = record { id = id; view = r ∷ []; at = here; there = inl refl }
 
-  -- after it
+  -- the table after it
   pub record IsMade (w : SeatRecord) (ws : List ℕ) (hs : Homes) : Type 0 where
     pub hall : IsHall k o c (after_step s id ws hs w)
     pub past : hall.2.past ≡ led.hall.2.past ++ brings d
@@ -165,7 +165,7 @@ module _ (k : Rules) (o : Object) (c : Setting) (steps : List Step) (s : HallSta
         order = (m.order.0, came_in ∙ m.order.1 ∙ ap (λ (l : List Event). entered l ++ m.order.0) (sym home));
       }
 
-  -- a deed by which nothing comes home, and no ticket is drawn
+  -- a deed by which no event comes home, and no ticket is drawn
   pub quiet : brings d ≡ [] → drew r.seat d ≡ [] → (w : SeatRecord) (ws : List ℕ) (hs : Homes)
       → (hall : IsHall k o c (after_step s id ws hs w)) → hall.2.past ≡ led.hall.2.past
       → tickets (slice_index ws 0) ≡ tickets (first_word s) → w.seat ≡ r.seat → w.did ≡ r.did ++ d ∷ []

@@ -1,4 +1,4 @@
--- What a schedule of steps adds up to: lists, one step more
+-- The lists that a schedule of steps adds up to, with one more step
 use Rattle.std.proofs.Common.{◌≡◌, ◌≢◌, ℕ, cond, Bool, true, false, List, [], ◌∷◌, ◌++◌, length, sym, refl, ap, ◌∙◌}
 use Rattle.std.proofs.Common.{arith, eq-eqb, ne_eqb, append-nil, append_assoc, length-append}
 use Rattle.std.proofs.lemmas.List.Sums.{sum_by-append}
@@ -107,7 +107,7 @@ pub same_rest : (g a b : List Event) → g ++ a ≡ g ++ b → a ≡ b
 same_rest [] a b e = e
 same_rest (x ∷ g) a b e = same_rest g a b (same_tail x (g ++ a) (g ++ b) e)
 
--- whoever stands first behind these is the next of them
+-- the first seat after these is the next of them
 pub next_in_order : (front rest : List ℕ) (i : ℕ) → get_elem? (front ++ rest) (length front) ≡ some i
     → (more : List ℕ) × (front ++ rest ≡ (front ++ i ∷ []) ++ more)
 next_in_order [] [] i at = absurd cc

@@ -40,7 +40,7 @@ use Rattle.monk_hall.proofs.ScheduleSteps as steps_of
 use Rattle.monk_hall.proofs.Seats.{only}
 use Rattle.monk_hall.proofs.Standing.{passing_at}
 
--- after this step a record is as it was, but for what was seen, and that it has met
+-- after this step a record is as it was, except for what it has seen, and for the meeting
 pub record IsAs (x : Step) (s : HallState) (q : SeatRecord) : Type 0 where
   pub old : SeatRecord
   pub there : IsRecord s old
@@ -76,20 +76,20 @@ still_known : (b known : Bool) → knows_from known (cond b (Meet ∷ []) []) �
 still_known true known = refl
 still_known false known = refl
 
--- nothing came home by the step, nobody drew a ticket, and nobody learnt of somebody at the entry
+-- by the step nothing came home, nobody drew a ticket, and nobody learnt of somebody at the entry
 record IsMove (x : Step) : Type 0 where
   home : brought_in x ≡ []
   by : (j : ℕ) → brought_home (deeds_in j x) ≡ []
   drew : drew_in x ≡ []
   knew : (j : ℕ) (b : Bool) → knows_from b (deeds_in j x) ≡ b
 
--- no step of one seat alone, but a move of views
+-- the step is not of one seat alone, but a move of views
 abbrev pub IsMoveOf : Step → Type 0
 IsMoveOf (By i id d) = ⊥
 IsMoveOf _ = Unit {0}
 
 module _ (k : Rules) (o : Object) (c : Setting) (steps : List Step) (s : HallState) (led : IsLed k o c steps s) where
-  -- a move of views leaves all that is said
+  -- a move of views keeps all that is said
   moves : (x : Step) (t : HallState) → IsMove x → IsStill k o c s led.hall t → t.words ≡ s.words
       → ((q : SeatRecord) → IsRecord t q → IsAs x s q) → IsLed k o c (steps ++ x ∷ []) t
   moves x t move still words each =
@@ -124,7 +124,7 @@ module _ (k : Rules) (o : Object) (c : Setting) (steps : List Step) (s : HallSta
         );
       }
 
-  -- the record of a seat goes to a view of its own
+  -- the record of a seat goes to a view that has it alone
   cut : (id : ℕ) (v left : View) (r q : SeatRecord) → get_elem? s.views id ≡ some v
       → ((z : SeatRecord) → In z left → In z v) → In r v
       → IsRecord (record s { views = set s.views id left ++ (r ∷ []) ∷ [] }) q → IsRecord s q
@@ -223,7 +223,7 @@ module _ (k : Rules) (o : Object) (c : Setting) (steps : List Step) (s : HallSta
       }
       one_of_two q (inr (inr nobody)) = absurd nobody
 
-  -- each step leads on
+  -- each step keeps what is said
   pub step_led : (kind : IsKind k) (x : Step) (t : HallState) → IsStep k o c s x t → IsLed k o c (steps ++ x ∷ []) t
   step_led kind (By i id d) t (r, here, seat, done) =
       subst (λ (j : ℕ). IsLed k o c (steps ++ By j id d ∷ []) t) seat (own d done)
@@ -298,7 +298,7 @@ module _ (k : Rules) (o : Object) (c : Setting) (steps : List Step) (s : HallSta
       (compares_at k o c s led.hall id a b view idle_a idle_b) refl
       (each_as (Compare i id) _ (a, b, view, idle_a, idle_b, second, refl) tt))
 
-  -- and is itself led
+  -- and what is said holds for the step itself
   next_led : (kind : IsKind k) (x : Step) (t : HallState) → IsStep k o c s x t → IsLedStep k o c steps s x
   next_led kind (By i id d) t (r, here, seat, done) = own d done
     where
@@ -338,7 +338,7 @@ module _ (k : Rules) (o : Object) (c : Setting) (steps : List Step) (s : HallSta
     next = λ x t done. next_led kind x t done;
   }
 
--- the opening table
+-- what is said holds for the opening table
 opening_idle : (c : Setting) (n i : ℕ) (r : SeatRecord) → In r (opening_records c n i) → r ≡ opening_record c r.seat
 opening_idle c zero i r y = absurd y
 opening_idle c (suc n) i r (inl e) = e ∙ ap (opening_record c) (ap (λ (z : SeatRecord). z.seat) (sym e))

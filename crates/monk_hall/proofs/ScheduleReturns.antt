@@ -1,4 +1,4 @@
--- The floor that an active seat brings home is one with which it went on, by calls that its kind allows
+-- The floor that an active seat takes home is one with which it went on, by calls that its kind allows
 use Rattle.std.proofs.Common.{◌≡◌, ℕ, List, [], ◌∷◌, ◌++◌, length, sym, ap, subst, ◌∙◌, arith}
 use Rattle.std.proofs.Common.{append-nil, append_assoc}
 use mathlib.Core.Option as maybe
@@ -69,7 +69,7 @@ module _ (k : Rules) (o : Object) (c : Setting) (kind : IsKind k) (s : HallState
       came_of : List Event → Event
       came_of g = came_in (record r { seen = g })
 
-  -- the floor as it came out, with the event of the seat that came
+  -- the floor as it came out, with the event by which the seat came in
   comes : GoesOn k o r (floor_of c (r.seen ++ came ∷ []))
   comes = record {
     is_floor = ap (λ (y : Setting). floor_of y (r.seen ++ came ∷ [])) (sym setting);

@@ -109,7 +109,7 @@ came_home : (to : Home) → came_by (place_of to) ≡ None
 came_home home.Idle = refl
 came_home home.Inner = refl
 
--- whoever passes the right on after a drop passes it to the ticket whose number is that of the enters so far
+-- a seat that passes the right on after a drop passes it to the ticket whose number is that of the enters so far
 came_dropped : (t n e : ℕ) (to : Home) → n ≤ t → t + 1 ≡ n + e → (m : ℕ) → came_by (place_after_drop t n to) ≡ Some m
     → e ≡ m
 came_dropped t n e to within next m = by_last (n == 1)
@@ -118,7 +118,7 @@ came_dropped t n e to within next m = by_last (n == 1)
     by_last true at = absurd (none_held m (came_home to) at)
     by_last false at = let p = same_Some (t - n + 1) m at in omega arith
 
--- no release enters
+-- no release is an enter
 release_enters : (i : ℕ) (to : Home) (call : Event) (x : Next) → IsReleaseTo i to call
     → is_enter (with_next x call) ≡ false
 release_enters i to (event.Enter s via) x r = absurd r
@@ -132,7 +132,7 @@ release_enters i to (event.Resume s q) x r = absurd r
 release_enters i to (event.SignalAll s c) x r = absurd r
 release_enters i to (event.SignalWait s c d y) x r = refl
 
--- by a ticket a seat enters, and else it resumes
+-- a seat that comes by a ticket enters, and any other resumes
 came_enters : (i : ℕ) (q : Source) (u : Turn) (t : ℕ) → ticket_by q ≡ Some t → (rest : List Event) → entered rest ≡ []
     → entered (out_event i q u ∷ rest) ≡ i ∷ []
 came_enters i (Free n) u t e rest nobody = ap (λ (l : List ℕ). i ∷ l) nobody

@@ -35,7 +35,7 @@ module _ (c : Setting) (views : List View) (at : ℕ → SeatRecord) (s : AreSho
   pub is_setting : r.setting ≡ c
   is_setting = ap (λ (x : SeatRecord). x.setting) (sym is_at) ∙ s.settings r.seat
 
-  -- the record of the seat whose view has it alone changes
+  -- the record of a seat that is alone in its view changes
   pub shown_set : (w : SeatRecord) → w.seat ≡ r.seat → w.setting ≡ r.setting
       → AreShown c (set views id (w ∷ [])) (update at r.seat w)
   shown_set w same kept = record {

@@ -1,4 +1,4 @@
--- Where a seat stands, told by its stage
+-- Where a seat is, by its stage
 use Rattle.std.proofs.Common.{◌≡◌, ◌≢◌, ℕ, ◌+◌, ◌-◌, ◌==◌, cond, Bool, true, false, refl, arith}
 use Rattle.monk_world.specs.Places.{stage, ticket, back_turn, open_turn, place_of, ticketed_stage, due_stage}
 use Rattle.monk_world.specs.Places.{active_stage, back_stage, passing_stage, inside_stage}

@@ -1,4 +1,4 @@
--- A table that meets the rule, as a seat finds it that has its view alone
+-- A table under the rule, as it is for a seat that is alone in its view
 use Rattle.std.proofs.Common.{◌≡◌, ◌≢◌, ℕ, ◌-◌, ◌<◌, ◌≤◌, Bool, List, [], ◌∷◌, length, set, refl, sym, ap, ◌∙◌, subst, arith}
 use Rattle.std.specs.Prelude.{Option}
 use mathlib.Core.Option as maybe
@@ -64,7 +64,7 @@ module _ (k : Rules) (o : Object) (c : Setting) (kind : IsKind k) (s : table.Sta
   pub stands_at : (p : Place) → r.place ≡ p → world.place r.seat ≡ p
   stands_at p e = ap (λ (y : SeatRecord). y.place) is ∙ e
 
-  -- what a seat has left that isn't active
+  -- how many events a seat has left, if it isn't active
   pub left_is : stage r.place ≢ active_stage
       → left_of c.budget kept_hall.history r.seat ≡ r.setting.budget - length r.mine
   left_is not_active =
@@ -101,7 +101,7 @@ module _ (k : Rules) (o : Object) (c : Setting) (kind : IsKind k) (s : table.Sta
     step = frame.step_is k o state r.seat m a t p ready (stands_at p at_p) done;
   }
 
-  -- the seat's record has changed, as its own step may change it that leaves the history
+  -- the seat's record has changed as a step of its own that keeps the history may change it
   pub record IsMoved (w : SeatRecord) : Type 0 where
     pub seat : w.seat ≡ r.seat
     pub setting : w.setting ≡ r.setting
@@ -129,7 +129,7 @@ module _ (k : Rules) (o : Object) (c : Setting) (kind : IsKind k) (s : table.Sta
   known_stays w e =
       sym (field_stays (λ (y : SeatRecord). y.known) at r.seat w (ap (λ (y : SeatRecord). y.known) is ∙ sym e))
 
-  -- the rule holds after a step that leaves the history and the floor where they are, and it is a step of the world
+  -- the rule holds after a step that doesn't change the history and the floor, and it is a step of the world
   pub holds_after : (w : SeatRecord) (ws : List ℕ) → IsMoved w → length ws ≡ length s.words
       → {m : Command} {a : Answer} {t : State} → IsTaken m a t
       → Path State t (shown_state c ws (update at r.seat w) kept_hall.history)

@@ -7,7 +7,7 @@ use mathlib.Core.Path.{Path}
 use Rattle.monk_hall.specs.Layout.{place_word, seat_word}
 use Rattle.monk_hall.specs.declared.record.SeatRecord.{SeatRecord}
 
--- a field of the records, where one record changes
+-- a field of the records, after one record has changed
 pub field_update : {X : Type 0} (f : SeatRecord → X) (at : ℕ → SeatRecord) (i : ℕ) (w : SeatRecord)
     → Path (ℕ → X) (λ j. f (update at i w j)) (update (λ j. f (at j)) i (f w))
 field_update {X} f at i w = λ m j.

@@ -76,7 +76,7 @@ answered_waits true = tt
 answered_waits false = tt
 
 module _ {k : Rules} {o : Object} where
-  -- a record that differs where it stands, and in what it has counted
+  -- a record that differs in its place, and in what it has counted
   pub told_moved : (r w : SeatRecord) → SeesTruly k o r → w.seat ≡ r.seat → w.setting ≡ r.setting → w.seen ≡ r.seen
       → w.mine ≡ r.mine → SeesTruly k o w
   told_moved r w t seat setting seen mine = record {
@@ -173,7 +173,7 @@ module _ {k : Rules} {o : Object} where
         own = refl;
       }
 
-  -- a step leaves the seat of the same table, and its view is this
+  -- after a step the seat is of the same table, and its view is this one
   pub rests_at : {z : TableId} {me : Me} {numbers : SeatNumbers} {left : ℕ} → IsResting k o z me numbers left
       → (y : TableId) (new : Me) → y ≡ z → new ≡ me → IsResting k o y new numbers left
   rests_at {z} {me} {numbers} {left} x y new same is =
@@ -275,7 +275,7 @@ module _ {k : Rules} {o : Object} where
       (λ i. holder (sym same i) (sym (ap (λ m. the m.0) is) i) (sym (out_is x f g q at grows) i))
       (entered z (the me.0) q f at finds)
 
--- what a look leaves as it was
+-- what a look doesn't change
 pub record IsAsBefore (r w : SeatRecord) : Type 0 where
   pub seat : w.seat ≡ r.seat
   pub setting : w.setting ≡ r.setting
@@ -359,7 +359,7 @@ module _ {k : Rules} {o : Object} where
         own = x.own;
       }
 
-  -- and by which steps
+  -- and the steps by which it did
   pub comes_by_look : (p q : Token) (a : Holder) (y : Source) → HasLooked k o p q → q.me.place ≡ Due y
       → a.me.did ≡ q.me.did ++ FloorOut ∷ [] → ComesAfter 0 p.me a.me
   comes_by_look p q a y l due out = out

@@ -41,7 +41,7 @@ use Rattle.monk_hall.proofs.Stored as stored
 use Rattle.monk_hall.proofs.Stored.{places_stay, seats_stay}
 use Rattle.monk_hall.specs.Rule.{CountsCalls}
 
--- a step of a seat that leaves the history and the floor where they are
+-- a step of a seat that doesn't change the history and the floor
 module _ (k : Rules) (o : Object) (c : Setting) (kind : IsKind k) (s : table.State (Option FloorView) View)
     (h : IsHall k o c s) (id : ℕ) (r : SeatRecord) (here : get_elem? s.views id ≡ maybe.some (r ∷ [])) where
   -- step 1
@@ -270,7 +270,7 @@ module _ (k : Rules) (o : Object) (c : Setting) (kind : IsKind k) (s : table.Sta
       two_or_more : (m : ℕ) → 2 ≤ m → nat_le 2 m ≡ true
       two_or_more m l = grind (arith, l)
 
-  -- while a seat has the floor back, not all tickets are passed on
+  -- while a seat has taken the floor back, not all tickets are passed on
   pub some_unpassed : stage r.place ≡ back_stage → 0 < unpassed (slice_index s.words 0)
   some_unpassed back =
       let sound = stepping.sound k o c kind s h id r here in

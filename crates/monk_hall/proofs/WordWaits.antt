@@ -18,7 +18,7 @@ use Rattle.monk_hall.specs.declared.setting.Setting.{Setting}
 use Rattle.monk_hall.proofs.RecordLaws.{is, place, cases_le}
 use Rattle.monk_hall.proofs.Standing.{ticket_at, inner_at}
 
--- whatever has the last place takes that of the last number
+-- the number with the last place gets the place of the last number
 abbrev moved : (ℕ → ℕ) → ℕ → ℕ → ℕ → ℕ
 moved f n m k = cond (f k == n) (f m) (f k)
 
@@ -28,7 +28,7 @@ is_moved f n m k = elim (eqb_tells (f k) n) [
   | inr ne ↦ inr (ne.1, ap (λ (b : Bool). cond b (f m) (f k)) ne.0)
 ]
 
--- no more numbers than places, where no two have one place
+-- there are no more numbers than places, if no two have one place
 pub few_places : (n m : ℕ) (f : ℕ → ℕ) → ((k : ℕ) → k < m → f k < n)
     → ((i j : ℕ) → i < m → j < m → f i ≡ f j → i ≡ j) → m ≤ n
 few_places n zero f low apart = omega arith
@@ -63,7 +63,7 @@ module _ (k : Rules) (o : Object) (c : Setting) (s : HallState) (h : IsHall k o 
   abbrev stands : ℕ → Place
   stands j = (h.0 j).place
 
-  -- tickets of one word, both waited with, are one: the seats that wait with those between are not more than there are
+  -- two tickets of one word that seats wait with are the same: those between would have too many seats
   not_later : (r q : SeatRecord) → IsRecord s r → IsRecord s q → (t u : ℕ) → r.place ≡ Ticket t → q.place ≡ Ticket u
       → t ≤ u → t % c.seats ≡ u % c.seats → t ≡ u
   not_later r q x y t u at_t at_u le same =

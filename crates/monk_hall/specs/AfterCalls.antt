@@ -9,14 +9,13 @@ use Rattle.monk_hall.specs.Tokens.{Token, Holder}
 use Rattle.monk_hall.specs.declared.after.After.{After}
 use Rattle.monk_hall.specs.declared.after.After.TheVariants.{Active, Parked}
 
--- the one fact where it is active, the other where it is parked
+-- the first fact if the token is active, and the second if it is parked
 abbrev pub MatchAfter : {K T : Type 0} → After K T → (Holder → Type 0) → (Token → Type 0) → Type 0
 MatchAfter (Active a) f g = f a
 MatchAfter (Parked p) f g = g p
 
--- a release by which a seat may stay active: it stays where the wish rules chose so, and else is
--- parked inside. It looks at the ticket word where its wish is for entry and there is something to
--- choose
+-- a release after which a seat may stay active. It stays if the wish rules chose so, and else is parked inside. It
+-- looks at the ticket word if its wish is for entry and there is something to choose
 abbrev pub StaysOrParks : {K T : Type 0} → Rules → Object → Holder → Event → Pick → After K T → Type 0
 StaysOrParks k o a call wish to =
     MatchAfter to (λ b. HasStayed k o a call wish (peeks_for k o a.floor call wish) b)

@@ -1,4 +1,4 @@
--- What each call tells, of the token that was handed in and the one that is given back
+-- What each call promises, of the token that was handed in and of the one that it returns
 use Rattle.std.specs.Prelude.{◌≡◌, ℕ, ◌+◌, ◌==◌, ◌≤◌, ◌&&◌, not, Bool, true, false, if◌then◌else◌, List, [], ◌∷◌, ◌++◌, replicate}
 use Rattle.std.specs.Prelude.{Option, Some, None}
 use Rattle.monk_kinds.specs.declared.mode.Rules.{Rules}
@@ -35,7 +35,7 @@ use Rattle.monk_hall.specs.declared.deed.Deed.{Deed}
 use Rattle.monk_hall.specs.declared.deed.Deed.TheVariants.{LookForTicket, LookForCall, Peek, FloorOut, FloorIn}
 use Rattle.monk_hall.specs.declared.record.SeatRecord.{SeatRecord}
 
--- it draws a ticket, with a number not below the enters that it has seen
+-- it has drawn a ticket, with a number not below the enters that it has seen
 pub record HasArrived (k : Rules) (o : Object) (p q : Token) : Type 0 where
   pub found : ℕ
   pub hall : q.hall ≡ p.hall
@@ -43,7 +43,7 @@ pub record HasArrived (k : Rules) (o : Object) (p q : Token) : Type 0 where
   pub enters : enters_of p.me.seen ≤ tickets found
   pub told : SeesTruly k o q.me
 
--- the ticket with which a seat waits for entry, or came to the right
+-- the ticket with which a seat waits for entry, or by which it got the right
 abbrev pub held_ticket : Place → Option ℕ
 held_ticket Idle = None
 held_ticket (Ticket t) = Some t
@@ -55,7 +55,7 @@ held_ticket (Back x to) = None
 held_ticket (Passing t to) = None
 held_ticket Inner = None
 
--- a waiting seat looked, and found this: a seat that is due needs no look
+-- the record of a waiting seat after a look that found this. A seat that is due needs no look
 abbrev pub record_after_look : Place → SeatRecord → ℕ → SeatRecord
 record_after_look Idle r found = r
 record_after_look (Ticket t) r found =
@@ -77,9 +77,9 @@ pub record HasLooked (k : Rules) (o : Object) (p q : Token) : Type 0 where
   pub hall : q.hall ≡ p.hall
   pub me : q.me ≡ record_after_look p.me.place p.me found
 
--- the seat is active. Its history is what came before, which begins with all that the seat had seen, and the event
--- with which it came; that event is also the last of its own. A seat that came by a ticket finds as many enters as
--- that ticket's number. The seat's events in the history are its own
+-- the seat is active. Its history is what came before, and the event with which it came in. What came before begins
+-- with all that the seat had seen. That event is also the last of its own. A seat that came by a ticket finds as many
+-- enters as that ticket's number. The seat's events in the history are its own
 pub record HasEntered (k : Rules) (o : Object) (p : Token) (a : Holder) : Type 0 where
   pub hall : a.hall ≡ p.hall
   pub seat : a.me.seat ≡ p.me.seat
@@ -95,30 +95,30 @@ pub record HasEntered (k : Rules) (o : Object) (p : Token) (a : Holder) : Type 0
   pub legal : IsLegal (monitor_of k o a.floor) a.floor.history
   pub own : events_of a.floor.history a.me.seat ≡ a.me.mine
 
--- it came by a look where it waited, if it had to look, after so many looks that found nothing; and then the floor came
--- to it
+-- it came in after n looks in vain, a look that found its grant if it needed one, and the step by which the floor
+-- came to it
 abbrev pub ComesAfter : ℕ → SeatRecord → SeatRecord → Type 0
 ComesAfter n r w = w.did ≡ r.did ++ (looks_in_vain n r.place ++ (look_at r.place true ++ FloorOut ∷ []))
 
--- the right was not there; the seat has looked once more
+-- the right was not there, and the seat has looked once more
 pub record StillWaits (k : Rules) (o : Object) (p q : Token) : Type 0 where
   pub hall : q.hall ≡ p.hall
   pub me : q.me ≡ record p.me { did = p.me.did ++ look_at p.me.place false }
   pub told : SeesTruly k o q.me
 
--- a wish for entry wants to know whether somebody waits for it
+-- whether the wish needs to know if somebody waits for entry
 abbrev pub wants_entry : Pick → Bool
 wants_entry WishEntry = true
 wants_entry WishWaiter = false
 wants_entry WishSignaller = false
 
--- what a release knows of the entry: only a wish for entry asks
+-- what a release knows of the entry. Only a wish for entry asks
 abbrev pub is_entry_known : Pick → Bool → Bool
 is_entry_known WishEntry known = known
 is_entry_known WishWaiter known = false
 is_entry_known WishSignaller known = false
 
--- how often a release looks at the ticket word: a wish for entry once, where there is something to choose
+-- how often a release looks at the ticket word: once if the wish is for entry and there is something to choose
 abbrev pub peeks_of : Bool → Pick → ℕ
 peeks_of chooses wish = if chooses && wants_entry wish then 1 else 0
 
@@ -131,18 +131,18 @@ pub record Remembers (r : SeatRecord) (looked : List Deed) (w : SeatRecord) : Ty
   pub knew : r.known ≡ true → w.known ≡ true
   pub learns : w.known ≡ knows_from r.known looked
 
--- so many looks at the ticket word, each of which found so many tickets that are not passed on
+-- `peeks` looks at the ticket word, each of which found `found` tickets that are not passed on
 abbrev pub peeks_at : ℕ → ℕ → List Deed
 peeks_at peeks found = replicate peeks (Peek found)
 
--- the active seat has looked at the ticket word so often
+-- the active seat has looked at the ticket word `peeks` times
 pub record HasPeeked (peeks : ℕ) (a b : Holder) : Type 0 where
   pub found : ℕ
   pub remembers : Remembers a.me (peeks_at peeks found) b.me
   pub is : b ≡ record a { me = record a.me { known = b.me.known; did = a.me.did ++ peeks_at peeks found } }
 
--- the seat has given the floor back with this release, whose next is that of the wish rules; it stands outside or is
--- parked inside. `known` of the token given back tells whether its look found somebody at the entry
+-- the seat has returned the floor with this release, whose next is that of the wish rules. It is outside or parked
+-- inside. `known` of the returned token says whether its look found somebody at the entry
 pub record HasReleased (k : Rules) (o : Object) (a : Holder) (call : Event) (wish : Pick) (to : Home)
     (peeks : ℕ) (p : Token) : Type 0 where
   pub choice : Next
@@ -154,8 +154,8 @@ pub record HasReleased (k : Rules) (o : Object) (a : Holder) (call : Event) (wis
   pub place : p.me.place ≡ place_of to
   pub seen : p.me.seen ≡ a.floor.history ++ with_next choice call ∷ []
   pub mine : p.me.mine ≡ a.me.mine ++ with_next choice call ∷ []
-  -- its steps: the look, if it takes one; the floor goes home with all that the seat has recorded since it
-  -- came; and the right is handed on
+  -- its steps: the look, if it takes one; then the floor goes home with all that the seat has recorded since it came
+  -- in; then the right is handed on
   pub found : ℕ
   pub handed : List Deed
   pub did : p.me.did ≡ a.me.did ++ (peeks_at peeks found ++ FloorIn (since a.me.seen p.me.seen) ∷ handed)
@@ -164,7 +164,7 @@ pub record HasReleased (k : Rules) (o : Object) (a : Holder) (call : Event) (wis
   pub told : SeesTruly k o p.me
   pub floor : a.floor ≡ floor_of a.me.setting a.floor.history
 
--- the seat has stayed active by this release, since the wish rules chose so
+-- the seat has stayed active by this release, because the wish rules chose so
 pub record HasStayed (k : Rules) (o : Object) (a : Holder) (call : Event) (wish : Pick) (peeks : ℕ)
     (b : Holder) : Type 0 where
   pub chosen : next.Stay ≡ choice_of k o (stands_of k o a.floor) call (is_entry_known wish b.me.known) wish
@@ -188,16 +188,15 @@ pub record HasDone (k : Rules) (o : Object) (a : Holder) (e : Event) (b : Holder
   pub legal : IsLegal (monitor_of k o b.floor) b.floor.history
   pub own : events_of b.floor.history b.me.seat ≡ b.me.mine
 
--- a release that always leads outside, and one that always parks inside: each looks at the ticket
--- word where its wish is for entry
+-- a release that always leads outside. It looks at the ticket word if its wish is for entry
 abbrev pub GoesOut : Rules → Object → Holder → Event → Pick → Token → Type 0
 GoesOut k o a call wish p = HasReleased k o a call wish home.Idle (peeks_of true wish) p
 
--- the release leaves the seat waiting inside
+-- a release that always parks inside. It looks at the ticket word if its wish is for entry
 abbrev pub ParksInside : Rules → Object → Holder → Event → Pick → Token → Type 0
 ParksInside k o a call wish p = HasReleased k o a call wish home.Inner (peeks_of true wish) p
 
--- what a release must know of the entry where it has something to choose
+-- what a release must know of the entry if it has something to choose
 abbrev pub KnowsForChoice : Rules → Object → Holder → Event → Pick → Bool → Type 0
 KnowsForChoice k o a call wish known = must_stay o (stands_of k o a.floor) call ≡ false
     → known ≡ is_entry_known wish a.me.known

@@ -1,4 +1,4 @@
--- What each step makes of the record of the seat that takes it, by what it found
+-- How each step changes the record of the seat that takes it, by what the step found
 use Rattle.std.specs.Prelude.{ℕ, ◌+◌, ◌==◌, nat_le, if◌then◌else◌, false, List, [], ◌∷◌, ◌++◌, drop, length, Option, Some, None}
 use Rattle.std.specs.List.{last_or}
 use Rattle.monk_history.specs.Meaning.Counts.{events_of}
@@ -21,7 +21,7 @@ use Rattle.monk_hall.specs.declared.deed.Deed.{Deed}
 use Rattle.monk_hall.specs.declared.deed.Deed.TheVariants as deed
 use Rattle.monk_hall.specs.declared.record.SeatRecord.{SeatRecord}
 
--- how a seat comes to the right that waits there, or has come to it that is due or active
+-- how a seat gets the right that waits at this place, or how it got it if it is due or active
 abbrev pub source_from : Place → Source
 source_from Idle = Called
 source_from (Ticket t) = Granted t
@@ -31,7 +31,7 @@ source_from (Back x to) = Called
 source_from (Passing t to) = Called
 source_from Inner = Called
 
--- where a seat goes once it has handed the right on
+-- where a seat goes after it has handed the right on
 abbrev pub home_at : Place → Home
 home_at Idle = home.Idle
 home_at (Ticket t) = home.Idle
@@ -41,12 +41,12 @@ home_at (Back x to) = to
 home_at (Passing t to) = to
 home_at Inner = home.Idle
 
--- the choice, if one was made; else the seat stays
+-- the choice, if one was made; otherwise to stay
 abbrev pub choice_in : Option Next → Next
 choice_in None = next.Stay
 choice_in (Some x) = x
 
--- where a seat stands that has brought the floor back after this release
+-- the place of a seat that has taken the floor home with this release
 abbrev pub back_after : Option Event → Place
 back_after None = Idle
 back_after (Some e) = Back (choice_in (next_of e)) (if is_way_out e then home.Idle else home.Inner)
@@ -76,7 +76,7 @@ record_after_seat_look r found =
       did = r.did ++ deed.LookForCall (found == r.count + 1) ∷ [];
     }
 
--- active, it looked whether somebody waits for entry
+-- while active, it looked whether somebody waits for entry
 abbrev pub record_after_peek : SeatRecord → ℕ → SeatRecord
 record_after_peek r found =
     record r { known = nat_le 2 (unpassed found); did = r.did ++ deed.Peek (unpassed found) ∷ [] }
@@ -91,11 +91,11 @@ record_after_floor_out r history =
       did = r.did ++ deed.FloorOut ∷ [];
     }
 
--- what a history has behind one with which it begins
+-- what a history has after the history `before`, with which it begins
 abbrev pub since : List Event → List Event → List Event
 since before history = drop (length before) history
 
--- it brought the floor back, with this history
+-- it took the floor home, with this history
 abbrev pub record_after_floor_in : SeatRecord → List Event → SeatRecord
 record_after_floor_in r history =
     record r {
@@ -113,19 +113,19 @@ record_after_drop r found =
       did = r.did ++ deed.Drop (unpassed found) ∷ [];
     }
 
--- it handed the right on, by this grant
+-- it handed the right on by this grant
 abbrev pub record_after_grant : SeatRecord → Deed → SeatRecord
 record_after_grant r grant = record r { place = place_of (home_at r.place); did = r.did ++ grant ∷ [] }
 
--- of two histories the longer
+-- the longer of two histories
 abbrev pub longer : List Event → List Event → List Event
 longer a b = if nat_le (length a) (length b) then b else a
 
--- two views in one, which costs the first a step
+-- two views in one. This costs the first seat a step
 abbrev pub view_after_join : View → View → View
 view_after_join v w = record (the v) { did = (the v).did ++ deed.Meet ∷ [] } ∷ the w ∷ []
 
--- both have seen as much, which costs the second a step
+-- both have seen as much. This costs the second seat a step
 abbrev pub view_after_compare : View → View
 view_after_compare v =
     record (the v) { seen = longer (the v).seen (the (tail v)).seen }

@@ -33,8 +33,8 @@ pub record HasSomebody (k : Rules) (o : Object) (f : FloorView) : Type 0 where
 abbrev pub IsUnqueued : Rules → Object → FloorView → ℕ → Type 0
 IsUnqueued k o f seats = (j : ℕ) → j < seats → is_queued f.conds j (stands_of k o f) ≡ false
 
--- the hall has ended: nobody was in a queue, and the active seat has left. The history is legal and within the budgets
--- of all seats, its events of the seat are its own, and the object has its data
+-- the hall has ended: nobody was in a queue, and the active seat has left. The history is legal and within the
+-- budgets of all seats. Its events of the seat are the seat's own, and the object has its data
 pub record IsEnded (k : Rules) (o : Object) (a : Holder) (history : List Event) (state : List ℕ) : Type 0 where
   pub nobody : HasNobody a.floor
   pub leaves : history ≡ a.floor.history ++ Leave a.me.seat Entry ∷ []
@@ -43,7 +43,7 @@ pub record IsEnded (k : Rules) (o : Object) (a : Holder) (history : List Event) 
   pub contents : state ≡ data_of (monitor_of k o a.floor) history
   pub few : length history ≤ a.floor.seats * a.floor.budget
 
--- the hall goes on: somebody is in a queue, or a look at the ticket word found somebody at the entry. Nothing else has
+-- the hall goes on: a queue has somebody, or a look at the ticket word found somebody at the entry. Nothing else has
 -- changed
 pub record IsBusy (k : Rules) (o : Object) (a b : Holder) : Type 0 where
   pub some : HasSomebody k o a.floor ⊎ (b.me.known ≡ true)

@@ -16,13 +16,13 @@ use Rattle.monk_hall.specs.Changes.{source_from}
 use Rattle.monk_hall.specs.Layout.{floor_of}
 use Rattle.monk_hall.specs.declared.record.SeatRecord.{SeatRecord}
 
--- h begins with g
+-- the history h begins with g
 abbrev pub StartsWith : List Event → List Event → Type 0
 StartsWith h g = (more : List Event) × (h ≡ g ++ more)
 
--- what a seat that is due finds when the floor comes out: a floor of this hall with a legal history, which begins with
--- all that the seat has seen and has exactly its own events as the seat's; its enter or resume is allowed there, and
--- it comes in turn by its ticket
+-- what a seat that is due finds when the floor comes out: a floor of this hall with a legal history. The history
+-- begins with all that the seat has seen, and the seat's events in it are exactly its own. Its enter or resume is
+-- allowed there, and it comes in turn by its ticket
 pub record Finds (k : Rules) (o : Object) (r : SeatRecord) (f : FloorView) : Type 0 where
   pub is_floor : f ≡ floor_of r.setting f.history
   pub near : r.seat < f.seats
@@ -46,8 +46,8 @@ abbrev pub ArePrivate : ℕ → List Event → Type 0
 ArePrivate i [] = Unit {0}
 ArePrivate i (e ∷ es) = IsPrivate i e × ArePrivate i es
 
--- the floor in the hands of an active seat: its history is what the seat found, the event with which it came, and
--- events of the seat alone
+-- the floor in the hands of an active seat. Its history is what the seat found, the event with which it came in, and
+-- then only events of the seat
 pub record GoesOn (k : Rules) (o : Object) (r : SeatRecord) (f : FloorView) : Type 0 where
   pub is_floor : f ≡ floor_of r.setting f.history
   pub near : r.seat < f.seats

@@ -1,4 +1,4 @@
--- What is granted as the right is handed on, and to whom
+-- What is granted when the right is handed on, and to whom
 use Rattle.std.specs.Prelude.{◌≡◌, ℕ, true, List, Option, Some, None}
 use Rattle.std.specs.List.{last_or}
 use Rattle.atomic_table.specs.Seated.{TableId}
@@ -21,7 +21,7 @@ pub record Grant : Type 0 where
   pub table : TableId
   pub word : ℕ
 
--- what a deed stored as a grant, in the table z of so many seats: the grant of a ticket in the ticket's place,
+-- what a deed stored as a grant, in the table z for `seats` seats. The grant of a ticket is in the ticket's place,
 -- and the call of a seat in the seat's own
 abbrev pub grant_of : TableId → ℕ → Option Deed → Option Grant
 grant_of z seats (Some (GrantTicket t)) = Some (record { table = z; word = ticket_word seats t })
@@ -32,7 +32,7 @@ grant_of z seats _ = None
 abbrev pub granted_last : TableId → ℕ → List Deed → Option Grant
 granted_last z seats ds = grant_of z seats (last_or None ds)
 
--- a release, and what it granted: that is what its last step stored
+-- a release and what it granted. That is what its last step stored
 pub record HasGranted (k : Rules) (o : Object) (a : Holder) (call : Event) (wish : Pick) (to : Home)
     (peeks : ℕ) (p : Token)
     (h : House) (g : Option Grant) : Type 0 where
@@ -47,7 +47,7 @@ GrantsOut k o a call wish p h g = HasGranted k o a call wish home.Idle (peeks_of
 abbrev pub GrantsInside : Rules → Object → Holder → Event → Pick → Token → House → Option Grant → Type 0
 GrantsInside k o a call wish p h g = HasGranted k o a call wish home.Inner (peeks_of true wish) p h g
 
--- where the seat stays nothing is granted
+-- the seat stays, and nothing is granted
 pub record HasStayedAlone (k : Rules) (o : Object) (a : Holder) (call : Event) (wish : Pick) (peeks : ℕ) (b : Holder)
     (g : Option Grant) : Type 0 where
   pub stayed : HasStayed k o a call wish peeks b

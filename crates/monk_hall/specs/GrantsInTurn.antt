@@ -1,4 +1,4 @@
--- A word is granted again only once the grant that stands there is taken
+-- A word is granted again only after the grant that is there was taken
 use Rattle.std.specs.Prelude.{◌≡◌, ℕ, true, List, [], ◌∷◌, ◌++◌, Option, Some, None}
 use Rattle.monk_kinds.specs.Kind.{IsKind}
 use Rattle.monk_kinds.specs.declared.mode.Rules.{Rules}
@@ -14,7 +14,7 @@ use Rattle.monk_hall.specs.declared.deed.Deed.TheVariants.{GrantTicket, CallSeat
 use Rattle.monk_hall.specs.declared.record.SeatRecord.{SeatRecord}
 use Rattle.monk_hall.specs.declared.setting.Setting.{Setting}
 
--- the word in which a step stores a grant, among so many seats
+-- the word in which a step stores a grant, in a hall of `seats` seats
 abbrev pub granted_word : ℕ → Step → Option ℕ
 granted_word seats (By i id (GrantTicket n)) = Some (ticket_word seats n)
 granted_word seats (By i id (CallSeat m)) = Some (seat_word m)
@@ -45,7 +45,7 @@ pub record IsTakenBetween (k : Rules) (o : Object) (c : Setting) (w : ℕ) (s : 
   pub goes_on : IsSchedule k o c next after t
   pub taken : IsTaken at w look
 
--- of every schedule: after a step that grants w, and before the next step that does, the grant is taken
+-- in every schedule, after a step that grants w and before the next step that grants it, the grant is taken
 abbrev pub GrantsComeInTurn : Type 0
 GrantsComeInTurn =
     (k : Rules) (o : Object) (c : Setting) → IsKind k → make_refusal c.seats c.conds c.budget ≡ None

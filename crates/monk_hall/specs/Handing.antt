@@ -28,15 +28,15 @@ seat_called_by (Waiter j) = Some j
 seat_called_by (Signaller j) = Some j
 seat_called_by (Until j) = Some j
 
--- how the right is handed on to this seat, where the history that came home is `seen`. By entry a choice names nobody:
--- the seat passes on the ticket in use, and grants the next ticket unless that was the last. The number of the next
--- ticket is that of the enters so far
+-- how the right is handed on to the seat that a choice names. `seen` is the history that came home. By entry a choice
+-- names nobody: the seat passes on the ticket in use, and grants the next ticket unless that was the last. The number
+-- of the next ticket is the number of enters so far
 abbrev pub HandsOn : Option ℕ → List Event → List Deed → Type 0
 HandsOn (Some j) seen ds = ds ≡ CallSeat j ∷ []
 HandsOn None seen ds = (ds ≡ Drop 1 ∷ [])
     ⊎ ((n : ℕ) × (2 ≤ n) × (ds ≡ Drop n ∷ GrantTicket (enters_of seen) ∷ []))
 
--- the active seat has recorded a release in its floor, which chose `choice` and leads to `to`
+-- the active seat has recorded a release in its floor. The release chose `choice` and leads to `to`
 pub record HasRecordedRelease (k : Rules) (o : Object) (z : TableId) (me : Me) (choice : Next) (to : Home)
     (f : FloorView) : Type 0 where
   pub one : IsOne me.0
@@ -47,14 +47,14 @@ pub record HasRecordedRelease (k : Rules) (o : Object) (z : TableId) (me : Me) (
   pub is_to : returns.to ≡ to
   pub allowed : IsAllowed (monitor_of k o returns.before) returns.before.history (with_next returns.choice returns.call)
 
--- a seat that has the floor back has handed the right on, and went where it was going
+-- a seat that has taken the floor home has handed the right on, and is where it was going
 pub record HasHandedOn (called : Option ℕ) (r w : SeatRecord) : Type 0 where
   pub handed : List Deed
   pub hands_on : HandsOn called r.seen handed
   pub is : w ≡ record r { place = place_of (home_at r.place); did = r.did ++ handed }
 
--- the floor is home with this history, which ends with a release by this choice; the right is handed on, and the seat
--- stands there
+-- the floor is home with this history, which ends with a release by this choice. The right is handed on, and the seat
+-- is at `to`
 pub record HasGone (r : SeatRecord) (h : List Event) (choice : Next) (to : Home) (w : SeatRecord) : Type 0 where
   pub handed : List Deed
   pub hands_on : HandsOn (seat_called_by choice) h handed

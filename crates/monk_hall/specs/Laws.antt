@@ -1,4 +1,4 @@
--- What holds of a hall's table whenever its rule does, and so before and after every step
+-- What holds for a hall's table if its rule does, and so before and after every step
 use Rattle.std.specs.Prelude.{◌≡◌, ◌≢◌, ℕ, ◌+◌, ◌==◌, ◌≤◌, true, false, List, [], ◌∷◌, ◌++◌, length, set, slice_index}
 use Rattle.std.specs.Prelude.{Option, Some, None}
 use mathlib.Core.Option.{none, some}
@@ -50,15 +50,15 @@ pub record IsRecord (s : HallState) (r : SeatRecord) : Type 0 where
   pub at : get_elem? s.views id ≡ some view
   pub there : In r view
 
--- a step of seat i leads from a table under the rule to another with the same history at home, and what they show is a
--- step of the world, by this command and with this answer
+-- a step of seat i leads from a table under the rule to another with the same history at home. What the tables show
+-- is a step of the world, by this command and with this answer
 pub record Takes (k : Rules) (o : Object) (c : Setting) (s : HallState) (h : IsHall k o c s) (i : ℕ) (m : Command)
     (a : Answer) (t : HallState) : Type 0 where
   pub hall : IsHall k o c t
   pub home : hall.2.past ≡ h.2.past
   pub step : IsStep k o (shown_state c s.words h.0 h.2.history) i m a (shown_state c t.words hall.0 hall.2.history)
 
--- a seat whose view has it alone
+-- a statement about a seat whose view has only its record
 abbrev pub OfASeat : ((k : Rules) (o : Object) (c : Setting) (s : HallState) → IsHall k o c s → ℕ → SeatRecord
     → Type 0) → Type 0
 OfASeat Step = (k : Rules) (o : Object) (c : Setting) → IsKind k
@@ -136,9 +136,9 @@ wish_of (command.Until p pick) = Some pick
 wish_of (command.SignalAll c) = None
 wish_of (command.SignalWait c d pick) = Some pick
 
--- the active seat brings a floor home: what is shown, events of the seat alone that keep the turn with it, and then a
--- step of the world, a release that chose another. The floor before that step is the one that the seat had in its hands
--- when it released, and the step's command makes that release, with its wish and its choice
+-- the active seat takes a floor home. To what is shown it adds events of the seat alone that keep the turn with it,
+-- and then a step of the world, a release that chose another. The floor before that step is the one that the seat had
+-- in its hands when it released. The step's command makes that release, with its wish and its choice
 pub record BringsHome (k : Rules) (o : Object) (c : Setting) (s : HallState) (h : IsHall k o c s)
     (r : SeatRecord) (f : FloorView)
     (ret : Returns k o r f) (t : HallState) : Type 0 where
@@ -210,49 +210,49 @@ abbrev pub RightInOnePlace : Type 0
 RightInOnePlace = (k : Rules) (o : Object) (c : Setting) (s : HallState) → (h : IsHall k o c s)
     → IsInOnePlace c.seats (shown_world s.words h.0)
 
--- where each seat is outside and has drawn no ticket, the monitor is free: whoever arrives next comes in
+-- if each seat is outside and has drawn no ticket, the monitor is free, and the next seat that arrives comes in
 abbrev pub IdleIsFree : Type 0
 IdleIsFree =
     (k : Rules) (o : Object) (c : Setting) (s : HallState) → IsHall k o c s
     → ((r : SeatRecord) → IsRecord s r → r.place ≡ Idle) → unpassed (first_word s) ≡ 0
 
--- the state that words and records show is well led: its history legal, turn and queues as the seats stand
+-- the state that words and records show is well led: its history is legal, and turn and queues agree with the seats
 abbrev pub ShowsWellLed : Type 0
 ShowsWellLed = (k : Rules) (o : Object) (c : Setting) (s : HallState) → (h : IsHall k o c s)
     → IsWellLed k o (shown_state c s.words h.0 h.2.history)
 
--- two seats that have the right are one, in one view
+-- two seats that have the right are the same, in one view
 abbrev pub OneHasTheRight : Type 0
 OneHasTheRight =
     (k : Rules) (o : Object) (c : Setting) (s : HallState) → IsHall k o c s
     → (r q : SeatRecord) → (x : IsRecord s r) → (y : IsRecord s q) → HoldsRight r.place → HoldsRight q.place
     → (r ≡ q) × (x.id ≡ y.id)
 
--- so two that are active are one
+-- so two active seats are the same
 abbrev pub OneIsActive : Type 0
 OneIsActive =
     (k : Rules) (o : Object) (c : Setting) (s : HallState) → IsHall k o c s
     → (r q : SeatRecord) → (x : IsRecord s r) → (y : IsRecord s q) → stage r.place ≡ active_stage
     → stage q.place ≡ active_stage → (r ≡ q) × (x.id ≡ y.id)
 
--- an active seat knows of somebody at the entry only while at least two tickets are not passed on: the one in use, and
--- one that waits
+-- an active seat knows of somebody at the entry only while at least two tickets are not passed on: the one in use,
+-- and one that waits
 abbrev pub KnownWaits : Type 0
 KnownWaits =
     (k : Rules) (o : Object) (c : Setting) (s : HallState) → IsHall k o c s
     → (r : SeatRecord) → IsRecord s r → stage r.place ≡ active_stage → r.known ≡ true
     → 2 ≤ unpassed (slice_index s.words 0)
 
--- a seat that goes out by entry, where somebody could have been chosen from a queue after its release: a ticket waits
+-- if a seat goes out by entry although somebody could have been chosen from a queue after its release, a ticket waits
 abbrev pub EntryWaits : Type 0
 EntryWaits =
     (k : Rules) (o : Object) (c : Setting) (s : HallState) → IsHall k o c s
     → (r : SeatRecord) (to : Home) → IsRecord s r → r.place ≡ Back Entry to → is_quiet k o (floor_of c r.seen) ≡ false
     → 2 ≤ unpassed (slice_index s.words 0)
 
--- this is the history at home: that of the floor in the slot or, while a seat is active, that which
--- this seat found, and then the slot is empty. It is legal, begins with all that each seat has
--- seen, and has exactly that seat's own events
+-- the history at home is that of the floor in the slot. While a seat is active the slot is empty, and it is the one
+-- that this seat found. It is legal and begins with all that each seat has seen. Its events of each seat are exactly
+-- that seat's own
 pub record IsHomeHistory (k : Rules) (o : Object) (c : Setting) (s : HallState) (past : List Event) : Type 0 where
   pub legal : IsLegal (monitor_of k o (floor_of c past)) past
   pub lent : (r : SeatRecord) → IsRecord s r → stage r.place ≡ active_stage → (s.homes ≡ none ∷ []) × (r.seen ≡ past)
@@ -261,7 +261,7 @@ pub record IsHomeHistory (k : Rules) (o : Object) (c : Setting) (s : HallState) 
   pub starts : (r : SeatRecord) → IsRecord s r → StartsWith past r.seen
   pub own : (r : SeatRecord) → IsRecord s r → events_of past r.seat ≡ r.mine
 
--- a table under the rule has one
+-- a table under the rule has such a history
 abbrev pub HasHomeHistory : Type 0
 HasHomeHistory =
     (k : Rules) (o : Object) (c : Setting) (s : HallState) → IsHall k o c s

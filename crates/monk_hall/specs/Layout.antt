@@ -9,19 +9,19 @@ use Rattle.monk_world.specs.declared.place.Place.TheVariants.{Idle, Ticket, Due,
 use Rattle.monk_hall.specs.declared.record.SeatRecord.{SeatRecord}
 use Rattle.monk_hall.specs.declared.setting.Setting.{Setting}
 
--- word 0 has the tickets drawn above its low 32 bits, and those not passed on in them
+-- word 0 has the number of tickets drawn above its low 32 bits
 abbrev pub tickets : ℕ → ℕ
 tickets word = word / 4294967296
 
--- how many tickets aren't passed, in the shared word
+-- and in them the number of those not passed on
 abbrev pub unpassed : ℕ → ℕ
 unpassed word = word % 4294967296
 
--- the ticket word once one ticket more is drawn, and not passed on
+-- the ticket word after one more ticket is drawn, and not yet passed on
 abbrev pub one_drawn : ℕ → ℕ
 one_drawn word = (word + (2 ^ 32 + 1)) % 2 ^ 64
 
--- and once one is passed on
+-- the ticket word after one is passed on
 abbrev pub one_passed : ℕ → ℕ
 one_passed word = (word + (2 ^ 64 - 1)) % 2 ^ 64
 
@@ -29,15 +29,15 @@ one_passed word = (word + (2 ^ 64 - 1)) % 2 ^ 64
 abbrev pub place_word : ℕ → ℕ
 place_word i = 2 * i + 1
 
--- the word in which that ticket's grant comes
+-- the word in which that ticket's grant is stored
 abbrev pub ticket_word : ℕ → ℕ → ℕ
 ticket_word seats t = place_word (t % seats)
 
--- the word in which that seat's grant comes
+-- the word in which that seat's grant is stored
 abbrev pub seat_word : ℕ → ℕ
 seat_word j = 2 * j + 2
 
--- the word in which a seat's grant comes, by its place
+-- the word in which a seat's grant is stored, by the seat's place
 abbrev pub waiting_word_at : ℕ → ℕ → Place → ℕ
 waiting_word_at seats j Idle = seat_word j
 waiting_word_at seats j (Ticket t) = ticket_word seats t
@@ -47,7 +47,7 @@ waiting_word_at seats j (Back x to) = seat_word j
 waiting_word_at seats j (Passing t to) = seat_word j
 waiting_word_at seats j Inner = seat_word j
 
--- where a waiting seat will find its grant
+-- the word in which a waiting seat will find its grant
 abbrev pub waiting_word : SeatRecord → ℕ
 waiting_word r = waiting_word_at r.setting.seats r.seat r.place
 

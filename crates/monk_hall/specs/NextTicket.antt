@@ -20,7 +20,7 @@ use Rattle.monk_hall.specs.Tokens.{Token, Holder, House}
 use Rattle.monk_hall.specs.declared.record.SeatRecord.{SeatRecord}
 use Rattle.monk_hall.specs.declared.setting.Setting.{Setting}
 
--- one seat waits with this ticket, and no other does
+-- exactly one seat waits with this ticket
 pub record OneWaits (c : Setting) (s : HallState) (t : ℕ) : Type 0 where
   pub seat : SeatRecord
   pub recorded : IsRecord s seat
@@ -28,15 +28,15 @@ pub record OneWaits (c : Setting) (s : HallState) (t : ℕ) : Type 0 where
   pub word : waiting_word seat ≡ ticket_word c.seats t
   pub alone : (q : SeatRecord) → IsRecord s q → q.place ≡ Ticket t → q ≡ seat
 
--- a release by entry has brought the floor home, and two tickets are not passed on: the one in use, and another. Then
--- one seat waits with the ticket whose number is that of the enters so far
+-- if a release by entry has taken the floor home, and two tickets are not passed on (the one in use, and another),
+-- one seat waits with the next ticket. Its number is the number of enters so far
 abbrev pub NextTicketWaits : Type 0
 NextTicketWaits =
     (k : Rules) (o : Object) (c : Setting) (s : HallState) → IsHall k o c s
     → (r : SeatRecord) (to : Home) → IsRecord s r → r.place ≡ Back Entry to → 2 ≤ unpassed (first_word s)
     → OneWaits c s (enters_of r.seen)
 
--- a release by entry has brought the floor home, and only the ticket in use is not passed on: then no seat waits with a
+-- if a release by entry has taken the floor home, and only the ticket in use is not passed on, no seat waits with a
 -- ticket
 abbrev pub NoTicketWaits : Type 0
 NoTicketWaits =
@@ -44,7 +44,7 @@ NoTicketWaits =
     → (r : SeatRecord) (to : Home) → IsRecord s r → r.place ≡ Back Entry to → unpassed (first_word s) ≡ 1
     → (q : SeatRecord) (t : ℕ) → IsRecord s q → q.place ≡ Ticket t → ⊥
 
--- a release chose entry and granted a word. If the next seat that enters waited with a ticket, it waited at that word
+-- a release chose entry and granted a word: if the next seat that enters waited with a ticket, it waited at that word
 abbrev pub GrantedEntersNext : Type 0
 GrantedEntersNext =
     (k : Rules) (o : Object) (a : Holder) (call : Event) (wish : Pick) (to : Home) (peeks : ℕ) (p : Token)
@@ -53,11 +53,11 @@ GrantedEntersNext =
     → (q : Token) (b : Holder) (t : ℕ) → HasEntered k o q b → q.me.setting ≡ h.setting → q.me.place ≡ Ticket t
     → enters_of b.me.seen ≡ enters_of p.me.seen → waiting_word q.me ≡ x.word
 
--- the seat waits with a ticket, or inside: it looks at its word until its grant is there
+-- the seat waits with a ticket or inside, and looks at its word until its grant is there
 abbrev pub IsLooking : Place → Type 0
 IsLooking p = (stage p ≡ ticketed_stage) ⊎ (stage p ≡ inside_stage)
 
--- two seats that look at one word are one seat
+-- two seats that look at one word are the same seat
 abbrev pub OneWaitsAtAWord : Type 0
 OneWaitsAtAWord =
     (k : Rules) (o : Object) (c : Setting) (s : HallState) → IsHall k o c s

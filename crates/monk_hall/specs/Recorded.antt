@@ -1,4 +1,4 @@
--- A release that is recorded in the floor and has yet to go home
+-- A release that is recorded in the floor and must still go home
 use Rattle.std.specs.Prelude.{◌≡◌, ℕ, ◌<◌, Bool, false, Option}
 use Rattle.monk_kinds.specs.declared.mode.Pick.{Pick}
 use Rattle.monk_kinds.specs.declared.mode.Rules.{Rules}
@@ -23,7 +23,7 @@ use Rattle.monk_hall.specs.declared.after.After.{After}
 use Rattle.monk_hall.specs.declared.record.SeatRecord.{SeatRecord}
 use Rattle.monk_hall.specs.declared.release.Release.{Release}
 
--- a release that a seat made, as it was called, and its floor recorded: the wish rules chose
+-- a release that a seat made, as it was called, and that its floor recorded. The wish rules chose
 pub record IsRelease (k : Rules) (o : Object) (r : SeatRecord) (f : FloorView) (call : Event) (wish : Pick)
     (known : Bool) (choice : Next) (to : Home) (g : FloorView) : Type 0 where
   pub release : IsReleaseTo r.seat to call
@@ -46,7 +46,7 @@ pub record HasRecorded {K T : Type 0} (k : Rules) (o : Object) (a : Holder) (cal
   pub was : holder r.seat.table_id (the r.seat.me.0) before ≡ a
   pub release : IsRelease k o (the r.seat.me.0) before (call r.numbers.seat) wish known r.choice to r.floor
 
--- it has some release recorded, which leads there
+-- it has some release recorded, which leads to `to`
 pub record IsRecorded {K T : Type 0} (k : Rules) (o : Object) (to : Home) (r : Release K T) : Type 0 where
   pub was : Holder
   pub call : ℕ → Event
@@ -54,19 +54,19 @@ pub record IsRecorded {K T : Type 0} (k : Rules) (o : Object) (to : Home) (r : R
   pub known : Bool
   pub recorded : HasRecorded k o was call wish known to r
 
--- whatever release was recorded, the seat is outside with it
+-- whatever release was recorded, the seat goes outside with it
 abbrev pub GoesOutside : {K T : Type 0} → Rules → Object → Release K T → Token → House → Option Grant → Type 0
 GoesOutside k o r p h g =
     (a : Holder) (call : ℕ → Event) (wish : Pick) (known : Bool) → HasRecorded k o a call wish known home.Idle r
     → HasGranted k o a (call a.me.seat) wish home.Idle 0 p h g
 
--- it is parked inside
+-- whatever release was recorded, the seat is parked inside with it
 abbrev pub GoesInside : {K T : Type 0} → Rules → Object → Release K T → Token → House → Option Grant → Type 0
 GoesInside k o r p h g =
     (a : Holder) (call : ℕ → Event) (wish : Pick) (known : Bool) → HasRecorded k o a call wish known home.Inner r
     → HasGranted k o a (call a.me.seat) wish home.Inner 0 p h g
 
--- it stays active where it was chosen itself, and else is parked inside
+-- it stays active if it chose itself, and otherwise it is parked inside
 abbrev pub GoesOnOrInside : {K T K2 T2 : Type 0} → Rules → Object → Release K T → After K2 T2 → House
     → Option Grant → Type 0
 GoesOnOrInside k o r to h g =

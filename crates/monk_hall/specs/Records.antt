@@ -4,11 +4,11 @@ use Rattle.monk_world.specs.declared.place.Place.TheVariants.{Idle}
 use Rattle.monk_hall.specs.declared.record.SeatRecord.{SeatRecord}
 use Rattle.monk_hall.specs.declared.setting.Setting.{Setting}
 
--- what one holder knows of the seats
+-- what the holder of a view knows of the seats
 abbrev pub View : Type 0
 View = List SeatRecord
 
--- the record is one of the view's
+-- the record is in the view
 abbrev pub In : SeatRecord → View → Type 0
 In r [] = ⊥
 In r (x ∷ xs) = (r ≡ x) ⊎ In r xs
@@ -32,11 +32,11 @@ opening_records c (suc n) i = opening_record c i ∷ opening_records c n (suc i)
 abbrev pub first_view : Setting → View
 first_view c = opening_records c c.seats 0
 
--- the setting of no hall
+-- a setting that no hall has
 abbrev pub no_setting : Setting
 no_setting = record { opening = []; seats = 0; conds = 0; budget = 0 }
 
--- the record of a view that has one
+-- the first record of a view; a blank one if there is none
 abbrev pub the : View → SeatRecord
 the [] = opening_record no_setting 0
 the (r ∷ rs) = r

@@ -27,7 +27,7 @@ use Rattle.monk_hall.specs.declared.setting.Setting.{Setting}
 abbrev pub setting_of : List ℕ → ℕ → ℕ → ℕ → Setting
 setting_of opening seats conds budget = record { opening = opening; seats = seats; conds = conds; budget = budget }
 
--- `at j` is the record of seat j, which lies in the view number `desk j`
+-- `at j` is the record of seat j, which is in view number `desk j`
 pub record AreShown (c : Setting) (views : List View) (at : ℕ → SeatRecord) : Type 0 where
   pub desk : ℕ → ℕ
   pub each : (id : ℕ) (v : View) → get_elem? views id ≡ some v → (r : SeatRecord) → In r v
@@ -37,17 +37,17 @@ pub record AreShown (c : Setting) (views : List View) (at : ℕ → SeatRecord) 
   pub settings : (j : ℕ) → (at j).setting ≡ c
   pub seats : (j : ℕ) → (at j).seat ≡ j
 
--- a seat's place counts the events that chose it, but for a choice that is not yet handed on
+-- a seat's place counts the events that chose it, without a choice that is not yet handed on
 pub record CountsCalls (w : World) (h : List Event) : Type 0 where
   pub choosing : (j m : ℕ) → back_turn (w.place j) ≡ due_to m → granted_of h m ≡ w.seat_place m + 1
   pub settled : (m : ℕ) → ((j : ℕ) → back_turn (w.place j) ≢ due_to m) → granted_of h m ≡ w.seat_place m
 
--- what stands in the slots of a hall's table
+-- what is in the slots of a hall's table
 abbrev pub Homes : Type 0
 Homes = List (maybe.Option (Option FloorView))
 
--- what each seat knows of the history. `past` is that of the floor at home or, while a seat is active, that which it
--- found; `history` has then also the event with which it came
+-- what each seat knows of the history. `past` is that of the floor at home or, while a seat is active, the one that
+-- it found. Then `history` has also the event with which it came in
 pub record AreTold (k : Rules) (o : Object) (c : Setting) (homes : Homes) (at : ℕ → SeatRecord) (w : World)
     (past history : List Event) : Type 0 where
   pub one_slot : length homes ≡ 1
@@ -62,8 +62,8 @@ pub record AreTold (k : Rules) (o : Object) (c : Setting) (homes : Homes) (at : 
       → (history ≡ past) × (get_elem? homes 0 ≡ some (some (Some (floor_of c past))))
   pub calls : CountsCalls w past
 
--- the words and the records show a world that is kept as every world is: its history legal, the right to be active in
--- one place
+-- the words and the records show a world that is kept as every world is: its history is legal, and the right to be
+-- active is in one place
 pub record IsKeptHall (k : Rules) (o : Object) (c : Setting) (words : List ℕ) (homes : Homes)
     (at : ℕ → SeatRecord) : Type 0 where
   pub past : List Event

@@ -47,30 +47,30 @@ use Rattle.monk_hall.specs.declared.setting.Setting.{Setting}
 
 -- a step of the table
 pub data Step : Type 0 where
-  -- seat i, whose view has this number and nobody else's record, does this
+  -- seat i does this. Its view has this number, and no other seat's record
   By : ℕ → ℕ → Deed → Step
-  -- split: the first record of a view goes to a new view, as each seat gets its pass; or the second
-  -- of two, after a meeting
+  -- split: the first record of a view goes to a new view, when each seat gets its pass. Or the second of two does,
+  -- after a meeting
   Deal : ℕ → Step
   Part : ℕ → Step
-  -- join: the view of seat i takes in another's record. Then both seats of a view learn the longer history, by a step
-  -- of the second, which is i
+  -- join: the view of seat i takes in another's record. Then both seats of the view learn the longer history, by a
+  -- step of the second, which is i
   Join : ℕ → ℕ → ℕ → Step
   Compare : ℕ → ℕ → Step
 
--- the event with which the active seat of this record came
+-- the event with which the active seat of this record came in
 abbrev pub came_in : SeatRecord → Event
 came_in r = out_event r.seat (source_from r.place) (turn r.seen)
 
--- seat i appends these to the history of the floor in its hands, by a call each: its own events, each allowed after
--- those before it, that keep the turn with it
+-- seat i appends these to the history of the floor in its hands, by a call each. They are its own events, each
+-- allowed after those before it, and they keep the turn with it
 abbrev pub ArePlayed : Rules → Object → ℕ → FloorView → List Event → Type 0
 ArePlayed k o i f [] = Unit {0}
 ArePlayed k o i f (e ∷ es) = IsPrivate i e × IsAllowed (monitor_of k o f) f.history e
     × (length (events_of f.history i) < f.budget) × ArePlayed k o i (with_event f e) es
 
--- the release by which it gives the floor back: a call that may be made there, with the choice of the wish rules, by
--- what the seat knows of the entry, where that is not to stay
+-- the release by which the seat returns the floor: a call that may be made there. Its choice is that of the wish
+-- rules, by what the seat knows of the entry, and isn't to stay
 pub record IsReleasedBy (k : Rules) (o : Object) (r : SeatRecord) (f : FloorView) (e : Event) : Type 0 where
   pub call : Event
   pub wish : Pick
@@ -87,11 +87,11 @@ pub record IsReleasedBy (k : Rules) (o : Object) (r : SeatRecord) (f : FloorView
 abbrev pub opening_table : Setting → HallState
 opening_table c = table.opening (replicate (word_count c.seats) 0) (Some (floor_of c []) ∷ []) (first_view c)
 
--- the table after a step of the seat that has the view of this number, and this record now
+-- the table after a step of the seat with view number `id`. Its record is w now
 abbrev pub after_step : HallState → ℕ → List ℕ → Homes → SeatRecord → HallState
 after_step s id words homes w = record { words = words; homes = homes; views = set s.views id (w ∷ []) }
 
--- the seat with record r, alone in the view id, does this, and the table is t then
+-- the seat with record r, alone in view number `id`, does this, and then the table is t
 abbrev pub IsDone : Rules → Object → Setting → HallState → ℕ → SeatRecord → Deed → HallState → Type 0
 IsDone k o c s id r (Arrive n m) t = (r.place ≡ Idle) × (length r.mine + 2 ≤ r.setting.budget)
     × (n ≡ tickets (first_word s)) × (m ≡ unpassed (first_word s))
@@ -142,12 +142,12 @@ IsStep k o c s (Compare i id) t =
     (a : SeatRecord) × (b : SeatRecord) × (get_elem? s.views id ≡ some (a ∷ b ∷ [])) × (a.place ≡ Idle)
     × (b.place ≡ Idle) × (b.seat ≡ i) × (t ≡ record s { views = set s.views id (view_after_compare (a ∷ b ∷ [])) })
 
--- a schedule: these steps in this order
+-- a schedule: these steps in this order lead from s to t
 abbrev pub IsSchedule : Rules → Object → Setting → HallState → List Step → HallState → Type 0
 IsSchedule k o c s [] t = t ≡ s
 IsSchedule k o c s (x ∷ xs) t = (u : HallState) × IsStep k o c s x u × IsSchedule k o c u xs t
 
--- some schedule leads to this table, from the one with which the hall was made: the rule that every step keeps
+-- some schedule leads to this table from the one with which the hall was made. This is the rule that every step keeps
 abbrev pub IsReached : Rules → Object → Setting → HallState → Type 0
 IsReached k o c s = (make_refusal c.seats c.conds c.budget ≡ None)
     × (steps : List Step) × IsSchedule k o c (opening_table c) steps s
@@ -159,32 +159,32 @@ deeds_in j (Join i id other) = if i == j then Meet ∷ [] else []
 deeds_in j (Compare i id) = if i == j then Meet ∷ [] else []
 deeds_in j _ = []
 
--- and in these steps, in order
+-- the deeds of seat j in these steps, in order
 abbrev pub deeds_by : ℕ → List Step → List Deed
 deeds_by j [] = []
 deeds_by j (x ∷ xs) = deeds_in j x ++ deeds_by j xs
 
--- the events that a step brings home, whoever takes it
+-- the events that a step takes home, of any seat
 abbrev pub brought_in : Step → List Event
 brought_in (By i id d) = brings d
 brought_in _ = []
 
--- all that was brought home, in order
+-- all events that these steps take home, in order
 abbrev pub brought : List Step → List Event
 brought [] = []
 brought (x ∷ xs) = brought_in x ++ brought xs
 
--- who drew a ticket by a deed
+-- the seat that drew a ticket by a deed, if the deed did
 abbrev pub drew : ℕ → Deed → List ℕ
 drew i (Arrive n m) = i ∷ []
 drew i _ = []
 
--- and by a step
+-- the seat that drew a ticket by a step, if the step did
 abbrev pub drew_in : Step → List ℕ
 drew_in (By i id d) = drew i d
 drew_in _ = []
 
--- the seats that drew a ticket, in order: the one with k before it has ticket k
+-- the seats that drew a ticket, in order. The one with k before it has ticket k
 abbrev pub arrivals : List Step → List ℕ
 arrivals [] = []
 arrivals (x ∷ xs) = drew_in x ++ arrivals xs
@@ -194,8 +194,8 @@ abbrev pub entered : List Event → List ℕ
 entered [] = []
 entered (e ∷ es) = (if is_enter e then seat_of e ∷ [] else []) ++ entered es
 
--- what seat i brings home after these steps: the event with which it came, events of its own that keep the turn with
--- it, and a release that chose by the wish rules, with somebody at the entry known only by a look of its own
+-- what seat i takes home after these steps: the event with which it came in, events of its own that keep the turn
+-- with it, and a release that chose by the wish rules. It knew of somebody at the entry only by a look of its own
 pub record IsLedRelease (k : Rules) (o : Object) (c : Setting) (steps : List Step) (s : HallState) (i : ℕ)
     (es : List Event) : Type 0 where
   pub source : Source
@@ -209,12 +209,12 @@ pub record IsLedRelease (k : Rules) (o : Object) (c : Setting) (steps : List Ste
   pub own : ArePrivate i since
   pub seat : seat_of (with_next choice call) ≡ i
   pub chosen : choice ≡ choice_of k o (stands_of k o (floor_of c before)) call (knows (deeds_by i steps)) wish
-  -- entry, where somebody could have been chosen from a queue: a ticket waits
+  -- if it chose entry although somebody could have been chosen from a queue, a ticket waits
   pub waited_for : choice ≡ Entry
       → (is_quiet k o (floor_of c (brought steps ++ es)) ≡ true) ⊎ (2 ≤ unpassed (first_word s))
 
--- what is said of a next step: a ticket is drawn by number; a release is led as above; and the ticket that is
--- granted is that of the seat which enters next
+-- what holds for a next step: tickets are drawn in order of their numbers, a release is as above, and the ticket that
+-- is granted is that of the seat that enters next
 abbrev pub IsLedStep : Rules → Object → Setting → List Step → HallState → Step → Type 0
 IsLedStep k o c steps s (By i id (Arrive n m)) = n ≡ length (arrivals steps)
 IsLedStep k o c steps s (By i id (FloorIn es)) = IsLedRelease k o c steps s i es
@@ -223,31 +223,31 @@ IsLedStep k o c steps s _ = Unit {0}
 
 -- what a schedule leads to
 pub record IsOneHistory (k : Rules) (o : Object) (c : Setting) (steps : List Step) (s : HallState) : Type 0 where
-  -- words and records show a world: the right to be active is in one place, and turn and queues are as the seats stand
+  -- words and records show a world: the right to be active is in one place, and turn and queues agree with the seats
   pub hall : IsHall k o c s
   pub right : IsInOnePlace c.seats (shown_world s.words hall.0)
   pub led : IsWellLed k o (shown_state c s.words hall.0 hall.2.history)
-  -- the history at home is what the steps brought home, in order. It is legal, begins with all that each seat has seen,
-  -- and has exactly that seat's own events
+  -- the history at home is what the steps took home, in order. It is legal and begins with all that each seat has
+  -- seen. Its events of each seat are exactly that seat's own
   pub home : IsHomeHistory k o c s (brought steps)
-  -- with `home`, for each beginning of the schedule: the history only grows
+  -- for each beginning of the schedule: the history only grows
   pub grows : (before after : List Step) → steps ≡ before ++ after → StartsWith (brought steps) (brought before)
-  -- what a seat has done is what it did in these steps, in order. Each call says which deeds its
-  -- token has added; those are steps of the schedule
+  -- what a seat has done is what it did in these steps, in order. Each call says which deeds its token has added;
+  -- those are steps of the schedule
   pub did : (r : SeatRecord) → IsRecord s r → r.did ≡ deeds_by r.seat steps
-  -- of each seat the history has the events that its own deeds brought home, each once
+  -- the history has the events of each seat that its own deeds took home, each once
   pub own : (j : ℕ) → events_of (brought steps) j ≡ brought_home (deeds_by j steps)
   -- seats enter in the order in which they drew their tickets
   pub in_order : (waiting : List ℕ) × (arrivals steps ≡ entered (brought steps) ++ waiting)
   -- a seat knows of somebody at the entry only by its own look
   pub known : (r : SeatRecord) → IsRecord s r → r.known ≡ knows r.did
-  -- two active seats are one
+  -- two active seats are the same
   pub one_active : (r q : SeatRecord) → IsRecord s r → IsRecord s q → stage r.place ≡ active_stage
       → stage q.place ≡ active_stage → r ≡ q
-  -- what holds of any step that may come next
+  -- what holds for any step that may come next
   pub next : (x : Step) (t : HallState) → IsStep k o c s x t → IsLedStep k o c steps s x
 
--- for every kind, object, number of seats and conditions, budget and schedule
+-- this holds for every kind, object, number of seats and conditions, budget and schedule
 abbrev pub EveryScheduleIsOneHistory : Type 0
 EveryScheduleIsOneHistory =
     (k : Rules) (o : Object) (c : Setting) → IsKind k → make_refusal c.seats c.conds c.budget ≡ None

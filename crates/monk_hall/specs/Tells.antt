@@ -47,7 +47,7 @@ TellsTicketLook me found new = new ≡ (record_after_ticket_look (the me.0) foun
 abbrev pub TellsSeatLook : Me → ℕ → Me → Type 0
 TellsSeatLook me found new = new ≡ (record_after_seat_look (the me.0) found ∷ [], me.1)
 
--- what it knew it finds again: while it is active no ticket is passed on
+-- what it knew it finds again: no ticket is passed on while it is active
 abbrev pub TellsPeek : Me → ℕ → Me → Type 0
 TellsPeek me found new = (new ≡ (record_after_peek (the me.0) found ∷ [], me.1))
     × ((the me.0).known ≡ true → (the new.0).known ≡ true)
@@ -68,8 +68,8 @@ held_history [] = []
 held_history ((k, None) ∷ xs) = []
 held_history ((k, Some f) ∷ xs) = f.history
 
--- the ticket in use is the first that isn't passed on, and that of the last enter. So the number of the next ticket is
--- that of the enters in the history that the seat brought home
+-- the ticket in use is the first that isn't passed on, and that of the last enter. So the number of the next ticket
+-- is the number of enters in the history that the seat took home
 abbrev pub TellsDrop : Me → ℕ → Me → Type 0
 TellsDrop me found new =
     (new ≡ (record_after_drop (the me.0) found ∷ [], me.1)) × (0 < unpassed found) × (unpassed found ≤ tickets found)
@@ -80,12 +80,12 @@ abbrev pub TellsTicketGrant : Me → ℕ → Me → Type 0
 TellsTicketGrant me found new =
     new ≡ (record_after_grant (the me.0) (GrantTicket (ticket (the me.0).place)) ∷ [], me.1)
 
--- and what the call of a seat tells
+-- what the call of a seat tells
 abbrev pub TellsCall : Me → ℕ → Me → Type 0
 TellsCall me found new = (m : ℕ) × (back_turn (the me.0).place ≡ due_to m)
     × (new ≡ (record_after_grant (the me.0) (CallSeat m) ∷ [], me.1))
 
--- of two histories one begins the other
+-- one of two histories begins the other
 abbrev pub AreOne : List Event → List Event → Type 0
 AreOne a b = StartsWith a b ⊎ StartsWith b a
 
@@ -119,7 +119,7 @@ IsReleaseTo i to (SignalAll s c) = ⊥
 IsReleaseTo i home.Idle (SignalWait s c d x) = ⊥
 IsReleaseTo i home.Inner (SignalWait s c d x) = (s ≡ i) × (x ≡ next.Stay)
 
--- the floor that a seat brings home: the one that it had, with one release more, which chose another by the wish rules
+-- the floor that a seat takes home: the one that it had, with one more release, which chose another by the wish rules
 pub record Returns (k : Rules) (o : Object) (r : SeatRecord) (f : FloorView) : Type 0 where
   pub before : FloorView
   pub goes_on : GoesOn k o r before
@@ -134,14 +134,14 @@ pub record Returns (k : Rules) (o : Object) (r : SeatRecord) (f : FloorView) : T
   pub left : left_within to < left_of before.budget before.history r.seat
   pub grows : f ≡ with_event before (with_next choice call)
 
--- the table has the words of that many seats
+-- the table has the words for that many seats
 abbrev pub IsSized : TableId → ℕ → Type 0
 IsSized z seats = (z.words ≡ word_count seats) × (z.slots ≡ 1)
 
--- a seat of this table, which has the words of so many seats
+-- a seat of this table, which has the words for that many seats
 abbrev pub IsOfTable : {S V : Type 0} → Seat S V → TableId → ℕ → Type 0
 IsOfTable seat z seats = (seat.table_id ≡ z) × IsSized z seats
 
--- it is the seat that it was
+-- the seat is the same as before
 abbrev pub IsSameSeat : {S V : Type 0} → Seat S V → Seat S V → Type 0
 IsSameSeat old new = (new.table_id ≡ old.table_id) × (new.id ≡ old.id)

@@ -37,7 +37,7 @@ abbrev pub tokens : TableId → View → List Token
 tokens z [] = []
 tokens z (r ∷ rs) = record { hall = z; me = r } ∷ tokens z rs
 
--- the view in a badge that has one
+-- the view of a badge that has one
 abbrev pub top : List View → View
 top [] = []
 top (v ∷ vs) = v
@@ -58,7 +58,7 @@ pub record IsSeated (z : TableId) (r : SeatRecord) (numbers : SeatNumbers) : Typ
   pub counted : numbers.calls ≡ r.count
   pub budgeted : numbers.budget ≡ r.setting.budget
 
--- a seat without the floor, and with so many events left
+-- a seat without the floor, and with `left` events left
 pub record IsResting (k : Rules) (o : Object) (z : TableId) (me : Me) (numbers : SeatNumbers) (left : ℕ) : Type 0 where
   pub one : IsOne me.0
   pub free : me.1 ≡ []
@@ -66,7 +66,7 @@ pub record IsResting (k : Rules) (o : Object) (z : TableId) (me : Me) (numbers :
   pub spent : left + length (the me.0).mine ≡ (the me.0).setting.budget
   pub told : SeesTruly k o (the me.0)
 
--- a seat with the floor, from which it can still go out
+-- a seat with the floor, which has an event left to go out
 pub record IsHolding (k : Rules) (o : Object) (z : TableId) (me : Me) (numbers : SeatNumbers)
     (f : FloorView) : Type 0 where
   pub one : IsOne me.0
@@ -76,7 +76,7 @@ pub record IsHolding (k : Rules) (o : Object) (z : TableId) (me : Me) (numbers :
   pub goes : GoesOn k o (the me.0) f
   pub left : length (events_of f.history (the me.0).seat) < (the me.0).setting.budget
 
--- where a seat stands that waits, or has the right and not yet the floor
+-- the place of a seat that waits, or that has the right and not yet the floor
 abbrev pub IsWaiting : Place → Type 0
 IsWaiting Idle = ⊥
 IsWaiting (Ticket t) = Unit {0}

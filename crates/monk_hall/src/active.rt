@@ -16,7 +16,7 @@ use monk_kinds::Kind;
 use monk_object::{Guarded, Op};
 use std::marker::Model;
 
-/// The token of the active seat. It can't be dropped: it leaves, waits, or goes on in another of the calls that
+/// The token of the active seat. It can't be dropped: its seat leaves, waits, or makes another of the calls that
 /// release.
 pub struct Active<K: Kind, T: Guarded> {
     pub(crate) seat: TableSeat<K, T>,
@@ -36,14 +36,14 @@ impl<K: Kind, T: Guarded> Model for Active<K, T> {
 }
 
 impl<K: Kind, T: Guarded> Active<K, T> {
-    /// The number of its seat.
+    /// Returns the number of its seat.
     pub fn seat(&self) -> u8
         ensures { result ≡ self.now.me.seat }
     {
         self.numbers.seat
     }
 
-    /// How many events its seat has left of its budget: one at least. Its floor has the numbers of the hall.
+    /// Returns how many events its seat has left of its budget: at least one. Its floor has the numbers of the hall.
     pub fn left(&self) -> u32
         ensures left { result + length self.now.me.mine ≡ self.now.me.setting.budget }
         ensures some { 1 ≤ result }
@@ -52,7 +52,7 @@ impl<K: Kind, T: Guarded> Active<K, T> {
         self.floor.left(self.numbers.seat)
     }
 
-    /// The history up to now, which is legal, and short enough for a text. The seat's events in it are its own.
+    /// Returns the history up to now, which is legal, and short enough for a text. The seat's events in it are its own.
     pub fn history(&self) -> &[Event]
         ensures history { result.now ≡ self.now.floor.history }
         ensures legal { IsLegal (monitor_of K.rules T.meaning self.now.floor) self.now.floor.history }
@@ -62,7 +62,7 @@ impl<K: Kind, T: Guarded> Active<K, T> {
         self.floor.history()
     }
 
-    /// Whether a predicate holds of the data.
+    /// Whether a predicate holds for the data.
     pub fn holds(&self, pred: u8) -> bool
         requires { pred < T.PREDICATES }
         ensures { result ≡ T.meaning.holds
@@ -71,7 +71,7 @@ impl<K: Kind, T: Guarded> Active<K, T> {
         self.floor.holds(pred)
     }
 
-    /// How many seats wait on a condition variable.
+    /// Returns how many seats wait on a condition variable.
     pub fn waiting(&self, cond: u8) -> u32
         requires { cond < self.now.me.setting.conds }
         ensures { result ≡ length (condition cond self.now.floor.history) }
@@ -79,7 +79,7 @@ impl<K: Kind, T: Guarded> Active<K, T> {
         self.floor.waiting(cond)
     }
 
-    /// Carries an operation out on the object, and gives its reply. No step is taken.
+    /// Carries an operation out on the object, and returns its reply. No step is taken.
     pub fn act(&mut self, op: Op) -> u64
         requires code { op.code < T.CODES }
         requires left { length self.old.me.mine + 2 ≤ self.old.me.setting.budget }

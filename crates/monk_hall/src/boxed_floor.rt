@@ -7,7 +7,7 @@ use std::alloc::{AllocError, Global};
 use std::marker::Model;
 use std::ops::{Deref, DerefMut};
 
-/// The floor in memory of its own: between its slot and a seat's hands only a pointer moves. Contracts see the floor.
+/// The floor in memory of its own: only a pointer moves between its slot and a seat's hands. Contracts see the floor.
 #[derive(Drop)]
 pub struct BoxedFloor<K: Kind, T: Guarded> {
     floor: Box<Floor<K, T>>,
@@ -22,7 +22,7 @@ impl<K: Kind, T: Guarded> Model for BoxedFloor<K, T> {
 }
 
 impl<K: Kind, T: Guarded> BoxedFloor<K, T> {
-    /// The floor in memory that is taken here.
+    /// Takes memory, and moves the floor into it.
     pub(crate) fn make(alloc: Global, floor: Floor<K, T>) -> Result<BoxedFloor<K, T>, AllocError>
         ensures { IfOk result (λ b. b ≡ floor) }
     {
@@ -31,7 +31,7 @@ impl<K: Kind, T: Guarded> BoxedFloor<K, T> {
         })
     }
 
-    /// The floor alone.
+    /// Returns the floor alone.
     pub(crate) fn into_inner(self) -> Floor<K, T>
         ensures { result ≡ self }
     {

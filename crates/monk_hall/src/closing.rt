@@ -24,11 +24,11 @@ fn has_queued<K: Kind, T: Guarded>(floor: &Floor<K, T>, seats: u8) -> bool
     false
 }
 
-/// Ends the hall where nobody else is in it: the active seat leaves, and the object and the whole history are given
-/// out. Otherwise, where a queue has somebody or a look at the ticket word finds somebody at the entry, both are handed
-/// back, and nothing that a program can read has changed.
+/// Ends the hall if nobody else is in it: the active seat leaves, and the caller gets the object and the whole
+/// history. If a queue has somebody, or if a look at the ticket word finds somebody at the entry, the caller gets
+/// both arguments back. Then nothing that a program can read has changed.
 ///
-/// Takes no memory, at most one step, and a look at each seat.
+/// Takes no memory and at most one step. Looks at each seat.
 pub fn close<K: Kind, T: Guarded>(
     hall: Hall<K, T>,
     active: Active<K, T>,
@@ -48,7 +48,7 @@ pub fn close<K: Kind, T: Guarded>(
 }
 
 impl<K: Kind, T: Guarded> Active<K, T> {
-    /// The last seat leaves, and takes the object and the history with it.
+    /// Makes the last seat leave. Returns the object and the history.
     fn end(self) -> Closed<T>
         requires { IsUnqueued K.rules T.meaning self.floor self.floor.seats }
         ensures { IsEnded K.rules T.meaning self result.history.items (T.state result.object) }

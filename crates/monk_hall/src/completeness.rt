@@ -8,15 +8,15 @@ use monk_history::Event;
 use monk_kinds::Kind;
 use monk_object::Guarded;
 
-/// Whether a history holds exactly what these passes' seats did, plus events of one other seat: for
-/// each pass, the seat's events in it are all that the pass knows as its own, and every other event
-/// is of that one seat. Of a closed history and the seat that closed it, true says that it holds
-/// the calls of that seat and of these passes, each once, and nothing else.
+/// Whether a history holds exactly what these passes' seats did, and events of one other seat. The events of each
+/// pass's seat in it must be those that the pass knows as its own. Every other event must be of that one seat. Take a
+/// closed history and the seat that closed it. If the answer is true, it holds the calls of that seat and of these
+/// passes, each once, and nothing else.
 ///
-/// The passes are of other seats, each of another, and the history begins with what each has seen. A caller knows this
-/// of passes that have met the pass of the closing seat, and have been idle since.
+/// The passes are of different seats, and none is of that one seat. The history begins with what each pass has seen.
+/// A caller knows this of passes that have met the pass of the closing seat, and have been idle since.
 ///
-/// Takes no memory and no step: a look at each pass and at each event.
+/// Takes no memory and no step. Looks at each pass and at each event.
 pub fn complete<K: Kind, T: Guarded>(history: &[Event], seat: u8, passes: &[Pass<K, T>]) -> bool
     requires apart { AreApart seat passes.now }
     requires seen { HaveSeenPart history.now passes.now }
@@ -29,7 +29,7 @@ pub fn complete<K: Kind, T: Guarded>(history: &[Event], seat: u8, passes: &[Pass
     known == history.len()
 }
 
-/// How many events of a history are of this seat.
+/// Returns how many events of a history are of this seat.
 fn count_of(history: &[Event], seat: u8) -> usize
     ensures { result ≡ length (events_of history.now seat) }
 {

@@ -1,4 +1,4 @@
-//! That no two tokens of one hall are active.
+//! A proof that no two tokens of one hall are active.
 ghost use Rattle.std.specs.Prelude.{◌≡◌};
 
 use crate::active::Active;
@@ -7,8 +7,8 @@ use crate::plays::{Deal, Meet, NeverStep};
 use monk_kinds::Kind;
 use monk_object::Guarded;
 
-/// No two seats of a hall are active: whoever had two such tokens of one hall would have false. So two that a program
-/// has are of different halls. This is never run.
+/// Shows that no two seats of a hall are active: two such tokens of one hall would prove what is false. So two that a
+/// program has are of different halls. This is never run.
 pub fn never_two_active<K: Kind, T: Guarded>(
     hall: &Hall<K, T>,
     a: &mut Active<K, T>,

@@ -1,4 +1,4 @@
-//! A grant that is stored, and whose sleeper is yet to be woken.
+//! A grant that is stored, and whose sleeper is not yet woken.
 ghost use Rattle.std.specs.Prelude.{◌≡◌, ◌<◌, [], ◌∷◌, IfSome};
 ghost use Rattle.monk_history.specs.Meaning.Counts.{granted_of};
 ghost use Rattle.monk_world.specs.Places.{stage, ticket, back_turn, due_to, passing_stage};
@@ -19,24 +19,23 @@ use monk_object::Guarded;
 use std::marker::Model;
 use std::snapshot::Snapshot;
 
-/// Step 7: a seat grants the next ticket. No other module can name it.
+/// Step 7: a seat grants the next ticket. No other module can name this type.
 struct TicketGrantStep;
 
 impl<K: Kind, T: Guarded> Play<Option<BoxedFloor<K, T>>, View> for TicketGrantStep {
     ghost then = { λ step me found new. TellsTicketGrant me found new };
 }
 
-/// Step 8: a seat calls the seat that it chose. No other module can name it.
+/// Step 8: a seat calls the seat that it chose. No other module can name this type.
 struct CallStep;
 
 impl<K: Kind, T: Guarded> Play<Option<BoxedFloor<K, T>>, View> for CallStep {
     ghost then = { λ step me found new. TellsCall me found new };
 }
 
-/// A grant that was stored in a word of a hall's table, and whose sleeper is yet to be woken. It
-/// can't be dropped, and only these two calls spend it: `wake` wakes the thread that sleeps on the
-/// word, and `into_word` gives the word to a program whose threads sleep elsewhere, which has to
-/// wake the one that waits for it.
+/// A grant that was stored in a word of a hall's table, and whose sleeper is not yet woken. It can't be dropped, and
+/// only two calls spend it. `wake` wakes the thread that sleeps on the word. `into_word` returns the word to a
+/// program whose threads sleep elsewhere, and which has to wake the one that waits for it.
 pub struct Granted<K: Kind, T: Guarded> {
     word: usize,
     of: Snapshot<SharedTable<K, T>>,
@@ -54,8 +53,8 @@ impl<K: Kind, T: Guarded> Model for Granted<K, T> {
 }
 
 impl<K: Kind, T: Guarded> Granted<K, T> {
-    /// Wakes the thread that sleeps on the word, if there is one: one atomic load, and a call of
-    /// the system where somebody may sleep.
+    /// Wakes the thread that sleeps on the word, if there is one. It makes one atomic load, and a call of the system
+    /// if somebody may sleep.
     pub fn wake(self, hall: &Hall<K, T>)
         requires { self.table ≡ hall.now.id }
     {
@@ -64,8 +63,8 @@ impl<K: Kind, T: Guarded> Granted<K, T> {
         words.wake_one(word);
     }
 
-    /// The word that was granted, for a program whose threads sleep elsewhere. Wakes nobody: the caller has to wake the
-    /// thread that waits for this word (`Parked::word`), if one sleeps there.
+    /// Returns the word that was granted, for a program whose threads sleep elsewhere. It wakes nobody: the caller
+    /// has to wake the thread that waits for this word (`Parked::word`), if one sleeps there.
     pub fn into_word(self) -> usize
         ensures { result ≡ self.word }
     {
@@ -74,7 +73,7 @@ impl<K: Kind, T: Guarded> Granted<K, T> {
     }
 }
 
-/// Step 7: grants the ticket that is next, in its place.
+/// Step 7: grants the next ticket, in its place. Returns the grant.
 pub(crate) fn ticket_grant<K: Kind, T: Guarded>(
     words: &SharedTable<K, T>,
     seat: &mut TableSeat<K, T>,
@@ -98,7 +97,7 @@ pub(crate) fn ticket_grant<K: Kind, T: Guarded>(
     }
 }
 
-/// Step 8: calls the seat that it chose, in that seat's place, which from now on has `calls`: how many events have
+/// Step 8: calls the seat that it chose, in that seat's place. `calls` is the new value there: how many events have
 /// chosen that seat from a queue.
 pub(crate) fn seat_grant<K: Kind, T: Guarded>(
     words: &SharedTable<K, T>,
@@ -124,8 +123,8 @@ pub(crate) fn seat_grant<K: Kind, T: Guarded>(
 }
 
 impl<K: Kind, T: Guarded> Hall<K, T> {
-    /// Wakes the thread that sleeps on what a release granted, if it granted something, and gives
-    /// the rest of its answer.
+    /// Wakes the thread that sleeps on what a release granted, if it granted something, and returns the rest of its
+    /// answer.
     pub(crate) fn wake_granted<X>(&self, released: (X, Option<Granted<K, T>>)) -> X
         requires { IfSome released.1 (λ g. g.table ≡ self.now.id) }
         ensures { result ≡ released.0 }

@@ -7,8 +7,8 @@ use std::marker::Model;
 
 /// A monitor of kind `K` over an object `T`, for as many threads as it has seats.
 ///
-/// To contracts a hall is which table it is, and what was fixed when it was made. A token is of this hall where it
-/// names the same table.
+/// Contracts see which table a hall is, and what was fixed when it was made. A token is of this hall if it names the
+/// same table.
 #[derive(Drop)]
 pub struct Hall<K: Kind, T: Guarded> {
     pub(crate) table: HallTable<K, T>,

@@ -1,4 +1,4 @@
-//! How a seat brings the floor home and hands the right on.
+//! How a seat takes the floor home and hands the right on.
 ghost use Rattle.std.specs.Prelude.{◌≡◌, ◌<◌, Option, Some, None, [], ◌∷◌};
 ghost use Rattle.monk_history.specs.Meaning.Events.{is_stay};
 ghost use Rattle.monk_history.specs.declared.event.Next.{Next};
@@ -20,7 +20,7 @@ use monk_history::Next;
 use monk_kinds::Kind;
 use monk_object::Guarded;
 
-/// The seat that a choice names.
+/// Returns the seat that a choice names.
 #[inline(always)]
 fn seat_called_by(choice: Next) -> Option<u8>
     ensures { result ≡ seat_called_by choice }
@@ -34,7 +34,7 @@ fn seat_called_by(choice: Next) -> Option<u8>
     }
 }
 
-/// Whether the seat stays active.
+/// Whether the choice is that the seat stays active.
 pub(crate) fn is_stay(choice: Next) -> bool
     ensures { result ≡ is_stay (Some choice) }
 {
@@ -47,7 +47,7 @@ pub(crate) fn is_stay(choice: Next) -> bool
     }
 }
 
-/// After the choice of entry: takes the seat off the ticket word, and grants the next ticket if there is one.
+/// After a choice of entry, takes the seat off the ticket word, and grants the next ticket if there is one.
 #[inline(always)]
 fn let_in<K: Kind, T: Guarded>(
     words: &SharedTable<K, T>,
@@ -71,8 +71,8 @@ fn let_in<K: Kind, T: Guarded>(
     Some(ticket_grant(words, seat, seats, tickets(found) - waiting + 1))
 }
 
-/// Brings the floor home with the release that it has recorded, and hands the right on to whom the release chose: gives
-/// what it granted, unless nobody waits.
+/// Takes the floor home with the release that it has recorded, and hands the right on to whom the release chose.
+/// Returns what it granted, or `None` if nobody waits.
 #[inline(always)]
 pub(crate) fn go_home<K: Kind, T: Guarded>(
     hall: &Hall<K, T>,

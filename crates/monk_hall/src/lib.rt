@@ -1,9 +1,9 @@
 //! A monitor for running threads, of every kind, without a lock.
 //!
-//! A hall is a table of atomic words and one slot, which holds the floor while no seat is active. A seat stands for a
-//! task; a thread has it as a token, which says where the seat stands: a `Pass` is idle, a `Parked` waits, an `Active`
-//! has the floor in its hands. Each call is a few atomic steps, and each of these is the step of the same definition as
-//! the step of a `World`.
+//! A hall is a table of atomic words, and one slot, which holds the floor while no seat is active. A seat is the
+//! number of a task. A thread has it as a token, which says where the seat is: a `Pass` is outside, a `Parked` waits,
+//! an `Active` has the floor in its hands. Each call is a few atomic steps, and each has the same definition as a
+//! step of a `World`.
 #![tactic(auto)]
 
 mod active;

@@ -23,11 +23,11 @@ use std::marker::PhantomData;
 use std::snapshot::Snapshot;
 
 impl<K: Kind, T: Guarded> Hall<K, T> {
-    /// A hall over an object, and a pass for each of its seats in order: 1 to 32 seats, at most 8 condition variables,
-    /// and 2 to 2^20 events for each seat.
+    /// Makes a hall over an object, and a pass for each of its seats, in order. It has 1 to 32 seats, at most 8
+    /// condition variables, and 2 to 2^20 events for each seat.
     ///
     /// Returns the first fault that applies, lack of memory last, and then drops the object. Takes memory for
-    /// `seats * budget` events, all queues, the table and the passes at once; no call of the hall or of its tokens
+    /// `seats * budget` events, all queues, the table and the passes at once. No call of the hall or of its tokens
     /// takes any.
     pub fn make(
         alloc: Global,
@@ -54,7 +54,7 @@ impl<K: Kind, T: Guarded> Hall<K, T> {
     }
 }
 
-/// A hall with this floor at home.
+/// Makes a hall with this floor at home.
 fn open<K: Kind, T: Guarded>(
     alloc: Global,
     floor: Floor<K, T>,
@@ -80,14 +80,14 @@ fn open<K: Kind, T: Guarded>(
     Ok((Hall { table, seats }, passes))
 }
 
-/// So many words that are 0.
+/// Returns `count` words that are 0.
 fn zeros(alloc: Global, count: usize) -> Result<Vec<u64>, AllocError>
     ensures { IfOk result (λ v. v.items ≡ replicate count 0) }
 {
     Ok(vec![in alloc; 0; count]?)
 }
 
-/// Gives each seat its record, from the view that has them all.
+/// Gives each seat its record, out of the view that has them all.
 fn deal<K: Kind, T: Guarded>(
     alloc: Global,
     words: &SharedTable<K, T>,
@@ -116,7 +116,7 @@ fn deal<K: Kind, T: Guarded>(
     Ok(passes)
 }
 
-/// The pass of a seat that has its record, before any step.
+/// Makes the pass of a seat that has its record, before any step.
 fn fresh_pass<K: Kind, T: Guarded>(seat: TableSeat<K, T>, number: u8, budget: u32) -> Pass<K, T>
     requires table { seat.table_id.words ≡ word_count (the seat.me.0).setting.seats }
     requires fresh { seat.me ≡ (opening_record (the seat.me.0).setting number ∷ [], []) }

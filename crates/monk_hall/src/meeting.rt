@@ -1,4 +1,4 @@
-//! How two seats tell each other what they have seen.
+//! How two seats share what they have seen.
 ghost use Rattle.std.specs.Prelude.{◌≡◌, [], ◌∷◌, ◌++◌};
 ghost use Rattle.monk_hall.specs.Changes.{longer};
 ghost use Rattle.monk_hall.specs.Floors.{StartsWith};
@@ -16,7 +16,7 @@ use monk_kinds::Kind;
 use monk_object::Guarded;
 use std::mem;
 
-/// Takes the seat out of its place, which is left blank.
+/// Takes the seat out of its badge, which is left blank.
 fn lift<K: Kind, T: Guarded>(badge: &mut Badge<View>) -> TableSeat<K, T>
     requires { badge.old.views ≡ top badge.old.views ∷ [] }
     ensures { (result.table_id ≡ badge.old.table_id) × (result.me ≡ (top badge.old.views, [])) }
@@ -24,9 +24,9 @@ fn lift<K: Kind, T: Guarded>(badge: &mut Badge<View>) -> TableSeat<K, T>
     mem::replace(badge, Badge::blank()).into_seat()
 }
 
-/// Two seats that are outside tell each other what they have seen of the history: of the two one begins the other, and
-/// both know the longer from now on, which begins with what either had seen. Nothing that a program
-/// can read changes; each takes one step.
+/// Lets two seats that are outside share what they have seen of the history. One of the two histories begins the
+/// other. From now on both seats know the longer, which begins with what either had seen. Nothing that a program can
+/// read changes, and each seat takes one step.
 pub fn meet<K: Kind, T: Guarded>(hall: &Hall<K, T>, a: &mut Pass<K, T>, b: &mut Pass<K, T>)
     requires { (a.old.hall ≡ hall.now.id) × (b.old.hall ≡ hall.now.id) }
     ensures one { AreOne a.old.me.seen b.old.me.seen }

@@ -17,8 +17,8 @@ use monk_object::Guarded;
 use monk_world::{Place, Source, record_entry};
 use std::marker::Model;
 
-/// The token of a seat that waits to become active, outside with a ticket or inside on a queue; or that may become
-/// active now. It can't be dropped: it is polled or resumed, or given up.
+/// The token of a seat that waits to become active, outside with a ticket or inside on a queue, or that may become
+/// active now. It can't be dropped: it must be polled, resumed or given up.
 pub struct Parked<K: Kind, T: Guarded> {
     pub(crate) seat: TableSeat<K, T>,
     pub(crate) numbers: SeatNumbers,
@@ -40,21 +40,21 @@ impl<K: Kind, T: Guarded> Model for Parked<K, T> {
 }
 
 impl<K: Kind, T: Guarded> Parked<K, T> {
-    /// The number of its seat.
+    /// Returns the number of its seat.
     pub fn seat(&self) -> u8
         ensures { result ≡ self.now.me.seat }
     {
         self.numbers.seat
     }
 
-    /// How many events its seat has left of its budget.
+    /// Returns how many events its seat has left of its budget.
     pub fn left(&self) -> u32
         ensures { result + length self.now.me.mine ≡ self.now.me.setting.budget }
     {
         self.left
     }
 
-    /// The number of the ticket with which it waits for entry, or with which it found the monitor free.
+    /// Returns the number of the ticket with which it waits for entry, or with which it found the monitor free.
     pub fn ticket(&self) -> Option<u32>
         ensures { result ≡ held_ticket self.now.me.place }
     {
@@ -66,8 +66,8 @@ impl<K: Kind, T: Guarded> Parked<K, T> {
         }
     }
 
-    /// Becomes active if the right was handed over, in at most two steps: a look where it waits, and the floor comes.
-    /// Otherwise it gives itself back.
+    /// Becomes active if the right was handed over. It takes at most two steps: a look where it waits, and one for
+    /// the floor. Otherwise it returns itself.
     #[inline(always)]
     pub fn poll(self, hall: &Hall<K, T>) -> Result<Active<K, T>, Parked<K, T>>
         requires { self.hall ≡ hall.now.id }
@@ -144,7 +144,7 @@ impl<K: Kind, T: Guarded> Parked<K, T> {
         }
     }
 
-    /// The floor comes to the seat, which is due, and its enter or resume is recorded.
+    /// Takes the floor out for the seat, which is due, and records its enter or resume.
     #[inline(always)]
     fn come_in(self, hall: &Hall<K, T>, source: Source) -> Active<K, T>
         requires hall { self.hall ≡ hall.now.id }
@@ -167,8 +167,7 @@ impl<K: Kind, T: Guarded> Parked<K, T> {
         }
     }
 
-    /// Abandons the seat. It keeps its place in its queue; once its turn comes, it holds the
-    /// monitor for ever.
+    /// Abandons the seat. It keeps its place in its queue. When its turn comes, it holds the monitor for ever.
     pub fn give_up(self) {
         let Parked {
             seat: _,

@@ -40,15 +40,15 @@ impl<K: Kind, T: Guarded> Model for Pass<K, T> {
 }
 
 impl<K: Kind, T: Guarded> Pass<K, T> {
-    /// The number of its seat.
+    /// Returns the number of its seat.
     pub fn seat(&self) -> u8
         ensures { result ≡ self.now.me.seat }
     {
         self.numbers.seat
     }
 
-    /// How many events its seat has left of its budget. What the seat has seen is legal, with its own events those that
-    /// it knows.
+    /// Returns how many events its seat has left of its budget. What the seat has seen is legal, and its own events
+    /// in that are those that it knows.
     pub fn left(&self) -> u32
         ensures left { result + length self.now.me.mine ≡ self.now.me.setting.budget }
         ensures told { SeesTruly K.rules T.meaning self.now.me }
@@ -56,7 +56,7 @@ impl<K: Kind, T: Guarded> Pass<K, T> {
         self.left
     }
 
-    /// How many events its seat has made.
+    /// Returns how many events its seat has made.
     pub(crate) fn made(&self) -> u32
         ensures made { result ≡ length self.now.me.mine }
         ensures told { SeesTruly K.rules T.meaning self.now.me }
@@ -64,8 +64,7 @@ impl<K: Kind, T: Guarded> Pass<K, T> {
         self.numbers.budget - self.left
     }
 
-    /// Comes to the monitor: draws a ticket, in one step. The event of the enter is recorded when the seat becomes
-    /// active.
+    /// Comes to the monitor: draws a ticket, in one step. The enter is recorded when the seat becomes active.
     #[inline(always)]
     pub fn arrive(self, hall: &Hall<K, T>) -> Parked<K, T>
         requires hall { self.hall ≡ hall.now.id }

@@ -1,6 +1,6 @@
-//! The releases that not every kind has, for code that is generic over every kind: whether the kind has a call is a
-//! condition of the call in place of a bound, and the floor takes the general scheduler step. Each has the contract of
-//! the call without `plain_`, which is made of it.
+//! The releases that only some kinds have, for code that is generic over every kind. Whether the kind has a call is a
+//! condition of the call and not a bound, and the floor takes the general scheduler step. The call without `plain_`
+//! is made of such a call and has the same contract.
 ghost use Rattle.std.specs.Prelude.{◌≡◌, ◌+◌, ◌<◌, ◌≤◌, true, false, not, length, Some};
 ghost use Rattle.monk_history.specs.Meaning.Choice.{must_stay};
 ghost use Rattle.monk_history.specs.Meaning.Events.{has_conditions, has_signaller_queue, is_stay, returns_at_once};
@@ -23,7 +23,7 @@ use monk_kinds::{Kind, Pick};
 use monk_object::Guarded;
 
 impl<K: Kind, T: Guarded> Active<K, T> {
-    /// Whether a signal on it serves somebody.
+    /// Whether a signal on the condition serves somebody.
     pub(crate) fn serves(&self, cond: u8) -> bool
         requires { cond < self.now.me.setting.conds }
         ensures { result ≡ not
@@ -44,7 +44,7 @@ impl<K: Kind, T: Guarded> Active<K, T> {
         hall.wake_granted(self.plain_wait_quietly(hall, cond, pick))
     }
 
-    /// As `plain_wait`, but wakes nobody: it gives out what it granted, which only a wake spends (`Granted`).
+    /// As `plain_wait`, but wakes nobody: it returns what it granted, which must be spent (`Granted`).
     pub fn plain_wait_quietly(
         self,
         hall: &Hall<K, T>,
@@ -91,7 +91,7 @@ impl<K: Kind, T: Guarded> Active<K, T> {
         hall.wake_granted(self.plain_signal_quietly(hall, cond, pick))
     }
 
-    /// As `plain_signal`, but wakes nobody: it gives out what it granted, which only a wake spends (`Granted`).
+    /// As `plain_signal`, but wakes nobody: it returns what it granted, which must be spent (`Granted`).
     pub fn plain_signal_quietly(
         self,
         hall: &Hall<K, T>,
@@ -137,7 +137,7 @@ impl<K: Kind, T: Guarded> Active<K, T> {
         hall.wake_granted(self.plain_signal_leave_quietly(hall, cond, pick))
     }
 
-    /// As `plain_signal_leave`, but wakes nobody: it gives out what it granted, which only a wake spends (`Granted`).
+    /// As `plain_signal_leave`, but wakes nobody: it returns what it granted, which must be spent (`Granted`).
     pub fn plain_signal_leave_quietly(
         self,
         hall: &Hall<K, T>,
@@ -173,7 +173,7 @@ impl<K: Kind, T: Guarded> Active<K, T> {
         release
     }
 
-    /// Waits until a predicate holds of the data, under an automatic kind.
+    /// Waits until a predicate holds for the data, under an automatic kind.
     pub fn plain_until(self, hall: &Hall<K, T>, pred: u8, pick: Pick) -> After<K, T>
         requires mode { has_conditions K.rules.mode ≡ false }
         requires hall { self.hall ≡ hall.now.id }
@@ -184,7 +184,7 @@ impl<K: Kind, T: Guarded> Active<K, T> {
         hall.wake_granted(self.plain_until_quietly(hall, pred, pick))
     }
 
-    /// As `plain_until`, but wakes nobody: it gives out what it granted, which only a wake spends (`Granted`).
+    /// As `plain_until`, but wakes nobody: it returns what it granted, which must be spent (`Granted`).
     pub fn plain_until_quietly(
         self,
         hall: &Hall<K, T>,

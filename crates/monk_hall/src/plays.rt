@@ -1,4 +1,4 @@
-//! The kinds of step, each as what it tells the seat that takes it, and the two moves of seats.
+//! The kinds of step, each with what its seat knows after it, and the two moves of seats.
 ghost use Rattle.std.specs.Prelude.{[]};
 ghost use Rattle.monk_hall.specs.Changes.{view_after_join};
 ghost use Rattle.monk_hall.specs.Records.{head, tail};
@@ -46,7 +46,7 @@ impl<K: Kind, T: Guarded> Play<Option<BoxedFloor<K, T>>, View> for FloorOutStep 
     ghost then = { λ step me found new. TellsFloorOut K.rules T.meaning me found new };
 }
 
-/// Step 5, in: the active seat brings the floor home.
+/// Step 5, in: the active seat takes the floor home.
 pub(crate) struct FloorInStep;
 
 impl<K: Kind, T: Guarded> Play<Option<BoxedFloor<K, T>>, View> for FloorInStep {
@@ -60,7 +60,7 @@ impl<K: Kind, T: Guarded> Play<Option<BoxedFloor<K, T>>, View> for DropStep {
     ghost then = { λ step me found new. TellsDrop me found new };
 }
 
-/// Each seat gets its record from the view that has them all.
+/// Each seat gets its record, out of the view that has them all.
 pub(crate) struct Deal;
 
 impl Split<View> for Deal {
@@ -78,14 +78,14 @@ impl Join<View> for Meet {
     ghost spent = { [] };
 }
 
-/// In one view they tell each other what they have seen.
+/// In one view they share what they have seen.
 pub(crate) struct CompareStep;
 
 impl<K: Kind, T: Guarded> Play<Option<BoxedFloor<K, T>>, View> for CompareStep {
     ghost then = { λ step me found new. TellsCompare K.rules T.meaning me found new };
 }
 
-/// And part.
+/// Then they part.
 pub(crate) struct Part;
 
 impl Split<View> for Part {
@@ -94,7 +94,7 @@ impl Split<View> for Part {
     ghost right = { tail };
 }
 
-/// A look that tells what can't be, by a seat that would have two active records.
+/// A look that shows what can't be, by a seat that would have two active records.
 pub(crate) struct NeverStep;
 
 impl<K: Kind, T: Guarded> Play<Option<BoxedFloor<K, T>>, View> for NeverStep {

@@ -5,9 +5,9 @@ use monk_history::Event;
 use monk_world::Place;
 use std::collections::LinkedList;
 
-/// One seat: its number, the hall's setting, where it stands, how often it was called, whether it knows of somebody at
-/// the entry, the longest history it has seen, its own events, and what it has done at the table, in order. For
-/// contracts: no value of it is made.
+/// One seat: its number, the hall's setting, where it is, how often it was called, whether it knows of somebody at
+/// the entry, the longest history that it has seen, its own events, and what it has done at the table, in order. It
+/// is for contracts: no value of it is made.
 pub struct SeatRecord {
     pub seat: u8,
     pub setting: Setting,

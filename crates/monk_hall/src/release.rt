@@ -1,4 +1,4 @@
-//! A release on its way: what all releases share once the floor has recorded them.
+//! A release on its way: what all releases share after the floor has recorded them.
 ghost use Rattle.std.specs.Prelude.{◌≡◌, false, Some};
 ghost use Rattle.monk_history.specs.Meaning.Events.{is_stay};
 ghost use Rattle.monk_world.specs.declared.home.Home.TheVariants as home;
@@ -20,8 +20,8 @@ use monk_object::Guarded;
 use monk_world::Place;
 use std::marker::PhantomData;
 
-/// The active seat, taken apart, with a release recorded in its floor, which has chosen who goes
-/// on. The floor has yet to go home, unless the seat stays.
+/// The active seat, taken apart. Its floor has recorded a release, which has chosen who goes on. The floor must still
+/// go home, unless the seat stays.
 pub struct Release<K: Kind, T: Guarded> {
     pub(crate) seat: TableSeat<K, T>,
     pub(crate) numbers: SeatNumbers,
@@ -30,7 +30,7 @@ pub struct Release<K: Kind, T: Guarded> {
 }
 
 impl<K: Kind, T: Guarded> Release<K, T> {
-    /// The active seat, taken apart, before its release.
+    /// Takes the active seat apart, before its release.
     #[inline(always)]
     pub(crate) fn of(active: Active<K, T>) -> Release<K, T>
         ensures { IsApart K.rules T.meaning active result }
@@ -40,8 +40,8 @@ impl<K: Kind, T: Guarded> Release<K, T> {
             numbers,
             floor,
         } = active;
-        // The numbers go field by field, as in `Parked::seat_look`. A copy of the whole would read as one word what was
-        // written as several, and wait for that.
+        // The numbers go field by field, as in `Parked::seat_look`. A copy of the whole would read as one word what
+        // was written as several, and would wait for these writes.
         Release {
             seat,
             numbers: SeatNumbers {
@@ -56,7 +56,7 @@ impl<K: Kind, T: Guarded> Release<K, T> {
         }
     }
 
-    /// The seat leaves the monitor. Gives what it granted, too.
+    /// Makes the seat leave the monitor. Returns also what it granted.
     #[inline(always)]
     pub(crate) fn go_outside(self, hall: &Hall<K, T>) -> (Pass<K, T>, Option<Granted<K, T>>)
         requires table { self.seat.table_id ≡ hall.now.id }
@@ -82,7 +82,7 @@ impl<K: Kind, T: Guarded> Release<K, T> {
         (pass, granted)
     }
 
-    /// The seat is parked inside the monitor. Gives what it granted, too.
+    /// Parks the seat inside the monitor. Returns also what it granted.
     #[inline(always)]
     pub(crate) fn go_inside(self, hall: &Hall<K, T>) -> (Parked<K, T>, Option<Granted<K, T>>)
         requires table { self.seat.table_id ≡ hall.now.id }
@@ -107,7 +107,7 @@ impl<K: Kind, T: Guarded> Release<K, T> {
         (parked, granted)
     }
 
-    /// The seat stays active where it was chosen itself, and else is parked inside. Gives what it granted, too.
+    /// Keeps the seat active if it chose itself, and otherwise parks it inside. Returns also what it granted.
     pub(crate) fn go_on(self, hall: &Hall<K, T>) -> (After<K, T>, Option<Granted<K, T>>)
         requires table { self.seat.table_id ≡ hall.now.id }
         requires recorded { IsRecorded K.rules T.meaning home.Inner self }

@@ -1,5 +1,5 @@
-//! The calls by which the active seat releases the monitor. Each may take a look at the ticket word, where the wish is
-//! for entry; brings the floor home unless the seat stays; and hands the right on.
+//! The calls by which the active seat releases the monitor. If the wish is for entry, a call may look at the ticket
+//! word. It takes the floor home unless the seat stays, and hands the right on.
 ghost use Rattle.std.specs.Prelude.{◌≡◌, ◌&&◌, false, true, Some};
 ghost use Rattle.monk_history.specs.Meaning.Events.{is_stay};
 ghost use Rattle.monk_world.specs.declared.home.Home.TheVariants as home;
@@ -32,7 +32,7 @@ fn asks_for_entry(chooses: bool, pick: Pick) -> bool
 }
 
 impl<K: Kind, T: Guarded> Active<K, T> {
-    /// Looks at the ticket word. Tells whether somebody waits for entry.
+    /// Looks at the ticket word. Returns whether somebody waits for entry.
     pub(crate) fn peek(&mut self, hall: &Hall<K, T>) -> bool
         requires { self.old.hall ≡ hall.now.id }
         ensures peeked { HasPeeked 1 self.old self.new }
@@ -42,8 +42,8 @@ impl<K: Kind, T: Guarded> Active<K, T> {
         unpassed(found) >= 2
     }
 
-    /// Looks at the ticket word where the wish is for entry and there is something to choose. Tells whether somebody is
-    /// known to wait for entry.
+    /// Looks at the ticket word if the wish is for entry and there is something to choose. Returns whether somebody
+    /// is known to wait for entry.
     #[inline(always)]
     pub(crate) fn look_for_entry(&mut self, hall: &Hall<K, T>, chooses: bool, pick: Pick) -> bool
         requires { self.old.hall ≡ hall.now.id }
@@ -58,8 +58,8 @@ impl<K: Kind, T: Guarded> Active<K, T> {
 
     /// Leaves the monitor, in at most four steps.
     ///
-    /// The scheduler step chooses who goes on by the priorities of the kind. The wish decides where they leave it open;
-    /// a wish for entry is taken only where a look at the ticket word finds somebody there.
+    /// The scheduler step chooses who goes on by the priorities of the kind. The wish decides if they leave it open.
+    /// A wish for entry is taken only if a look at the ticket word finds somebody there.
     pub fn leave(self, hall: &Hall<K, T>, pick: Pick) -> Pass<K, T>
         requires { self.hall ≡ hall.now.id }
         ensures { GoesOut K.rules T.meaning self (Event.Leave self.me.seat Next.Stay) pick result }
@@ -67,7 +67,7 @@ impl<K: Kind, T: Guarded> Active<K, T> {
         hall.wake_granted(self.leave_quietly(hall, pick))
     }
 
-    /// As `leave`, but wakes nobody: it gives out what it granted, which only a wake spends (`Granted`).
+    /// As `leave`, but wakes nobody: it returns what it granted, which must be spent (`Granted`).
     #[inline(always)]
     pub fn leave_quietly(self, hall: &Hall<K, T>, pick: Pick) -> (Pass<K, T>, Option<Granted<K, T>>)
         requires { self.hall ≡ hall.now.id }
@@ -109,7 +109,7 @@ impl<K: Conditional, T: Guarded> Active<K, T> {
         hall.wake_granted(self.wait_quietly(hall, cond, pick))
     }
 
-    /// As `wait`, but wakes nobody: it gives out what it granted, which only a wake spends (`Granted`).
+    /// As `wait`, but wakes nobody: it returns what it granted, which must be spent (`Granted`).
     pub fn wait_quietly(
         self,
         hall: &Hall<K, T>,
@@ -131,11 +131,10 @@ impl<K: Explicit, T: Guarded> Active<K, T> {
     ghost use Rattle.monk_hall.specs.AfterCalls.{StaysOrParks};
     ghost use Rattle.monk_hall.specs.Granting.{StaysOrGrants};
 
-    /// Signals a condition variable, in at most four steps. The first that waits on it becomes a waiter and the caller
-    /// a signaller, and the scheduler step chooses among all of them; the wish is as at `leave`.
-    /// Where the caller itself is chosen it stays active, and takes no step but the look. Where
-    /// nobody waits on the condition the signal has no effect and is forgotten: the caller goes on,
-    /// and takes no step at all.
+    /// Signals a condition variable, in at most four steps. The first that waits on it becomes a waiter and the
+    /// caller a signaller. The scheduler step chooses among all of them; the wish is as at `leave`. If the caller
+    /// itself is chosen, it stays active and takes no step but the look. If nobody waits on the condition, the signal
+    /// has no effect and is forgotten: the caller goes on, and takes no step at all.
     pub fn signal(self, hall: &Hall<K, T>, cond: u8, pick: Pick) -> After<K, T>
         requires hall { self.hall ≡ hall.now.id }
         requires cond { cond < self.me.setting.conds }
@@ -145,7 +144,7 @@ impl<K: Explicit, T: Guarded> Active<K, T> {
         hall.wake_granted(self.signal_quietly(hall, cond, pick))
     }
 
-    /// As `signal`, but wakes nobody: it gives out what it granted, which only a wake spends (`Granted`).
+    /// As `signal`, but wakes nobody: it returns what it granted, which must be spent (`Granted`).
     pub fn signal_quietly(
         self,
         hall: &Hall<K, T>,
@@ -177,8 +176,8 @@ impl<K: NonBlocking, T: Guarded> Active<K, T> {
             .signal(self.numbers.seat, cond, Pick::Signaller, false);
     }
 
-    /// Signals all who wait on a condition variable, and goes on. They become waiters in the order
-    /// of their waits; tells how many they are. No step is taken.
+    /// Signals all who wait on a condition variable, and goes on. They become waiters in the order of their waits.
+    /// Returns how many they are. No step is taken.
     pub fn signal_all(&mut self, cond: u8) -> u32
         requires cond { cond < self.old.me.setting.conds }
         requires left { length self.old.me.mine + 2 ≤ self.old.me.setting.budget }
@@ -197,7 +196,7 @@ impl<K: ImmediateReturn, T: Guarded> Active<K, T> {
     ghost use Rattle.monk_hall.specs.Granting.{GrantsInside, GrantsOut};
     ghost use Rattle.monk_hall.specs.Recorded.{HasRecorded};
 
-    /// Signals a condition variable and leaves the monitor, in at most four steps. It leaves also where nobody waits on
+    /// Signals a condition variable and leaves the monitor, in at most four steps. It leaves also if nobody waits on
     /// the condition. The scheduler step and the wish are as at `leave`.
     pub fn signal_leave(self, hall: &Hall<K, T>, cond: u8, pick: Pick) -> Pass<K, T>
         requires hall { self.hall ≡ hall.now.id }
@@ -207,7 +206,7 @@ impl<K: ImmediateReturn, T: Guarded> Active<K, T> {
         hall.wake_granted(self.signal_leave_quietly(hall, cond, pick))
     }
 
-    /// As `signal_leave`, but wakes nobody: it gives out what it granted, which only a wake spends (`Granted`).
+    /// As `signal_leave`, but wakes nobody: it returns what it granted, which must be spent (`Granted`).
     pub fn signal_leave_quietly(
         self,
         hall: &Hall<K, T>,
@@ -222,10 +221,9 @@ impl<K: ImmediateReturn, T: Guarded> Active<K, T> {
         self.plain_signal_leave_quietly(hall, cond, pick)
     }
 
-    /// Signals the first condition variable and then waits on the second, in at most four steps.
-    /// The first that waits on the one becomes a waiter, and then the caller is parked inside, at
-    /// the back of those who wait on the other; it never serves itself, also where both are one.
-    /// The scheduler step and the wish are as at `leave`.
+    /// Signals the first condition variable and then waits on the second, in at most four steps. The first that waits
+    /// on the one becomes a waiter. Then the caller is parked inside, at the back of those who wait on the other. It
+    /// never serves itself, even if both are one. The scheduler step and the wish are as at `leave`.
     pub fn signal_wait(self, hall: &Hall<K, T>, cond: u8, wait_cond: u8, pick: Pick) -> Parked<K, T>
         requires hall { self.hall ≡ hall.now.id }
         requires cond { cond < self.me.setting.conds }
@@ -237,7 +235,7 @@ impl<K: ImmediateReturn, T: Guarded> Active<K, T> {
         hall.wake_granted(self.signal_wait_quietly(hall, cond, wait_cond, pick))
     }
 
-    /// As `signal_wait`, but wakes nobody: it gives out what it granted, which only a wake spends (`Granted`).
+    /// As `signal_wait`, but wakes nobody: it returns what it granted, which must be spent (`Granted`).
     pub fn signal_wait_quietly(
         self,
         hall: &Hall<K, T>,
@@ -283,9 +281,9 @@ impl<K: Automatic, T: Guarded> Active<K, T> {
     ghost use Rattle.monk_hall.specs.AfterCalls.{StaysOrParks};
     ghost use Rattle.monk_hall.specs.Granting.{StaysOrGrants};
 
-    /// Waits until a predicate holds of the data, in at most four steps. Where it holds at once the seat stays active
-    /// and takes no step; else it is parked inside until it is chosen among those whose predicate holds. The scheduler
-    /// step and the wish are as at `leave`.
+    /// Waits until a predicate holds for the data, in at most four steps. If it holds at once, the seat stays active
+    /// and takes no step. Otherwise it is parked inside until it is chosen among those whose predicate holds. The
+    /// scheduler step and the wish are as at `leave`.
     pub fn until(self, hall: &Hall<K, T>, pred: u8, pick: Pick) -> After<K, T>
         requires hall { self.hall ≡ hall.now.id }
         requires pred { pred < T.PREDICATES }
@@ -295,7 +293,7 @@ impl<K: Automatic, T: Guarded> Active<K, T> {
         hall.wake_granted(self.until_quietly(hall, pred, pick))
     }
 
-    /// As `until`, but wakes nobody: it gives out what it granted, which only a wake spends (`Granted`).
+    /// As `until`, but wakes nobody: it returns what it granted, which must be spent (`Granted`).
     pub fn until_quietly(
         self,
         hall: &Hall<K, T>,

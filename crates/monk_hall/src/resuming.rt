@@ -10,11 +10,11 @@ use monk_object::Guarded;
 use std::sync::Wait;
 
 impl<K: Kind, T: Guarded> Parked<K, T> {
-    /// Waits until the seat is active; this is the only call that waits. It polls, then spins
-    /// briefly, then sleeps on the word where its grant will come. It sleeps only while the word
-    /// still has the value from before the poll, so a grant after the poll keeps it awake.
+    /// Waits until the seat is active; this is the only call that waits. It polls, then spins briefly, then sleeps on
+    /// the word where its grant will come. It sleeps only while the word still has the value from before the poll, so
+    /// a grant after the poll keeps it awake.
     ///
-    /// Nothing says that a grant ever comes.
+    /// Nothing promises that a grant ever comes.
     pub fn resume<R: Wait>(self, rt: &R, hall: &Hall<K, T>) -> Active<K, T>
         requires { self.hall ≡ hall.now.id }
         ensures entered { HasEntered K.rules T.meaning self result }

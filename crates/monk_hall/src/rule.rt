@@ -13,7 +13,7 @@ use std::alloc::Global;
 use std::marker::PhantomData;
 
 /// The rule of a hall's table: some schedule of the table's steps leads to it from the table with which the hall was
-/// made. What that means is `laws::every_schedule_is_one_history`.
+/// made. `laws::every_schedule_is_one_history` says what that means.
 pub struct HallRule<K, T> {
     marker: PhantomData<(K, T)>,
 }
@@ -29,7 +29,7 @@ impl<K: Kind, T: Guarded> TableRule<Option<BoxedFloor<K, T>>, View, Setup<T>> fo
 /// A seat of the table.
 pub(crate) type TableSeat<K, T> = Seat<Option<BoxedFloor<K, T>>, View>;
 
-/// The table as threads share it.
+/// The table that threads share.
 pub(crate) type SharedTable<K, T> = Shared<
     Option<BoxedFloor<K, T>>,
     View,

@@ -2,8 +2,8 @@ use std::mem::size_of;
 
 /// What a token keeps of its seat: which it is, how often it was called, and how many events it may make.
 ///
-/// The fields lie in memory in the order in which they are written. The last two only fill the gap up to 16 bytes, and
-/// are 0. Without them each move of a token copies bytes that no field has written, as words that overlap, and then a
+/// The fields lie in memory in the order in which they are written. The last two only fill the gap up to 16 bytes,
+/// and are 0. Without them each move of a token copies bytes that no field has written, in words that overlap. Then a
 /// visit takes nearly twice the time.
 #[derive(Clone, Copy)]
 pub struct SeatNumbers {
@@ -14,7 +14,7 @@ pub struct SeatNumbers {
     pub(crate) gap_pair: u16,
 }
 
-/// Its fields.
+/// The bytes of its fields.
 const FIELDS: usize = size_of::<u64>() + size_of::<u32>() + 2 * size_of::<u8>() + size_of::<u16>();
 
 // It has no gap (`no_gaps`).

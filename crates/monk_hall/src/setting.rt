@@ -1,7 +1,7 @@
-//! What is fixed when a hall is made, as clauses see it.
+//! What is fixed when a hall is made, as contracts see it.
 use std::collections::LinkedList;
 
-/// The object's opening state and the hall's numbers. For contracts: no value of it is made.
+/// The object's opening state and the hall's numbers. It is for contracts: no value of it is made.
 pub struct Setting {
     pub opening: LinkedList<u64>,
     pub seats: u8,

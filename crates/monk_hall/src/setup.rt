@@ -1,7 +1,7 @@
 //! What is fixed when a hall is made.
 use std::snapshot::Snapshot;
 
-/// The object as it was, and the hall's numbers.
+/// The object as it was at first, and the hall's numbers.
 #[derive(Drop)]
 pub struct Setup<T> {
     pub(crate) opening: Snapshot<T>,

@@ -1,5 +1,5 @@
-//! One function for each kind of step, and nothing else in it. The calls of the tokens are made of these. Steps 7 and 8
-//! stand in `granted`.
+//! One function for each kind of step, and nothing else in it. The calls of the tokens are made of these. Steps 7 and
+//! 8 are in `granted`.
 ghost use Rattle.std.specs.Prelude.{◌≡◌, ◌+◌, ◌<◌, ◌≤◌, [], ◌∷◌, Some, None, length};
 ghost use Rattle.monk_world.specs.Places.{stage, ticket, ticketed_stage, due_stage, active_stage};
 ghost use Rattle.monk_world.specs.Places.{inside_stage};
@@ -19,10 +19,10 @@ use crate::rule::{SharedTable, TableSeat};
 use monk_kinds::Kind;
 use monk_object::Guarded;
 
-/// One ticket drawn, and one more not passed on.
+/// What an arrival adds: one ticket drawn, and one more not passed on.
 const ARRIVAL: u64 = (1 << 32) + 1;
 
-/// The word that has the place of a ticket.
+/// Returns the word that has the place of a ticket.
 pub(crate) fn ticket_word(seats: u8, ticket: u32) -> usize
     requires { 0 < seats }
     ensures { result ≡ ticket_word seats ticket }
@@ -30,14 +30,14 @@ pub(crate) fn ticket_word(seats: u8, ticket: u32) -> usize
     2 * (ticket % seats as u32) as usize + 1
 }
 
-/// The word that has the place of a seat.
+/// Returns the word that has the place of a seat.
 pub(crate) fn seat_word(seat: u8) -> usize
     ensures { result ≡ seat_word seat }
 {
     2 * seat as usize + 2
 }
 
-/// Step 1: draws a ticket. Gives the ticket word as it was.
+/// Step 1: draws a ticket. Returns the ticket word as it was.
 #[inline(always)]
 pub(crate) fn arrive<K: Kind, T: Guarded>(
     words: &SharedTable<K, T>,
@@ -52,7 +52,7 @@ pub(crate) fn arrive<K: Kind, T: Guarded>(
     words.fetch_add::<ArriveStep>(seat, 0, ARRIVAL)
 }
 
-/// Step 2: looks at the place of its ticket. Gives what it found there.
+/// Step 2: looks at the place of its ticket. Returns what it found there.
 #[inline(always)]
 pub(crate) fn ticket_look<K: Kind, T: Guarded>(
     words: &SharedTable<K, T>,
@@ -71,7 +71,7 @@ pub(crate) fn ticket_look<K: Kind, T: Guarded>(
     words.load::<TicketLookStep>(seat, place)
 }
 
-/// Step 3: looks at its own place. Gives what it found there.
+/// Step 3: looks at its own place. Returns what it found there.
 #[inline(always)]
 pub(crate) fn seat_look<K: Kind, T: Guarded>(
     words: &SharedTable<K, T>,
@@ -89,7 +89,7 @@ pub(crate) fn seat_look<K: Kind, T: Guarded>(
     words.load::<SeatLookStep>(seat, place)
 }
 
-/// Step 4: looks at the ticket word while active. Gives what it found there.
+/// Step 4: looks at the ticket word while active. Returns what it found there.
 #[inline(always)]
 pub(crate) fn peek<K: Kind, T: Guarded>(
     words: &SharedTable<K, T>,
@@ -119,7 +119,7 @@ pub(crate) fn floor_out<K: Kind, T: Guarded>(
     words.exchange(seat, 0, None).unwrap()
 }
 
-/// Step 5, in: the active seat brings the floor home, with the release that it has recorded.
+/// Step 5, in: the active seat takes the floor home, with the release that it has recorded.
 #[inline(always)]
 pub(crate) fn floor_in<K: Kind, T: Guarded>(
     words: &SharedTable<K, T>,
@@ -141,7 +141,7 @@ pub(crate) fn floor_in<K: Kind, T: Guarded>(
     words.load::<FloorInStep>(seat, 0);
 }
 
-/// Step 6: takes itself off the ticket word. Gives the word as it was.
+/// Step 6: takes the seat off the ticket word. Returns the word as it was.
 #[inline(always)]
 pub(crate) fn drop_ticket<K: Kind, T: Guarded>(
     words: &SharedTable<K, T>,

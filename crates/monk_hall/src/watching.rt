@@ -1,5 +1,5 @@
-//! What a thread does while it waits, in the one order that misses no wake: it looks at the word where its grant will
-//! come, polls, and then sleeps on what it saw. Each is a type of its own, which only the one before it makes.
+//! What a thread does while it waits, in the one order that misses no wake. It looks at the word where its grant will
+//! come, polls, and then sleeps on what it saw. Each stage has its own type, which only the stage before it makes.
 ghost use Rattle.std.specs.Prelude.{◌≡◌, ◌<◌, IfOk, IfErr};
 ghost use Rattle.monk_hall.specs.Calls.{ComesAfter, HasEntered, StillWaits};
 ghost use Rattle.monk_hall.specs.Layout.{waiting_word};
@@ -14,12 +14,12 @@ use monk_world::Place;
 use std::hint::spin_loop;
 use std::sync::Wait;
 
-/// How often the seat of a one-seat hall looks before its thread sleeps. With n seats each looks
-/// `SPINS / n^2` times, since its turn comes after those of the others, and threads that spin keep
-/// others from their processor.
+/// How often the seat of a one-seat hall looks before its thread sleeps. With n seats each looks `SPINS / n^2` times.
+/// The reason is that its turn comes after those of the others, and that threads that spin keep others from their
+/// processor.
 const SPINS: u32 = 1024;
 
-/// A waiting seat that has looked at its word and is yet to poll.
+/// A waiting seat that has looked at its word and has not polled yet.
 pub(crate) struct Watched<K: Kind, T: Guarded> {
     parked: Parked<K, T>,
     word: usize,
@@ -27,7 +27,7 @@ pub(crate) struct Watched<K: Kind, T: Guarded> {
     ghost near: { word < parked.hall.words },
 }
 
-/// A waiting seat that has polled for nothing, with what it saw in its word before.
+/// A waiting seat that has polled and found no grant, with what it saw in its word before.
 pub(crate) struct Polled<K: Kind, T: Guarded> {
     parked: Parked<K, T>,
     word: usize,
@@ -36,7 +36,7 @@ pub(crate) struct Polled<K: Kind, T: Guarded> {
 }
 
 impl<K: Kind, T: Guarded> Parked<K, T> {
-    /// The word where the seat will find its grant. A seat that is due needs none.
+    /// Returns the word where the seat will find its grant. A seat that is due needs none.
     pub fn word(&self, hall: &Hall<K, T>) -> usize
         requires { self.now.hall ≡ hall.now.id }
         ensures word { result ≡ waiting_word self.now.me }
@@ -48,7 +48,7 @@ impl<K: Kind, T: Guarded> Parked<K, T> {
         }
     }
 
-    /// First it looks at its word.
+    /// The first stage: looks at its word.
     pub(crate) fn watch(self, hall: &Hall<K, T>) -> Watched<K, T>
         requires { self.hall ≡ hall.now.id }
         ensures { (result.parked ≡ self) × (result.word ≡ waiting_word self.me) }
@@ -64,7 +64,7 @@ impl<K: Kind, T: Guarded> Parked<K, T> {
 }
 
 impl<K: Kind, T: Guarded> Watched<K, T> {
-    /// Then it polls.
+    /// The second stage: polls.
     pub(crate) fn poll(self, hall: &Hall<K, T>) -> Result<Active<K, T>, Polled<K, T>>
         requires { self.parked.hall ≡ hall.now.id }
         ensures active { IfOk result (λ a. HasEntered K.rules T.meaning self.parked a
@@ -81,8 +81,8 @@ impl<K: Kind, T: Guarded> Watched<K, T> {
 }
 
 impl<K: Kind, T: Guarded> Polled<K, T> {
-    /// Then it waits until its word is no longer what it saw there before the poll, or for less: it spins, and then
-    /// sleeps.
+    /// The third stage: spins, and then sleeps, until its word is no longer what it saw there before the poll. It may
+    /// return earlier.
     pub(crate) fn sleep<R: Wait>(self, rt: &R, hall: &Hall<K, T>) -> Parked<K, T>
         requires { self.parked.hall ≡ hall.now.id }
         ensures { result ≡ self.parked }

@@ -11,7 +11,7 @@ module _ {Q : Type 0} (seats : Q → List ℕ) where
   seats_at-get (w ∷ ws) zero d l = refl
   seats_at-get (w ∷ ws) (suc i) d l = seats_at-get ws i d (omega arith)
 
-  -- one joins the queue at i
+  -- a seat joins queue number i
   pub joined_at : (vs : List Q) (i : ℕ) (q v : Q) (s c : ℕ) → i < length vs → q ≡ get_or vs i q
       → seats v ≡ seats q ++ s ∷ []
       → seats_at seats (slice_set vs i v) c ≡ seats_at seats vs c ++ cond (eqb i c) (s ∷ []) []
@@ -21,7 +21,7 @@ module _ {Q : Type 0} (seats : Q → List ℕ) where
   joined_at (w ∷ ws) (suc i) q v s zero l e f = rw (eqb-suc-zero i) (sym (append-nil (seats w)))
   joined_at (w ∷ ws) (suc i) q v s (suc c) l e f = rw (eqb-suc-suc i c) (joined_at ws i q v s c (omega arith) e f)
 
-  -- the front of the queue at i goes
+  -- the front of queue number i goes
   pub taken_at : (vs : List Q) (i : ℕ) (q v : Q) (c : ℕ) → i < length vs → q ≡ get_or vs i q
       → seats v ≡ drop 1 (seats q)
       → seats_at seats (slice_set vs i v) c ≡ cond (eqb i c) (drop 1 (seats_at seats vs c)) (seats_at seats vs c)

@@ -1,7 +1,7 @@
 -- A queue of many, by its index
 use Rattle.std.specs.Prelude.{ℕ, zero, suc, List, [], ◌∷◌}
 
--- the seats of the queue at c, none past the end; `seats` says who is in a queue
+-- the seats of queue number c, or none if there is no such queue. `seats` says who is in a queue
 abbrev pub seats_at : {Q : Type 0} → (Q → List ℕ) → List Q → ℕ → List ℕ
 seats_at seats [] c = []
 seats_at seats (q ∷ qs) zero = seats q

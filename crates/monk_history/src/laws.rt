@@ -1,4 +1,4 @@
-//! What holds of every history, as laws that other crates may cite.
+//! What holds for every history, as laws that other crates may cite.
 ghost use Rattle.std.specs.Prelude.{◌≡◌, ◌≢◌, ◌≤◌, ◌<◌, ◌↔◌, ℕ, nat_lt, IsTrue, List, [], ◌∷◌, ◌++◌};
 ghost use Rattle.monk_kinds.specs.Kind.{IsKind};
 ghost use Rattle.monk_kinds.specs.Names.{rules_named};
@@ -34,7 +34,7 @@ pub fn history_grows()
     ensures front { (m : Monitor) (h more : List Event) → IsLegal m (h ++ more) → IsLegal m h }
 {}
 
-/// What one event more makes of the counts seat by seat, and of the turn.
+/// How one more event changes the counts of each seat, and the turn.
 pub fn event_counts()
     ensures { (h : List Event) (e : Event) → CountsAfter h e }
 {}
@@ -47,14 +47,14 @@ pub fn seats_stand_once()
         → in_queues m.conds s (situation m h) ≤ 1 }
 {}
 
-/// What one allowed event more makes of where its own seat, the seat that it chose and every other seat stand.
+/// How one more allowed event changes where its own seat, the seat that it chose and every other seat are.
 pub fn event_moves_seats()
     ensures { (m : Monitor) (h : List Event) (e : Event) → IsLegal m h → IsAllowed m h e
         → StandsAfter m (situation m h) e (situation m (h ++ e ∷ [])) }
 {}
 
-/// Exactly when a seat may enter. If it finds the monitor free, nobody may be there who could be
-/// chosen from a queue; if another seat lets it in, it may not be the first to come in.
+/// When exactly a seat may enter. If it finds the monitor free, there may be nobody who could be chosen from a queue.
+/// If another seat lets it in, it may not be the first to come in.
 pub fn seat_enters()
     ensures free { (m : Monitor) (h : List Event) (s : ℕ)
         → IsAllowed m h (Enter s Free) ↔ (IsAtDoor m h s × IsQuiet m h) }
@@ -62,14 +62,14 @@ pub fn seat_enters()
         → IsAllowed m h (Enter s Handed) ↔ (IsAtDoor m h s × (h ≢ [])) }
 {}
 
-/// A release that lets the entry in, with nobody known to wait for it, leaves nobody who could be chosen from a queue:
-/// beside somebody who could be, entry is chosen only where `entry_known` says so.
+/// If a release lets the entry in and nobody is known to wait there, it leaves nobody who could be chosen from a
+/// queue. If somebody could be chosen, entry is chosen only if `entry_known` says so.
 pub fn entry_is_quiet()
     ensures { (m : Monitor) (h : List Event) (e : Event) (wish : Pick) → IsLegal m h → IsAllowed m h e
         → AdmitsUnknown m (situation m h) e wish → IsQuiet m (h ++ e ∷ []) }
 {}
 
-/// A seat may resume exactly where the turn is due to it from that queue.
+/// A seat may resume if, and only if, the turn is due to it from that queue.
 pub fn seat_resumes()
     ensures { (m : Monitor) (h : List Event) (s : ℕ) (q : From3) → IsAllowed m h (Resume s q) ↔ IsDueFrom m h s q }
 {}
@@ -79,69 +79,69 @@ pub fn inside_by_own_events()
     ensures { (s : ℕ) (h : List Event) → is_inside s (events_of h s) ≡ is_inside s h }
 {}
 
-/// Whatever is allowed may be called, without its choice and its reply.
+/// What is allowed may be called, without its choice and its reply.
 pub fn allowed_may_be_called()
     ensures { (m : Monitor) (h : List Event) (e : Event) → IsAllowed m h e → MayCall m h (as_called e) }
 {}
 
-/// In a legal history the waits-until are the untils whose predicate was false of the data before
-/// them: an until goes on at once exactly where its predicate holds.
+/// In a legal history the waits-until are the untils whose predicate was false for the data before them. An until
+/// goes on at once if, and only if, its predicate holds.
 pub fn untils_were_false()
     ensures queue { (m : Monitor) (h : List Event) → IsLegal m h → untils_while_false m h ≡ untils h }
     ensures each { (m : Monitor) (h : List Event) → IsLegal m h → StaysWhereItHolds m h }
 {}
 
-/// Hoare's rule: under a blocking kind, and under immediate return where waiters go before callers, whoever a signal
-/// serves goes on next, and over the data of the signal. So what held at the signal holds when it goes on, and an `if`
-/// suffices. Of the ten kinds these are PB, NPB and PIR.
+/// Hoare's rule: the seat that a signal serves goes on next, and finds the data of the signal. What held at the
+/// signal still holds, so an `if` suffices. It holds under a blocking kind, and under immediate return if waiters go
+/// before callers. Of the ten kinds these are PB, NPB and PIR.
 pub fn hoares_rule()
     ensures rule { (m : Monitor) (h : List Event) → IsKind m.kind → IsTrue (hands_over m.kind) → IsLegal m h
         → HoaresRule m h }
     ensures kinds { (k : KindName) → hands_over (rules_named k) ≡ has_hoares_rule k }
 {}
 
-/// Under each kind that puts waiters before callers, nobody enters behind a signal before whoever
-/// it served has gone on. So only seats that were inside already can have changed the data. Of the
-/// ten kinds these are the P kinds and NPB.
+/// If a kind puts waiters before callers, nobody enters between a signal and the moment when the seat that it served
+/// goes on. So only seats that were inside already can have changed the data. Of the ten kinds these are the P kinds
+/// and NPB.
 pub fn nobody_comes_between()
     ensures rule { (m : Monitor) (h : List Event) → m.kind.entry < m.kind.waiter → IsLegal m h → NobodyComesBetween h }
     ensures kinds { (k : KindName) → nat_lt (rules_named k).entry (rules_named k).waiter ≡ puts_callers_last k }
 {}
 
-/// Whoever goes on from a wait-until awaits a predicate that holds of the data.
+/// When a seat goes on from a wait-until, its predicate holds for the data.
 pub fn the_predicate_holds()
     ensures { (m : Monitor) (h : List Event) → IsLegal m h → ThePredicateHolds m h }
 {}
 
-/// The acts of a legal history are a run of its object from the opening state: each reply is the object's, and the data
-/// are the state that they lead to.
+/// The acts of a legal history are a run of its object from the opening state. Each reply is the object's, and the
+/// data are the state that the acts lead to.
 pub fn acts_are_a_run()
     ensures { (m : Monitor) (h : List Event) → IsLegal m h → IsRunOf m h }
 {}
 
-/// In a legal history over a buffer the items that were put are those taken, in order, and then those that are there.
+/// In a legal history over a buffer the items put are those that were taken, in order, followed by those inside.
 pub fn legal_buffer_is_in_order()
     ensures { (rules : Rules) (seats conds size : ℕ) (h : List Event) → let m =
         monitor rules seats conds (meaning_named Buffer) (opening_named Buffer size) in IsLegal m h
         → IsInOrder size (data_of m h) (acts_in h) }
 {}
 
-/// In a legal history over a book a writer is never beside another or a reader, and no more read than its size.
+/// In a legal history over a book a writer is inside alone, and at most as many read at once as its size says.
 pub fn legal_book_excludes()
     ensures { (rules : Rules) (seats conds size : ℕ) (h : List Event) → let m =
         monitor rules seats conds (meaning_named Book) (opening_named Book size) in IsLegal m h
         → ExcludesEachOther size (data_of m h) (acts_in h) }
 {}
 
-/// In a legal history over a shop no customer is lost: who sat was called or sits, who was called
-/// was served or is being served, who was served departed or is about to.
+/// In a legal history over a shop no customer is lost. Each that sat was called or still sits. Each that was called was
+/// served or is being served. Each that was served departed or is about to.
 pub fn legal_shop_loses_nobody()
     ensures { (rules : Rules) (seats conds size : ℕ) (h : List Event) → let m =
         monitor rules seats conds (meaning_named Shop) (opening_named Shop size) in IsLegal m h
         → ServesEachOne size (data_of m h) (acts_in h) }
 {}
 
-/// In a legal history over flags the bits are those of the last set that was done, and none before the first.
+/// In a legal history over flags the bits are those of the last set that was done, and none before the first set.
 pub fn legal_flags_hold_the_last_set()
     ensures { (rules : Rules) (seats conds size : ℕ) (h : List Event) → let m =
         monitor rules seats conds (meaning_named Flags) (opening_named Flags size) in IsLegal m h

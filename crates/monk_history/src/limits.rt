@@ -1,4 +1,4 @@
-//! The limits of a monitor and of a text, which the crates above keep too.
+//! The limits of a monitor and of a text. The crates that use this one keep them too.
 
 /// The most seats of a monitor.
 pub const MOST_SEATS: u8 = 32;
@@ -18,7 +18,7 @@ pub const LEAST_BUDGET: u32 = 2;
 /// The greatest number of events of one seat: 2^20.
 pub const MOST_BUDGET: u32 = 1 << 20;
 
-/// The most lines of a text behind its first: 2^25.
+/// The most lines of a text after its first: 2^25.
 pub const MOST_LINES: u32 = 1 << 25;
 
 /// The most events of a text.

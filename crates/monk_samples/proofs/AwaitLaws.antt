@@ -46,7 +46,7 @@ use Rattle.monk_history.proofs.PublicLaws.Meaning.{length-events_of-push, legal_
 abbrev seats_in : List (ℕ × ℕ) → List ℕ
 seats_in us = map (λ u. u.0) us
 
--- an event that is due to a seat is its own
+-- an event of the seat that the turn is due to is its own
 due_own : (s : ℕ) (q : From3) (e : Event) → fits_turn (Due s q) e ≡ true → seat_of e ≡ s
 due_own s q (Enter j via) h = absurd (false≢true h)
 due_own s q (Act j op r) h = absurd (false≢true h)
@@ -110,7 +110,7 @@ NoneIsOf s [] = Unit {0}
 NoneIsOf s (e ∷ es) = (seat_of e ≡ s → ⊥) × NoneIsOf s es
 
 module _ (s p : ℕ) where
-  -- whoever of these is the seat awaits the predicate
+  -- each of these waits that is of the seat awaits the predicate
   abbrev AwaitsOnly : List (ℕ × ℕ) → Type 0
   AwaitsOnly [] = Unit {0}
   AwaitsOnly (u ∷ us) = (u.0 ≡ s → u.1 ≡ p) × AwaitsOnly us
@@ -151,7 +151,7 @@ module _ (s p : ℕ) where
   joins_only e (Some r) true other = tt
   joins_only e (Some r) false other = ((λ same. absurd (other same)), tt)
 
-  -- the seat awaits that predicate, or is due from there; before the last event it awaited no other
+  -- the seat awaits that predicate, or is due from there. Before the last event it awaited no other
   record IsAwaiting (h : List Event) : Type 0 where
     pub before : List Event
     pub last : Event
@@ -189,7 +189,7 @@ module _ (s p : ℕ) where
           waits = inl (subst (λ us. 1 ≤ times s (seats_in us)) (sym are) some);
         }
 
-    -- an event of another seat more
+    -- one more event, of another seat
     awaits_still : (h : List Event) (e : Event) → IsLegal m (h ++ e ∷ []) → (seat_of e ≡ s → ⊥) → IsAwaiting h
         → IsAwaiting (h ++ e ∷ [])
     awaits_still h e l other st = record {
@@ -285,7 +285,7 @@ module _ (s p : ℕ) where
         subst (λ r. m.object.holds (data_of m (h ++ Resume s r ∷ [])) p ≡ true) (sym is)
         (awaited_holds h (law (h ++ Resume s FromUntil ∷ []) legal) legal st)
 
-    -- and where it stayed it held before
+    -- and if it stayed, that held before
     pub stayed_holds : (past : List Event) → ((h : List Event) → IsLegal m h → StaysWhereItHolds m h)
         → IsLegal m (past ++ Until s p Stay ∷ []) → m.object.holds (data_of m (past ++ Until s p Stay ∷ [])) p ≡ true
     stayed_holds past law l =

@@ -1,4 +1,4 @@
--- A worker may go to a thread of its own
+-- A worker may go to its own thread
 use denote.RattleType.{RattleType}
 use denote.Ref.{NamedLft}
 use denote.Param.Send.{IsSend, IsSync, AllSend, sendable, struct_send, recorded_send}

@@ -22,14 +22,14 @@ use Rattle.monk_samples.specs.Visits.{Plan, Guard, AreMisses, AreVisits, IsCerta
 use Rattle.monk_samples.specs.declared.end.End.TheVariants.{Done}
 use Rattle.monk_samples.proofs.VisitLaws.{acts_append, calls_acts, calls_out_acts, paused_acts}
 
--- what an operation of that code is worth where it got done, and where it is planned
+-- what an operation of that code is worth, after it was done and as it is planned
 abbrev pub worth : ℕ → (Op → ℕ) → Answered → ℕ
 worth code f a = cond (is_done code a) (f a.op) 0
 
 abbrev pub planned : ℕ → (Op → ℕ) → Plan → ℕ
 planned code f v = cond (v.op.code == code) (f v.op) 0
 
--- a plan of that code waits until it gets done
+-- a plan of that code waits until its operation isn't refused
 abbrev IsSureFor : Option Guard → Bool → Type 0
 IsSureFor None is = is ≡ false
 IsSureFor (Some w) is = Unit {0}
@@ -45,7 +45,7 @@ sure_then : (code : ℕ) (vs ws : List Plan) → AreSure code vs → AreSure cod
 sure_then code [] ws s t = t
 sure_then code (v ∷ vs) ws s t = (s.0, sure_then code vs ws s.1 t)
 
--- nobody calls for a coming, and it does no operation
+-- no call asks for a coming in, and it does no operation
 own_act : (before : List Event) (e : Event) (own : List Addition)
     → acts_in (events_in own) ≡ acts_in (events_in (calls_in own))
     → acts_in (events_in (record { before = before; event = e } ∷ own))
@@ -103,7 +103,7 @@ module _ (k : Rules) (o : Object) where
       ∙ (λ i. misses_worth code f c s v n are.first are.is_first i
       + (ap (sum_by (worth code f)) (miss_acts c s v are.rest are.is_rest) ∙ alone _ ∙ worth_nothing code f v.op) i)
 
-  -- a visit of that code, which is sure, has got it done
+  -- a visit of that code that is sure has done its operation
   worth_here : (code : ℕ) (f : Op → ℕ) (w : Option Guard) (op : Op) (reply : ℕ) → IsSureFor w (op.code == code)
       → IsCertain w reply
       → worth code f (record { op = op; reply = reply }) ≡ cond (op.code == code) (f op) 0
@@ -148,7 +148,7 @@ module _ (k : Rules) (o : Object) where
       ∙ ap (sum_by (worth code f)) (own_acts called.own ∙ ap (λ ds. acts_in (events_in ds)) called.called)
       ∙ visits_worth code f p.me.setting p.me.seat vs calls are sure
 
--- what the rounds of a seat are worth, each the same
+-- what the rounds of a seat are worth, if each is worth the same
 pub rounds_worth : (code : ℕ) (f : Op → ℕ) (round : ℕ → List Plan) (each n : ℕ)
     → ((r : ℕ) → sum_by (planned code f) (round r) ≡ each)
     → sum_by (planned code f) (rounds_to round n) ≡ n * each

@@ -55,7 +55,7 @@ module _ (k : Rules) (o : Object) (answers : ℕ → ℕ → Bool → Type 0) (s
     ended = s.ended;
   }
 
-  -- a fault stays, whoever comes behind
+  -- a fault stays, whoever comes after
   pub fault_then : (ps more : List Token) (fault : CrewFault) → Faulted ps fault → Faulted (ps ++ more) fault
   fault_then ps more crew.Memory s = s
   fault_then ps more crew.Thread s = s
@@ -101,7 +101,7 @@ module _ (k : Rules) (o : Object) (answers : ℕ → ℕ → Bool → Type 0) (s
       subst (λ n. HasDoneRounds k o (answers p.me.seat) (round_of scenario k p.me.setting seats p.me.seat) n p p)
       (sym none) (no_round k o answers (λ (c : Setting) (s r : ℕ). round_of scenario k c seats s r) p)
 
-  -- those who worked, and behind them one who may have been idle
+  -- those who worked, and after them one who may have been idle
   pub all_served : (h : House) (ps working back all : List Token) (idle : Option Token)
       → ps ≡ working ++ option_to_list idle
       → all ≡ back ++ option_to_list idle → Served h working back → IfSome idle (IsReady k h)
@@ -113,7 +113,7 @@ module _ (k : Rules) (o : Object) (answers : ℕ → ℕ → Bool → Type 0) (s
       subst (λ xs. Served h xs all) (sym are) (subst (Served h (working ++ p ∷ [])) (sym gives)
       (served_then h working back (p ∷ []) (p ∷ []) s ((of.0, idle_served p none), tt)))
 
--- what is so of an error is so of the result
+-- what holds for an error holds for the result
 pub if_err : {A E : Type 0} (r : Result A E) (P Q : E → Type 0) → IsErr r × IsErrAnd r P
     → ((e : E) → P e → Q e) → IfErr r Q
 if_err (Ok a) P Q s f = tt

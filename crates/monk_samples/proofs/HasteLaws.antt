@@ -1,4 +1,4 @@
--- What a hasty visit comes to, try by try
+-- What becomes of a hasty visit, try by try
 use Rattle.std.specs.Prelude.{IfOk, MatchResult}
 use Rattle.std.proofs.Common.{◌≡◌, ◌<◌, ℕ, suc, Bool, true, false, Result, Ok, Err, arith, Option, Some, [], ◌∷◌, ◌++◌, append_assoc}
 use Rattle.std.proofs.Common.{refl, sym, ap, subst, ◌∙◌}
@@ -14,13 +14,13 @@ use Rattle.monk_samples.specs.Visits.{Guard, Plan, HasActed, HasLooked, HasMisse
 use Rattle.monk_samples.specs.Visits.{hasty_guard, wish_in}
 use Rattle.monk_samples.proofs.TrailLaws.{called_then}
 
--- what an operation tells where the seat acted
+-- what follows from an operation if the seat acted
 pub acted_ok : {A E : Type 0} (r : Result A E) (P R : A → Type 0) (Q : E → Type 0) → ((a : A) → P a → R a)
     → MatchResult r P Q → IfOk r R
 acted_ok (Ok a) P R Q f h = f a h
 acted_ok (Err e) P R Q f h = tt
 
--- an operation is refused under a kind with conditions alone
+-- only under a kind with conditions an operation is refused
 pub signalled : (k : Rules) (reply : ℕ) → reply ≡ 0 → (has_conditions k.mode ≡ false → 0 < reply)
     → has_conditions k.mode ≡ true
 signalled k reply none done = by (has_conditions k.mode) refl
@@ -30,7 +30,7 @@ signalled k reply none done = by (has_conditions k.mode) refl
     by false is = absurd (omega (arith, none, done is))
 
 module _ (k : Rules) (o : Object) where
-  -- what follows once the seat has come in
+  -- what follows after the seat has come in
   pub paused_since : (x : Trail) (w : Option Guard) (a b : Holder) → HasCalled x (inside a) []
       → HasPausedUntil k o (inside a) w b
       → HasPausedUntil k o x w b

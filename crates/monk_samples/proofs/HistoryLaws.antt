@@ -45,7 +45,7 @@ module _ (k : Rules) (answers : ℕ → ℕ → Bool → Type 0) (seats rounds :
   refuses_by Book m is e = absurd (cc)
   refuses_by Shop m is e = absurd (cc)
 
-  -- of any scenario
+  -- for any scenario
   pub left_history : (scenario : Scenario) → Closed scenario → HasEnded scenario.sample h
       → HasLeftHistory k answers scenario seats rounds h
   left_history scenario is ended = record {

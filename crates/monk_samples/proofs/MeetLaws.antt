@@ -1,4 +1,4 @@
--- What stays of passes that meet, and what the history holds that their seats closed
+-- What stays the same for passes that meet, and what the history holds that their seats closed
 use Rattle.std.proofs.Common.{◌≡◌, ◌≢◌, ℕ, zero, suc, ◌+◌, ◌≤◌, Bool, true, List, [], ◌∷◌, ◌++◌, length, refl, sym, ap, subst, ◌∙◌, arith}
 use Rattle.std.proofs.Common.{append_assoc}
 use Rattle.std.specs.Prelude.{All, AllPairs, sum_by}
@@ -51,7 +51,7 @@ pub same_pushed : (ps qs rs : List Token) (p q : Token) → AreSame ps qs → Is
     → AreSame (ps ++ p ∷ []) rs
 same_pushed ps qs rs p q s t pushed = subst (AreSame (ps ++ p ∷ [])) (sym pushed) (same_then ps qs p q s t)
 
--- whoever has seen more still begins so
+-- a seat that has seen more still begins so
 pub still_begins : (new old : Token) (qs : List Token) → StartsWith new.me.seen old.me.seen
     → All (λ p. StartsWith old.me.seen p.me.seen) qs
     → All (λ p. StartsWith new.me.seen p.me.seen) qs
@@ -88,7 +88,7 @@ still_differ (p ∷ ps) (q ∷ qs) s apart =
 pub apart_from : (q : Token) (qs : List Token) → AllDiffer (q ∷ qs) → AreApart q.me.seat qs
 apart_from q qs apart = (first_differs q qs apart, others_differ q qs apart)
 
--- what a seat knows as its own is worth the same
+-- what seats know as their own is worth the same
 pub same_worth : (w : Event → ℕ) (ps qs : List Token) → AreSame ps qs
     → sum_by (λ q. sum_by w q.me.mine) qs ≡ sum_by (λ p. sum_by w p.me.mine) ps
 same_worth w [] [] s = refl
@@ -106,7 +106,7 @@ own_worth weight (p ∷ ps) =
     ∙ (λ i. sym (acts_worth weight p.me.mine) i + own_worth weight ps i)
     ∙ sym (sum_by-cons (λ p. sum_by weight (acts_in p.me.mine)) p ps)
 
--- a history that holds only the calls of these seats, where the first has done no operation since
+-- a history that holds only the calls of these seats, if the first has done no operation since
 pub holds_operations : (h : List Event) (ps : List Token) (q : Token) (qs : List Token) (extra : List Event)
     → AreSame ps (q ∷ qs) → AllDiffer ps
     → events_of h q.me.seat ≡ q.me.mine ++ extra → ((weight : Answered → ℕ) → sum_by (of_event weight) extra ≡ 0)
@@ -147,7 +147,7 @@ seats_differ k o answers scenario seats rounds h z c (suc n) i (q ∷ qs) s =
     absurd (omega (arith, later, e, s.0.1.called.went.seat)))
     (seats_differ k o answers scenario seats rounds h z c n (suc i) qs s.1)
 
--- of two passes that have met
+-- two passes that have met
 met_as : (p : Token) (seen : List Event) (did : List Deed)
     → IsSame p (record p { me = record p.me { seen = seen; did = did } })
 met_as p seen did = record { hall = refl; seat = refl; setting = refl; mine = refl }
@@ -220,7 +220,7 @@ only_here h g s seat qs rs holds same here those =
     subst (λ xs. HoldsOnly xs seat qs) same
     (subst (λ x. HoldsOnly g x qs) here (subst (HoldsOnly g s) those holds))
 
--- whoever closes comes in first
+-- a seat that closes comes in first
 pub came_comes : (s : ℕ) (x : Source) (t : Turn) → is_coming (out_event s x t) ≡ true
 came_comes s (Free n) t = refl
 came_comes s (Granted n) t = refl

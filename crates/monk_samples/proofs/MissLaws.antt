@@ -1,4 +1,4 @@
--- Where no try misses, no act of a buffer is refused
+-- If no try misses, no act of a buffer is refused
 use Rattle.std.proofs.Common.{◌≡◌, ℕ, zero, suc, ◌+◌, ◌<◌, ◌/◌, ◌==◌, Bool, true, false, cond, nat_lt, Option, Some, None, List, [], ◌∷◌, ◌++◌}
 use Rattle.std.proofs.Common.{refl, sym, ap, ◌∙◌, arith}
 use Rattle.std.specs.List.{sum_by}
@@ -128,7 +128,7 @@ module _ (k : Rules) (o : Object) where
       ∙ ap (sum_by refused) (own_acts called.own ∙ ap (λ ds. acts_in (events_in ds)) called.called)
       ∙ visits_refused p.me.setting p.me.seat vs calls are careful
 
--- a run over a buffer misses nothing, where its visits don't
+-- a run over a buffer misses nothing if its visits don't
 pub buffer_misses : (k : Rules) (answers : ℕ → ℕ → Bool → Type 0) (seats rounds : ℕ) (z : TableId) (c : Setting)
     (house : House) (h : List Event) (qs : List Token) → HoldsOperationsOf h qs → (m : Manner)
     → HaveServed k buffer_meaning answers (scenario_of Buffer m) seats rounds house
@@ -146,7 +146,7 @@ buffer_misses k answers seats rounds z c house h qs holds m served never =
     (λ r. careful_either k buffer_meaning (nat_lt p.me.seat (seats / 2)) m r never)) none) seats 0 qs served
     ∙ over_none seats 0
 
--- whatever the manner
+-- this holds whatever the manner
 pub misses_by : (k : Rules) (m : Manner) (missed : ℕ) → (NeverMisses k buffer_meaning m → missed ≡ 0)
     → MissesNothing k m missed
 misses_by k Patient missed none = none tt

@@ -32,7 +32,7 @@ use Rattle.monk_samples.proofs.ShareLaws.{once, item, puts_of, takes_of, items_o
 use Rattle.monk_samples.proofs.ShareLaws.{calls_of, sits_of, departs_of}
 use Rattle.monk_samples.proofs.WholeLaws.{shares}
 
--- the items put weigh what the puts that got done weigh by their items
+-- the sum of the items put is the sum over the puts that were done, each with its item
 put_sum : (acts : List Answered) → sum (items_put acts) ≡ sum_by (worth PUT item) acts
 put_sum [] = refl
 put_sum (a ∷ acts) = by (put_sum acts) (is_done PUT a) ∙ sym (sum_by-cons (worth PUT item) a acts)
@@ -43,7 +43,7 @@ put_sum (a ∷ acts) = by (put_sum acts) (is_done PUT a) ∙ sym (sum_by-cons (w
     by same true = sum_by-cons (λ x. x) a.op.arg (items_put acts) ∙ ap (λ n. a.op.arg + n) same
     by same false = same ∙ omega arith
 
--- as many as got done
+-- the number of those that were done
 counted : {X Y : Type 0} (p : X → Bool) (f : X → Y) (xs : List X) → length (map f (filter p xs)) ≡ count_by p xs
 counted p f [] = refl
 counted p f (x ∷ xs) = by (counted p f xs) (p x) ∙ sym (sum_by-cons (λ y. cond (p y) 1 0) x xs)
@@ -61,7 +61,7 @@ none_over xs ys (z ∷ zs) e same = absurd (longer ys (sym same ∙ ap length e)
     longer [] h = omega (arith, h)
     longer (w ∷ ws) h = longer ws (omega (arith, h))
 
--- as many puts as takes: what was taken is what was put
+-- if there are as many puts as takes, what was taken is what was put
 pub taken_all : (size : ℕ) (state : List ℕ) (acts : List Answered) → IsInOrder size state acts
     → times_done PUT acts ≡ times_done TAKE acts → sum (items_taken acts) ≡ sum (items_put acts)
 taken_all size state acts law same =

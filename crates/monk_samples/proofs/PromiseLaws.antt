@@ -1,4 +1,4 @@
--- What an object promises that means what a sample's object does
+-- What an object promises that has the meaning of a sample's object
 use Rattle.std.proofs.Common.{◌≡◌, ℕ, ◌<◌, [], ◌∷◌, rules, sym, ap, subst, ◌∙◌}
 use Rattle.monk_object.specs.Book.{book_meaning, START_READ, START_WRITE}
 use Rattle.monk_object.specs.Book as book

@@ -16,7 +16,7 @@ use Rattle.monk_samples.specs.declared.end.End.{End}
 use Rattle.monk_samples.specs.declared.end.End.TheVariants.{Done, Tired, Late}
 use Rattle.monk_samples.proofs.TrailLaws.{called_none, called_then}
 
--- a seat stays of its hall
+-- a seat stays one of its hall
 pub still_of : (h : House) (p q : Token) (calls : List Addition) → HasCalled (outside p) (outside q) calls
     → IsOf h p → IsOf h q
 still_of h p q calls s of = (s.went.hall ∙ of.0, s.went.setting ∙ of.1)
@@ -33,7 +33,7 @@ module _ {X : Type 0} (n seat half : ℕ) (is : n ≡ seat) (a b : X) where
       sym (ap (λ t. if t then a else b) e)
 
 module _ (k : Rules) (o : Object) where
-  -- visits, and then others
+  -- some visits, and then others
   visits_then : (c : Setting) (s : ℕ) (vs ws : List Plan) (xs ys : List Addition) → AreVisits k o c s Done vs xs
       → AreVisits k o c s Done ws ys → AreVisits k o c s Done (vs ++ ws) (xs ++ ys)
   visits_then c s [] ws xs ys h t = subst (λ ds. AreVisits k o c s Done ws (ds ++ ys)) (sym h) t
@@ -81,12 +81,12 @@ module _ (k : Rules) (o : Object) where
       let_in = let_in_then p.me.seat n s.let_in now;
     }
 
-    -- what the gate answered, of the seat that asked
+    -- what the gate answered, for the seat that asked
     answered : (s r : ℕ) (b answer : Bool) (p : Token) → s ≡ p.me.seat → answers s r b → b ≡ answer
         → answers p.me.seat r answer
     answered s r b answer p is given e = subst (λ x. answers p.me.seat r x) e (subst (λ x. answers x r b) is given)
 
-    -- the plan of the seat that it still is
+    -- the plan of the seat, which is still the same
     planned : (n : ℕ) (p m q : Token) (end : End) → Did n p m
         → HasVisited k o m (plan m.me.setting m.me.seat (n + 1)) q end
         → HasVisited k o m (plan p.me.setting p.me.seat (n + 1)) q end
@@ -103,7 +103,7 @@ module _ (k : Rules) (o : Object) where
         (subst (λ x. HasVisited k o m (plan p.me.setting p.me.seat x) q Done) next
         (subst (λ x. HasVisited k o m (plan p.me.setting p.me.seat (n + 1)) q x) ends (planned n p m q end did t))))
 
-    -- or not
+    -- or it was not
     pub round_short : (n s all rounds : ℕ) (b : Bool) (p m q : Token) (end : End) → s ≡ p.me.seat
         → all ≡ rounds → n < all → Did n p m
         → answers s (n + 1) b → b ≡ true → HasVisited k o m (plan m.me.setting m.me.seat (n + 1)) q end

@@ -1,4 +1,4 @@
--- What a run rests on: lists of workers and threads, a hall's passes, and the header of a closed hall
+-- What a run builds on: lists of workers and threads, a hall's passes, and the header of a closed hall
 use Rattle.std.proofs.Common.{◌≡◌, ℕ, zero, suc, ◌+◌, ◌*◌, ◌^◌, ◌≤◌, true, cond, All, Result, Ok, Err}
 use Rattle.std.specs.Prelude.{IsTrue}
 use Rattle.std.proofs.Common.{IfErr, IfOk, List, [], ◌∷◌, ◌++◌, map, length, refl, sym, ap, subst}
@@ -51,7 +51,7 @@ same_all xs ys P e h = All-same P xs ys e h
 pub none_yet : {X : Type 0} (xs : List X) (P : X → Type 0) → xs ≡ [] → All P xs
 none_yet xs P e = All-same P xs [] e (All-nil P)
 
--- what was at the front of the one list has gone to the back of the other
+-- what was at the front of one list has gone to the back of the other
 pub mapped_more : {X Y : Type 0} (xs ys : List X) (x : X) (f : X → Y) → ys ≡ xs ++ x ∷ [] → (rest all : List Y)
     → all ≡ f x ∷ rest
     → map f ys ++ rest ≡ map f xs ++ all
@@ -110,7 +110,7 @@ law_by k seats h Buffer size legal = in_order k seats (conds_of k) size h legal
 law_by k seats h Book size legal = excludes k seats (conds_of k) size h legal
 law_by k seats h Shop size legal = serves_each k seats (conds_of k) size h legal
 
--- the law of the sample's object holds of a legal history
+-- the law of the sample's object holds for a legal history
 pub law_of : (k : Rules) (scenario : Scenario) (seats : ℕ) (h : List Event) → IsLegal (run_monitor k scenario seats) h
     → KeepsLaw scenario.sample (size_in scenario.manner) (data_of (run_monitor k scenario seats) h) h
 law_of k scenario seats h legal = law_by k seats h scenario.sample (size_in scenario.manner) legal
@@ -132,7 +132,7 @@ outcome_of k name scenario seats rounds h history totals near short named of hea
       totals_are = same;
     }
 
--- the law of a run's history, where it is lent
+-- the law of a run's history, for a borrowed history
 pub law_here : (k : Rules) (scenario : Scenario) (seats rounds : ℕ) (h lent : List Event) → lent ≡ h
     → IsHistoryOf k scenario seats rounds h
     → (size : ℕ) × (state : List ℕ) × KeepsLaw scenario.sample size state lent

@@ -6,7 +6,7 @@ use Rattle.monk_samples.specs.Rounds.{rounds_of}
 use Rattle.monk_samples.specs.declared.sample.Sample.TheVariants.{Buffer, Shop}
 use Rattle.monk_samples.proofs.DoneLaws.{sum_to}
 
--- over n seats from seat i on
+-- the sum over n seats from seat i on
 abbrev pub over : (ℕ → ℕ) → ℕ → ℕ → ℕ
 over f zero i = 0
 over f (suc n) i = f i + over f n (suc i)
@@ -41,7 +41,7 @@ above s m h = by (nat_lt s m) refl
     by false e = e
     by true e = absurd (omega (arith, h, ltb-true s m e))
 
--- over a first half, as many more, and what is left
+-- the sum over a first part, over as many more, and over the rest
 module _ (f : ℕ → ℕ) (m rest x y : ℕ) (first : (s : ℕ) → s < m → f s ≡ x)
     (second : (s : ℕ) → m ≤ s → s < m + m → f s ≡ y)
     (last : (s : ℕ) → m + m ≤ s → f s ≡ 0) where
@@ -88,7 +88,7 @@ module _ (seats rounds : ℕ) where
       (λ s far. (λ i. rests s far i * cond (above s half (omega (arith, far)) i) 0 1) ∙ omega arith)
       ∙ omega arith
 
-  -- each of the first half has the numbers to its rounds
+  -- each of the first half has the numbers up to its rounds
   pub first_items : over (λ s. cond (nat_lt s half) (sum_to (rounds_of Buffer seats rounds s)) 0) seats 0
       ≡ half * sum_to rounds
   first_items =
@@ -100,7 +100,7 @@ module _ (seats rounds : ℕ) where
       (λ s far. ap (λ b. cond b (sum_to (rounds_of Buffer seats rounds s)) 0) (above s half (omega (arith, far))))
       ∙ omega arith
 
--- a shop: the barber, and everybody else
+-- a shop: the barber, and every other seat
 module _ (seats rounds : ℕ) (some : 1 ≤ seats) where
   others_are : (s : ℕ) → 1 ≤ s → nat_eq s 0 ≡ false
   others_are s h = by (nat_eq s 0) refl

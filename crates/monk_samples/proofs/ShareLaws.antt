@@ -21,7 +21,7 @@ use Rattle.monk_samples.specs.declared.sample.Sample.TheVariants.{Buffer, Book, 
 use Rattle.monk_samples.specs.declared.manner.Manner.{Manner}
 use Rattle.monk_samples.proofs.DoneLaws.{worth, planned, AreSure, calls_worth, rounds_worth, numbers_worth, sum_to, sure_rounds}
 
--- each operation counts once; an item counts what it is
+-- each operation counts once, and an item counts as its number
 abbrev pub once : Op → ℕ
 once op = 1
 
@@ -41,7 +41,7 @@ served_worth k o answers scenario seats rounds p q code f s none sure =
     (sure_rounds code (round_of scenario k p.me.setting seats p.me.seat)
     (rounds_of scenario.sample seats rounds p.me.seat) sure) none
 
--- a round of a seat is worth each time the same, by which of two it has
+-- each round of a seat is worth the same, by which of two it has
 module _ (code : ℕ) (f : Op → ℕ) where
   either_round : (b : Bool) (mine others : List Plan) (x y : ℕ) → sum_by (planned code f) mine ≡ x
       → sum_by (planned code f) others ≡ y
@@ -54,7 +54,7 @@ module _ (code : ℕ) (f : Op → ℕ) where
   either_sure true mine others s t = s
   either_sure false mine others s t = t
 
--- rounds of the one kind or of the other, of a seat that has served to its end
+-- rounds of one kind or of the other, for a seat that has served to its end
 module _ (k : Rules) (o : Object) (answers : ℕ → ℕ → Bool → Type 0) (scenario : Scenario) (seats rounds : ℕ)
     (p q : Token) (s : HasServed k o answers scenario seats rounds p q Done) (none : p.me.mine ≡ []) where
   share_of : (code : ℕ) (f : Op → ℕ) (b : Bool) (mine others : ℕ → List Plan) (x y : ℕ)
@@ -69,7 +69,7 @@ module _ (k : Rules) (o : Object) (answers : ℕ → ℕ → Bool → Type 0) (s
       (rounds_of scenario.sample seats rounds p.me.seat)
       (λ r. ap (sum_by (planned code f)) (are r) ∙ either_round code f b (mine r) (others r) x y (here r) (there r))
 
--- of a buffer
+-- for a buffer
 module _ (k : Rules) (o : Object) (answers : ℕ → ℕ → Bool → Type 0) (m : Manner) (seats rounds : ℕ) (p q : Token)
     (s : HasServed k o answers (scenario_of Buffer m) seats rounds p q Done) (none : p.me.mine ≡ []) where
   abbrev first : Bool
@@ -102,7 +102,7 @@ module _ (k : Rules) (o : Object) (answers : ℕ → ℕ → Bool → Type 0) (m
       (λ r. either_sure PUT item first (puts_by m r ∷ []) (takes_by m ∷ []) (tt, tt) (tt, tt))
       ∙ items_in first (rounds_of Buffer seats rounds p.me.seat)
 
--- of a book
+-- for a book
 module _ (k : Rules) (o : Object) (answers : ℕ → ℕ → Bool → Type 0) (m : Manner) (seats rounds : ℕ) (p q : Token)
     (s : HasServed k o answers (scenario_of Book m) seats rounds p q Done) (none : p.me.mine ≡ []) where
   abbrev reads : ℕ → List Plan
@@ -125,7 +125,7 @@ module _ (k : Rules) (o : Object) (answers : ℕ → ℕ → Bool → Type 0) (m
       (nat_lt p.me.seat (seats / 2)) reads writes 0 1 (λ r. refl) (λ r. (tt, (refl, tt))) (λ r. (tt, (refl, tt)))
       (λ r. refl) (λ r. refl)
 
--- of a shop
+-- for a shop
 module _ (k : Rules) (o : Object) (answers : ℕ → ℕ → Bool → Type 0) (m : Manner) (seats rounds : ℕ) (p q : Token)
     (s : HasServed k o answers (scenario_of Shop m) seats rounds p q Done) (none : p.me.mine ≡ []) where
   abbrev turns : ℕ → List Plan

@@ -1,4 +1,4 @@
--- What a seat needs left for its next call
+-- How many events a seat must have left for its next call
 use Rattle.std.proofs.Common.{◌≡◌, ℕ, ◌<◌, ◌≤◌, Bool, true, false, cond, Option, Some, None, List, ap, sym, subst, ◌∙◌, arith}
 use Rattle.monk_kinds.specs.declared.mode.Rules.{Rules}
 use Rattle.monk_object.specs.Object.{Object}
@@ -15,7 +15,7 @@ pub less_than : (a b c : ℕ) → a < b → b ≤ c → a < c
 less_than a b c l m = omega arith
 
 module _ (k : Rules) (o : Object) where
-  -- what is short for one seat is short for the same
+  -- too few for one seat is too few for the same seat
   pub short_yet : (w : Option Guard) (c d : Setting) (s t : ℕ) (h g : List Event) → c ≡ d → s ≡ t → h ≡ g
       → IsShort c s h (needed_yet k o c w h) → IsShort d t g (needed_yet k o d w g)
   short_yet w c d s t h g same_setting same_seat same short =
@@ -32,7 +32,7 @@ module _ (k : Rules) (o : Object) where
       (subst (λ (x : List Event). IsShort c s x (needed_first (calls_out k s (ways now)))) same
       (subst (λ (x : List Event). IsShort c s h (needed_first (calls_out k s (ways x)))) here short)))
 
-  -- whoever has yet to act needs two events at least, and three while the predicate is false
+  -- a seat that has yet to act needs at least two events, and three while the predicate is false
   pub needs_two : (c : Setting) (w : Option Guard) (h : List Event) → 2 ≤ needed_yet k o c w h
   needs_two c None h = omega arith
   needs_two c (Some w) h = by (o.holds (data_after k o c h) w.pred)

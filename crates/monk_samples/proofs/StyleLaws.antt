@@ -1,4 +1,4 @@
--- What the calls of each style come to
+-- What becomes of the calls of each style
 use Rattle.std.proofs.Common.{◌≡◌, ℕ, ◌+◌, ◌-◌, ◌<◌, ◌≤◌, cond, [], ◌∷◌, ◌++◌, length, length-append, eq-eqb, refl, sym, ap, subst}
 use Rattle.std.proofs.Common.{◌∙◌, arith}
 use Rattle.monk_kinds.specs.declared.mode.Pick.{Pick}
@@ -35,11 +35,11 @@ out_at_once k s c e = rw e refl
 one_less : (n m : ℕ) → n + 1 ≡ m + 1 → n ≡ m
 one_less n m e = omega (arith, e)
 
--- the events left by the history are those by what the seat knows as its own
+-- the events left by the history are those left by what the seat knows as its own
 short_left : (budget n m needed : ℕ) → n ≡ m → budget < m + needed → 1 ≤ needed → budget - n < needed
 short_left budget n m needed same short some = omega (arith, same, short, some)
 
--- with three events left at most, and one made, one is left at most
+-- with at most three events left and one more made, at most one is left
 spent_by : (budget rest n m needed : ℕ) → rest ≡ budget → m ≡ n + 1 → budget < n + needed → needed ≤ 3 → rest ≤ m + 1
 spent_by budget rest n m needed same more short few = omega (arith, same, more, short, few)
 
@@ -85,7 +85,7 @@ module _ (k : Rules) (o : Object) where
       → HasGoneBy k o w a (Leave a.me.seat Stay ∷ []) p
   left w a to peeks p r = gone w a (Leave a.me.seat Stay) to peeks p (λ x. (refl, refl, refl)) r
 
-  -- a seat that leaves finds all that it has made in its floor's history
+  -- a seat that leaves finds all events that it has made in its floor's history
   own_counted : (a : Holder) (to : Home) (peeks : ℕ) (p : Token)
       → HasReleased k o a (Leave a.me.seat Stay) Waiter to peeks p
       → length (events_of a.floor.history a.me.seat) ≡ length a.me.mine
@@ -99,7 +99,7 @@ module _ (k : Rules) (o : Object) where
       one_less (length (events_of a.floor.history s)) (length a.me.mine)
       (sym here ∙ all ∙ length-append a.me.mine (e ∷ []))
 
-  -- a seat that left with too few events left, of which it needs one at least and three at most
+  -- a seat that left with fewer events than it needs, which are at least one and at most three
   pub given_up : (a : Holder) (to : Home) (peeks : ℕ) (p : Token) (needed : ℕ)
       → HasReleased k o a (Leave a.me.seat Stay) Waiter to peeks p → a.me.setting.budget < length a.me.mine + needed
       → 1 ≤ needed → needed ≤ 3 → HasGivenUp k o needed a p

@@ -1,4 +1,4 @@
--- One event more in the totals
+-- The totals, with one more event
 use Rattle.std.proofs.Common.{◌≡◌, ℕ, ◌+◌, ◌-◌, ◌≤◌, ◌<◌, ◌==◌, cond, List, [], ◌∷◌, ◌++◌, length, map, take, drop, subst}
 use Rattle.std.proofs.Common.{append-nil, slice_index_or, ap, ◌∙◌, arith}
 use Rattle.std.specs.Prelude.{filter, sum}
@@ -47,7 +47,7 @@ sum_taken_more h e =
     ∙ ap sum (items_taken_append (acts_in h) (act_of e))
     ∙ sum_by-append (λ n. n) (items_taken (acts_in h)) (items_taken (act_of e))
 
--- what is taken of all is no more than of the whole
+-- what was taken in a part is no more than in the whole
 pub taken_within : (h more : List Event) → sum_taken h ≤ sum_taken (h ++ more)
 taken_within h more =
     let e = ap (λ (xs : List Answered). sum (items_taken xs)) (flat_map-append act_of h more)
@@ -55,7 +55,7 @@ taken_within h more =
     ∙ sum_by-append (λ n. n) (items_taken (acts_in h)) (items_taken (acts_in more)) in
     omega (arith, e)
 
--- the totals of the events up to a place, and one more
+-- the totals of the events up to a place, and with one more
 pub done_next : (code n count more : ℕ) (h : List Event) (d : Event) → n < length h → count ≡ count_done code (take n h)
     → times_done code (act_of (slice_index_or h n d)) ≡ more → count + more ≡ count_done code (take (n + 1) h)
 done_next code n count more h d l e m =

@@ -1,4 +1,4 @@
--- How the steps of a seat make a longer way
+-- How the steps of a seat add up to a longer trail
 use Rattle.std.proofs.Common.{◌≡◌, ℕ, Bool, false, Some, List, [], ◌∷◌, ◌++◌, append-nil, append_assoc, refl, sym, ap, subst, ◌∙◌}
 use Rattle.std.proofs.lemmas.Bool.{eqb-true}
 use Rattle.std.proofs.lemmas.Grind.{flat_map-append}
@@ -72,7 +72,7 @@ called_then x y z cs ds s t = record {
   called = flat_map-append call_in s.own t.own ∙ (λ i. s.called i ++ t.called i);
 }
 
--- one event more, of the active seat
+-- one more event, of the active seat
 one_added : (h : List Event) (e : Event) (to : List Event) → to ≡ h ++ e ∷ []
     → AreBetween h to (record { before = h; event = e } ∷ [])
 one_added h e to is = (starts_here h, ([], is ∙ sym (append-nil (h ++ e ∷ []))))
@@ -83,7 +83,7 @@ out_calls h i (Free t) u = refl
 out_calls h i (Granted t) u = refl
 out_calls h i Called u = refl
 
--- a call that releases is no coming, asks for itself, and chooses what it is written with
+-- a call that releases is no coming in, asks for itself, and chooses what it is written with
 abbrev pub Releases : Event → Type 0
 Releases call = (x : Next) → (is_coming (with_next x call) ≡ false) × (with_next Stay (with_next x call) ≡ call)
     × (next_of (with_next x call) ≡ Some x)
@@ -92,7 +92,7 @@ no_coming : (d : Addition) → is_coming d.event ≡ false → calls_in (d ∷ [
 no_coming d e = rw e refl
 
 module _ (k : Rules) (o : Object) where
-  -- to come in is no call
+  -- coming in is no call
   pub came : (p : Token) (a : Holder) → HasEntered k o p a → HasCalled (outside p) (inside a) []
   came p a e = let event = out_event p.me.seat (source_from p.me.place) (turn a.me.seen) in
       let own : List Addition = record { before = a.me.seen; event = event } ∷ [] in record {
@@ -108,7 +108,7 @@ module _ (k : Rules) (o : Object) where
         called = out_calls a.me.seen p.me.seat (source_from p.me.place) (turn a.me.seen);
       }
 
-  -- nor is to arrive first
+  -- nor is arriving before it
   pub arrived : (p q : Token) (a : Holder) → HasArrived k o p q → HasEntered k o q a
       → HasCalled (outside p) (inside a) []
   arrived p q a h e = subst (λ (x : Trail). HasCalled x (inside a) []) same (came q a e)
@@ -122,7 +122,7 @@ module _ (k : Rules) (o : Object) where
         mine = (h.me i).mine;
       }
 
-  -- the choice that a release made, of the hall's setting
+  -- the choice that a release made, for the hall's setting
   wished : (w : Pick) (a : Holder) (call : Event) (x : Next) (known : Bool) → Releases call
       → a.floor ≡ floor_of a.me.setting a.floor.history
       → x ≡ choice_of k o (stands_of k o a.floor) call (is_entry_known w known) w

@@ -38,7 +38,7 @@ seats_back n (p ∷ ps) (q ∷ qs) s differ =
     All-cons (λ p. p.me.seat ≢ n) p ps (λ e. All-head (λ r. r.me.seat ≢ n) q qs differ (s.0.seat ∙ e))
     (seats_back n ps qs s.1 (All-tail (λ r. r.me.seat ≢ n) q qs differ))
 
--- a history is whole for passes that have met where it was for them before
+-- a history is whole for passes that have met if it was whole for them before
 still_whole : (sample : Sample) (h : List Event) (p q : Token) (ps qs : List Token) → AreSame (p ∷ ps) (q ∷ qs)
     → IsWhole sample h p.me.seat ps → IsWhole sample h q.me.seat qs
 still_whole sample h p q ps qs same whole = record {
@@ -50,7 +50,7 @@ still_whole sample h p q ps qs same whole = record {
   ended = whole.ended;
 }
 
--- a history that is lent
+-- a borrowed history
 pub whole_here : (sample : Sample) (h g : List Event) (s seat : ℕ) (qs rs : List Token) → g ≡ h → s ≡ seat → rs ≡ qs
     → IsWhole sample g s rs → IsWhole sample h seat qs
 whole_here sample h g s seat qs rs same here those whole =

@@ -1,4 +1,4 @@
--- What a visit of a member comes to
+-- What becomes of a member's visit
 use Rattle.std.proofs.Common.{◌≡◌, ℕ, Bool, true, false, cond, Option, Some, None, List, [], ◌∷◌, ◌++◌}
 use Rattle.std.proofs.Common.{append-nil, append_assoc}
 use Rattle.std.proofs.Common.{◌<◌, ◌≤◌, refl, sym, ap, subst, ◌∙◌, inl, inr, arith}
@@ -45,7 +45,7 @@ module _ (k : Rules) (o : Object) where
   pauses_then c s w [] ys h t = t
   pauses_then c s w (d ∷ xs) ys h t = (h.0, h.1, pauses_then c s w xs ys h.2 t)
 
-  -- a patient visit pauses as often as it has to
+  -- a patient visit pauses as often as it must
   abbrev pub IsPatient : Option Guard → Type 0
   IsPatient None = Unit {0}
   IsPatient (Some w) = w.manner ≡ Patient
@@ -73,7 +73,7 @@ module _ (k : Rules) (o : Object) where
   paused_for_none c s None = refl
   paused_for_none c s (Some w) = (tt, few_none w.manner)
 
-  -- a seat that is active has yet to pause
+  -- a seat that is active has not paused yet
   pub paused_none : (x : Trail) (w : Option Guard) (a : Holder) → HasCalled x (inside a) [] → HasPausedUntil k o x w a
   paused_none x w a called = record { pauses = []; called = called; paused = paused_for_none x.setting x.seat w }
 
@@ -85,7 +85,7 @@ module _ (k : Rules) (o : Object) where
     paused = paused_for_then x.setting x.seat w patient s.pauses t.pauses s.paused (rw (seat, setting) at t.paused);
   }
 
-  -- a pause, where the predicate was false
+  -- a pause, after the predicate was false
   pub paused_first : (w : Guard) (a b : Holder)
       → HasPaused k o (wish_of w.manner) a (pause_call k a.me.seat w.cond w.pred) b
       → o.holds (data_of (monitor_of k o a.floor) a.floor.history) w.pred ≡ false
@@ -123,7 +123,7 @@ module _ (k : Rules) (o : Object) where
     found = λ none. absurd (let e : t.pause ∷ [] ≡ [] = none in cc);
   }
 
-  -- one pause more, while the predicate was false
+  -- one more pause, while the predicate was false
   pub paused_once : (x : Trail) (w : Guard) → w.manner ≡ Patient → (a b : Holder) → HasPausedUntil k o x (Some w) a
       → HasPaused k o (wish_of w.manner) a (pause_call k a.me.seat w.cond w.pred) b
       → o.holds (data_of (monitor_of k o a.floor) a.floor.history) w.pred ≡ false → HasPausedUntil k o x (Some w) b
@@ -147,7 +147,7 @@ module _ (k : Rules) (o : Object) where
         ∙ ap (λ (h : Holder). floor_of a.me.setting h.floor.history) (sym done.is);
   }
 
-  -- a seat that paused, and left in place of what was next
+  -- a seat that paused, and left instead of its next call
   pub left_after : (x : Trail) (w : Option Guard) (a : Holder) (q : Token) → HasPausedUntil k o x w a → (needed : ℕ)
       → HasGivenUp k o needed a q → needed ≤ needed_yet k o a.me.setting w a.floor.history
       → HasTired k o x (IsLeftWaiting k o x.setting x.seat w) q
@@ -169,7 +169,7 @@ module _ (k : Rules) (o : Object) where
         told = t.told;
       }
 
-  -- a seat that paused, and was tired before it was done with pausing
+  -- a seat that paused, and was tired before it was done with its pauses
   pub tired_after : (x : Trail) (w : Option Guard) → IsPatient w → (a : Holder) (q : Token) → HasPausedUntil k o x w a
       → HasTired k o (inside a) (IsLeftWaiting k o a.me.setting a.me.seat w) q
       → HasTired k o x (IsLeftWaiting k o x.setting x.seat w) q
@@ -191,7 +191,7 @@ module _ (k : Rules) (o : Object) where
     told = t.told;
   }
 
-  -- what is left in place of an operation for which nothing more was to be waited
+  -- a seat that left instead of its operation, when it had nothing more to wait for
   pub tired_inside : (x : Trail) (w : Option Guard) (a : Holder) (q : Token) → HasPausedUntil k o x w a
       → HasTired k o (inside a) (IsLeftWaiting k o a.me.setting a.me.seat None) q
       → HasTired k o x (IsLeftWaiting k o x.setting x.seat w) q
@@ -212,7 +212,7 @@ module _ (k : Rules) (o : Object) where
     told = t.told;
   }
 
-  -- it came in and was tired then, or did not come in
+  -- a seat that came in and was tired then, or that did not come in
   pub unready : (x : Trail) (w : Option Guard) (q : Token) → HasTired k o x (IsLeftWaiting k o x.setting x.seat w) q
       → HasTired k o x (IsUnready k o x.setting x.seat w) q
   unready x w q t = record { calls = t.calls; called = t.called; are = inr t.are; spent = t.spent; told = t.told }
@@ -311,7 +311,7 @@ module _ (k : Rules) (o : Object) where
   acts_append xs ys = ap acts_in (map-append (λ (d : Addition). d.event) xs ys)
       ∙ flat_map-append act_of (events_in xs) (events_in ys)
 
-  -- of pauses, an operation, and a way out, the operation alone is one
+  -- of the pauses, the operation and the way out, only the operation is one
   one_act : (x : Trail) (w : Option Guard) (op : Op) (reply : ℕ) (a : Holder) (s : HasActed k o x w op reply a)
       → (u : Pick) (c : Setting) (es : List Event) (made : List Addition) → AreCalls k o u c es made → acts_in es ≡ []
       → acts_in (events_in ((s.pauses ++ s.act ∷ []) ++ made)) ≡ record { op = op; reply = reply } ∷ []
@@ -321,7 +321,7 @@ module _ (k : Rules) (o : Object) where
       acts_append s.pauses (s.act ∷ []) ∙ (λ i. paused i ++ acts_in (s.acts.is i ∷ [])) in
       acts_append (s.pauses ++ s.act ∷ []) made ∙ (λ i. here i ++ (calls_acts u c es made are ∙ none) i)
 
-  -- a way out by the one condition or the other
+  -- a way out by one condition or by the other
   pub finished_by : (b : Bool) (m n next : ℕ) (a : Holder) (q : Token) (end : End) → (b ≡ true → next ≡ m)
       → (b ≡ false → next ≡ n)
       → HasFinished k o Waiter a (way_out k a.me.seat next) q end
@@ -499,7 +499,7 @@ module _ (k : Rules) (o : Object) where
           ∙ (λ i. paused_acts p.me.setting p.me.seat v.guard l.pauses l.paused i
           ++ calls_acts Waiter p.me.setting (Leave p.me.seat Stay ∷ []) (l.leave ∷ []) (l.leaves, tt) i)
 
-  -- two visits, the first of which was done
+  -- two visits, of which the first was done
   pub visited_twice : (p q r : Token) (end : End) (v w : Plan) → HasVisited k o p (v ∷ []) q Done
       → HasVisited k o q (w ∷ []) r end → HasVisited k o p (v ∷ w ∷ []) r end
   visited_twice p q r Late v w s t = absurd t.are
@@ -530,7 +530,7 @@ module _ (k : Rules) (o : Object) where
     told = t.told;
   }
 
-  -- a visit that was not done is not followed by another
+  -- a visit that was not done has no visit after it
   pub visited_once : (p q : Token) (end : End) (v w : Plan) → (end ≡ Done → ⊥) → HasVisited k o p (v ∷ []) q end
       → HasVisited k o p (v ∷ w ∷ []) q end
   visited_once p q Done v w undone s = absurd (undone refl)

@@ -28,7 +28,7 @@ module _ (worth : Answered → ℕ) where
       sum_by-append worth (act_of e) (acts_in h) ∙ ap (λ n. of_event e + n) (acts_worth h)
       ∙ sym (sum_by-cons of_event e h)
 
--- over the passes that came back, what each seat's own events are worth
+-- what each seat's own events are worth, summed over the passes that came back
 module _ (k : Rules) (o : Object) (answers : ℕ → ℕ → Bool → Type 0) (scenario : Scenario) (seats rounds : ℕ)
     (h : House) (c : Setting)
     (z : TableId) (worth : Answered → ℕ) (share : ℕ → ℕ)

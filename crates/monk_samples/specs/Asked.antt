@@ -1,4 +1,4 @@
--- What a call of a seat asks for, and by which wish a release chooses
+-- Which call a seat makes, and by which wish a release chooses
 use Rattle.std.specs.Prelude.{◌≡◌, Bool, List, [], ◌∷◌, Some}
 use Rattle.monk_kinds.specs.declared.mode.Pick.{Pick}
 use Rattle.monk_kinds.specs.declared.mode.Rules.{Rules}
@@ -14,23 +14,23 @@ use Rattle.monk_hall.specs.Layout.{floor_of}
 use Rattle.monk_hall.specs.declared.setting.Setting.{Setting}
 use Rattle.monk_samples.specs.Trails.{Addition}
 
--- what was asked for: a release is written with `stay`, whatever it chose
+-- the call of an event: a release is written with `stay`, whatever it chose
 abbrev pub asked_call : Addition → Event
 asked_call d = with_next Stay d.event
 
--- where it released, it chose by this wish. `known` is what it knew of the entry, which a wish for entry alone asks.
--- What a look found is not kept: a wish for entry that found nobody there chooses as a wish for a waiter
+-- a release chose by this wish. `known` is what the seat knew of the entry, which only a wish for entry asks. If such
+-- a wish found nobody there, it chooses as a wish for a waiter, so what a look found is not kept
 abbrev pub WishesFor : Rules → Object → Pick → Setting → Addition → Type 0
 WishesFor k o wish c d = (x : Next) → next_of d.event ≡ Some x
     → (known : Bool)
     × (x ≡ choice_of k o (stands_of k o (floor_of c d.before)) (asked_call d) (is_entry_known wish known) wish)
 
--- a call that asks for this, with that wish
+-- it makes this call, with that wish
 pub record IsCall (k : Rules) (o : Object) (wish : Pick) (c : Setting) (call : Event) (d : Addition) : Type 0 where
   pub asks : asked_call d ≡ call
   pub wishes : WishesFor k o wish c d
 
--- these calls and no other, in order
+-- these calls and no others, in order
 abbrev pub AreCalls : Rules → Object → Pick → Setting → List Event → List Addition → Type 0
 AreCalls k o wish c [] [] = Unit {0}
 AreCalls k o wish c [] (d ∷ ds) = ⊥

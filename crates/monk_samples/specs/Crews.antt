@@ -14,11 +14,11 @@ use Rattle.monk_samples.specs.Styles.{Offers}
 abbrev pub IsOf : House → Token → Type 0
 IsOf h p = (p.hall ≡ h.id) × (p.me.setting ≡ h.setting)
 
--- it is of this hall, which has the conditions of every sample
+-- the token is of this hall, and the hall has the conditions of every sample
 abbrev pub IsReady : Rules → House → Token → Type 0
 IsReady k h p = IsOf h p × Offers k h.setting.conds 3
 
--- each of those passes is ready to work
+-- each of these passes is ready to work
 abbrev pub AreReady : Rules → House → List Token → Type 0
 AreReady k h ps = All (IsReady k h) ps
 

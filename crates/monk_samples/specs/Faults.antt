@@ -7,18 +7,18 @@ use Rattle.monk_samples.specs.declared.end.End.TheVariants.{Done, Tired, Late}
 use Rattle.monk_samples.specs.declared.run_fault.RunFault.{RunFault}
 use Rattle.monk_samples.specs.declared.run_fault.RunFault.TheVariants as run
 
--- the fault of a thread that ended so
+-- the fault of a worker with this end, if it is one
 abbrev pub fault_of : End → Option CrewFault
 fault_of Done = None
 fault_of Tired = Some crew.Tired
 fault_of Late = Some crew.Late
 
--- the first fault: one that there was, or else the end's after it
+-- the first fault: the earlier one if there is one, and otherwise that of the end
 abbrev pub fault_after : Option CrewFault → End → Option CrewFault
 fault_after None end = fault_of end
 fault_after (Some fault) end = Some fault
 
--- the fault of a run by that of its crew
+-- the fault of a run, by that of its crew
 abbrev pub run_fault_of : CrewFault → RunFault
 run_fault_of crew.Memory = run.Memory
 run_fault_of crew.Tired = run.Tired

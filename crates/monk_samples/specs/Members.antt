@@ -11,31 +11,31 @@ use Rattle.monk_samples.specs.Visits.{Plan, Signals, SignalsAll, SignalsAndWaits
 use Rattle.monk_samples.specs.declared.manner.Manner.{Manner}
 use Rattle.monk_samples.specs.declared.manner.Manner.TheVariants.{Patient}
 
--- the conditions of a buffer: there is room; an item is there
+-- the condition on which putters wait until there is room
 abbrev pub NOT_FULL : ℕ
 NOT_FULL = 0
 
--- an item is there
+-- the condition on which takers wait until an item is there
 abbrev pub NOT_EMPTY : ℕ
 NOT_EMPTY = 1
 
--- of a book: a read may start; a write may start
+-- the condition on which readers wait until a read may start
 abbrev pub CAN_READ : ℕ
 CAN_READ = 0
 
--- the write may start
+-- the condition on which writers wait until a write may start
 abbrev pub CAN_WRITE : ℕ
 CAN_WRITE = 1
 
--- of a shop: a seat is free; a customer may be called; a cut is done
+-- the condition on which customers wait until a seat is free
 abbrev pub SEAT_FREE : ℕ
 SEAT_FREE = 0
 
--- a customer sits and waits
+-- the condition on which the barber waits until a customer may be called
 abbrev pub CUSTOMER_SITS : ℕ
 CUSTOMER_SITS = 1
 
--- the cut is done
+-- the condition on which customers wait until a cut is done
 abbrev pub CUT_DONE : ℕ
 CUT_DONE = 2
 
@@ -47,7 +47,7 @@ puts_by m item = in_manner m NOT_FULL HAS_ROOM (op_of PUT item) (always NOT_EMPT
 abbrev pub puts : ℕ → Plan
 puts item = puts_by Patient item
 
--- it lets a taker go on, and waits until there is room again
+-- the visit that puts an item, lets a taker go on, and waits until there is room again
 abbrev pub puts_and_waits : ℕ → Plan
 puts_and_waits item = when NOT_FULL HAS_ROOM (op_of PUT item) (λ h. SignalsAndWaits NOT_EMPTY NOT_FULL)
 
@@ -63,23 +63,23 @@ takes = takes_by Patient
 abbrev pub begins_to_read : Plan
 begins_to_read = when CAN_READ book.CAN_READ (op_of START_READ 0) (always CAN_READ)
 
--- the last reader signals a writer if one waits, and others a reader
+-- the visit that ends a read. The last reader signals a writer if one waits, and otherwise a reader
 abbrev pub ends_to_read : Rules → Setting → Plan
 ends_to_read k c = at_once (op_of END_READ 0)
     (λ h. if book_meaning.holds (data_after k book_meaning c h) book.CAN_WRITE && has_waiting k CAN_WRITE h
     then Signals CAN_WRITE
     else Signals CAN_READ)
 
--- the visit that begins the write
+-- the visit that begins a write
 abbrev pub begins_to_write : Plan
 begins_to_write = when CAN_WRITE book.CAN_WRITE (op_of START_WRITE 0) nobody
 
--- a reader if one waits, else a writer
+-- the visit that ends a write. It signals a reader if one waits, and otherwise a writer
 abbrev pub ends_to_write : Rules → Plan
 ends_to_write k =
     at_once (op_of END_WRITE 0) (λ h. if has_waiting k CAN_READ h then Signals CAN_READ else Signals CAN_WRITE)
 
--- all readers if one waits, else a writer
+-- the visit that ends a write and signals all readers if one waits, and otherwise a writer
 abbrev pub ends_to_write_for_all : Rules → Plan
 ends_to_write_for_all k =
     at_once (op_of END_WRITE 0) (λ h. if has_waiting k CAN_READ h then SignalsAll CAN_READ else Signals CAN_WRITE)

@@ -17,14 +17,14 @@ use Rattle.monk_samples.specs.declared.sample.Sample.TheVariants.{Buffer, Book, 
 use Rattle.monk_samples.specs.declared.manner.Manner.{Manner}
 use Rattle.monk_samples.specs.declared.scenario.Scenario.{Scenario}
 
--- how many rounds a seat has: of a buffer and a book two halves work, and in a shop the first seat
--- is the barber, who has one for each of every other's
+-- how many rounds a seat has. Two halves work on a buffer or a book. In a shop the first seat is the barber, who has
+-- one for each round of every other seat
 abbrev pub rounds_of : Sample → ℕ → ℕ → ℕ → ℕ
 rounds_of Buffer seats rounds seat = if nat_lt seat (seats / 2 * 2) then rounds else 0
 rounds_of Book seats rounds seat = if nat_lt seat (seats / 2 * 2) then rounds else 0
 rounds_of Shop seats rounds seat = if nat_eq seat 0 then (seats - 1) * rounds else rounds
 
--- the visits of a seat in a round, counted from 1: over a buffer in that manner
+-- the visits of a seat in a round, counted from 1. Those of a buffer are made in that manner
 abbrev pub visits_of : Sample → Manner → Rules → Setting → ℕ → ℕ → ℕ → List Plan
 visits_of Buffer m k c seats seat round = if nat_lt seat (seats / 2) then puts_by m round ∷ [] else takes_by m ∷ []
 visits_of Book m k c seats seat round =
@@ -32,11 +32,11 @@ visits_of Book m k c seats seat round =
     else begins_to_write ∷ ends_to_write k ∷ []
 visits_of Shop m k c seats seat round = if nat_eq seat 0 then calls ∷ finishes ∷ [] else sits ∷ departs ∷ []
 
--- those of a scenario
+-- the visits of a scenario
 abbrev pub round_of : Scenario → Rules → Setting → ℕ → ℕ → ℕ → List Plan
 round_of s k c seats seat round = visits_of s.sample s.manner k c seats seat round
 
--- those of rounds 1 to n
+-- the visits of rounds 1 to n
 abbrev pub rounds_to : (ℕ → List Plan) → ℕ → List Plan
 rounds_to round zero = []
 rounds_to round (suc n) = rounds_to round n ++ round (suc n)
@@ -49,7 +49,7 @@ pub record HasDoneRounds (k : Rules) (o : Object) (answers : ℕ → Bool → Ty
   pub are : AreVisits k o p.me.setting p.me.seat Done (rounds_to round n) calls
   pub let_in : (r : ℕ) → 1 ≤ r → r ≤ n → answers r true
 
--- it did fewer than all, was let into the next, and cut short there
+-- the seat did fewer rounds than all, was let into the next, and was cut short there
 pub record WasCutShort (k : Rules) (o : Object) (answers : ℕ → Bool → Type 0) (round : ℕ → List Plan)
     (rounds : ℕ) (p q : Token) : Type 0 where
   pub n : ℕ
@@ -59,7 +59,7 @@ pub record WasCutShort (k : Rules) (o : Object) (answers : ℕ → Bool → Type
   pub let_in : answers (n + 1) true
   pub visited : HasVisited k o last (round (n + 1)) q Tired
 
--- it did fewer than all, and was not let into the next
+-- the seat did fewer rounds than all, and was not let into the next
 pub record WasSentAway (k : Rules) (o : Object) (answers : ℕ → Bool → Type 0) (round : ℕ → List Plan)
     (rounds : ℕ) (p q : Token) : Type 0 where
   pub n : ℕ
@@ -67,18 +67,18 @@ pub record WasSentAway (k : Rules) (o : Object) (answers : ℕ → Bool → Type
   pub done : HasDoneRounds k o answers round n p q
   pub sent_away : answers (n + 1) false
 
--- the thread has done its rounds, or ended early for that reason
+-- the seat has done its rounds, or it ended early for that reason
 abbrev pub HasWorked : Rules → Object → (ℕ → Bool → Type 0) → (ℕ → List Plan) → ℕ → Token → Token → End → Type 0
 HasWorked k o answers round rounds p q Done = HasDoneRounds k o answers round rounds p q
 HasWorked k o answers round rounds p q Tired = WasCutShort k o answers round rounds p q
 HasWorked k o answers round rounds p q Late = WasSentAway k o answers round rounds p q
 
--- the seat of p has worked in a run of the scenario, by these answers of the gate
+-- the seat of p has worked in a run of the scenario, with these answers of the gate
 abbrev pub HasServed : Rules → Object → (ℕ → ℕ → Bool → Type 0) → Scenario → ℕ → ℕ → Token → Token → End → Type 0
 HasServed k o answers s seats rounds p q end =
     HasWorked k o (answers p.me.seat) (round_of s k p.me.setting seats p.me.seat)
     (rounds_of s.sample seats rounds p.me.seat) p q end
 
--- it has worked all of them
+-- it has worked all its rounds
 abbrev pub HasServedToEnd : Rules → Object → (ℕ → ℕ → Bool → Type 0) → Scenario → ℕ → ℕ → Token → Type 0
 HasServedToEnd k o answers s seats rounds p = (q : Token) × HasServed k o answers s seats rounds p q Done

@@ -27,23 +27,23 @@ sample_object Buffer = object.Buffer
 sample_object Book = object.Book
 sample_object Shop = object.Shop
 
--- what the seats of a run do, as other crates name it
+-- what the seats of a run do. Other crates use this name
 abbrev pub Played : Type 0
 Played = Scenario
 
--- that, by its parts
+-- the same, by its parts
 abbrev pub scenario_of : Sample → Manner → Scenario
 scenario_of sample m = record { sample = sample; manner = m }
 
--- in a run of a sample each looks again
+-- a run of a sample whose seats look again
 abbrev pub patiently : Sample → Scenario
 patiently sample = scenario_of sample Patient
 
--- in a hasty run, which is over a buffer, they don't
+-- a hasty run, which is over a buffer and whose seats don't look again
 abbrev pub in_haste : Scenario
 in_haste = scenario_of Buffer Hasty
 
--- the size of a sample's object, and of a hasty one's: with one place its seats wait for each other most often
+-- the size of a sample's object. A hasty run has one place, because its seats then wait most often for each other
 abbrev pub size_in : Manner → ℕ
 size_in Patient = 4
 size_in Hasty = 1
@@ -68,7 +68,7 @@ run_heading k s seats = heading 1 k seats (conds_of (rules_named k)) (sample_obj
 abbrev pub IsOfFirstVersion : List Event → Type 0
 IsOfFirstVersion h = IsTrue (list_all (λ e. nat_le (first_version e) 1) h)
 
--- the law of the sample's object, of that size, holds of the acts of the history
+-- the acts of the history keep the law of the sample's object, for that size
 abbrev pub KeepsLaw : Sample → ℕ → List ℕ → List Event → Type 0
 KeepsLaw Buffer size state h = IsInOrder size state (acts_in h)
 KeepsLaw Book size state h = ExcludesEachOther size state (acts_in h)
@@ -79,16 +79,16 @@ abbrev pub run_monitor : Rules → Scenario → ℕ → Monitor
 run_monitor k s seats = monitor k seats (conds_of k) (meaning_named (sample_object s.sample))
     (opening_named (sample_object s.sample) (size_in s.manner))
 
--- the history of a run: legal, within the budgets of all seats, with events of the first version alone, and with the
--- totals of its seats and rounds
+-- the history of a run: it is legal, within the budgets of all seats, has only events of the first version, and has
+-- the totals of its seats and rounds
 pub record IsHistoryOf (k : Rules) (s : Scenario) (seats rounds : ℕ) (h : List Event) : Type 0 where
   pub legal : IsLegal (run_monitor k s seats) h
   pub few : length h ≤ seats * budget_of seats rounds
   pub early : IsOfFirstVersion h
   pub totals : HasTotals s.sample seats rounds (totals_of s.sample h)
 
--- a run has left this history, which is legal for the monitor that its header names, and not too long for an audit. It
--- has a text under that header. The sample's law holds of it, and the totals are its own
+-- a run has left this history. It is legal for the monitor that its header names, is not too long for an audit, and
+-- has a text under that header. The sample's law holds for it, and the totals are its own
 pub record IsOutcome (k : KindName) (s : Scenario) (seats : ℕ) (h : Heading) (history : List Event)
     (totals : List ℕ) : Type 0 where
   pub header : h ≡ run_heading k s seats

@@ -24,19 +24,19 @@ use Rattle.monk_samples.specs.Trails.{Addition, HasCalled, inside, outside}
 use Rattle.monk_samples.specs.declared.end.End.{End}
 use Rattle.monk_samples.specs.declared.end.End.TheVariants.{Done, Tired, Late}
 
--- a hall has so many conditions, where its kind has any
+-- a hall has at least `most` conditions, if its kind has any
 abbrev pub Offers : Rules → ℕ → ℕ → Type 0
 Offers k conds most = has_conditions k.mode ≡ true → most ≤ conds
 
--- the active seat of this hall may name the condition to go out with; and the predicate too, to pause
+-- the active seat of this hall may name the condition when it goes out
 abbrev pub MayFinish : Rules → TableId → Holder → ℕ → Type 0
 MayFinish k hall a c = (a.hall ≡ hall) × Offers k a.me.setting.conds (c + 1)
 
--- the seat may wait until that predicate holds
+-- and it may name the condition and the predicate when it pauses
 abbrev pub MayPause : Rules → TableId → Holder → ℕ → ℕ → ℕ → Type 0
 MayPause k hall a c predicates p = MayFinish k hall a c × (p < predicates)
 
--- whether somebody waits on a condition: nobody, under a kind that has none
+-- whether somebody waits on a condition. Under a kind that has none, nobody does
 abbrev pub has_waiting : Rules → ℕ → List Event → Bool
 has_waiting k c h = has_conditions k.mode && not (is_empty (condition c h))
 
@@ -51,13 +51,12 @@ way_out k s c =
     else if returns_at_once k.mode then SignalLeave s c Stay ∷ []
     else Leave s Stay ∷ []
 
--- how many events a seat has to have left for its next call: where it stays active, that one and
--- one to leave by; where it may hand the monitor over, one more to come in again. A call by which
--- it leaves is always left to it
+-- how many events a seat must have left for a call after which it stays active: one for it and one to leave. An event
+-- is always kept for a call by which the seat leaves
 abbrev pub for_staying : ℕ
 for_staying = 2
 
--- how many events a seat must have left to hand the monitor over
+-- and for a call that may hand the monitor over: one more, to come in again
 abbrev pub for_handing_over : ℕ
 for_handing_over = 3
 
@@ -74,16 +73,16 @@ needed_for (Leave s x) = 0
 needed_for (SignalLeave s c x) = 0
 needed_for (Resume s q) = 0
 
--- for the first of these calls
+-- how many it must have left for the first of these calls
 abbrev pub needed_first : List Event → ℕ
 needed_first [] = 0
 needed_first (e ∷ es) = needed_for e
 
--- fewer events are left to the seat after this history than it needs
+-- the seat has fewer than `needed` events left after this history
 abbrev pub IsShort : Setting → ℕ → List Event → ℕ → Type 0
 IsShort c s h needed = left_of c.budget h s < needed
 
--- at most one event is left to the seat of a token
+-- the seat of a token has at most one event left
 abbrev pub IsSpent : Token → Type 0
 IsSpent p = p.me.setting.budget ≤ length p.me.mine + 1
 
@@ -96,23 +95,22 @@ pub record HasPaused (k : Rules) (o : Object) (wish : Pick) (a : Holder) (call :
   pub at : pause.before ≡ a.floor.history
   pub floor : a.floor ≡ floor_of a.me.setting a.floor.history
 
--- the predicate holds of the data that the active seat has before it
+-- the predicate holds for the data that the active seat finds
 abbrev pub Holds : Rules → Object → ℕ → Holder → Type 0
 Holds k o p a = o.holds (data_of (monitor_of k o a.floor) a.floor.history) p ≡ true
 
--- under an automatic kind the seat finds that predicate true
+-- under an automatic kind the predicate holds for the seat
 abbrev pub HoldsByKind : Rules → Object → ℕ → Holder → Type 0
 HoldsByKind k o p a = has_conditions k.mode ≡ false → Holds k o p a
 
--- the seat is out by these calls, with that wish
+-- the seat has gone out by these calls, with that wish
 pub record HasGoneBy (k : Rules) (o : Object) (wish : Pick) (a : Holder) (calls : List Event) (p : Token) : Type 0 where
   pub made : List Addition
   pub called : HasCalled (inside a) (outside p) made
   pub are : AreCalls k o wish a.me.setting calls made
   pub told : SeesTruly k o p.me
 
--- the seat had fewer events left than it needs for its next call, and has left in place of that, with the wish for a
--- waiter
+-- the seat had fewer events left than it needs for its next call. It has left instead, with the wish for a waiter
 pub record HasGivenUp (k : Rules) (o : Object) (needed : ℕ) (a : Holder) (p : Token) : Type 0 where
   pub short : IsShort a.me.setting a.me.seat a.floor.history needed
   pub counted : a.me.setting.budget < length a.me.mine + needed
@@ -124,14 +122,14 @@ pub record HasGivenUp (k : Rules) (o : Object) (needed : ℕ) (a : Holder) (p : 
   pub spent : IsSpent p
   pub told : SeesTruly k o p.me
 
--- the seat is out by these calls, or tired without them: only a kind with a signaller queue wants more than the event
--- that is always kept for the way out
+-- the seat has gone out by these calls, or it is tired and has not made them. Only a kind with a signaller queue
+-- needs more than the event that is always kept for the way out
 abbrev pub HasFinished : Rules → Object → Pick → Holder → List Event → Token → End → Type 0
 HasFinished k o wish a calls p Done = HasGoneBy k o wish a calls p
 HasFinished k o wish a calls p Tired = (has_signaller_queue k.mode ≡ true) × HasGivenUp k o (needed_first calls) a p
 HasFinished k o wish a calls p Late = ⊥
 
--- the same of a way out that not only such a kind has
+-- the same for a way out that other kinds have too
 abbrev pub HasGoneOut : Rules → Object → Pick → Holder → List Event → Token → End → Type 0
 HasGoneOut k o wish a calls p Done = HasGoneBy k o wish a calls p
 HasGoneOut k o wish a calls p Tired = HasGivenUp k o (needed_first calls) a p

@@ -1,4 +1,4 @@
--- The totals of a run, as its history has them
+-- The totals of a run, by its history
 use Rattle.std.specs.Prelude.{◌≡◌, false, ℕ, ◌+◌, ◌-◌, ◌*◌, ◌/◌, ◌==◌, Option, List, [], ◌∷◌, option_map, position, sum, if◌then◌else◌}
 use Rattle.std.specs.List.{sum_by}
 use Rattle.monk_kinds.specs.declared.mode.Rules.{Rules}
@@ -20,7 +20,7 @@ use Rattle.monk_samples.specs.declared.scenario.Scenario.{Scenario}
 abbrev pub count_done : ℕ → List Event → ℕ
 count_done code h = times_done code (acts_in h)
 
--- the items put, and those taken, added up
+-- the sum of the items that were put
 abbrev pub sum_put : List Event → ℕ
 sum_put h = sum (items_put (acts_in h))
 
@@ -36,17 +36,17 @@ refusals_in acts = sum_by (λ a. if a.reply == 0 then 1 else 0) acts
 abbrev pub missed_in : List Event → ℕ
 missed_in h = refusals_in (acts_in h)
 
--- the step of the first of them, counted from 1
+-- the step of the first act that was refused, counted from 1
 abbrev pub first_missed : List Event → Option ℕ
 first_missed h = option_map (λ n. n + 1) (position is_refused_act h)
 
--- a run over a buffer misses nothing, whose seats look again; nor in haste under an automatic kind (PIS and NPIS),
--- where whoever goes on finds its predicate true, and nobody acts before it does
+-- a run over a buffer whose seats look again misses nothing. Under an automatic kind (PIS and NPIS) neither does a
+-- hasty run: a seat that goes on finds its predicate true, and nobody acts before it does
 abbrev pub MissesNothing : Rules → Manner → ℕ → Type 0
 MissesNothing k Patient missed = missed ≡ 0
 MissesNothing k Hasty missed = has_conditions k.mode ≡ false → missed ≡ 0
 
--- the same of the history of a run, if it is over a buffer
+-- the same for the history of a run, if it is over a buffer
 abbrev pub RefusesNothing : Rules → Scenario → List Event → Type 0
 RefusesNothing k s h = s.sample ≡ Buffer → MissesNothing k s.manner (missed_in h)
 
@@ -61,7 +61,7 @@ totals_of Book h =
     count_done START_READ h ∷ count_done END_READ h ∷ count_done START_WRITE h ∷ count_done END_WRITE h ∷ []
 totals_of Shop h = count_done SIT h ∷ count_done CALL h ∷ count_done FINISH h ∷ count_done DEPART h ∷ []
 
--- of a book as many reads and writes were ended as were begun
+-- in a book as many reads and writes were ended as were begun
 abbrev pub HasEnded : Sample → List Event → Type 0
 HasEnded Buffer h = Unit {0}
 HasEnded Book h = (count_done END_READ h ≡ count_done START_READ h)
@@ -74,7 +74,7 @@ HasPutAndTaken seats rounds t =
     t ≡ seats / 2 * rounds ∷ seats / 2 * (rounds * (rounds + 1) / 2) ∷ seats / 2 * rounds
     ∷ seats / 2 * (rounds * (rounds + 1) / 2) ∷ []
 
--- what the totals of a run have to be, by its seats and rounds
+-- what the totals of a run must be, by its seats and rounds
 abbrev pub HasTotals : Sample → ℕ → ℕ → List ℕ → Type 0
 HasTotals Buffer seats rounds t = HasPutAndTaken seats rounds t
 HasTotals Book seats rounds t =

@@ -8,7 +8,7 @@ use Rattle.monk_hall.specs.Floors.{StartsWith}
 use Rattle.monk_hall.specs.Tokens.{Token, Holder}
 use Rattle.monk_hall.specs.declared.setting.Setting.{Setting}
 
--- a seat at some moment: of which hall, the longest history that it has seen, and its own events
+-- a seat at some moment: its hall, the longest history that it has seen, and its own events
 pub record Trail : Type 0 where
   pub hall : TableId
   pub seat : ℕ
@@ -16,11 +16,11 @@ pub record Trail : Type 0 where
   pub seen : List Event
   pub mine : List Event
 
--- by a token that is idle or waits, and by that of the active seat, which sees the history of its floor
+-- the trail of a seat that is outside or waits
 abbrev pub outside : Token → Trail
 outside p = record { hall = p.hall; seat = p.me.seat; setting = p.me.setting; seen = p.me.seen; mine = p.me.mine }
 
--- the trail of an active seat
+-- the trail of an active seat, which sees the history of its floor
 abbrev pub inside : Holder → Trail
 inside a = record { hall = a.hall; seat = a.me.seat; setting = a.me.setting; seen = a.floor.history; mine = a.me.mine }
 
@@ -50,11 +50,11 @@ pub record Went (x y : Trail) (own : List Addition) : Type 0 where
   pub seen : AreBetween x.seen y.seen own
   pub mine : y.mine ≡ x.mine ++ events_in own
 
--- a seat comes in by an enter, or by a resume: nobody calls for these
+-- whether a seat comes in by the event, an enter or a resume. No call asks for these
 abbrev pub is_coming : Event → Bool
 is_coming e = is_some (via_of e) || is_some (source_of e)
 
--- what was added, if it is a call and not a seat's coming in
+-- what was added, if it is by a call and not a seat's coming in
 abbrev pub call_in : Addition → List Addition
 call_in d = if is_coming d.event then [] else d ∷ []
 
@@ -62,7 +62,7 @@ call_in d = if is_coming d.event then [] else d ∷ []
 abbrev pub calls_in : List Addition → List Addition
 calls_in own = flat_map call_in own
 
--- the seat has made these calls and no other, in this order
+-- the seat has made these calls and no others, in this order
 pub record HasCalled (x y : Trail) (calls : List Addition) : Type 0 where
   pub own : List Addition
   pub went : Went x y own

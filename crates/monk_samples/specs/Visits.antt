@@ -23,7 +23,7 @@ use Rattle.monk_samples.specs.declared.end.End.TheVariants.{Done, Tired, Late}
 use Rattle.monk_samples.specs.declared.manner.Manner.{Manner}
 use Rattle.monk_samples.specs.declared.manner.Manner.TheVariants.{Patient, Hasty}
 
--- for what a visit pauses: the condition on which it waits where the predicate is false
+-- for what a visit pauses: the condition on which it waits if the predicate is false
 pub record Guard : Type 0 where
   pub cond : ℕ
   pub pred : ℕ
@@ -37,26 +37,26 @@ guard cond pred = record { cond = cond; pred = pred; manner = Patient }
 abbrev pub hasty_guard : ℕ → ℕ → Guard
 hasty_guard cond pred = record { cond = cond; pred = pred; manner = Hasty }
 
--- whom a visit of that manner wishes to go on
+-- for whom a visit of that manner wishes
 abbrev pub wish_of : Manner → Pick
 wish_of Patient = Waiter
 wish_of Hasty = Entry
 
--- whom a visit with that guard wishes to go on
+-- for whom a visit with that guard wishes
 abbrev pub wish_in : Option Guard → Pick
 wish_in None = Waiter
 wish_in (Some w) = wish_of w.manner
 
--- how a visit goes out: without a signal; with a signal of a condition; with a signal to all who wait there; or with a
--- signal of the first condition and a wait on the second, after which it leaves
+-- how a visit goes out: without a signal; with a signal of a condition; with a signal to all who wait there; or with
+-- a signal of the first condition and a wait on the second, after which it leaves
 pub data WayOut : Type 0 where
   Unsignalled : WayOut
   Signals : ℕ → WayOut
   SignalsAll : ℕ → WayOut
   SignalsAndWaits : ℕ → ℕ → WayOut
 
--- one visit as it is planned: for what it pauses first, if for anything; its operation; and, by the history after that,
--- its way out
+-- one visit as it is planned: what it first pauses for, if for anything; its operation; and its way out, by the
+-- history after that
 pub record Plan : Type 0 where
   pub guard : Option Guard
   pub op : Op
@@ -79,11 +79,11 @@ when cond pred op goes_out = in_manner Patient cond pred op goes_out
 abbrev pub hastily : ℕ → ℕ → Op → (List Event → WayOut) → Plan
 hastily cond pred op goes_out = in_manner Hasty cond pred op goes_out
 
--- the plan of a visit that waits for nothing
+-- a visit that waits for nothing
 abbrev pub at_once : Op → (List Event → WayOut) → Plan
 at_once op goes_out = record { guard = None; op = op; goes_out = goes_out }
 
--- on its way out it always signals the one condition, or nobody
+-- a way out that always signals that condition
 abbrev pub always : ℕ → List Event → WayOut
 always cond h = Signals cond
 
@@ -95,34 +95,34 @@ nobody h = Unsignalled
 abbrev pub data_after : Rules → Object → Setting → List Event → List ℕ
 data_after k o c h = data_of (monitor_of k o (floor_of c h)) h
 
--- each is a pause of seat s for this, and the predicate was false when it paused
+-- each is a pause of seat s for this guard, and the predicate was false when it paused
 abbrev pub ArePauses : Rules → Object → Setting → ℕ → Guard → List Addition → Type 0
 ArePauses k o c s w [] = Unit {0}
 ArePauses k o c s w (d ∷ ds) =
     IsCall k o (wish_of w.manner) c (pause_call k s w.cond w.pred) d
     × (o.holds (data_after k o c d.before) w.pred ≡ false) × ArePauses k o c s w ds
 
--- a hasty visit pauses once at most
+-- a hasty visit pauses at most once
 abbrev pub AreFew : Manner → List Addition → Type 0
 AreFew Patient ds = Unit {0}
 AreFew Hasty ds = length ds ≤ 1
 
--- the waits of a visit with that guard
+-- these are all the pauses of a visit with that guard
 abbrev pub HasPausedFor : Rules → Object → Setting → ℕ → Option Guard → List Addition → Type 0
 HasPausedFor k o c s None ds = ds ≡ []
 HasPausedFor k o c s (Some w) ds = ArePauses k o c s w ds × AreFew w.manner ds
 
--- seat s does this operation, with the object's reply
+-- seat s does this operation, and the reply is the object's
 pub record IsAct (k : Rules) (o : Object) (c : Setting) (s : ℕ) (op : Op) (reply : ℕ) (d : Addition) : Type 0 where
   pub is : d.event ≡ Act s op reply
   pub replied : reply ≡ o.reply (data_after k o c d.before) op
 
--- an operation for which a visit paused gets done
+-- an operation for which a visit paused isn't refused
 abbrev pub IsCertain : Option Guard → ℕ → Type 0
 IsCertain None reply = Unit {0}
 IsCertain (Some w) reply = 0 < reply
 
--- the calls by which it goes out
+-- the calls by which a seat goes out
 abbrev pub calls_out : Rules → ℕ → WayOut → List Event
 calls_out k s Unsignalled = Leave s Stay ∷ []
 calls_out k s (Signals cond) = way_out k s cond
@@ -146,14 +146,14 @@ pub record IsTry (k : Rules) (o : Object) (c : Setting) (s : ℕ) (v : Plan) (ca
   pub done : IsDone k o c s v pauses act
   pub goes : AreCalls k o (wish_in v.guard) c (calls_out k s (v.goes_out (after act))) out
 
--- what a seat needs for its next call where it has yet to act: for its operation, or while the
--- predicate is false for its next pause
+-- what a seat needs for its next call before it has acted: for its operation or, while the predicate is false, for
+-- its next pause
 abbrev pub needed_yet : Rules → Object → Setting → Option Guard → List Event → ℕ
 needed_yet k o c None h = for_staying
 needed_yet k o c (Some w) h = if o.holds (data_after k o c h) w.pred then for_staying else for_handing_over
 
--- these calls of seat s pause for this, and then it leaves, with too few events left for its next
--- pause or its operation
+-- these calls of seat s pause for this guard. Then it leaves, because too few events are left for its next pause or
+-- its operation
 pub record IsLeftWaiting (k : Rules) (o : Object) (c : Setting) (s : ℕ) (guard : Option Guard)
     (calls : List Addition) : Type 0 where
   pub pauses : List Addition
@@ -163,8 +163,8 @@ pub record IsLeftWaiting (k : Rules) (o : Object) (c : Setting) (s : ℕ) (guard
   pub leaves : IsCall k o Waiter c (Leave s Stay) leave
   pub short : IsShort c s leave.before (needed_yet k o c guard leave.before)
 
--- they pause and do the operation, and then it leaves without a signal, with too few events left
--- for the first call of its way out: none is too few for a leave
+-- these calls pause and do the operation. Then the seat leaves without a signal, because too few events are left for
+-- the first call of its way out. A leave always has its event
 pub record IsLeftUnsaid (k : Rules) (o : Object) (c : Setting) (s : ℕ) (v : Plan) (calls : List Addition) : Type 0 where
   pub pauses : List Addition
   pub act : Addition
@@ -174,18 +174,18 @@ pub record IsLeftUnsaid (k : Rules) (o : Object) (c : Setting) (s : ℕ) (v : Pl
   pub leaves : IsCall k o Waiter c (Leave s Stay) leave
   pub short : IsShort c s leave.before (needed_first (calls_out k s (v.goes_out (after act))))
 
--- the visit of a seat that was tired: it did not come in; or it left in place of its next pause or
--- of its operation; or in place of its signal
+-- the calls of a seat that was tired before it acted: it did not come in, or it left instead of its next pause or its
+-- operation
 abbrev pub IsUnready : Rules → Object → Setting → ℕ → Option Guard → List Addition → Type 0
 IsUnready k o c s guard calls = (calls ≡ []) ⊎ IsLeftWaiting k o c s guard calls
 
--- these calls of seat s are one try of the visit, which ended so
+-- these calls of seat s are one try of the visit, which ended with `end`
 abbrev pub IsTried : Rules → Object → Setting → ℕ → Plan → End → List Addition → Type 0
 IsTried k o c s v Done calls = IsTry k o c s v calls
 IsTried k o c s v Tired calls = IsUnready k o c s v.guard calls ⊎ IsLeftUnsaid k o c s v calls
 IsTried k o c s v Late calls = ⊥
 
--- first these and then those
+-- first these calls and then those
 pub record Then (First Rest : List Addition → Type 0) (calls : List Addition) : Type 0 where
   pub first : List Addition
   pub rest : List Addition
@@ -193,9 +193,9 @@ pub record Then (First Rest : List Addition → Type 0) (calls : List Addition) 
   pub is_first : First first
   pub is_rest : Rest rest
 
--- a try whose operation was refused, after which the seat left without a signal. It had paused, and so was woken: where
--- the predicate holds at once, the operation gets done. Under an automatic kind there is none: whoever goes on there
--- finds its predicate true
+-- a try whose operation was refused, after which the seat left without a signal. It had paused, and so was woken: if
+-- the predicate holds at once, the operation isn't refused. Under an automatic kind there is no such try, because a
+-- seat that goes on there finds its predicate true
 pub record IsMiss (k : Rules) (o : Object) (c : Setting) (s : ℕ) (v : Plan) (calls : List Addition) : Type 0 where
   pub pauses : List Addition
   pub act : Addition
@@ -207,12 +207,12 @@ pub record IsMiss (k : Rules) (o : Object) (c : Setting) (s : ℕ) (v : Plan) (c
   pub woken : pauses ≡ [] → ⊥
   pub signalled : has_conditions k.mode ≡ true
 
--- those are that many tries that missed
+-- these calls are n tries that missed
 abbrev pub AreMisses : Rules → Object → Setting → ℕ → Plan → ℕ → List Addition → Type 0
 AreMisses k o c s v zero calls = calls ≡ []
 AreMisses k o c s v (suc n) calls = Then (AreMisses k o c s v n) (IsMiss k o c s v) calls
 
--- a hasty visit alone is tried again where its operation was refused
+-- only a hasty visit is tried again if its operation was refused
 abbrev pub MissesIn : Manner → ℕ → Type 0
 MissesIn Patient n = n ≡ 0
 MissesIn Hasty n = Unit {0}
@@ -222,18 +222,18 @@ abbrev pub Misses : Option Guard → ℕ → Type 0
 Misses None n = n ≡ 0
 Misses (Some w) n = MissesIn w.manner n
 
--- these calls of seat s are the visit, which ended so: the tries that missed, and a last one
+-- these calls of seat s are the visit, which ended with `end`: the tries that missed, and a last one
 pub record IsVisitTo (k : Rules) (o : Object) (c : Setting) (s : ℕ) (v : Plan) (end : End)
     (calls : List Addition) : Type 0 where
   pub misses : ℕ
   pub may : Misses v.guard misses
   pub tries : Then (AreMisses k o c s v misses) (IsTried k o c s v end) calls
 
--- those calls are a whole visit
+-- these calls are a whole visit
 abbrev pub IsVisit : Rules → Object → Setting → ℕ → Plan → List Addition → Type 0
 IsVisit k o c s v calls = IsVisitTo k o c s v Done calls
 
--- those calls are a visit that ended early, since its seat was tired
+-- these calls are a visit that ended early, because its seat was tired
 abbrev pub IsCutShort : Rules → Object → Setting → ℕ → Plan → List Addition → Type 0
 IsCutShort k o c s v calls = IsVisitTo k o c s v Tired calls
 
@@ -246,9 +246,9 @@ AreVisits k o c s Tired (v ∷ vs) calls = IsCutShort k o c s v calls
     ⊎ Then (IsVisit k o c s v) (AreVisits k o c s Tired vs) calls
 AreVisits k o c s Late vs calls = ⊥
 
--- a member was called with p and gives q back: the same seat, out again, which has made the calls
--- of these visits and no other. It is tired only where at most one event is left. What it has seen
--- is legal, with its own events those that it knows
+-- a member was called with p and returns q. This is the same seat, outside again, which has made the calls of these
+-- visits and no others. It is tired only if at most one event is left. What it has seen is legal, and its own events
+-- in that are those that it knows
 pub record HasVisited (k : Rules) (o : Object) (p : Token) (plans : List Plan) (q : Token) (end : End) : Type 0 where
   pub calls : List Addition
   pub called : HasCalled (outside p) (outside q) calls
@@ -256,7 +256,7 @@ pub record HasVisited (k : Rules) (o : Object) (p : Token) (plans : List Plan) (
   pub spent : end ≡ Tired → IsSpent q
   pub told : SeesTruly k o q.me
 
--- a member was called with p and has tried a visit once, which ended so
+-- a member was called with p and has tried a visit once, which ended with `end`
 pub record HasTried (k : Rules) (o : Object) (p : Token) (v : Plan) (q : Token) (end : End) : Type 0 where
   pub calls : List Addition
   pub called : HasCalled (outside p) (outside q) calls
@@ -264,13 +264,13 @@ pub record HasTried (k : Rules) (o : Object) (p : Token) (v : Plan) (q : Token) 
   pub spent : end ≡ Tired → IsSpent q
   pub told : SeesTruly k o q.me
 
--- it has tried a visit so often and missed, and is out with fewer events left
+-- it has tried a visit `misses` times and missed, and is outside with fewer events left
 pub record HasMissed (k : Rules) (o : Object) (p : Token) (v : Plan) (misses : ℕ) (q : Token) : Type 0 where
   pub calls : List Addition
   pub called : HasCalled (outside p) (outside q) calls
   pub are : AreMisses k o p.me.setting p.me.seat v misses calls
 
--- a seat was tired: it has made calls like these from x on, and is out
+-- a seat was tired: it has made such calls from x on, and is outside
 pub record HasTired (k : Rules) (o : Object) (x : Trail) (AreThese : List Addition → Type 0) (q : Token) : Type 0 where
   pub calls : List Addition
   pub called : HasCalled x (outside q) calls
@@ -278,32 +278,32 @@ pub record HasTired (k : Rules) (o : Object) (x : Trail) (AreThese : List Additi
   pub spent : IsSpent q
   pub told : SeesTruly k o q.me
 
--- it came in for this, and left before it acted; or it did not come in
+-- the seat came in for this guard, and left before it acted
 abbrev pub IsTiredWithin : Rules → Object → Holder → Option Guard → Token → Type 0
 IsTiredWithin k o a w q = HasTired k o (inside a) (IsLeftWaiting k o a.me.setting a.me.seat w) q
 
--- the seat is too tired for that visit, and outside
+-- the seat came in for this guard and left before it acted, or it did not come in
 abbrev pub IsTiredFor : Rules → Object → Token → Option Guard → Token → Type 0
 IsTiredFor k o p w q = HasTired k o (outside p) (IsUnready k o p.me.setting p.me.seat w) q
 
--- it did not come in
+-- the seat did not come in
 pub record HasStayedOut (k : Rules) (o : Object) (p q : Token) : Type 0 where
   pub same : q ≡ p
   pub spent : IsSpent q
   pub told : SeesTruly k o q.me
 
--- from x on the seat has paused for this, and is active
+-- from x on the seat has paused for this guard, and is active
 pub record HasPausedUntil (k : Rules) (o : Object) (x : Trail) (guard : Option Guard) (b : Holder) : Type 0 where
   pub pauses : List Addition
   pub called : HasCalled x (inside b) pauses
   pub paused : HasPausedFor k o x.setting x.seat guard pauses
 
--- from x on the seat has looked once, in haste, and is active: where it has not paused, the predicate holds
+-- from x on the seat has looked once, in haste, and is active. If it has not paused, the predicate holds
 pub record HasLooked (k : Rules) (o : Object) (x : Trail) (cond pred : ℕ) (b : Holder) : Type 0 where
   pub paused : HasPausedUntil k o x (Some (hasty_guard cond pred)) b
   pub found : paused.pauses ≡ [] → Holds k o pred b
 
--- from x on the seat has paused for this and done the operation, with this reply, and is active: that was its last call
+-- from x on the seat has paused for this guard and then done the operation, with this reply, and is still active
 pub record HasActed (k : Rules) (o : Object) (x : Trail) (guard : Option Guard) (op : Op) (reply : ℕ)
     (b : Holder) : Type 0 where
   pub pauses : List Addition
@@ -314,12 +314,12 @@ pub record HasActed (k : Rules) (o : Object) (x : Trail) (guard : Option Guard) 
   pub last : b.floor.history ≡ after act
   pub floor : b.floor ≡ floor_of x.setting b.floor.history
 
--- from x on the seat has looked once and asked for the operation: where it has not paused, it got done
+-- from x on the seat has looked once and asked for the operation. If it has not paused, the operation wasn't refused
 pub record HasActedInHaste (k : Rules) (o : Object) (x : Trail) (cond pred : ℕ) (op : Op) (reply : ℕ)
     (b : Holder) : Type 0 where
   pub acted : HasActed k o x (Some (hasty_guard cond pred)) op reply b
   pub done : acted.pauses ≡ [] → 0 < reply
 
--- what a predicate says of an operation: where it holds, the operation gets done
+-- a predicate promises an operation: if it holds, the operation isn't refused
 abbrev pub Promises : Object → ℕ → Op → Type 0
 Promises o pred op = (state : List ℕ) → o.holds state pred ≡ true → 0 < o.reply state op

@@ -27,19 +27,20 @@ pub record IsSame (p q : Token) : Type 0 where
   pub setting : q.me.setting ≡ p.me.setting
   pub mine : q.me.mine ≡ p.me.mine
 
--- the passes are the same, but for what was done
+-- the passes are of the same seats, with the same events
 abbrev pub AreSame : List Token → List Token → Type 0
 AreSame [] [] = Unit {0}
 AreSame [] (q ∷ qs) = ⊥
 AreSame (p ∷ ps) [] = ⊥
 AreSame (p ∷ ps) (q ∷ qs) = IsSame p q × AreSame ps qs
 
--- whatever operations weigh, those of the history weigh as much as those that these passes know as their own
+-- by any weight of operations, those of the history weigh as much as those that these passes know as their own
 abbrev pub HoldsOperationsOf : List Event → List Token → Type 0
 HoldsOperationsOf h passes =
     (weight : Answered → ℕ) → sum_by weight (acts_in h) ≡ sum_by (λ p. sum_by weight (acts_in p.me.mine)) passes
 
--- the history ends where the seat of this pass has come in once more and left; before that it made what its pass knows
+-- the history ends with one more visit of this pass's seat, which only leaves. Before that it made what its pass
+-- knows
 pub record IsClosedBy (h : List Event) (p : Token) : Type 0 where
   pub before : List Event
   pub came : Event
@@ -47,15 +48,15 @@ pub record IsClosedBy (h : List Event) (p : Token) : Type 0 where
   pub ends : h ≡ before ++ came ∷ Leave p.me.seat Entry ∷ []
   pub own : events_of h p.me.seat ≡ p.me.mine ++ came ∷ Leave p.me.seat Entry ∷ []
 
--- the history holds what this seat and these others did and nothing else, each event of it is of the first version, and
--- of a book each read and write was ended
+-- the history holds what this seat and these others did and nothing else, each of its events is of the first version,
+-- and each read and write of a book was ended
 pub record IsWhole (sample : Sample) (h : List Event) (seat : ℕ) (others : List Token) : Type 0 where
   pub only : HoldsOnly h seat others
   pub early : IsOfFirstVersion h
   pub ended : HasEnded sample h
 
--- the history of these passes, closed by the seat of the first: it begins with what each seat has seen, and each other
--- seat has made in it exactly what its pass knows
+-- the history of these passes, closed by the seat of the first. It begins with what each seat has seen, and each
+-- other seat has made in it exactly what its pass knows
 abbrev pub IsLeftBy : List Event → List Token → Type 0
 IsLeftBy h [] = ⊥
 IsLeftBy h (p ∷ ps) = IsClosedBy h p × All (λ q. events_of h q.me.seat ≡ q.me.mine) ps
@@ -75,27 +76,27 @@ IsFirstSpent [] = ⊥
 IsFirstSpent (q ∷ qs) = IsSpent q
 
 module _ (k : Rules) (o : Object) (sample : Sample) where
-  -- the seat of this pass has come in once more, and could not close the hall: somebody was in a queue, or a look found
-  -- somebody at the entry
+  -- the seat of this pass has come in once more and could not close the hall, because somebody was in a queue or a
+  -- look found somebody at the entry
   pub record IsCrowded (p : Token) (ps : List Token) : Type 0 where
     pub active : Holder
     pub back : HasComeBack p ps active
     pub left : Holder
     pub busy : IsBusy k o active left
 
-  -- it has closed the hall, and the history is not whole
+  -- the seat of this pass has closed the hall, and the history is not whole
   pub record IsTorn (p : Token) (ps : List Token) : Type 0 where
     pub history : List Event
     pub closed : IsClosedBy history p
     pub seen : All (λ q. StartsWith history q.me.seen) (p ∷ ps)
     pub torn : IsWhole sample history p.me.seat ps → ⊥
 
-  -- why these seats, each of which has served to its end, have left no history
+  -- why these seats, which have all served to their end, have left no history
   abbrev pub IsUnclosable : List Token → Type 0
   IsUnclosable [] = ⊥
   IsUnclosable (p ∷ ps) = IsCrowded p ps ⊎ IsTorn p ps
 
-  -- why the hall was not closed: there was no memory; or the first could come in, in vain; or it could not
+  -- why the hall was not closed: no memory, or the first seat came in but could not close it, or it could not come in
   abbrev pub IsFaultOfClosing : List Token → CrewFault → Type 0
   IsFaultOfClosing ps e = (e ≡ crew.Memory) ⊎ ((e ≡ crew.Busy) × (IsFirstSpent ps → ⊥) × IsUnclosable ps)
       ⊎ ((e ≡ crew.Tired) × IsFirstSpent ps)

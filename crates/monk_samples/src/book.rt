@@ -1,5 +1,5 @@
-//! Readers and writers: several read at once, one writes alone. A reader begins and ends with two
-//! visits of its own, as a writer does, and reads or writes outside the monitor between them.
+//! Readers and writers: several read at once, one writes alone. A reader begins and ends with a visit each, and so
+//! does a writer. Each reads or writes outside the monitor between the two.
 ghost use Rattle.std.specs.Prelude.{◌≡◌, ◌≤◌, [], ◌∷◌};
 ghost use Rattle.monk_object.specs.Book.{book_meaning};
 ghost use Rattle.monk_samples.specs.Members.{begins_to_read, ends_to_read, begins_to_write, ends_to_write, ends_to_write_for_all};
@@ -15,10 +15,10 @@ use monk_kinds::{NonBlocking, Pick};
 use monk_object::{Book, Guarded, Op};
 use std::sync::Wait;
 
-/// The condition that a read may start.
+/// The condition on which seats wait until a read may start.
 const CAN_READ: u8 = 0;
 
-/// The condition that a write may start.
+/// The condition on which seats wait until a write may start.
 const CAN_WRITE: u8 = 1;
 
 /// The operation that ends a write.
@@ -27,7 +27,7 @@ const END_OF_WRITE: Op = Op {
     arg: 0,
 };
 
-/// Begins to read, once nobody writes, and lets the next reader go on.
+/// Begins to read, when nobody writes, and lets the next reader go on.
 pub fn read_begin<K: Style, R: Wait>(
     pass: Pass<K, Book>,
     rt: &R,
@@ -40,7 +40,7 @@ pub fn read_begin<K: Style, R: Wait>(
     begin_read(pass, rt, hall)
 }
 
-/// Begins to read over an object that means what a book does.
+/// Begins to read, over an object with the meaning of a book.
 pub(crate) fn begin_read<K: Style, T: Guarded, R: Wait>(
     pass: Pass<K, T>,
     rt: &R,
@@ -64,7 +64,7 @@ pub(crate) fn begin_read<K: Style, T: Guarded, R: Wait>(
     act_and_finish(pass, rt, hall, visit)
 }
 
-/// Ends its read. The last reader lets a writer go on if one waits, others let a reader go on.
+/// Ends its read. The last reader lets a writer go on if one waits. Otherwise it lets a reader go on.
 pub fn read_end<K: Style, R: Wait>(
     pass: Pass<K, Book>,
     rt: &R,
@@ -77,7 +77,7 @@ pub fn read_end<K: Style, R: Wait>(
     end_read(pass, rt, hall)
 }
 
-/// Ends its read over an object that means what a book does.
+/// Ends its read, over an object with the meaning of a book.
 pub(crate) fn end_read<K: Style, T: Guarded, R: Wait>(
     pass: Pass<K, T>,
     rt: &R,
@@ -102,7 +102,7 @@ pub(crate) fn end_read<K: Style, T: Guarded, R: Wait>(
     }
 }
 
-/// Begins to write, once nobody reads or writes. It lets nobody go on.
+/// Begins to write, when nobody reads or writes. It lets nobody go on.
 pub fn write_begin<K: Style, R: Wait>(
     pass: Pass<K, Book>,
     rt: &R,
@@ -115,7 +115,7 @@ pub fn write_begin<K: Style, R: Wait>(
     begin_write(pass, rt, hall)
 }
 
-/// Begins to write over an object that means what a book does.
+/// Begins to write, over an object with the meaning of a book.
 pub(crate) fn begin_write<K: Style, T: Guarded, R: Wait>(
     pass: Pass<K, T>,
     rt: &R,
@@ -136,7 +136,7 @@ pub(crate) fn begin_write<K: Style, T: Guarded, R: Wait>(
     }
 }
 
-/// Ends its write. It lets a reader go on if one waits, else a writer.
+/// Ends its write. It lets a reader go on if one waits, and otherwise a writer.
 pub fn write_end<K: Style, R: Wait>(
     pass: Pass<K, Book>,
     rt: &R,
@@ -149,7 +149,7 @@ pub fn write_end<K: Style, R: Wait>(
     end_write(pass, rt, hall)
 }
 
-/// Ends its write over an object that means what a book does.
+/// Ends its write, over an object with the meaning of a book.
 pub(crate) fn end_write<K: Style, T: Guarded, R: Wait>(
     pass: Pass<K, T>,
     rt: &R,
@@ -173,8 +173,8 @@ pub(crate) fn end_write<K: Style, T: Guarded, R: Wait>(
     }
 }
 
-/// Ends its write and lets all waiting readers go on, by one signal to all; if no reader waits, it
-/// lets a writer go on. For kinds whose signaller goes on.
+/// Ends its write and lets all waiting readers go on, by one signal to all. If no reader waits, it lets a writer go
+/// on. It is for kinds whose signaller goes on.
 pub fn write_end_all<K: Style + NonBlocking, R: Wait>(
     pass: Pass<K, Book>,
     rt: &R,

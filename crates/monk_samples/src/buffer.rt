@@ -20,13 +20,13 @@ use monk_kinds::ImmediateReturn;
 use monk_object::{Buffer, Guarded, Op};
 use std::sync::Wait;
 
-/// The condition that there is room for an item.
+/// The condition on which seats wait until there is room for an item.
 const NOT_FULL: u8 = 0;
 
-/// The condition that an item is there.
+/// The condition on which seats wait until an item is there.
 const NOT_EMPTY: u8 = 1;
 
-/// Puts an item into the buffer, once there is room, and lets a taker go on.
+/// Puts an item into the buffer, when there is room, and lets a taker go on.
 pub fn put<K: Style, R: Wait>(
     pass: Pass<K, Buffer>,
     rt: &R,
@@ -40,7 +40,7 @@ pub fn put<K: Style, R: Wait>(
     put_into(pass, rt, hall, item)
 }
 
-/// Puts an item into an object that means what a buffer does.
+/// Puts an item into an object with the meaning of a buffer.
 pub(crate) fn put_into<K: Style, T: Guarded, R: Wait>(
     pass: Pass<K, T>,
     rt: &R,
@@ -65,9 +65,9 @@ pub(crate) fn put_into<K: Style, T: Guarded, R: Wait>(
     act_and_finish(pass, rt, hall, put)
 }
 
-/// Puts an item into the buffer, once there is room, lets a taker go on, and waits until there is room again, by one
-/// call. For kinds of immediate return. It comes back when a taker, or another putter's way out, signals that there is
-/// room.
+/// Puts an item into the buffer, when there is room. Then, by one call, it lets a taker go on and waits until there
+/// is room again. It is for kinds of immediate return. It comes back when a taker, or another putter on its way out,
+/// signals that there is room.
 pub fn put_wait<K: Style + ImmediateReturn, R: Wait>(
     pass: Pass<K, Buffer>,
     rt: &R,
@@ -88,9 +88,8 @@ pub fn put_wait<K: Style + ImmediateReturn, R: Wait>(
     }
 }
 
-/// Takes the oldest item out of the buffer, once one is there, and lets a putter go on. Returns the
-/// item exactly if it took one: always on `Done`, and on `Tired` if it became tired only after the
-/// take.
+/// Takes the oldest item out of the buffer, when one is there, and lets a putter go on. Returns the item if, and only
+/// if, it took one: always on `Done`, and on `Tired` if it became tired only after the take.
 pub fn take<K: Style, R: Wait>(
     pass: Pass<K, Buffer>,
     rt: &R,
@@ -115,7 +114,7 @@ pub fn take<K: Style, R: Wait>(
     }
 }
 
-/// Takes the oldest item out of an object that means what a buffer does, for a caller who doesn't look at it.
+/// Takes the oldest item out of an object with the meaning of a buffer, for a caller who doesn't look at it.
 pub(crate) fn take_from<K: Style, T: Guarded, R: Wait>(
     pass: Pass<K, T>,
     rt: &R,
@@ -139,8 +138,8 @@ pub(crate) fn take_from<K: Style, T: Guarded, R: Wait>(
     act_and_finish(pass, rt, hall, visit)
 }
 
-/// Puts an item in haste into an object that means what a buffer does, and lets a taker go on: it looks for room once,
-/// and comes again where the put was refused.
+/// Puts an item in haste into an object with the meaning of a buffer, and lets a taker go on. It looks for room once,
+/// and comes again if the put was refused.
 pub(crate) fn put_hastily<K: Style, T: Guarded, R: Wait>(
     pass: Pass<K, T>,
     rt: &R,
@@ -165,8 +164,8 @@ pub(crate) fn put_hastily<K: Style, T: Guarded, R: Wait>(
     act_and_finish_in_haste(pass, rt, hall, visit)
 }
 
-/// Takes the oldest item in haste out of an object that means what a buffer does, and lets a putter go on: it looks for
-/// an item once, and comes again where the take was refused.
+/// Takes the oldest item in haste out of an object with the meaning of a buffer, and lets a putter go on. It looks
+/// for an item once, and comes again if the take was refused.
 pub(crate) fn take_hastily<K: Style, T: Guarded, R: Wait>(
     pass: Pass<K, T>,
     rt: &R,
@@ -190,7 +189,7 @@ pub(crate) fn take_hastily<K: Style, T: Guarded, R: Wait>(
     act_and_finish_in_haste(pass, rt, hall, visit)
 }
 
-/// The item that a take took out, by the buffer's reply.
+/// Returns the item that a take took out, by the buffer's reply.
 fn item_of(reply: u64) -> u32
     requires done { 0 < reply }
     requires within { reply ≤ 2 ^ 32 }

@@ -18,7 +18,7 @@ use monk_object::Guarded;
 use std::alloc::Global;
 use std::sync::Wait;
 
-/// The first of these passes, and the others in order, each of which has told it what its seat has seen.
+/// Returns the first of these passes, and the others in order. The first has met each of the others.
 fn meet_all<K: Kind, T: Guarded>(
     alloc: Global,
     hall: &Hall<K, T>,
@@ -45,8 +45,8 @@ fn meet_all<K: Kind, T: Guarded>(
     Ok((first, others))
 }
 
-/// The first seat comes in once more and closes the hall, and its history is given out where it holds what these seats
-/// did and nothing else, all of it in the words of the first version, and of a book each read and write was ended.
+/// Lets the first seat come in once more and close the hall. Returns the history if it holds what these seats did and
+/// nothing else, if all its events are in the first version, and if each read and write of a book was ended.
 pub(crate) fn close_by<K: Kind, T: Guarded, R: Wait>(
     rt: &R,
     alloc: Global,
@@ -83,8 +83,8 @@ pub(crate) fn close_by<K: Kind, T: Guarded, R: Wait>(
     }
 }
 
-/// Whether the history holds what this seat and these others did and nothing else, all of it in the words of the first
-/// version, and of a book each read and write was ended.
+/// Whether the history holds what this seat and these others did and nothing else, all its events are in the first
+/// version, and each read and write of a book was ended.
 fn is_whole<K: Kind, T: Guarded>(
     rota: Rota,
     history: &[Event],

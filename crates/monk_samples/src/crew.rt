@@ -24,7 +24,7 @@ mod threads;
 
 pub(crate) use threads::work_all;
 
-/// The seats that have rounds to work, in order, and the last one where it has none.
+/// Returns the seats that have rounds to work, in order, and the last seat if it has none.
 pub(crate) fn part_idle<K: Kind, T: Guarded>(
     passes: Vec<Pass<K, T>>,
     rota: Rota,
@@ -40,7 +40,7 @@ pub(crate) fn part_idle<K: Kind, T: Guarded>(
     (working, idle)
 }
 
-/// The passes that the workers have given back, and behind them that of a seat that was idle.
+/// Returns the passes of the workers, and after them that of the seat that was idle, if there is one.
 pub(crate) fn with_idle<K: Kind, T: Guarded>(
     passes: Vec<Pass<K, T>>,
     idle: Option<Pass<K, T>>,
@@ -55,7 +55,7 @@ pub(crate) fn with_idle<K: Kind, T: Guarded>(
     Ok(all)
 }
 
-/// A worker for each of these seats, in order.
+/// Makes a worker for each of these seats, in order.
 pub(crate) fn workers<'a, K: Kind, T: Guarded, R, G>(
     rt: &'a R,
     hall: &'a Hall<K, T>,
@@ -84,7 +84,7 @@ pub(crate) fn workers<'a, K: Kind, T: Guarded, R, G>(
     Ok(workers)
 }
 
-/// Waits for all, and gives their passes in order; or the fault of the first that did not end well.
+/// Waits for all workers. Returns their passes in order, or the fault of the first that did not end well.
 pub(crate) fn join_all<K: Kind, T: Guarded, R: Threads, G: Gate>(
     alloc: Global,
     rt: &R,
@@ -106,7 +106,7 @@ pub(crate) fn join_all<K: Kind, T: Guarded, R: Threads, G: Gate>(
     let mut passes = Vec::with_capacity(alloc, crew.len() + 1)?;
     let mut fault = None;
     for shift in crew {
-        // A worker goes home only where not all could be started.
+        // A worker goes home only if not all could be started.
         let Some((pass, end)) = shift.join(rt) else {
             return Err(CrewFault::Thread);
         };
@@ -119,7 +119,7 @@ pub(crate) fn join_all<K: Kind, T: Guarded, R: Threads, G: Gate>(
     }
 }
 
-/// The fault that an end is, if it is one.
+/// Returns the fault that an end is, if it is one.
 fn fault_of(end: End) -> Option<CrewFault>
     ensures { result ≡ fault_of end }
 {
@@ -130,7 +130,7 @@ fn fault_of(end: End) -> Option<CrewFault>
     }
 }
 
-/// The first fault: one that there was, or else that of the end after it.
+/// Returns the first fault: the earlier one if there is one, and otherwise that of the end after it.
 fn fault_after(fault: Option<CrewFault>, end: End) -> Option<CrewFault>
     ensures { result ≡ fault_after fault end }
 {

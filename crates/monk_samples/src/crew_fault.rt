@@ -6,7 +6,7 @@ use crate::run_fault::RunFault;
 use std::alloc::{AllocError, AllocFailed};
 use thiserror::Error;
 
-/// Why the crew of a run has left no history. What was asked for was in range.
+/// Why the crew of a run has left no history. What the caller asked for was in range.
 #[derive(Debug, Drop, Error)]
 pub(crate) enum CrewFault {
     #[error("memory")]
@@ -22,7 +22,7 @@ pub(crate) enum CrewFault {
 }
 
 impl CrewFault {
-    /// The same, of the run.
+    /// Returns this fault as one of the run.
     pub(crate) fn of_run(self) -> RunFault
         ensures { result ≡ run_fault_of self }
     {

@@ -12,8 +12,8 @@ use monk_object::Guarded;
 use std::snapshot::Snapshot;
 use std::thread::{Promise, PromisedHandle};
 
-/// What a worker promises: if it has begun, the pass that it gives back is of its hall, and its
-/// seat has served by its rota.
+/// What a worker promises: if it has begun, the pass that it returns is of its hall, and its seat has served by its
+/// rota.
 #[derive(Drop)]
 pub(crate) struct Duty<K: Kind, T: Guarded, G: Gate> {
     pub(crate) hall: Snapshot<Hall<K, T>>,
@@ -23,7 +23,7 @@ pub(crate) struct Duty<K: Kind, T: Guarded, G: Gate> {
 }
 
 impl<K: Kind, T: Guarded, G: Gate> Duty<K, T, G> {
-    /// What this worker promises.
+    /// Returns what this worker promises.
     pub(crate) fn of<R>(worker: &Worker<'_, K, T, R, G>) -> Self
         ensures hall { result.hall.value ≡ worker.now.hall.now }
         ensures gate { result.gate.value ≡ worker.now.gate.now }
@@ -46,5 +46,5 @@ impl<K: Kind, T: Guarded, G: Gate> Promise<Option<(Pass<K, T>, End)>> for Duty<K
         p.pass.value r.0 r.1) };
 }
 
-/// The thread of a worker, which gives nothing back where it never began.
+/// The thread of a worker. It returns `None` if the worker never began.
 pub(crate) type Shift<K, T, G> = PromisedHandle<Option<(Pass<K, T>, End)>, Duty<K, T, G>>;

@@ -5,6 +5,6 @@ pub enum End {
     Done,
     /// Its seat had too few events left for what came next. It has left the monitor.
     Tired,
-    /// It was told to stop before it came. No member answers this: it is for whoever calls members in rounds.
+    /// It was stopped before it came. No member returns this: it is for code that calls members in rounds.
     Late,
 }

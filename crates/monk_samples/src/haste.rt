@@ -1,5 +1,5 @@
-//! Visits in haste: an `if` where a `while` belongs. Under some kinds that is right, and under
-//! others what was waited for may be gone when the seat goes on.
+//! Visits in haste: an `if` in place of a `while`. Under some kinds that is right. Under others, what a seat waited
+//! for may be gone when it goes on.
 ghost use Rattle.std.specs.Prelude.{◌≡◌, ◌+◌, ◌<◌, ◌≤◌, false, [], ◌∷◌, Some, IfOk, IfErr, MatchResult, length};
 ghost use Rattle.monk_history.specs.Meaning.Events.{has_conditions};
 ghost use Rattle.monk_samples.specs.Styles.{HoldsByKind, Offers};
@@ -19,7 +19,7 @@ use std::thread;
 /// How often a hasty seat lets other threads run before it goes out.
 const TURNS_INSIDE: u8 = 8;
 
-/// Pauses once, where the predicate is false.
+/// Pauses once, if the predicate is false.
 fn pause_once<K: Style, T: Guarded, R: Wait>(
     active: Active<K, T>,
     rt: &R,
@@ -41,7 +41,7 @@ fn pause_once<K: Style, T: Guarded, R: Wait>(
     K::pause_by(active, rt, hall, cond, pred, Pick::Entry)
 }
 
-/// Comes in, pauses once where the predicate is false, and asks for the operation then, whatever holds.
+/// Comes in, pauses once if the predicate is false, and then asks for the operation, whatever holds.
 fn act_in_haste<K: Style, T: Guarded, R: Wait>(
     pass: Pass<K, T>,
     rt: &R,
@@ -78,7 +78,7 @@ fn let_callers_come() {
     }
 }
 
-/// Tries a visit once. Gives the pass alone where the operation was refused; then it has left without a signal.
+/// Tries a visit once. Returns only the pass if the operation was refused; then it has left without a signal.
 fn try_once<K: Style, T: Guarded, R: Wait>(
     pass: Pass<K, T>,
     rt: &R,
@@ -109,8 +109,8 @@ fn try_once<K: Style, T: Guarded, R: Wait>(
     Ok(K::finish_by(active, rt, hall, visit.next, Pick::Entry))
 }
 
-/// Comes in, pauses once where the predicate is false, does its operation, and goes out letting a seat of the
-/// condition `next` go on. Where the operation was refused it leaves, and comes again. Each of its releases wishes for
+/// Comes in, pauses once if the predicate is false, does its operation, and on its way out lets a seat of the
+/// condition `next` go on. If the operation was refused, it leaves and comes again. Each of its releases wishes for
 /// entry.
 pub(crate) fn act_and_finish_in_haste<K: Style, T: Guarded, R: Wait>(
     pass: Pass<K, T>,

@@ -3,7 +3,7 @@ use monk_history::{Event, Header};
 /// What a run over a buffer in haste leaves.
 #[derive(Drop)]
 pub struct HastyOutcome {
-    /// The puts that were done, the sum of their items, the takes, the sum of theirs.
+    /// The number of puts, the sum of their items, the number of takes, the sum of theirs. Refused ones don't count.
     pub totals: [u64; 4],
     /// How many acts were refused, with reply 0: each came too late.
     pub missed: u64,

@@ -5,7 +5,7 @@ use crate::rota::Rota;
 use monk_history::Header;
 use monk_kinds::{Kind, Mode, rules_of};
 
-/// The header of the run's history.
+/// Returns the header of the run's history.
 pub(crate) fn header_of<K: Kind>(rota: Rota) -> Header
     ensures { result ≡ run_heading K.NAME rota.scenario rota.seats }
 {
@@ -23,7 +23,7 @@ pub(crate) fn header_of<K: Kind>(rota: Rota) -> Header
     }
 }
 
-/// How many conditions a run has under the kind.
+/// Returns how many conditions a run has under the kind.
 pub(crate) fn conds_of<K: Kind>() -> u8
     ensures { result ≡ conds_of K.rules }
 {

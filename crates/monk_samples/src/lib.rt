@@ -1,9 +1,9 @@
 //! Sample monitors, each written once for all ten kinds: a bounded buffer, a book of readers and writers, a barber's
 //! shop.
 //!
-//! A member is a function that a task calls with its pass: it comes in, pauses while its predicate is false, does its
-//! operation, and goes out in a way that lets the next one go on. How a seat pauses and goes out is the kind's `Style`,
-//! so that a member is the same text for a monitor of Hoare, of Mesa, or without signals.
+//! A member is a function that a task calls with its pass. It comes in, pauses while its predicate is false, does its
+//! operation, and goes out in a way that lets the next one go on. The kind's `Style` says how a seat pauses and goes
+//! out. So a member is the same text for a monitor of Hoare, of Mesa, or without signals.
 #![tactic(auto)]
 
 mod book;

@@ -3,6 +3,6 @@
 pub(crate) enum Manner {
     /// It pauses while its predicate is false (`while`), and wishes for a waiter.
     Patient,
-    /// It pauses once at most where its predicate is false (`if`), acts then whatever holds, and wishes for entry.
+    /// If its predicate is false, it pauses once (`if`). It then acts, whatever holds, and wishes for entry.
     Hasty,
 }

@@ -17,8 +17,8 @@ pub(crate) struct Rota {
 }
 
 impl Rota {
-    /// How many rounds a seat has: in a shop the first seat is the barber, who has one for each of every other's, and
-    /// else an odd last seat stays idle.
+    /// Returns how many rounds a seat has. In a shop the first seat is the barber, who has one for each round of
+    /// every other seat. In the other samples an odd last seat stays idle.
     pub(crate) fn rounds_of(&self, seat: u8) -> u32
         ensures { result ≡ rounds_of self.now.scenario.sample self.now.seats self.now.rounds seat }
     {
@@ -30,7 +30,7 @@ impl Rota {
         }
     }
 
-    /// How many seats of a buffer or of a book work: two halves.
+    /// Returns how many seats of a buffer or of a book work: two halves.
     fn working_seats(&self) -> u8
         ensures { result ≡ self.now.seats / 2 * 2 }
     {

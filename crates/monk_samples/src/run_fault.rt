@@ -5,7 +5,7 @@ use thiserror::Error;
 /// Why a run has no outcome.
 #[derive(Debug, Drop, PartialEq, Eq, Error)]
 pub enum RunFault {
-    /// There are to be 2 to 16 seats, and 1 to 1000 rounds: number 1.
+    /// The number of seats is not 2 to 16, or that of rounds not 1 to 1000: number 1.
     #[error("seats or rounds out of range")]
     Range,
     /// A request for memory was refused: number 2.
@@ -17,8 +17,8 @@ pub enum RunFault {
     /// The gate sent a worker away: number 4.
     #[error("late")]
     Late,
-    /// Somebody was still in the hall, or at its entry, when the first seat wanted to close it; or the history holds
-    /// something else: number 5.
+    /// The hall could not be closed, because somebody was in it or at its entry; or the history holds something else,
+    /// or a read or a write of a book was not ended: number 5.
     #[error("busy")]
     Busy,
     /// A thread could not be started: number 6.
@@ -27,7 +27,7 @@ pub enum RunFault {
 }
 
 impl RunFault {
-    /// The fault's number: 1 for `Range`, 2 for `Memory`, 3 for `Tired`, 4 for `Late`, 5 for `Busy`, 6 for `Thread`.
+    /// Returns its number: 1 for `Range`, 2 for `Memory`, 3 for `Tired`, 4 for `Late`, 5 for `Busy`, 6 for `Thread`.
     pub fn number(&self) -> u8
         ensures range { (result ≡ 1) ↔ (self.now ≡ RunFault.Range) }
         ensures memory { (result ≡ 2) ↔ (self.now ≡ RunFault.Memory) }

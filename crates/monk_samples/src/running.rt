@@ -37,28 +37,26 @@ use std::alloc::Global;
 use std::sync::Wait;
 use std::thread::Threads;
 
-/// Runs a sample under the kind K with 2 to 16 seats, each at work for 1 to 1000 rounds in a thread
-/// of its own, and reads the totals from its history.
+/// Runs a sample under the kind K with 2 to 16 seats, and reads the totals from its history. Each seat works for 1 to
+/// 1000 rounds in its own thread.
 ///
-/// For a buffer half of the seats put and as many take; for a book, half read and as many write.
-/// With an odd number of seats the last one stays idle. In a shop the first seat is the barber, who
-/// has a turn for each visit of the other seats. No worker begins before all are there, and none
-/// waits for another to end before it begins. When all have ended, every other pass meets the first
-/// seat's, which comes in once more and closes the hall.
+/// For a buffer half of the seats put and as many take; for a book, half read and as many write. With an odd number
+/// of seats the last one stays idle. In a shop the first seat is the barber, who has a turn for each visit of the
+/// other seats. No worker begins before all are there, and none waits for another to end before it begins. When all
+/// have ended, every other pass meets the first seat's. That seat comes in once more and closes the hall.
 ///
 /// # Errors
 ///
-/// `Range`, and nothing is started; `Memory` if a request for memory was refused; `Thread` where a
-/// thread was not started, and then no worker has begun; the end of the lowest seat that did not
-/// end well, `Tired` or `Late`; `Tired` where the first seat has too little left to come in once
-/// more; `Busy` where the hall can't be closed, or its history holds more than these seats did, or
-/// of a book a read or a write that was not ended. A worker that ends early may leave others
-/// waiting for good: then this does not return.
+/// `Range` if a number is out of range; then nothing is started. `Memory` if a request for memory was refused.
+/// `Thread` if a thread was not started; then no worker has begun. `Tired` or `Late` is the end of the lowest seat
+/// that did not end well. `Tired` also if the first seat has too few events left to come in once more. `Busy` if the
+/// hall can't be closed, if its history holds more than these seats did, or if a read or a write of a book was not
+/// ended. A worker that ends early may leave others waiting for good: then this does not return.
 ///
 /// # Cost
 ///
-/// Memory for the budgets of all seats, `64 + rounds * (40 + 32 * seats)` events each, at once;
-/// two to four passes over the history for the totals, and of a book four more.
+/// Memory for the budgets of all seats, `64 + rounds * (40 + 32 * seats)` events each, at once. Two to four passes
+/// over the history for the totals, and four more for a book.
 pub fn run<K: Style, R: Threads + Wait + Sync, G: Gate>(
     rt: &R,
     alloc: Global,
@@ -68,17 +66,17 @@ pub fn run<K: Style, R: Threads + Wait + Sync, G: Gate>(
     gate: &G,
 ) -> Result<Outcome, RunFault>
     ensures outcome { IfOk result (λ o. IsOutcome K.NAME (patiently sample) seats o.header o.history.items o.totals) }
-    // The range is refused exactly where a number is out of it.
+    // It returns `Range` if, and only if, a number is out of range.
     ensures range { IsErrOf result RunFault.Range ↔ ((seats < 2) ⊎ (16 < seats) ⊎ (rounds < 1) ⊎ (1000 < rounds)) }
     ensures in_range { OnOk result (IsInRange seats rounds) }
-    // Each seat has served to its end, let in by the gate to each of its rounds, and the history is
-    // what they have left; or why it has no outcome.
+    // Each seat has served to its end, let in by the gate to each of its rounds, and the history is what they have
+    // left. Or the fault says why there is no outcome.
     ensures served { IfOk result (λ o. HasLeft K.rules (G.answers gate.now) (patiently sample) seats rounds
         o.history.items) }
     ensures fault { IfErr result (IsFaultOfRun K.rules (G.answers gate.now) (patiently sample) seats rounds) }
-    // The totals are those of the seats and the rounds, whatever the kind and the schedule.
+    // The totals follow from the seats and the rounds, whatever the kind and the schedule.
     ensures totals { IfOk result (λ o. HasTotals sample seats rounds o.totals) }
-    // A buffer, whose seats look again, refuses nothing.
+    // A buffer whose seats look again refuses nothing.
     ensures none_refused { IfOk result (λ o. sample ≡ Sample.Buffer → missed_in o.history.items ≡ 0) }
 {
     let scenario = Scenario {
@@ -88,10 +86,9 @@ pub fn run<K: Style, R: Threads + Wait + Sync, G: Gate>(
     run_by::<K, R, G>(rt, alloc, scenario, seats, rounds, gate)
 }
 
-/// Runs a buffer of one place in haste, with an `if` where a `while` belongs. A seat looks at its
-/// predicate once, acts then whatever holds, and comes again where its act was refused. Its releases
-/// wish for entry. So under some kinds an item is gone when the seat that was signalled goes on.
-/// The rest, what it costs too, is as for [`run`] of a buffer.
+/// Runs a buffer of one place in haste, with an `if` in place of a `while`. A seat looks at its predicate once, then
+/// acts, whatever holds, and comes again if its act was refused. Its releases wish for entry. So under some kinds an
+/// item is gone when the seat that was signalled goes on. The rest, also the cost, is as for [`run`] of a buffer.
 ///
 /// # Errors
 ///
@@ -109,10 +106,10 @@ pub fn run_hasty<K: Style, R: Threads + Wait + Sync, G: Gate>(
     ensures served { IfOk result (λ o. HasLeft K.rules (G.answers gate.now) in_haste seats rounds o.history.items) }
     ensures fault { IfErr result (IsFaultOfRun K.rules (G.answers gate.now) in_haste seats rounds) }
     ensures totals { IfOk result (λ o. HasTotals Sample.Buffer seats rounds o.totals) }
-    // So many of its acts were refused, and this is the step of the first.
+    // How many of its acts were refused, and the step of the first.
     ensures missed { IfOk result (λ o. o.missed ≡ missed_in o.history.items) }
     ensures first { IfOk result (λ o. o.first ≡ first_missed o.history.items) }
-    // Under an automatic kind nobody comes between, and none is refused.
+    // Under an automatic kind nobody comes between, so no act is refused.
     ensures none_missed { IfOk result (λ o. has_conditions K.rules.mode ≡ false → o.missed ≡ 0) }
 {
     let scenario = Scenario {
@@ -156,7 +153,7 @@ fn run_by<K: Style, R: Threads + Wait + Sync, G: Gate>(
     }
 }
 
-/// The outcome of a run in haste, with what its history says of the acts that were refused.
+/// Returns the outcome of a run in haste, with what its history says of the acts that were refused.
 fn with_misses(outcome: Outcome) -> HastyOutcome
     requires { length outcome.history.items ≤ 2 ^ 24 }
     ensures missed { result.missed ≡ missed_in outcome.history.items }
@@ -179,7 +176,7 @@ fn with_misses(outcome: Outcome) -> HastyOutcome
     }
 }
 
-/// The history of a run over the object of its sample.
+/// Makes a run over the object of its sample. Returns its history.
 fn run_named<K: Style, R: Threads + Wait + Sync, G: Gate>(
     rt: &R,
     alloc: Global,
@@ -198,7 +195,7 @@ fn run_named<K: Style, R: Threads + Wait + Sync, G: Gate>(
     }
 }
 
-/// The history of a run over a buffer.
+/// Makes a run over a buffer. Returns its history.
 fn run_buffer<K: Style, R: Threads + Wait + Sync, G: Gate>(
     rt: &R,
     alloc: Global,
@@ -220,7 +217,7 @@ fn run_buffer<K: Style, R: Threads + Wait + Sync, G: Gate>(
     run_over::<K, Buffer, R, G>(rt, alloc, rota, gate, buffer)
 }
 
-/// The history of a run over a book.
+/// Makes a run over a book. Returns its history.
 fn run_book<K: Style, R: Threads + Wait + Sync, G: Gate>(
     rt: &R,
     alloc: Global,
@@ -240,7 +237,7 @@ fn run_book<K: Style, R: Threads + Wait + Sync, G: Gate>(
     run_over::<K, Book, R, G>(rt, alloc, rota, gate, book)
 }
 
-/// The history of a run over a shop.
+/// Makes a run over a shop. Returns its history.
 fn run_shop<K: Style, R: Threads + Wait + Sync, G: Gate>(
     rt: &R,
     alloc: Global,
@@ -260,7 +257,7 @@ fn run_shop<K: Style, R: Threads + Wait + Sync, G: Gate>(
     run_over::<K, Shop, R, G>(rt, alloc, rota, gate, shop)
 }
 
-/// The history of a run over this object.
+/// Makes a run over this object. Returns its history.
 fn run_over<K: Style, T: Guarded, R: Threads + Wait + Sync, G: Gate>(
     rt: &R,
     alloc: Global,
@@ -281,7 +278,7 @@ fn run_over<K: Style, T: Guarded, R: Threads + Wait + Sync, G: Gate>(
     close_by(rt, alloc, rota, hall, passes)
 }
 
-/// A hall for the run, with all its passes.
+/// Makes a hall for the run, and returns it with all its passes.
 fn open<K: Kind, T: Guarded>(
     alloc: Global,
     object: T,
@@ -303,7 +300,7 @@ fn open<K: Kind, T: Guarded>(
     }
 }
 
-/// What the run leaves, of which this is the history.
+/// Returns what the run with this history leaves.
 fn outcome<K: Kind>(rota: Rota, history: Vec<Event>) -> Outcome
     requires { IsHistoryOf K.rules rota.scenario rota.seats rota.rounds history.items }
     ensures outcome { IsOutcome K.NAME rota.scenario rota.seats result.header result.history.items result.totals }

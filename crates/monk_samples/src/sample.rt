@@ -16,7 +16,7 @@ pub enum Sample {
 }
 
 impl Sample {
-    /// The object that the sample's monitor guards. Each version of a text names it.
+    /// Returns the object that the sample's monitor guards. Each version of a text names it.
     pub fn object(self) -> ObjectName
         ensures object { result ≡ sample_object self }
         ensures early { object_version result ≡ 1 }

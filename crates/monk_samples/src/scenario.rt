@@ -13,13 +13,13 @@ pub(crate) struct Scenario {
 }
 
 impl Scenario {
-    /// The size of its object.
+    /// Returns the size of its object.
     pub(crate) fn size(self) -> u8
         ensures { result ≡ size_in self.manner }
     {
         match self.manner {
             Manner::Patient => 4,
-            // With one place the seats wait for each other most often.
+            // With one place the seats wait most often for each other.
             Manner::Hasty => 1,
         }
     }

@@ -1,5 +1,5 @@
-//! A barber's shop: a customer comes in, sits, has its hair cut and departs; the barber calls one after the other. Each
-//! goes to the shop's monitor twice.
+//! A barber's shop. A customer comes in, sits, has its hair cut and departs. The barber calls one customer after the
+//! other. Each makes two visits to the shop's monitor.
 ghost use Rattle.std.specs.Prelude.{◌≡◌, [], ◌∷◌};
 ghost use Rattle.monk_object.specs.Shop.{shop_meaning};
 ghost use Rattle.monk_samples.specs.Members.{sits, departs, calls, finishes};
@@ -13,13 +13,13 @@ use monk_hall::{Hall, Pass};
 use monk_object::{Guarded, Op, Shop};
 use std::sync::Wait;
 
-/// The condition that a seat is free.
+/// The condition on which customers wait until a seat is free.
 const SEAT_FREE: u8 = 0;
 
-/// The condition that a customer may be called.
+/// The condition on which the barber waits until a customer may be called.
 const CUSTOMER_SITS: u8 = 1;
 
-/// The condition that a cut is done.
+/// The condition on which customers wait until a cut is done.
 const CUT_DONE: u8 = 2;
 
 /// A customer sits down.
@@ -46,8 +46,8 @@ const FINISH: Op = Op {
     arg: 0,
 };
 
-/// Has its hair cut: sits down once a seat is free, and departs once its hair is cut. Customers are not told apart, so
-/// whoever comes first takes the cut that is done.
+/// Has its hair cut: sits down when a seat is free, and departs when its hair is cut. Customers are counted and not
+/// told apart, so the first that comes takes the cut that is done.
 pub fn sit_and_cut<K: Style, R: Wait>(
     pass: Pass<K, Shop>,
     rt: &R,
@@ -60,7 +60,7 @@ pub fn sit_and_cut<K: Style, R: Wait>(
     have_cut(pass, rt, hall)
 }
 
-/// Has its hair cut in an object that means what a shop does.
+/// Has its hair cut in an object with the meaning of a shop.
 pub(crate) fn have_cut<K: Style, T: Guarded, R: Wait>(
     pass: Pass<K, T>,
     rt: &R,
@@ -90,8 +90,8 @@ pub(crate) fn have_cut<K: Style, T: Guarded, R: Wait>(
     }
 }
 
-/// A turn of the barber: calls the next customer once one sits and the chair is empty, and finishes the cut. Nothing
-/// says that the cut is his to finish, so that call may be answered 0.
+/// Makes a turn of the barber. He calls the next customer when one sits and the chair is empty, and finishes the cut.
+/// Nothing promises that the cut is his to finish, so the reply of that act may be 0.
 pub fn barber_turn<K: Style, R: Wait>(
     pass: Pass<K, Shop>,
     rt: &R,
@@ -104,7 +104,7 @@ pub fn barber_turn<K: Style, R: Wait>(
     take_turn(pass, rt, hall)
 }
 
-/// A turn of the barber in an object that means what a shop does.
+/// Makes a turn of the barber in an object with the meaning of a shop.
 pub(crate) fn take_turn<K: Style, T: Guarded, R: Wait>(
     pass: Pass<K, T>,
     rt: &R,
@@ -128,7 +128,7 @@ pub(crate) fn take_turn<K: Style, T: Guarded, R: Wait>(
     }
 }
 
-/// The barber's second visit.
+/// Makes the barber's second visit.
 fn finish_cut<K: Style, T: Guarded, R: Wait>(
     pass: Pass<K, T>,
     rt: &R,

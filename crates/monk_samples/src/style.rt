@@ -12,14 +12,14 @@ use std::sync::Wait;
 /// How a seat waits for others and lets them go on, under a kind of monitor. A member that is generic over `K: Style`
 /// serves all ten kinds.
 ///
-/// A member names a condition variable and the predicate that goes with it; a kind uses the one
-/// that it has. The wish of `pause` and `finish` is for a waiter, so that whoever was signalled
-/// goes on where the priorities leave it open.
+/// A member names a condition variable and the predicate that goes with it, and a kind uses the one that it has. The
+/// wish of `pause` and `finish` is for a waiter: if the priorities leave it open, the seat that was signalled goes
+/// on.
 pub trait Style: Kind {
-    /// Pauses: waits on the condition until it is signalled, or under an automatic kind until the predicate holds. The
-    /// predicate need not hold afterwards where others may come in between, so a caller looks again.
+    /// Pauses: waits on the condition until it is signalled, or under an automatic kind until the predicate holds. If
+    /// others may come in between, the predicate need not hold afterwards, so a caller looks again.
     ///
-    /// With fewer than three events left it leaves in place of that, and gives the pass.
+    /// With fewer than three events left it leaves instead, and returns the pass.
     final fn pause<T: Guarded, R: Wait>(
         active: Active<Self, T>,
         rt: &R,
@@ -35,7 +35,7 @@ pub trait Style: Kind {
         Self::pause_by(active, rt, hall, cond, pred, Pick::Waiter)
     }
 
-    /// Pauses as [`pause`](Style::pause) does, with a wish of its own for whom its release lets go on.
+    /// Pauses as [`pause`](Style::pause) does, with its own wish for whom its release lets go on.
     final fn pause_by<T: Guarded, R: Wait>(
         active: Active<Self, T>,
         rt: &R,
@@ -57,11 +57,11 @@ pub trait Style: Kind {
         }
     }
 
-    /// Goes out, and signals the condition on the way: a signal and a leave, or one that does both. Under an automatic
-    /// kind it leaves, which lets a task go on whose predicate holds.
+    /// Goes out, and signals the condition on the way: by a signal and a leave, or by one call that does both. Under
+    /// an automatic kind it leaves, which lets a task go on whose predicate holds.
     ///
-    /// `Tired` where a kind with a signaller queue finds fewer than three events left: then it has left without a
-    /// signal. Never `Late`.
+    /// Returns `Tired` if the kind has a signaller queue and fewer than three events are left; then it has left
+    /// without a signal. It never returns `Late`.
     final fn finish<T: Guarded, R: Wait>(
         active: Active<Self, T>,
         rt: &R,
@@ -75,7 +75,7 @@ pub trait Style: Kind {
         Self::finish_by(active, rt, hall, cond, Pick::Waiter)
     }
 
-    /// Goes out as [`finish`](Style::finish) does, with a wish of its own for whom its releases let go on.
+    /// Goes out as [`finish`](Style::finish) does, with its own wish for whom its releases let go on.
     final fn finish_by<T: Guarded, R: Wait>(
         active: Active<Self, T>,
         rt: &R,
@@ -94,7 +94,7 @@ pub trait Style: Kind {
         }
     }
 
-    /// Whether somebody waits on the condition. Under an automatic kind nobody does.
+    /// Whether somebody waits on the condition. Under an automatic kind the answer is always no.
     final fn waits<T: Guarded>(active: &Active<Self, T>, cond: u8) -> bool
         requires { Offers Self.rules active.now.me.setting.conds (cond + 1) }
         ensures { result ≡ has_waiting Self.rules cond active.now.floor.history }

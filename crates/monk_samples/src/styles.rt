@@ -1,4 +1,4 @@
-//! How each mode pauses and goes out, where that is more than one call.
+//! How each mode pauses and goes out, if that takes more than one call.
 
 pub(crate) mod automatic;
 pub(crate) mod conditional;

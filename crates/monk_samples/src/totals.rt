@@ -10,7 +10,7 @@ use crate::sample::Sample;
 use monk_history::Event;
 use monk_object::{Book, Buffer, Shop};
 
-/// The totals of a run of that sample, in one pass over the history for each.
+/// Returns the totals of a run of that sample. It makes one pass over the history for each.
 pub(crate) fn totals_of(sample: Sample, history: &[Event]) -> [u64; 4]
     requires few { length history.now ≤ 2 ^ 26 }
     requires law { (size : _) × (state : _) × KeepsLaw sample size state history.now }
@@ -38,7 +38,7 @@ pub(crate) fn totals_of(sample: Sample, history: &[Event]) -> [u64; 4]
     }
 }
 
-/// Whether what a run has to end was ended: of a book each read and each write that was begun.
+/// Whether everything that a run has to end was ended. For a book this is each read and each write that was begun.
 pub(crate) fn has_ended(sample: Sample, history: &[Event]) -> bool
     ensures { (result ≡ true) ↔ HasEnded sample history.now }
 {
@@ -51,7 +51,7 @@ pub(crate) fn has_ended(sample: Sample, history: &[Event]) -> bool
     }
 }
 
-/// How often the operation of that code was done.
+/// Returns how often the operation of that code was done.
 fn times(history: &[Event], code: u8) -> u64
     ensures { result ≡ count_done code history.now }
 {
@@ -64,7 +64,7 @@ fn times(history: &[Event], code: u8) -> u64
     count
 }
 
-/// How many acts were refused.
+/// Returns how many acts were refused.
 pub(crate) fn missed_in(history: &[Event]) -> u64
     ensures { result ≡ missed_in history.now }
 {
@@ -77,7 +77,7 @@ pub(crate) fn missed_in(history: &[Event]) -> u64
     count
 }
 
-/// The step of the first act that was refused, counted from 1.
+/// Returns the step of the first act that was refused, counted from 1.
 pub(crate) fn first_missed(history: &[Event]) -> Option<u32>
     requires few { length history.now ≤ 2 ^ 26 }
     ensures { result ≡ first_missed history.now }
@@ -88,7 +88,7 @@ pub(crate) fn first_missed(history: &[Event]) -> Option<u32>
     }
 }
 
-/// Where the first act stands that was refused.
+/// Returns the place of the first act that was refused.
 fn first_refused(history: &[Event]) -> Option<usize>
     ensures is { result ≡ position is_refused_act history.now }
     ensures within { IfSome result (λ place. place < length history.now) }
@@ -96,7 +96,7 @@ fn first_refused(history: &[Event]) -> Option<usize>
     history.iter().position(|event| is_refused(event))
 }
 
-/// The items put, added up.
+/// Returns the sum of the items that were put.
 fn items_put(history: &[Event]) -> u64
     requires { length history.now ≤ 2 ^ 26 }
     ensures { result ≡ sum_put history.now }
@@ -108,7 +108,7 @@ fn items_put(history: &[Event]) -> u64
     sum
 }
 
-/// The items taken, added up.
+/// Returns the sum of the items that were taken.
 fn items_taken(history: &[Event]) -> u64
     requires { sum_taken history.now < 2 ^ 64 }
     ensures { result ≡ sum_taken history.now }
@@ -141,7 +141,7 @@ fn is_refused(event: &Event) -> bool
     }
 }
 
-/// The item that it put, or 0.
+/// Returns the item that it put, or 0.
 fn item_put(event: &Event) -> u64
     ensures item { result ≡ sum (items_put (act_of event.now)) }
     ensures low { result < 2 ^ 32 }
@@ -152,7 +152,7 @@ fn item_put(event: &Event) -> u64
     }
 }
 
-/// The item that it took, or 0.
+/// Returns the item that it took, or 0.
 fn item_taken(event: &Event) -> u64
     ensures { result ≡ sum (items_taken (act_of event.now)) }
 {

@@ -1,5 +1,5 @@
-//! What members share: coming in, pausing while a predicate is false, an operation, and going out. Each step gives the
-//! pass back where the seat has too few events left for it; then it is outside the monitor.
+//! What members share: coming in, pausing while a predicate is false, an operation, and going out. If the seat has
+//! too few events left for one of these, that returns the pass, and the seat is outside the monitor.
 ghost use Rattle.std.specs.Prelude.{◌≡◌, ◌+◌, ◌<◌, ◌≤◌, true, [], ◌∷◌, Some, None, IfOk, MatchResult, length};
 ghost use Rattle.monk_history.specs.Meaning.Monitor.{data_of};
 ghost use Rattle.monk_floor.specs.View.{monitor_of};
@@ -24,7 +24,7 @@ pub(crate) struct Visit {
     pub(crate) pred: u8,
     /// Its operation.
     pub(crate) op: Op,
-    /// The condition of which it lets a seat go on.
+    /// The condition on which it lets a seat go on.
     pub(crate) next: u8,
 }
 
@@ -71,7 +71,7 @@ pub(crate) fn pause_until<K: Style, T: Guarded, R: Wait>(
     Ok(active)
 }
 
-/// Does an operation, and gives its reply.
+/// Does an operation, and returns its reply.
 pub(crate) fn act<K: Kind, T: Guarded>(
     active: Active<K, T>,
     hall: &Hall<K, T>,
@@ -132,7 +132,7 @@ fn come_in_when<K: Style, T: Guarded, R: Wait>(
     }
 }
 
-/// Comes in, pauses while the predicate is false, and does an operation, which gets done then.
+/// Comes in, pauses while the predicate is false, and does an operation, which isn't refused then.
 pub(crate) fn act_when<K: Style, T: Guarded, R: Wait>(
     pass: Pass<K, T>,
     rt: &R,
@@ -157,8 +157,8 @@ pub(crate) fn act_when<K: Style, T: Guarded, R: Wait>(
     }
 }
 
-/// Comes in, pauses while the predicate is false, does its operation, which gets done then, and goes
-/// out letting a seat of the condition `next` go on.
+/// Comes in, pauses while the predicate is false, and does its operation, which isn't refused then. On its way out it
+/// lets a seat of the condition `next` go on.
 pub(crate) fn act_and_finish<K: Style, T: Guarded, R: Wait>(
     pass: Pass<K, T>,
     rt: &R,

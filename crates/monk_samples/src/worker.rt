@@ -12,6 +12,6 @@ pub(crate) struct Worker<'a, K: Kind, T: Guarded, R, G> {
     pub(crate) hall: &'a Hall<K, T>,
     pub(crate) gate: &'a G,
     pub(crate) rota: Rota,
-    /// What tells it when to begin.
+    /// The start word, which says when to begin.
     pub(crate) start: &'a AtomicU8,
 }

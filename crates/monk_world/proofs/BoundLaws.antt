@@ -1,4 +1,4 @@
--- No word grows beyond the events that there are
+-- No word grows beyond what the events allow
 use Rattle.std.proofs.Common.{◌≡◌, ◌≢◌, ℕ, zero, suc, ◌+◌, ◌==◌, ◌<◌, ◌≤◌, cond, Bool, true, false, List, [], ◌∷◌}
 use Rattle.std.proofs.Common.{◌++◌, length, map, ⊎_elim, sym, refl, ap, ◌∙◌, subst, inl, inr, arith, eq-eqb}
 use Rattle.std.proofs.Common.{length-append}
@@ -126,7 +126,7 @@ module _ (s : State) (b : IsBounded s) where
       → length (events_of s.floor.history j) ≤ length (events_of (s.floor.history ++ e ∷ []) j)
   no_less e j = omega (arith, length-events_of-push s.floor.history e j)
 
-  -- its event is recorded
+  -- an event of seat i is recorded
   pub bounded_floor : (i : ℕ) → i < s.floor.seats → (w : World) (known : ℕ → Bool) (p : Place)
       → w.place ≡ update s.world.place i p
       → (e : Event) → seat_of e ≡ i → 1 ≤ left_of s.floor.budget s.floor.history i

@@ -41,7 +41,7 @@ use Rattle.monk_world.proofs.BoundLaws.{bounded_words, bounded_floor, count_stay
 use Rattle.monk_world.proofs.UpdateLaws.{update_same}
 use Rattle.monk_world.proofs.SoundSteps.{step_is_sound}
 
--- what holds where no refusal applies
+-- what holds if no refusal applies
 pub record IsReady (k : Rules) (o : Object) (s : State) (i : ℕ) (c : Command) : Type 0 where
   pub near : i < s.floor.seats
   pub range : is_call_in_range o s.floor (call_of i c) ≡ true
@@ -252,7 +252,7 @@ numbers_stay k o s i (command.SignalAll c) a t (Active q) d = numbers_of s t _ r
 numbers_stay k o s i (command.SignalWait c v pick) a t (Active q) d = numbers_of s t _ refl refl d.1
 numbers_stay k o s i c a t p d = absurd d
 
--- a world that was told, with as many seats and conditions as before
+-- the world after a command, with as many seats and conditions as before
 pub kept_done : (k : Rules) (o : Object) (s : State) (i : ℕ) (c : Command) (a : Answer) (t : State) (seats conds : ℕ)
     → IsKind k → IsKept k o seats conds s → refusal k o s i c ≡ None
     → IsDone k o s i (s.world.place i) c a t → IsKept k o seats conds t

@@ -1,4 +1,4 @@
--- Whoever stands with a ticket has drawn it
+-- A seat that has a ticket has drawn it
 use Rattle.std.proofs.Common.{◌≡◌, ℕ, ◌+◌, ◌-◌, ◌==◌, ◌⊎◌, inl, inr, true, false, cond, Bool, List, [], ◌∷◌, ◌++◌, sym}
 use Rattle.std.proofs.Common.{refl, ap, ◌∙◌, subst, append_assoc}
 use Rattle.std.specs.Prelude.{Some, nat_lt, ◌&&◌, if◌then◌else◌}
@@ -29,7 +29,7 @@ use Rattle.monk_world.specs.declared.source.Source.TheVariants.{Free, Granted, C
 use Rattle.monk_world.proofs.UpdateLaws.{at_update}
 use Rattle.monk_world.proofs.RecordLaws.{refused_or_done}
 
--- a seat that stands there has ticket n, and has not entered with it
+-- a seat at this place has ticket n, and has not entered with it
 abbrev HasTicket : ℕ → Place → Type 0
 HasTicket n Idle = ⊥
 HasTicket n (Ticket t) = t ≡ n
@@ -87,7 +87,7 @@ module _ (k : Rules) (o : Object) (s : State) (i j n : ℕ) where
   abbrev Before : Answer → Type 0
   Before a = HasTicket n (s.world.place j) ⊎ HasJustDrawn i j n a
 
-  -- seat i stands at p now
+  -- seat i is at p now
   moved : (a : Answer) (t : State) (p : Place) → t.world.place ≡ update s.world.place i p
       → (HasTicket n p → (i ≡ j) → Before a) → HasTicket n (t.world.place j) → Before a
   moved a t p is here has =
@@ -172,7 +172,7 @@ drawn_last : (j n : ℕ) (xs : List Recorded) (x : Recorded) → HasJustDrawn x.
 drawn_last j n [] x h = inl h
 drawn_last j n (y ∷ xs) x h = inr (drawn_last j n xs x h)
 
--- each ticket with which a seat stands was drawn in these steps
+-- each ticket that a seat has was drawn in these steps
 abbrev AllDrawn : State → List Recorded → Type 0
 AllDrawn s steps = (j n : ℕ) → HasTicket n (s.world.place j) → HasDrawn j n steps
 

@@ -22,7 +22,7 @@ module _ (seats : ℕ) (s : World) (right : Whereabouts) (owner : ℕ → ℕ) (
   entered_where : (x : Whereabouts) → right ≡ x → FitsEnters s x entered
   entered_where x is = subst (λ (y : Whereabouts). FitsEnters s y entered) is f
 
-  -- where seat i has the right
+  -- the right is with seat i
   pub entered_here : (p : Place) → s.place i ≡ p → due_stage ≤ stage p → stage p ≤ passing_stage
       → entered + s.unpassed ≡ s.drawn + used_at p
   entered_here p at low high =
@@ -30,7 +30,7 @@ module _ (seats : ℕ) (s : World) (right : Whereabouts) (owner : ℕ → ℕ) (
       subst (λ (y : Place). entered + s.unpassed ≡ s.drawn + used_at y) at
       (entered_where (With i) (held r i (omega arith) (omega arith)))
 
-  -- some ticket is not passed on where seat i has the right
+  -- some ticket is not passed on if seat i has the right
   some_left : (p : Place) → s.place i ≡ p → due_stage ≤ stage p → stage p ≤ passing_stage → s.unpassed ≢ 0
   some_left p at low high e =
       let z : stage (s.place i) ≡ stage p = ap stage at in

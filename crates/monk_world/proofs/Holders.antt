@@ -11,7 +11,7 @@ use Rattle.monk_world.specs.declared.place.Place.{Place}
 use Rattle.monk_world.specs.declared.place.Place.TheVariants.{Idle, Ticket, Due, Active, Back, Passing, Inner}
 use Rattle.monk_world.proofs.UpdateLaws.{at_update, update_else}
 
--- who has the right stands between due and passing, and nobody else does
+-- a seat that has the right is between due and passing
 pub has_right : (p : Place) → HoldsRight p → (due_stage ≤ stage p) × (stage p ≤ passing_stage)
 has_right Idle h = absurd h
 has_right (Ticket t) h = absurd h
@@ -56,7 +56,7 @@ module _ (place : ℕ → Place) (i : ℕ) (to : Place) (none : (j : ℕ) → j 
   nobody_else : (j : ℕ) → j ≢ i → HoldsRight (place j) → ⊥
   nobody_else j ne a = let b = has_right (place j) a in none j ne b.0 b.1
 
-  -- after its step seat i alone has the right
+  -- after its step only seat i has the right
   pub alone_with : HoldsRight to → (j : ℕ) → HoldsRight (update place i to j) ↔ (With i ≡ With j)
   alone_with here =
       at_update place i to (λ j p. HoldsRight p ↔ (With i ≡ With j)) ((λ _. refl), (λ _. here))
@@ -69,7 +69,7 @@ module _ (place : ℕ → Place) (i : ℕ) (to : Place) (none : (j : ℕ) → j 
       at_update place i to (λ j p. HoldsRight p ↔ (x ≡ With j)) ((λ a. absurd (here a)), (λ e. absurd (gone i e)))
       (λ j ne. ((λ a. absurd (nobody_else j ne a)), (λ e. absurd (gone j e))))
 
--- who stands between due and passing has the right, and who has the right stands there
+-- a seat that is between due and passing has the right, and a seat that has the right is there
 pub held : {seats : ℕ} {s : World} {right : Whereabouts} {owner : ℕ → ℕ} → KeepsRight seats s right owner → (j : ℕ)
     → due_stage ≤ stage (s.place j) → stage (s.place j) ≤ passing_stage → right ≡ With j
 held {s = s} r j low high = (r.holder.with_seat j).0 (holds_right (s.place j) low high)
@@ -80,14 +80,14 @@ holds {s = s} r j e = has_right (s.place j) ((r.holder.with_seat j).1 e)
 
 module _ (seats : ℕ) (s : World) (right : Whereabouts) (owner : ℕ → ℕ) (r : KeepsRight seats s right owner)
     (i : ℕ) where
-  -- who waits with a ticket goes on waiting where another steps
+  -- a seat that waits with a ticket still waits after a step of another
   pub waiter_stays : (to : Place) (k : ℕ) → stage (s.place i) ≢ ticketed_stage → Waits s.place owner k
       → Waits (update s.place i to) owner k
   waiter_stays to k other h =
       subst (λ (y : Place). (stage y ≡ ticketed_stage) × (ticket y ≡ k))
       (sym (update_else s.place i to (owner k) (λ e. other (sym (ap (λ (j : ℕ). stage (s.place j)) e) ∙ h.0)))) h
 
-  -- who has the right has it alone
+  -- no other seat has the right
   pub others : due_stage ≤ stage (s.place i) → stage (s.place i) ≤ passing_stage → (j : ℕ) → j ≢ i
       → due_stage ≤ stage (s.place j) → stage (s.place j) ≤ passing_stage → ⊥
   others a b j ne c d = ne (let h = held r j c d in let m = held r i a b in cc)

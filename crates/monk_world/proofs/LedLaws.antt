@@ -1,4 +1,4 @@
--- A run by some commands, and one step more
+-- A run by some commands, and one more step
 use Rattle.std.proofs.Common.{◌≡◌, ℕ, List, [], ◌∷◌, ◌++◌, refl, sym, ap, subst, ◌∙◌, append_assoc}
 use Rattle.std.proofs.lemmas.List.{append-nil, map-append}
 use Rattle.monk_kinds.specs.declared.mode.Rules.{Rules}
@@ -26,7 +26,7 @@ led_more k o s t u commands seat command answer led step =
       is_run = run-push k o s t u led.told x led.is_run step;
     }
 
--- ---- a run by all of some commands, of which these are left
+-- ---- a run by commands of which these are left
 
 pub record IsLedSoFar (k : Rules) (o : Object) (s : State) (left all : List (ℕ × Command)) (t : State) : Type 0 where
   pub done : List (ℕ × Command)

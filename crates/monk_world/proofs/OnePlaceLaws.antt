@@ -1,4 +1,4 @@
--- The right is in exactly one place, since it is where `right` says
+-- The right is in exactly one place, because it is where `right` says
 use Rattle.std.proofs.Common.{◌≡◌, ℕ, ◌+◌, ◌%◌, ◌<◌, sym, refl, ap, ◌∙◌, subst, arith}
 use Rattle.monk_world.specs.OnePlace.{IsInOnePlace}
 use Rattle.monk_world.specs.Places.{stage, ticket, ticketed_stage, inside_stage}

@@ -1,4 +1,4 @@
--- Each step keeps the queues of the history in agreement with where the seats stand
+-- Each step keeps the queues of the history in agreement with where the seats are
 use Rattle.std.proofs.Common.{◌≡◌, ◌≢◌, ℕ, true, ◌+◌, ◌-◌, ◌≤◌, ◌⊎◌, sym, refl, ap, ◌∙◌, subst, inl, inr, Bool, arith}
 use Rattle.monk_history.specs.declared.event.Next.{Next}
 use Rattle.monk_history.specs.declared.event.Next.TheVariants.{Entry}
@@ -18,7 +18,7 @@ use Rattle.monk_world.specs.declared.source.Source.TheVariants.{Free, Granted, C
 use Rattle.monk_world.proofs.Holders.{held, at_home, others}
 use Rattle.monk_world.proofs.UpdateLaws.{at_update}
 
--- a seat that goes home is in a queue exactly where it stays inside
+-- a seat that goes home is in a queue if, and only if, it stays inside
 home_queued : (h : Home) → is_queued_at (place_of h) ≡ stays_inside h
 home_queued home.Idle = refl
 home_queued home.Inner = refl

@@ -113,7 +113,7 @@ module _ (k : Rules) (o : Object) (s : State) (kind : IsKind k) (h : Sound k o s
   well_after c a t step = let after = step_is_sound k o s i c a t kind h step in
       well_led k o t after.right after.owner after.is_sound
 
-  -- nothing is appended
+  -- no event is appended
   still : (c : Command) (a : Answer) (t : State) → IsStep k o s i c a t → (r : Answer) → a ≡ r → lets_in r ≡ false
       → t.floor ≡ s.floor → Outcome c a t
   still c a t step r is differs same = (
@@ -129,7 +129,7 @@ module _ (k : Rules) (o : Object) (s : State) (kind : IsKind k) (h : Sound k o s
     },
   )
 
-  -- one event is
+  -- one event is appended
   grew : (c : Command) (a : Answer) (t : State) → IsStep k o s i c a t → (e : Event)
       → t.floor ≡ with_event s.floor e → seat_of e ≡ i
       → first_version e ≤ command_version c
@@ -314,7 +314,7 @@ keeps_version k o s commands t r v here all =
     same_version k o s r.steps t v r.recorded here
     (subst (λ cs. list_all (λ c. nat_le (command_version c.1) v) cs ≡ true) (sym r.by_commands) all)
 
--- of the floor the history alone changes
+-- only the history of the floor changes
 pub record IsSameMonitor (f g : FloorView) : Type 0 where
   pub opening : g.opening ≡ f.opening
   pub seats : g.seats ≡ f.seats

@@ -1,4 +1,4 @@
--- A seat that draws a ticket has the right where the monitor was free, and else waits
+-- A seat that draws a ticket has the right if the monitor was free, and otherwise waits
 use Rattle.std.proofs.Common.{◌≡◌, ◌≢◌, ℕ, ◌+◌, ◌<◌, ◌≤◌, ◌↔◌, sym, refl, ap, ◌∙◌, subst, arith}
 use Rattle.monk_world.specs.Places.{HoldsRight, stage, ticket, outside_stage, ticketed_stage, due_stage, passing_stage, inside_stage}
 use Rattle.monk_world.specs.Update.{update}

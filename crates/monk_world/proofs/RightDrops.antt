@@ -1,4 +1,4 @@
--- A seat that chose entry takes itself off the ticket word: the monitor is free, or the next ticket is to be granted
+-- A seat that chose entry takes itself off the ticket word: the monitor is free, or the next ticket must be granted
 use Rattle.std.proofs.Common.{◌≡◌, ◌≢◌, ℕ, ◌+◌, ◌-◌, ◌<◌, ◌≤◌, refl, ap, arith}
 use Rattle.monk_world.specs.Places.{stage, ticket, place_of, ticketed_stage, due_stage, back_stage, passing_stage}
 use Rattle.monk_world.specs.Update.{update}

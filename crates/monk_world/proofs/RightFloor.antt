@@ -16,7 +16,7 @@ use Rattle.monk_world.proofs.UpdateLaws.{at_update, update_else, all_back}
 
 module _ (seats : ℕ) (s : World) (right : Whereabouts) (owner : ℕ → ℕ) (r : KeepsRight seats s right owner)
     (i : ℕ) where
-  -- the seat that has the right goes to be active, or on from there: the words stay, and so does the right
+  -- the seat that has the right becomes active or goes on from there. The words stay, and so does the right
   keeps_it : (to : Place) → due_stage ≤ stage (s.place i) → stage (s.place i) ≤ active_stage → active_stage ≤ stage to
       → stage to ≤ back_stage → ChoseInner (update s.place i to) to
       → KeepsRight seats (record s { place = update s.place i to }) right owner
@@ -65,7 +65,7 @@ module _ (seats : ℕ) (s : World) (right : Whereabouts) (owner : ℕ → ℕ) (
   comes_out q two =
       keeps_it (Active q) (omega arith) (omega arith) (omega arith) (omega arith) (λ a. absurd (omega arith))
 
-  -- whom it has chosen is another, and parked inside
+  -- the seat that it has chosen is another, and parked inside
   pub goes_home : (next : Next) (home : Home) → stage (s.place i) ≡ active_stage
       → ((k : ℕ) → turn_of_next next ≡ due_to k → stage (s.place k) ≡ inside_stage)
       → KeepsRight seats (after_floor_in s i next home) right owner

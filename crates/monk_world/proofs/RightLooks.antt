@@ -14,7 +14,7 @@ use Rattle.monk_world.proofs.UpdateLaws.{at_update, update_else, all_back}
 
 module _ (seats : ℕ) (s : World) (right : Whereabouts) (owner : ℕ → ℕ) (r : KeepsRight seats s right owner)
     (i : ℕ) where
-  -- where the place of its ticket holds it, the ticket is next and the right is there
+  -- if the place of its ticket has it, the ticket is next and the right is there
   pub grant_is_there : stage (s.place i) ≡ ticketed_stage
       → s.ticket_place (ticket (s.place i) % seats) ≡ ticket (s.place i) + 1 → 0 < seats
       → IsNext s.drawn s.unpassed (ticket (s.place i)) × (right ≡ AtTicket (ticket (s.place i)))
@@ -84,7 +84,7 @@ module _ (seats : ℕ) (s : World) (right : Whereabouts) (owner : ℕ → ℕ) (
         };
       }
 
-  -- where its place holds one call more than it has counted, the right is there
+  -- if its place has one call more than it has counted, the right is there
   pub call_is_there : s.seat_place i ≡ s.count i + 1 → right ≡ AtSeat i
   call_is_there found = elim (called_tells right i) as (λ _. right ≡ AtSeat i) [
     | inl h ↦ h

@@ -116,7 +116,7 @@ owner_of (Owned j) = j
 
 module _ (k : Rules) (o : Object) (s : State) (right : Whereabouts) (owner : ℕ → ℕ)
     (h : IsSound k o s right owner) where
-  -- whoever owns the turn is active
+  -- the seat that owns the turn is active
   owner_stands : (j : ℕ) → turn s.floor.history ≡ Owned j → stage (s.world.place j) ≡ active_stage
   owner_stands j own = by right h.stands.fits_turn
     where

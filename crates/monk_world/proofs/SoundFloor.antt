@@ -1,4 +1,4 @@
--- A step with the floor, which lets the history grow by one event, keeps a state sound
+-- A step with the floor, by which the history grows by one event, keeps a state sound
 use Rattle.std.proofs.Common.{◌≡◌, ◌≢◌, ℕ, ◌+◌, ◌==◌, ◌<◌, ◌≤◌, ◌⊎◌, true, false, Bool, List, [], ◌∷◌, ◌++◌, sym, refl}
 use Rattle.std.proofs.Common.{ap, ◌∙◌, subst, inl, inr, arith, eq-eqb}
 use Rattle.std.specs.Prelude.{if◌then◌else◌, not, nat_lt, Option, Some}
@@ -73,7 +73,7 @@ at_way : (home : Home) → nat_lt 0 (way_number (not (stays_inside home))) ≡ s
 at_way home.Idle = refl
 at_way home.Inner = refl
 
--- one event more, of seat i
+-- one more event, of seat i
 module _ (k : Rules) (o : Object) (s : State) (right : Whereabouts) (owner : ℕ → ℕ)
     (h : IsSound k o s right owner) (i : ℕ)
     (e : Event) (of_seat : seat_of e ≡ i) (allowed : IsAllowed (monitor_of k o s.floor) s.floor.history e) where
@@ -160,7 +160,7 @@ module _ (k : Rules) (o : Object) (s : State) (right : Whereabouts) (owner : ℕ
         };
       }
 
-  -- the active seat brings the floor home
+  -- the active seat takes the floor home
   pub goes_home : (q : Source) (x : Next) (home : Home) → i < s.floor.seats → s.world.place i ≡ Active q
       → is_enter e ≡ false → next_of e ≡ Some x → is_stay (Some x) ≡ false
       → is_standing k o (with_event s.floor e) i ≡ stays_inside home
@@ -268,7 +268,7 @@ module _ (k : Rules) (o : Object) (s : State) (right : Whereabouts) (owner : ℕ
       turns.turn_here s.floor.seats s.world right owner h.stands.keeps (turn_number (turn s.floor.history))
       h.stands.fits_turn i (Due q) due (omega arith) (omega arith) (λ a. omega arith)
 
-  -- a seat that comes from outside stands at the door
+  -- a seat that comes from outside is at the door
   at_door : (q : Source) → s.world.place i ≡ Due q → turn_at i (Due q) ≡ open_turn → comes_from_queue q ≡ false
       → IsAtDoor (monitor_of k o s.floor) s.floor.history i
   at_door q due opens outer =

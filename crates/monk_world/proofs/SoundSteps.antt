@@ -336,7 +336,7 @@ module _ (k : Rules) (o : Object) (s : State) (right : Whereabouts) (owner : ℕ
       }) (λ e. omega arith) left)
   done c a t p at range offered left d = absurd d
 
--- by what the tests for a refusal say
+-- a refusal, or a step, by the tests for a refusal
 split : (k : Rules) (o : Object) (s : State) (i : ℕ) (c : Command) (a : Answer) (t : State)
     (in_reach offered told tired : Bool)
     → IsAnswered k o s i c

@@ -1,4 +1,4 @@
--- A word step of a seat, which leaves the floor alone, keeps a state sound
+-- A step of a seat on the words, which doesn't change the floor, keeps a state sound
 use Rattle.std.proofs.Common.{◌≡◌, ◌≢◌, ℕ, ◌+◌, ◌-◌, ◌%◌, ◌==◌, ◌<◌, ◌≤◌, true, false, cond, Bool, sym, refl, ap, ◌∙◌}
 use Rattle.std.proofs.Common.{subst, inl, inr, arith, eqb-true}
 use Rattle.std.proofs.lemmas.Bool.Decides.{eqb_tells}
@@ -172,7 +172,7 @@ module _ (k : Rules) (o : Object) (s : State) (right : Whereabouts) (owner : ℕ
       (sym (update_same s.world.count i (s.world.count i) refl))
       (record { right = right; owner = owner; is_sound = h }))
 
-  -- nobody else is active where seat i has the right
+  -- if seat i has the right, no other is active
   alone : due_stage ≤ stage (s.world.place i) → stage (s.world.place i) ≤ passing_stage → (n : ℕ) (j : ℕ) → j ≢ i
       → stage (s.world.place j) ≡ active_stage → 2 ≤ s.world.unpassed → 2 ≤ n
   alone low high n j ne a b =

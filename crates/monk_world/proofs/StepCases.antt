@@ -41,7 +41,7 @@ module _ (k : Rules) (o : Object) (s : State) (i : ℕ) where
   done (Active q) (command.SignalWait c d pick) e = (_, _, (refl, refl))
   done p c e = absurd (let z : false ≡ true = e in cc)
 
-  -- by what the tests for a refusal say
+  -- the answer, by the tests for a refusal
   answered : (c : Command) (in_reach offered told tired : Bool) → may_be_told (s.world.place i) c ≡ told
       → (a : Answer) × (t : State)
       × IsAnswered k o s i c

@@ -1,4 +1,4 @@
--- Each kind of step keeps a world standing
+-- Each kind of step keeps a world in agreement with its history
 use Rattle.std.proofs.Common.{◌≡◌, ◌≢◌, ℕ, true, false, ◌+◌, ◌-◌, ◌%◌, ◌==◌, ◌≤◌, inl, inr, sym, refl, ap, ◌∙◌, subst}
 use Rattle.std.proofs.Common.{cond, Bool, arith, eqb-true}
 use Rattle.std.proofs.lemmas.Bool.Decides.{eqb_tells}
@@ -144,7 +144,7 @@ activity_keeps_the_right seats w right owner turn queued quiet i h q turn_new qu
           queues.stays_active seats w right owner r queued quiet h.fits_queues i q queued_new quiet_new active alike;
     }
 
--- a seat in a queue that has not the right is parked inside
+-- a seat in a queue that doesn't have the right is parked inside
 parked : (p : Place) → is_queued_at p ≡ true → (due_stage ≤ stage p → stage p ≤ passing_stage → ⊥)
     → stage p ≡ inside_stage
 parked Idle e none = absurd cc

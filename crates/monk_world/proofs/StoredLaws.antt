@@ -50,7 +50,7 @@ module _ (w : WorldWords) (i : ℕ) (near : i < w.seats) where
   known_stored x y e = stored w.known.items i x false (omega (arith, near, w.has_known, w.known.ok.0))
       ∙ ap (λ (b : Bool). update (λ j. slice_index_or w.known.items j false) i b) e
 
-  -- a seat that stays keeps its place
+  -- a seat that stays active keeps its place
   pub settled : (x : Next) (to : Home) (p : Place)
       → p ≡ cond (is_stay (Some x)) ((world_on w).place i) (Back x to) → (f : FloorView)
       → Path State (record (state_in w f) {

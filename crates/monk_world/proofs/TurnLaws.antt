@@ -22,7 +22,7 @@ module _ (seats : ℕ) (s : World) (right : Whereabouts) (owner : ℕ → ℕ) (
   turn_where : (x : Whereabouts) → right ≡ x → FitsTurn s x turn
   turn_where x is = subst (λ (y : Whereabouts). FitsTurn s y turn) is f
 
-  -- whose turn it is where seat i has the right and is not active
+  -- the turn if seat i has the right and is not active
   pub turn_here : (p : Place) → s.place i ≡ p → due_stage ≤ stage p → stage p ≤ passing_stage
       → stage p ≢ active_stage → turn ≡ turn_at i p
   turn_here p at low high ne =
@@ -36,7 +36,7 @@ module _ (seats : ℕ) (s : World) (right : Whereabouts) (owner : ℕ → ℕ) (
   taken p turn_new agrees =
       subst (λ (y : Place). stage y ≢ active_stage → turn_new ≡ turn_at i y) (sym (update_here s.place i p)) agrees
 
-  -- and before it
+  -- and it has the right before its step too
   holder : (p : Place) (turn_new : ℕ) → right ≡ With i → (stage p ≢ active_stage → turn_new ≡ turn_at i p)
       → FitsTurn (record s { place = update s.place i p }) right turn_new
   holder p turn_new mine agrees =

@@ -19,7 +19,7 @@ module _ {X : Type 0} where
   pub update_else : (at : ℕ → X) (i : ℕ) (x : X) (j : ℕ) → j ≢ i → Path X (update at i x j) (at j)
   update_else at i x j = at_update at i x (λ k y. k ≢ i → Path X y (at k)) (λ n. absurd (n refl)) (λ k n _. refl) j
 
-  -- what holds after the change held before it, if it did of the one that changed
+  -- what holds for all after the change held for all before it, if it did for the one that changed
   pub all_back : (at : ℕ → X) (i : ℕ) (x : X) (F : ℕ → X → Type 0) → ((j : ℕ) → F j (update at i x j))
       → F i (at i) → (j : ℕ) → F j (at j)
   all_back at i x F all old j = elim (eqb_tells j i) as (λ _. F j (at j)) [
@@ -27,6 +27,6 @@ module _ {X : Type 0} where
     | inr h ↦ subst (F j) (update_else at i x j h.1) (all j)
   ]
 
-  -- what is put there already
+  -- a store of the value that is there already
   pub update_same : (at : ℕ → X) (i : ℕ) (x : X) → Path X (at i) x → Path (ℕ → X) (update at i x) at
   update_same at i x e = λ k j. at_update at i x (λ m y. Path X y (at m)) (sym e) (λ m _. refl) j k

@@ -1,4 +1,4 @@
--- From what the words and the floor did to a step of the state
+-- From the change of the words and the floor to a step of the state
 use Rattle.std.proofs.Common.{◌≡◌, ℕ, ◌+◌, ◌%◌, ◌==◌, ◌<◌, ◌≤◌, cond, Bool, true, false, List, length, [], ◌||◌, ◌&&◌}
 use Rattle.std.proofs.Common.{⊎_elim, sym, refl, ap, eq-eqb, ◌∙◌, subst, arith}
 use Rattle.std.specs.Prelude.{not, nat_lt, nat_le, slice_index_or, Some, None}
@@ -83,12 +83,12 @@ entry_of (next.Waiter j) to e = absurd cc
 entry_of (next.Signaller j) to e = absurd cc
 entry_of (next.Until j) to e = absurd cc
 
--- where it may drop, it chose entry
+-- if it may drop, it chose entry
 pub entry_is : (p : Place) (x : Next) (to : Home) → p ≡ Back x to → is_back names_entry p ≡ true
     → p ≡ Back next.Entry to
 entry_is p x to is e = is ∙ entry_of x to (sym (ap (λ (q : Place). is_back names_entry q) is) ∙ e)
 
--- of a world with these words and this floor, seen as v
+-- a world with these words and this floor, seen as v
 module _ (k : Rules) (o : Object) (w : WorldWords) (f : FloorView) (v : WorldView) (is : view_in w f ≡ v) (i : ℕ) where
   abbrev s : State
   s = state_in w f
@@ -273,7 +273,7 @@ module _ (k : Rules) (o : Object) (w : WorldWords) (f : FloorView) (v : WorldVie
         in_place = places (stands_of k o f);
       }
 
-  -- a release is done as its command says, and keeps what is kept
+  -- a release is done as its command says, and keeps what a world keeps
   pub release_done : {x : Next} {known : Bool} {a : Answer} {new : WorldWords} {g : FloorView} (c : Command) (e : Event)
       (pick : Pick) (to : Home) → refusal k o (state_of_view v) i c ≡ None
       → may_be_told (s.world.place i) c ≡ (stage (s.world.place i) == active_stage)
@@ -291,7 +291,7 @@ module _ (k : Rules) (o : Object) (w : WorldWords) (f : FloorView) (v : WorldVie
       (λ q. does q (release_goes e pick to x known a new g knows chooses grows is_a shows)) in
       (returned c a (state_in new g) goes, λ conds kind old same. kept c a new g conds kind old free same goes)
 
-  -- how small the words are
+  -- no word is too great
   pub drawn_here : (conds : ℕ) → IsKept k o w.seats conds s → w.drawn < 2147483648
   drawn_here conds old = few_drawn s old.bounded
 
@@ -366,7 +366,7 @@ pub made_state : (w : WorldWords) (f : FloorView) (opening : List ℕ) (seats co
 made_state w f opening seats conds budget shows is = shows f
     ∙ ap (λ (g : FloorView). record (opening_state opening seats conds budget) { floor = g }) is
 
--- the tests for a refusal: of a command that the seat is not where it may be told, and of one that passes them all
+-- the tests for a refusal: for a command that doesn't fit the seat's place, and for one that passes them all
 pub not_now : (k : Rules) (o : Object) (s : State) (i : ℕ) (c : Command)
     → (nat_lt i s.floor.seats && is_call_in_range o s.floor (call_of i c)) ≡ true
     → is_call_offered k (call_of i c) ≡ true

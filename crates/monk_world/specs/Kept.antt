@@ -10,7 +10,7 @@ use Rattle.monk_world.specs.declared.place.Place.{Place}
 use Rattle.monk_world.specs.declared.place.Place.TheVariants.{Idle, Ticket, Due, Active, Back, Passing, Inner}
 use Rattle.monk_world.specs.declared.source.Source.TheVariants.{Free, Granted, Called}
 
--- 1 where a seat that has drawn a ticket has not yet the floor
+-- 1 if the seat has drawn a ticket and doesn't have the floor yet
 abbrev pub comes_in : Place → ℕ
 comes_in Idle = 0
 comes_in (Ticket t) = 1
@@ -20,7 +20,7 @@ comes_in (Back next home) = 0
 comes_in (Passing t home) = 0
 comes_in Inner = 0
 
--- 1 where a seat that was called has not yet the floor
+-- 1 if the seat was called and doesn't have the floor yet
 abbrev pub comes_back : Place → ℕ
 comes_back Idle = 0
 comes_back (Ticket t) = 0
@@ -37,7 +37,7 @@ abbrev pub sum_below : ℕ → (ℕ → ℕ) → ℕ
 sum_below zero f = 0
 sum_below (suc n) f = f n + sum_below n f
 
--- no word is greater than there are events for
+-- no word is greater than the events allow
 pub record IsBounded (s : State) : Type 0 where
   pub few : s.floor.seats ≤ most_seats
   pub low : s.floor.budget ≤ most_budget
@@ -46,7 +46,7 @@ pub record IsBounded (s : State) : Type 0 where
   pub drawn : s.world.drawn ≤ length s.floor.history + sum_below s.floor.seats (λ j. comes_in (s.world.place j))
   pub counted : (j : ℕ) → s.world.count j ≤ length (events_of s.floor.history j) + comes_back (s.world.place j)
 
--- a world with as many seats and conditions
+-- a sound world with these numbers of seats and conditions
 pub record IsKept (k : Rules) (o : Object) (seats conds : ℕ) (s : State) : Type 0 where
   pub sound : Sound k o s
   pub bounded : IsBounded s

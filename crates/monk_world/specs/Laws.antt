@@ -23,13 +23,13 @@ use Rattle.monk_world.specs.declared.home.Home.{Home}
 use Rattle.monk_world.specs.declared.place.Place.TheVariants.{Idle, Ticket, Due, Active, Back, Passing, Inner}
 use Rattle.monk_world.specs.declared.source.Source.{Source}
 
--- what a step keeps, of every world that stands
+-- what a step keeps, for every world that fits its history
 abbrev pub Kept : (ℕ → World → Whereabouts → (ℕ → ℕ) → ℕ → (ℕ → Bool) → Bool → ℕ → Type 0) → Type 0
 Kept Step =
     (seats : ℕ) (w : World) (right : Whereabouts) (owner : ℕ → ℕ) (turn : ℕ) (queued : ℕ → Bool) (quiet : Bool) (i : ℕ)
     → Stands seats w right owner turn queued quiet → Step seats w right owner turn queued quiet i
 
--- the opening world keeps all that is promised of a world
+-- the opening world fits an empty history
 abbrev pub OpeningStands : Type 0
 OpeningStands = (seats : ℕ) → Stands seats opening_world Nowhere (λ t. 0) open_turn (λ j. false) true
 
@@ -40,19 +40,19 @@ ArriveKeeps = Kept (λ seats w right owner turn queued quiet i.
     → Stands seats (after_arrive w i) (right_after_arrive w right i)
     (owner_after_arrive w owner i) turn queued quiet)
 
--- a seat with a ticket looks whether the place of its ticket holds it
+-- a seat with a ticket looks whether the place of its ticket has it
 abbrev pub TicketLookKeeps : Type 0
 TicketLookKeeps = Kept (λ seats w right owner turn queued quiet i.
     (t : ℕ) (found : Bool) → 0 < seats → w.place i ≡ Ticket t → (w.ticket_place (t % seats) == t + 1) ≡ found
     → Stands seats (after_ticket_look w i t found) (right_after_look right i found) owner turn queued quiet)
 
--- a seat inside looks whether its place holds one call more than it has counted
+-- a seat inside looks whether its place has one call more than it has counted
 abbrev pub SeatLookKeeps : Type 0
 SeatLookKeeps = Kept (λ seats w right owner turn queued quiet i.
     (found : Bool) → w.place i ≡ Inner → (w.seat_place i == w.count i + 1) ≡ found
     → Stands seats (after_seat_look w i found) (right_after_look right i found) owner turn queued quiet)
 
--- the floor comes out to the seat that is due; the history may grow, which leaves the others in their queues
+-- the floor comes out to the seat that is due. The history may grow, but leaves the others in their queues
 abbrev pub FloorOutKeeps : Type 0
 FloorOutKeeps = Kept (λ seats w right owner turn queued quiet i.
     (q : Source) (turn_new : ℕ) (queued_new : ℕ → Bool) (quiet_new : Bool) → w.place i ≡ Due q
@@ -66,8 +66,8 @@ ActiveKeeps = Kept (λ seats w right owner turn queued quiet i.
     → ((j : ℕ) → j ≢ i → queued_new j ≡ queued j)
     → Stands seats w right owner turn_new queued_new quiet_new)
 
--- the active seat brings the floor home. Whom it has chosen is another, in a queue; it is in one where it stays
--- inside; and where it chose entry, nobody could be chosen from a queue, or a ticket waits
+-- the active seat takes the floor home. If it chose a seat, that is another, in a queue. If it stays inside, it is
+-- itself in a queue. If it chose entry, nobody could be chosen from a queue, or a ticket waits
 abbrev pub FloorInKeeps : Type 0
 FloorInKeeps = Kept (λ seats w right owner turn queued quiet i.
     (q : Source) (next : Next) (home : Home) (queued_new : ℕ → Bool) (quiet_new : Bool) → w.place i ≡ Active q
@@ -83,7 +83,7 @@ DropKeeps = Kept (λ seats w right owner turn queued quiet i.
     (home : Home) → w.place i ≡ Back Entry home
     → Stands seats (after_drop w i home) (right_after_drop w i) owner turn queued quiet)
 
--- it grants the next ticket
+-- such a seat then grants the next ticket
 abbrev pub TicketGrantKeeps : Type 0
 TicketGrantKeeps = Kept (λ seats w right owner turn queued quiet i.
     (t : ℕ) (home : Home) → 0 < seats → w.place i ≡ Passing t home
@@ -101,7 +101,7 @@ StandsInOnePlace =
     (seats : ℕ) (w : World) (right : Whereabouts) (owner : ℕ → ℕ) (turn : ℕ) (queued : ℕ → Bool) (quiet : Bool)
     → 0 < seats → Stands seats w right owner turn queued quiet → IsInOnePlace seats w
 
--- every step keeps a state sound, and before any step it is
+-- every step keeps a state sound
 abbrev pub StepsStaySound : Type 0
 StepsStaySound = (k : Rules) (o : Object) (s : State) (i : ℕ) (c : Command) (a : Answer) (t : State) → IsKind k
     → Sound k o s → IsStep k o s i c a t → Sound k o t
@@ -111,7 +111,7 @@ abbrev pub OpeningIsSound : Type 0
 OpeningIsSound = (k : Rules) (o : Object) (opening : List ℕ) (seats conds budget : ℕ)
     → Sound k o (opening_state opening seats conds budget)
 
--- each command of each seat in each state has exactly one answer and one next state
+-- each command of each seat in each state has an answer and a next state
 abbrev pub StepsAreAnswered : Type 0
 StepsAreAnswered = (k : Rules) (o : Object) (s : State) (i : ℕ) (c : Command)
     → (a : Answer) × (t : State) × IsStep k o s i c a t

@@ -1,12 +1,12 @@
--- The right to be active is in exactly one place: the statement without the numbers that keep it
+-- The right to be active is in exactly one place: the statement without the numbers by which it is proved
 use Rattle.std.specs.Prelude.{◌≡◌, ℕ, ◌+◌, ◌%◌, ◌<◌, ◌↔◌}
 use Rattle.monk_world.specs.Places.{HoldsRight}
 use Rattle.monk_world.specs.Right.{Whereabouts, Nowhere, AtTicket, With, AtSeat}
 use Rattle.monk_world.specs.World.{World}
 use Rattle.monk_world.specs.declared.place.Place.TheVariants.{Ticket, Inner}
 
--- the one place is `right`; each ticket behind the one in use has a seat that waits with it, and no two seats wait with
--- the same
+-- the one place is `right`. Each ticket after the one in use has a seat that waits with it, and no two seats wait
+-- with the same ticket
 pub record IsInOnePlace (seats : ℕ) (w : World) : Type 0 where
   pub right : Whereabouts
   pub free : (w.unpassed ≡ 0) ↔ (right ≡ Nowhere)

@@ -1,4 +1,4 @@
--- What the clauses read of a place: numbers, so that each side condition is arithmetic
+-- What contracts read of a place: numbers, so that each side condition is arithmetic
 use Rattle.std.specs.Prelude.{ℕ, ◌+◌, ◌*◌, Bool, true, false}
 use Rattle.monk_history.specs.declared.event.Next.{Next}
 use Rattle.monk_history.specs.declared.event.Next.TheVariants.{Stay, Entry, Waiter, Signaller, Until}
@@ -9,7 +9,7 @@ use Rattle.monk_world.specs.declared.place.Place.TheVariants.{Idle, Ticket, Due,
 use Rattle.monk_world.specs.declared.source.Source.{Source}
 use Rattle.monk_world.specs.declared.source.Source.TheVariants.{Free, Granted, Called}
 
--- the stages of a seat's way through the monitor, in order: from due to passing it has the right
+-- the stages of a seat's way through the monitor, in order. From due to passing it has the right
 abbrev pub outside_stage : ℕ
 outside_stage = 0
 
@@ -25,7 +25,7 @@ due_stage = 2
 abbrev pub active_stage : ℕ
 active_stage = 3
 
--- it has brought the floor home, and must still hand the right on
+-- it has taken the floor home, and must still hand the right on
 abbrev pub back_stage : ℕ
 back_stage = 4
 
@@ -47,7 +47,7 @@ stage (Back next home) = back_stage
 stage (Passing ticket home) = passing_stage
 stage Inner = inside_stage
 
--- a seat that stands there has the right
+-- a seat at that place has the right
 abbrev pub HoldsRight : Place → Type 0
 HoldsRight Idle = ⊥
 HoldsRight (Ticket t) = ⊥
@@ -57,13 +57,13 @@ HoldsRight (Back next home) = Unit {0}
 HoldsRight (Passing t home) = Unit {0}
 HoldsRight Inner = ⊥
 
--- the ticket by which a seat came in, if it did
+-- the ticket by which a seat came in, or 0 if it was called
 abbrev pub ticket_of : Source → ℕ
 ticket_of (Free ticket) = ticket
 ticket_of (Granted ticket) = ticket
 ticket_of Called = 0
 
--- the ticket that a seat waits with, came to the right by, or has to grant
+-- the ticket with which a seat waits or is due, or which it has to grant
 abbrev pub ticket : Place → ℕ
 ticket Idle = 0
 ticket (Ticket t) = t
@@ -73,7 +73,7 @@ ticket (Back next home) = 0
 ticket (Passing t home) = t
 ticket Inner = 0
 
--- how a seat came to the right: it found the monitor free, by its ticket, or from a queue
+-- how a seat got the right: it found the monitor free, by its ticket, or from a queue
 abbrev pub free_source : ℕ
 free_source = 1
 
@@ -91,7 +91,7 @@ source_number (Free ticket) = free_source
 source_number (Granted ticket) = granted_source
 source_number Called = called_source
 
--- how a seat that is due or active came to the right; 0 elsewhere
+-- how a seat that is due or active got the right; 0 elsewhere
 abbrev pub source : Place → ℕ
 source Idle = 0
 source (Ticket t) = 0
@@ -101,7 +101,7 @@ source (Back next home) = 0
 source (Passing t home) = 0
 source Inner = 0
 
--- a turn as a number: open, or due to a seat, or owned by it
+-- a turn as a number: open, due to a seat, or owned by it
 abbrev pub open_turn : ℕ
 open_turn = 0
 
@@ -113,7 +113,7 @@ due_to j = 2 * j + 1
 abbrev pub owned_by : ℕ → ℕ
 owned_by j = 2 * j + 2
 
--- the turn after a choice
+-- the number of the turn after a choice of another seat or of entry
 abbrev pub turn_of_next : Next → ℕ
 turn_of_next Stay = 0
 turn_of_next Entry = 0
@@ -121,7 +121,7 @@ turn_of_next (Waiter j) = due_to j
 turn_of_next (Signaller j) = due_to j
 turn_of_next (Until j) = due_to j
 
--- the turn that a seat with the floor back has chosen; open elsewhere
+-- the turn that a seat has chosen, if it has taken the floor home and not yet handed on the right; open elsewhere
 abbrev pub back_turn : Place → ℕ
 back_turn Idle = 0
 back_turn (Ticket t) = 0
@@ -152,7 +152,7 @@ is_queued_at (Back next home) = stays_inside home
 is_queued_at (Passing t home) = stays_inside home
 is_queued_at Inner = true
 
--- where a seat goes once it has handed the monitor on
+-- where a seat is after it has handed the monitor on
 abbrev pub place_of : Home → Place
 place_of home.Idle = Idle
 place_of home.Inner = Inner

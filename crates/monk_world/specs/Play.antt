@@ -40,7 +40,7 @@ action_words (Until q p) = codes "until" ∷ decimal q ∷ pick_word p ∷ []
 action_words (SignalAll c) = codes "signal-all" ∷ decimal c ∷ []
 action_words (SignalWait c d p) = codes "signal-wait" ∷ decimal c ∷ decimal d ∷ pick_word p ∷ []
 
--- a seat and what it is told to do
+-- a seat and what it is asked to do
 abbrev pub command_words : ℕ × Command → List Word
 command_words m = decimal m.0 ∷ action_words m.1
 
@@ -77,7 +77,7 @@ ActionFits (SignalWait c d p) = (c ≤ 255) × (d ≤ 255)
 abbrev pub CommandFits : ℕ × Command → Type 0
 CommandFits m = (m.0 ≤ 255) × ActionFits m.1
 
--- a play that has a text: its header and its commands are in range, in that version
+-- a play that has a text: its header and its commands are in range, for that version
 pub record HasPlayText (h : Heading) (budget : ℕ) (commands : List (ℕ × Command)) : Type 0 where
   pub header_fits : IsHeading h
   pub some_budget : least_budget ≤ budget

@@ -1,9 +1,9 @@
--- The queues of the history agree with where the seats stand
+-- The queues of the history agree with where the seats are
 use Rattle.std.specs.Prelude.{◌≡◌, ◌≢◌, ℕ, ◌≤◌, ◌⊎◌, Bool, true}
 use Rattle.monk_world.specs.Places.{stage, source, back_turn, open_turn, is_queued_at, due_stage, active_stage, back_stage, free_source}
 use Rattle.monk_world.specs.World.{World}
 
--- `queued` tells who is in a queue or due from one; `quiet` whether nobody could be chosen from a queue
+-- `queued` says who is in a queue or due from one, and `quiet` whether nobody could be chosen from a queue
 pub record FitsQueues (w : World) (queued : ℕ → Bool) (quiet : Bool) : Type 0 where
   pub in_queue : (j : ℕ) → stage (w.place j) ≢ active_stage → queued j ≡ is_queued_at (w.place j)
   pub free : w.unpassed ≡ 0 → quiet ≡ true

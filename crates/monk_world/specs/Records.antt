@@ -24,18 +24,18 @@ use Rattle.monk_world.specs.declared.place.Place.{Place}
 use Rattle.monk_world.specs.declared.place.Place.TheVariants.{Idle, Ticket, Due, Active, Back, Passing, Inner}
 use Rattle.monk_world.specs.declared.source.Source.TheVariants.{Free, Granted, Called}
 
--- a step that was told, and what it appended to the history
+-- a step of a run, and what it appended to the history
 pub record Recorded : Type 0 where
   pub told : Told
   pub events : List Event
 
--- at most one event, and that the seat's
+-- at most one event, which is the seat's own
 abbrev pub IsOwn : ℕ → List Event → Type 0
 IsOwn i [] = Unit {0}
 IsOwn i (e ∷ []) = seat_of e ≡ i
 IsOwn i (e ∷ f ∷ more) = ⊥
 
--- a seat that stands there may enter so, with ticket n
+-- a seat at that place may enter in that way, with ticket n
 abbrev pub EntersWith : Place → Via → ℕ → Type 0
 EntersWith (Due (Free t)) v n = (v ≡ via.Free) × (t ≡ n)
 EntersWith (Due (Granted t)) v n = (v ≡ via.Handed) × (t ≡ n)
@@ -54,17 +54,17 @@ are_in_version version events = list_all (λ e. nat_le (first_version e) version
 -- the command is a step, and the history grows by it as it should
 pub record IsTaken (k : Rules) (o : Object) (s : State) (x : Recorded) (t : State) : Type 0 where
   pub is_step : IsStep k o s x.told.seat x.told.command x.told.answer t
-  -- the history grows by at most one event, the seat's own; of the floor nothing else changes
+  -- the history grows by at most one event, the seat's own; nothing else of the floor changes
   pub grows : t.floor ≡ record s.floor { history = s.floor.history ++ x.events }
   pub own : IsOwn x.told.seat x.events
   -- the enter with n enters before it is that of ticket n
   pub in_turn : (v : Via) → x.events ≡ Enter x.told.seat v ∷ []
       → EntersWith (s.world.place x.told.seat) v (enters_of s.floor.history)
-  -- what it appended is in each version that has its command: a later event is there by its own command alone
+  -- each version that has its command has what it appended: a later event comes only by its own command
   pub versions : (v : ℕ) → command_version x.told.command ≤ v → IsTrue (are_in_version v x.events)
-  -- the right is in one place again, the history legal, and active exactly the seat that owns its turn
+  -- the right is in one place again, the history is legal, and a seat is active if, and only if, it owns the turn
   pub well_led : IsWellLed k o t
-  -- where entry was chosen nobody could have been chosen from a queue, or a ticket waits
+  -- if entry was chosen, nobody could have been chosen from a queue, or a ticket waits
   pub waited_for : x.told.answer ≡ answer.Chose next.Entry → (is_quiet k o t.floor ≡ true) ⊎ (2 ≤ s.world.unpassed)
 
 -- the step of seat i by command c, with its answer
@@ -73,7 +73,7 @@ IsTakenBy k o s i c a t =
     (events : List Event)
     × IsTaken k o s (record { told = record { seat = i; command = c; answer = a }; events = events }) t
 
--- each command is such a step, one after the other
+-- the commands are such steps, one after the other
 abbrev pub IsRecorded : Rules → Object → State → List Recorded → State → Type 0
 IsRecorded k o s [] t = t ≡ s
 IsRecorded k o s (x ∷ xs) t = (u : State) × (IsTaken k o s x u) × (IsRecorded k o u xs t)
@@ -87,7 +87,7 @@ recorded_by j (x ∷ xs) = (if x.told.seat == j then x.events else []) ++ record
 abbrev pub recorded_command : Recorded → ℕ × Command
 recorded_command x = command_of x.told
 
--- a run by these commands, with what each of them appended: the events of each seat are those that its own commands
+-- a run by these commands, with what each of them appended. The events of each seat are those that its own commands
 -- appended, each once
 pub record IsRecordedBy (k : Rules) (o : Object) (s : State) (commands : List (ℕ × Command)) (t : State) : Type 0 where
   pub steps : List Recorded
@@ -99,17 +99,17 @@ pub record IsRecordedBy (k : Rules) (o : Object) (s : State) (commands : List (�
 abbrev pub AreToldIn : ℕ → List (ℕ × Command) → Type 0
 AreToldIn version commands = IsTrue (list_all (λ c. nat_le (command_version c.1) version) commands)
 
--- a run by commands that a version has adds no event that it has not
+-- a run by commands that a version has adds no event that the version doesn't have
 abbrev pub KeepsVersion : State → List (ℕ × Command) → State → Type 0
 KeepsVersion s commands t = (v : ℕ) → IsTrue (are_in_version v s.floor.history) → AreToldIn v commands
     → IsTrue (are_in_version v t.floor.history)
 
--- each step of a sound state is taken as it should be
+-- each step from a sound state is taken as it should be
 abbrev pub StepsAreTaken : Type 0
 StepsAreTaken = (k : Rules) (o : Object) (s : State) (i : ℕ) (c : Command) (a : Answer) (t : State) → IsKind k
     → Sound k o s → IsStep k o s i c a t → IsTakenBy k o s i c a t
 
--- each run of a sound state is recorded as it should be
+-- each run from a sound state is recorded as it should be
 abbrev pub RunsAreRecorded : Type 0
 RunsAreRecorded = (k : Rules) (o : Object) (s : State) (commands : List (ℕ × Command)) (t : State) → IsKind k
     → Sound k o s → IsLed k o s commands t → IsRecordedBy k o s commands t
@@ -119,7 +119,7 @@ abbrev pub HasDrawn : ℕ → ℕ → List Recorded → Type 0
 HasDrawn j n [] = ⊥
 HasDrawn j n (x ∷ xs) = ((x.told.seat ≡ j) × ((found : ℕ) × (x.told.answer ≡ answer.Arrived n found))) ⊎ HasDrawn j n xs
 
--- from before any step, whoever enters with n enters before it has drawn ticket n
+-- a seat that enters with n enters before it has drawn ticket n, if the run began before any step
 abbrev pub TicketsEnterInOrder : Type 0
 TicketsEnterInOrder =
     (k : Rules) (o : Object) (opening : List ℕ) (seats conds budget : ℕ) (before : List Recorded) (s : State)

@@ -30,7 +30,7 @@ pub record Told : Type 0 where
   pub command : Command
   pub answer : Answer
 
--- the commands in turn, from state to state; after a refusal it goes on
+-- the commands in order, from state to state. After a refusal it goes on
 abbrev pub IsRun : Rules → Object → State → List Told → State → Type 0
 IsRun k o s [] t = t ≡ s
 IsRun k o s (x ∷ xs) t = (u : State) × (IsStep k o s x.seat x.command x.answer u) × (IsRun k o u xs t)
@@ -39,21 +39,21 @@ IsRun k o s (x ∷ xs) t = (u : State) × (IsStep k o s x.seat x.command x.answe
 pub record IsWellLed (k : Rules) (o : Object) (s : State) : Type 0 where
   -- the history is legal
   pub legal : IsLegal (monitor_of k o s.floor) s.floor.history
-  -- the right to be active is in exactly one place, and each ticket behind the one in use has a seat that waits
+  -- the right to be active is in exactly one place, and each ticket after the one in use has a seat that waits
   pub in_one_place : 0 < s.floor.seats → IsInOnePlace s.floor.seats s.world
-  -- a seat is active exactly where the turn is owned by it
+  -- a seat is active if, and only if, it owns the turn
   pub active : (j : ℕ) → (stage (s.world.place j) ≡ active_stage) ↔ (turn s.floor.history ≡ Owned j)
-  -- any other seat is in a queue of the history, or due from one, exactly where it is parked inside
-  -- or on its way there, or called back from there
+  -- any other seat is in a queue of the history, or due from one, if, and only if, it is parked inside, on its way
+  -- there, or called back from there
   pub queued : (j : ℕ) → stage (s.world.place j) ≢ active_stage
       → is_standing k o s.floor j ≡ is_queued_at (s.world.place j)
   -- the enter with t enters before it is that of ticket t
   pub enters_first : (j t : ℕ) → s.world.place j ≡ Due (Free t) → enters_of s.floor.history ≡ t
   pub enters_next : (j t : ℕ) → s.world.place j ≡ Due (Granted t) → enters_of s.floor.history ≡ t
-  -- whoever is parked inside can still be called back to the floor and leave
+  -- a seat that is parked inside has enough events left to resume and leave
   pub left : (j : ℕ) → stage (s.world.place j) ≡ inside_stage → 2 ≤ left_of s.floor.budget s.floor.history j
 
--- each run from the opening state leads to a sound state
+-- each run from the opening state leads to a well led state
 abbrev pub RunsAreWellLed : Type 0
 RunsAreWellLed =
     (k : Rules) (o : Object) (opening : List ℕ) (seats conds budget : ℕ) (told : List Told) (s : State)

@@ -38,8 +38,8 @@ place_words (Back next home) = codes "back" ∷ next_words next
 place_words (Passing ticket home) = codes "passing" ∷ decimal ticket ∷ []
 place_words Inner = codes "inner" ∷ []
 
--- the grant is there that seat i looks for, which stands at this place: its ticket in the ticket's
--- place, or one call more in its own place than it has counted
+-- whether the grant that seat i at this place looks for is there: its ticket in the ticket's place, or one call more
+-- in its own place than it has counted
 abbrev pub is_granted_at : ℕ → World → ℕ → Place → Bool
 is_granted_at seats w i Idle = false
 is_granted_at seats w i (Ticket ticket) = w.ticket_place (ticket % seats) == ticket + 1

@@ -1,4 +1,4 @@
--- A world that stands with its history
+-- A world that fits its history
 use Rattle.std.specs.Prelude.{ℕ, Bool}
 use Rattle.monk_world.specs.Right.{Whereabouts, KeepsRight}
 use Rattle.monk_world.specs.Turns.{FitsTurn}
@@ -13,7 +13,7 @@ pub record Stands (seats : ℕ) (w : World) (right : Whereabouts) (owner : ℕ �
   pub fits_turn : FitsTurn w right turn
   pub fits_queues : FitsQueues w queued quiet
 
--- before any step
+-- the world before any step
 abbrev pub opening_world : World
 opening_world =
     record { drawn = 0; unpassed = 0; ticket_place = λ i. 0; seat_place = λ i. 0; place = λ j. Idle; count = λ j. 0 }

@@ -11,8 +11,8 @@ use Rattle.monk_history.specs.declared.event.Event.{Event}
 use Rattle.monk_floor.specs.View.{FloorView, monitor_of, stands_of}
 use Rattle.monk_world.specs.World.{World}
 
--- the world; who knows, by a look in its present or last time as the active seat, that somebody waits for entry;
--- the floor, which the active seat has, and is at home where there is none
+-- the world; who knows, by a look in its present or last time as the active seat, that somebody waits for entry; and
+-- the floor, which the active seat has. If there is none, it is at home
 pub record State : Type 0 where
   pub world : World
   pub known : ℕ → Bool
@@ -22,7 +22,7 @@ pub record State : Type 0 where
 abbrev pub with_event : FloorView → Event → FloorView
 with_event f e = record f { history = f.history ++ e ∷ [] }
 
--- of a seat that is not active: whether it is in a queue of the history, or due from one
+-- whether a seat that is not active is in a queue of the history, or due from one
 abbrev pub is_standing : Rules → Object → FloorView → ℕ → Bool
 is_standing k o f j = nat_lt 0 (standing f.conds j (stands_of k o f))
 

@@ -57,11 +57,11 @@ call_of i (command.Until p pick) = Some (Until i p next.Stay)
 call_of i (command.SignalAll c) = Some (SignalAll i c)
 call_of i (command.SignalWait c d pick) = Some (SignalWait i c d next.Stay)
 
--- the first version of the text that has the event of its call, if it is one
+-- the first version of the text that has the event of its call, or 1 if it is no call
 abbrev pub command_version : Command → ℕ
 command_version c = option_map_or first_version (call_of 0 c) 1
 
--- whether the event of the call is in range, if it has one
+-- whether the event of the call is in range, if there is one
 abbrev pub is_call_in_range : Object → FloorView → Option Event → Bool
 is_call_in_range o f None = true
 is_call_in_range o f (Some e) = is_in_range f.seats f.conds o.codes o.predicates e
@@ -87,7 +87,7 @@ names_seat (next.Waiter j) = true
 names_seat (next.Signaller j) = true
 names_seat (next.Until j) = true
 
--- whether the seat has made such a choice and still has to hand the monitor on
+-- whether the seat has made such a choice and must still hand the right on
 abbrev pub is_back : (Next → Bool) → Place → Bool
 is_back chose Idle = false
 is_back chose (Ticket t) = false
@@ -97,7 +97,7 @@ is_back chose (Back x home) = chose x
 is_back chose (Passing t home) = false
 is_back chose Inner = false
 
--- where a seat stands that may be told so
+-- whether a seat at that place may carry the command out
 abbrev pub may_be_told : Place → Command → Bool
 may_be_told p command.Arrive = stage p == outside_stage
 may_be_told p command.Look = stage p == ticketed_stage || stage p == inside_stage
@@ -114,7 +114,7 @@ may_be_told p (command.Until q pick) = stage p == active_stage
 may_be_told p (command.SignalAll c) = stage p == active_stage
 may_be_told p (command.SignalWait c d pick) = stage p == active_stage
 
--- how many events must be left to a seat for a command, so that it can still resume and leave after it
+-- how many events a seat must have left for a command, so that it can still resume and leave after it
 abbrev pub left_for : Command → ℕ
 left_for command.Arrive = 2
 left_for command.Look = 0
@@ -152,11 +152,11 @@ out_event i (Free t) u = Enter i via.Free
 out_event i (Granted t) u = Enter i via.Handed
 out_event i Called u = Resume i (queue_due u)
 
--- a call that releases: the floor chooses by the wish rules, and goes home unless the seat stays
+-- the choice of a release, by the wish rules
 abbrev pub release_next : Rules → Object → State → ℕ → Event → Pick → Next
 release_next k o s i e pick = choice_of k o (stands_of k o s.floor) e (s.known i) pick
 
--- a release makes its choice, and its event is recorded
+-- the release is recorded with its choice, and the floor goes home unless the seat stays
 abbrev pub IsReleased : Rules → Object → State → ℕ → Event → Pick → Home → Answer → State → Type 0
 IsReleased k o s i e pick home a t =
     (a ≡ answer.Chose (release_next k o s i e pick))
@@ -186,7 +186,7 @@ IsDropped s i (next.Waiter j) home a t = ⊥
 IsDropped s i (next.Signaller j) home a t = ⊥
 IsDropped s i (next.Until j) home a t = ⊥
 
--- of seat i, which stands at p: a step that is not refused. At any other place than those of its command there is none
+-- a step of seat i at place p that is not refused. At a place that the command doesn't fit there is none
 abbrev pub IsDone : Rules → Object → State → ℕ → Place → Command → Answer → State → Type 0
 IsDone k o s i Idle command.Arrive a t = (a ≡ answer.Arrived s.world.drawn s.world.unpassed)
     × (t ≡ record s { world = after_arrive s.world i })
@@ -244,11 +244,11 @@ IsDone k o s i (Active q) (command.SignalWait c d pick) a t =
     IsReleased k o s i (SignalWait i c d next.Stay) pick home.Inner a t
 IsDone k o s i p (command.SignalWait c d pick) a t = ⊥
 
--- the command is refused for that reason, or else done
+-- the command is refused for that reason, or else carried out
 abbrev pub IsAnswered : Rules → Object → State → ℕ → Command → Option Answer → Answer → State → Type 0
 IsAnswered k o s i c None a t = IsDone k o s i (s.world.place i) c a t
 IsAnswered k o s i c (Some r) a t = (a ≡ r) × (t ≡ s)
 
--- a refusal changes nothing
+-- one step. A refusal changes nothing
 abbrev pub IsStep : Rules → Object → State → ℕ → Command → Answer → State → Type 0
 IsStep k o s i c a t = IsAnswered k o s i c (refusal k o s i c) a t

@@ -44,7 +44,7 @@ is_command_offered mode (Until p pick) = not (has_conditions mode)
 is_command_offered mode (SignalAll c) = is_non_blocking mode
 is_command_offered mode (SignalWait c d pick) = returns_at_once mode
 
--- what a step was told
+-- the seat and the command of a step
 abbrev pub command_of : Told → ℕ × Command
 command_of x = (x.seat, x.command)
 

@@ -22,7 +22,7 @@ turn_from j (Free t) = open_turn
 turn_from j (Granted t) = open_turn
 turn_from j Called = due_to j
 
--- whose turn it is where seat j has the right and stands there, not active
+-- the turn if seat j has the right and is at that place, not active
 abbrev pub turn_at : ℕ → Place → ℕ
 turn_at j at.Idle = open_turn
 turn_at j (at.Ticket t) = open_turn
@@ -32,8 +32,8 @@ turn_at j (at.Back next home) = turn_of_next next
 turn_at j (at.Passing t home) = open_turn
 turn_at j at.Inner = open_turn
 
--- `turn` is the number of the turn, by where the right is. Of an active seat it says nothing: the
--- history may have grown
+-- `turn` is the number of the turn, by where the right is. For an active seat nothing is said, because the history
+-- may have grown
 abbrev pub FitsTurn : World → Whereabouts → ℕ → Type 0
 FitsTurn w Nowhere turn = turn ≡ open_turn
 FitsTurn w (AtTicket t) turn = turn ≡ open_turn

@@ -7,7 +7,7 @@ use Rattle.monk_world.specs.declared.place.Place.{Place}
 use Rattle.monk_world.specs.declared.place.Place.TheVariants.{Idle}
 use Rattle.monk_world.specs.declared.words.WorldWords.{WorldWords}
 
--- the words, by a ticket's place and by seats; and the floor
+-- the words: the places of tickets, what belongs to each seat, and the floor
 pub record WorldView : Type 0 where
   pub drawn : ℕ
   pub unpassed : ℕ
@@ -33,7 +33,7 @@ state_of_view v = record {
   floor = v.floor;
 }
 
--- the view of a board over a floor
+-- the view of the words with a floor
 abbrev pub view_in : WorldWords → FloorView → WorldView
 view_in w f = record {
   drawn = w.drawn;
@@ -46,7 +46,7 @@ view_in w f = record {
   floor = f;
 }
 
--- the state of a board over a floor
+-- the state of the words with a floor
 abbrev pub state_in : WorldWords → FloorView → State
 state_in w f = state_of_view (view_in w f)
 
@@ -61,12 +61,12 @@ world_on w = record {
   count = λ j. slice_index_or w.counts.items j 0;
 }
 
--- whichever floor is beside them: these words show this world now, for as many seats, and nobody's knowledge changed
+-- with any floor: the words now show this world, for as many seats, and what each seat knows has not changed
 pub record Shows (old : WorldWords) (world : World) (new : WorldWords) : Type 0 where
   pub state : (f : FloorView) → state_in new f ≡ record (state_in old f) { world = world }
   pub seats : new.seats ≡ old.seats
 
--- and who knows of somebody at the entry is this now
+-- with any floor: the words now show this world, and who knows of somebody at the entry
 pub record ShowsKnown (old : WorldWords) (world : World) (known : ℕ → Bool) (new : WorldWords) : Type 0 where
   pub state : (f : FloorView) → state_in new f ≡ record { world = world; known = known; floor = f }
   pub seats : new.seats ≡ old.seats

@@ -1,11 +1,10 @@
 use monk_history::Next;
 use std::fmt;
 
-/// What a seat's command came to. The last four are refusals: nothing was done. The first of them that applies is
-/// answered.
+/// What a seat's command came to. The last four are refusals: nothing was done. The first that applies is returned.
 #[derive(Clone, Copy, Debug, PartialEq, Eq)]
 pub enum Answer {
-    /// The ticket that was drawn, and how many were not passed on before (0 where the monitor was free).
+    /// The ticket that was drawn, and how many were not passed on before (0 if the monitor was free).
     Arrived(u32, u32),
     /// Whether the right was found.
     Looked(bool),
@@ -13,7 +12,7 @@ pub enum Answer {
     Found(u32),
     /// The floor came to the seat.
     Now,
-    /// Whom the floor chose; `Next::Stay` where the seat remains active.
+    /// Whom the floor chose. It is `Next::Stay` if the seat remains active.
     Chose(Next),
     /// The ticket that was granted.
     GrantedTicket(u32),
@@ -27,15 +26,14 @@ pub enum Answer {
     Range,
     /// The kind of monitor has no such call.
     NoCall,
-    /// The seat stands elsewhere than the command wants.
+    /// The command doesn't fit the place where the seat is.
     NotNow,
     /// Too few events are left to the seat.
     Tired,
 }
 
-/// In words: `arrived 2 1`, `looked no`, `found 2`, `now`, `chose entry`, `granted ticket 3`,
-/// `granted seat 1`, `replied 7`, `woke 2`, or `refused` and why: `range`, `no-call`, `not-now` or
-/// `tired`.
+/// Written as `arrived 2 1`, `looked no`, `found 2`, `now`, `chose entry`, `granted ticket 3`, `granted seat 1`,
+/// `replied 7`, `woke 2`, or `refused` and why: `range`, `no-call`, `not-now` or `tired`.
 impl fmt::Display for Answer {
     ghost use Rattle.std.specs.Prelude.{Some};
     ghost use Rattle.std.specs.List.{join_with_byte};

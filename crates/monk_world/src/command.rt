@@ -5,12 +5,12 @@ use monk_kinds::Pick;
 use monk_object::Op;
 use std::fmt;
 
-/// What a seat is told to do: one atomic step, or a call on the floor that it holds.
+/// What a seat is asked to do: one atomic step, or a call on the floor that it holds.
 #[derive(Clone, Copy, Debug, PartialEq, Eq)]
 pub enum Command {
     /// Draw a ticket.
     Arrive,
-    /// Look whether the right was handed over: in the place of its ticket, or in its own place where it is inside.
+    /// Look whether the right was handed over: in its ticket's place or, if it is inside, in its own place.
     Look,
     /// Take the floor, which records the enter or the resume.
     Out,
@@ -38,7 +38,7 @@ pub enum Command {
     SignalWait(u8, u8, Pick),
 }
 
-/// As in the text of a play, without the seat: `arrive`, `act 0 7`, `wait 1 entry`.
+/// Written as in the text of a play, without the seat: `arrive`, `act 0 7`, `wait 1 entry`.
 impl fmt::Display for Command {
     ghost use Rattle.std.specs.Prelude.{Some};
     ghost use Rattle.std.specs.List.{join_with_byte};
@@ -68,7 +68,7 @@ impl fmt::Display for Command {
     }
 }
 
-/// The word of a wish.
+/// Returns the word of a wish.
 fn word(pick: Pick) -> &'static str
     ensures { result.now ≡ pick_word pick }
 {

@@ -1,4 +1,4 @@
-/// Where a seat goes once it has handed the right on.
+/// Where a seat goes after it has handed the right on.
 #[derive(Clone, Copy, Debug, PartialEq, Eq)]
 pub enum Home {
     /// Outside the monitor: it left.

@@ -1,5 +1,5 @@
-//! What holds of each kind of step, whoever makes it: it keeps the right to be active in one place, in agreement with
-//! the turn and the queues of the history. Each function does nothing: its contract is the law.
+//! What holds for each kind of step, of any seat: it keeps the right to be active in one place, in agreement with the
+//! turn and the queues of the history. Each function does nothing: its contract is the law.
 ghost use Rattle.monk_world.specs.Laws.{OpeningStands, ArriveKeeps, TicketLookKeeps, SeatLookKeeps, FloorOutKeeps};
 ghost use Rattle.monk_world.specs.Laws.{ActiveKeeps, FloorInKeeps, DropKeeps, TicketGrantKeeps, SeatGrantKeeps};
 ghost use Rattle.monk_world.specs.Laws.{StandsInOnePlace, StepsStaySound, OpeningIsSound, StepsAreAnswered};
@@ -7,23 +7,23 @@ ghost use Rattle.monk_world.specs.Laws.{StepsAreDetermined};
 ghost use Rattle.monk_world.specs.Records.{RunsAreRecorded, StepsAreTaken, TicketsEnterInOrder};
 ghost use Rattle.monk_world.specs.Runs.{RunsAreWellLed};
 
-/// Before any step the monitor is free, every seat is idle, and no queue has anybody.
+/// Before any step the monitor is free, every seat is idle, and all queues are empty.
 pub fn opening_stands()
     ensures { OpeningStands }
 {}
 
-/// A seat that arrives draws the next ticket; where the monitor was free it has the right.
+/// A seat that arrives draws the next ticket. If the monitor was free, the seat has the right.
 pub fn arrive_keeps_the_right()
     ensures { ArriveKeeps }
 {}
 
-/// A seat that looks at the place of its ticket takes the right exactly where it finds its own ticket there: no older
-/// grant at the same place is taken for its own.
+/// A seat that looks at the place of its ticket takes the right if, and only if, it finds its own ticket there. It
+/// never takes an older grant at the same place for its own.
 pub fn ticket_look_keeps_the_right()
     ensures { TicketLookKeeps }
 {}
 
-/// A seat that looks at its own place takes the right exactly where it was called once more than it has counted.
+/// A seat that looks at its own place takes the right if, and only if, it was called once more than it has counted.
 pub fn seat_look_keeps_the_right()
     ensures { SeatLookKeeps }
 {}
@@ -33,34 +33,34 @@ pub fn floor_out_keeps_the_right()
     ensures { FloorOutKeeps }
 {}
 
-/// While a seat is active it may extend the history as it likes, as long as every other seat stays
-/// queued, or not queued, as it was.
+/// While a seat is active it may extend the history in any way, as long as every other seat stays queued, or not
+/// queued, as it was.
 pub fn activity_keeps_the_right()
     ensures { ActiveKeeps }
 {}
 
-/// The active seat brings the floor home with its choice.
+/// The active seat takes the floor home with its choice.
 pub fn floor_in_keeps_the_right()
     ensures { FloorInKeeps }
 {}
 
-/// A seat that chose entry takes itself off the ticket word: the monitor is free, or the seat has the next ticket to
-/// grant, also one that was drawn while it was on its way.
+/// A seat that chose entry takes itself off the ticket word. Then the monitor is free, or the seat has the next
+/// ticket to grant. That may be a ticket that was drawn while the seat was on its way.
 pub fn drop_keeps_the_right()
     ensures { DropKeeps }
 {}
 
-/// The right goes to the next ticket by its place.
+/// The right goes to the next ticket, through the ticket's place.
 pub fn ticket_grant_keeps_the_right()
     ensures { TicketGrantKeeps }
 {}
 
-/// The right goes to the seat that was chosen, by its place.
+/// The right goes to the seat that was chosen, through the seat's place.
 pub fn seat_grant_keeps_the_right()
     ensures { SeatGrantKeeps }
 {}
 
-/// The right to be active is in exactly one place, and each ticket behind the one in use has a seat that waits with it.
+/// The right to be active is in exactly one place, and a seat waits with each ticket after the one in use.
 pub fn right_is_in_one_place()
     ensures { StandsInOnePlace }
 {}
@@ -71,23 +71,23 @@ pub fn steps_are_a_function()
     ensures determined { StepsAreDetermined }
 {}
 
-/// Every step, also a refused one, keeps a state sound: its history legal, the right in one place, and turn, queues,
-/// enters and what is left to each seat in agreement with where the seats stand.
+/// Every step, also a refused one, keeps a state sound: its history is legal, and the right is in one place. Turn,
+/// queues, enters and the events that are left to each seat agree with where the seats are.
 pub fn steps_stay_sound()
     ensures opening { OpeningIsSound }
     ensures step { StepsStaySound }
 {}
 
-/// For every kind, object, number of seats and list of commands: the right to be active is in exactly one place, the
-/// history is legal, a seat is active exactly where the turn is its own, and tickets enter in their order.
+/// For every kind, object, number of seats and list of commands: the right to be active is in exactly one place, and
+/// the history is legal. A seat is active if, and only if, the turn is its own. Tickets enter in their order.
 pub fn runs_are_well_led()
     ensures { RunsAreWellLed }
 {}
 
 /// From every sound state, for every list of commands: the history grows by at most one event a step, an event of the
-/// seat that was told, so that each seat's events are those that its own commands appended, each once; the enter with k
-/// enters before it is that of ticket k, which an arrival of that seat drew; and where entry was chosen, nobody could
-/// have been chosen from a queue, or a ticket was waiting.
+/// seat of the command. So each seat's events are those that its own commands appended, each once. The enter with k
+/// enters before it is that of ticket k, which an arrival of that seat drew. If entry was chosen, nobody could have
+/// been chosen from a queue, or a ticket was waiting.
 pub fn runs_are_recorded()
     ensures taken { StepsAreTaken }
     ensures recorded { RunsAreRecorded }

@@ -1,8 +1,8 @@
 //! A monitor as words, places and one floor, which atomic steps of its seats change: who may be active, and when.
 //!
-//! A seat stands for a task. The right to be active goes from seat to seat through shared words, each changed by one
-//! atomic step at a time: a word that draws tickets, a place for each ticket modulo the seats, and a place for each
-//! seat. No lock is taken. `laws` says that each kind of step keeps the right in exactly one place.
+//! A seat is the number of a task. The right to be active goes from seat to seat through shared words, each changed
+//! by one atomic step at a time: a word from which tickets are drawn, a place for each ticket modulo the seats, and a
+//! place for each seat. No lock is taken. By `laws`, each kind of step keeps the right in exactly one place.
 #![tactic(auto)]
 
 mod answer;

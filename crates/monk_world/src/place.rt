@@ -3,7 +3,7 @@ use crate::source::Source;
 use monk_history::Next;
 use std::fmt;
 
-/// Where a seat stands. From `Due` to `Passing` it has the right to be active.
+/// Where a seat is. From `Due` to `Passing` it has the right to be active.
 #[derive(Clone, Copy, Debug, PartialEq, Eq)]
 pub enum Place {
     /// Outside the monitor.
@@ -14,7 +14,7 @@ pub enum Place {
     Due(Source),
     /// It has the floor: it is the one active seat.
     Active(Source),
-    /// It brought the floor back with this choice, and has not yet handed the right on.
+    /// It took the floor back with this choice, and has not yet handed the right on.
     Back(Next, Home),
     /// It took itself off the ticket word, and has not yet granted this ticket, which is next.
     Passing(u32, Home),
@@ -26,7 +26,7 @@ impl Place {
     ghost use Rattle.std.specs.Prelude.{◌≡◌};
     ghost use Rattle.monk_world.specs.Places.{place_of};
 
-    /// Where a seat with this home stands once it has handed the right on.
+    /// Returns where a seat with this home is after it has handed the right on.
     #[inline(always)]
     pub fn of_home(home: Home) -> Place
         ensures { result ≡ place_of home }
@@ -38,7 +38,7 @@ impl Place {
     }
 }
 
-/// In words: `idle`, `ticket 3`, `due`, `active`, `back entry`, `passing 3` or `inner`.
+/// Written as `idle`, `ticket 3`, `due`, `active`, `back entry`, `passing 3` or `inner`.
 impl fmt::Display for Place {
     ghost use Rattle.std.specs.Prelude.{Some};
     ghost use Rattle.std.specs.List.{join_with_byte};

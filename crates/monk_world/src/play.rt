@@ -1,4 +1,4 @@
-//! A play as lines of text: the commands of seats, in the order in which they are told.
+//! A play as lines of text: the commands of seats, in the order in which they are carried out.
 
 mod head;
 mod line;

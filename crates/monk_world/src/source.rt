@@ -1,4 +1,4 @@
-/// How a seat came to the right to be active.
+/// How a seat got the right to be active.
 #[derive(Clone, Copy, Debug, PartialEq, Eq)]
 pub enum Source {
     /// It drew this ticket and found the monitor free.

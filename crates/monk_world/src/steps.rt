@@ -17,7 +17,7 @@ use monk_history::Next;
 use std::alloc::{AllocError, Global};
 
 impl WorldWords {
-    /// The words before any step.
+    /// Makes the words as they are before any step.
     pub fn make(alloc: Global, seats: u8) -> Result<WorldWords, AllocError>
         ensures shows { IfOk result
             (λ w. (f : FloorView) → state_in w f ≡ record { world = opening_world; known = λ j. false; floor = f }) }
@@ -35,7 +35,7 @@ impl WorldWords {
         })
     }
 
-    /// Where a seat stands.
+    /// Returns where a seat is.
     pub fn place(&self, seat: u8) -> Place
         requires { seat < self.now.seats }
         ensures { result ≡ (world_on self.now).place seat }
@@ -70,7 +70,7 @@ impl WorldWords {
         self.seat_places[seat as usize] == self.counts[seat as usize] + 1
     }
 
-    /// Draws a ticket. Where the monitor was free the seat has the right.
+    /// Draws a ticket. If the monitor was free, the seat has the right.
     pub fn arrive(&mut self, seat: u8) -> Answer
         requires seat { seat < self.old.seats }
         requires drawn { self.old.drawn < 2 ^ 31 }
@@ -118,7 +118,7 @@ impl WorldWords {
         Answer::Looked(found)
     }
 
-    /// The active seat looks how many tickets are not passed on: two or more tell it of somebody at the entry.
+    /// Looks for the active seat how many tickets are not passed on. From two on, it knows of somebody at the entry.
     pub fn peek(&mut self, seat: u8) -> Answer
         requires { seat < self.old.seats }
         ensures answer { result ≡ Answer.Found self.old.unpassed }
@@ -131,7 +131,7 @@ impl WorldWords {
         Answer::Found(self.unpassed)
     }
 
-    /// The floor comes out to the seat, which knows of nobody yet.
+    /// Gives the floor to the seat, which doesn't know yet of anybody at the entry.
     pub fn floor_out(&mut self, seat: u8, source: Source) -> Answer
         requires { seat < self.old.seats }
         ensures answer { result ≡ Answer.Now }
@@ -143,7 +143,7 @@ impl WorldWords {
         Answer::Now
     }
 
-    /// The floor goes home with a choice, unless the seat stays.
+    /// Takes the floor home with a choice, unless the seat stays.
     pub fn floor_in(&mut self, seat: u8, next: Next, home: Home) -> Answer
         requires { seat < self.old.seats }
         ensures answer { result ≡ Answer.Chose next }
@@ -156,7 +156,7 @@ impl WorldWords {
         Answer::Chose(next)
     }
 
-    /// Takes the seat off the ticket word: the monitor is free, or the next ticket is to be granted.
+    /// Takes the seat off the ticket word. Then the monitor is free, or the next ticket is to be granted.
     pub fn drop_ticket(&mut self, seat: u8, home: Home) -> Answer
         requires seat { seat < self.old.seats }
         requires some { 0 < self.old.unpassed }
@@ -171,7 +171,7 @@ impl WorldWords {
         Answer::Found(found)
     }
 
-    /// Grants a ticket, in its place.
+    /// Grants a ticket through its place.
     pub fn ticket_grant(&mut self, seat: u8, ticket: u32, home: Home) -> Answer
         requires seat { seat < self.old.seats }
         requires ticket { ticket < 2 ^ 31 }
@@ -184,7 +184,7 @@ impl WorldWords {
         Answer::GrantedTicket(ticket)
     }
 
-    /// Calls a seat, in its place.
+    /// Calls a seat through its place.
     pub fn seat_grant(&mut self, seat: u8, called: u8, home: Home) -> Answer
         requires seat { seat < self.old.seats }
         requires called { called < self.old.seats }
@@ -198,7 +198,7 @@ impl WorldWords {
     }
 }
 
-/// Where a seat stands that drew this ticket, and found so many not passed on.
+/// Returns where a seat is after it drew this ticket, with `found` tickets not passed on before.
 fn place_after_arrive(ticket: u32, found: u32) -> Place
     ensures { result ≡ becomes.place_after_arrive ticket found }
 {
@@ -209,7 +209,7 @@ fn place_after_arrive(ticket: u32, found: u32) -> Place
     }
 }
 
-/// Where a seat stands that looked whether its ticket was granted.
+/// Returns where a seat is after it looked whether its ticket was granted.
 fn place_after_ticket_look(ticket: u32, found: bool) -> Place
     ensures { result ≡ becomes.place_after_ticket_look ticket found }
 {
@@ -220,7 +220,7 @@ fn place_after_ticket_look(ticket: u32, found: bool) -> Place
     }
 }
 
-/// Where a seat stands that looked whether it was called.
+/// Returns where a seat is after it looked whether it was called.
 fn place_after_seat_look(found: bool) -> Place
     ensures { result ≡ becomes.place_after_seat_look found }
 {
@@ -231,7 +231,7 @@ fn place_after_seat_look(found: bool) -> Place
     }
 }
 
-/// How often a seat saw itself called after a look.
+/// Returns how often a seat saw itself called, after a look.
 fn count_after_seat_look(count: u32, found: bool) -> u32
     requires { count < 2 ^ 31 }
     ensures { result ≡ becomes.count_after_seat_look count found }
@@ -239,7 +239,7 @@ fn count_after_seat_look(count: u32, found: bool) -> u32
     if found { count + 1 } else { count }
 }
 
-/// Where a seat stands that took itself off the ticket word, where so many were drawn, and so many not passed on.
+/// Returns where a seat is after it took itself off the ticket word. Of `drawn` tickets `found` were not passed on.
 fn place_after_drop(drawn: u32, found: u32, home: Home) -> Place
     requires some { 0 < found }
     requires found { found ≤ drawn }
@@ -253,14 +253,14 @@ fn place_after_drop(drawn: u32, found: u32, home: Home) -> Place
     }
 }
 
-/// Whether a seat knows of somebody at the entry after it found so many tickets not passed on.
+/// Whether a seat knows of somebody at the entry, after it found `found` tickets not passed on.
 fn known_after(knew: bool, found: u32) -> bool
     ensures { result ≡ (knew || nat_le 2 found) }
 {
     knew || found >= 2
 }
 
-/// Where an active seat stands after a choice.
+/// Returns where an active seat is after a choice.
 fn after_choice(place: Place, next: Next, home: Home) -> Place
     ensures { result ≡ (if is_stay (Some next) then place else Place.Back next home) }
 {

@@ -1,4 +1,4 @@
-//! What is tested before a command is carried out, of the command and the place alone.
+//! What is tested before a command is carried out. The tests read only the command and the seat's place.
 ghost use Rattle.std.specs.Prelude.{◌≡◌};
 ghost use Rattle.monk_world.specs.StepTable as table;
 ghost use Rattle.monk_world.specs.Telling as telling;
@@ -58,7 +58,7 @@ pub fn is_offered(mode: Mode, command: Command) -> bool
     }
 }
 
-/// Whether a seat that stands there may be told so.
+/// Whether a seat at that place may carry the command out.
 pub fn may_be_told(place: Place, command: Command) -> bool
     ensures { result ≡ table.may_be_told place command }
 {
@@ -80,7 +80,7 @@ pub fn may_be_told(place: Place, command: Command) -> bool
     }
 }
 
-/// Whether a seat that stands there has to grant a ticket, or to call a seat.
+/// Whether a seat at that place has to grant a ticket, or to call a seat.
 fn may_grant(place: Place) -> bool
     ensures { result ≡ table.may_be_told place Command.Grant }
 {
@@ -91,7 +91,7 @@ fn may_grant(place: Place) -> bool
     }
 }
 
-/// How many events must be left to a seat for a command, so that it can still resume and leave after it.
+/// Returns how many events a seat must have left for a command, so that it can still resume and leave after it.
 pub fn left_for(command: Command) -> u32
     ensures { result ≡ table.left_for command }
 {

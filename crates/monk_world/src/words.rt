@@ -2,8 +2,8 @@ ghost use Rattle.std.specs.Prelude.{◌≡◌, vec_len};
 
 use crate::place::Place;
 
-/// What the seats share, and where each of them stands. Each call is one atomic step, for a seat that stands where the
-/// step wants it, or a change of the seat's own.
+/// What the seats share, and where each of them is. Each call is one atomic step, for a seat at the place that the
+/// step needs, or changes only what the seat itself knows.
 #[derive(Drop)]
 pub struct WorldWords {
     pub seats: u8,

@@ -29,11 +29,11 @@ use monk_object::{Guarded, Op};
 use std::alloc::Global;
 use std::marker::Model;
 
-/// A monitor of kind `K` over an object `T` as words, places and one floor. Its seats change it by
-/// atomic steps, in whatever order the commands come.
+/// A monitor of kind `K` over an object `T` as words, places and one floor. Its seats change it by atomic steps, in
+/// the order in which the commands come.
 ///
-/// To contracts a world is its words, where each seat stands, and the floor's opening state, numbers and history.
-/// Every state that it is in is sound: the right to be active is in exactly one place, and the history is legal.
+/// Contracts see a world as its words, where each seat is, and the floor's opening state, numbers and history. Each
+/// of its states is sound: the right to be active is in exactly one place, and the history is legal.
 #[derive(Drop)]
 pub struct World<K: Kind, T: Guarded> {
     words: WorldWords,
@@ -53,11 +53,11 @@ impl<K: Kind, T: Guarded> Model for World<K, T> {
 }
 
 impl<K: Kind, T: Guarded> World<K, T> {
-    /// A world over an object, before any step: 1 to 32 seats, at most 8 condition variables, and 2 to 2^20 events for
-    /// each seat.
+    /// Makes a world over an object, before any step. It has 1 to 32 seats, at most 8 condition variables, and 2 to
+    /// 2^20 events for each seat.
     ///
     /// Returns the first fault that applies, lack of memory last, and then drops the object. Takes memory for
-    /// `seats * budget` events, all queues and all words at once; no later call takes any.
+    /// `seats * budget` events, all queues and all words at once. No later call takes any.
     pub fn make(
         alloc: Global,
         object: T,
@@ -79,40 +79,40 @@ impl<K: Kind, T: Guarded> World<K, T> {
         })
     }
 
-    /// The history, which is always legal.
+    /// Returns the history, which is always legal.
     pub fn history(&self) -> &[Event]
         ensures history { result.now ≡ self.now.floor.history }
         ensures legal { IsLegal (monitor_of K.rules T.meaning self.now.floor) self.now.floor.history }
         // It is no longer than a text may be.
         ensures few { length self.now.floor.history ≤ most_lines }
-        // The right is in one place, and active is exactly the seat that owns the history's turn.
+        // The right is in one place, and a seat is active if, and only if, it owns the history's turn.
         ensures well_led { IsWellLed K.rules T.meaning (state_of_view self.now) }
     {
         self.floor.history()
     }
 
-    /// How many seats there are.
+    /// Returns how many seats there are.
     pub fn seats(&self) -> u8
         ensures { result ≡ (state_of_view self.now).floor.seats }
     {
         self.words.seats
     }
 
-    /// How many tickets were drawn.
+    /// Returns how many tickets were drawn.
     pub fn drawn(&self) -> u32
         ensures { result ≡ (state_of_view self.now).world.drawn }
     {
         self.words.drawn
     }
 
-    /// How many tickets are not passed on, counting the one in use: 0 where the monitor is free.
+    /// Returns how many tickets are not passed on, with the one in use: 0 if the monitor is free.
     pub fn unpassed(&self) -> u32
         ensures { result ≡ (state_of_view self.now).world.unpassed }
     {
         self.words.unpassed
     }
 
-    /// Where a seat stands; `Idle` where there is no such seat.
+    /// Returns where a seat is, or `Idle` if there is no such seat.
     pub fn place(&self, seat: u8) -> Place
         ensures { result ≡ (state_of_view self.now).world.place seat }
     {
@@ -123,8 +123,8 @@ impl<K: Kind, T: Guarded> World<K, T> {
         }
     }
 
-    /// Whether the grant that a seat waits for is there: in the place of its ticket or, if it is
-    /// inside, in its own place.
+    /// Whether the grant that a seat waits for is there: in the place of its ticket or, if the seat is inside, in its
+    /// own place.
     pub fn is_granted(&self, seat: u8) -> bool
         ensures { result ≡ is_granted (state_of_view self.now) seat }
     {
@@ -138,13 +138,13 @@ impl<K: Kind, T: Guarded> World<K, T> {
         }
     }
 
-    /// Tells a seat to do this. Where it can't, the first refusal that applies is answered, and nothing has changed:
-    /// `Range` where seat, condition, predicate or code is out of range, `NoCall` where the kind has no such call,
-    /// `NotNow` where the seat stands elsewhere, and `Tired` where too few events are left to it:
-    /// an arrival, an act and a signal to all need 2, a wait, a signal, an until and a signal
-    /// followed by a wait 3; a leave and a signal-leave always have theirs.
+    /// Carries out the command for the seat. If it can't, it returns the first refusal that applies, and nothing has
+    /// changed. `Range`: the seat, condition, predicate or code is out of range. `NoCall`: the kind has no such call.
+    /// `NotNow`: the seat is at another place. `Tired`: the seat has too few events left. An arrival, an act and a
+    /// signal to all need 2; a wait, a signal, an until and a signal followed by a wait need 3. A leave and a
+    /// signal-leave always have theirs.
     ///
-    /// Takes no memory. Costs what the floor's call costs, else constant time.
+    /// Takes no memory. Costs what the floor's call costs, otherwise constant time.
     pub fn step(&mut self, seat: u8, command: Command) -> Answer
         ensures by_table { IsStep K.rules T.meaning (state_of_view self.old) seat command result
             (state_of_view self.new) }
@@ -156,7 +156,7 @@ impl<K: Kind, T: Guarded> World<K, T> {
         self.tell(seat, command)
     }
 
-    /// Takes these steps in order, and goes on after a refusal.
+    /// Carries out these commands in order, and goes on after a refusal.
     pub fn run(&mut self, commands: &[(u8, Command)])
         ensures led { IsLed K.rules T.meaning (state_of_view self.old) commands.now (state_of_view self.new) }
         // Each seat's events are those that its own commands appended, each once, and tickets enter in their order.
@@ -172,9 +172,9 @@ impl<K: Kind, T: Guarded> World<K, T> {
         }
     }
 
-    /// Carries out the commands that are left of a play's text, in order, as [`World::run`] does those of a list.
+    /// Carries out the commands that are left of a play's text, in order, as [`World::run`] does for a list.
     ///
-    /// One pass over the bytes; no list of commands is made, and no memory is taken.
+    /// It makes one pass over the bytes, makes no list of commands, and takes no memory.
     pub fn run_lines(&mut self, play: PlayLines<'_>)
         ensures led { IsLed K.rules T.meaning (state_of_view self.old) play.entry.2 (state_of_view self.new) }
         ensures recorded { IsRecordedBy K.rules T.meaning (state_of_view self.old) play.entry.2
@@ -189,7 +189,7 @@ impl<K: Kind, T: Guarded> World<K, T> {
         }
     }
 
-    /// The first refusal that applies, or what the command comes to.
+    /// Returns the first refusal that applies, or what the command comes to.
     fn tell(&mut self, seat: u8, command: Command) -> Answer
         ensures { IsStep K.rules T.meaning (state_of_view self.old) seat command result (state_of_view self.new) }
     {
@@ -216,7 +216,7 @@ impl<K: Kind, T: Guarded> World<K, T> {
         }
     }
 
-    /// The first refusal that applies.
+    /// Returns the first refusal that applies.
     fn refusal(&self, seat: u8, command: Command) -> Option<Answer>
         ensures { result ≡ refusal K.rules T.meaning (state_of_view self.now) seat command }
     {
@@ -402,7 +402,7 @@ impl<K: Kind, T: Guarded> World<K, T> {
     }
 }
 
-/// Records the event with which the floor comes out to a seat: its enter, or its resume.
+/// Records the event with which the floor comes out to a seat: its enter or its resume.
 #[inline(always)]
 pub fn record_entry<K: Kind, T: Guarded>(floor: &mut Floor<K, T>, seat: u8, source: Source)
     requires allowed { IsAllowed (monitor_of K.rules T.meaning floor.old) floor.old.history

@@ -1,4 +1,4 @@
--- The seat behind another
+-- The seat after another
 use Rattle.std.proofs.Common.{◌≡◌, ℕ, zero, suc, ◌<◌, ◌≤◌, ◌+◌, ◌==◌, cond, Some, None, List, [], ◌∷◌, map}
 use Rattle.std.proofs.Common.{refl, sym, ap, subst, ◌∙◌, arith, eq-eqb, get_or, add-one, ⊎_elim}
 use Rattle.std.specs.Prelude.{slice_get}
@@ -17,7 +17,7 @@ one_of x s e = ap (λ b. cond b 1 0) (eq-eqb x s e)
 same_some : (x y : ℕ) → Some x ≡ Some y → x ≡ y
 same_some x y e = cc
 
--- nobody is behind the last seat
+-- no seat comes after the last one
 behind_last : (s : ℕ) (xs : List ℕ) (i : ℕ) → EndsWith xs s → times s xs ≤ 1 → slice_get xs i ≡ Some s
     → None ≡ slice_get xs (suc i)
 behind_last s [] i e o h = absurd (cc)
@@ -27,7 +27,7 @@ behind_last s (x ∷ y ∷ ys) zero e o h =
     absurd (omega (arith, o, one_of x s (same_some x s h), ends_there y ys s e))
 behind_last s (x ∷ y ∷ ys) (suc i) e o h = behind_last s (y ∷ ys) i e (omega (arith, o)) h
 
--- behind any other the seat to which it is linked
+-- after any other seat comes the seat to which it is linked
 behind_linked : (next : List ℕ) (n f l s i : ℕ) → EndsWith (walk next n f) l → (l ≡ s → ⊥)
     → slice_get (walk next n f) i ≡ Some s
     → Some (get_or next s 0) ≡ slice_get (walk next n f) (suc i)

@@ -25,7 +25,7 @@ shown next [] c = walk-none next 0
 shown next (x ∷ xs) zero = refl
 shown next (x ∷ xs) (suc c) = shown next xs c
 
--- what is seen of the queues
+-- a queue of the links is the queue that is shown
 pub queue_is : (next : List ℕ) (chains : List Chain) (v : List (List ℕ)) → map (seats_of next) chains ≡ v → (c : ℕ)
     → queue_at v c ≡ queue_in next chains c
 queue_is next chains v e c = ap (λ x. queue_at x c) (sym e) ∙ shown next chains c
@@ -80,7 +80,7 @@ at_other : (chains : List Chain) (a c : ℕ) (new : Chain) → a ≢ c
 at_other chains a c new d = get_or-set_other chains a c new empty_chain (λ e. d (sym e))
 
 module _ {next : List ℕ} {chains : List Chain} where
-  -- a seat stands once in a queue, and is one of the seats
+  -- a seat is in a queue at most once, and is one of the seats
   pub at_most_once : IsLinked next chains → (a s : ℕ) → a < most_queues → times s (queue_in next chains a) ≤ 1
   at_most_once k a s l = omega (arith, times_le a s (queue_in next chains) l, k.once s, cond_le (nat_lt s most_seats))
 
@@ -101,7 +101,7 @@ module _ {next : List ℕ} {chains : List Chain} where
             (λ s. at_most_once k a s l),
       )
 
-  -- past the last queue there is nobody
+  -- a queue that doesn't exist has nobody
   past : IsLinked next chains → (c : ℕ) → most_queues ≤ c → queue_in next chains c ≡ []
   past k c l =
       ap (λ x. walk next x.length x.first) (get_or_past chains c empty_chain (omega (arith, k.count, l)))
@@ -144,7 +144,7 @@ module _ {next : List ℕ} {chains : List Chain} where
           when_not true f = absurd (f refl)
           when_not false f = refl
 
-  -- one queue has changed: what it keeps
+  -- one queue has changed: what holds for the links then
   pub linked_again : IsLinked next chains → (others : List ℕ) (a : ℕ) (new : Chain) → a < most_queues
       → ((c : ℕ) → a ≢ c → seats_of others (chain_at chains c) ≡ queue_in next chains c)
       → EndsWith (seats_of others new) new.last
@@ -172,7 +172,7 @@ module _ {next : List ℕ} {chains : List Chain} where
       here : chain_at (slice_set chains a new) a ≡ new
       here = get_or-set_same chains a new empty_chain (omega (arith, l, k.count))
 
-  -- and what is seen of it
+  -- one queue has changed: what is shown then
   pub seen_again : IsLinked next chains → (v : List (List ℕ)) → map (seats_of next) chains ≡ v
       → (others : List ℕ) (a : ℕ)
       (new : Chain) → a < most_queues → ((c : ℕ) → a ≢ c → seats_of others (chain_at chains c) ≡ queue_in next chains c)

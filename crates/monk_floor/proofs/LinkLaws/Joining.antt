@@ -59,7 +59,7 @@ module _ {next : List ℕ} {chains : List Chain} (k : IsLinked next chains) (a s
   unfolding walk
   first_is e = ap (λ n. walk next n (chain_at chains a).first ++ s ∷ []) (sym e)
 
-  -- the first one
+  -- it is the first one
   pub first_linked : (chain_at chains a).length ≡ 0 → s < most_seats → places s (queue_in next chains) ≡ 0
       → IsLinked next (slice_set chains a (record { first = s; last = s; length = 1 }))
   first_linked e = joined_linked next (record { first = s; last = s; length = 1 }) (first_is e) refl (λ c d. refl)
@@ -71,7 +71,7 @@ module _ {next : List ℕ} {chains : List Chain} (k : IsLinked next chains) (a s
       ++ cond (a == c) (s ∷ []) []
   first_seen v e z = joined_seen v e next (record { first = s; last = s; length = 1 }) (first_is z) (λ c d. refl)
 
-  -- and one behind others
+  -- or it comes after others
   behind_is : (n : ℕ) → (chain_at chains a).length ≡ suc n → length next ≡ most_seats
       → walk (slice_set next (chain_at chains a).last s) ((chain_at chains a).length + 1) (chain_at chains a).first
       ≡ queue_in next chains a ++ s ∷ []
@@ -112,7 +112,7 @@ module _ {next : List ℕ} {chains : List Chain} (k : IsLinked next chains) (a s
   pub last_is_seat : ((chain_at chains a).length ≡ 0 → ⊥) → (chain_at chains a).last < most_seats
   last_is_seat e = last_in_range k a _ l (some_more (chain_at chains a).length e)
 
--- who is in none of the queues that are seen is in none of them
+-- a seat that is in none of the shown queues is in none of the linked ones
 pub seen_none : (next : List ℕ) (chains : List Chain) (v : List (List ℕ)) → map (seats_of next) chains ≡ v → (s : ℕ)
     → places s (queue_at v) ≡ 0 → places s (queue_in next chains) ≡ 0
 seen_none next chains v e s h = subst (λ q. places s q ≡ 0) (λ i c. queue_is next chains v e c i) h

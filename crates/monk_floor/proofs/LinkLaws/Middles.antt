@@ -35,7 +35,7 @@ times_without s x (y ∷ ys) =
     omega (arith, same, times_without s x ys))
     (cases_eq y s)
 
--- the seat in front of another: the first one, or one further on
+-- the seat just before another: the first one, or one further on
 first_before : (s x y : ℕ) (ys : List ℕ) → y ≡ s → seat_before s (x ∷ y ∷ ys) ≡ Some x
 first_before s x y ys e = ap (λ b. cond b (Some x) (seat_before s (y ∷ ys))) (eq-eqb y s e)
 
@@ -49,7 +49,7 @@ later_before s x y ys h = when_not (y == s) (λ e. h (eqb-true y s e))
 same_some : (x y : ℕ) → Some x ≡ Some y → x ≡ y
 same_some x y e = cc
 
--- both stand in the list
+-- both are in the list
 pub before_there : (s b : ℕ) (xs : List ℕ) → seat_before s xs ≡ Some b → 1 ≤ times b xs
 before_there s b [] h = absurd (cc)
 before_there s b (x ∷ []) h = absurd (cc)
@@ -68,7 +68,7 @@ seat_there s b (x ∷ y ∷ ys) h =
     (λ d. let later = seat_there s b (y ∷ ys) (sym (later_before s x y ys d) ∙ h) in omega (arith, later))
     (cases_eq y s)
 
--- nobody is in front of a seat that isn't there
+-- there is no seat before a seat that isn't in the list
 pub absent : (s x : ℕ) (xs : List ℕ) → (x ≡ s → ⊥) → seat_before s (x ∷ xs) ≡ None → without s (x ∷ xs) ≡ x ∷ xs
 absent s x [] d h = keeps s x [] d
 absent s x (y ∷ ys) d h =
@@ -77,7 +77,7 @@ absent s x (y ∷ ys) d h =
     (λ f. absent s y ys f (sym (later_before s x y ys f) ∙ h))
     (cases_eq y s))
 
--- the links past a seat make the list without it
+-- with the links past a seat, the list is without it
 pub walk-unlink : (next : List ℕ) (n f s b : ℕ) → seat_before s (walk next (suc n) f) ≡ Some b
     → times b (walk next (suc n) f) ≤ 1 → times s (walk next (suc n) f) ≤ 1 → b < length next
     → walk (slice_set next b (get_or next s 0)) n f ≡ without s (walk next (suc n) f)
@@ -108,7 +108,7 @@ walk-unlink next (suc n) f s b h o p l =
     ∙ sym (keeps s f (g ∷ tail) alone))
     (cases_eq g s)
 
--- its last seat is the last one still, or the one in front
+-- its last seat is still the last one, or it is the one before
 pub ends_without : (xs : List ℕ) (s b l : ℕ) → EndsWith xs l → seat_before s xs ≡ Some b → times s xs ≤ 1
     → EndsWith (without s xs) (cond (l == s) b l)
 ends_without [] s b l e h p = absurd (cc)

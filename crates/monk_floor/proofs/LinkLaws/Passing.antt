@@ -15,7 +15,7 @@ use Rattle.monk_floor.proofs.LinkLaws.Joining.{some_more}
 use Rattle.monk_floor.proofs.LinkLaws.Taking.{none_here, some_here, none_seen}
 use Rattle.monk_floor.proofs.LinkLaws.Empty.{none}
 
--- two lists, one behind the other
+-- two lists, one after the other
 pub times_both : (s : ℕ) (xs ys : List ℕ) → times s (xs ++ ys) ≡ times s xs + times s ys
 times_both s [] ys = omega arith
 times_both s (x ∷ xs) ys = omega (arith, times_both s xs ys)
@@ -78,14 +78,14 @@ module _ {next : List ℕ} {chains : List Chain} (k : IsLinked next chains) (a b
       (ap (λ z. cond z [] (queue_at v a)) (eq-eqb a a refl) ∙ sym (none next))
       (λ c x. when_not (a == c) [] (queue_at v c) (λ z. x (eqb-true a c z)))
 
-  -- its seats are in no queue
+  -- the seats of that queue are now in no queue
   once : (s : ℕ) → places s (queue_in next emptied) + times s (queue_in next chains a) ≤ cond (nat_lt s most_seats) 1 0
   once s =
       let one = places_one a s (queue_in next chains) (queue_in next emptied) l emptied_other in
       let no : times s (queue_in next emptied a) ≡ 0 = ap (times s) emptied_here in
       omega (arith, one, no, k.once s)
 
-  -- then they stand behind those of the other
+  -- then they come after those of the other
   passed_linked : (others : List ℕ) (new : Chain)
       → seats_of others new ≡ queue_in next chains b ++ queue_in next chains a
       → EndsWith (seats_of others new) new.last
@@ -121,7 +121,7 @@ module _ {next : List ℕ} {chains : List Chain} (k : IsLinked next chains) (a b
       none_passed (a == c) (b == c) (queue_at v c) (queue_at v a) (none_seen next chains a v e z)
       (λ x. subst (λ y. queue_at v y ≡ []) (eqb-true a c x) (none_seen next chains a v e z))
 
-  -- nobody was there to stand behind
+  -- the other queue is empty
   alone_is : (chain_at chains b).length ≡ 0 → queue_in next chains a ≡ queue_in next chains b ++ queue_in next chains a
   alone_is z =
       ap (λ xs. xs ++ queue_in next chains a)
@@ -136,7 +136,7 @@ module _ {next : List ℕ} {chains : List Chain} (k : IsLinked next chains) (a b
       ++ cond (b == c) (queue_at v a) []
   alone_seen v e z = passed_seen v e next (chain_at chains a) (alone_is z) (λ c x. refl)
 
-  -- or somebody was
+  -- or it has seats
   abbrev links : List ℕ
   links = slice_set next (chain_at chains b).last (chain_at chains a).first
 

@@ -90,7 +90,7 @@ module _ (next : List ℕ) (chains : List Chain) (k : IsLinked next chains) (a s
   unlinked_others x last c d =
       seen x last c ∙ when (a == c) (without s (queue_at v c)) (queue_at v c) (λ z. d (eqb-true a c z))
 
--- where the seat is the front
+-- if the seat is the front
 front_taken : (s : ℕ) (xs ys : List ℕ) → true ≡ option_eq nat_eq (slice_get xs 0) (Some s) → ys ≡ drop 1 xs
     → times s ys ≡ 0
     → ys ≡ without s xs
@@ -121,7 +121,7 @@ others_stay_here a v w m c d = m c ∙ none_dropped (a == c) (queue_at v c) (λ 
     none_dropped true xs h = absurd (h refl)
     none_dropped false xs h = refl
 
--- and where it is not there
+-- if the seat is not there
 pub not_there : (s : ℕ) (xs : List ℕ) (r : Option ℕ) → r ≡ slice_get xs 0 → false ≡ option_eq nat_eq r (Some s)
     → seat_before s xs ≡ None → xs ≡ without s xs
 not_there s xs r e h n = nowhere s xs (h ∙ ap (λ o. option_eq nat_eq o (Some s)) e) n

@@ -1,4 +1,4 @@
--- The seat in front of another is looked for along the links
+-- The seat just before another is looked for along the links
 use Rattle.std.proofs.Common.{◌≡◌, ℕ, zero, suc, ◌<◌, ◌≤◌, ◌+◌, ◌-◌, cond, Some, None, List, map}
 use Rattle.std.proofs.Common.{refl, sym, ap, subst, ◌∙◌, arith, eq-eqb, get_or}
 use Rattle.monk_history.specs.Limits.{most_seats}
@@ -9,12 +9,12 @@ use Rattle.monk_floor.specs.Queues.{queue_at}
 use Rattle.monk_floor.proofs.LinkLaws.Chains.{queue_is, in_range}
 use Rattle.monk_floor.proofs.LinkLaws.Middles.{later_before}
 
--- n seats of a queue are left from b on, and the one in front of s is found among them or not at all
+-- n seats of a queue are left from b on. The one before s is found among them, or not at all
 pub record IsLeft (next : List ℕ) (s : ℕ) (all : List ℕ) (n b : ℕ) : Type 0 where
   pub same : seat_before s (walk next n b) ≡ seat_before s all
   pub within : (x : ℕ) → times x (walk next n b) ≤ times x all
 
--- of `length` seats in all the i-th from the front is b
+-- b is seat number i from the front of a queue of `length` seats
 pub record IsSought (next : List ℕ) (s : ℕ) (all : List ℕ) (length i b : ℕ) : Type 0 where
   pub bound : i ≤ length + 1
   pub left : (n : ℕ) → n + i ≡ length + 1 → IsLeft next s all n b

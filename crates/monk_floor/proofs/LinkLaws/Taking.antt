@@ -45,7 +45,7 @@ times_first x xs ys {zs} e d =
     omega (arith, one, all, ap (times x) rest)
 
 module _ (next : List ℕ) (chains : List Chain) (a : ℕ) where
-  -- of a queue with nobody in it
+  -- the queue has nobody in it
   pub none_seen : (v : List (List ℕ)) → map (seats_of next) chains ≡ v → (chain_at chains a).length ≡ 0
       → queue_at v a ≡ []
   none_seen v e z = queue_is next chains v e a ∙ none_here next (chain_at chains a).length (chain_at chains a).first z
@@ -126,7 +126,7 @@ module _ (next : List ℕ) (chains : List Chain) (a : ℕ) where
       subst (λ q. places s q ≤ 1) (λ i c. sym (queue_is next chains v e c) i) few in
       omega (arith, one, old, once)
 
--- whether there is a front, and who it is
+-- whether there is a front, and which seat it is
 pub nobody : (next : List ℕ) (n f : ℕ) → nat_eq n 0 ≡ is_empty (walk next n f)
 unfolding walk
 nobody next zero f = refl

@@ -1,18 +1,18 @@
--- A walk from link to link, where a link has changed
+-- A walk from link to link, after a link has changed
 use Rattle.std.proofs.Common.{◌≡◌, ◌≢◌, ℕ, zero, suc, ◌<◌, ◌≤◌, ◌+◌, ◌==◌, cond, List, [], ◌∷◌, ◌++◌}
 use Rattle.std.proofs.Common.{length, drop, refl, ap, ◌∙◌, arith, eq-eqb, get_or, get_or-set_same, get_or-set_other}
 use Rattle.std.specs.Prelude.{slice_set}
 use Rattle.monk_history.specs.Meaning.Standing.{times}
 use Rattle.monk_floor.specs.Links.{walk, EndsWith}
 
--- a seat that does not stand in a list is not its front
+-- a seat that is not in a list is not its front
 pub other : (x s n : ℕ) → cond (x == s) 1 0 + n ≡ 0 → x ≢ s
 other x s n h e = omega (arith, h, ap {B = ℕ} (λ b. cond b 1 0) (eq-eqb x s e))
 
 pub rest : (x s n : ℕ) → cond (x == s) 1 0 + n ≡ 0 → n ≡ 0
 rest x s n h = omega (arith, h)
 
--- a list in which a seat stands at most once, and not behind its front
+-- a seat that is at most once in a list, and after its front, is not the front
 pub behind : (x s n : ℕ) → cond (x == s) 1 0 + n ≤ 1 → 1 ≤ n → x ≢ s
 behind x s n h l e = omega (arith, h, l, ap {B = ℕ} (λ b. cond b 1 0) (eq-eqb x s e))
 
@@ -21,7 +21,7 @@ unfolding walk
 length-walk next zero f = refl
 length-walk next (suc n) f = ap suc (length-walk next n (get_or next f 0))
 
--- a link of a seat that the walk does not meet
+-- a link of a seat that the walk does not meet has changed
 pub walk-set : (next : List ℕ) (n f l v : ℕ) → times l (walk next n f) ≡ 0
     → walk (slice_set next l v) n f ≡ walk next n f
 unfolding walk
@@ -45,7 +45,7 @@ ends_drop [] l e = e
 ends_drop (x ∷ []) l e = tt
 ends_drop (x ∷ y ∷ ys) l e = e
 
--- a seat is linked behind the last one
+-- a seat is linked to the last one
 pub walk-push : (next : List ℕ) (n f l s : ℕ) → EndsWith (walk next (suc n) f) l → times l (walk next (suc n) f) ≤ 1
     → l < length next → walk (slice_set next l s) (suc (suc n)) f ≡ walk next (suc n) f ++ s ∷ []
 unfolding walk

@@ -1,4 +1,4 @@
-//! The releases by the path of each mode: only the queues that the mode can have anybody in are asked.
+//! The releases by the path of each mode. A path asks only the queues in which the mode can have anybody.
 ghost use Rattle.std.specs.Prelude.{◌≡◌, ◌<◌, Bool, true, false, length, Some};
 ghost use Rattle.monk_kinds.specs.declared.mode.Pick.{Pick};
 ghost use Rattle.monk_history.specs.Meaning.Conditions.{condition};
@@ -18,7 +18,7 @@ use monk_kinds::{
 };
 use monk_object::Guarded;
 
-/// The condition that an event signals, if its seat steps back into the signaller queue.
+/// Returns the condition that an event signals, if its seat steps back into the signaller queue.
 #[inline(always)]
 fn signalled(event: Event) -> Option<u8>
     ensures { result ≡ steps_back event }
@@ -30,7 +30,7 @@ fn signalled(event: Event) -> Option<u8>
 }
 
 impl<K: Kind, T: Guarded> Floor<K, T> {
-    /// Past the waiter queue alone, under a kind that keeps nobody in the signaller queue.
+    /// Returns the choice if only the waiter queue counts, under a kind that keeps nobody in the signaller queue.
     fn next_waiter(&self, event: Event, entry_known: bool, pick: Pick) -> Next
         requires conditions { has_conditions K.rules.mode ≡ true }
         requires signallers { keeps_signallers K.rules.mode ≡ false }
@@ -49,7 +49,8 @@ impl<K: Kind, T: Guarded> Floor<K, T> {
         )
     }
 
-    /// Past the signaller queue alone, under a blocking kind: whoever is served is admitted at once.
+    /// Returns the choice if only the signaller queue counts, under a blocking kind. A served seat is admitted at
+    /// once there.
     fn next_signaller(&self, event: Event, entry_known: bool, pick: Pick) -> Next
         requires mode { K.rules.mode ≡ Mode.Blocking }
         requires call { MayCallOn K.rules T.meaning self.now event }
@@ -67,7 +68,7 @@ impl<K: Kind, T: Guarded> Floor<K, T> {
         )
     }
 
-    /// Past waiters and signallers of one priority, under a quasi-blocking kind.
+    /// Returns the choice if waiters and signallers have one priority, under a quasi-blocking kind.
     fn next_equal(&self, event: Event, entry_known: bool, pick: Pick) -> Next
         requires mode { K.rules.mode ≡ Mode.QuasiBlocking }
         requires call { MayCallOn K.rules T.meaning self.now event }
@@ -90,7 +91,7 @@ impl<K: Kind, T: Guarded> Floor<K, T> {
         )
     }
 
-    /// Past the ready seats alone, under an automatic kind.
+    /// Returns the choice if only the ready seats count, under an automatic kind.
     fn next_ready(&self, event: Event, entry_known: bool, pick: Pick) -> Next
         requires mode { K.rules.mode ≡ Mode.Automatic }
         requires call { MayCallOn K.rules T.meaning self.now event }
@@ -111,7 +112,7 @@ impl<K: Kind, T: Guarded> Floor<K, T> {
         )
     }
 
-    /// A signal under a blocking kind hands over to the seat that it serves, whatever the wish.
+    /// Returns the choice of a signal under a blocking kind: the seat that it serves, whatever the wish.
     fn next_served(&self, seat: u8, cond: u8) -> Next
         requires mode { K.rules.mode ≡ Mode.Blocking }
         requires call { MayCallOn K.rules T.meaning self.now (Event.Signal seat cond Next.Stay) }
@@ -121,7 +122,7 @@ impl<K: Kind, T: Guarded> Floor<K, T> {
         served_choice(self.ledger.queues.front_of(cond))
     }
 
-    /// A signal under a non-blocking kind stays, whatever the wish, and no queue is asked.
+    /// Returns the choice of a signal under a non-blocking kind: to stay, whatever the wish. No queue is asked.
     fn next_staying(&self, seat: u8, cond: u8) -> Next
         requires mode { K.rules.mode ≡ Mode.NonBlocking }
         requires call { MayCallOn K.rules T.meaning self.now (Event.Signal seat cond Next.Stay) }
@@ -132,7 +133,7 @@ impl<K: Kind, T: Guarded> Floor<K, T> {
         Next::Stay
     }
 
-    /// What a release under a blocking kind chooses.
+    /// Returns what a release under a blocking kind chooses.
     #[inline(always)]
     fn next_blocking(&self, event: Event, entry_known: bool, pick: Pick) -> Next
         requires mode { K.rules.mode ≡ Mode.Blocking }
@@ -146,7 +147,7 @@ impl<K: Kind, T: Guarded> Floor<K, T> {
         }
     }
 
-    /// What a release under a non-blocking kind chooses.
+    /// Returns what a release under a non-blocking kind chooses.
     #[inline(always)]
     fn next_non_blocking(&self, event: Event, entry_known: bool, pick: Pick) -> Next
         requires mode { K.rules.mode ≡ Mode.NonBlocking }
@@ -160,7 +161,7 @@ impl<K: Kind, T: Guarded> Floor<K, T> {
         }
     }
 
-    /// What a release chooses, by the path of the mode.
+    /// Returns what a release chooses, by the path of the mode.
     #[inline(always)]
     fn next_past(&self, event: Event, entry_known: bool, pick: Pick) -> Next
         requires call { MayCallOn K.rules T.meaning self.now event }
@@ -176,7 +177,7 @@ impl<K: Kind, T: Guarded> Floor<K, T> {
         }
     }
 
-    /// Takes a release, as its caller knows it, by the path of the mode.
+    /// Makes a release by the path of the mode. `call` is the event as its caller knows it, without the choice.
     #[inline(always)]
     fn release(&mut self, call: Event, pick: Pick, entry_known: bool) -> Next
         requires call { MayCallOn K.rules T.meaning self.old call }
@@ -189,9 +190,8 @@ impl<K: Kind, T: Guarded> Floor<K, T> {
         next
     }
 
-    /// The active seat leaves the monitor: `plain_leave` by the path of the mode. Constant time;
-    /// under an automatic kind it costs a judgement of the predicate of each wait-until up to the
-    /// first that is ready.
+    /// Makes the active seat leave the monitor: `plain_leave` by the path of the mode. Constant time. Under an
+    /// automatic kind it judges the predicate of each wait-until up to the first that is ready.
     pub fn leave(&mut self, seat: u8, pick: Pick, entry_known: bool) -> Next
         requires call { MayCallOn K.rules T.meaning self.old (Event.Leave seat Next.Stay) }
         requires left { 0 < left_of self.old.budget self.old.history seat }
@@ -202,7 +202,7 @@ impl<K: Kind, T: Guarded> Floor<K, T> {
 }
 
 impl<K: Conditional, T: Guarded> Floor<K, T> {
-    /// The active seat waits on a condition variable: `plain_wait` by the path of the mode. Constant time.
+    /// Makes the active seat wait on a condition variable: `plain_wait` by the path of the mode. Constant time.
     pub fn wait(&mut self, seat: u8, cond: u8, pick: Pick, entry_known: bool) -> Next
         requires call { MayCallOn K.rules T.meaning self.old (Event.Wait seat cond Next.Stay) }
         requires left { 0 < left_of self.old.budget self.old.history seat }
@@ -213,10 +213,10 @@ impl<K: Conditional, T: Guarded> Floor<K, T> {
 }
 
 impl<K: Explicit, T: Guarded> Floor<K, T> {
-    /// The active seat signals a condition variable: `plain_signal` by the path of the mode.
+    /// Makes the active seat signal a condition variable: `plain_signal` by the path of the mode.
     ///
-    /// Under a non-blocking kind it stays, and no queue is asked. Under a blocking kind it hands over to the seat that
-    /// it serves, and no priority is compared. Constant time.
+    /// Under a non-blocking kind it stays, and no queue is asked. Under a blocking kind it hands over to the seat
+    /// that it serves, and no priority is compared. Constant time.
     pub fn signal(&mut self, seat: u8, cond: u8, pick: Pick, entry_known: bool) -> Next
         requires call { MayCallOn K.rules T.meaning self.old (Event.Signal seat cond Next.Stay) }
         requires left { 0 < left_of self.old.budget self.old.history seat }
@@ -227,8 +227,8 @@ impl<K: Explicit, T: Guarded> Floor<K, T> {
 }
 
 impl<K: NonBlocking, T: Guarded> Floor<K, T> {
-    /// The active seat signals all who wait on a condition variable, and goes on: `plain_signal_all`, which asks no
-    /// queue who is next under any kind. Constant time.
+    /// Makes the active seat signal all who wait on a condition variable, and go on: `plain_signal_all`, which never
+    /// asks a queue who is next. Constant time.
     pub fn signal_all(&mut self, seat: u8, cond: u8) -> u32
         requires call { MayCallOn K.rules T.meaning self.old (Event.SignalAll seat cond) }
         requires left { 0 < left_of self.old.budget self.old.history seat }
@@ -240,8 +240,8 @@ impl<K: NonBlocking, T: Guarded> Floor<K, T> {
 }
 
 impl<K: ImmediateReturn, T: Guarded> Floor<K, T> {
-    /// The active seat signals a condition variable and leaves the monitor: `plain_signal_leave` by the path of the
-    /// mode, past the waiter queue alone. Constant time.
+    /// Makes the active seat signal a condition variable and leave the monitor: `plain_signal_leave` by the path of
+    /// the mode. Only the waiter queue counts. Constant time.
     pub fn signal_leave(&mut self, seat: u8, cond: u8, pick: Pick, entry_known: bool) -> Next
         requires call { MayCallOn K.rules T.meaning self.old (Event.SignalLeave seat cond Next.Stay) }
         requires left { 0 < left_of self.old.budget self.old.history seat }
@@ -251,8 +251,8 @@ impl<K: ImmediateReturn, T: Guarded> Floor<K, T> {
         self.release(call, pick, entry_known)
     }
 
-    /// The active seat signals the first condition variable and then waits on the second: `plain_signal_wait` by the
-    /// path of the mode, past the waiter queue alone. Constant time.
+    /// Makes the active seat signal the first condition variable and then wait on the second: `plain_signal_wait` by
+    /// the path of the mode. Only the waiter queue counts. Constant time.
     pub fn signal_wait(
         &mut self,
         seat: u8,
@@ -272,8 +272,8 @@ impl<K: ImmediateReturn, T: Guarded> Floor<K, T> {
 }
 
 impl<K: Automatic, T: Guarded> Floor<K, T> {
-    /// The active seat waits until a predicate holds: `plain_until` by the path of the mode, past the ready seats
-    /// alone. Costs a judgement of the predicate of each wait-until up to the first that is ready.
+    /// Makes the active seat wait until a predicate holds: `plain_until` by the path of the mode. Only the ready
+    /// seats count. It judges the predicate of each wait-until up to the first that is ready.
     pub fn until(&mut self, seat: u8, pred: u8, pick: Pick, entry_known: bool) -> Next
         requires call { MayCallOn K.rules T.meaning self.old (Event.Until seat pred Next.Stay) }
         requires left { 0 < left_of self.old.budget self.old.history seat }

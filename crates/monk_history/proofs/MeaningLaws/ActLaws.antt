@@ -1,4 +1,4 @@
--- The acts of a legal history are a run of its object, so that the laws of the object hold of them
+-- The acts of a legal history are a run of its object, so the laws of the object hold for them
 use Rattle.std.proofs.Common.{◌≡◌, ℕ, true, Option, Some, None, ◌==◌, List, [], ◌∷◌, ◌++◌, map, refl, sym, ap, subst, ◌∙◌}
 use Rattle.std.specs.Option.{option_map_or, option_to_list}
 use Rattle.std.proofs.lemmas.Bool.{eqb-true}

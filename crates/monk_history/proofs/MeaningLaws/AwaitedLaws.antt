@@ -1,4 +1,4 @@
--- Whoever goes on from a wait-until awaits what holds
+-- A seat that goes on from a wait-until waits for what holds
 use Rattle.std.proofs.Common.{◌≡◌, ℕ, ◌+◌, ◌<◌, Bool, true, false, cond, ◌&&◌, ◌==◌, Option, Some, None, List}
 use Rattle.std.proofs.Common.{[], ◌∷◌, ◌++◌}
 use Rattle.std.proofs.Common.{length, get_or, ◌-◌, take, refl, sym, ap, subst, ◌∙◌, arith, eq-eqb}
@@ -35,7 +35,7 @@ use Rattle.monk_history.proofs.MeaningLaws.TurnLaws.{turn-push, data-push}
 use Rattle.monk_history.proofs.MeaningLaws.HandOverLaws.{take_more_by_one, same_queue, or_left, or_right}
 use Rattle.monk_history.proofs.MeaningLaws.HandOverLaws.{both, by_stay}
 
--- seat s is among them with a predicate that holds
+-- seat s is among these waits, with a predicate that holds
 abbrev AwaitsAmong : Object → List ℕ → ℕ → List (ℕ × ℕ) → Type 0
 AwaitsAmong o d s ws = (p : ℕ) × (list_any (λ u. u.0 == s && u.1 == p) ws ≡ true) × (o.holds d p ≡ true)
 
@@ -53,13 +53,13 @@ ready_by o d s u us true e f g = (
 ready_by o d s u us false e f g =
     let r = f g in (r.0, or_right (u.0 == s && u.1 == r.0) (list_any (λ v. v.0 == s && v.1 == r.0) us) r.1, r.2)
 
--- whoever stands first among those that are ready waits until a predicate that holds
+-- the first of the ready seats waits until a predicate that holds
 ready_front : (o : Object) (d : List ℕ) (s : ℕ) (ws : List (ℕ × ℕ)) → is_front s (ready_of o d ws) ≡ true
     → AwaitsAmong o d s ws
 ready_front o d s [] h = absurd (false≢true h)
 ready_front o d s (u ∷ us) h = ready_by o d s u us (o.holds d u.1) refl (λ g. ready_front o d s us g) h
 
--- what was chosen from the waits-until stood first among those that were ready
+-- a seat that was chosen from the waits-until was the first of the ready seats
 until_chosen : (k : Rules) (q : Queues) (s : ℕ) (b : Bool) (x : Option Next) (j : ℕ) → x ≡ Some (UntilSeat j)
     → option_map_or (λ n. cond b (may_signal k q s n) (may_choose k q s n)) x true ≡ true → is_front j q.ready ≡ true
 until_chosen k q s b None j e p = absurd (cc)
@@ -72,7 +72,7 @@ until_chosen k q s true (Some (UntilSeat i)) j e p = let same : i ≡ j = cc in
 until_chosen k q s false (Some (UntilSeat i)) j e p = let same : i ≡ j = cc in
     subst (λ z. is_front z q.ready ≡ true) same (and_right _ _ p)
 
--- a turn that is due from the waits-until was given by that choice
+-- if the turn is due from the waits-until, the event chose that
 due_from_until : (s j : ℕ) (x : Option Next) → turn_by s x ≡ Due j FromUntil → x ≡ Some (UntilSeat j)
 due_from_until s j None e = absurd (cc)
 due_from_until s j (Some Stay) e = absurd (cc)
@@ -81,7 +81,7 @@ due_from_until s j (Some (Waiter i)) e = absurd (cc)
 due_from_until s j (Some (Signaller i)) e = absurd (cc)
 due_from_until s j (Some (UntilSeat i)) e = let same : i ≡ j = cc in ap (λ z. Some (UntilSeat z)) same
 
--- whoever chooses does nothing on the object
+-- an event that chooses does nothing on the object
 choice_without_act : (e : Event) (x : Next) → next_of e ≡ Some x → answered_act e ≡ None
 choice_without_act (Enter s via) x h = refl
 choice_without_act (Act s op r) x h = absurd (cc)

@@ -1,4 +1,4 @@
--- Nobody enters before whoever was served has gone on, where waiters go before callers
+-- If waiters go before callers, nobody enters before a served seat has gone on
 use Rattle.std.proofs.Common.{◌≡◌, ℕ, ◌+◌, ◌<◌, Bool, true, false, cond, ◌&&◌, ◌||◌, ◌==◌, Option, Some, None}
 use Rattle.std.proofs.Common.{List, [], ◌∷◌, ◌++◌}
 use Rattle.std.proofs.Common.{length, get_or, ◌-◌, take, drop, refl, sym, ap, subst, ◌∙◌, arith, zero, suc}
@@ -37,7 +37,7 @@ use Rattle.monk_history.proofs.MeaningLaws.StepLaws.{legal_situation-push}
 use Rattle.monk_history.proofs.MeaningLaws.HandOverLaws.{take_more_by_one, legal_take, due_resumes, not_same}
 use Rattle.monk_history.proofs.MeaningLaws.HandOverLaws.{or_left, or_right, by_stay}
 
--- seat w stands in the waiter queue while the monitor is somebody's, or the turn is due to it from there
+-- seat w is in the waiter queue while some seat has the monitor, or the turn is due to it from there
 abbrev IsOnItsWay : ℕ → Situation → Type 0
 IsOnItsWay w t = ((is_among w t.waiters ≡ true) × (is_open t.turn ≡ false)) ⊎ (t.turn ≡ Due w FromWaiter)
 
@@ -47,13 +47,13 @@ among_first w xs ys h = list_any-append (λ s. s == w) xs ys ∙ or_left (is_amo
 among_second : (w : ℕ) (xs ys : List ℕ) → is_among w ys ≡ true → is_among w (xs ++ ys) ≡ true
 among_second w xs ys h = list_any-append (λ s. s == w) xs ys ∙ or_right (is_among w xs) (is_among w ys) h
 
--- where somebody is queued, entry isn't chosen by the rules that put waiters before callers
+-- if somebody is queued, the rules that put waiters before callers don't choose entry
 no_entry : (k : Rules) (w : ℕ) (qs ss rs : List ℕ) → k.entry < k.waiter → is_among w qs ≡ true
     → (((is_empty qs && is_empty rs) || k.waiter == k.entry) && (is_empty ss || k.signaller == k.entry)) ≡ true → ⊥
 no_entry k w [] ss rs l h p = false≢true h
 no_entry k w (y ∷ ys) ss rs l h p = absurd (not_same k.waiter k.entry l (and_left _ _ p))
 
--- the front of the waiter queue is chosen: it is seat w, or w is behind it
+-- the front of the waiter queue is chosen: it is seat w, or w comes after it
 front_or_behind : (w j : ℕ) (b : Bool) (ys : List ℕ) → (j == w) ≡ b → (b || is_among w ys) ≡ true
     → (j ≡ w) ⊎ (is_among w ys ≡ true)
 front_or_behind w j true ys e h = inl (eqb-true j w e)
@@ -69,7 +69,7 @@ waiter_chosen w j s (y ∷ ys) t h f e d =
     (λ behind. inl (ap (is_among w) e ∙ behind, ap is_open d))
     (front_or_behind w j (j == w) ys refl (ap (λ z. z == w || is_among w ys) (sym here) ∙ h))
 
--- what became of it by an event that chose so
+-- where seat w is after an event with that choice
 chosen_way : (k : Rules) (w s : ℕ) (q : Queues) (b : Bool) (x : Option Next) (t : Situation) → k.entry < k.waiter
     → is_among w q.waiters ≡ true
     → option_map_or (λ n. cond b (may_signal k q s n) (may_choose k q s n)) x true ≡ true
@@ -93,7 +93,7 @@ stayed_way w s qs (Some (Waiter j)) t h p e d = absurd (false≢true p)
 stayed_way w s qs (Some (Signaller j)) t h p e d = absurd (false≢true p)
 stayed_way w s qs (Some (UntilSeat j)) t h p e d = absurd (false≢true p)
 
--- after an allowed event a seat that stood in the waiter queue, or that it served, is on its way
+-- after an allowed event a seat that was in the waiter queue, or that the event served, is on its way
 on_its_way : (m : Monitor) (t : Situation) (e : Event) (w : ℕ) → m.kind.entry < m.kind.waiter
     → is_among w (t.waiters ++ serves t.condition e) ≡ true → IsAllowedIn m t e → IsOnItsWay w (after m.object t e)
 on_its_way m t e w l h a =

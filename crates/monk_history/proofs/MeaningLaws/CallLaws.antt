@@ -1,4 +1,4 @@
--- What a caller knows of the turn lets it call; and who is queued
+-- What a caller knows of the turn lets it call; and which seats are queued
 use Rattle.std.proofs.Common.{◌≡◌, ℕ, ◌+◌, ◌<◌, Bool, true, false, cond, ◌&&◌, not, refl, ap, ◌∙◌, arith, eq-eqb, [], List}
 use Rattle.std.specs.Prelude.{nat_lt}
 use Rattle.monk_history.specs.Meaning.Monitor.{Monitor, data_of}
@@ -112,7 +112,7 @@ queued_by : (b : Bool) (x y : ℕ) → x + y ≡ cond b 1 0 → (b && not (nat_l
 queued_by true x y h = grind (arith, h)
 queued_by false x y h = grind (arith, h)
 
--- a seat is in a queue exactly where it is inside and has not the turn
+-- a seat is in a queue if, and only if, it is inside and doesn't have the turn
 pub queued_is : (n s : ℕ) (t : Situation) → IsPlaced n t
     → (t.inside s && not (nat_lt 0 (has_turn s t.turn))) ≡ is_queued n s t
 queued_is n s t p = queued_by (t.inside s) (in_queues n s t) (has_turn s t.turn) (p s)
@@ -124,7 +124,7 @@ both_true : (a b : Bool) → a ≡ true → b ≡ true → (a && b) ≡ true
 both_true true b h k = k
 both_true false b h k = h
 
--- a seat that is outside may enter where the turn is open
+-- a seat that is outside may enter if the turn is open
 pub may_enter_handed : (m : Monitor) (h : List Event) (s : ℕ) → turn h ≡ Open → s < m.seats → is_inside s h ≡ false
     → not (is_empty h) ≡ true → MayCall m h (Enter s Handed)
 may_enter_handed m h s t l i b =

@@ -1,4 +1,4 @@
--- One event more in what is counted seat by seat, and how long lists of few seats are
+-- How one more event changes what is counted seat by seat, and how long lists of few seats are
 use Rattle.std.proofs.Common.{◌≡◌, ℕ, ◌+◌, ◌*◌, ◌<◌, ◌≤◌, zero, suc, Bool, true, false, cond, ◌==◌, List, [], ◌∷◌}
 use Rattle.std.proofs.Common.{◌++◌, length, refl, sym, ap, ◌∙◌, arith, map, ⊎_elim, eq-eqb, length-append}
 use Rattle.std.specs.Prelude.{filter}
@@ -19,7 +19,7 @@ pub total_le : (m b : ℕ) (f : ℕ → ℕ) → ((j : ℕ) → f j ≤ b) → t
 total_le zero b f h = omega arith
 total_le (suc m) b f h = omega (arith, total_le m b f h, h m)
 
--- what is left of the bound where one seat has less
+-- what is left of the bound if one seat has less
 pub total_rest : (m b i : ℕ) (f : ℕ → ℕ) → i < m → ((j : ℕ) → f j ≤ b) → total m f + b ≤ m * b + f i
 total_rest zero b i f k h = absurd (omega arith)
 total_rest (suc m) b i f k h =
@@ -54,7 +54,7 @@ total_none : (n : ℕ) → total n (λ s. 0) ≡ 0
 total_none zero = refl
 total_none (suc n) = omega (arith, total_none n)
 
--- a list of seats below n is as long as the seats stand in it
+-- the length of a list of seats below n is the sum of how often each seat is in it
 pub length_total : (n : ℕ) (xs : List ℕ) → ((s : ℕ) → n ≤ s → times s xs ≡ 0) → length xs ≡ total n (λ s. times s xs)
 length_total n [] h = sym (total_none n)
 length_total n (x ∷ xs) h =
@@ -102,7 +102,7 @@ one_more : (b : Bool) (e : Event) (es : List Event) → length (cond b (e ∷ es
 one_more true e es = omega arith
 one_more false e es = omega arith
 
--- a seat has as many events as it stands among the seats of all
+-- a seat has as many events as it comes up among the seats of all events
 pub length-events_of : (h : List Event) (s : ℕ) → length (events_of h s) ≡ times s (map seat_of h)
 unfolding events_of
 length-events_of [] s = refl
@@ -113,7 +113,7 @@ length_map : (h : List Event) → length (map seat_of h) ≡ length h
 length_map [] = refl
 length_map (e ∷ es) = ap suc (length_map es)
 
--- where each seat has at most its budget and one has less, there is room for one event more
+-- if each seat has at most its budget and one has less, there is room for one more event
 pub room_left : (seats budget i : ℕ) (h : List Event) → i < seats → ((s : ℕ) → seats ≤ s → length (events_of h s) ≡ 0)
     → ((s : ℕ) → length (events_of h s) ≤ budget) → length (events_of h i) < budget → length h < seats * budget
 room_left seats budget i h l none within less =
@@ -123,7 +123,7 @@ room_left seats budget i h l none within less =
     (λ s. omega (arith, within s, length-events_of h s)) in
     omega (arith, long, rest, length_map h, length-events_of h i)
 
--- where each seat has at most its budget, the history is no longer than the budgets of all
+-- if each seat has at most its budget, the history is no longer than the budgets of all
 pub history_few : (seats budget : ℕ) (h : List Event) → ((s : ℕ) → seats ≤ s → length (events_of h s) ≡ 0)
     → ((s : ℕ) → length (events_of h s) ≤ budget) → length h ≤ seats * budget
 history_few seats budget h none within =
@@ -148,6 +148,6 @@ pub granted_none : (s : ℕ) → granted_of [] s ≡ 0
 unfolding granted_of
 granted_none s = refl
 
--- no more events than there are budgets for
+-- no more events than the budgets allow
 pub few_events : (seats budget n : ℕ) → seats ≤ most_seats → budget ≤ most_budget → n < seats * budget → n < most_lines
 few_events seats budget n a b l = let c = mul-le-mul_right budget a in omega (arith, b, l, c)

@@ -1,4 +1,4 @@
--- When a seat may enter or resume; what may be called; what a seat knows of itself
+-- When a seat may enter or resume; what may be called; what a seat knows about itself
 use Rattle.std.proofs.Common.{◌≡◌, ◌≢◌, ℕ, ◌<◌, Bool, true, false, cond, ◌&&◌, ◌||◌, not, ◌==◌, List, [], ◌∷◌, refl}
 use Rattle.std.proofs.Common.{sym, ap, ◌∙◌, arith, eq-eqb}
 use Rattle.std.specs.Prelude.{◌↔◌, filter, nat_lt}
@@ -61,7 +61,7 @@ from_call m h s c = record {
   permitted = refl;
 }
 
--- `enter s free` is allowed exactly where the seat stands at the door and nobody could be chosen
+-- `enter s free` is allowed if, and only if, the seat is at the door and nobody could be chosen
 pub enters_free : (m : Monitor) (h : List Event) (s : ℕ) → IsAllowed m h (Enter s Free) ↔ (IsAtDoor m h s × IsQuiet m h)
 enters_free m h s = (
   λ a. (
@@ -82,7 +82,7 @@ enters_free m h s = (
   λ p. from_call m h s (may_enter_free m h s p.0.free p.0.seat p.0.outside p.1.waiters p.1.signallers p.1.ready),
 )
 
--- `enter s handed` is allowed exactly where the seat stands at the door and it is not the first event
+-- `enter s handed` is allowed if, and only if, the seat is at the door and it is not the first event
 pub enters_handed : (m : Monitor) (h : List Event) (s : ℕ)
     → IsAllowed m h (Enter s Handed) ↔ (IsAtDoor m h s × (h ≢ []))
 enters_handed m h s = (
@@ -137,7 +137,7 @@ one_seat : (a : Bool) → a ≡ true → (a && true && true && true && true) ≡
 one_seat true h = refl
 one_seat false h = h
 
--- `resume s q` is allowed exactly where the turn is due to that seat from that queue
+-- `resume s q` is allowed if, and only if, the turn is due to that seat from that queue
 pub resumes : (m : Monitor) (h : List Event) (s : ℕ) (q : From3) → IsAllowed m h (Resume s q) ↔ IsDueFrom m h s q
 resumes m h s q = (
   λ a. record { seat = range_here m h (Resume s q) a; due = due_is s q (turn h) a.in_turn },
@@ -215,7 +215,7 @@ allowed_called m t (SignalAll s c) a =
 allowed_called m t (Resume s q) a =
     record { in_range = a.in_range; offered = a.offered; in_turn = a.in_turn; in_place = a.in_place }
 
--- an event of another seat says nothing of whether this one is inside
+-- an event of another seat doesn't change whether this one is inside
 not_theirs : (b : Bool) (w : Bool) → b ≡ false → (w && b) ≡ false
 not_theirs true w h = absurd (false≢true (sym h))
 not_theirs false true h = refl

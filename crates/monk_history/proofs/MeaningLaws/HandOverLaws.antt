@@ -1,4 +1,4 @@
--- Whoever is served goes on next, where waiters come first
+-- If waiters come first, a served seat goes on next
 use Rattle.std.proofs.Common.{◌≡◌, ℕ, ◌+◌, ◌<◌, Bool, true, false, cond, ◌&&◌, ◌||◌, not, ◌==◌, Some, None}
 use Rattle.std.proofs.Common.{List, [], ◌∷◌, ◌++◌}
 use Rattle.std.proofs.Common.{◌-◌, take, drop, refl, sym, ap, subst, ◌∙◌, arith, zero, suc, ◌⊎◌, inl, inr}
@@ -98,7 +98,7 @@ not_without : (b : Bool) → b ≡ true → not b ≡ true → ⊥
 not_without true h k = false≢true k
 not_without false h k = false≢true h
 
--- somebody who is served alone is the one that a blocking kind chooses
+-- if a signal serves a seat and the waiter queue was empty, a blocking kind chooses that seat
 signal_chooses : (k : Rules) (w : ℕ) (ss rs : List ℕ) (s : ℕ) (x : Next) → IsBlocking k
     → may_signal k (record { waiters = w ∷ []; signallers = ss; ready = rs }) s x ≡ true → x ≡ Waiter w
 signal_chooses k w ss rs s Stay n h = absurd (not_above k.waiter k.signaller n.signaller_waiter (and_right _ _ h))
@@ -117,7 +117,7 @@ record IsReturning (k : Rules) : Type 0 where
   goes_on_not : is_non_blocking k.mode ≡ false
   entry_waiter : k.entry < k.waiter
 
--- and, without a signaller queue, the one that immediate return chooses
+-- and if there is no signaller queue, immediate return chooses it
 return_chooses : (k : Rules) (w : ℕ) (rs : List ℕ) (s : ℕ) (x : Next) → IsReturning k
     → may_choose k (record { waiters = w ∷ []; signallers = []; ready = rs }) s x ≡ true → x ≡ Waiter w
 return_chooses k w rs s Stay n h = absurd (false≢true h)
@@ -169,7 +169,7 @@ return_serves : (k : Rules) (ws qs ss rs : List ℕ) (s w : ℕ) (x : Next) → 
 return_serves k ws [] ss rs s w x n e f p a = absurd (false≢true a)
 return_serves k ws (y ∷ ys) ss rs s w x n e f p a = return_next k ws ys ss rs s y x n e f p ∙ ap Waiter (only_one w y a)
 
--- under immediate return nobody is in the waiter queue between two events, where waiters go before callers
+-- under immediate return, if waiters go before callers, nobody is in the waiter queue between two events
 returned_after : (m : Monitor) (t : Situation) (e : Event) → IsReturning m.kind → t.waiters ≡ [] → t.signallers ≡ []
     → IsAllowedIn m t e → (after m.object t e).waiters ≡ []
 returned_after m t (Enter s via) n h g a = drop_all false t.waiters h
@@ -193,7 +193,7 @@ legal_returned m h n l =
     ∙ returned_after m (situation m z) e n (more before) (legal_unsignalled m z n.no_signallers before)
     (legal_last m z e k)) h l
 
--- whom an event serves is the one that it chooses
+-- the seat that an event serves is the one that it chooses
 blocking_serves : (m : Monitor) (t : Situation) (e : Event) (w : ℕ) → IsBlocking m.kind → t.waiters ≡ []
     → IsAllowedIn m t e
     → is_among w (serves t.condition e) ≡ true → next_of e ≡ Some (Waiter w)
@@ -225,7 +225,7 @@ returning_serves m t (SignalAll s c) w n h f a g = absurd (false≢true (sym n.g
 returning_serves m t (SignalWait s c d x) w n h f a g =
     ap Some (return_serves m.kind t.waiters (t.condition c) t.signallers _ s w x n h f a.permitted g)
 
--- whoever serves somebody does nothing on the object
+-- an event that serves somebody does nothing on the object
 serves_without_act : (q : ℕ → List ℕ) (e : Event) (w : ℕ) → is_among w (serves q e) ≡ true → answered_act e ≡ None
 serves_without_act q (Enter s via) w g = refl
 serves_without_act q (Act s op r) w g = absurd (false≢true g)
@@ -238,7 +238,7 @@ serves_without_act q (Resume s r) w g = refl
 serves_without_act q (SignalAll s c) w g = refl
 serves_without_act q (SignalWait s c d x) w g = refl
 
--- what is chosen from the waiter queue goes on next, over the same data
+-- a seat that was chosen from the waiter queue goes on next, over the same data
 handed : (m : Monitor) (h : List Event) (i w : ℕ) (e next : Event) → IsLegal m h → slice_get h i ≡ Some e
     → slice_get h (i + 1) ≡ Some next → next_of e ≡ Some (Waiter w) → answered_act e ≡ None → IsHandedTo m h i w next
 handed m h i w e next l here there chosen quiet =

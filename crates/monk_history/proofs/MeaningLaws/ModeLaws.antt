@@ -51,7 +51,7 @@ not_conditions : (b : Bool) → b ≡ true → not b ≡ true → ⊥
 not_conditions true h k = false≢true k
 not_conditions false h k = false≢true h
 
--- alone in the signaller queue, the caller stays
+-- if the caller is alone in the signaller queue, it stays
 only_stay : (k : Rules) (ws rs : List ℕ) (s : ℕ) (x : Next) → IsNonBlocking k
     → may_signal k (record { waiters = ws; signallers = s ∷ []; ready = rs }) s x ≡ true → is_stay (Some x) ≡ true
 only_stay k ws rs s Stay n h = refl
@@ -121,7 +121,7 @@ blocking k i e = record {
   signaller_waiter = subst (λ x. FitsMode x k.entry k.waiter k.signaller) e i.fits_mode;
 }
 
--- with somebody served, a blocking kind admits from the waiter queue
+-- if somebody was served, a blocking kind admits from the waiter queue
 only_waiter : (k : Rules) (w : ℕ) (ws ss rs : List ℕ) (s : ℕ) (x : Next) → IsBlocking k
     → may_signal k (record { waiters = w ∷ ws; signallers = ss; ready = rs }) s x ≡ true → is_waiter (Some x) ≡ true
 only_waiter k w ws ss rs s Stay n h = absurd (not_below k.waiter k.signaller n.signaller_waiter (and_right _ _ h))
@@ -167,7 +167,7 @@ legal_emptied m h n l =
     legal_induction m (λ t. t.waiters ≡ []) (ap (λ t. t.waiters) (situation-none m))
     (λ t e s a. emptied_after m t e n s a) h l
 
--- where there is no signaller queue nobody is ever in it
+-- if there is no signaller queue, nobody is ever in it
 unsignalled_after : (m : Monitor) (t : Situation) (e : Event) → has_signaller_queue m.kind.mode ≡ false
     → t.signallers ≡ [] → IsAllowedIn m t e → (after m.object t e).signallers ≡ []
 unsignalled_after m t e n h a =

@@ -1,4 +1,4 @@
--- Where seats stand after one event more, and what is counted
+-- Where seats are after one more event, and what is counted
 use Rattle.std.proofs.Common.{◌≡◌, ◌≢◌, ℕ, ◌+◌, ◌≤◌, Bool, true, false, cond, ◌&&◌, ◌||◌, not, ◌==◌, Option, Some, None}
 use Rattle.std.proofs.Common.{List, [], ◌∷◌, ◌++◌, refl, sym, ap, subst, ◌∙◌, arith, eq-eqb, ⊎_elim}
 use Rattle.std.specs.Prelude.{is_some}
@@ -33,7 +33,7 @@ use Rattle.monk_history.proofs.MeaningLaws.CountLaws.{events_of-push, length-eve
 use Rattle.monk_history.proofs.MeaningLaws.StandingLaws.{times-append, legal_placed}
 use Rattle.monk_history.proofs.MeaningLaws.ReleaseLaws.{front_times, serves_times, caller_signals, times_filter, caller_apart}
 
--- what one event more counts
+-- what one more event counts
 pub counts_after : (h : List Event) (e : Event) → CountsAfter h e
 counts_after h e = record {
   events = events_of-push h e;
@@ -50,7 +50,7 @@ not_same j s n = no (s == j) (λ h. n (sym (eqb-true s j h)))
     no true f = absurd (f refl)
     no false f = refl
 
--- an event of another seat neither enters nor leaves for this one
+-- by an event of another seat this one neither enters nor leaves
 not_moved : (i out enter b : Bool) → b ≡ false → ((i && not (out && b)) || (enter && b)) ≡ i
 not_moved true true true false h = refl
 not_moved true true false false h = refl
@@ -139,7 +139,7 @@ other_turn t e j n = by_source (via_of e) (source_of e)
     by_source None (Some q) h = not_due (seat_of e) j q t.turn n h
     by_source None None h = not_owned (seat_of e) j t.turn n h
 
--- after an event another seat has the turn where it was chosen
+-- after an event another seat has the turn if it was chosen
 turn_grants : (s j : ℕ) (x : Option Next) → j ≢ s → has_turn j (turn_by s x) ≡ cond (chooses_seat j x) 1 0
 turn_grants s j None n = ap (λ b. cond b 1 0) (not_same j s n)
 turn_grants s j (Some Stay) n = ap (λ b. cond b 1 0) (not_same j s n)
@@ -148,7 +148,7 @@ turn_grants s j (Some (Waiter i)) n = refl
 turn_grants s j (Some (Signaller i)) n = refl
 turn_grants s j (Some (UntilSeat i)) n = refl
 
--- a chosen seat stands in a queue that is chosen from, and is not the caller if that is the signaller queue
+-- a chosen seat is in a queue that is chosen from, and is not the caller if that is the signaller queue
 chosen_in : (k : Rules) (q : Queues) (s j : ℕ) (x : Next) (n : ℕ) → may_choose k q s x ≡ true
     → chooses_seat j (Some x) ≡ true
     → (1 ≤ times j q.waiters → 1 ≤ n) → (1 ≤ times j q.signallers → j ≢ s → 1 ≤ n)
@@ -200,7 +200,7 @@ in_queue_ready : (m : Monitor) (t : Situation) (e : Event) (j : ℕ) → 1 ≤ t
     → 1 ≤ in_queues m.conds j t
 in_queue_ready m t e j h = omega (arith, h, times_filter m.object t.state t.untils j)
 
--- what stays names nobody
+-- a choice to stay names nobody
 stay_names : (j : ℕ) (x : Next) → is_stay (Some x) ≡ true → chooses_seat j (Some x) ≡ true → ⊥
 stay_names j Stay h g = false≢true g
 stay_names j Entry h g = false≢true h
@@ -231,7 +231,7 @@ chosen_queued m t e j a = one (must_stay m.object t e) (is_some (steps_back e)) 
         (unless stays (is_stay (Some n)) _ h (λ y. stay_names j n y g)) g
         (in_queue_waiters m t e j a) (in_queue_signallers m t e j) (in_queue_ready m t e j)
 
--- the seat of an allowed event stands in no queue
+-- the seat of an allowed event is in no queue
 pub caller_unqueued : (m : Monitor) (t : Situation) (e : Event) → IsPlaced m.conds t → IsAllowedIn m t e
     → in_queues m.conds (seat_of e) t ≡ 0
 caller_unqueued m t e p a =
@@ -242,7 +242,7 @@ at_most : (b : Bool) → ◌≤◌ (cond b 1 0) 1
 at_most true = omega arith
 at_most false = omega arith
 
--- no seat stands in more than one queue
+-- no seat is in more than one queue
 pub queued_once : (m : Monitor) (h : List Event) → IsLegal m h → (s : ℕ) → in_queues m.conds s (situation m h) ≤ 1
 queued_once m h l s = omega (arith, legal_placed m h l s, at_most (is_inside s h))
 
@@ -300,7 +300,7 @@ not_out : (b : Bool) → ◌≡◌ {A = ℕ} (cond (not b) 1 0) (cond b 0 1)
 not_out true = refl
 not_out false = refl
 
--- where seats stand after one event more
+-- where seats are after one more event
 pub stands_after : (m : Monitor) (h : List Event) (e : Event) → IsLegal m h → IsAllowed m h e
     → StandsAfter m (situation m h) e (situation m (h ++ e ∷ []))
 stands_after m h e l a =

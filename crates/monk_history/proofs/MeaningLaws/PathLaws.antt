@@ -1,4 +1,4 @@
--- The choice along the path of a mode is the choice by the wish rules
+-- The choice by the path of a mode is the choice by the wish rules
 use Rattle.std.proofs.Common.{◌≡◌, ℕ, ◌<◌, ◌≤◌, Bool, true, false, cond, ◌&&◌, ◌||◌, not, ◌==◌, List, [], ◌∷◌, ◌++◌}
 use Rattle.std.proofs.Common.{take, refl, sym, ap, subst, ◌∙◌, arith, eq-eqb}
 use Rattle.std.specs.Prelude.{nat_le, slice_get, if◌then◌else◌}
@@ -118,7 +118,7 @@ signal_stays m h s c x known wish n l =
     let t = situation m h in
     stay_choice m.kind _ t.signallers _ s (is_empty (t.condition c)) known wish n (legal_alone m h n l)
 
--- past the one queue of those served or ready
+-- if only the queue of those served or ready counts
 waiter_single : (we se sw ws : Bool) (queue : From3) (xs : List ℕ) (other : Next) (known : Bool) (wish : Pick)
     → parts we se sw ws (is_empty xs) (next_from queue (front xs)) true other known wish ≡ single_choice queue we
     (slice_get xs 0) known wish
@@ -156,7 +156,7 @@ single_ready k q s known wish h e =
     ∙ waiter_single (nat_le k.waiter k.entry) (nat_le k.signaller k.entry) (nat_le k.signaller k.waiter)
     (nat_le k.waiter k.signaller) FromUntil q.ready (signaller_choice q s) known wish)
 
--- past the signallers alone, the caller not being their front
+-- if only the signallers count, and the caller is not their front
 signaller_single : (we se sw ws : Bool) (next : Next) (ss : List ℕ) (s : ℕ) (known : Bool) (wish : Pick)
     → is_front s ss ≡ false
     → parts we se sw ws true next (is_empty ss) (cond (front ss == s) Stay (Signaller (front ss))) known
@@ -182,7 +182,7 @@ single_signaller k q s known wish h e f =
     ∙ signaller_single (nat_le k.waiter k.entry) (nat_le k.signaller k.entry) (nat_le k.signaller k.waiter)
     (nat_le k.waiter k.signaller) (waiter_choice k q) q.signallers s known wish f)
 
--- past those served, above all others
+-- if those served count before all others
 waiter_wins : (se empty : Bool) (next other : Next) (known : Bool) (wish : Pick)
     → parts false se true false false next empty other known wish ≡ next
 waiter_wins se true next other true WishEntry = refl
@@ -211,7 +211,7 @@ served_first k q s known wish n e =
     ∙ waiter_wins (nat_le k.signaller k.entry) (is_empty q.signallers) (Waiter (front q.waiters))
     (signaller_choice q s) known wish))
 
--- past two queues of one priority
+-- if two queues have one priority
 equal_parts : (we : Bool) (ws ss : List ℕ) (s : ℕ) (known : Bool) (wish : Pick)
     → parts we we true true (is_empty ws) (Waiter (front ws)) (is_empty ss)
     (cond (front ss == s) Stay (Signaller (front ss))) known wish ≡ equal_choice we (slice_get ws 0)
@@ -236,7 +236,7 @@ equal_parts we (w ∷ ws) (g ∷ ss) s false WishEntry = refl
 equal_parts we (w ∷ ws) (g ∷ ss) s known WishWaiter = refl
 equal_parts we (w ∷ ws) (g ∷ ss) s known WishSignaller = refl
 
--- a kind that puts the signaller and whom it serves at one priority
+-- a kind that gives the signaller and the seat that it serves one priority
 pub record IsQuasiBlocking (k : Rules) : Type 0 where
   pub conditions : has_conditions k.mode ≡ true
   pub equal : k.waiter ≡ k.signaller
@@ -265,7 +265,7 @@ equal_both k q s known wish n =
     (is_empty q.waiters) (Waiter (front q.waiters)) (is_empty q.signallers) (signaller_choice q s) known wish)
     ∙ equal_parts (nat_le k.waiter k.entry) q.waiters q.signallers s known wish))
 
--- what need not stay chooses by the wish rules
+-- an event that need not stay chooses by the wish rules
 chosen_by : (m : Monitor) (h : List Event) (e : Event) (known : Bool) (wish : Pick) (n : Next)
     → must_stay m.object (situation m h) e ≡ false
     → choice_by m.kind (queues_at m.object (situation m h) e) (seat_of e) known wish ≡ n
@@ -281,7 +281,7 @@ by_mode m h i l QuasiBlocking e f = absurd (false≢true (sym f))
 by_mode m h i l ImmediateReturn e f = legal_unsignalled m h (ap has_signaller_queue e) l
 by_mode m h i l Automatic e f = legal_unsignalled m h (ap has_signaller_queue e) l
 
--- where nobody is kept as a signaller, a release that makes none looks at the waiter queue alone
+-- if nobody is kept as a signaller, a release that makes none looks only at the waiter queue
 pub waiter_path : (m : Monitor) (h : List Event) (e : Event) (known : Bool) (wish : Pick) → IsKind m.kind → IsLegal m h
     → has_conditions m.kind.mode ≡ true → keeps_signallers m.kind.mode ≡ false
     → must_stay m.object (situation m h) e ≡ false → signals (situation m h).condition e ≡ []
@@ -293,7 +293,7 @@ waiter_path m h e known wish i l c f b z =
     (single_waiter m.kind (queues_at m.object (situation m h) e) (seat_of e) known wish c
     (ap (λ xs. xs ++ signals (situation m h).condition e) (by_mode m h i l m.kind.mode refl f) ∙ z))
 
--- under an automatic kind a release looks at the ready seats alone
+-- under an automatic kind a release looks only at the ready seats
 pub ready_path : (m : Monitor) (h : List Event) (e : Event) (known : Bool) (wish : Pick) → IsLegal m h
     → has_conditions m.kind.mode ≡ false → MayCall m h e
     → must_stay m.object (situation m h) e ≡ false
@@ -305,7 +305,7 @@ ready_path m h e known wish l c a b =
     (single_ready m.kind (queues_at m.object (situation m h) e) (seat_of e) known wish c
     ((sorted_queues m.kind m.object (situation m h) e (legal_sorted m h l) a.offered).signallers c))
 
--- under a blocking kind a release that serves nobody looks at the signallers alone
+-- under a blocking kind a release that serves nobody looks only at the signallers
 pub signaller_path : (m : Monitor) (h : List Event) (e : Event) (known : Bool) (wish : Pick) → IsBlocking m.kind
     → IsLegal m h → MayCall m h e
     → must_stay m.object (situation m h) e ≡ false → serves (situation m h).condition e ≡ []
@@ -349,7 +349,7 @@ served_path m h s c x known wish n l =
     served_case m.kind t.waiters (t.condition c) t.signallers
     (ready_of m.object t.state t.untils) s known wish n (legal_emptied m h n l)
 
--- under a quasi-blocking kind waiters and signallers are of one priority
+-- under a quasi-blocking kind waiters and signallers have one priority
 pub equal_path : (m : Monitor) (h : List Event) (e : Event) (known : Bool) (wish : Pick) → IsQuasiBlocking m.kind
     → must_stay m.object (situation m h) e ≡ false
     → equal_choice (nat_le m.kind.waiter m.kind.entry)

@@ -1,4 +1,4 @@
--- Entry is chosen past nobody, unless somebody is known to wait for it
+-- If entry is chosen, nobody could be chosen from a queue, unless somebody is known to wait for entry
 use Rattle.std.proofs.Common.{◌≡◌, ◌≢◌, ℕ, Bool, true, false, cond, not, ◌==◌, Option, Some, None, List, [], ◌∷◌, ◌++◌}
 use Rattle.std.proofs.Common.{drop, map, refl, sym, ap, ◌∙◌}
 use Rattle.std.specs.Prelude.{filter, nat_le}
@@ -87,7 +87,7 @@ same_queues o t (Resume s q) = refl
 same_queues o t (SignalAll s c) = refl
 same_queues o t (SignalWait s c d x) = refl
 
--- who was not ready is not ready when nobody is chosen and nobody ready joins
+-- if nobody was ready, nobody is, when nobody is chosen and nobody ready joins
 some_ready : (o : Object) (d : List ℕ) (w : ℕ × ℕ) (us vs : List (ℕ × ℕ)) (b : Bool)
     → map (λ (u : ℕ × ℕ). u.0) (cond b (w ∷ filter (λ u. o.holds d u.1) us) (filter (λ u. o.holds d u.1) us)) ≡ []
     → (map (λ (u : ℕ × ℕ). u.0) (filter (λ u. o.holds d u.1) us) ≡ []

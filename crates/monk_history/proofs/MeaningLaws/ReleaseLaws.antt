@@ -1,4 +1,4 @@
--- A call that may be made, with the choice by the wish rules, is allowed; and who stands in the queues
+-- A call that may be made, with the choice by the wish rules, is allowed; and which seats are in the queues
 use Rattle.std.proofs.Common.{◌≡◌, ℕ, ◌+◌, ◌<◌, ◌≤◌, zero, suc, Bool, true, false, cond, ◌&&◌, ◌||◌, not, ◌==◌, Option, Some, None}
 use Rattle.std.proofs.Common.{List, [], ◌∷◌, ◌++◌, take, drop, refl, sym, ap, subst, ◌∙◌, arith, map, ⊎_elim}
 use Rattle.std.specs.Prelude.{filter, nat_lt, is_some}
@@ -44,7 +44,7 @@ use Rattle.monk_history.proofs.MeaningLaws.TestLaws.{and_left, and_right}
 use Rattle.monk_history.proofs.MeaningLaws.WishLaws.{IsQueuesOf, choice_permitted, signal_permitted}
 use Rattle.monk_history.proofs.MeaningLaws.StandingLaws.{times-append, times_served, legal_placed}
 
--- what holds of the situation before any event, and is kept by what is allowed, holds of each legal history
+-- what holds for the situation before any event, and is kept by what is allowed, holds for each legal history
 pub legal_induction : (m : Monitor) (P : Situation → Type 0) → P (situation m [])
     → ((t : Situation) (e : Event) → P t → IsAllowedIn m t e → P (after m.object t e)) → (h : List Event) → IsLegal m h
     → P (situation m h)
@@ -52,7 +52,7 @@ legal_induction m P none more h = history_induction (λ x. IsLegal m x → P (si
     subst P (sym (legal_situation-push m x e (legal_front m x (e ∷ []) l)))
     (more (situation m x) e (before (legal_front m x (e ∷ []) l)) (legal_last m x e l))) h
 
--- automatic kinds have waits-until alone, the others none
+-- automatic kinds have only waits-until, the others none
 pub record IsSorted (k : Rules) (t : Situation) : Type 0 where
   pub untils : has_conditions k.mode ≡ true → t.untils ≡ []
   pub waiters : has_conditions k.mode ≡ false → t.waiters ≡ []
@@ -110,7 +110,7 @@ no_signallers QuasiBlocking h = absurd (false≢true (sym h))
 no_signallers ImmediateReturn h = refl
 no_signallers Automatic h = refl
 
--- where there is no signaller queue nobody joins it
+-- if there is no signaller queue, nobody joins it
 pub signals_none : (mode : Mode) (q : ℕ → List ℕ) (e : Event) → has_signaller_queue mode ≡ false
     → is_call_of mode e ≡ true
     → signals q e ≡ []
@@ -171,7 +171,7 @@ sorted_queues k o t e s a = record {
       ∙ signals_none k.mode t.condition e (no_signallers k.mode h) a;
 }
 
--- who is inside is a seat
+-- a number that is inside is below that of the seats
 abbrev pub IsSeated : ℕ → Situation → Type 0
 IsSeated seats t = (j : ℕ) → t.inside j ≡ true → j < seats
 
@@ -210,7 +210,7 @@ seated_none m = subst (λ t. IsSeated m.seats t) (sym (situation-none m)) (λ j 
 pub legal_seated : (m : Monitor) (h : List Event) → IsLegal m h → IsSeated m.seats (situation m h)
 legal_seated m h l = legal_induction m (λ t. IsSeated m.seats t) (seated_none m) (λ t e s a. seated_after m t e s a) h l
 
--- who stands in a queue
+-- the front of a queue is in the queue
 pub front_times : (j : ℕ) (xs : List ℕ) → is_front j xs ≡ true → 1 ≤ times j xs
 front_times j [] h = absurd (false≢true h)
 front_times j (x ∷ xs) h = let b : ◌≡◌ {A = ℕ} (cond (x == j) 1 0) 1 = ap (λ z. cond z 1 0) h in omega (arith, b)
@@ -249,7 +249,7 @@ times_filter o d (u ∷ us) j = one (o.holds d u.1) (times_filter o d us j)
     one true h = omega (arith, h)
     one false h = omega (arith, h)
 
--- each seat in the queues of a release is one
+-- each number in the queues of a release is that of a seat
 pub record IsWithin (seats : ℕ) (q : Queues) : Type 0 where
   pub waiters : (j : ℕ) → 1 ≤ times j q.waiters → j < seats
   pub signallers : (j : ℕ) → 1 ≤ times j q.signallers → j < seats
@@ -332,7 +332,7 @@ caller_apart m t e p = by_source (via_of e) (source_of e)
     by_source None (Some q) h k = apart_turn m.conds (seat_of e) t p (due_once (seat_of e) q t.turn h)
     by_source None None h k = apart_turn m.conds (seat_of e) t p (owned_once (seat_of e) t.turn h)
 
--- whoever stands in a queue of a release is a seat
+-- a number in a queue of a release is that of a seat
 pub serves_times : (n : ℕ) (q : ℕ → List ℕ) (e : Event) (j : ℕ) → is_condition n (signals_on e) ≡ true
     → times j (serves q e) ≤ times_in_conditions n j q
 serves_times n q e j = by_condition (signals_on e)
@@ -374,7 +374,7 @@ within_queues m t e p s r = record {
   ready = λ j h. s j (some_true (t.inside j) (omega (arith, p j, h, times_filter m.object t.state t.untils j)));
 }
 
--- what is known of how a legal history stands
+-- what is known of the situation after a legal history
 pub record IsInOrder (m : Monitor) (t : Situation) : Type 0 where
   pub kind : IsKind m.kind
   pub sorted : IsSorted m.kind t
@@ -385,7 +385,7 @@ pub legal_order : (m : Monitor) (h : List Event) → IsKind m.kind → IsLegal m
 legal_order m h k l =
     record { kind = k; sorted = legal_sorted m h l; placed = legal_placed m h l; seated = legal_seated m h l }
 
--- a release that must choose
+-- the choice of a release that must choose is permitted
 must_choose : (m : Monitor) (t : Situation) (e : Event) (known : Bool) (wish : Pick) → IsInOrder m t → MayCallIn m t e
     → signals t.condition e ≡ []
     → may_choose m.kind (queues_at m.object t e) (seat_of e)

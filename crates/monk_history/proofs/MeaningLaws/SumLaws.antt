@@ -9,11 +9,11 @@ use Rattle.monk_history.specs.Meaning.Counts.{events_of}
 use Rattle.monk_history.specs.Meaning.Events.{seat_of}
 use Rattle.monk_history.specs.declared.event.Event.{Event}
 
--- what all but this seat did
+-- what all seats except this one did
 unfoldable pub others_than : ℕ → List Event → List Event
 others_than s h = filter (λ e. not (seat_of e == s)) h
 
--- what seats did that are not among these
+-- what the other seats did
 abbrev pub rest_of : List ℕ → List Event → List Event
 rest_of [] h = h
 rest_of (s ∷ ss) h = rest_of ss (others_than s h)
@@ -54,14 +54,14 @@ drops_one : (p : Event → Bool) (b : Bool) (e : Event) (xs : List Event) → p 
 drops_one p true e xs tells none = none
 drops_one p false e xs tells none = ap (λ (c : Bool). cond c (e ∷ filter p xs) (filter p xs)) tells ∙ none
 
--- and its own are not
+-- and none of its own are
 others_none : (s : ℕ) (h : List Event) → events_of (others_than s h) s ≡ []
 unfolding events_of others_than
 others_none s [] = refl
 others_none s (e ∷ es) =
     drops_one (λ x. seat_of x == s) (seat_of e == s) e (filter (λ x. not (seat_of x == s)) es) refl (others_none s es)
 
--- numbers that are the same one by one are the same added up
+-- numbers that are the same one by one have the same sum
 pub same_sums : {X : Type 0} (f g : X → ℕ) (xs : List X) → All (λ x. f x ≡ g x) xs → sum_by f xs ≡ sum_by g xs
 same_sums f g [] same = refl
 same_sums f g (x ∷ xs) same =
@@ -78,8 +78,8 @@ later_differ s ss apart k d within = apart zero (suc k) d (omega arith) (omega a
 rest_distinct : (s : ℕ) (ss : List ℕ) → AreDistinct (s ∷ ss) → AreDistinct ss
 rest_distinct s ss apart i j d lt within = apart (suc i) (suc j) d (omega arith) (omega arith)
 
--- the sum of a weight over a history is the sum over distinct seats of the sum over each one's
--- events, and over the rest
+-- the sum of a weight over a history is the sum over distinct seats of the sum over each one's events, and the sum
+-- over the rest
 pub sum_by_seats : (w : Event → ℕ) (ss : List ℕ) (h : List Event) → AreDistinct ss
     → sum_by w h ≡ sum_by (λ s. sum_by w (events_of h s)) ss + sum_by w (rest_of ss h)
 sum_by_seats w [] h apart = omega arith
@@ -110,7 +110,7 @@ nobody [] none = refl
 nobody (e ∷ es) none =
     absurd (let z = ap length (sym (first_is e es (seat_of e) refl) ∙ none (seat_of e)) in omega (arith, z))
 
--- where no other seat has an event, nothing is left
+-- if no other seat has an event, nothing is left
 pub no_rest : (ss : List ℕ) (h : List Event) → ((t : ℕ) → All (λ s. s ≢ t) ss → events_of h t ≡ []) → rest_of ss h ≡ []
 no_rest [] h none = nobody h (λ t. none t (λ k d within. absurd (omega arith)))
 no_rest (s ∷ ss) h none = no_rest ss (others_than s h) (λ t apart. elim (eqb_tells s t) [
@@ -118,7 +118,7 @@ no_rest (s ∷ ss) h none = no_rest ss (others_than s h) (λ t apart. elim (eqb_
   | inr ne ↦ others_same s t ne.1 h ∙ none t (All-cons (λ x. x ≢ t) s ss ne.1 apart)
 ])
 
--- so the whole is the sum over the seats, where they are all that did anything
+-- so the whole is the sum over the seats, if no other seat did anything
 pub sum_by_all_seats : (w : Event → ℕ) (ss : List ℕ) (h : List Event) → AreDistinct ss
     → ((t : ℕ) → All (λ s. s ≢ t) ss → events_of h t ≡ []) → sum_by w h ≡ sum_by (λ s. sum_by w (events_of h s)) ss
 sum_by_all_seats w ss h apart none =
@@ -126,7 +126,7 @@ sum_by_all_seats w ss h apart none =
     let left = ap (sum_by w) (no_rest ss h none) in
     omega (arith, whole, left)
 
--- a list is as long as its elements weigh, each 1
+-- the length of a list is its weight if each element weighs 1
 pub length-sum_by : (h : List Event) → length h ≡ sum_by (λ e. 1) h
 length-sum_by [] = refl
 length-sum_by (e ∷ es) = let a = sum_by-cons (λ (x : Event). 1) e es in let b = length-sum_by es in omega (arith, a, b)

@@ -1,5 +1,5 @@
--- When a seat that stands in no queue may enter, and whose turn it is by the last event: what a
--- caller of a floor can see.
+-- When a seat in no queue may enter, and whose turn it is by the last event. This is what a caller of a floor can
+-- see.
 use Rattle.std.proofs.Common.{◌≡◌, ℕ, ◌<◌, ◌-◌, Bool, true, false, ◌&&◌, not, List, [], ◌∷◌, ◌++◌, length, refl}
 use Rattle.std.proofs.Common.{sym, ap, subst, ◌∙◌, arith, length-append}
 use Rattle.std.specs.Prelude.{nat_lt, slice_get}
@@ -27,7 +27,7 @@ inside_by : (a b : Bool) → (a && not (nat_lt 0 0)) ≡ b → b ≡ false → a
 inside_by true b h e = h ∙ e
 inside_by false b h e = refl
 
--- where the turn is open, a seat in no queue is outside
+-- if the turn is open, a seat in no queue is outside
 outside : (m : Monitor) (h : List Event) (s : ℕ) → IsLegal m h → turn h ≡ Open
     → is_queued m.conds s (situation m h) ≡ false → is_inside s h ≡ false
 outside m h s l t q =
@@ -35,7 +35,7 @@ outside m h s l t q =
     (subst (λ (u : Turn). (is_inside s h && not (nat_lt 0 (has_turn s u))) ≡ is_queued m.conds s (situation m h)) t
     (queued_is m.conds s (situation m h) (legal_placed m h l))) q
 
--- where the turn is open and the history has begun, a seat in no queue may enter as one that is handed in
+-- if the turn is open and the history has begun, a seat in no queue may enter as one that is handed in
 pub may_enter_begun : (m : Monitor) (h : List Event) (s : ℕ) → IsLegal m h → turn h ≡ Open → s < m.seats
     → is_queued m.conds s (situation m h) ≡ false → not (is_empty h) ≡ true → MayCall m h (Enter s Handed)
 may_enter_begun m h s l t lt q b = may_enter_handed m h s t lt (outside m h s l t q) b
@@ -44,7 +44,7 @@ none_is : (h : List Event) → not (is_empty h) ≡ false → h ≡ []
 none_is [] b = refl
 none_is (x ∷ xs) b = absurd cc
 
--- where the history has not begun, a seat may enter free
+-- if the history has not begun, a seat may enter free
 pub may_enter_first : (m : Monitor) (h : List Event) (s : ℕ) → IsLegal m h → turn h ≡ Open → s < m.seats
     → is_queued m.conds s (situation m h) ≡ false → not (is_empty h) ≡ false → MayCall m h (Enter s Free)
 may_enter_first m h s l t lt q b =
@@ -64,6 +64,6 @@ turn_at_more x e p =
     let at : length (x ++ e ∷ []) - 1 ≡ length x = omega (arith, length-append x (e ∷ [])) in
     ap (λ n. turn_after (slice_get (x ++ e ∷ []) n)) at ∙ (ap turn_after (get_last x e) ∙ sym (turn-push x e))
 
--- the turn is what the last event makes of it
+-- the turn is that after the last event
 pub turn_at_last : (h : List Event) → turn_after (slice_get h (length h - 1)) ≡ turn h
 turn_at_last h = history_induction (λ x. turn_after (slice_get x (length x - 1)) ≡ turn x) turn_at_none turn_at_more h

@@ -1,4 +1,4 @@
--- What is read as an event is how it is written, and an event that is written is read again.
+-- An event is read from the words that it is written as, and an event that is written is read again.
 use Rattle.std.proofs.Common.{arith, ◌-◌, lit<, ◌≡◌, ℕ, ◌≤◌, ◌^◌, true, List, [], ◌∷◌, ◌++◌, Some, Ok, refl, sym, ap, subst, ◌∙◌}
 use Rattle.std.specs.Prelude.{IsTrue, nat_le}
 use Rattle.std.specs.Fmt.{decimal}
@@ -148,7 +148,7 @@ after_act s op reply code arg fits = rw (act_again op reply code arg fits) refl
 
 -- ---- an event
 
--- what a line is where its verb and seat have been read
+-- what a line is after its verb and seat were read
 abbrev Ends : Verb → ℕ → List Word → Event × List Word → Type 0
 Ends v s ws y = (verb_word v ∷ decimal s ∷ ws ≡ event_words y.0 ++ y.1) × EventFits y.0
     × (verb_version v ≡ first_version y.0)
@@ -211,7 +211,7 @@ event_after_takes verb.SignalWait s ws x le e =
     subst (Ends verb.SignalWait s ws) (ok_is (SignalWait s a.0.0 b.0.0.0 b.0.0.1, b.0.1) x b.2)
     (ap (behind verb.SignalWait s) whole, (le, t.1, u.1, u.2), refl)
 
--- each number of the event is in its range, and the version has a line of it
+-- each number of the event is in its range, and the version has a line for it
 abbrev pub FitsVersion : ℕ → Event → Type 0
 FitsVersion version e = EventFits e × IsTrue (nat_le (first_version e) version)
 

@@ -1,4 +1,4 @@
--- Which of its words stands next in the line of an event, or none.
+-- Which of its words comes next in the line of an event, or none.
 use Rattle.std.proofs.Common.{◌≡◌, ℕ, ◌≤◌, true, false, List, [], ◌∷◌, Some, Ok, Err, refl, ap, ◌∙◌}
 use Rattle.std.specs.Prelude.{nat_le, codes}
 use Rattle.std.specs.Str.{bytes_eq}
@@ -25,7 +25,7 @@ pub verb-next : (version : ℕ) (v : Verb) (ws rest : List Word) → verb_versio
 verb-next version v ws rest has is =
     one_of-next verb_word (verbs_of version) v ws rest (verb_of_again version v (le-leb _ _ has)) is
 
--- none of the words of version 1
+-- the next word is none of version 1
 pub record IsNoFirstVerb (ws : List Word) : Type 0 where
   pub enter : is_next (codes "enter") ws ≡ false
   pub act : is_next (codes "act") ws ≡ false
@@ -36,7 +36,7 @@ pub record IsNoFirstVerb (ws : List Word) : Type 0 where
   pub until : is_next (codes "until") ws ≡ false
   pub resume : is_next (codes "resume") ws ≡ false
 
--- none of those that version 2 adds, in a version that has them
+-- the next word is none that version 2 adds, if the version has those
 abbrev pub IsNoLaterVerb : ℕ → List Word → Type 0
 IsNoLaterVerb version ws = 2 ≤ version
     → (is_next (codes "signal-all") ws ≡ false) × (is_next (codes "signal-wait") ws ≡ false)

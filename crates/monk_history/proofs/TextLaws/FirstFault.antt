@@ -57,8 +57,8 @@ lines_of_first n bytes rest =
 
 -- ---- lines up to a fault
 
--- the fault is that of the line behind so many lines of ls, the first of which has the number n; and if that line is
--- finished, then whatever comes behind it the fault is the same
+-- the fault is that of line n + `behind`, if the first of these lines has number n. If that line is finished, the
+-- fault is the same whatever follows it
 record Stops {B : Type 0} (read : List (List ℕ) → Result B ReadFault) (n : ℕ) (ls : List (List ℕ))
     (f : ReadFault) : Type 0 where
   pub behind : ℕ
@@ -66,11 +66,11 @@ record Stops {B : Type 0} (read : List (List ℕ) → Result B ReadFault) (n : �
   pub within : behind < length ls
   pub again : suc behind < length ls → (y : List ℕ) (ys : List (List ℕ)) → read (take (suc behind) ls ++ y ∷ ys) ≡ Err f
 
--- up to there all is read
+-- all is read up to there
 abbrev IsReadBefore : {B : Type 0} → (List (List ℕ) → Result B ReadFault) → List (List ℕ) → ℕ → Type 0
 IsReadBefore {B = B} read ls i = (x : B) × (read (take i ls ++ [] ∷ []) ≡ Ok x)
 
--- a reading that failed so, and one that found nothing
+-- a reading that failed with this fault, and one that found nothing
 abbrev failed : {B : Type 0} → ReadFault → Result B ReadFault
 failed f = Err f
 
@@ -130,7 +130,7 @@ stops_here parse room n l ls f at again = (
   ([], last_part parse room n []),
 )
 
--- a line behind the first one has it
+-- a line after the first one has it
 stops_later : {A : Type 0} (parse : List Word → Taken A) (room n : ℕ) (l : List ℕ) (ls : List (List ℕ))
     (f : ReadFault) (x : A)
     → item_line parse n l ≡ Ok x → ItemsStop parse room (suc n) ls f → ItemsStop parse (suc room) n (l ∷ ls) f
@@ -154,7 +154,7 @@ stops_later {A = A} parse room n l ls f x read (s, before) = (
   ),
 )
 
--- what stops the lines behind the first one stops all, where that one is read
+-- if the first line is read, what stops the lines after it stops all
 stops_by_rest : {A : Type 0} (parse : List Word → Taken A) (room n : ℕ) (l : List ℕ) (ls : List (List ℕ))
     (f : ReadFault) (x : A)
     (r : Result (List A) ReadFault) → item_line parse n l ≡ Ok x → items_at parse room (suc n) ls ≡ r
@@ -197,7 +197,7 @@ items_stop parse (suc room) n (l ∷ next ∷ more) f e =
     stops_by_line parse room n l (next ∷ more) f (item_line parse n l) refl (omega arith)
     (sym (one_line parse room n l next more) ∙ e) (λ g h. items_stop parse room (suc n) (next ∷ more) g h)
 
--- ---- the header, and the items behind it
+-- ---- the header, and the items after it
 
 header_fault_is : {H : Type 0} (head : List Word → Taken H) (l : List ℕ) (t : Taken H) (g : ReadFault)
     → after_header t ≡ Err g
@@ -309,7 +309,7 @@ lines_stop head parse limit l (next ∷ more) f e =
 
 -- ---- the text of a history
 
--- some text begins with no byte
+-- some text begins with no bytes
 any_text : (limit : ℕ) → BeginsText limit []
 any_text limit =
     let h = heading 1 Pb 1 0 Buffer 1 in (

@@ -1,4 +1,4 @@
--- An item whose line stands at the front of some bytes, for any items that are written in words and read from them.
+-- An item whose line is at the front of some bytes, for any items that are written in words and read from them.
 use Rattle.std.proofs.Common.{ℕ, List, [], ◌∷◌, Option, Some, None, Ok, sym, ap, ◌∙◌}
 use Rattle.std.proofs.Common.{append_assoc, drop}
 use Rattle.std.specs.Prelude.{IfSome}
@@ -24,7 +24,7 @@ module _ {A : Type 0} (words : A → List Word) (parse : List Word → Taken A) 
         read = sym (ap (λ t. taken_alone t) (ap parse (words_of-words (words x) (is.some x) plain) ∙ is.again x fits));
       }
 
-  -- what stands at the front, if anything, is what is read there
+  -- what is at the front, if anything, is what is read there
   pub item_at_front : (bytes : List ℕ) (r : Option (A × ℕ)) → IfSome r (λ x. StandsAt bytes 0 (line (words x.0)) x.1)
       → IfSome r (λ x. Fits x.0) → IfSome r (λ x. IsAtFront parse bytes x.0 x.1)
   item_at_front bytes None stands fits = tt

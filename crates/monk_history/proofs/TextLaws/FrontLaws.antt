@@ -1,4 +1,4 @@
--- A line at the front of some bytes, and what the lines of the bytes are then.
+-- A line at the front of some bytes, and what the lines of these bytes are.
 use Rattle.std.proofs.Common.{◌≡◌, ◌==◌, ℕ, ◌≤◌, Bool, true, false, cond, List, [], ◌∷◌, ◌++◌, Result, Ok, Err, refl, sym, ap, ◌∙◌}
 use Rattle.std.proofs.Common.{append_assoc, drop, Option, Some, None}
 use Rattle.std.specs.Prelude.{not, nat_le, IfSome}
@@ -18,7 +18,7 @@ use Rattle.monk_history.proofs.TextLaws.LineCuts.{cut_at, cut_none, words_of-wor
 use Rattle.monk_history.proofs.TextLaws.LineSteps.{some_part}
 use Rattle.monk_history.proofs.TextLaws.PlainWords.{event_are_words, some_word}
 
--- ---- the lines of bytes that begin with a line, or have none, whatever is put behind them
+-- ---- the lines of bytes that begin with a line, or have none, whatever follows them
 
 pub lines_begin : {bytes line rest : List ℕ} (more : List ℕ) → BeginsWith bytes line rest
     → lines_of (bytes ++ more) ≡ line ∷ lines_of (rest ++ more)
@@ -71,7 +71,7 @@ cut_begins bytes line rest cut =
 pub cut_unended : (bytes : List ℕ) → lines_of bytes ≡ bytes ∷ [] → is_unended bytes ≡ true
 cut_unended bytes cut = first_is_one (λ b. b == 10) bytes bytes [] cut
 
--- ---- what was read of the line
+-- ---- what was read from the line
 
 pub read_is : {A : Type 0} (r : Result A Flaw) (left : List Word) (t : Taken A) → Reads r left t → r ≡ taken_alone t
 read_is (Ok x) left t h = sym (ap (λ u. taken_alone u) h)

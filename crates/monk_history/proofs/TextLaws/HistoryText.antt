@@ -30,7 +30,7 @@ events h = record {
   some = some_word;
 }
 
--- each event fits the version where each fits and all are writable
+-- each event fits the version if each is in range and all are writable
 fit_under : (h : Heading) (es : List Event) → AllByRecursion EventFits es → is_writable h es ≡ true
     → AllByRecursion (EventFitsUnder h) es
 fit_under h [] fit has = tt
@@ -80,7 +80,7 @@ text_one h g es fs one two same =
     (fit_under g fs two.events_fit two.writable) same in
     ap (λ (x : Heading). history x es) is.0 ∙ ap (λ (x : List Event). history g x) is.1
 
--- ---- what a function gives
+-- ---- what a function returns
 
 pub is_found : (limit : ℕ) (bytes : List ℕ) (r : Result (Heading × Vec Event) ReadFault)
     → Gives view r (text_at limit bytes)

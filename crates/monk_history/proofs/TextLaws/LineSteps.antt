@@ -44,7 +44,7 @@ unfolding items_at
 last_part {A = A} parse zero n rest = refl
 last_part {A = A} parse (suc room) n rest = refl
 
--- ---- one line more, of lines of which these bytes are left
+-- ---- one more line, if these bytes are left of the lines
 
 abbrev pub left_of : List ℕ → ℕ → ℕ → LinesLeft
 left_of rest n room = record { lines = lines_of rest; number = n; room = room }
@@ -92,16 +92,16 @@ pub goes_on : {A : Type 0} → (parse : List Word → Taken A) (l : LinesLeft) (
 goes_on {A = A} parse l rest line after n room e view parts some good =
     rw view (step parse rest line after n room parts some ∙ rw (← good) refl)
 
--- ---- the turns and the ends of a loop that keeps each item
+-- ---- the rounds and the ends of a loop that keeps each item
 
 pub one_more : {A : Type 0} → (front : List A) (e : A) (old new total : Result (List A) ReadFault)
     → old ≡ (new >>= λ es. Ok (e ∷ es)) → with_front front old ≡ total → with_front (front ++ e ∷ []) new ≡ total
 one_more {A = A} front e old new total more so_far = sym (regroup front e new)
     ∙ ap (with_front front) (sym more) ∙ so_far
 
--- ---- the same of a loop that keeps none
+-- ---- the same for a loop that keeps none
 
--- what is still read, behind a front of what is read in all
+-- what is still read, after what was read before
 pub record IsBehind {A : Type 0} (left all : Result (List A) ReadFault) : Type 0 where
   pub front : List A
   pub same : with_front front left ≡ all
@@ -111,7 +111,7 @@ pub behind_one : {A : Type 0} → (e : A) (old new all : Result (List A) ReadFau
 behind_one {A = A} e old new all more h =
     record { front = h.front ++ e ∷ []; same = one_more h.front e old new all more h.same }
 
--- ---- the first line, and the lines behind it
+-- ---- the first line, and the lines after it
 
 opened_some : {H : Type 0} → (head : List Word → Taken H) (limit : ℕ) (bytes first rest : List ℕ)
     → lines_of bytes ≡ first ∷ lines_of rest
@@ -133,7 +133,7 @@ pub some_header : {H : Type 0} → (head : List Word → Taken H) (limit : ℕ) 
 some_header {H = H} head limit bytes first rest h parts good =
     sym (opened_some head limit bytes first rest parts ∙ rw (← good) refl)
 
--- the items behind a header that was read
+-- the items after a header that was read
 abbrev pub behind : {H A : Type 0} → (H → List Word → Taken A) → Result (H × LinesLeft) ReadFault
     → Result (H × List A) ReadFault
 behind parse opened = opened >>= λ x. items_left (parse x.0) x.1 >>= λ es. Ok (x.0, es)

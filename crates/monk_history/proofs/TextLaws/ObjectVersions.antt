@@ -1,4 +1,4 @@
--- The last version that names an object is a version that there is, and it has every event.
+-- The last version that names an object is one that exists, and it has every event.
 use Rattle.std.proofs.Common.{◌≤◌, arith}
 use Rattle.monk_object.specs.declared.name.ObjectName.{ObjectName}
 use Rattle.monk_object.specs.declared.name.ObjectName.TheVariants.{Buffer, Book, Shop, Flags}

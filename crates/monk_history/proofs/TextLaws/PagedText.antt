@@ -28,7 +28,7 @@ flat_map-more f es i d lt =
     rw (take_more es i d lt, flat_map-append f (take i es) (get_or es i d ∷ []))
     (ap (λ (y : List ℕ). flat_map f (take i es) ++ y) (append-nil (f (get_or es i d))))
 
--- the text of one event more
+-- the text with one more event
 pub text-more : (h : Heading) (es : List Event) (i : ℕ) (d : Event) → i < length es
     → text h (take (i + 1) es) ≡ text h (take i es) ++ line (event_words (get_or es i d))
 text-more h es i d lt =
@@ -45,9 +45,9 @@ sends before now later page text h appends =
       whole = sym (append-nil text);
     }
 
--- ---- events of which these are left
+-- ---- events of which some are left
 
--- a text of all of them, as far as those that are left
+-- the text of all of them has gone out or is on the page, up to those that are left
 pub record IsWritten (before now : Option (List ℕ)) (page : List ℕ) (h : Heading) (left all : List Event) : Type 0 where
   pub done : List Event
   pub whole : done ++ left ≡ all
@@ -92,7 +92,7 @@ written_more before now page page_after h old new all e is on_page fits w =
       fit = fit-push w.done e w.fit fits;
     }
 
--- the same where none is left
+-- the same if none is left
 pub written_all : (before now : Option (List ℕ)) (page : List ℕ) (h : Heading) (left all : List Event) → left ≡ []
     → IsWritten before now page h left all
     → IsOnItsWay before now page (text h all) × AllByRecursion EventFits all

@@ -1,4 +1,4 @@
--- The items of bytes that begin with a line, whatever comes behind them.
+-- The items of bytes that begin with a line, whatever follows them.
 use Rattle.std.proofs.Common.{◌≡◌, ◌≢◌, ◌==◌, ℕ, ◌+◌, ◌-◌, true, cond, List, [], ◌∷◌, ◌++◌, length, Ok, Err, refl}
 use Rattle.std.proofs.lemmas.Bool.{ne_eqb}
 use Rattle.monk_history.specs.declared.text.fault.ReadFault.{ReadFault}
@@ -35,7 +35,7 @@ piece_has_fault {A = A} parse p bytes line rest n room f view begins some bad mo
     rw view (has_fault parse (left_of (bytes ++ more) n room) (bytes ++ more) line (rest ++ more) n room f refl
     (lines_begin more begins) some bad)
 
--- ---- the end of a text, behind whose last line these bytes stand
+-- ---- the end of a text, if these bytes follow its last line
 
 pub items_end : {A : Type 0} → (parse : List Word → Taken A) (bytes : List ℕ) (n room : ℕ) → is_unended bytes ≡ true
     → length bytes ≡ 0 → items_at parse room n (lines_of bytes) ≡ Ok []

@@ -1,4 +1,4 @@
--- What stands at a place of some bytes, part by part.
+-- What is at a place of some bytes, part by part.
 use Rattle.std.proofs.Common.{◌≡◌, ◌≢◌, ℕ, ◌+◌, ◌-◌, ◌*◌, ◌^◌, ◌<◌, ◌≤◌, List, [], ◌∷◌, ◌++◌, length, get_or, drop, refl, sym}
 use Rattle.std.proofs.Common.{ap, subst, ◌∙◌, append_assoc, arith}
 use Rattle.std.specs.Char.{IsAsciiDigit}
@@ -9,7 +9,7 @@ use Rattle.std.proofs.lemmas.Nat.{le_bytes_4, pow-add, pow_below}
 use Rattle.monk_history.specs.Text.Places.{StandsAt}
 use Rattle.monk_history.proofs.TextLaws.NextWords.{digit-first, digit-more}
 
--- one behind the other
+-- one after the other
 pub stands_then : {bytes x y : List ℕ} {p q r : ℕ} → StandsAt bytes p x q → StandsAt bytes q y r
     → StandsAt bytes p (x ++ y) r
 stands_then {bytes = bytes} {x = x} {y = y} {r = r} a b =
@@ -18,7 +18,7 @@ stands_then {bytes = bytes} {x = x} {y = y} {r = r} a b =
       within = b.within;
     }
 
--- the same bytes, written otherwise
+-- the same bytes, written in another way
 pub stands_as : {bytes x y : List ℕ} {p q : ℕ} → StandsAt bytes p x q → x ≡ y → StandsAt bytes p y q
 stands_as {bytes = bytes} {p = p} {q = q} a same = subst (λ (z : List ℕ). StandsAt bytes p z q) same a
 
@@ -78,7 +78,7 @@ pub number_stands : (bytes : List ℕ) (p q r n e : ℕ) → drop p bytes ≡ de
 number_stands bytes p q r n e so_far l is next =
     rw next (stands_then (record { is = so_far; within = omega arith }) (byte_stands bytes q e l is))
 
--- a number of k digits is below this, and of at most ten digits far below what fits
+-- a number of k digits is below this. One of at most ten digits is far below what fits
 pub digits_grow : (n d k : ℕ) → n < 2 ^ (4 * k) → d ≤ 9 → n * 10 + d < 2 ^ (4 * (k + 1))
 digits_grow n d k lt le =
     let e : 4 * (k + 1) ≡ 4 * k + 4 = omega arith in

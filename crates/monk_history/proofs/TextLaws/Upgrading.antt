@@ -1,4 +1,4 @@
--- An upgraded header has a line of each event.
+-- An upgraded header has a line for each event.
 use Rattle.std.proofs.Common.{◌≡◌, ℕ, ◌≤◌, ◌<◌, Bool, true, false, cond, List, [], ◌∷◌, refl, arith}
 use Rattle.std.specs.Prelude.{nat_le}
 use Rattle.std.proofs.lemmas.Bool.{leb-true, leb-false, le-leb}
@@ -41,7 +41,7 @@ all_writable h all [] = refl
 all_writable h all (e ∷ es) =
     rw (le-leb (first_version e) h.version (omega (arith, all, has_line e)), all_writable h all es) refl
 
--- what has a text has one under the upgraded header
+-- a history that has a text has one under the upgraded header
 pub upgraded_text : (h : Heading) (es : List Event) → HasText h es → HasText (upgraded_heading h) es
 upgraded_text h es has =
     let fits = has.header_fits in

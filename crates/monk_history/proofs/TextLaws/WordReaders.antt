@@ -1,4 +1,4 @@
--- What is taken from the words is what its value is written as, and what is so written is taken again.
+-- A value is taken from the words that it is written as, and a value that is written so is taken again.
 use Rattle.std.proofs.Common.{◌≡◌, ℕ, ◌≤◌, ◌<◌, ◌^◌, Bool, true, false, cond, List, [], ◌∷◌, Option, Some, None, Result}
 use Rattle.std.proofs.Common.{Ok, Err, refl, sym, ap, subst, ◌∙◌}
 use Rattle.std.specs.Prelude.{nat_le, filter}
@@ -66,7 +66,7 @@ rest_taken None word w ws x h e = absurd cc
 rest_taken {A = A} (Some y) word w ws x h e = subst (λ (z : A × List Word). w ∷ ws ≡ word z.0 ∷ z.1) (ok_is (y, ws) x e)
     (ap (λ (v : Word). v ∷ ws) (h y refl))
 
--- what is made where a test holds is taken only where it holds
+-- a value that is made if a test holds is taken only if it holds
 pub made_takes : {A : Type 0} (holds : Bool) (made : A) (ws : List Word) (x : A × List Word)
     → with_rest ws (cond holds (Some made) None) ≡ Ok x → (holds ≡ true) × (x ≡ (made, ws))
 made_takes true made ws x e = (refl, sym (ok_is (made, ws) x e))
@@ -126,7 +126,7 @@ one_none : {A : Type 0} (word : A → Word) (w : Word) (v : A) (rest : List A) (
 one_none word w v rest true is later = rw (is refl) later
 one_none word w v rest false is later = later
 
--- none is found where none of those that are kept is the word
+-- none is found if the word is that of none that are kept
 pub none_kept : {A : Type 0} (word : A → Word) (keeps : A → Bool) (values : List A) (w : Word)
     → ((v : A) → keeps v ≡ true → bytes_eq w (word v) ≡ false) → with_text word (filter keeps values) w ≡ None
 none_kept word keeps [] w others = refl

@@ -1,5 +1,5 @@
--- The acts of a history, and what they mean where the monitor guards a buffer, a book, a shop or
--- flags: what a reader of the history sees of the object, in the words of `monk_object`
+-- The acts of a history, and what they mean if the monitor guards a buffer, a book, a shop or flags. This is what a
+-- reader of the history sees of the object, in the words of `monk_object`
 use Rattle.std.specs.Prelude.{◌≡◌, ℕ, ◌+◌, ◌^◌, ◌<◌, ◌≤◌, ◌==◌, ◌⊎◌, Bool, false, List, [], ◌∷◌, ◌++◌, length, map, if◌then◌else◌, option_to_list}
 use Rattle.std.specs.List.{flat_map}
 use Rattle.std.specs.Option.{option_map_or}
@@ -12,7 +12,7 @@ use Rattle.monk_history.specs.declared.event.Event.{Event}
 use Rattle.monk_history.specs.Meaning.Events.{answered_act}
 use Rattle.monk_history.specs.Meaning.Monitor.{Monitor, data_of}
 
--- the act of an event, with the reply that the history has
+-- the act of an event, with the reply in the history
 abbrev pub act_of : Event → List Answered
 act_of e = option_to_list (answered_act e)
 
@@ -20,16 +20,16 @@ act_of e = option_to_list (answered_act e)
 abbrev pub acts_in : List Event → List Answered
 acts_in h = flat_map act_of h
 
--- whether it is an act that the object refused, by the reply that the history has
+-- whether it is an act that the object refused, by the reply in the history
 abbrev pub is_refused_act : Event → Bool
 is_refused_act e = option_map_or is_refused (answered_act e) false
 
--- the steps of the refused acts, where the first event has that step
+-- the steps of the refused acts, if the first event is number `step`
 unfoldable pub refused_from : ℕ → List Event → List ℕ
 refused_from step [] = []
 refused_from step (e ∷ es) = (if is_refused_act e then step ∷ [] else []) ++ refused_from (step + 1) es
 
--- the same of a whole history, whose steps are counted from 1
+-- the steps of the refused acts of a whole history, counted from 1
 abbrev pub refused_steps : List Event → List ℕ
 refused_steps h = refused_from 1 h
 
@@ -42,15 +42,15 @@ pub record IsRunOf (m : Monitor) (h : List Event) : Type 0 where
   pub replies : answers_of m.object m.opening (ops_in h) ≡ acts_in h
   pub leads_to : state_after m.object m.opening (ops_in h) ≡ data_of m h
 
--- a buffer: the items put are those taken and then those that are there, in order, and never more
--- than the size is there
+-- a buffer: the items put are those taken, followed by those inside, in order. At most as many are inside as the size
+-- says
 pub record IsInOrder (size : ℕ) (state : List ℕ) (acts : List Answered) : Type 0 where
   pub items : List ℕ
   pub state_is : state ≡ size ∷ items
   pub in_order : items_put acts ≡ items_taken acts ++ items
   pub within : length items ≤ size
 
--- a book: at most one writes, and then nobody reads; whoever started and has not ended is there
+-- a book: at most one writes, and then nobody reads. Who started and has not ended is still in
 pub record ExcludesEachOther (size : ℕ) (state : List ℕ) (acts : List Answered) : Type 0 where
   pub readers : ℕ
   pub writers : ℕ
@@ -61,8 +61,8 @@ pub record ExcludesEachOther (size : ℕ) (state : List ℕ) (acts : List Answer
   pub reads : times_done START_READ acts ≡ times_done END_READ acts + readers
   pub writes : times_done START_WRITE acts ≡ times_done END_WRITE acts + writers
 
--- a shop: whoever sat down was called or sits, whoever was called was served or is in the chair, and whoever was served
--- departed or is still in the chair
+-- a shop: each who sat down was called or still sits. Each who was called was served or is being served. Each who was
+-- served departed or is still in the chair
 pub record ServesEachOne (size : ℕ) (state : List ℕ) (acts : List Answered) : Type 0 where
   pub sitting : ℕ
   pub chair : ℕ
@@ -72,7 +72,7 @@ pub record ServesEachOne (size : ℕ) (state : List ℕ) (acts : List Answered) 
   pub called : times_done CALL acts ≡ times_done FINISH acts + (if chair == 1 then 1 else 0)
   pub finished : times_done FINISH acts ≡ times_done DEPART acts + (if chair == 2 then 1 else 0)
 
--- flags: the bits are those of the last set that was done, and none before the first; there is a flag for each
+-- flags: the bits are those of the last set that was done, and none before the first. Each has its flag
 pub record HoldsLastSet (size : ℕ) (state : List ℕ) (acts : List Answered) : Type 0 where
   pub bits : ℕ
   pub earlier : List ℕ

@@ -1,4 +1,4 @@
--- What is counted of a history seat by seat
+-- What is counted over a history seat by seat
 use Rattle.std.specs.Prelude.{ℕ, ◌-◌, ◌==◌, Bool, false, Option, Some, None, List, filter, length, count_by, is_some}
 use Rattle.monk_history.specs.Meaning.Events.{seat_of, next_of, via_of}
 use Rattle.monk_history.specs.declared.event.Event.{Event}
@@ -9,7 +9,7 @@ use Rattle.monk_history.specs.declared.event.Next.TheVariants.{Stay, Entry, Wait
 unfoldable pub events_of : List Event → ℕ → List Event
 events_of h s = filter (λ e. seat_of e == s) h
 
--- what a seat has left of its budget
+-- how many events a seat has left of its budget
 abbrev pub left_of : ℕ → List Event → ℕ → ℕ
 left_of budget h s = budget - length (events_of h s)
 
@@ -21,7 +21,7 @@ is_enter e = is_some (via_of e)
 unfoldable pub enters_of : List Event → ℕ
 enters_of h = count_by is_enter h
 
--- whether it chose that seat from a queue
+-- whether this is the choice of that seat from a queue
 abbrev pub chooses_seat : ℕ → Option Next → Bool
 chooses_seat s None = false
 chooses_seat s (Some Stay) = false

@@ -31,7 +31,7 @@ pub record IsDueFrom (m : Monitor) (h : List Event) (s : ℕ) (q : From3) : Type
   pub seat : s < m.seats
   pub due : turn h ≡ Due s q
 
--- a release that admits by entry, chosen by the wish rules with nobody known to wait for entry
+-- a release that lets the entry in, by the wish rules, although nobody is known to wait there
 pub record AdmitsUnknown (m : Monitor) (t : Situation) (e : Event) (wish : Pick) : Type 0 where
   pub entry : next_of e ≡ Some Entry
   pub choice : choice_of m.kind m.object t (as_called e) false wish ≡ Entry

@@ -1,4 +1,4 @@
--- The choice of a release where not all three queues can matter: what the path of a mode takes
+-- The choice of a release by the path of its mode, if not all three queues can matter
 use Rattle.std.specs.Prelude.{ℕ, ◌==◌, Bool, true, false, ◌&&◌, Option, Some, None, if◌then◌else◌}
 use Rattle.monk_kinds.specs.declared.mode.Mode.{Mode}
 use Rattle.monk_kinds.specs.declared.mode.Mode.TheVariants.{Blocking, NonBlocking, QuasiBlocking, ImmediateReturn, Automatic}
@@ -17,25 +17,25 @@ keeps_signallers QuasiBlocking = true
 keeps_signallers ImmediateReturn = false
 keeps_signallers Automatic = false
 
--- the choice of a seat of that queue
+-- the choice of that seat from that queue
 abbrev pub next_from : From3 → ℕ → Next
 next_from FromWaiter j = Waiter j
 next_from FromSignaller j = Signaller j
 next_from FromUntil j = UntilSeat j
 
--- the choice past one inner queue, by its front and whether entry ties with it
+-- the choice if only one inner queue counts, by its front and by whether entry ties with it
 abbrev pub single_choice : From3 → Bool → Option ℕ → Bool → Pick → Next
 single_choice queue ties None known wish = Entry
 single_choice queue ties (Some j) known WishEntry = if known && ties then Entry else next_from queue j
 single_choice queue ties (Some j) known WishWaiter = next_from queue j
 single_choice queue ties (Some j) known WishSignaller = next_from queue j
 
--- the signaller queue's front j, which stays if it is the caller s
+-- the choice of the signaller queue's front j. It is to stay if j is the caller s
 abbrev pub staying : ℕ → ℕ → Next
 staying j s = if j == s then Stay else Signaller j
 
--- the choice past a waiter queue and a signaller queue of one priority, by their fronts and whether
--- entry ties with them
+-- the choice if a waiter queue and a signaller queue have one priority, by their fronts and by whether entry ties
+-- with them
 abbrev pub equal_choice : Bool → Option ℕ → Option ℕ → ℕ → Bool → Pick → Next
 equal_choice ties None None s known wish = Entry
 equal_choice ties (Some w) None s known WishEntry = if known && ties then Entry else Waiter w

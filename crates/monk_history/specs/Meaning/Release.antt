@@ -16,14 +16,14 @@ use Rattle.monk_history.specs.declared.event.Next.{Next}
 use Rattle.monk_history.specs.declared.event.Next.TheVariants.{Stay}
 use Rattle.std.specs.Prelude.{List}
 
--- an event is allowed apart from its choice and its reply, if it is written with `stay`
+-- whether an event is allowed, apart from its choice and its reply. It is written with `stay`
 pub record MayCallIn (m : Monitor) (t : Situation) (e : Event) : Type 0 where
   pub in_range : IsTrue (is_in_range m.seats m.conds m.object.codes m.object.predicates e)
   pub offered : IsTrue (is_offered m.kind e)
   pub in_turn : IsTrue (is_in_turn t e)
   pub in_place : IsTrue (is_in_place m.object t e)
 
--- the call may be made behind that history, whatever it then chooses
+-- whether the call may be made after that history, whatever it then chooses
 abbrev pub MayCall : Monitor → List Event → Event → Type 0
 MayCall m h e = MayCallIn m (situation m h) e
 
@@ -40,7 +40,7 @@ as_called (Resume s q) = Resume s q
 as_called (SignalAll s c) = SignalAll s c
 as_called (SignalWait s c d x) = SignalWait s c d Stay
 
--- the releasing event with this choice
+-- the event with this choice, if it is a release
 abbrev pub with_next : Next → Event → Event
 with_next x (Enter s via) = Enter s via
 with_next x (Act s op r) = Act s op r
@@ -53,6 +53,6 @@ with_next x (Resume s q) = Resume s q
 with_next x (SignalAll s c) = SignalAll s c
 with_next x (SignalWait s c d y) = SignalWait s c d x
 
--- what a release chooses: to stay where it must, else by the wish rules over the queues after its own moves
+-- what a release chooses: to stay if it must, else by the wish rules over the queues after its own moves
 abbrev pub choice_of : Rules → Object → Situation → Event → Bool → Pick → Next
 choice_of k o t e known pick = if must_stay o t e then Stay else choice_by k (queues_at o t e) (seat_of e) known pick

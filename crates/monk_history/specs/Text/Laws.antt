@@ -1,4 +1,4 @@
--- What joins histories and their texts.
+-- How histories and their texts belong together.
 use Rattle.std.specs.Prelude.{◌≡◌, ℕ, ◌-◌, ◌<◌, ◌≤◌, List, [], ◌∷◌, ◌++◌, length, take, Ok, Err}
 use Rattle.std.specs.List.{flat_map}
 use Rattle.monk_history.specs.declared.event.Event.{Event}
@@ -12,22 +12,22 @@ abbrev pub OneHistoryEach : Type 0
 OneHistoryEach = (h g : Heading) (es fs : List Event) → HasText h es → HasText g fs → text h es ≡ text g fs
     → history h es ≡ history g fs
 
--- reading the text of a history gives the history back, under each limit that it keeps
+-- reading the text of a history gives the history back, under each limit that is not below its length
 abbrev pub ReadsBack : Type 0
 ReadsBack = (limit : ℕ) (h : Heading) (es : List Event) → HasText h es → length es ≤ limit
     → text_at limit (text h es) ≡ Ok (history h es)
 
--- the bytes of the first so many lines, each with its byte 10
+-- the bytes of the first n lines, each with its byte 10
 abbrev pub first_lines : ℕ → List ℕ → List ℕ
 first_lines n bytes = flat_map (λ l. l ++ 10 ∷ []) (take n (lines_of bytes))
 
--- the text of some history of at most so many events begins with these bytes
+-- the text of some history of at most `limit` events begins with these bytes
 abbrev pub BeginsText : ℕ → List ℕ → Type 0
 BeginsText limit front =
     (h : Heading) × (es : List Event) × (rest : List ℕ) × HasText h es × (length es ≤ limit)
     × (text h es ≡ front ++ rest)
 
--- some text begins with the lines before that line, and, if that line is finished, none with these and that line
+-- some text begins with the lines before that line. If that line is finished, none begins with these and that line
 pub record IsFirstFaulty (limit : ℕ) (bytes : List ℕ) (line : ℕ) : Type 0 where
   pub before : BeginsText limit (first_lines (line - 1) bytes)
   pub never : line < length (lines_of bytes) → BeginsText limit (first_lines line bytes) → ⊥

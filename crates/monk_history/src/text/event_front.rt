@@ -1,6 +1,6 @@
-//! The event whose line stands at the front of some bytes, read with no search for the line's end,
-//! where the line is short and each of its seats, conditions, predicates and codes has at most two
-//! digits. The lines of legal histories are written so.
+//! Reads an event whose line is at the front of some bytes, without a search for the line's end. The line must be
+//! short, and each of its seats, conditions, predicates and codes must have at most two digits. Lines of legal
+//! histories are so.
 
 ghost use Rattle.std.specs.Prelude.{◌≡◌, ◌∷◌, [], ◌+◌, ◌≤◌, IfSome, length, codes, decimal};
 ghost use Rattle.monk_history.specs.Text.{event_words, next_words, from_word, EventFits, first_version};
@@ -13,14 +13,13 @@ use crate::text::lines::places::{
 };
 use monk_object::Op;
 
-/// No line that is read here is longer.
+/// The most bytes of a line that is read here.
 pub(crate) const WINDOW: usize = 64;
 
-/// The event whose line stands at the front, and the place behind the line.
+/// Returns the event whose line is at the front, and the place after the line.
 ///
-/// `Caller` is a type that nothing here looks at. Code is made for each type, and what is called
-/// from one place alone the compiler puts there, so that a caller who names a type of its own needs
-/// no call for a line.
+/// Nothing here looks at the type `Caller`. The compiler makes code for each type, and inlines what is called from
+/// only one place. So a caller who names a type of its own needs no call for a line.
 #[inline(always)]
 pub(crate) fn event_at_front<Caller>(bytes: &[u8], version: u8) -> Option<(Event, usize)>
     requires version { 1 ≤ version }
@@ -110,7 +109,7 @@ fn leave(bytes: &[u8]) -> Option<(Event, usize)>
     Some((Event::Leave(seat, next), place))
 }
 
-/// The event of a line that begins with `sign`.
+/// Reads a line that begins with `sign`.
 #[inline(always)]
 fn any_signal<Caller>(bytes: &[u8], version: u8) -> Option<(Event, usize)>
     requires window { WINDOW ≤ length bytes.now }
@@ -136,7 +135,7 @@ fn any_signal<Caller>(bytes: &[u8], version: u8) -> Option<(Event, usize)>
     }
 }
 
-/// The event of a line that begins with `sign` and came with version 2.
+/// Reads a line that begins with `sign` and whose event came with version 2.
 #[inline(always)]
 fn later_signal(bytes: &[u8]) -> Option<(Event, usize)>
     requires window { WINDOW ≤ length bytes.now }
@@ -207,7 +206,7 @@ fn until(bytes: &[u8]) -> Option<(Event, usize)>
     Some((Event::Until(seat, pred, next), place))
 }
 
-/// Two numbers, as a seat and a condition or a predicate, and a next, to the line's end.
+/// Reads two numbers (a seat, and a condition or a predicate) and a next, up to the line's end.
 #[inline(always)]
 fn call_at(bytes: &[u8], place: usize) -> Option<(u8, u8, Next, usize)>
     requires { place + 20 ≤ length bytes.now }
@@ -220,7 +219,7 @@ fn call_at(bytes: &[u8], place: usize) -> Option<(u8, u8, Next, usize)>
     Some((first, second, next, place))
 }
 
-/// The queue of a resume, to the line's end.
+/// Reads the queue of a resume, up to the line's end.
 #[inline(always)]
 fn from_at(bytes: &[u8], place: usize) -> Option<(From3, usize)>
     requires { place + 10 ≤ length bytes.now }
@@ -243,7 +242,7 @@ fn from_at(bytes: &[u8], place: usize) -> Option<(From3, usize)>
     }
 }
 
-/// A next, to the line's end.
+/// Reads a next, up to the line's end.
 #[inline(always)]
 fn next_at(bytes: &[u8], place: usize) -> Option<(Next, usize)>
     requires { place + 13 ≤ length bytes.now }
@@ -258,7 +257,7 @@ fn next_at(bytes: &[u8], place: usize) -> Option<(Next, usize)>
     }
 }
 
-/// A next that chooses a seat, to the line's end.
+/// Reads a next that chooses a seat, up to the line's end.
 #[inline(always)]
 fn chosen_at(bytes: &[u8], place: usize) -> Option<(Next, usize)>
     requires { place + 13 ≤ length bytes.now }

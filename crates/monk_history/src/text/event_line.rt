@@ -1,4 +1,4 @@
-//! An event, read from the words of its line.
+//! Reads an event from the words of its line.
 
 ghost use Rattle.std.specs.Prelude.{◌-◌, ◌≤◌};
 ghost use Rattle.monk_history.specs.Text.{via_word, from_word};
@@ -92,7 +92,7 @@ fn event_after(words: &mut LineWords<'_>, verb: Verb, seat: u8) -> Result<Event,
     }
 }
 
-/// A code, an argument and a reply.
+/// Reads a code, an argument and a reply.
 #[tactic(auto, unfolding(crate::specs::Text::Reading::act_at))]
 #[inline(always)]
 fn act(words: &mut LineWords<'_>) -> Result<(Op, u64), Flaw>
@@ -104,7 +104,7 @@ fn act(words: &mut LineWords<'_>) -> Result<(Op, u64), Flaw>
     Ok((Op { code, arg }, reply))
 }
 
-/// A condition or a predicate, and a next.
+/// Reads a condition or a predicate, and a next.
 #[tactic(auto, unfolding(crate::specs::Text::Reading::cond_next_at))]
 #[inline(always)]
 fn cond_next(words: &mut LineWords<'_>) -> Result<(u8, Next), Flaw>
@@ -129,7 +129,7 @@ fn next(words: &mut LineWords<'_>) -> Result<Next, Flaw>
     })
 }
 
-/// The verb of that version.
+/// Reads a verb of that version.
 #[tactic(auto, using(crate::proofs::TextLaws::EventWords::verb_words))]
 #[inline(always)]
 fn verb(words: &mut LineWords<'_>, version: u8) -> Result<Verb, Flaw>

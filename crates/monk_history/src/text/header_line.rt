@@ -1,4 +1,4 @@
-//! A header, read from the words of its line.
+//! Reads a header from the words of its line.
 
 ghost use Rattle.monk_kinds.specs.Names.{kind_word, kinds};
 ghost use Rattle.monk_object.specs.Names.{object_word, objects};
@@ -35,13 +35,12 @@ fn header(words: &mut LineWords<'_>) -> Result<Header, Flaw>
     Ok(header)
 }
 
-/// Takes the five words `KIND SEATS CONDS OBJECT SIZE`, which stand behind the version in the first
-/// line of each text that has a header, and leaves what follows.
+/// Takes the five words `KIND SEATS CONDS OBJECT SIZE`, and leaves the words after them. They come after the version
+/// in the first line of each text that has a header.
 ///
-/// [`Flaw::Word`] where one of them is missing, is no name of a kind or of an object, or is a
-/// number outside the range of [`Header::new`], where there is no such version (they are 1 to 3),
-/// and where the version doesn't name the object; [`Flaw::Number`] where it is no number from 0 to
-/// 255. Takes no memory.
+/// Returns [`Flaw::Word`] if one of them is missing, is no name of a kind or of an object, or is a number outside the
+/// range of [`Header::new`]. It does so also if there is no such version (they are 1 to 3), or if the version doesn't
+/// name the object. Returns [`Flaw::Number`] if a word is no number from 0 to 255. Takes no memory.
 #[tactic(auto, unfolding(crate::specs::Text::Reading::parts_at))]
 pub fn header_parts(words: &mut LineWords<'_>, version: u8) -> Result<Header, Flaw>
     ensures { Reads result words.new (parts_at version words.old) }

@@ -4,7 +4,7 @@ ghost use Rattle.monk_history.specs.Text.{object_version, last_version};
 use crate::limits::{ALL_EVENTS_VERSION, NEWEST_VERSION};
 use monk_object::ObjectName;
 
-/// The first version of a text that names the object.
+/// Returns the first version of a text that names the object.
 pub(crate) fn object_version(object: ObjectName) -> u8
     ensures { result ≡ object_version object }
 {
@@ -14,7 +14,7 @@ pub(crate) fn object_version(object: ObjectName) -> u8
     }
 }
 
-/// The last version of a text that names the object.
+/// Returns the last version of a text that names the object.
 pub(crate) fn last_version(object: ObjectName) -> u8
     ensures { result ≡ last_version object }
 {

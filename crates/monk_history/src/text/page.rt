@@ -9,10 +9,10 @@ use itoa::Buffer;
 use std::io::Write;
 use std::marker::Model;
 
-/// The bytes of a page.
+/// How many bytes a page has.
 pub(crate) const PAGE: usize = 4096;
 
-/// Text that a device gets in one piece. Contracts see the bytes that wait.
+/// Text that a device gets in one piece. Contracts see the bytes that are not yet sent.
 #[derive(Drop)]
 pub(crate) struct Page {
     bytes: [u8; PAGE],
@@ -37,7 +37,7 @@ impl Page {
         }
     }
 
-    /// How many bytes may be put on it.
+    /// Returns how many more bytes fit on it.
     pub(crate) fn room(&self) -> usize
         ensures { result + length self.now ≡ PAGE }
     {
@@ -54,7 +54,7 @@ impl Page {
         self.used = end;
     }
 
-    /// Puts a space and the number, at most 21 bytes.
+    /// Writes a space and the number on the page, at most 21 bytes.
     pub(crate) fn put_number(&mut self, n: u64)
         requires { length self.old + 21 ≤ PAGE }
         ensures text { self.new ≡ self.old ++ 32 ∷ decimal n }
@@ -66,7 +66,7 @@ impl Page {
         self.put(digits.as_bytes());
     }
 
-    /// Passes the page on to the device, as one write where the device takes it whole.
+    /// Sends the page to the device, and empties it. It is one write if the device takes it whole.
     pub(crate) fn send<W: Write>(&mut self, out: &mut Device<W>) -> Result<(), WriteFault>
         requires { has_failed out.old ≡ false }
         ensures ok { OnOk result (Writes W.contents out.old out.new self.old) }

@@ -1,4 +1,4 @@
-//! Which events the versions of a text have.
+//! Which events each version of a text has.
 
 ghost use Rattle.std.specs.Prelude.{◌≡◌};
 ghost use Rattle.monk_history.specs.Text.{first_version, is_writable};
@@ -6,7 +6,7 @@ ghost use Rattle.monk_history.specs.Text.{first_version, is_writable};
 use crate::event::Event;
 use crate::text::header::Header;
 
-/// The first version of a text that has a line of the event.
+/// Returns the first version of a text that has a line for the event.
 fn first_version(event: Event) -> u8
     ensures { result ≡ first_version event }
 {
@@ -23,10 +23,10 @@ fn first_version(event: Event) -> u8
     }
 }
 
-/// Whether the header and the events have a text: the header's version is 2 or more, or none of the events is an
-/// [`Event::SignalAll`] or an [`Event::SignalWait`].
+/// Whether the header and the events have a text. They have one if the header's version is 2 or more, or if no event
+/// is an [`Event::SignalAll`] or an [`Event::SignalWait`].
 ///
-/// It looks at the events up to the first that has no line in the header's version, each once, and takes no memory.
+/// It looks once at each event, up to the first that has no line in the header's version. It takes no memory.
 pub fn writable(header: &Header, events: &[Event]) -> bool
     ensures { result ≡ is_writable header.now events.now }
 {

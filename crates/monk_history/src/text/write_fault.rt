@@ -1,6 +1,6 @@
 use thiserror::Error;
 
-/// The device failed: [`Device::failed`](crate::Device::failed) is true. How much it took of the text isn't known.
+/// The device failed: [`Device::failed`](crate::Device::failed) is true. How much of the text it took isn't known.
 #[derive(Clone, Copy, Debug, PartialEq, Eq, Error)]
 #[error("the writer failed")]
 pub struct WriteFault;

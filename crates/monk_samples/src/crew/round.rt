@@ -1,5 +1,5 @@
-//! What a seat of a run does in a round, by the sample. Whatever the object's type is, it means what the sample's
-//! object does: so the threads of a run are the same for every sample.
+//! What a seat of a run does in a round, by the sample. The object may have any type with the meaning of the sample's
+//! object. So the threads of a run are the same for every sample.
 ghost use Rattle.std.specs.Prelude.{◌≡◌, ℕ, [], ◌∷◌};
 ghost use Rattle.monk_object.specs.Book.{book_meaning};
 ghost use Rattle.monk_object.specs.Buffer.{buffer_meaning};
@@ -25,13 +25,13 @@ use monk_object::Guarded;
 use std::sync::Wait;
 use std::thread;
 
-/// A prime: rounds of one seat go through its remainders in another order than those of the next.
+/// A prime: the rounds of each seat go through its remainders in another order.
 const STRIDE: u32 = 251;
 
-/// A hasty seat lets others run fewer times than this before a visit.
+/// How often a hasty seat lets others run before a visit is less than this.
 const MOST_TURNS: u32 = 101;
 
-/// The visits of a seat in one round.
+/// Makes the visits of a seat in one round.
 pub(crate) fn do_round<K: Style, T: Guarded, R: Wait>(
     pass: Pass<K, T>,
     rt: &R,
@@ -52,7 +52,7 @@ pub(crate) fn do_round<K: Style, T: Guarded, R: Wait>(
     }
 }
 
-/// Half of the seats put the items 1 to `rounds`, and as many take as often.
+/// Makes a round of a buffer. Half of the seats put the items 1 to `rounds`, and as many seats take as often.
 fn trade<K: Style, T: Guarded, R: Wait>(
     pass: Pass<K, T>,
     rt: &R,
@@ -73,7 +73,7 @@ fn trade<K: Style, T: Guarded, R: Wait>(
     }
 }
 
-/// The same, each visit as long as its predicate is false.
+/// As `trade`; each visit pauses while its predicate is false.
 fn trade_patiently<K: Style, T: Guarded, R: Wait>(
     pass: Pass<K, T>,
     rt: &R,
@@ -96,7 +96,7 @@ fn trade_patiently<K: Style, T: Guarded, R: Wait>(
     }
 }
 
-/// The same in haste.
+/// As `trade`, in haste.
 fn trade_hastily<K: Style, T: Guarded, R: Wait>(
     pass: Pass<K, T>,
     rt: &R,
@@ -183,7 +183,7 @@ fn read<K: Style, T: Guarded, R: Wait>(
     }
 }
 
-/// Writes in it once.
+/// Writes in the book once.
 fn write<K: Style, T: Guarded, R: Wait>(
     pass: Pass<K, T>,
     rt: &R,
@@ -202,8 +202,8 @@ fn write<K: Style, T: Guarded, R: Wait>(
     }
 }
 
-/// Lets other threads run, for a while that differs from seat to seat and from round to round. So
-/// the seats of a hasty run don't fall into step, and meet in many orders.
+/// Lets other threads run, for a while that differs between seats and between rounds. So the seats of a hasty run
+/// don't fall into step, and meet in many orders.
 fn let_others_run(seat: u8, round: u32) {
     let turns = (round % STRIDE * (u32::from(seat) + 1)) % STRIDE % MOST_TURNS;
     for _ in 0..turns {

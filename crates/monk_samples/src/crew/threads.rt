@@ -1,4 +1,4 @@
-//! The threads of a run, whatever its object: each seat works its rounds in one of its own.
+//! The threads of a run, whatever its object: each seat works its rounds in its own thread.
 ghost use Rattle.std.specs.Prelude.{◌≡◌, All, IfErr, IfOk, IfSome, map};
 ghost use Rattle.monk_object.specs.Names.{meaning_named};
 ghost use Rattle.monk_samples.specs.Crews.{AreReady, IsOf, IsReady};
@@ -24,16 +24,16 @@ use std::sync::atomic::{AtomicU8, Ordering};
 use std::thread;
 use std::thread::{Scope, Threads};
 
-/// What the workers of a run read until all of them are there.
+/// The value of the start word until all workers are there.
 const HOLD: u8 = 0;
 
-/// They begin.
+/// The value by which they begin.
 const BEGIN: u8 = 1;
 
-/// They go home, since not all could be started.
+/// The value by which they go home, because not all could be started.
 const GO_HOME: u8 = 2;
 
-/// Every seat works its rounds, each in a thread of its own. Gives their passes back, in order.
+/// Makes every seat work its rounds, each in its own thread. Returns their passes in order.
 pub(crate) fn work_all<K: Style, T: Guarded, R: Threads + Wait + Sync, G: Gate>(
     rt: &R,
     alloc: Global,
@@ -75,7 +75,7 @@ pub(crate) fn work_all<K: Style, T: Guarded, R: Threads + Wait + Sync, G: Gate>(
     with_idle(back, idle)
 }
 
-/// Starts a thread for each worker. None begins before it is told so.
+/// Starts a thread for each worker. None begins before the start word says so.
 fn start_all<'s, E, K: Style, T: Guarded, R: Wait + Sync, G: Gate>(
     scope: &Scope<'s, E>,
     alloc: Global,
@@ -135,7 +135,7 @@ fn start<'s, E, K: Style, T: Guarded, R: Wait + Sync, G: Gate>(
     }
 }
 
-/// Waits until a worker is told whether to begin.
+/// Waits until the start word says whether to begin.
 fn may_begin<R: Wait>(rt: &R, start: &AtomicU8) -> bool {
     for _ in rt.forever() {
         match start.load(Ordering::SeqCst) {
@@ -143,7 +143,7 @@ fn may_begin<R: Wait>(rt: &R, start: &AtomicU8) -> bool {
             word => return word == BEGIN,
         }
     }
-    // The loop has no end but its `return`.
+    // The loop ends only by its `return`.
     unreachable!()
 }
 

@@ -11,8 +11,8 @@ use monk_kinds::{Kind, Pick};
 use monk_object::Guarded;
 use std::sync::Wait;
 
-/// Waits until the predicate holds, with that wish, and resumes if that parked it; or leaves with
-/// fewer than three events left.
+/// Waits until the predicate holds, with that wish, and resumes if that parked it. With fewer than three events left
+/// it leaves instead.
 pub(crate) fn pause<K: Kind, T: Guarded, R: Wait>(
     active: Active<K, T>,
     rt: &R,

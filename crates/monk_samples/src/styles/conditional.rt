@@ -11,7 +11,7 @@ use monk_kinds::{Kind, Pick};
 use monk_object::Guarded;
 use std::sync::Wait;
 
-/// Waits on the condition, with that wish, and resumes; or leaves with fewer than three events left.
+/// Waits on the condition, with that wish, and resumes. With fewer than three events left it leaves instead.
 pub(crate) fn pause<K: Kind, T: Guarded, R: Wait>(
     active: Active<K, T>,
     rt: &R,

@@ -11,8 +11,8 @@ use monk_kinds::{Kind, Pick};
 use monk_object::Guarded;
 use std::sync::Wait;
 
-/// Signals the condition, resumes if the signal parked it, and leaves, each with that wish; or
-/// leaves alone with fewer than three events left.
+/// Signals the condition, resumes if the signal parked it, and leaves, each with that wish. With fewer than three
+/// events left it only leaves.
 pub(crate) fn finish<K: Kind, T: Guarded, R: Wait>(
     active: Active<K, T>,
     rt: &R,

@@ -7,7 +7,7 @@ use monk_kinds::Kind;
 use monk_object::Guarded;
 use std::sync::Wait;
 
-/// Goes on after a call that may have parked the seat: then it resumes.
+/// Goes on after a call that may have parked the seat. If it did, the seat resumes.
 pub(crate) fn go_on<K: Kind, T: Guarded, R: Wait>(
     after: After<K, T>,
     rt: &R,

@@ -9,8 +9,8 @@ use monk_kinds::{ImmediateReturn, Pick};
 use monk_object::Guarded;
 use std::sync::Wait;
 
-/// Signals the first condition and waits on the second, and leaves when it is back; or leaves alone
-/// with fewer than three events left.
+/// Signals the first condition, waits on the second, and leaves when it is back. With fewer than three events left it
+/// only leaves.
 pub(crate) fn signal_wait_and_leave<K: ImmediateReturn, T: Guarded, R: Wait>(
     active: Active<K, T>,
     rt: &R,

@@ -8,7 +8,7 @@ use monk_history::{Event, Next};
 use monk_kinds::{NonBlocking, Pick};
 use monk_object::Guarded;
 
-/// Signals all who wait on the condition, and leaves; or leaves alone with fewer than two events left.
+/// Signals all who wait on the condition, and leaves. With fewer than two events left it only leaves.
 pub(crate) fn wake_all_and_leave<K: NonBlocking, T: Guarded>(
     active: Active<K, T>,
     hall: &Hall<K, T>,

@@ -1,4 +1,4 @@
--- What is read as a command is how it is written, and a command that is written is read again.
+-- A command is read from the words that it is written as, and a command that is written is read again.
 use Rattle.std.proofs.Common.{arith, ◌-◌, lit<, ◌≡◌, ℕ, ◌≤◌, ◌^◌, true, List, [], ◌∷◌, ◌++◌, Some, Ok, refl, sym, ap, subst, ◌∙◌}
 use Rattle.std.specs.Prelude.{IsTrue, nat_le}
 use Rattle.std.specs.Fmt.{decimal}
@@ -60,7 +60,7 @@ cond_pick_again c p le =
 
 -- ---- an action
 
--- what a line is where its verb has been read
+-- what a line is after its verb was read
 abbrev Ends : CommandVerb → List Word → Command × List Word → Type 0
 Ends v ws y = (play_verb_word v ∷ ws ≡ action_words y.0 ++ y.1) × ActionFits y.0
     × (play_verb_version v ≡ command_version y.0)

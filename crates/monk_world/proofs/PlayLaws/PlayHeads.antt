@@ -1,4 +1,4 @@
--- What is read as a play's first line is how it is written, and one that is written is read again.
+-- A play's first line is read from the words that it is written as, and one that is written is read again.
 use Rattle.std.proofs.Common.{lit<, ◌≡◌, ℕ, ◌≤◌, Bool, true, false, cond, List, [], ◌∷◌, ◌++◌, Some, None, Ok, refl, sym, ap, subst}
 use Rattle.std.proofs.Common.{◌∙◌, arith}
 use Rattle.std.specs.Prelude.{nat_le, codes}

@@ -36,7 +36,7 @@ told_both : (a b : Bool) → (a && b) ≡ true → (a ≡ true) × (b ≡ true)
 told_both true b h = (refl, h)
 told_both false b h = absurd cc
 
--- each command fits the version where each fits and the version has all
+-- each command fits the version if each is in range and the version has all
 fit_under : (h : PlayHead) (cs : List (ℕ × Command)) → AllByRecursion CommandFits cs → AreToldIn h.header.version cs
     → AllByRecursion (CommandFitsUnder h) cs
 fit_under h [] fit told = tt
@@ -74,7 +74,7 @@ play_one h g b c xs ys one two same =
     (fit_under (play_head g c) ys two.commands_fit two.told) same in
     ap (λ (x : PlayHead). play x.header x.budget xs) is.0 ∙ ap (λ (x : List (ℕ × Command)). play g c x) is.1
 
--- ---- what a function gives
+-- ---- what a function returns
 
 -- a play that was found in the bytes
 pub record IsPlay (limit : ℕ) (bytes : List ℕ) (h : Heading) (budget : ℕ) (cs : List (ℕ × Command)) : Type 0 where
@@ -99,7 +99,7 @@ play_read limit bytes h cs e =
       whole = r.whole;
     }
 
--- the same of the play
+-- the same for the play
 pub play_found : (limit : ℕ) (bytes : List ℕ) (p : Play) → play_at limit bytes ≡ Ok p → IsPlay limit bytes p.0 p.1 p.2
 play_found limit bytes p found = by (lines_at play_head_at command_under limit (lines_of bytes)) refl found
   where

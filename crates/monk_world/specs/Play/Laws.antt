@@ -1,4 +1,4 @@
--- What joins plays and their texts.
+-- How plays and their texts belong together.
 use Rattle.std.specs.Prelude.{◌≡◌, ℕ, List}
 use Rattle.monk_history.specs.Text.{Heading}
 use Rattle.monk_world.specs.declared.command.Command.{Command}

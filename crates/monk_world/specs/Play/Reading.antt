@@ -1,5 +1,5 @@
--- How the first line and the commands of a play are read from the words of their lines, and the
--- whole play from its text.
+-- How the first line and the commands of a play are read from the words of their lines, and the whole play from its
+-- text.
 use Rattle.std.specs.Prelude.{◌-◌, ◌^◌, ℕ, List, [], ◌∷◌, Option, Some, None, Result, Ok, Err, nat_le, if◌then◌else◌, codes}
 use Rattle.std.specs.Global.{Vec}
 use Rattle.monk_kinds.specs.declared.mode.Pick.{Pick}
@@ -82,7 +82,7 @@ cond_pick_at ws = do
   p ← one_of pick_word picks c.1
   Ok ((c.0, p.0), p.1)
 
--- the command that the words after its verb tell
+-- the command, by its verb and the words after it
 unfoldable pub action_after : CommandVerb → List Word → Taken Command
 action_after verb.Arrive ws = Ok (Arrive, ws)
 action_after verb.Look ws = Ok (Look, ws)
@@ -100,7 +100,7 @@ action_after verb.SignalAll ws = number_at 255 ws >>= λ c. Ok (SignalAll c.0, c
 action_after verb.SignalWait ws =
     number_at 255 ws >>= λ c. cond_pick_at c.1 >>= λ d. Ok (SignalWait c.0 d.0.0 d.0.1, d.1)
 
--- a seat, a verb of the version, what the verb wants, and no word more
+-- a seat, a verb of the version, what the verb needs, and no further word
 unfoldable pub command_at : ℕ → List Word → Taken (ℕ × Command)
 command_at version ws = do
   s ← number_at 255 ws
@@ -119,7 +119,7 @@ play_head h budget = record { header = h; budget = budget }
 abbrev pub play_head_of : Heading → ℕ → Option PlayHead
 play_head_of h budget = if nat_le least_budget budget then Some (play_head h budget) else None
 
--- the head of a play that those words tell
+-- the head of a play that is read from those words
 unfoldable pub play_head_at : List Word → Taken PlayHead
 play_head_at ws = do
   p ← literal_at (codes "play") ws
@@ -139,11 +139,11 @@ Play = Heading × ℕ × List (ℕ × Command)
 abbrev pub play : Heading → ℕ → List (ℕ × Command) → Play
 play h budget commands = (h, budget, commands)
 
--- the same of what a function returned
+-- the play that a function returned
 abbrev pub play_view : Heading × ℕ × Vec (ℕ × Command) → Play
 play_view r = play r.0 r.1 r.2.items
 
--- the verbs of a command depend on the version of the first line
+-- which verbs a command may have depends on the version of the first line
 abbrev pub command_under : PlayHead → List Word → Taken (ℕ × Command)
 command_under h ws = command_at h.header.version ws
 
@@ -152,6 +152,6 @@ abbrev pub play_of_reading : Result (PlayHead × List (ℕ × Command)) ReadFaul
 play_of_reading (Ok x) = Ok (play x.0.header x.0.budget x.1)
 play_of_reading (Err e) = Err e
 
--- the play that the text is of, or its first fault
+-- the play that the text stands for, or its first fault
 abbrev pub play_at : ℕ → List ℕ → Result Play ReadFault
 play_at limit bytes = play_of_reading (lines_at play_head_at command_under limit (lines_of bytes))

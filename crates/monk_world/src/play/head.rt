@@ -1,4 +1,4 @@
-//! What stands before the commands of a play, read from the words of its line.
+//! Reads the first line of a play from its words.
 
 ghost use Rattle.monk_history.specs.Text.Words.{Reads};
 ghost use Rattle.monk_world.specs.Play.Reading.{play_head_at};

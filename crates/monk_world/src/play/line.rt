@@ -1,4 +1,4 @@
-//! A command of a seat, read from the words of its line.
+//! Reads a command of a seat from the words of its line.
 
 ghost use Rattle.std.specs.Prelude.{◌≡◌};
 ghost use Rattle.monk_kinds.specs.Names.{with_text};
@@ -75,7 +75,7 @@ fn action_after(words: &mut LineWords<'_>, verb: CommandVerb) -> Result<Command,
     }
 }
 
-/// A code and an argument.
+/// Reads a code and an argument.
 #[tactic(auto, unfolding(crate::specs::Play::Reading::op_at))]
 fn op(words: &mut LineWords<'_>) -> Result<Op, Flaw>
     ensures { Reads result words.new (op_at words.old) }
@@ -85,7 +85,7 @@ fn op(words: &mut LineWords<'_>) -> Result<Op, Flaw>
     Ok(Op { code, arg })
 }
 
-/// A condition or a predicate, and a wish.
+/// Reads a condition or a predicate, and a wish.
 #[tactic(auto, unfolding(crate::specs::Play::Reading::cond_pick_at))]
 fn cond_pick(words: &mut LineWords<'_>) -> Result<(u8, Pick), Flaw>
     ensures { Reads result words.new (cond_pick_at words.old) }

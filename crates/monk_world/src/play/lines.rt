@@ -1,4 +1,4 @@
-//! The commands of a play's text, one after the other.
+//! The commands of a play's text, read one after the other.
 
 ghost use Rattle.std.specs.Prelude.{◌≡◌, ◌≤◌, ◌∷◌, [], ℕ, List, length, IfOk, MatchOption, None, Ok};
 ghost use Rattle.monk_history.specs.Limits.{most_lines};
@@ -14,8 +14,8 @@ use monk_history::Header;
 use monk_history::lines::{CheckedLines, ReadFault};
 use std::marker::Model;
 
-/// A play's text without a fault: its header, the budget of each seat, and the commands that are
-/// not yet read. Contracts see all three as a play.
+/// A play's text without a fault: its header, the budget of each seat, and the commands that are not yet read.
+/// Contracts see all three as a play.
 ///
 /// It borrows the bytes and holds no command, so its size is constant.
 #[derive(Drop)]
@@ -32,10 +32,10 @@ impl<'a> Model for PlayLines<'a> {
 }
 
 impl<'a> PlayLines<'a> {
-    /// The play that the text is of, or its first fault, as [`read_play`](crate::read_play) gives it, without the fault
-    /// `MEMORY`.
+    /// Returns the play of the text, or its first fault. The answer is that of [`read_play`](crate::read_play),
+    /// without the fault `MEMORY`.
     ///
-    /// One pass over the bytes, which keeps no command and takes no memory.
+    /// It makes one pass over the bytes, keeps no command and takes no memory.
     pub fn check(bytes: &'a [u8]) -> Result<PlayLines<'a>, ReadFault>
         // What is found has this text.
         ensures found { IfOk result (λ p. HasPlayText p.0 p.1 p.2 × (length p.2 ≤ most_lines)
@@ -50,21 +50,21 @@ impl<'a> PlayLines<'a> {
         Ok(PlayLines { lines })
     }
 
-    /// What stands in the first line, without the budget.
+    /// Returns the first line without the budget.
     pub fn header(&self) -> Header
         ensures { result ≡ self.now.0 }
     {
         self.lines.header().header
     }
 
-    /// How many events each seat has.
+    /// Returns how many events each seat has.
     pub fn budget(&self) -> u32
         ensures { result ≡ self.now.1 }
     {
         self.lines.header().budget
     }
 
-    /// Reads the next command, with its seat; `None` where all are read. It takes no memory.
+    /// Reads the next command, with its seat, or returns `None` if all are read. It takes no memory.
     pub fn next(&mut self) -> Option<(u8, Command)>
         ensures command { MatchOption result (self.old.2 ≡ []) (λ c. self.old.2 ≡ c ∷ self.new.2) }
         ensures header { (self.new.0 ≡ self.old.0) × (self.new.1 ≡ self.old.1) }

@@ -41,7 +41,7 @@ impl CommandVerb {
         CommandVerb::SignalWait,
     ];
 
-    /// The verb of that version whose word this is, byte for byte.
+    /// Returns the verb of that version that has this word, byte for byte.
     pub(crate) fn of_version(word: &[u8], version: u8) -> Option<CommandVerb>
         ensures { result ≡ with_text play_verb_word (play_verbs_of version) word.now }
     {
@@ -51,7 +51,7 @@ impl CommandVerb {
         }
     }
 
-    /// The first version that has it.
+    /// Returns the first version that has it.
     fn first_version(self) -> u8
         ensures { result ≡ play_verb_version self }
     {
@@ -72,7 +72,7 @@ impl CommandVerb {
         }
     }
 
-    /// The verb of any version whose word this is.
+    /// Returns the verb of any version that has this word.
     fn of_text(word: &[u8]) -> Option<CommandVerb>
         ensures { result ≡ with_text play_verb_word play_verbs word.now }
     {
@@ -82,7 +82,7 @@ impl CommandVerb {
             .find(|verb| word == verb.text())
     }
 
-    /// Its word.
+    /// Returns its word.
     fn text(self) -> &'static [u8]
         ensures { result.now ≡ play_verb_word self }
     {

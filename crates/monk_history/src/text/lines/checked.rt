@@ -1,4 +1,4 @@
-//! The items of a text that was found to have no fault, one after the other.
+//! The items of a text that was found to have no fault, read one after the other.
 
 ghost use Rattle.std.specs.Prelude.{◌≡◌, ◌≤◌, ◌∷◌, [], Err, IfErr, MatchOption, None, OnOk};
 ghost use Rattle.monk_history.specs.Limits.{most_lines};
@@ -31,10 +31,10 @@ impl<'a, H: Head, A: Record<H>> Model for CheckedLines<'a, H, A> {
 }
 
 impl<'a, H: Head, A: Record<H>> CheckedLines<'a, H, A> {
-    /// The header and the items of the text, at most `limit` of them, or its first fault; it is what
-    /// [`read_lines`](crate::lines::read_lines) reads, without the fault `MEMORY`.
+    /// Checks the text: its header and items, at most `limit` of them, or its first fault. The answer is that of
+    /// [`read_lines`](crate::lines::read_lines), without the fault `MEMORY`.
     ///
-    /// One pass over the bytes, which keeps no item and takes no memory.
+    /// It makes one pass over the bytes, keeps no item and takes no memory.
     pub fn check(bytes: &'a [u8], limit: u32) -> Result<CheckedLines<'a, H, A>, ReadFault>
         requires { limit ≤ most_lines }
         ensures { result ≡ lines_at H.parse A.parse limit (lines_of bytes.entry.now) }
@@ -48,14 +48,14 @@ impl<'a, H: Head, A: Record<H>> CheckedLines<'a, H, A> {
         })
     }
 
-    /// The header.
+    /// Returns the header.
     pub fn header(&self) -> H
         ensures { result ≡ self.now.0 }
     {
         self.header
     }
 
-    /// The same items once more. Constant time.
+    /// Returns the same items once more, in constant time.
     pub fn again(&self) -> CheckedLines<'a, H, A>
         ensures { result ≡ self.now }
     {
@@ -66,7 +66,7 @@ impl<'a, H: Head, A: Record<H>> CheckedLines<'a, H, A> {
         }
     }
 
-    /// Reads the next item; `None` where all are read. It takes no memory.
+    /// Reads the next item, or returns `None` if all are read. It takes no memory.
     #[inline(always)]
     pub fn next(&mut self) -> Option<A>
         ensures item { MatchOption result (self.old.1 ≡ []) (λ x. self.old.1 ≡ x ∷ self.new.1) }
@@ -75,13 +75,13 @@ impl<'a, H: Head, A: Record<H>> CheckedLines<'a, H, A> {
     {
         match self.lines.next(&self.header) {
             Ok(item) => item,
-            // Each line was found right when the text was checked.
+            // The check found each line right.
             Err(_) => unreachable!(),
         }
     }
 }
 
-/// Reads the lines that are left, and gives the first fault.
+/// Reads the lines that are left, and returns the first fault.
 #[tactic(auto, using(crate::proofs::TextLaws::LineSteps::behind_one))]
 fn check_items<H, A: Record<H>>(header: &H, lines: ItemLines<'_>) -> Result<(), ReadFault>
     ensures ok { OnOk result (AreSound (items_left (A.parse header.now) lines.entry)) }

@@ -1,10 +1,10 @@
-//! The front of a line, where what may stand there is known. Words are short, so their bytes are compared one by one.
+//! Reads the front of a line, if it is known what may be there. Words are short, so they are compared byte by byte.
 
 ghost use Rattle.std.specs.Prelude.{◌≡◌, ◌≢◌, ◌∷◌, ◌++◌, true, false, MatchOption, IfSome, length, take, decimal};
 ghost use Rattle.std.specs.Option.{option_copied};
 ghost use Rattle.monk_history.specs.Text.Words.{Word, words_of, words_left, is_unbroken, is_next};
 
-/// What is left of the line behind that word, where it is the first.
+/// Returns what is left of the line after that word, if it is the first word.
 #[inline(always)]
 pub(crate) fn left_behind_word<'a>(line: &'a [u8], word: &[u8]) -> Option<Option<&'a [u8]>>
     requires { is_unbroken word.now ≡ true }
@@ -17,11 +17,11 @@ pub(crate) fn left_behind_word<'a>(line: &'a [u8], word: &[u8]) -> Option<Option
     Some(left)
 }
 
-/// What a number must be below for one digit more.
+/// A number must be below this if one more digit is to fit.
 const ROOM_FOR_A_DIGIT: u64 = 1 << 59;
 
-/// The first word of the line where it is a number of no more than seventeen digits, and what is
-/// left of the line behind it.
+/// Returns the first word of the line if it is a number of at most seventeen digits, and what is left of the line
+/// after it.
 #[inline(always)]
 pub(crate) fn left_behind_number(line: &[u8]) -> Option<(u64, Option<&[u8]>)>
     ensures { IfSome result (λ x. words_of line.now ≡ decimal x.0 ∷ words_left (option_copied x.1)) }
@@ -45,7 +45,7 @@ pub(crate) fn left_behind_number(line: &[u8]) -> Option<(u64, Option<&[u8]>)>
     Some((number, None))
 }
 
-/// What stands behind the word, where the bytes begin with it.
+/// Returns what follows the word, if the bytes begin with it.
 #[inline(always)]
 fn behind<'a>(bytes: &'a [u8], word: &[u8]) -> Option<&'a [u8]>
     ensures { MatchOption result (take (length word.now) bytes.now ≢ word.now)
@@ -62,7 +62,7 @@ fn behind<'a>(bytes: &'a [u8], word: &[u8]) -> Option<&'a [u8]>
     Some(&bytes[word.len()..])
 }
 
-/// What is left of a line behind a word that ends where these bytes begin; `None` where the word goes on.
+/// Returns what is left of a line after a word that ends where these bytes begin. Returns `None` if the word goes on.
 #[inline(always)]
 fn left_behind(bytes: &[u8]) -> Option<Option<&[u8]>>
     ensures { MatchOption result

@@ -1,4 +1,4 @@
-//! The lines of a text behind its first, read one after the other.
+//! The lines of a text after its first, read one after the other.
 
 ghost use Rattle.std.specs.Prelude.{◌≡◌, ◌≤◌, ◌+◌, IfOk, IfSome, None, Ok};
 ghost use Rattle.monk_history.specs.Limits.{most_lines};
@@ -11,8 +11,8 @@ use crate::text::lines::split::split_once;
 use crate::text::lines::words::LineWords;
 use std::marker::Model;
 
-/// The lines of a text that are not yet read. Contracts see the lines, the number of the first of them, and for how
-/// many there is room.
+/// The lines of a text that are not yet read. Contracts see the lines, the number of the first of them, and how many
+/// more may be read.
 #[derive(Drop)]
 pub struct ItemLines<'a> {
     rest: &'a [u8],
@@ -33,9 +33,9 @@ impl<'a> Model for ItemLines<'a> {
 }
 
 impl<'a> ItemLines<'a> {
-    /// The header of the text, and its other lines, of which at most `limit` may be read.
+    /// Returns the header of the text, and its other lines. At most `limit` of them may be read.
     ///
-    /// A text with no finished line has the fault `END`, or `HEADER` where it is empty.
+    /// A text with no finished line has the fault `END`, or `HEADER` if it is empty.
     #[tactic(auto, unfolding(crate::specs::Text::Lines::opened_at))]
     pub fn open<H: Head>(bytes: &'a [u8], limit: u32) -> Result<(H, ItemLines<'a>), ReadFault>
         requires { limit ≤ most_lines }
@@ -58,7 +58,7 @@ impl<'a> ItemLines<'a> {
         Ok((header, lines))
     }
 
-    /// The same lines once more.
+    /// Returns the same lines once more.
     pub(crate) fn again(&self) -> ItemLines<'a>
         ensures { result ≡ self.now }
     {
@@ -69,7 +69,7 @@ impl<'a> ItemLines<'a> {
         }
     }
 
-    /// Reads the next line; `None` where the text has ended. After an error nothing is said of what is left.
+    /// Reads the next line, or returns `None` if the text has ended. After an error the rest isn't specified.
     #[inline(always)]
     pub fn next<H, A: Record<H>>(&mut self, header: &H) -> Result<Option<A>, ReadFault>
         ensures item { IsNextItem result (items_left (A.parse header.now) self.old)

@@ -1,4 +1,4 @@
-//! The item of the first line of some bytes.
+//! Reads the item of the first line of some bytes.
 
 ghost use Rattle.std.specs.Prelude.{◌≡◌, true, MatchOption};
 ghost use Rattle.monk_history.specs.Text.Lines.{IsReadAs, is_unended};
@@ -8,10 +8,10 @@ use crate::text::lines::record::Record;
 use crate::text::lines::split::split_once;
 use crate::text::lines::words::LineWords;
 
-/// The item of the first line of the bytes, or its flaw, and what stands behind that line; `None`
-/// where no line ends in them.
+/// Returns the item of the first line of the bytes, or its flaw, and what follows that line. Returns `None` if no
+/// line ends in the bytes.
 ///
-/// It looks at no byte behind the line but those that [`Record::at_front`] looks at, and takes no memory.
+/// It looks at no byte after the line, except for those that [`Record::at_front`] looks at. It takes no memory.
 #[inline(always)]
 pub fn next_item<'a, H, A: Record<H>>(
     header: &H,
@@ -23,7 +23,7 @@ pub fn next_item<'a, H, A: Record<H>>(
     next_item_for::<H, A, A>(header, bytes)
 }
 
-/// The same, with code of its own for each type that a caller names.
+/// As [`next_item`], with a copy of the code for each type that a caller names.
 #[inline(always)]
 pub(crate) fn next_item_for<'a, H, A: Record<H>, Caller>(
     header: &H,
@@ -38,8 +38,8 @@ pub(crate) fn next_item_for<'a, H, A: Record<H>, Caller>(
     }
 }
 
-/// The same for any line. What is found is taken apart and put together, so that only here it needs room in memory, and
-/// not where the line was read in the place of the call.
+/// Reads any line. The result is taken apart and put together again. So it needs room in memory only here, and not if
+/// [`Record::at_front`] read the line.
 #[inline(always)]
 fn item_by_words<'a, H, A: Record<H>>(
     header: &H,
@@ -52,7 +52,7 @@ fn item_by_words<'a, H, A: Record<H>>(
     Some((item, rest))
 }
 
-/// The same, by the words of the line.
+/// Reads any line by its words.
 #[inline(never)]
 fn item_of_words<'a, H, A: Record<H>>(
     header: &H,

@@ -6,7 +6,7 @@ ghost use Rattle.std.specs.Char.{digit_value};
 ghost use Rattle.std.specs.Str.Parse.{AllDigits, digits_value};
 ghost use Rattle.monk_history.specs.Text.Words.{number_in};
 
-/// The number that the word writes, where it is written as numbers are and at most `most`.
+/// Returns the number that the word writes, if it is written as numbers are and is at most `most`.
 pub(crate) fn number_of(word: &[u8], most: u64) -> Option<u64>
     ensures value { result ≡ number_in most word.now }
     ensures within { IfSome result (λ n. n ≤ most) }
@@ -17,14 +17,14 @@ pub(crate) fn number_of(word: &[u8], most: u64) -> Option<u64>
     value_of(word, most)
 }
 
-/// Whether the word has a first byte, and none behind a zero.
+/// Whether the word has a first byte, and no byte after a zero in front.
 fn is_plain(word: &[u8]) -> bool
     ensures { IsTrue result ↔ ((0 < length word.now) × (slice_index word.now 0 ≡ 48 → length word.now ≡ 1)) }
 {
     !word.is_empty() && (word[0] != b'0' || word.len() == 1)
 }
 
-/// The number that the digits stand for, where they are digits and it is at most `most`.
+/// Returns the number that the bytes stand for, if they are digits and it is at most `most`.
 fn value_of(digits: &[u8], most: u64) -> Option<u64>
     ensures { SomeIff result (AllDigits 10 digits.now × (digits_value 10 digits.now ≤ most))
         (digits_value 10 digits.now) }

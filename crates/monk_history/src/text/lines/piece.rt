@@ -12,13 +12,13 @@ use crate::text::lines::record::{Head, Record};
 use crate::text::lines::split::split_once;
 use std::marker::Model;
 
-/// The lines that end in a piece of a text and are not yet read. Contracts see the bytes, the
-/// number of their first line, and for how many lines there is room.
+/// The lines that end in a piece of a text and are not yet read. Contracts see the bytes, the number of their first
+/// line, and how many more lines may be read.
 ///
-/// The number of a line is told from the room that is left, so that a line costs one counter.
+/// The number of a line is counted from the room that is left, so a line costs only one counter.
 #[derive(Drop)]
 pub struct PieceLines<'a> {
-    /// The number of the line behind the last for which there is room.
+    /// The number of the first line for which there is no room.
     end: u32,
     rest: &'a [u8],
     room: u32,
@@ -37,8 +37,8 @@ impl<'a> Model for PieceLines<'a> {
 }
 
 impl<'a> PieceLines<'a> {
-    /// The lines that end in the bytes. `number` is the number of the first of them in its text;
-    /// `room` is how many may be read.
+    /// Returns the lines that end in the bytes. `number` is the number of the first of them in its text, and `room`
+    /// is how many may be read.
     pub fn of(bytes: &'a [u8], number: u32, room: u32) -> PieceLines<'a>
         requires { number + room ≤ most_lines + 2 }
         ensures { result ≡ piece_left bytes.entry.now number room }
@@ -50,8 +50,8 @@ impl<'a> PieceLines<'a> {
         }
     }
 
-    /// Reads the next line; `None` where no further line ends in the piece. After an error nothing
-    /// is said of what is left.
+    /// Reads the next line, or returns `None` if no further line ends in the piece. After an error the rest isn't
+    /// specified.
     #[inline(always)]
     pub fn next<H, A: Record<H>>(&mut self, header: &H) -> Result<Option<A>, ReadFault>
         ensures item { IsNextOfPiece result (items_with (A.parse header.now) self.old)
@@ -63,8 +63,8 @@ impl<'a> PieceLines<'a> {
         self.next_for::<H, A, A>(header)
     }
 
-    /// The same, for a caller that reads many lines: it names a type of its own, and so gets code of its own, which the
-    /// compiler then puts in the place of the call. Nothing else depends on that type.
+    /// As [`PieceLines::next`], for a caller that reads many lines. It names a type of its own, and so gets a copy of
+    /// the code, which the compiler then inlines. Nothing else depends on that type.
     #[inline(always)]
     pub fn next_for<H, A: Record<H>, Caller>(&mut self, header: &H) -> Result<Option<A>, ReadFault>
         ensures item { IsNextOfPiece result (items_with (A.parse header.now) self.old)
@@ -88,7 +88,7 @@ impl<'a> PieceLines<'a> {
         Ok(Some(item))
     }
 
-    /// For how many further lines there is room.
+    /// Returns how many further lines may be read.
     #[inline(always)]
     pub fn room(&self) -> u32
         ensures { result ≡ self.now.room }
@@ -96,7 +96,7 @@ impl<'a> PieceLines<'a> {
         self.room
     }
 
-    /// The bytes that are not yet read.
+    /// Returns the bytes that are not yet read.
     pub fn rest(self) -> &'a [u8]
         ensures { result.now ≡ self.entry.bytes }
     {
@@ -104,8 +104,8 @@ impl<'a> PieceLines<'a> {
     }
 }
 
-/// The header that the first line of the bytes is, or the fault of a text that has no such line, and what stands behind
-/// that line; `None` where no line ends in them.
+/// Returns the header of the first line of the bytes, or the fault `HEADER`, and what follows that line. Returns
+/// `None` if no line ends in the bytes.
 pub fn header_at_front<H: Head>(bytes: &[u8]) -> Option<(Result<H, ReadFault>, &[u8])>
     ensures { MatchOption result (is_unended bytes.entry.now ≡ true)
         (λ r. IsHeadOf H.parse bytes.entry.now r.0 r.1.now) }

@@ -1,9 +1,9 @@
-//! What stands at a place of some bytes, where it is known to be near enough: no search for the end of a line is made.
+//! Reads what is at a known place of some bytes, without a search for the end of a line.
 
 ghost use Rattle.std.specs.Prelude.{◌≡◌, ◌∷◌, [], ◌++◌, ◌+◌, ◌≤◌, true, IfSome, length, decimal};
 ghost use Rattle.monk_history.specs.Text.Places.{StandsAt};
 
-/// Whether that byte stands there.
+/// Whether that byte is at the place.
 #[inline(always)]
 pub fn one_stands_at(bytes: &[u8], place: usize, one: u8) -> bool
     requires { place + 1 ≤ length bytes.now }
@@ -12,7 +12,7 @@ pub fn one_stands_at(bytes: &[u8], place: usize, one: u8) -> bool
     bytes[place] == one
 }
 
-/// Whether these two bytes stand there. They are compared as one number.
+/// Whether these two bytes are at the place. They are compared as one number.
 #[inline(always)]
 pub fn two_stand_at(bytes: &[u8], place: usize, two: [u8; 2]) -> bool
     requires { place + 2 ≤ length bytes.now }
@@ -21,7 +21,7 @@ pub fn two_stand_at(bytes: &[u8], place: usize, two: [u8; 2]) -> bool
     u16::from_le_bytes([bytes[place], bytes[place + 1]]) == u16::from_le_bytes(two)
 }
 
-/// Whether these four bytes stand there. They are compared as one number.
+/// Whether these four bytes are at the place. They are compared as one number.
 #[inline(always)]
 pub fn four_stand_at(bytes: &[u8], place: usize, four: [u8; 4]) -> bool
     requires { place + 4 ≤ length bytes.now }
@@ -39,7 +39,7 @@ pub fn four_stand_at(bytes: &[u8], place: usize, four: [u8; 4]) -> bool
 /// The most bytes that [`short_number_at`] takes.
 pub const SHORT_NUMBER: usize = 3;
 
-/// The number there, where it has one or two digits and that byte follows, and the place behind that byte.
+/// Returns the number there, if it has one or two digits and the byte `end` follows, and the place after that byte.
 #[inline(always)]
 pub fn short_number_at(bytes: &[u8], place: usize, end: u8) -> Option<(u8, usize)>
     requires { place + SHORT_NUMBER ≤ length bytes.now }
@@ -60,10 +60,10 @@ pub fn short_number_at(bytes: &[u8], place: usize, end: u8) -> Option<(u8, usize
     Some(((first - b'0') * 10 + (second - b'0'), place + 3))
 }
 
-/// The most bytes that [`number_at`] takes: ten digits and the byte behind them.
+/// The most bytes that [`number_at`] takes: ten digits and the byte after them.
 pub const NUMBER: usize = 11;
 
-/// The number there, where it has at most ten digits and that byte follows, and the place behind that byte.
+/// Returns the number there, if it has at most ten digits and the byte `end` follows, and the place after that byte.
 #[inline(always)]
 pub fn number_at(bytes: &[u8], place: usize, end: u8) -> Option<(u64, usize)>
     requires { place + NUMBER ≤ length bytes.now }

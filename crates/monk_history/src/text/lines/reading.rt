@@ -1,4 +1,4 @@
-//! A text's header and items, or its first fault.
+//! Reads a text's header and items, or finds its first fault.
 
 ghost use Rattle.std.specs.Prelude.{◌≤◌};
 ghost use Rattle.monk_history.specs.Limits.{most_lines};
@@ -9,7 +9,7 @@ use crate::text::lines::left::ItemLines;
 use crate::text::lines::record::{Head, Record};
 use std::alloc::Global;
 
-/// The items of the lines that are left.
+/// Returns the items of the lines that are left.
 fn items_of<H, A: Record<H>>(
     alloc: Global,
     header: &H,
@@ -25,9 +25,9 @@ fn items_of<H, A: Record<H>>(
     Ok(items)
 }
 
-/// The header and the items of the text, at most `limit` of them, or the first fault.
+/// Returns the header and the items of the text, at most `limit` of them, or the first fault.
 ///
-/// One pass over the bytes. Memory is taken for the items alone.
+/// It makes one pass over the bytes. It takes memory only for the items.
 pub fn read_lines<H: Head, A: Record<H>>(
     alloc: Global,
     bytes: &[u8],

@@ -22,17 +22,17 @@ pub trait Record<H>: Copy {
     ghost use Rattle.monk_history.specs.Text.Words.{Word, Taken, Reads};
     ghost use Rattle.monk_history.specs.Text.Lines.{IsAtFront};
 
-    /// What is read from the words of the line under that header, as one that names a version.
+    /// What is read from the words of the line under that header. The header may name a version.
     ghost parse: { H → List Word → Taken Self };
 
     /// Reads it from all the words of the line.
     fn parse(header: &H, words: &mut LineWords<'_>) -> Result<Self, Flaw>
         ensures { Reads result words.new (parse header.now words.old) };
 
-    /// Reads it where its line stands at the front of the bytes, and says how many bytes the line takes with its end.
-    /// `None` says nothing: the line is then read by its words. It is for records that can be read faster than that.
+    /// Reads it if its line is at the front of the bytes, and returns how many bytes the line takes with its end. If
+    /// the answer is `None`, the line is read by its words. It is for records that can be read faster than that.
     ///
-    /// `Caller` gives each caller that names a type of its own a copy of the code of its own; nothing depends on it.
+    /// Each caller that names its own type as `Caller` gets a copy of the code. Nothing else depends on it.
     #[inline(always)]
     fn at_front<Caller>(header: &H, bytes: &[u8]) -> Option<(Self, usize)>
         ensures { IfSome result (λ r. IsAtFront (parse header.now) bytes.now r.0 r.1) }

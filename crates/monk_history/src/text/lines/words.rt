@@ -25,7 +25,7 @@ impl<'a> Model for LineWords<'a> {
 }
 
 impl<'a> LineWords<'a> {
-    /// All words of the line, which is given without its byte 10.
+    /// Returns all words of the line, which is given without its byte 10.
     pub fn of(line: &'a [u8]) -> LineWords<'a>
         ensures { result ≡ words_of line.entry.now }
     {
@@ -49,7 +49,7 @@ impl<'a> LineWords<'a> {
         }
     }
 
-    /// Takes that word where it is the next, and else no word. Answers whether it did.
+    /// Takes the next word if it is that word, and otherwise none. Returns whether it did.
     #[inline(always)]
     pub fn takes(&mut self, word: &[u8]) -> bool
         requires { is_unbroken word.now ≡ true }
@@ -67,7 +67,7 @@ impl<'a> LineWords<'a> {
         true
     }
 
-    /// Takes the next word where it is a number of a few digits, and else no word.
+    /// Takes the next word if it is a number of a few digits, and otherwise none.
     #[inline(always)]
     fn short_number(&mut self) -> Option<u64>
         ensures { MatchOption result (self.new ≡ self.old) (λ n. self.old ≡ decimal n ∷ self.new) }
@@ -77,8 +77,8 @@ impl<'a> LineWords<'a> {
         Some(number)
     }
 
-    /// Takes a number from 0 to `most`. [`Flaw::Word`] where no word is left, [`Flaw::Number`]
-    /// where it is no such number.
+    /// Takes a number from 0 to `most`. Returns [`Flaw::Word`] if no word is left, and [`Flaw::Number`] if the word
+    /// is no such number.
     #[tactic(auto, using(crate::proofs::TextLaws::WordReaders::number_again, crate::proofs::TextLaws::WordReaders::number_refused))]
     #[inline(always)]
     pub fn number(&mut self, most: u64) -> Result<u64, Flaw>
@@ -106,7 +106,7 @@ impl<'a> LineWords<'a> {
         Ok(number as u8)
     }
 
-    /// Takes that word; [`Flaw::Word`] where another is the next, or none.
+    /// Takes that word. Returns [`Flaw::Word`] if the next word is another, or if none is left.
     pub fn literal(&mut self, text: &[u8]) -> Result<(), Flaw>
         ensures { Reads result self.new (literal_at text.now self.old) }
     {
@@ -118,7 +118,7 @@ impl<'a> LineWords<'a> {
         }
     }
 
-    /// [`Flaw::Word`] where a word is left.
+    /// Returns [`Flaw::Word`] if a word is left.
     pub fn end(&mut self) -> Result<(), Flaw>
         ensures { Reads result self.new (end_at self.old) }
     {
@@ -129,9 +129,9 @@ impl<'a> LineWords<'a> {
     }
 }
 
-/// A number of any length from the front of a line, and what is left of the line.
+/// Takes a number of any length from the front of a line, and returns it with what is left of the line.
 ///
-/// It takes the line by value, so that callers keep theirs in registers.
+/// It takes the line by value, so callers keep theirs in registers.
 #[tactic(auto, unfolding(crate::specs::Text::Words::number_at))]
 #[inline(never)]
 fn any_number(line: Option<&[u8]>, most: u64) -> (Result<u64, Flaw>, Option<&[u8]>)

@@ -6,7 +6,7 @@ use Rattle.monk_samples.specs.Crews.{IsOf}
 use Rattle.monk_samples.specs.Wholes.{IsSame, AreSame}
 use Rattle.monk_samples.proofs.closing.meet_all.Given as goal
 
--- those that have met, and those that come
+-- the passes that have met, and those still to come
 abbrev pub invariant-loop-pass : goal.invariant-loop-pass
 invariant-loop-pass g l = (one : Token) × (met : List Token)
     × (vec_items l.fn.passes ≡ one ∷ met ++ into_iter_items l.pass-iterator)

@@ -4,7 +4,7 @@ use Rattle.monk_hall.specs.Tokens.{Token}
 use Rattle.monk_samples.proofs.EndLaws.{HaveJoined}
 use Rattle.monk_samples.proofs.crew.join_all.Given as goal
 
--- those before the threads that are still to be joined
+-- the threads that were joined, and those still to be joined
 abbrev pub invariant-loop-shift : goal.invariant-loop-shift
 invariant-loop-shift g l = (done : List Token)
     × (map (λ s. s.promise.pass.value) (vec_items l.fn.crew) ≡ done

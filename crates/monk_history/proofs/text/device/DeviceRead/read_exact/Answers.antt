@@ -7,7 +7,7 @@ use borrow.Rule.Slice.PartMut.{put_mid, post_of}
 use lib.Seq.{take-add, take-append-le}
 use Rattle.monk_history.proofs.text.device.DeviceRead.read_exact.Goals as goal
 
--- what stood in front, and behind it what is new up to b
+-- the old front, and after it what is new up to b
 take_split : (a b : ℕ) (old new : List ℕ) → a ≤ b → take a new ≡ take a old
     → take a old ++ slice_range new a b ≡ take b new
 take_split a b old new h front =
