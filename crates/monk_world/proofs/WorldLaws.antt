@@ -316,8 +316,6 @@ module _ (k : Rules) (o : Object) (w : WorldWords) (f : FloorView) (v : WorldVie
       ⊎_elim (λ l. subst (λ (n : ℕ). j < n) (sym old.seats_are) l)
       (λ l. absurd (omega (arith, six, old.sound.is_sound.outside j l))) (cases_lt j f.seats)
 
--- the floor comes out
-
 -- a world before any step
 
 none_of : (j : ℕ) → events_of [] j ≡ []
