@@ -20,6 +20,7 @@ mod StepCases
 mod StoredLaws
 mod BoundLaws
 mod DoneLaws
+mod StateSteps
 mod WorldLaws
 mod PlayLaws
 mod RecordLaws

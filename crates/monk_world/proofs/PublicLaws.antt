@@ -23,4 +23,5 @@ pub use Rattle.monk_world.proofs.SoundFloor.{stays}
 -- From tests to facts, and back
 pub use Rattle.monk_world.proofs.TestLaws.{names_chosen}
 -- From the change of the words and the floor to a step of the state
-pub use Rattle.monk_world.proofs.WorldLaws.{active_is, opening_kept}
+pub use Rattle.monk_world.proofs.WorldLaws.{opening_kept}
+pub use Rattle.monk_world.proofs.StateSteps.{active_is}

@@ -7,6 +7,7 @@
 
 mod answer;
 mod command;
+mod entry;
 mod home;
 pub mod laws;
 mod place;
@@ -19,8 +20,9 @@ mod world;
 
 pub use answer::Answer;
 pub use command::Command;
+pub use entry::record_entry;
 pub use home::Home;
 pub use place::Place;
 pub use play::{MOST_COMMANDS, PlayLines, one_play_each, read_play};
 pub use source::Source;
-pub use world::{World, record_entry};
+pub use world::World;

@@ -2,20 +2,17 @@ ghost use Rattle.std.specs.Prelude.{◌≡◌, ◌<◌, ◌≤◌, length, Optio
 ghost use Rattle.monk_floor.specs.Making.{make_refusal, IsRefused};
 ghost use Rattle.monk_floor.specs.View.{monitor_of};
 ghost use Rattle.monk_history.specs.Limits.{most_lines};
-ghost use Rattle.monk_history.specs.Meaning.Counts.{left_of};
-ghost use Rattle.monk_history.specs.Meaning.Reasons.{IsAllowed};
-ghost use Rattle.monk_history.specs.Meaning.Turn.{turn};
-ghost use Rattle.monk_world.specs.State.{with_event};
 ghost use Rattle.monk_history.specs.Meaning.Legal.{IsLegal};
 ghost use Rattle.monk_world.specs.Records.{IsRecordedBy, IsTakenBy, KeepsVersion};
 ghost use Rattle.monk_world.specs.Runs.{IsWellLed, opening_state};
-ghost use Rattle.monk_world.specs.StepTable.{IsStep, IsDone, out_event, refusal, left_for, may_be_told};
+ghost use Rattle.monk_world.specs.StepTable.{IsStep, IsDone, refusal, left_for, may_be_told};
 ghost use Rattle.monk_world.specs.Telling.{IsLed};
 ghost use Rattle.monk_world.specs.WorldViews.{state_of_view};
 ghost use Rattle.monk_world.specs.Shown.{is_granted};
 
 use crate::answer::Answer;
 use crate::command::Command;
+use crate::entry::record_entry;
 use crate::home::Home;
 use crate::place::Place;
 use crate::play::PlayLines;
@@ -23,7 +20,7 @@ use crate::source::Source;
 use crate::telling::{is_in_range, is_offered, left_for, may_be_told};
 use crate::words::WorldWords;
 use monk_floor::{Floor, MakeFault};
-use monk_history::{Event, Next, Via};
+use monk_history::{Event, Next};
 use monk_kinds::{Kind, Pick, rules_of};
 use monk_object::{Guarded, Op};
 use std::alloc::Global;
@@ -123,8 +120,7 @@ impl<K: Kind, T: Guarded> World<K, T> {
         }
     }
 
-    /// Whether the grant that a seat waits for is there: in the place of its ticket or, if the seat is inside, in its
-    /// own place.
+    /// Whether a seat's grant is there: in the place of its ticket or, if the seat is inside, in its own place.
     pub fn is_granted(&self, seat: u8) -> bool
         ensures { result ≡ is_granted (state_of_view self.now) seat }
     {
@@ -399,23 +395,5 @@ impl<K: Kind, T: Guarded> World<K, T> {
             .floor
             .plain_signal_wait(seat, cond, wait_cond, pick, known);
         self.words.floor_in(seat, next, Home::Inner)
-    }
-}
-
-/// Records the event with which the floor comes out to a seat: its enter or its resume.
-#[inline(always)]
-pub fn record_entry<K: Kind, T: Guarded>(floor: &mut Floor<K, T>, seat: u8, source: Source)
-    requires allowed { IsAllowed (monitor_of K.rules T.meaning floor.old) floor.old.history
-        (out_event seat source (turn floor.old.history)) }
-    requires seat { seat < floor.old.seats }
-    requires left { 0 < left_of floor.old.budget floor.old.history seat }
-    ensures { floor.new ≡ with_event floor.old (out_event seat source (turn floor.old.history)) }
-{
-    match source {
-        Source::Free(_) => floor.enter(seat, Via::Free),
-        Source::Granted(_) => floor.enter(seat, Via::Handed),
-        Source::Called => {
-            floor.resume(seat);
-        }
     }
 }

@@ -23,7 +23,7 @@ use Rattle.monk_history.specs.declared.event.Turn.{Turn}
 use Rattle.monk_history.specs.declared.event.Turn.TheVariants.{Open, Due, Owned}
 use Rattle.monk_history.specs.declared.event.Via.TheVariants.{Free, Handed}
 use Rattle.monk_history.proofs.MeaningLaws.TestLaws.{and_left, and_right}
-use Rattle.monk_history.proofs.MeaningLaws.ReleaseLaws.{seat_in_range}
+use Rattle.monk_history.proofs.MeaningLaws.QueueSeats.{seat_in_range}
 use Rattle.monk_history.proofs.MeaningLaws.CallLaws.{may_enter_free, may_enter_handed}
 
 open_is : (t : Turn) → is_open t ≡ true → t ≡ Open

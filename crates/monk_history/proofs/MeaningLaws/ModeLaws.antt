@@ -23,7 +23,7 @@ use Rattle.monk_history.specs.declared.event.Next.{Next}
 use Rattle.monk_history.specs.declared.event.Next.TheVariants.{Stay, Entry, Waiter, Signaller, Until as UntilSeat}
 use Rattle.monk_history.proofs.MeaningLaws.TestLaws.{and_left, and_right}
 use Rattle.monk_history.proofs.MeaningLaws.StepLaws.{situation-none}
-use Rattle.monk_history.proofs.MeaningLaws.ReleaseLaws.{legal_induction, signals_none}
+use Rattle.monk_history.proofs.MeaningLaws.QueueSeats.{legal_induction, signals_none}
 
 -- the rules of a non-blocking kind
 pub record IsNonBlocking (k : Rules) : Type 0 where

@@ -30,8 +30,10 @@ use Rattle.monk_history.proofs.MeaningLaws.TestLaws.{and_left, and_right}
 use Rattle.monk_history.proofs.MeaningLaws.TurnLaws.{turn-push, inside-push}
 use Rattle.monk_history.proofs.MeaningLaws.LegalLaws.{legal-push}
 use Rattle.monk_history.proofs.MeaningLaws.CountLaws.{events_of-push, length-events_of-push, enters_of-push, granted_of-push}
-use Rattle.monk_history.proofs.MeaningLaws.StandingLaws.{times-append, legal_placed}
-use Rattle.monk_history.proofs.MeaningLaws.ReleaseLaws.{front_times, serves_times, caller_signals, times_filter, caller_apart}
+use Rattle.monk_history.proofs.MeaningLaws.StandingLaws.{legal_placed}
+use Rattle.monk_history.proofs.MeaningLaws.QueueCounts.{times-append}
+use Rattle.monk_history.proofs.MeaningLaws.ReleaseLaws.{serves_times, caller_signals, caller_apart}
+use Rattle.monk_history.proofs.MeaningLaws.QueueSeats.{front_times, times_filter}
 
 -- what one more event counts
 pub counts_after : (h : List Event) (e : Event) → CountsAfter h e

@@ -27,8 +27,10 @@ use Rattle.monk_history.specs.declared.event.From3.{From3}
 use Rattle.monk_history.specs.declared.event.From3.TheVariants.{Waiter as FromWaiter, Signaller as FromSignaller, Until as FromUntil}
 use Rattle.monk_history.specs.declared.event.Next.{Next}
 use Rattle.monk_history.specs.declared.event.Next.TheVariants.{Stay, Entry, Waiter, Signaller, Until as UntilSeat}
-use Rattle.monk_history.proofs.MeaningLaws.ReleaseLaws.{front_absent, caller_apart, legal_sorted, sorted_queues}
-use Rattle.monk_history.proofs.MeaningLaws.StandingLaws.{times-append, legal_placed}
+use Rattle.monk_history.proofs.MeaningLaws.ReleaseLaws.{caller_apart}
+use Rattle.monk_history.proofs.MeaningLaws.QueueSeats.{front_absent, legal_sorted, sorted_queues}
+use Rattle.monk_history.proofs.MeaningLaws.StandingLaws.{legal_placed}
+use Rattle.monk_history.proofs.MeaningLaws.QueueCounts.{times-append}
 use Rattle.monk_history.proofs.MeaningLaws.ModeLaws.{IsNonBlocking, non_blocking, legal_alone, IsBlocking, legal_emptied, legal_unsignalled}
 
 le_no : (x y : ℕ) → y < x → nat_le x y ≡ false

@@ -24,7 +24,7 @@ use Rattle.monk_history.specs.declared.event.Event.TheVariants.{SignalAll, Signa
 use Rattle.monk_history.specs.declared.event.Next.{Next}
 use Rattle.monk_history.specs.declared.event.Next.TheVariants.{Stay, Entry, Waiter, Signaller, Until as UntilSeat}
 use Rattle.monk_history.proofs.MeaningLaws.StepLaws.{legal_situation-push}
-use Rattle.monk_history.proofs.MeaningLaws.ReleaseLaws.{legal_sorted, sorted_queues}
+use Rattle.monk_history.proofs.MeaningLaws.QueueSeats.{legal_sorted, sorted_queues}
 use Rattle.monk_history.proofs.MeaningLaws.PathLaws.{parts, parts_are}
 
 -- both inner queues are empty

@@ -30,9 +30,11 @@ pub use Rattle.monk_history.proofs.MeaningLaws.PathLaws.{signal_stays, signaller
 -- If entry is chosen, nobody could be chosen from a queue, unless somebody is known to wait for entry
 pub use Rattle.monk_history.proofs.MeaningLaws.QuietLaws.{quiet_after}
 -- A call that may be made, with the choice by the wish rules, is allowed; and which seats are in the queues
-pub use Rattle.monk_history.proofs.MeaningLaws.ReleaseLaws.{IsInOrder, IsSeated}
-pub use Rattle.monk_history.proofs.MeaningLaws.ReleaseLaws.{chosen_allowed, legal_order, legal_seated}
-pub use Rattle.monk_history.proofs.MeaningLaws.ReleaseLaws.{seat_in_range, times_le_conditions}
+pub use Rattle.monk_history.proofs.MeaningLaws.ReleaseLaws.{IsInOrder}
+pub use Rattle.monk_history.proofs.MeaningLaws.QueueSeats.{IsSeated}
+pub use Rattle.monk_history.proofs.MeaningLaws.ReleaseLaws.{chosen_allowed, legal_order}
+pub use Rattle.monk_history.proofs.MeaningLaws.QueueSeats.{legal_seated}
+pub use Rattle.monk_history.proofs.MeaningLaws.QueueSeats.{seat_in_range, times_le_conditions}
 -- The front of the signaller queue
 pub use Rattle.monk_history.proofs.MeaningLaws.SignallerLaws.{front_is_taken}
 -- Where the seats of a legal history are

@@ -1,5 +1,5 @@
 use Rattle.monk_world.specs.declared.command.Command.TheVariants as command
-use Rattle.monk_world.proofs.WorldLaws as world
+use Rattle.monk_world.proofs.StateSteps as world
 use Rattle.monk_world.proofs.world.World.arrive.Goals as goal
 
 pub arrive-requires-clause-drawn : goal.arrive-requires-clause-drawn

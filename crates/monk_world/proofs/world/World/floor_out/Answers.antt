@@ -1,6 +1,6 @@
 use Rattle.std.proofs.Common.{rules, sym, ◌∙◌}
 use Rattle.monk_world.specs.declared.command.Command.TheVariants as command
-use Rattle.monk_world.proofs.WorldLaws as world
+use Rattle.monk_world.proofs.StateSteps as world
 use Rattle.monk_world.proofs.world.World.floor_out.Goals as goal
 
 pub record_entry-requires-clause-allowed : goal.record_entry-requires-clause-allowed

@@ -3,7 +3,7 @@ use Rattle.monk_history.specs.declared.event.Next.{Next}
 use Rattle.monk_history.specs.declared.event.Next.TheVariants as next
 use Rattle.monk_world.specs.declared.command.Command.TheVariants as command
 use Rattle.monk_world.specs.declared.place.Place.TheVariants as place
-use Rattle.monk_world.proofs.WorldLaws as world
+use Rattle.monk_world.proofs.StateSteps as world
 use Rattle.monk_world.proofs.world.World.grant.Goals as goal
 
 pub ticket_grant-requires-clause-ticket : goal.ticket_grant-requires-clause-ticket

@@ -1,5 +1,5 @@
 use Rattle.std.proofs.Common.{sym, ◌∙◌}
-use Rattle.monk_world.proofs.WorldLaws as world
+use Rattle.monk_world.proofs.StateSteps as world
 use Rattle.monk_world.proofs.world.World.is_granted.Goals as goal
 
 pub is_ticket_granted-requires-clause-ticket : goal.is_ticket_granted-requires-clause-ticket

@@ -3,7 +3,7 @@ use Rattle.monk_history.specs.declared.event.Event.TheVariants.{Signal}
 use Rattle.monk_history.specs.declared.event.Next.TheVariants as next
 use Rattle.monk_world.specs.declared.command.Command.TheVariants as command
 use Rattle.monk_world.specs.declared.home.Home.TheVariants as home
-use Rattle.monk_world.proofs.WorldLaws as world
+use Rattle.monk_world.proofs.StateSteps as world
 use Rattle.monk_world.proofs.world.World.signal.Goals as goal
 
 pub plain_signal-next-requires-clause-call : goal.plain_signal-next-requires-clause-call

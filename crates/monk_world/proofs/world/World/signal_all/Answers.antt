@@ -1,7 +1,7 @@
 use Rattle.std.proofs.Common.{refl}
 use Rattle.monk_history.specs.declared.event.Event.TheVariants.{SignalAll}
 use Rattle.monk_world.specs.declared.command.Command.TheVariants as command
-use Rattle.monk_world.proofs.WorldLaws as world
+use Rattle.monk_world.proofs.StateSteps as world
 use Rattle.monk_world.proofs.world.World.signal_all.Goals as goal
 
 pub plain_signal_all-requires-clause-call : goal.plain_signal_all-requires-clause-call

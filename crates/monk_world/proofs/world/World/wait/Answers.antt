@@ -3,7 +3,7 @@ use Rattle.monk_history.specs.declared.event.Event.TheVariants.{Wait}
 use Rattle.monk_history.specs.declared.event.Next.TheVariants as next
 use Rattle.monk_world.specs.declared.command.Command.TheVariants as command
 use Rattle.monk_world.specs.declared.home.Home.TheVariants as home
-use Rattle.monk_world.proofs.WorldLaws as world
+use Rattle.monk_world.proofs.StateSteps as world
 use Rattle.monk_world.proofs.world.World.wait.Goals as goal
 
 pub plain_wait-next-requires-clause-call : goal.plain_wait-next-requires-clause-call
