@@ -10,7 +10,7 @@ use Rattle.monk_object.specs.Object.{Object}
 use Rattle.monk_history.specs.Meaning.Untils.{ready_of}
 use Rattle.monk_history.specs.Meaning.Turn.{turn_by}
 use Rattle.monk_history.specs.declared.event.Next.{Next}
-use Rattle.monk_history.specs.declared.event.Next.TheVariants.{Stay, Entry, Waiter, Signaller}
+use Rattle.monk_history.specs.declared.event.Next.TheVariants.{Stay, Entry, Waiter, Signaller, Until as UntilSeat}
 use Rattle.monk_history.specs.Meaning.Reasons.{is_open, is_due, is_owned_by}
 use Rattle.monk_history.specs.declared.event.Turn.{Turn}
 use Rattle.monk_history.specs.declared.event.Turn.TheVariants.{Open, Due, Owned}

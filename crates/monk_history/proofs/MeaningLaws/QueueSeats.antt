@@ -151,7 +151,7 @@ legal_sorted m h l =
 
 pub sorted_queues : (k : Rules) (o : Object) (t : Situation) (e : Event) → IsSorted k t → is_offered k e ≡ true
     → IsQueuesOf k (queues_at o t e)
-pub sorted_queues k o t e s a = record {
+sorted_queues k o t e s a = record {
   ready = λ h. ap (ready_of o t.state) (s.untils h);
   waiters = λ h. ap (λ ws. ws ++ serves t.condition e) (s.waiters h) ∙ serves_none k.mode t.condition e h a;
   signallers = λ h. ap (λ ws. ws ++ signals t.condition e) (s.signallers h)

@@ -26,7 +26,7 @@ use Rattle.monk_history.specs.declared.event.Event.{Event}
 use Rattle.monk_history.specs.declared.event.Event.TheVariants.{Enter, Act, Leave, Wait, Signal, SignalLeave, Until, Resume}
 use Rattle.monk_history.specs.declared.event.Event.TheVariants.{SignalAll, SignalWait}
 use Rattle.monk_history.specs.declared.event.Next.{Next}
-use Rattle.monk_history.specs.declared.event.Next.TheVariants.{Stay, Entry, Waiter, Signaller}
+use Rattle.monk_history.specs.declared.event.Next.TheVariants.{Stay, Entry, Waiter, Signaller, Until as UntilSeat}
 use Rattle.monk_history.specs.declared.event.Turn.{Turn}
 use Rattle.monk_history.specs.declared.event.Turn.TheVariants.{Open, Due, Owned}
 use Rattle.monk_history.specs.declared.event.From3.{From3}
