@@ -45,7 +45,7 @@ fn workers_run_side_by_side(rt: HostRuntime) -> Result<(), Fail> {
         second: AtomicBool::new(false),
         missed: AtomicBool::new(false),
     };
-    // Late, where a worker has waited for the other to end.
+    // The run is late if a worker waited for the other to end.
     let outcome = run::<Pb, _, Meeting>(&rt, rt.alloc(), Sample::Buffer, 2, 1, &meeting)?;
     assert!(rt; outcome.totals == [1, 1, 1, 1]);
     Ok(())

@@ -3,7 +3,7 @@ use monk_kinds::Pb;
 use monk_samples::{Gate, RunFault, Sample, run};
 use std::sync::atomic::{AtomicBool, AtomicU32, Ordering};
 
-/// A gate that counts how often it is asked, and says no to each of two seats when it first asks for the second round.
+/// A gate that counts how often it is asked. To each of two seats it says no when it first asks for the second round.
 #[derive(Drop)]
 struct OnceShut {
     asked: AtomicU32,
