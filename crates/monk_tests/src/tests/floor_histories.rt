@@ -69,7 +69,7 @@ fn looks<K: Kind>(floor: &Floor<K, Buffer>) -> (u32, u32, bool, u32)
     )
 }
 
-/// Whether the floor answers rightly after each half of a hand-over.
+/// Whether the floor gives the right answers after each half of a hand-over.
 fn tells_of_both(rt: &HostRuntime, floor: &mut Floor<Pb, Buffer>) -> Result<bool, Fail>
     requires { IsRoom 2 2 ITEMS floor.old }
 {
@@ -94,7 +94,7 @@ fn what_a_floor_tells(rt: HostRuntime) -> Result<(), Fail> {
     Ok(())
 }
 
-/// Whether the floor answers rightly after the hand-over, and closes with its buffer and history.
+/// Whether the floor gives the right answers after the hand-over, and closes with its buffer and history.
 fn is_closed_with_it(floor: Floor<Pb, Buffer>) -> bool
     requires { IsRoom 2 2 ITEMS floor }
 {

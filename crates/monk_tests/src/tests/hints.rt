@@ -171,7 +171,7 @@ static LINE_HINTS: [Row; 14] = [
     (Task::Audit, b"monk 1 PB 2 0 buffer 1\nenter 0 free\n", ""),
 ];
 
-/// Meanings of conditions: of one that isn't there, and by predicates that some objects or none have.
+/// Meanings: of conditions that aren't there, and by predicates that some objects or none have.
 const ON_NINE: WaitsFor = WaitsFor { cond: 9, pred: 9 };
 
 const ON_TWO: WaitsFor = WaitsFor { cond: 2, pred: 1 };

@@ -32,7 +32,7 @@ fn is_front_answered(rt: &HostRuntime, front: &[u8], lines: u32) -> bool {
     matches!(is_answered(rt, &job), Ok(true))
 }
 
-/// Each front that ends with a line is legal, and any other is unreadable.
+/// Each front that ends at the end of a line is legal, and any other is unreadable.
 #[test]
 fn a_text_cut_short(rt: HostRuntime) {
     let mut lines = 0u32;

@@ -143,7 +143,7 @@ static ROWS: [Row; 12] = [
         last_unheard: None,
         end: (None, 1, 0),
     },
-    // A thread that sleeps comes in, and (next row) one that doesn't sleep comes back.
+    // A thread that sleeps comes in. In the next row one that doesn't sleep comes back.
     Row {
         lines: b"enter 0\nwait 0 0\nenter 0\n",
         misfit: Some((2, Blame::Asleep)),
@@ -258,7 +258,7 @@ fn text_of(rt: &HostRuntime, lines: &[u8]) -> Result<String, Fail> {
     Ok(text)
 }
 
-/// A log in which a signal wakes one of two, a wait runs out, and a thread wakes unasked; and its run.
+/// A log in which a signal wakes one of two, a wait runs out, and a thread wakes unasked; and its run up to the misfit.
 static LOG: &[u8] =
     b"enter 0\nwait 0 0\nenter 1\nwait 1 0\nsignal 2 0\nresume 1\nact 1 0 7 1\nbroadcast 1 0\nleave 1\nenter 2\nwait 2 0\nlapse 2\nwait 2 0\nresume 2\nleave 1\n";
 

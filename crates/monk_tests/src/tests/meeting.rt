@@ -5,7 +5,7 @@ use std::hint::spin_loop;
 use std::sync::atomic::{AtomicBool, Ordering};
 use std::test::Fail;
 
-/// How often a worker looks for the other, with a pause each time: some seconds long.
+/// How often a worker looks for the other, with a pause each time: some seconds in all.
 const MOST_LOOKS: u32 = 100_000_000;
 
 /// A gate at which each of two workers has to be there before the other may go on.

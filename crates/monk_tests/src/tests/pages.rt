@@ -153,7 +153,7 @@ fn thousand_visits(alloc: Global) -> Result<String, AllocError> {
     Ok(text)
 }
 
-/// Returns into how many pieces the turns of the steps divide the page of the widest window.
+/// Returns the number of pieces into which the steps divide the page of the widest window.
 fn pieces_of_widest(alloc: Global, text: &str) -> usize {
     let Ok(window) = Window::asked(Some(1), Some(2000)) else {
         return 0;

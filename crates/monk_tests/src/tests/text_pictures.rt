@@ -1,4 +1,4 @@
-//! Pictures as text that options alone don't ask for: of one column, and with names.
+//! Pictures as text that options alone can't ask for: of one column, and with names.
 
 use crate::tests::jobs::Expected;
 use monk_commands::Task;
