@@ -8,12 +8,12 @@ from typing import Any, Dict, List
 
 from functions import Function, first_line, functions_of, read
 
-# What the second function's name has more, once for the second and twice for the third.
+# What is added to the function's name, once for the second function and twice for the third.
 AGAIN = "_again"
 
 
 def put_again(crate: Any, room: str, edits: List[Any]) -> Dict[Any, Function]:
-    """Puts one more function like its own into the copy for each wrong body, and gives these functions by their wrong
+    """Puts one more function into the copy for each wrong body, like its own. Returns these functions by their wrong
     bodies."""
     more: Dict[Any, str] = {}
     for edit in edits:
@@ -25,8 +25,8 @@ def put_again(crate: Any, room: str, edits: List[Any]) -> Dict[Any, Function]:
 
 
 def put_text(crate: Any, room: str, edit: Any, more: str) -> None:
-    """Puts the function's text, with the wrong body and under its new name, before the function, whose contract may be
-    another wrong body's in the copy."""
+    """Puts the function's text, with the wrong body and under its new name, before the function. (The function's own
+    contract may be another wrong body's in the copy.)"""
     function = edit.function
     whole = read(f"{crate.folder}/{function.path}")
     wrong = edit.texts[function.path]

@@ -1,4 +1,4 @@
-"""The program as it is asked by words: with a text on standard input, at a terminal, and with a standard stream that
+"""Calls the program by its words: with a text on standard input, at a terminal, and with a standard stream that
 fails."""
 from __future__ import annotations
 
@@ -11,7 +11,7 @@ TOP = os.path.dirname(os.path.dirname(os.path.dirname(os.path.abspath(__file__))
 MONK = os.environ.get("MONK") or subprocess.check_output([os.path.join(TOP, "checks", "program")], text=True).strip()
 # What is printed on each stream, if it could be, and the status.
 Answer = Tuple[str, Optional[str], int]
-# What was asked, and what is wanted and told.
+# What was asked, what is wanted, and what was answered.
 Asked = Tuple[str, object, object]
 
 HISTORY, PLAY = "examples/hoare_handover.history", "examples/ticket_at_the_drop.play"
@@ -40,22 +40,22 @@ COMMANDS = [
     "hasty PB 2 1",
 ]
 
-# those that read standard input where no file is named
+# those that read standard input if no file is named
 READERS = ["audit", "play", "upgrade", "fit", "fit --kind PB", "trace", "explain", "explain --kind PB", "draw", "page"]
 READERS += ["complete --kind NPNB", "complete"]
 
-# of a standard stream that fails
+# the answer if a standard stream fails
 FAILED = ("", "file\n", 4)
 
 
 def ran(words: str, given: str = "") -> Tuple[str, str, int]:
-    """What it prints on each stream, and its status."""
+    """What the program prints on each stream, and its status."""
     done = subprocess.run([MONK, *words.split()], input=given, capture_output=True, text=True, timeout=60, cwd=TOP)
     return done.stdout, done.stderr, done.returncode
 
 
 def at_a_terminal() -> Answer:
-    """The same of a command that reads a terminal, to which a text is typed."""
+    """The same for a command that reads a terminal, at which a text is typed."""
     ours, its = pty.openpty()
     os.write(ours, b"monk 1 PB 2 0 buffer 1\nenter 0 free\n\4")
     done = subprocess.run([MONK, "audit"], stdin=its, capture_output=True, text=True, timeout=60, cwd=TOP)
@@ -65,12 +65,12 @@ def at_a_terminal() -> Answer:
 
 
 def closed(stream: int) -> Dict[str, Any]:
-    """What closes a standard stream of the program that is started."""
+    """The setting that closes a standard stream of the program that is started."""
     return {"preexec_fn": lambda: os.close(stream)}
 
 
 def failed(words: str, stream: str, **how: Any) -> Answer:
-    """What it prints on each stream, and its status, where one of its standard streams fails."""
+    """What the program prints on each stream, and its status, if one of its standard streams fails."""
     pipes: Dict[str, Any] = {"stdin": subprocess.DEVNULL, "stdout": subprocess.PIPE, "stderr": subprocess.PIPE, **how}
     if "preexec_fn" in how:
         pipes[stream] = None

@@ -65,7 +65,7 @@ class Browser:
         return received
 
     def call(self, method: str, **params: Any) -> dict[str, Any]:
-        """Calls a method of the DevTools, and gives its result."""
+        """Calls a method of the DevTools, and returns its result."""
         self.number += 1
         message: dict[str, Any] = {"id": self.number, "method": method, "params": params}
         if self.session:
@@ -111,7 +111,7 @@ class Browser:
             self.call("Input.dispatchMouseEvent", type=kind, x=x, y=y, button="left", clickCount=1)
 
     def shoot(self, path: str) -> None:
-        """A picture of the whole page."""
+        """Takes a picture of the whole page."""
         size = self.call("Page.getLayoutMetrics")["cssContentSize"]
         clip = {"x": 0, "y": 0, "width": size["width"], "height": size["height"], "scale": 1}
         shot = self.call("Page.captureScreenshot", format="png", clip=clip, captureBeyondViewport=True)

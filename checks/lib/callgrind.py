@@ -1,4 +1,4 @@
-"""How many instructions a program takes, which other work on the machine doesn't change."""
+"""Counts the instructions that a program takes. Other work on the machine doesn't change their number."""
 from __future__ import annotations
 
 import re
@@ -14,7 +14,7 @@ def is_there() -> bool:
 
 
 def run(words: List[str]) -> Tuple[int, str]:
-    """The instructions of a run, and what it printed. Its exit status is its own affair."""
+    """The instructions of a run, and what it printed. Its exit status isn't looked at."""
     done = subprocess.run(["valgrind", "--tool=callgrind", "--callgrind-out-file=/dev/null", *words],
                           capture_output=True, text=True, check=False)
     collected = COLLECTED.search(done.stderr)

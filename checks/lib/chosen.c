@@ -1,5 +1,5 @@
-/* Which of the bodies of checks/edits/tests a program has, by its number in BODY; 0, which none of them has, where
- * that isn't set. */
+/* Which of the bodies of checks/edits/tests a program has, by its number in BODY; 0 if that isn't set, which is the
+ * number of none of them. */
 #include <stdlib.h>
 
 unsigned chosen_body(void)

@@ -29,7 +29,7 @@ def edits_of(top: str, is_asked: Callable[[str, str], bool]) -> Dict[str, List[s
 
 
 def put_into(folder: str, rt: Any, edits: List[str]) -> List[str]:
-    """Puts as many of the wrong bodies into the crate's folder as can stand there side by side, and gives the
+    """Puts as many of the wrong bodies into the crate's folder as can be there side by side, and returns the
     others."""
     left: List[str] = []
     for edit in edits:
@@ -58,7 +58,7 @@ def few_that_read(crates: Iterable[Any], names: Iterable[str]) -> List[Any]:
 
 
 def errors_of(rt: Any, room: str, names: Iterable[str]) -> List[Tuple[str, str, int, str]]:
-    """What the compiler refuses of these crates in the copy: the crate, the file, the line's number and the error."""
+    """What the compiler refuses in these crates of the copy: the crate, the file, the line's number and the error."""
     found: Set[Tuple[str, str, int, str]] = set()
     for crate in few_that_read(rt.rtlib.crates_below(room), names):
         words = [rt.rtlib.RATTLE, "check", *crate.words(NO_FUNCTION, keeps=False, as_source=True)]

@@ -1,5 +1,5 @@
-"""Wrong bodies as they stand in files: each line is a word and what it says, such as `crate: monk_hall`. Behind
-`file:` come the texts to change there, `old:` and `new:` by turns, each in one line."""
+"""Wrong bodies as they are in files. Each line is a word and what it says, such as `crate: monk_hall`. After
+`file:` come the texts to change there, `old:` and `new:` in turn, each in one line."""
 from __future__ import annotations
 
 import glob
@@ -15,7 +15,7 @@ printing = threading.Lock()
 
 
 class Change(NamedTuple):
-    """A text that stands once in a file, and what stands there in its place."""
+    """A text that is once in a file, and the text that replaces it."""
     file: str
     old: str
     new: str
@@ -27,7 +27,7 @@ def say(text: str) -> None:
 
 
 def told(wrong: Iterable[str]) -> int:
-    """Says what is wrong, and gives the status."""
+    """Says what is wrong, and returns the status."""
     lines = list(wrong)
     for line in lines:
         say(line)
@@ -39,7 +39,7 @@ def name_of(path: str) -> str:
 
 
 def path_of(judge: str, name: str) -> str:
-    """Where the edit of that name stands that this judge refuses."""
+    """The path of the edit of that name that this judge refuses."""
     return os.path.join(EDITS, judge, name + ENDING)
 
 
@@ -64,7 +64,7 @@ def lines_of(text: str) -> Lines:
 
 
 def said(lines: Lines, word: str) -> Optional[str]:
-    """What the edit says behind that word first."""
+    """What the edit says in its first line with that word."""
     return next((text for of, text in lines if of == word), None)
 
 

@@ -1,4 +1,4 @@
-"""The functions of a crate: where each stands in its text, how a check is asked for it, and where its proof is."""
+"""The functions of a crate: where each is in its text, how a check is asked for it, and where its proof is."""
 from __future__ import annotations
 
 import glob
@@ -14,12 +14,12 @@ OWNER = re.compile(rf"^(?:unsafe )?impl(?:<[^{{]*?>)? {TRAIT}(?P<type>\w+)|^{PUB
 OTHER_ITEMS = r"fn |impl\b|trait |struct |enum |use |mod |ghost "
 ITEM = re.compile(rf"^ *{PUB}(?:const (?P<name>[A-Z]\w*):|{OTHER_ITEMS})", re.M)
 TYPE = re.compile(rf"^{PUB}(?:struct|enum) (\w+)", re.M)
-# What asks a check for a function, how a check names it, and the folder of its proof if that is sure.
+# The word that asks a check for a function, how a check names it, and the folder of its proof if that is sure.
 Names = Tuple[str, str, Optional[str]]
 
 
 class Function:
-    """A function of a crate: where it stands, how a check is asked for it and names it, and the folder of its proof if
+    """A function of a crate: where it is, how a check is asked for it and names it, and the folder of its proof if
     that is sure."""
 
     def __init__(self, crate: Any, path: str, span: Tuple[int, int, int], names: Names, is_free: bool) -> None:
@@ -27,7 +27,7 @@ class Function:
         self.start, self.body, self.end = span
         self.asked, named, self.folder = names
         self.named = re.compile(f"{re.escape(crate.name)}::{named}")
-        # no second function can stand beside one that a trait asks for
+        # a function that a trait asks for can't have a second one beside it
         self.may_stand_again = bool(self.folder) and is_free
 
 
@@ -42,8 +42,8 @@ def module_of(path: str) -> str:
 
 
 def functions_of(crate: Any, folder: str) -> List[Function]:
-    """The functions of the crate in this folder that have a body, but those of tests and those that a trait gives its
-    types."""
+    """The functions of the crate in this folder that have a body, but not those of tests and those that a trait gives
+    its types."""
     files = sorted(glob.glob(f"{folder}/src/**/*.rt", recursive=True))
     paths = [path for path in (os.path.relpath(file, folder) for file in files) if "/tests" not in path]
     texts = {path: read(f"{folder}/{path}") for path in paths}
@@ -51,16 +51,16 @@ def functions_of(crate: Any, folder: str) -> List[Function]:
     made = [it for path, text in texts.items() for it in functions_in(crate, path, text, types)]
     folders = [it.folder for it in made]
     for function in made:
-        # two impls of one trait for one type are told apart by a number
+        # a number distinguishes two impls of one trait for one type
         function.folder = function.folder if folders.count(function.folder) == 1 else None
     return made
 
 
 def functions_in(crate: Any, path: str, text: str, types: List[Tuple[str, str]]) -> List[Function]:
-    """Those of one file."""
+    """The functions of one file."""
     made, heads = [], list(FUNCTION.finditer(text))
     for head, until in zip(heads, [*(it.start() for it in heads[1:]), len(text)]):
-        # a line of a contract may end with a brace too, and stands further in
+        # a line of a contract may end with a brace too, and is indented further
         body = re.compile(rf"^{head[1]}(?:\S.*)?\{{\}}?$", re.M).search(text, head.start(), until)
         end = re.compile(rf"^{head[1]}\}}$", re.M)
         ends = body and (body if body[0].endswith("}") else end.search(text, body.end()))
@@ -74,7 +74,7 @@ def functions_in(crate: Any, path: str, text: str, types: List[Tuple[str, str]])
 
 def names_of(head: Match[str], owner: Optional[Match[str]], module: str,
              types: Sequence[Tuple[str, str]]) -> Optional[Names]:
-    """None for what a trait gives."""
+    """The names of the function, or None for what a trait gives."""
     name = head[2]
     if not head[1]:
         return f"{module}{name}", re.escape(f"{module}{name}"), f"{module}{name}"
@@ -82,7 +82,7 @@ def names_of(head: Match[str], owner: Optional[Match[str]], module: str,
         return None
     of_type = owner["type"]
     if not owner["trait"]:
-        # it is named by where its type stands, which may be another file
+        # it is named by where its type is, which may be another file
         stands = [where for found, where in types if found == of_type]
         whole = f"{stands[0]}{of_type}::{name}" if len(stands) == 1 else None
         return whole or f"{of_type}::{name}", re.escape(whole) if whole else rf"(.*::)?{of_type}::{name}", whole
@@ -95,21 +95,21 @@ def names_of(head: Match[str], owner: Optional[Match[str]], module: str,
 
 
 def first_line(text: str, start: int) -> int:
-    """The line at which a function begins that stands there in the text, with its attributes."""
+    """The number of the line at which the function at that place of the text begins, with its attributes."""
     lines = text[:start].split("\n")[:-1]
     above = itertools.takewhile(lambda it: it.strip() and not re.search(r"[;{}]$|^ *//", it), reversed(lines))
     return len(lines) + 1 - len(list(above))
 
 
 def changed_by(functions: List[Function], crate: Any, path: str, old: str) -> Optional[Function]:
-    """The function in whose body the text stands, or None."""
+    """The function that has the text in its contract or body, or None."""
     at = read(f"{crate.folder}/{path}").find(old)
     inside = [it for it in functions if it.path == path and it.start <= at and at + len(old) <= it.end]
     return inside[-1] if inside else None
 
 
 def is_named_alone(crate: Any, path: str, old: str, function: Function) -> bool:
-    """Whether the text stands in a constant that only this function names, in the crate's code, contracts and
+    """Whether the text is in a constant that only this function names, in the crate's code, contracts and
     definitions."""
     text = read(f"{crate.folder}/{path}")
     at = text.find(old)
@@ -130,6 +130,6 @@ def is_named_alone(crate: Any, path: str, old: str, function: Function) -> bool:
 
 
 def named_at(text: str, named: str) -> List[int]:
-    """Where a text names it, but in comments."""
+    """Where a text names it, outside of comments."""
     lines = [(it.start(), text[text.rfind("\n", 0, it.start()) + 1 : it.start()]) for it in re.finditer(named, text)]
     return [at for at, before in lines if not re.search(r"^ *(//|--)", before)]

@@ -26,8 +26,8 @@ rt = kit.rt_module()
 
 
 def said_by(judge: str, crate: str, folder: str) -> Tuple[int, str]:
-    """The status of who judges the crate whose copy stands in the folder, and what it says: checks/wakes, or the
-    compiler."""
+    """The status of the judge, checks/wakes or the compiler, over the crate whose copy is in the folder, and what it
+    says."""
     if judge == WAKES:
         words = [os.path.join(TOP, WAKES), os.path.dirname(folder)]
     else:
@@ -38,7 +38,7 @@ def said_by(judge: str, crate: str, folder: str) -> Tuple[int, str]:
 
 
 def tried(name: str) -> Tuple[bool, str]:
-    """Whether what the edit names refused it, and why not."""
+    """Whether the judge that the edit names refused it, and what to say about it."""
     text = edits.read(edits.path_of("compiler", name))
     crate, judge, file = (edits.said(edits.lines_of(text), word) or "" for word in ("crate", "refused by", "file"))
     with tempfile.TemporaryDirectory(prefix="monk-") as room:

@@ -44,27 +44,27 @@ from compiling import not_compiled
 from edits import TOP, name_of, say, told
 from functions import Function, changed_by, first_line, functions_of, is_named_alone
 
-# How many wrong bodies stand in one copy at most: one that can't be read or stated takes the others with it, and they
-# are tried again.
+# The most wrong bodies in one copy. One that can't be read or stated takes the others with it, and they are tried
+# again.
 TOGETHER = 60
 # A check takes up to this much memory, in bytes.
 ROOM = 5_000_000_000
-# What the proof of the function below it may cite or open, which a hole needs not.
+# What the proof of the function below it may cite or open, which a hole doesn't need.
 TACTIC = re.compile(r"^ *#\[tactic\(auto, [^\]]*\)\]\n(?=(?: *#\[.*\n)*\Z)", re.M)
 STATUS = re.compile(r"^fn (\S+): (.*)$", re.M)
-# The proof of a function that is taken by its contract.
-# What antt refuses in a wrong body's file of answers. Where a file has an error, a check doesn't print at length what
-# each open goal needs, which takes a fifth of its time; so a function with it is never proved, and what its own goals
-# came to is what counts.
+# What antt refuses in a wrong body's file of answers. If a file has an error, a check doesn't print at length what each
+# open goal needs, which takes a fifth of its time. So a function with it is never proved, and what its own goals came
+# to is what counts.
 NO_GOAL = "\npub no-goal : goal.no-goal\nno-goal = ?\n"
 GOALS = "use Rattle.{crate}.proofs.{dotted}.Goals as goal\n"
 OPEN = re.compile(r"^note: (src/\S+\.rt):(\d+):\d+: (it is not proved that .*)$", re.M)
+# The proof of a function that is taken by its contract.
 HOLE = """use Rattle.{crate}.proofs.{dotted}.Statement.{{statement}}
 
 pub {name}_spec : {{M : Type 1}} → statement M
 {name}_spec = ?
 """
-# How long each wrong body took in the last copy that it stood in, by its crate and name, in seconds.
+# How long each wrong body took in the last copy that had it, by its crate and name, in seconds.
 TOOK: Dict[Tuple[str, str], float] = {}
 # How many of them --slowest names.
 SLOWEST = 30
@@ -73,12 +73,12 @@ Texts = Dict[str, str]
 
 
 rt = kit.rt_module()
-# What `must_fail` gives where the prover refuses: a kit names two outcomes, or gives whether it did.
+# What `must_fail` returns if the prover refuses: a kit names two outcomes, or returns whether it did.
 REFUSALS = (rt.REFUSED, rt.AT_LIMIT) if hasattr(rt, "REFUSED") else (True,)
 
 
 class Edit:
-    """A wrong body: what it changes, and the one function whose proof has to refuse it, where that is known."""
+    """A wrong body: what it changes, and the one function whose proof has to refuse it, if that is known."""
 
     def __init__(self, functions: List[Function], crate: Any, file: str) -> None:
         self.name, self.file, self.text = name_of(file), file, edits.read(file)
@@ -90,7 +90,7 @@ class Edit:
             self.why = self.why or f"no function is {by}"
         self.places = [(it.file, it.old) for it in edits.changes(lines)]
         places = {it: changed_by(functions, crate, *it) for it in self.places} if not self.why else {}
-        # these functions it changes; one that changes more has a copy of its own
+        # the functions that it changes; a wrong body that changes more has a copy of its own
         self.changed = {it for it in places.values() if it}
         outside = [it for it, function in places.items() if not function]
         self.has_own_copy = any(not named or not is_named_alone(crate, *it, named[0]) for it in outside)
@@ -112,8 +112,8 @@ def copy_of(crate: Any, texts: Texts) -> str:
 
 
 def put_together(crate: Any, waiting: List[Edit]) -> Tuple[Texts, List[Edit], List[Edit], List[Edit]]:
-    """The copy's texts with as many of the wrong bodies as can stand in it side by side, those wrong bodies, those
-    that stand in a second function like their own, and the others."""
+    """The copy's texts with as many of the wrong bodies as can be in it side by side, these wrong bodies, those that
+    get a second function like their own, and the others."""
     texts: Texts = {}
     taken: List[Edit] = []
     again: List[Edit] = []
@@ -174,8 +174,8 @@ def refuse_an_answer(crate: Any, room: str, wrong: Set[Function]) -> None:
 
 
 def open_goals(crate: Any, room: str, said: str) -> Dict[str, List[str]]:
-    """What the check left unproved of each function of the copy that it can name: by how it is asked for it, its open
-    goals."""
+    """What the check left unproved: the open goals of each function of the copy that it can name, by the word that
+    asks for it."""
     begins: Dict[str, List[Tuple[int, Function]]] = {}
     found: Dict[str, List[str]] = {}
     for function in functions_of(crate, room):
@@ -189,15 +189,15 @@ def open_goals(crate: Any, room: str, said: str) -> Dict[str, List[str]]:
 
 
 def law_refused(edit: Edit, said: str) -> Optional[str]:
-    """Why the law that the wrong body names is refused in the file that it changes; None where it isn't."""
+    """Why the law that the wrong body names is refused in the file that it changes; None if it isn't."""
     path, law = edit.places[0][0], edit.law or ""
     found = re.search(rf"^(?:\./)?{re.escape(path)}:\d+:\d+: error: `{re.escape(law)}`: .*$", said, re.M)
     return found[0] if found else None
 
 
 def why_refused(crate: Any, name: str, status: str, goals: Optional[List[str]], lemma: Optional[str]) -> Optional[str]:
-    """Why the function's own proof is refused, or the lemma that the wrong body names, and not only another's on which
-    it rests; None where it isn't."""
+    """Why the function's own proof is refused, or the lemma that the wrong body names; None if it isn't, or if only
+    another proof is refused on which it rests."""
     proofs = f"`Rattle.{crate.name}.proofs."
     own = f"{proofs}{name.removeprefix(crate.name + '::').replace('::', '.')}."
     rests_on_own = own in status or lemma and f"{proofs}{lemma}`" in status
@@ -217,8 +217,8 @@ def checked(crate: Any, room: str, wrong: Set[Function], kept: str) -> str:
 
 def try_together(crate: Any, texts: Texts, taken: List[Edit], again: List[Edit], kept: str,
                  at_length: bool) -> Dict[Edit, str]:
-    """Which of them the prover refuses by the proofs of their own functions, with what it says; it may tell open goals
-    at length."""
+    """Which of them the prover refuses by the proofs of their own functions, with what it says. With `at_length` it
+    prints open goals at length."""
     room, began = copy_of(crate, texts), time.time()
     try:
         stands = {it: it.function for it in taken if it.function} | put_again(crate, room, again)
@@ -246,7 +246,7 @@ def try_together(crate: Any, texts: Texts, taken: List[Edit], again: List[Edit],
 
 
 def try_by_copies(crate: Any, asked: List[Edit], kept: str, at_length: bool) -> List[Edit]:
-    """Tries wrong bodies together, copy after copy, and gives those that no copy has decided."""
+    """Tries wrong bodies together, copy after copy, and returns those that no copy has decided."""
     alone: List[Edit] = []
     waiting = [asked] if asked else []
     while waiting:
@@ -266,7 +266,7 @@ def try_by_copies(crate: Any, asked: List[Edit], kept: str, at_length: bool) -> 
 
 
 def try_crate(crate: Any, asked: List[Edit]) -> List[str]:
-    """Tries all wrong bodies of the crate, and gives those that are not refused."""
+    """Tries all wrong bodies of the crate, and returns those that are not refused."""
     failed = [it for it in asked if it.why]
     for edit in failed:
         say(f"{crate.name}/{edit.name}: BAD EDIT: {edit.why}")
@@ -275,7 +275,7 @@ def try_crate(crate: Any, asked: List[Edit]) -> List[str]:
         if os.path.isdir(f"{crate.folder}/out/incremental"):
             shutil.copytree(f"{crate.folder}/out/incremental", kept, dirs_exist_ok=True)
         alone = [it for it in tried if not it.function]
-        # of some open goals nothing is told but at length
+        # (some open goals are printed only at length)
         left = try_by_copies(crate, [it for it in tried if it.function], kept, False)
         alone += try_by_copies(crate, left, kept, True)
         for edit in alone:
@@ -286,7 +286,7 @@ def try_crate(crate: Any, asked: List[Edit]) -> List[str]:
 
 
 class Asked:
-    """The crates and the wrong bodies that the words ask for; all where they name none."""
+    """The crates and the wrong bodies that the words ask for; all if they name none."""
 
     def __init__(self, words: List[str]) -> None:
         self.flags = {it for it in words if it.startswith("--")}
@@ -359,8 +359,8 @@ def main(words: List[str]) -> int:
 
 
 def try_all(crates: List[Any], found: Dict[str, List[Edit]]) -> List[str]:
-    """Tries all, and gives those that are not refused. The crate with the most to try begins, and as many are tried
-    side by side as there are processors and there is memory."""
+    """Tries all, and returns those that are not refused. The crate with the most to try begins. As many crates are
+    tried side by side as there are processors, and memory for them."""
     first = sorted(crates, key=lambda it: -len(found[it.name]) * int(it.count(rb"\n")))
     memory = os.sysconf("SC_PAGE_SIZE") * os.sysconf("SC_PHYS_PAGES")
     with ThreadPoolExecutor(max(1, min(os.cpu_count() or 1, memory // ROOM))) as pool:

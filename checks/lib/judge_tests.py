@@ -35,7 +35,7 @@ from refusing import Refusing
 
 DECLARED = '\nunsafe extern "C" {\n    safe fn chosen_body() -> u32;\n}\n'
 PROGRAM = "monk"
-# What a body begins with: what must fail with it. And what else is said of it once.
+# The words with which a body begins: what must fail with it. And the words that it has once at most.
 BEGINS, SAID = ("test", "takes", "hangs", "script"), ("takes", "hangs", "thread", "script", "says")
 # The modules of tests that checks/fail_alloc wants, by crate.
 WANTED = {"monk_tests": ["refused", "objects", "floor_histories", "full_floor", "worlds", "halls"]}
@@ -66,7 +66,7 @@ class Body:
 
 
 def bodies_of(name: str) -> List[Body]:
-    """The bodies of an edit: each begins with what must fail with it, and has the file of the one before if it names
+    """The bodies of an edit. Each begins with what must fail with it, and has the file of the one before if it names
     none."""
     lines = edits.lines_of(edits.read(edits.path_of("tests", name)))
     crate = edits.said(lines, "crate") or ""
@@ -84,7 +84,7 @@ def bodies_of(name: str) -> List[Body]:
 
 
 def texts_with(bodies: List[Body]) -> Dict[str, str]:
-    """The files in which all bodies stand side by side, each behind its number."""
+    """The files with all bodies side by side, each chosen by its number."""
     files: Dict[str, str] = {}
     for body in bodies:
         for file, old, new in body.changes:
@@ -113,7 +113,7 @@ def copy_with(bodies: List[Body], folder: str) -> None:
 
 
 def built(crate: str, bodies: List[Body], folder: str, also: List[str]) -> str:
-    """The program of the crate's tests, with these modules besides those of the bodies, or monk's own; of the copy."""
+    """The program of the crate's tests, with the modules of the bodies and of `also`, or monk's own, from the copy."""
     program = os.path.join(folder, "programs", crate)
     words = [os.path.join(folder, "checks", "program"), "--link=" + os.path.join(folder, "chosen.o")]
     if crate == PROGRAM:
@@ -129,7 +129,7 @@ def built(crate: str, bodies: List[Body], folder: str, also: List[str]) -> str:
 
 
 def ends(words: List[str], number: int, **more: str) -> Tuple[Optional[int], str]:
-    """How it ends with the body of that number: its status, and what it said; no status if it doesn't end in time."""
+    """How the words end with the body of that number: the status, and what was said; no status if not in time."""
     try:
         done = subprocess.run(words, stdin=subprocess.DEVNULL, timeout=SECONDS, capture_output=True, text=True,
                               errors="replace", env={**os.environ, "BODY": str(number), **more}, check=False)
@@ -139,8 +139,8 @@ def ends(words: List[str], number: int, **more: str) -> Tuple[Optional[int], str
 
 
 def is_refused_by(program: str, test: str, number: int, says: str = "") -> bool:
-    """Whether the test fails with the body of that number, and says so: it answers a fault, or an assertion stops
-    it."""
+    """Whether the test fails with the body of that number, by an answer or an assertion, and says what it must
+    say."""
     status, said = ends([program, "tests::" + test], number)
     if status == 0 and "test result: ok" in said:
         return False
@@ -150,13 +150,13 @@ def is_refused_by(program: str, test: str, number: int, says: str = "") -> bool:
 
 
 class Judge:
-    """Who tries the bodies: over a copy with all of them, and its programs, by crate."""
+    """Tries the bodies, by a copy with all of them and its programs, one for each crate."""
 
     def __init__(self, folder: str, programs: Dict[str, str]) -> None:
         self.folder, self.programs, self.refusing = folder, programs, Refusing(folder)
 
     def by(self, body: Body) -> str:
-        """What refuses it."""
+        """What refuses the body."""
         if body.script:
             return self.by_script(body, body.script)
         if body.hangs:
@@ -172,8 +172,8 @@ class Judge:
         return script
 
     def is_waiting(self, body: Body, test: str, number: int, thread: int) -> bool:
-        """Whether the test doesn't end with the body of that number if the start of that thread is refused; 0: of
-        none."""
+        """Whether the test doesn't end with the body of that number if the start of that thread is refused (0: of
+        none)."""
         try:
             self.refusing.run([self.programs[body.crate], "tests::" + test], thread=thread, BODY=str(number))
         except subprocess.TimeoutExpired:

@@ -1,5 +1,5 @@
-/* Runs a command, and writes to the file that MEASURE names how much memory it had at most, in KB. A process that is
-   started counts the memory of who starts it as its own: this one is small. */
+/* Runs a command, and writes to the file that MEASURE names how much memory it had at most, in KB. A process counts the
+   memory of the process that started it as its own, but this one is small. */
 #include <stdio.h>
 #include <stdlib.h>
 #include <sys/resource.h>

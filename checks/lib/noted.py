@@ -1,6 +1,6 @@
-"""Which crates' wrong bodies the prover has refused as they stand now: checks/refused has a line for each, its name
-and the sum of what it is made of, and of what the crates below it are made of. Comments count too, since a sum can't
-tell them from code."""
+"""The crates whose wrong bodies the prover has refused as they are now. checks/refused has a line for each: its name,
+and the sum of what it and the crates below it are made of. Comments count too, because a sum can't tell them from
+code."""
 from __future__ import annotations
 
 import hashlib
@@ -14,7 +14,7 @@ PARTS = ("src", "specs", "proofs")
 
 
 def files_of(folder: str) -> Iterator[str]:
-    """All files below the folder, without those of tests, which no wrong body stands in."""
+    """All files below the folder, but not those of tests, which have no wrong bodies."""
     for place, folders, files in os.walk(folder):
         folders[:] = sorted(it for it in folders if it != "tests")
         yield from (os.path.join(place, it) for it in sorted(files))
@@ -38,7 +38,7 @@ def notes() -> Dict[str, str]:
 
 
 def is_noted(crate: Any) -> bool:
-    """Whether all wrong bodies of the crate were refused as it stands."""
+    """Whether all wrong bodies of the crate were refused as it is now."""
     return notes().get(crate.name) == sum_of(crate)
 
 

@@ -31,7 +31,7 @@ class Drive:
         self.wrong += [f"{how}: {it}" for it in found]
 
     def compare(self, step: int, how: str) -> None:
-        """Compares what each history shows now with what `monk explain` says of that step."""
+        """Compares what each history shows now with what `monk explain` says about that step."""
         for number, it in enumerate(self.histories):
             said, shown = self.said(number), max(it.first, min(step, it.last))
             found = differences(said, it.boxes(shown))
@@ -52,7 +52,7 @@ class Drive:
         self.must(key, [] if count == f"step {step} of {self.last}" else [f"{count}, not {step}"])
 
     def hide(self) -> None:
-        """With `hide what follows` the marks behind the step are hidden, and no others."""
+        """With `hide what follows` the marks after the step must be hidden, and no others."""
         self.open(f"step={self.first}&hide=1")
         for step in range(self.first, self.last + 1):
             for number, it in enumerate(self.histories):
@@ -81,7 +81,7 @@ class Drive:
         self.must("score", [] if score == (f"{right}/{asked}" if asked else "") else [f"{score}, not {right}/{asked}"])
 
     def answer(self, it: Shown, number: int, step: int, said: Told) -> bool:
-        """Answers an open question, whose page mustn't tell the answer. Whether it was right."""
+        """Answers an open question, whose page mustn't show the answer before. Returns whether it was right."""
         event, may = it.event(step), (it.choice(step) or {})["may"]
         took = seat_of(" ".join(event[RELEASES[event[0]] :]), event[1])
         allowed = [seat_of(next_, event[1]) for next_ in may]
@@ -116,7 +116,7 @@ class Drive:
         self.lanes(it)
 
     def to_each_of_seat(self, step: int) -> int:
-        """By `n` to the last event of that step's seat, and back by `b`."""
+        """Goes by `n` to the last event of that step's seat, and back by `b`."""
         it = self.histories[0]
         seat = it.event(step)[1:2]
         own = [number for number in range(it.first + 1, it.last + 1) if it.event(number)[1:2] == seat and number > step]
@@ -145,7 +145,7 @@ class Drive:
         self.must("fit", [] if not wide or scale < 0.31 else [f"{wide} are too wide"])
 
     def alone(self) -> None:
-        """By `w` one history after the other moves alone, and then all are in step again."""
+        """By `w` one history after the other must move alone, and then all must be in step again."""
         self.open(f"step={self.first}")
         for number, it in enumerate(self.histories):
             self.browser.press("w")

@@ -1,5 +1,5 @@
-"""What a page shows, read in the browser, and what it must show: by `monk explain` of a history, by the page's data of
-a log."""
+"""What a page shows, read in the browser, and what it must show: for a history by `monk explain`, for a log by the
+page's data."""
 import json
 import re
 import subprocess
@@ -50,7 +50,7 @@ def data_of(file: str) -> list[Told]:
 
 
 def explained(monk: str, lines: list[str]) -> Told:
-    """What `monk explain` says of these lines, by the words before the colons."""
+    """What `monk explain` says about these lines, by the words before the colons."""
     text = "".join(f"{line}\n" for line in lines)
     said = subprocess.run([monk, "explain"], input=text, capture_output=True, text=True, check=False).stdout
     verdict, *rest = said.splitlines()
@@ -64,7 +64,7 @@ def expected(told: Told, seats: int) -> Told:
     want["outside"] = [str(seat) for seat in range(seats) if str(seat) not in inside]
     if "until" in told:
         waits = [it.split()[0] for it in told["until"].split(",") if it.strip()]
-        # the box of the ready stands before that of all who wait
+        # the box of the ready seats is before that of all who wait
         want["until"] = [told["ready"].split(), waits]
         return want
     numbers = sorted(int(key.split()[1]) for key in told if re.fullmatch(r"condition \d+", key))
@@ -75,13 +75,13 @@ def expected(told: Told, seats: int) -> Told:
 
 
 def differences(said: Told, want: Told) -> list[str]:
-    """Where the boxes differ; a seat that is known to enter next stands in the box of entry and not outside."""
+    """Where the boxes differ. A seat that is known to enter next is in the box of entry and not outside."""
     said = {**said, "outside": sorted([*said["outside"], *said["entry"]], key=int)}
     return [f"{key}: {said[key]}, not {want[key]}" for key in want if said[key] != want[key]]
 
 
 def behind_lines(data: Told) -> list[Told]:
-    """The states of a log's page: the first, and that behind each line, with the silent steps that belong to it."""
+    """The states of a log's page: the first, and that after each line, with the silent steps that belong to it."""
     states: list[Told] = [data["start"]]
     for entry in data["steps"]:
         word = entry["told"].split()[0]
@@ -108,7 +108,7 @@ class Shown:
         return str(self.events[step - self.first - 1]["event"]).split() if step > self.first else []
 
     def choice(self, step: int) -> Told | None:
-        """What that step had to choose from, if it had."""
+        """What that step had to choose from, if it chose."""
         found: Told | None = self.events[step - self.first - 1].get("choice") if step > self.first else None
         return found
 
@@ -123,5 +123,5 @@ class Shown:
         return self.known[step]
 
     def marks_behind(self, step: int) -> list[str]:
-        """The titles of the marks of what follows."""
+        """The titles of the marks after that step."""
         return [f"{number}: {' '.join(self.event(number))}" for number in range(step + 1, self.last + 1)]

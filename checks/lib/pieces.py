@@ -1,5 +1,5 @@
-"""What the pieces of a check took, by when it wrote the files that it keeps: each once it is done, where the check has
-one job."""
+"""What the pieces of a check took, by the times at which it wrote the files that it keeps. If the check has one job,
+each is written when it is done."""
 from __future__ import annotations
 
 import collections
@@ -8,7 +8,7 @@ import os
 import re
 from typing import Dict
 
-# What of a module's name is of the checker's own making: the parts of a function's proof.
+# What the checker adds to a module's name: the parts of a function's proof.
 PARTS = ("Proof", "Lts", "Mir", "Tie", "Kinds", "Code", "Reads", "Given", "Goals", "Layout", "Symbol", "Statement",
          "Met", "TheLink", "Key", "Answers", "Invariants", "decls")
 PART = rf"(?:\.(?:{'|'.join(PARTS)})[\w+-]*)*"
@@ -18,8 +18,8 @@ PAUSE = 300
 
 
 def seconds(folder: str, since: float = 0) -> Dict[str, float]:
-    """By piece, a function's path or a file of lemmas: what it took, of what was written in the folder behind that
-    time. Gaps in which nothing was written, between two checks or where a copy of the checker began, are left out."""
+    """What each piece took, by its function's path or file of lemmas, from what was written in the folder after that
+    time. Gaps in which nothing was written, between two checks or when a copy of the checker began, are left out."""
     files = glob.glob(f"{folder}/*/*.oantt")
     written = sorted((os.stat(file).st_mtime, os.path.basename(file)) for file in files)
     written = [it for it in written if it[0] > since]

@@ -1,11 +1,11 @@
-/* Loaded before the C library: refuses the Nth request for memory, N being the number in REFUSE, and the start of
-   the Nth thread, N being that in REFUSE_THREAD, and writes to the file descriptor in TELL how many of each there
-   were. A program that may start threads ends by `_exit`, which runs no destructor, so that is met too. In front of
+/* Loaded before the C library. It refuses the request for memory whose number is in REFUSE, and the start of the
+   thread whose number is in REFUSE_THREAD. To the file descriptor in TELL it writes how many of each there were. A
+   program that may start threads ends by `_exit`, which runs no destructor, so `_exit` is replaced too. In front of
    each line of standard output that begins with MARK it writes how many requests there were before that line.
 
-   With REFUSE_EACH it refuses each request of a program of one thread: in a child, which goes on without that memory
-   and writes to standard output alone, while the program waits, for PATIENCE seconds at most. A line `try N` stands
-   before what the child writes, and `ended STATUS` behind it: below 0 is the signal that ended it. */
+   With REFUSE_EACH it refuses each request of a program of one thread, in a child. The child goes on without that
+   memory and writes only to standard output. The program waits for it, for PATIENCE seconds at most. The line `try N`
+   is before what the child writes, and `ended STATUS` after it. A STATUS below 0 is the signal that ended it. */
 #define _GNU_SOURCE
 #include <dlfcn.h>
 #include <errno.h>

@@ -9,11 +9,11 @@ from typing import List, NamedTuple, Tuple
 HERE = os.path.dirname(os.path.abspath(__file__))
 TOP = os.path.dirname(os.path.dirname(HERE))
 
-# How the tests mark that they ask for no memory from one line on up to another (tests/marks.rt); refuse.c writes in
-# front of such a line how many requests there were before it.
+# How the tests mark that they ask for no memory between two lines (tests/marks.rt). In front of such a line refuse.c
+# writes how many requests there were before it.
 MARK = "no memory"
 MARKED = re.compile(r"(\d+) no memory (from|up to) here")
-# What stands before and behind what a program says of which a request is refused.
+# The lines before and after what a program says when a request is refused.
 TRY, ENDED = re.compile(r"try (\d+)"), re.compile(r"ended (-?\d+)")
 
 
@@ -35,8 +35,8 @@ class Refusing:
 
     def run(self, words: List[str], request: int = 0, thread: int = 0,
             **more: str) -> Tuple[Tuple[str, str, int], List[int]]:
-        """What the program prints on both streams, its status, and how many requests and threads there were; nothing of
-        these where it ended by a signal. Its request and its thread of these numbers are refused, counted from 1."""
+        """What the program prints on both streams, its status, and how many requests and threads there were, or 0 and 0
+        if a signal ended it. The request and the thread of these numbers are refused, counted from 1."""
         counted, write = os.pipe()
         refused = {"REFUSE": str(request), "REFUSE_THREAD": str(thread)}
         setting = {**os.environ, "LD_PRELOAD": self.library, "TELL": str(write), **refused, **more}
@@ -50,7 +50,7 @@ class Refusing:
         return (done.stdout, done.stderr, done.returncode), counts
 
     def each(self, words: List[str]) -> Tuple[List[str], List[Try]]:
-        """What the program says with ample memory, and each of its requests, refused in turn. It has one thread."""
+        """What the program says with ample memory, and with each of its requests refused in turn. It has one thread."""
         setting = {**os.environ, "LD_PRELOAD": self.library, "REFUSE_EACH": "1"}
         done = subprocess.run(words, capture_output=True, text=True, timeout=60 * self.seconds, env=setting, check=True)
         said: List[str] = []

@@ -11,7 +11,7 @@ from typing import Iterator, List, Optional, Union
 PYTHON, SHELLS = b"#!/usr/bin/env python3\n", (b"#!/usr/bin/env bash\n", b"#!/bin/sh\n")
 ENDINGS = (".c", ".cc", ".cpp", ".go", ".h", ".hpp", ".java", ".rs")
 WIDTH, FILE_LINES, LINES, DEEP, PARAMETERS = 120, 400, 40, 3, 6
-# It doesn't count for the width of a line.
+# What is quoted doesn't count for the width of a line.
 QUOTED = re.compile(r"""\"(?:[^"\\]|\\.)*\"|'(?:[^'\\]|\\.)*'""")
 # Its parameters are the keywords of the public call `monk.Monitor(..)`, eight of them.
 PUBLIC_CALL = "c/python/monk/monitor.py: __init__"
@@ -21,7 +21,7 @@ Function = Union[ast.FunctionDef, ast.AsyncFunctionDef]
 
 
 def first_line(path: str) -> bytes:
-    """How it begins, if it is a file."""
+    """How the file begins, if there is one."""
     if not os.path.isfile(path):
         return b""
     with open(path, "rb") as file:
@@ -39,7 +39,7 @@ def is_read(path: str) -> bool:
 
 
 def depth(node: ast.AST, above: Optional[ast.AST] = None) -> int:
-    """How deep it is, with what is nested in it. An `elif` is as deep as its `if`, in whose column it stands, and a
+    """How deep it is, with what is nested in it. An `elif` is as deep as its `if`, whose column it has, and a
     function in it counts for itself."""
     if isinstance(node, FUNCTIONS):
         return 0
@@ -88,7 +88,7 @@ def functions(path: str, text: str) -> Iterator[str]:
 
 
 def refused() -> Iterator[str]:
-    """What is refused in the repository, whose top is the folder that is worked in."""
+    """What is refused in the repository, whose top is the current folder."""
     tracked = subprocess.check_output(["git", "ls-files", "-z"], text=True).split("\0")
     for path in filter(is_read, tracked):
         with open(path, encoding="utf-8") as file:

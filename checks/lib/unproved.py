@@ -1,9 +1,9 @@
-"""The kit's `rt try`, so that what it builds is kept: optimized, and without the watch for bad memory accesses.
+"""Runs the kit's `rt try` so that what it builds is kept: optimized, and without the watch for bad memory accesses.
 
-`rt try` keeps no program. So it is asked here by way of a folder of links to the kit, with two tools of its own.
-The compiler keeps the module of the program for the linker. The linker compiles that module by up to four
-processors, and leaves the program where it is wanted. What stops where an index, a sum or a cast goes wrong stays
-in."""
+`rt try` keeps no program. So it is run here in a folder of links to the kit, which has two tools of its own. The
+compiler keeps the module of the program for the linker. The linker compiles that module by up to four
+processors, and leaves the program where it is wanted. The program still stops if an index, a sum or a cast goes
+wrong."""
 from __future__ import annotations
 
 import os
@@ -19,9 +19,9 @@ CURRENT = os.path.join(os.path.dirname(os.path.abspath(__file__)), "current")
 NO_ARCHIVE = b"!<arch>\n"
 MODULE = "module.bc"
 ENDING = (signal.SIGINT, signal.SIGTERM, signal.SIGHUP)
-# How much is told of what could not be built.
+# How many characters are shown if something could not be built.
 TOLD = 3000
-# The program's module is the only one that is to be watched for bad accesses: it is kept, and an empty one compiled.
+# The program's module is the only one to be watched for bad accesses. It is kept, and an empty one is compiled.
 # (The tools are started with no environment.)
 CLANG = """#!/bin/sh
 case " $* " in *' -fsanitize=address '*)
@@ -46,7 +46,7 @@ NO_LINKER = f"#!/bin/sh\n{NO_PROGRAM}\n"
 
 
 class Wanted(NamedTuple):
-    """What a build leaves: the program, there, with these files of C's; or without one its module, in the room."""
+    """What a build leaves: the program, at this path, with these object files of C; or without a path its module."""
     program: Optional[str] = os.devnull
     files: Sequence[str] = ()
     # Whether what is built is run, and whether it is optimized, which takes half as long again.
@@ -59,7 +59,7 @@ def _break_off(*_: object) -> NoReturn:
 
 
 def break_off_in_words() -> None:
-    """Whoever ends the build is told what is left of it."""
+    """Says what is left of the build if a signal ends it."""
     for number in ENDING:
         signal.signal(number, _break_off)
 
@@ -69,7 +69,7 @@ def _may_end() -> None:
 
 
 def linked(real: str, place: str, *but: str) -> str:
-    """A folder of links to what stands in the real one, but for these names."""
+    """A folder of links to what is in the real one, but for these names."""
     os.makedirs(place)
     for name in set(os.listdir(real)) - set(but):
         os.symlink(os.path.join(real, name), os.path.join(place, name))
@@ -95,13 +95,13 @@ def _write_tool(place: str, text: str) -> None:
 
 
 def _kit_of_links(real: str, place: str) -> str:
-    """A copy of the kit made of links, without compiler and linker, and its tools. (`rt` looks for the kit where
-    it stands.)"""
+    """A copy of the kit made of links, without compiler and linker. Returns its tools. (`rt` looks for the kit where
+    it is itself.)"""
     linked(real, place, "bin", "c", "toolchain")
     tools = linked(os.path.join(real, "bin"), os.path.join(place, "bin"), "rt", "rtlib.py", "rattle")
     for name in ("rt", "rtlib.py"):
         shutil.copy(os.path.join(real, "bin", name), tools)
-    # It would only warn of names that a check refuses.
+    # `rattle` would only warn of names that a check refuses.
     os.symlink("/bin/true", os.path.join(tools, "rattle"))
     libraries = linked(os.path.join(real, "c"), os.path.join(place, "c"), "asan.a")
     with open(os.path.join(libraries, "asan.a"), "wb") as file:
@@ -126,7 +126,7 @@ def _stand_in(room: str, wanted: Wanted) -> str:
 
 def tried(crate: str, room: str, wanted: Wanted, *words: str,
           tests: bool = False) -> subprocess.CompletedProcess[str]:
-    """What `rt try` says of the crate in that folder, run with these words. If it is broken off, what it started
+    """What `rt try` says about the crate in that folder, run with these words. If it is broken off, what it started
     ends too."""
     asked = [_stand_in(room, wanted), "try", *["--test"] * tests, "--steps", "1", "--seconds", "60"]
     asked += ["--", *words] if words else []
@@ -148,13 +148,13 @@ def tried(crate: str, room: str, wanted: Wanted, *words: str,
 
 
 def current(crate: str, *programs: str) -> str:
-    """The first of these that is made of the crate's sources as they are; empty if none is."""
+    """The first of these that is made from the crate's sources as they are; empty if none is."""
     asked = [CURRENT, f"--of={crate}", *programs]
     return subprocess.run(asked, capture_output=True, text=True, check=False).stdout.strip()
 
 
 class Made:
-    """What a program is made of, taken before it is built."""
+    """What a program is made from, taken before it is built."""
 
     def __init__(self, crate: str) -> None:
         self.crate, self.words = crate, current(crate, "--made").split()

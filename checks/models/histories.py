@@ -8,7 +8,7 @@ from monitor import CODES, KINDS, NEXTS, PREDICATES, REASONS, RELEASES, VERSIONS
 
 
 def erased(e: Event) -> Tuple[Tuple[str, ...], ...]:
-    """The lines that a recorder writes of an event."""
+    """The lines that a recorder writes for an event."""
     name, seat, at = e[0], e[1], RELEASES.get(e[0])
     if name == "signal-leave":
         return (("signal", seat, e[2]), ("leave", seat))
@@ -20,13 +20,13 @@ def erased(e: Event) -> Tuple[Tuple[str, ...], ...]:
 
 
 def any_predicate(chance: Random, name: str, wrong: float = 0.1) -> int:
-    """A predicate of the object, of many most often one of the first; seldom one that it hasn't."""
+    """A predicate of the object, mostly one of the first if it has many, and seldom one that it doesn't have."""
     most = 3 if name == "flags" and chance.random() < 0.8 else PREDICATES[name]
     return chance.randrange(most + (chance.random() < wrong))
 
 
 def any_code(chance: Random, name: str, wrong: float = 0.1) -> int:
-    """An operation of the object; seldom one that it hasn't."""
+    """An operation of the object, and seldom one that it doesn't have."""
     return chance.randrange(CODES[name] + (chance.random() < wrong))
 
 
@@ -84,7 +84,7 @@ def wrong_event(chance: Random, monitor: Monitor, version: int, wanted: int) -> 
 
 
 def history(chance: Random, kind: str, name: str) -> Tuple[int, Header, List[Event]]:
-    """A version, a header without it, and events that are legal, or up to one that fails a test chosen at random."""
+    """A version, a header without it, and events, legal to the end or up to one that fails a test chosen at random."""
     version, seats = chance.choice(VERSIONS[name]), chance.randrange(1, 5)
     conds = 0 if KINDS[kind][0] == "automatic" and chance.random() < 0.5 else chance.randrange(1, 4)
     header = (seats, conds, name, chance.randrange(1, 4))
@@ -93,7 +93,7 @@ def history(chance: Random, kind: str, name: str) -> Tuple[int, Header, List[Eve
     for step in range(2 * long):
         wrong = wrong_event(chance, monitor, version, wanted) if wanted and step >= long else None
         if wrong:
-            # what stands behind the first fault is read, and changes nothing
+            # what follows the first fault is read, and changes nothing
             events += [wrong, *(any_event(chance, monitor, version) for _ in range(chance.randrange(3)))]
             break
         e = right_event(chance, monitor, version)

@@ -1,4 +1,4 @@
-"""A search over all runs of a mutex with condition variables that tell a log. It branches where a log doesn't tell:
+"""A search of all runs of a mutex with condition variables that tell a log. It branches on what a log doesn't say:
 whom a signal wakes, when a wait runs out, and when a thread wakes though nobody sent a signal. It shares nothing with
 monk."""
 from functools import lru_cache
@@ -8,12 +8,12 @@ from monitor import CODES, Thing
 
 Place = tuple[str, int]
 OUTSIDE, ACTIVE = ("outside", 0), ("active", 0)
-# Where a thread is before a line with which it takes the lock, and behind a step that no line tells.
+# Where a thread is before a line with which it takes the lock, and after a step that has no line.
 TAKES, SILENT = {"enter": "outside", "resume": "woken", "lapse": "ran out"}, {"out": "ran out", "wake": "woken"}
 
 
 class Step(NamedTuple):
-    """A line of a log, or `out SEAT` or `wake SEAT`, which no line tells."""
+    """A line of a log, or `out SEAT` or `wake SEAT`, for which a log has no line."""
 
     verb: str
     seat: int
@@ -52,7 +52,7 @@ def moved(x: State, lock: int | None, there: dict[int, Place]) -> State:
 
 
 def after(setting: Setting, x: State, step: Step, whom: int | None = None) -> State | None:
-    """The state behind the step, whose signal wakes that thread; None if it may not happen."""
+    """The state after the step, whose signal wakes that thread; None if it may not happen."""
     verb, seat, rest = step
     is_beyond = seat >= setting.seats or verb in ("wait", "signal", "broadcast") and rest[0] >= setting.conds
     if is_beyond or whom is not None and verb != "signal":
@@ -76,7 +76,7 @@ def after(setting: Setting, x: State, step: Step, whom: int | None = None) -> St
 
 
 def behind(setting: Setting, runs: dict[State, int], line: Step) -> dict[State, int]:
-    """Where runs may be behind the line, each with the fewest that woke unasked, by where they may be before it."""
+    """The states of runs after the line, each with the fewest that woke unasked, by the states before it."""
     return found_behind(setting, frozenset(runs.items()), line)
 
 
@@ -115,7 +115,7 @@ def judged(setting: Setting, log: list[Step]) -> Answer:
 
 
 def wrong_with(text: str, setting: Setting, log: list[Step], unasked: int) -> str | None:
-    """What is wrong with the text of a run that is to tell these lines, and in which so many are to wake unasked."""
+    """What is wrong with the text of a run that must tell these lines, and in which `unasked` must wake unasked."""
     head, *steps = text.splitlines()
     x = opening(setting)
     lines: list[Step] = []

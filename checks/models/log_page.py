@@ -1,5 +1,5 @@
-"""What must hold of the data of a log's page, by models/judge_search.py: each step may happen where it stands, and
-leads where it says."""
+"""Checks the data of a log's page by models/judge_search.py: each step may happen where it is, and leads where it
+says."""
 from typing import Any
 
 from judge_search import SILENT, Setting, State, after, opening, step_of
@@ -19,7 +19,7 @@ def state_of(said: Data) -> State:
 
 
 def faults_of(text: str, said: Data, last: int) -> list[str]:
-    """What is wrong with the data, which tell the lines of the log up to that one."""
+    """What is wrong with the data, whose steps must tell the lines of the log up to that one."""
     head, *lines = text.splitlines()
     seats, conds, name, size = head.split()[2:]
     setting = Setting(int(seats), int(conds), name, int(size))

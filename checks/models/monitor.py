@@ -27,7 +27,7 @@ VERSIONS = {"buffer": (1, 2), "book": (1, 2), "shop": (1, 2), "flags": (3,)}
 NEXTS = ("stay", "entry", "waiter", "signaller", "until")
 # Where an event's next begins in its words.
 RELEASES = {"leave": 2, "wait": 3, "signal": 3, "signal-leave": 3, "until": 3, "signal-wait": 4}
-# The modes that have a call, where not all of them do.
+# The modes that have a call, if not all of them do.
 MODES_OF = {
     "wait": EXPLICIT + ("immediate-return",),
     "signal": EXPLICIT,
@@ -37,12 +37,12 @@ MODES_OF = {
     "until": ("automatic",),
 }
 Event = List[str]
-# Of a history's first line: how many seats and conditions there are, the object and its size.
+# From a history's first line: how many seats and conditions there are, the object and its size.
 Header = Tuple[int, int, str, int]
 
 
 def listed(name: str, all_: Iterable[object]) -> str:
-    """The name, and all of these behind it."""
+    """The name, and all of these after it."""
     return name + "".join(f" {x}" for x in all_)
 
 
@@ -108,7 +108,7 @@ class Thing:
 
 
 class Monitor:
-    """How a monitor of a kind stands after some events."""
+    """The state of a monitor of a kind after some events."""
 
     def __init__(self, kind: str, seats: int, conds: int, name: str, size: int) -> None:
         self.kind, self.seats, self.conds = kind, seats, conds
@@ -214,7 +214,7 @@ class Monitor:
         self.turn = {"stay": f"of {seat}", "entry": "open"}.get(kind) or f"due {chosen[0]} {kind}"
 
     def told(self, steps: List[int]) -> List[str]:
-        """The lines of the situation, behind which these steps were refused."""
+        """The lines of the situation. The object has refused these steps up to there."""
         ranks = [self.entry, self.waiter] + ([self.signaller] if self.mode in EXPLICIT else [])
         lines = [listed(f"kind: {self.kind} {self.mode}", ranks), f"turn: {self.turn}"]
         lines.append(listed("inside:", sorted(self.inside)))
@@ -229,7 +229,7 @@ class Monitor:
 
 
 def verdict(kind: str, header: Header, events: List[Event]) -> Tuple[str, Monitor, int]:
-    """What an audit says of the events under a kind, the monitor before the fault or at the end, and the reason."""
+    """What an audit says about the events under a kind, the monitor before the fault or at the end, and the reason."""
     monitor = Monitor(kind, *header)
     for step, e in enumerate(events, 1):
         reason = monitor.reason(e)
@@ -240,7 +240,7 @@ def verdict(kind: str, header: Header, events: List[Event]) -> Tuple[str, Monito
 
 
 def explained(kind: str, header: Header, events: List[Event]) -> List[str]:
-    """What an explanation says, but for its last line where it is `why`."""
+    """What an explanation says, but for its last line if it is `why`."""
     said, monitor, reason = verdict(kind, header, events)
     step = int(said.split()[1])
     refused = [n for n, e in enumerate(events[: step - 1 if reason else step], 1) if e[0] == "act" and e[4] == "0"]

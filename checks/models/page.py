@@ -1,4 +1,4 @@
-"""A model of the data of a page: what monk page says of a history, step by step, by models/monitor.py."""
+"""A model of the data of a page: what monk page says about a history, step by step, by models/monitor.py."""
 from typing import Any
 
 from monitor import KINDS, RELEASES, Header, Monitor, Thing, explained, verdict
@@ -30,7 +30,7 @@ def queues_of(monitor: Monitor) -> Data:
 
 
 def standing(monitor: Monitor) -> Data:
-    """How the monitor stands."""
+    """The state of the monitor."""
     thing: Thing = monitor.thing
     return {
         "turn": monitor.turn,

@@ -1,4 +1,4 @@
--- What an audit says of one event more.
+-- What an audit says about one more event.
 use Rattle.std.proofs.Common.{◌≡◌, ℕ, Bool, true, false, cond, [], ◌∷◌, ◌++◌, List, Some, None, refl, subst}
 use Rattle.monk_kinds.specs.Names.{rules_named}
 use Rattle.monk_kinds.specs.declared.mode.Rules.{Rules}
@@ -27,7 +27,7 @@ allowed_on k n seats conds size h f e events is named room grown l =
     subst (λ m. IsAllowed m f.history e) same
     (legal_last (named_monitor h) f.history e (subst (IsLegal (named_monitor h)) grown l))
 
--- what is made of a choice is the one that is there
+-- if a choice gives a heading, it is the one that was offered
 made_is : (b : Bool) (x y : Heading) → cond b (Some x) None ≡ Some y → y ≡ x
 made_is true x y made = cc
 made_is false x y made = absurd cc

@@ -1,4 +1,4 @@
--- What the tests of floors speak of
+-- What the contracts in the tests of floors use
 use Rattle.std.specs.Prelude.{◌≡◌, ℕ, ◌<◌}
 use Rattle.monk_kinds.specs.declared.mode.Rules.{Rules}
 use Rattle.monk_object.specs.Names.{meaning_named, opening_named}
@@ -11,7 +11,7 @@ use Rattle.monk_history.specs.declared.event.Event.{Event}
 use Rattle.monk_history.specs.declared.event.Turn.TheVariants.{Owned}
 use Rattle.monk_floor.specs.View.{FloorView, monitor_of}
 
--- seats and conditions are as many as before
+-- the numbers of seats and of conditions are as before
 pub record IsSameSize (old new : FloorView) : Type 0 where
   pub seats : new.seats ≡ old.seats
   pub conds : new.conds ≡ old.conds
@@ -22,7 +22,7 @@ pub record OwnsTurn (f : FloorView) (seat : ℕ) : Type 0 where
   pub within : seat < f.seats
   pub left : 0 < left_of f.budget f.history seat
 
--- a floor with so many seats and conditions over a buffer of that size, which was empty at first
+-- a floor with these numbers of seats and conditions, over a buffer of that size that was empty at first
 pub record IsRoom (seats conds size : ℕ) (f : FloorView) : Type 0 where
   pub seats_are : f.seats ≡ seats
   pub conds_are : f.conds ≡ conds
@@ -32,7 +32,7 @@ pub record IsRoom (seats conds size : ℕ) (f : FloorView) : Type 0 where
 abbrev pub IsAllowedOn : Rules → FloorView → Event → Type 0
 IsAllowedOn k f e = IsAllowed (monitor_of k (meaning_named Buffer) f) f.history e
 
--- it is, and its seat has an event left
+-- the event is allowed, and its seat has an event left
 pub record MayCome (k : Rules) (f : FloorView) (e : Event) : Type 0 where
   pub allowed : IsAllowedOn k f e
   pub within : seat_of e < f.seats

@@ -15,7 +15,7 @@ use Rattle.monk_hall.specs.Tokens.{Token}
 use Rattle.monk_hall.specs.declared.record.SeatRecord.{SeatRecord}
 use Rattle.monk_hall.specs.declared.setting.Setting.{Setting}
 
--- to what it had done the seat has added an enter, this operation and a leave, and nothing else
+-- the seat has added an enter, this operation and a leave to what it had done, and nothing else
 pub record IsOneVisit (p : Token) (op : Op) (history : List Event) : Type 0 where
   pub via : Via
   pub reply : ℕ

@@ -1,4 +1,4 @@
-//! The tests of all crates, in a crate of their own: a crate with tests is proved twice.
+//! The tests of all crates. They have a crate of their own, because a crate with tests is proved twice.
 #![tactic(auto)]
 
 #[cfg(test)]

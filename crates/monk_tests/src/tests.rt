@@ -1,4 +1,4 @@
-//! What no clause says: the values and texts that people know, known histories, plays and logs, what each command
+//! Tests of what no clause says: values and texts that people know, known histories, plays and logs, what each command
 //! prints, readers and writers that fail in the middle of a stream, and refused memory.
 
 mod audits;

@@ -1,4 +1,4 @@
-//! That an audit succeeds where memory is ample. What it says of known histories is tested by their lines.
+//! An audit succeeds if memory is ample. Its verdicts on known histories are tested by the lines that commands print.
 
 use monk_audit::{AuditFault, Verdict, audit};
 use monk_history::{Event, Header, Next, Via};
@@ -7,7 +7,7 @@ use monk_object::ObjectName;
 
 const EVENTS: [Event; 2] = [Event::Enter(0, Via::Free), Event::Leave(0, Next::Entry)];
 
-/// What an audit says of a visit under the kind, over the object of that size.
+/// Returns the verdict on a visit under the kind, over the object of that size.
 fn audited(
     rt: &HostRuntime,
     kind: KindName,

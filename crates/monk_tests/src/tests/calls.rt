@@ -1,11 +1,11 @@
-//! That a device passes each call on, and once. No clause says so of a reader or a writer whose bytes nobody knows.
+//! A device passes each call on, and once. No clause says so for a reader or a writer whose bytes nobody knows.
 
 use monk_history::Device;
 use std::io;
 use std::io::{Read, Write};
 
-/// A reader and a writer that counts its calls, and fails at one of its reads and writes. Each of the first two reads
-/// gives its number as one byte, and a later one nothing; a write takes two bytes at most.
+/// A reader and writer that counts its calls. Of its reads and writes, call number `failing` fails. Each of the first
+/// two reads gives its number as one byte, and a later one gives nothing. A write takes at most two bytes.
 #[derive(Drop)]
 struct Counted {
     reads: u32,
@@ -15,7 +15,7 @@ struct Counted {
 }
 
 impl Counted {
-    /// Nothing was called yet, and the call of that number fails.
+    /// Returns one that nobody has called yet, and whose call number `failing` fails.
     fn new(failing: u32) -> Counted {
         Counted {
             reads: 0,
@@ -63,7 +63,7 @@ impl Write for Counted {
 /// The number of a call that is never made.
 const NEVER: u32 = u32::MAX;
 
-/// Whether two reads, five writes and a flush come to what they must.
+/// Whether two reads, a write, a `write_all` and a flush have the right results.
 fn passes_on<T: Read + Write>(both: &mut T) -> bool {
     let mut piece = [0u8; 2];
     let are_read = matches!(both.read(&mut piece), Ok(1)) && matches!(both.read(&mut piece), Ok(1));
@@ -71,7 +71,7 @@ fn passes_on<T: Read + Write>(both: &mut T) -> bool {
     both.flush().is_ok() && are_read && is_written && piece == [2, 0]
 }
 
-/// The same of a device over these.
+/// The same for a device over them.
 fn device_passes_on(counted: &mut Counted) -> bool {
     let mut device = Device::new(counted);
     passes_on(&mut device) && !device.failed()
@@ -85,10 +85,10 @@ fn device_passes_each_call_on(rt: HostRuntime) {
     assert!(rt; well && (counted.reads, counted.writes, counted.flushes) == (2, 4, 1));
 }
 
-/// So many calls are made of a device.
+/// The number of calls that are made on a device.
 const MANY: u32 = 3000;
 
-/// Whether the next read, or else the next write, answers an error.
+/// Whether the next read fails, or the next write if `is_read` is false.
 fn call_fails(device: &mut Device<Counted>, is_read: bool) -> bool {
     if is_read {
         return device.read(&mut [0u8; 1]).is_err();
@@ -96,7 +96,7 @@ fn call_fails(device: &mut Device<Counted>, is_read: bool) -> bool {
     device.write(b"m").is_err()
 }
 
-/// Whether of many reads, or else writes, the failing one alone answers an error, and from it on the device tells so.
+/// Whether only call `failing`, of many reads or of many writes, answers an error, and the device says so from then on.
 fn each_tells(device: &mut Device<Counted>, failing: u32, are_reads: bool) -> bool {
     for number in 1..=MANY {
         let failed = call_fails(device, are_reads);
@@ -107,7 +107,7 @@ fn each_tells(device: &mut Device<Counted>, failing: u32, are_reads: bool) -> bo
     true
 }
 
-/// The same of a new device.
+/// The same for a new device.
 fn tells_of(failing: u32, are_reads: bool) -> bool {
     let mut device = Device::new(Counted::new(failing));
     each_tells(&mut device, failing, are_reads)

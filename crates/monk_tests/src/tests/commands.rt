@@ -1,4 +1,4 @@
-//! What each command answers to a text, once. Rows of checks/answers.jsonl ask for more.
+//! The answer of each command to a text. Rows of checks/answers.jsonl have more.
 
 use super::jobs::{Job, are_answered};
 use super::questions::{ASKED, EXPLAIN, FIT};
@@ -6,7 +6,7 @@ use monk_commands::{FitForm, Question, Task, ended_by_itself};
 use monk_kinds::KindName;
 use std::test::Fail;
 
-/// Its program has ended by itself.
+/// The program of the log has ended by itself.
 const OF_AN_ENDED_PROGRAM: Task<'static> = Task::Fit(
     FitForm::Words,
     Question {
@@ -15,13 +15,13 @@ const OF_AN_ENDED_PROGRAM: Task<'static> = Task::Fit(
     },
 );
 
-/// The recorder wrote down where the calls stand.
+/// The recorder wrote down where in the source the calls are.
 const WITH_SITES: Task<'static> = Task::Explain(Question {
     beside: b"ended by itself\nsite 1 buffer.c:29\nsite 2 buffer.c:41\nlines 1 2 1 0\n",
     ..ASKED
 });
 
-/// Each command that reads an input, over a history, a log or a play, and what it says of one that it refuses.
+/// Each command that reads an input, with a history, a log or a play, and what it says if it refuses one.
 pub(super) static JOBS: [Job<'static>; 16] = [
     Job {
         name: "legal",
@@ -128,7 +128,7 @@ pub(super) static JOBS: [Job<'static>; 16] = [
         status: 1,
         answer: b"NPNB misfit 3 6 unserved\n",
     },
-    // The program is not stuck, so it is no fault.
+    // The program isn't stuck, so `busy` is no fault.
     Job {
         name: "a program that ends by itself",
         task: OF_AN_ENDED_PROGRAM,

@@ -8,7 +8,7 @@ use monk_logs::{LogHeader, read_log};
 use monk_object::Op;
 use std::test::Fail;
 
-/// A log, and what comes of it under a kind: events, or the line that misfits and what is to blame.
+/// A log and its completion under a kind: events, or the line that misfits and the reason.
 struct Row {
     name: &'static str,
     log: &'static [u8],
@@ -21,7 +21,7 @@ struct Row {
 const SIGNALLER_FIRST: &[u8] =
     b"log 1 2 1 buffer 1\nenter 0\nwait 0 0\nenter 1\nsignal 1 0\nleave 1\nresume 0\nleave 0\n";
 
-/// The same, and the seat that was signalled goes on.
+/// The same, but the seat that was signalled goes on.
 const SIGNALLED_FIRST: &[u8] =
     b"log 1 2 1 buffer 1\nenter 0\nwait 0 0\nenter 1\nsignal 1 0\nresume 0\nleave 0\nresume 1\nleave 1\n";
 
@@ -32,7 +32,7 @@ const SIGNAL_TO_NOBODY: &[u8] = b"log 1 2 1 buffer 1\nenter 0\nsignal 0 0\n";
 const PUT_FOR_A_WAITER: &[u8] =
     b"log 1 2 0 buffer 1\nenter 0\nuntil 0 1\nenter 1\nact 1 0 7 1\nleave 1\n";
 
-/// Under immediate return a log that ends with a signal is completed by its leaving.
+/// Under immediate return, a log that ends with a signal is completed by a signal that leaves.
 const LEAVES_BY_IT: &[Event] = &[
     Event::Enter(0, Via::Free),
     Event::Wait(0, 0, Next::Entry),
@@ -40,7 +40,7 @@ const LEAVES_BY_IT: &[Event] = &[
     Event::SignalLeave(1, 0, Next::Waiter(0)),
 ];
 
-/// Under automatic signalling the last release chooses the first who is ready.
+/// Under automatic signalling, the last release chooses the first ready seat.
 const CHOOSES_WHO_IS_READY: &[Event] = &[
     Event::Enter(0, Via::Free),
     Event::Until(0, 1, Next::Entry),
@@ -49,10 +49,10 @@ const CHOOSES_WHO_IS_READY: &[Event] = &[
     Event::Leave(1, Next::Until(0)),
 ];
 
-/// A signal that serves nobody stays.
+/// After a signal that serves nobody, its caller stays.
 const SERVES_NOBODY: &[Event] = &[Event::Enter(0, Via::Free), Event::Signal(0, 0, Next::Stay)];
 
-/// A signal that ends a log stays where waiters may not go before signallers.
+/// After a signal that ends a log, its caller stays if waiters may not go before signallers.
 const STAYS: &[Event] = &[
     Event::Enter(0, Via::Free),
     Event::Wait(0, 0, Next::Entry),
@@ -183,7 +183,7 @@ static ROWS: [Row; 16] = [
         events: HANDS_OVER,
         misfit: None,
     },
-    // Such a signaller tells two lines.
+    // A signal followed by a wait is one event, and two lines of a log.
     Row {
         name: "a signaller that waits",
         log: b"log 1 2 1 buffer 1\nenter 0\nsignal 0 0\nwait 0 0\nenter 1\nleave 1\n",
@@ -211,7 +211,7 @@ static ROWS: [Row; 16] = [
     },
 ];
 
-/// Whether the events are a legal history of the monitor that the log's header names, of that kind.
+/// Whether the events are a legal history, under that kind, of the monitor that the log's header describes.
 fn are_legal(
     rt: &HostRuntime,
     kind: KindName,
@@ -228,7 +228,7 @@ fn are_legal(
     Ok(audit(rt.alloc(), &header, events)? == Verdict::Legal(events.len() as u32))
 }
 
-/// Whether that comes of the log, and its events are legal.
+/// Whether the log has the completion or the misfit of its row, and the events of the row are legal.
 fn comes_of_its_log(rt: &HostRuntime, row: &Row) -> Result<bool, Fail> {
     let (header, lines) = read_log(rt.alloc(), row.log)?;
     let is_wanted = match complete(rt.alloc(), &header, &lines, row.kind)? {

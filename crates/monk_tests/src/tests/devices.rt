@@ -1,4 +1,4 @@
-//! Readers and writers that fail at each of their calls in turn, that give or take a few bytes at a time, or none.
+//! Readers and writers that fail at each of their calls in turn. They give or take a few bytes at a time, or none.
 ghost use Rattle.std.specs.Prelude.{◌<◌};
 
 use super::commands::JOBS;
@@ -19,7 +19,7 @@ use std::thread::Threads;
 struct Slow<'a> {
     rest: &'a [u8],
     step: usize,
-    /// Counted down to the one that fails; at 0 none will.
+    /// Counts down to the read that fails; at 0 no read will fail.
     reads_left: usize,
 }
 
@@ -38,7 +38,7 @@ impl Read for Slow<'_> {
     }
 }
 
-/// Whether it is the file fault, with the front of the answer, or all of it, once no call fails.
+/// Whether a failing call gave the file fault and the front of the answer, or else the whole answer was written.
 fn is_due(
     told: Result<u8, StreamFault>,
     written: &Expected<'_>,
@@ -53,7 +53,7 @@ fn is_due(
     is_told && written.agrees()
 }
 
-/// Whether the read of that number fails, and nothing is written, or none fails.
+/// Whether read `fails_at` fails and nothing is written, or no read fails if `fails` is false.
 fn read_fails(alloc: Global, job: &Job<'_>, step: usize, fails_at: usize, fails: bool) -> bool {
     let mut reader = Device::new(Slow {
         rest: job.input,
@@ -68,7 +68,7 @@ fn read_fails(alloc: Global, job: &Job<'_>, step: usize, fails_at: usize, fails:
     is_due && reader.failed() == fails
 }
 
-/// Each read fails in turn, up to the one that finds the end; then none does.
+/// Whether each read fails in turn, up to the one that finds the end, and after that none.
 fn reads_fail(alloc: Global, job: &Job<'_>, step: usize) -> bool
     requires { 0 < step }
 {
@@ -81,7 +81,7 @@ fn reads_fail(alloc: Global, job: &Job<'_>, step: usize) -> bool
     true
 }
 
-/// By one byte, by pieces that end inside a line, by all that there are.
+/// Reads one byte at a time, then pieces that end inside a line, then all bytes at once.
 fn all_reads_fail(alloc: Global, jobs: &[Job<'static>]) -> Result<(), Fail> {
     for job in jobs {
         if !(reads_fail(alloc, job, 1)
@@ -99,7 +99,7 @@ fn reads_fail_in_turn(rt: HostRuntime) -> Result<(), Fail> {
     all_reads_fail(rt.alloc(), &JOBS)
 }
 
-/// Whether a write fails, and so many bytes are taken before, or none fails.
+/// Whether a write fails after `before` bytes are taken, or no write fails if `fails` is false.
 fn write_fails(
     alloc: Global,
     job: &Job<'_>,
@@ -116,7 +116,7 @@ fn write_fails(
     is_whole && has_failed == fails && is_due(told, &written, job, fails)
 }
 
-/// Each write fails in turn, or refuses, and takes none of its bytes; then none does.
+/// Whether each write fails in turn, and after that none. A write fails by an error, or by taking no byte.
 fn writes_fail(alloc: Global, job: &Job<'_>, step: usize) -> bool
     requires { 0 < step }
 {
@@ -136,7 +136,7 @@ fn writes_fail(alloc: Global, job: &Job<'_>, step: usize) -> bool
     true
 }
 
-/// By as many bytes as above.
+/// Writes as many bytes at a time as are read above.
 fn all_writes_fail(alloc: Global, jobs: &[Job<'static>]) -> Result<(), Fail> {
     for job in jobs {
         if !(writes_fail(alloc, job, 1)
@@ -154,7 +154,7 @@ fn writes_fail_in_turn(rt: HostRuntime) -> Result<(), Fail> {
     all_writes_fail(rt.alloc(), &JOBS)
 }
 
-/// Texts of which pictures of some 4000 bytes are drawn.
+/// Texts whose pictures have some 4000 bytes.
 static DRAWN: [(Task<'static>, &[u8]); 2] = [
     (
         Task::Draw(None),
@@ -171,7 +171,7 @@ fn picture_fails(alloc: Global, job: &Job<'_>) -> bool {
         && writes_fail(alloc, job, 4096)
 }
 
-/// Whether the picture of the text does. What its bytes are, a first one tells.
+/// The same for the picture of the text. A first drawing gives its bytes.
 fn drawing_fails(alloc: Global, task: Task<'static>, input: &[u8]) -> bool {
     let mut page = Vec::new(alloc);
     let told = task.stream(alloc, &mut Device::new(input), &mut Device::new(&mut page));
@@ -195,7 +195,7 @@ fn pictures_fail_in_turn(rt: HostRuntime) {
     }
 }
 
-/// Whether the file fault is told where a writer never takes a byte.
+/// Whether the file fault is returned if a writer never takes a byte.
 fn fails_at_once(alloc: Global, job: &Job<'_>) -> bool {
     let mut writer = Device::new(Expected::failing(job.answer, 0, 0, true));
     let told = job
@@ -204,7 +204,7 @@ fn fails_at_once(alloc: Global, job: &Job<'_>) -> bool {
     matches!(told, Err(StreamFault::File)) && writer.failed()
 }
 
-/// Each of them fails where a writer never takes a byte; else the first that doesn't is named.
+/// Tests that each job fails if a writer never takes a byte. Names the first that doesn't.
 fn all_fail_at_once(alloc: Global, jobs: &[Job<'static>]) -> Result<(), Fail> {
     for job in jobs {
         if !fails_at_once(alloc, job) {
@@ -219,7 +219,7 @@ fn nothing_is_taken(rt: HostRuntime) -> Result<(), Fail> {
     all_fail_at_once(rt.alloc(), &JOBS)
 }
 
-/// Whether the file fault is told, and the writer has failed, or neither.
+/// Whether the file fault is returned and the writer has failed, or neither if `fails` is false.
 fn is_file_fault(told: Result<u8, StreamFault>, failed: bool, fails: bool) -> bool {
     match told {
         Ok(status) => status == 0 && !fails && !failed,
@@ -228,7 +228,7 @@ fn is_file_fault(told: Result<u8, StreamFault>, failed: bool, fails: bool) -> bo
     }
 }
 
-/// Whether a writer of the ordering fails at that write, or none does.
+/// Whether writing an ordering fails at write `fails_at`, or at none if `fails` is false.
 fn two_lines_fail(step: usize, fails_at: usize, refuses: bool, fails: bool) -> bool {
     let lines = b"Ep<Sp<Wp\nPB\n";
     let mut writer = Device::new(Expected::failing(lines, step, fails_at, refuses));
@@ -236,7 +236,7 @@ fn two_lines_fail(step: usize, fails_at: usize, refuses: bool, fails: bool) -> b
     is_file_fault(told, writer.failed(), fails)
 }
 
-/// How many bytes are taken at a time, and in how many writes `Ep<Sp<Wp` and `PB` are, each with its newline.
+/// How many bytes are taken at a time, and how many writes `Ep<Sp<Wp` and `PB` need, each with its newline.
 static WRITES_OF_LINES: [(usize, usize); 2] = [(1, 12), (4096, 4)];
 
 #[test]
@@ -252,7 +252,7 @@ fn two_lines_fail_in_turn(rt: HostRuntime) {
     }
 }
 
-/// Whether a writer of the totals of a run fails at that write, or none does.
+/// Whether writing the totals of a run fails at write `fails_at`, or at none if `fails` is false.
 fn totals_fail<R: Threads + Wait + Sync + AllocGlobal>(
     rt: &R,
     step: usize,
@@ -274,7 +274,7 @@ fn totals_fail<R: Threads + Wait + Sync + AllocGlobal>(
     is_file_fault(told, writer.failed(), fails)
 }
 
-/// The same of the totals of a run, which are 24 bytes: `put 1 1`, `taken 1 1` and `legal` with their newlines.
+/// The same for the totals of a run, which are 24 bytes: `put 1 1`, `taken 1 1` and `legal` with their newlines.
 static WRITES_OF_TOTALS: [(usize, usize); 3] = [(1, 24), (7, 4), (4096, 1)];
 
 #[test]

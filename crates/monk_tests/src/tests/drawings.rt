@@ -6,7 +6,7 @@ use monk_history::Device;
 use std::alloc::{AllocError, Global};
 use std::test::Fail;
 
-/// A text that is to be drawn, how many marks its picture has, and what is written in it.
+/// A text to draw, the number of marks in its picture, and words that are in it.
 #[derive(Clone, Copy)]
 pub(super) struct Drawing<'a> {
     pub(super) input: &'a [u8],
@@ -46,7 +46,7 @@ static DRAWINGS: [Drawing<'static>; 18] = [
         says: "<path d=\"M-4 -4L4 4M-4 4L4 -4\"/></g><text class=\"soft\" x=\"28\" y=\"10\">refused by the object</text></g>\n",
         status: 0,
     },
-    // The object would not have refused it.
+    // The object would not have refused this act.
     Drawing {
         input: b"monk 1 PB 2 0 buffer 1\nenter 0 free\nact 0 0 7 0\n",
         marks: 2,
@@ -127,17 +127,17 @@ static DRAWINGS: [Drawing<'static>; 18] = [
     },
 ];
 
-/// Whether what was written is a picture where there is one, with these marks and words.
+/// Whether the page is a picture if the status is below 2, and has these marks and words.
 pub(super) fn shows(page: &str, drawing: &Drawing<'_>) -> bool {
     let is_picture = page.starts_with("<svg xmlns=") && page.ends_with("</svg>\n");
-    // So many pieces lie between the marks.
+    // The marks divide the page into one piece more than there are marks.
     let pieces = page.split("<g class=\"mark\"").count();
     is_picture == (drawing.status < 2)
         && pieces == drawing.marks.saturating_add(1)
         && page.find(drawing.says).is_some()
 }
 
-/// Whether events of the text are drawn so.
+/// Whether the window of the text has this picture.
 fn is_drawn_from(alloc: Global, window: Option<Window>, drawing: &Drawing<'_>) -> bool {
     let mut page = Vec::new(alloc);
     let mut reader = Device::new(drawing.input);
@@ -147,7 +147,7 @@ fn is_drawn_from(alloc: Global, window: Option<Window>, drawing: &Drawing<'_>) -
         && matches!(str::from_utf8(&page), Ok(page) if shows(page, drawing))
 }
 
-/// All of them are drawn whole; else what the first says is named that isn't.
+/// Tests that all of them are drawn whole. Names the words of the first that isn't.
 fn are_drawn_whole(alloc: Global, drawings: &[Drawing<'static>]) -> Result<(), Fail> {
     for drawing in drawings {
         if !is_drawn_from(alloc, None, drawing) {
@@ -162,7 +162,7 @@ fn histories_are_drawn(rt: HostRuntime) -> Result<(), Fail> {
     are_drawn_whole(rt.alloc(), &DRAWINGS)
 }
 
-/// A text in which a seat comes and goes 150 times, and its last lines.
+/// Returns a text in which a seat comes and goes 150 times, with the lines `last` after that.
 fn visits(alloc: Global, last: &str) -> Result<String, AllocError> {
     let mut text = String::from_str(alloc, "monk 1 PB 2 0 buffer 1\n")?;
     for _ in 0..150 {
@@ -172,10 +172,10 @@ fn visits(alloc: Global, last: &str) -> Result<String, AllocError> {
     Ok(text)
 }
 
-/// Numbers that are told of events, how many marks the picture then has, and what is written in it.
+/// The first and the last event that are asked for, the number of marks in the picture, and words that are in it.
 type Told = (Option<u32>, Option<u32>, usize, &'static str);
 
-/// Of a history of 301 events.
+/// For a history of 301 events.
 const LEGAL: &[Told] = &[
     (Some(4), Some(7), 4, "<title>4: leave 0 entry</title>"),
     (Some(301), Some(301), 1, "<title>301: enter 1 free</title>"),
@@ -190,7 +190,7 @@ const LEGAL: &[Told] = &[
     ),
 ];
 
-/// Of one whose event 301 is forbidden, with one more behind it.
+/// For one whose event 301 is forbidden, with one more after it.
 const FORBIDDEN: &[Told] = &[
     (
         Some(299),
@@ -201,7 +201,7 @@ const FORBIDDEN: &[Told] = &[
     (Some(1), Some(300), 300, "<title>300: leave 0 entry</title>"),
 ];
 
-/// Behind the events that there are, of either.
+/// For either, a window after the last event.
 const BEHIND: &[Told] = &[(Some(302), None, 0, "window 301\n")];
 
 /// The last 200 of 301 events.
@@ -212,7 +212,7 @@ const END: &[Told] = &[(
     "<text class=\"step\" x=\"122\" y=\"60\">102</text>\n",
 )];
 
-/// The last 200 of the events up to one that is forbidden, with its caption beside it.
+/// The last 200 of the events up to a forbidden one, with its caption beside it.
 const FORBIDDEN_END: &[Told] = &[
     (
         None,
@@ -228,7 +228,7 @@ const FORBIDDEN_END: &[Told] = &[
     ),
 ];
 
-/// Nothing if all rows are drawn; else what the first one says that isn't.
+/// Returns the words of the first row that isn't drawn, or nothing if all are.
 fn first_undrawn(alloc: Global, input: &[u8], status: u8, rows: &[Told]) -> Option<&'static str> {
     for (from, to, marks, says) in rows {
         let Ok(window) = Window::asked(*from, *to) else {
@@ -247,7 +247,7 @@ fn first_undrawn(alloc: Global, input: &[u8], status: u8, rows: &[Told]) -> Opti
     None
 }
 
-/// The last lines of 150 visits, the status of their drawings, and these.
+/// The lines after 150 visits, the status of their drawings, and the drawings.
 type Drawn = (&'static str, u8, &'static [Told]);
 
 static ENDS: [Drawn; 6] = [
@@ -259,7 +259,7 @@ static ENDS: [Drawn; 6] = [
     ("leave 1 entry\nenter 1 free\n", 2, BEHIND),
 ];
 
-/// All of them are drawn; else what the first says is named that isn't.
+/// The same for the history with these last lines.
 fn are_drawn(alloc: Global, drawn: &Drawn) -> Option<&'static str> {
     let (last, status, rows) = *drawn;
     match &visits(alloc, last) {

@@ -26,7 +26,7 @@ fn has_begun(history: &[Event]) -> bool
     history.first().is_some()
 }
 
-/// A seat that is outside enters an open monitor.
+/// Enters the seat if the floor is open, the seat is outside, and it has an event left.
 pub(crate) fn enter<K: Kind>(floor: &mut Floor<K, Buffer>, seat: u8)
     requires { seat < floor.old.seats }
     ensures { IsSameSize floor.old floor.new }

@@ -1,4 +1,4 @@
-//! Worked histories of floors, and what a floor tells.
+//! Worked histories of floors, and what a floor answers.
 ghost use Rattle.monk_tests.specs.FloorCalls.{IsRoom};
 
 mod stories;
@@ -23,7 +23,7 @@ fn refusal(rt: &HostRuntime, seats: u8, conds: u8, budget: u32) -> Result<Option
     }
 }
 
-/// Seats, conditions and budgets, and what is told of them.
+/// Seats, conditions and budgets, and the fault of a floor that is made of them, if any.
 static REFUSALS: [(u8, u8, u32, Option<MakeFault>); 6] = [
     (0, 9, 1, Some(MakeFault::Seats)),
     (33, 9, 1, Some(MakeFault::Seats)),
@@ -57,7 +57,7 @@ const HOARE_HANDOVER: [Event; 11] = [
 
 const TWO_AND_TWO: Size = Size { seats: 2, conds: 2 };
 
-/// What is left to seat 0, how often it was granted the monitor, whether it is queued, and who waits on condition 1.
+/// How many events seat 0 has left, how many chose it, whether it is queued, and how many wait on condition 1.
 fn looks<K: Kind>(floor: &Floor<K, Buffer>) -> (u32, u32, bool, u32)
     requires { IsRoom 2 2 ITEMS floor.now }
 {
@@ -69,7 +69,7 @@ fn looks<K: Kind>(floor: &Floor<K, Buffer>) -> (u32, u32, bool, u32)
     )
 }
 
-/// Whether the floor tells of both halves of a hand-over what came of them.
+/// Whether the floor gives the right answers after each half of a hand-over.
 fn tells_of_both(rt: &HostRuntime, floor: &mut Floor<Pb, Buffer>) -> Result<bool, Fail>
     requires { IsRoom 2 2 ITEMS floor.old }
 {
@@ -82,7 +82,7 @@ fn tells_of_both(rt: &HostRuntime, floor: &mut Floor<Pb, Buffer>) -> Result<bool
     Ok(signalled && left && floor.history().len() == 11)
 }
 
-/// The same of a new floor.
+/// The same for a new floor.
 fn is_told_of_both(rt: &HostRuntime) -> Result<bool, Fail> {
     let mut floor: Floor<Pb, Buffer> = room(rt, TWO_AND_TWO)?;
     tells_of_both(rt, &mut floor)
@@ -94,7 +94,7 @@ fn what_a_floor_tells(rt: HostRuntime) -> Result<(), Fail> {
     Ok(())
 }
 
-/// Whether the floor tells of the hand-over what came of it, and is closed with it.
+/// Whether the floor gives the right answers after the hand-over, and closes with its buffer and history.
 fn is_closed_with_it(floor: Floor<Pb, Buffer>) -> bool
     requires { IsRoom 2 2 ITEMS floor }
 {

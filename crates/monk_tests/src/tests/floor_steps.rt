@@ -194,7 +194,7 @@ pub(crate) fn runs_explicitly<K: Explicit>(
     Ok(true)
 }
 
-/// The same where a signal to all is a call of its own.
+/// The same for a kind whose signal to all is a call of its own.
 fn calls_non_blocking<K: NonBlocking>(
     size: Size,
     floor: &mut Floor<K, Buffer>,

@@ -1,5 +1,5 @@
-//! A floor with as many seats and condition variables as there can be: each queue keeps its own
-//! order, whatever joins the others meanwhile.
+//! A floor with as many seats and condition variables as there can be. Each queue keeps its own
+//! order while seats join the others.
 ghost use Rattle.std.specs.Prelude.{◌≡◌, ◌<◌, IfOk, IsTrue};
 ghost use Rattle.monk_tests.specs.FloorCalls.{IsSameSize, OwnsTurn};
 
@@ -18,7 +18,7 @@ const CONDS: u8 = 8;
 /// The order in which the conditions are signalled.
 static ORDER: [u8; 8] = [5, 2, 7, 0, 3, 6, 1, 4];
 
-/// The seat that signals: as many seats as there are conditions wait before it, three times over.
+/// The seat that signals. Before it, three seats wait on each condition.
 const SIGNALLER: u8 = 24;
 
 fn room(rt: &HostRuntime) -> Result<Floor<Pnb, Buffer>, Fail>
@@ -101,7 +101,7 @@ fn all_arrive(floor: &mut Floor<Pnb, Buffer>) -> bool
     true
 }
 
-/// One seat more signals each condition, and goes on each time.
+/// One more seat signals each condition, and goes on each time.
 fn all_are_signalled(floor: &mut Floor<Pnb, Buffer>) -> bool
     requires seats { floor.old.seats ≡ SEATS }
     requires conds { floor.old.conds ≡ CONDS }
@@ -130,7 +130,7 @@ fn all_depart(floor: &mut Floor<Pnb, Buffer>) -> bool
     well & steps(floor, Event::Leave(last, Next::Entry))
 }
 
-/// How many seats wait on each condition.
+/// Whether `count` seats wait on each condition.
 fn all_wait(floor: &Floor<Pnb, Buffer>, count: u32) -> bool
     requires { floor.now.conds ≡ CONDS }
 {

@@ -1,4 +1,4 @@
-//! Halls at work in one thread, where each answer is compared: what the calls of a test have in common.
+//! Halls at work in one thread, with each answer compared. Here are the calls that the tests share.
 ghost use Rattle.std.specs.Prelude.{◌≡◌, ◌<◌, IfSome, IfOk};
 ghost use Rattle.monk_hall.specs.Tokens.{AreOf};
 
@@ -36,7 +36,7 @@ fn hall<K: Kind>(
     Ok(Hall::make(rt.alloc(), buffer, seats, conds, budget)?)
 }
 
-/// The last of the passes.
+/// Takes the last of the passes.
 fn take<K: Kind>(
     hall: &Hall<K, Buffer>,
     passes: &mut Vec<Pass<K, Buffer>>,
@@ -109,7 +109,7 @@ fn three_from_here<K: Kind>(
     Ok((hall, first, second, third))
 }
 
-/// Arrives, if it has enough left.
+/// Arrives, if the seat has enough left.
 fn arrive<K: Kind>(hall: &Hall<K, Buffer>, pass: Pass<K, Buffer>) -> Option<Parked<K, Buffer>>
     requires { pass.hall ≡ hall.now.id }
     ensures { IfSome result (λ p. (p.hall ≡ hall.now.id) × (p.me.setting ≡ pass.me.setting)) }
@@ -120,7 +120,7 @@ fn arrive<K: Kind>(hall: &Hall<K, Buffer>, pass: Pass<K, Buffer>) -> Option<Park
     Some(pass.arrive(hall))
 }
 
-/// Comes in, if it is its turn. Else it is given up.
+/// Comes in, if it is the seat's turn. Else the seat is given up.
 fn comes_in<K: Kind>(hall: &Hall<K, Buffer>, parked: Parked<K, Buffer>) -> Option<Active<K, Buffer>>
     requires { parked.hall ≡ hall.now.id }
     ensures { IfSome result (λ a. (a.hall ≡ hall.now.id) × (a.me.setting ≡ parked.me.setting)) }
@@ -227,7 +227,7 @@ fn comes_in_and_puts<K: Kind>(
     Some(active)
 }
 
-/// Comes in, and leaves: whether it found this history.
+/// Comes in and leaves. Returns whether the seat found this history.
 fn comes_in_and_finds<K: Kind>(
     hall: &Hall<K, Buffer>,
     parked: Parked<K, Buffer>,

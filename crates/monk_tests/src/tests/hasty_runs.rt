@@ -1,4 +1,4 @@
-//! Runs in haste: what they tell, and the history that goes into the file.
+//! Runs of the hasty buffer: what they print, and the history that goes into the file.
 
 use super::jobs::Expected;
 use super::records::is_legal;
@@ -9,8 +9,7 @@ use std::sync::Wait;
 use std::test::Fail;
 use std::thread::Threads;
 
-/// Whether a run of four seats and ten rounds tells exactly this text, and its history is legal and has a first line
-/// that ends so.
+/// Whether a run of four seats and ten rounds prints exactly this text, and its history is legal.
 fn tells<R: Threads + Wait + Sync + AllocGlobal>(rt: &R, kind: KindName, text: &str) -> bool {
     let alloc = rt.alloc();
     let mut history = Vec::new(alloc);
@@ -34,8 +33,8 @@ fn tells<R: Threads + Wait + Sync + AllocGlobal>(rt: &R, kind: KindName, text: &
         && is_legal(alloc, history.as_slice())
 }
 
-/// The kinds in which no caller comes between a signal and the seat that it serves, or a wait goes
-/// on where its predicate holds.
+/// The kinds in which no caller comes between a signal and the seat that it serves, or in which a
+/// wait goes on only if its predicate holds.
 static SURE: [KindName; 7] = [
     KindName::Pb,
     KindName::Npb,
@@ -57,7 +56,7 @@ fn hasty_runs_tell_what_they_missed(rt: HostRuntime) -> Result<(), Fail> {
     Ok(())
 }
 
-/// Whether nothing is told where the file fails at its first write, or takes nothing there.
+/// Whether nothing is printed if the file fails at its first write, or takes nothing there.
 fn tells_nothing<R: Threads + Wait + Sync + AllocGlobal>(rt: &R, refuses: bool) -> bool {
     let mut page = Vec::new(rt.alloc());
     let mut file = Device::new(Expected::failing(b"", 1, 1, refuses));

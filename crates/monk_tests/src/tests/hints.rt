@@ -1,4 +1,4 @@
-//! Inputs that a command can't read, and what to do about them; and options that name what an input doesn't have.
+//! Hints on inputs that a command can't read, and on options that name what an input doesn't have.
 
 use super::questions::{ASKED, EXPLAIN, FIT};
 use monk_commands::{FitForm, Question, Task, hint_for, line_hint_for, option_hint_for};
@@ -8,7 +8,7 @@ use std::alloc::Global;
 use std::fmt;
 use std::test::Fail;
 
-/// A command, the front of its input, and the hint, which is empty where there is none.
+/// A command, the front of its input, and the hint, which is empty if there is none.
 type Row = (Task<'static>, &'static [u8], &'static str);
 
 static HINTS: [Row; 20] = [
@@ -163,15 +163,15 @@ static LINE_HINTS: [Row; 14] = [
         b"play 2 PB 2 0 buffer 1 8\n0 signal-all\n",
         "line 2 should be `SEAT signal-all COND`",
     ),
-    // A line that isn't ended has another fault, and so has a first line.
+    // A line that isn't ended has another fault, and so has the first line.
     (Task::Audit, b"monk 1 PB 2 0 buffer 1\nenter 0", ""),
     (Task::Audit, b"monk 1 PB 2 0 buffer\nstay 0\n", ""),
-    // What the command doesn't read has a hint of its own.
+    // A text that the command doesn't read has a hint of its own.
     (Task::Audit, b"log 1 1 0 buffer 1\nstay 0\n", ""),
     (Task::Audit, b"monk 1 PB 2 0 buffer 1\nenter 0 free\n", ""),
 ];
 
-/// A meaning of a condition that isn't there, and those of predicates that some object or none has.
+/// Meanings: of conditions that aren't there, and by predicates that some objects or none have.
 const ON_NINE: WaitsFor = WaitsFor { cond: 9, pred: 9 };
 
 const ON_TWO: WaitsFor = WaitsFor { cond: 2, pred: 1 };
@@ -323,7 +323,7 @@ static OPTION_HINTS: [Row; 14] = [
     ),
 ];
 
-/// Whether the hint prints itself so; of none the text is empty.
+/// Whether the hint prints as `wanted`, which is empty if there is none.
 fn prints<T: Copy + fmt::Display>(alloc: Global, hint: Option<T>, wanted: &str) -> bool {
     match hint {
         Some(hint) => {

@@ -4,11 +4,11 @@ use super::jobs::{Job, is_answered};
 use monk_commands::Task;
 use std::alloc::{AllocError, Global};
 
-/// The stored run.
+/// The text of the history.
 const RUN: &[u8] =
     b"monk 1 PB 2 2 buffer 1\nenter 0 free\nwait 0 1 entry\nenter 1 free\nsignal 1 1 waiter 0\nresume 0 waiter\nleave 0 signaller 1\nresume 1 signaller\nleave 1 entry\n";
 
-/// What is answered to the first bytes of the stored run, in which so many lines end.
+/// Returns the answer to the front of the text, in which `lines` lines end.
 fn answer_to_front(alloc: Global, front: &[u8], lines: u32) -> Result<String, AllocError> {
     match front.last() {
         None => format!(in alloc; "unreadable 1 1 header\n"),
@@ -17,7 +17,7 @@ fn answer_to_front(alloc: Global, front: &[u8], lines: u32) -> Result<String, Al
     }
 }
 
-/// Whether the first bytes of the stored run, in which so many lines end, have their answer.
+/// Whether the front of the text, in which `lines` lines end, has its answer.
 fn is_front_answered(rt: &HostRuntime, front: &[u8], lines: u32) -> bool {
     let Ok(answer) = answer_to_front(rt.alloc(), front, lines) else {
         return false;
@@ -32,7 +32,7 @@ fn is_front_answered(rt: &HostRuntime, front: &[u8], lines: u32) -> bool {
     matches!(is_answered(rt, &job), Ok(true))
 }
 
-/// The stored run, cut after each number of bytes.
+/// Each front that ends at the end of a line is legal, and any other is unreadable.
 #[test]
 fn a_text_cut_short(rt: HostRuntime) {
     let mut lines = 0u32;

@@ -1,4 +1,4 @@
-//! An input of a command, and what is answered to it.
+//! An input of a command, and the answer to it.
 
 use monk_commands::{StreamFault, Task};
 use monk_history::Device;
@@ -6,7 +6,7 @@ use std::io;
 use std::io::Write;
 use std::test::Fail;
 
-/// An input, what is made of it, and what is answered.
+/// An input, what is done with it, and the answer.
 #[derive(Clone, Copy)]
 pub(crate) struct Job<'a> {
     pub(crate) name: &'static str,
@@ -25,13 +25,13 @@ pub(crate) struct Expected<'a> {
     /// How many bytes it took.
     pub(crate) taken: usize,
     step: usize,
-    /// Counted down to the one that fails; at 0 none will.
+    /// Counts down to the write that fails; at 0 no write will fail.
     writes_left: usize,
     refuses: bool,
 }
 
 impl<'a> Expected<'a> {
-    /// One that takes all that it gets.
+    /// Returns one that takes all that it gets.
     pub(crate) fn new(answer: &'a [u8]) -> Self {
         Expected {
             rest: answer,
@@ -43,7 +43,7 @@ impl<'a> Expected<'a> {
         }
     }
 
-    /// One that takes so many bytes at a time, and fails at the write of that number or takes none.
+    /// Returns one that takes `step` bytes at a time. At write `writes_left` it fails, or takes none if `refuses`.
     pub(crate) fn failing(
         answer: &'a [u8],
         step: usize,
@@ -93,8 +93,8 @@ impl Write for Expected<'_> {
     }
 }
 
-/// Whether the answer that was looked for was written, and nothing else, with its status. Where
-/// memory was refused, that is the fault, and nothing was written.
+/// Whether exactly the expected answer was written, with its status. A fault, such as refused
+/// memory, is returned if nothing was written.
 pub(crate) fn is_answered(rt: &HostRuntime, job: &Job<'_>) -> Result<bool, StreamFault> {
     let mut answer = Expected::new(job.answer);
     let mut reader = Device::new(job.input);
@@ -110,7 +110,7 @@ pub(crate) fn is_answered(rt: &HostRuntime, job: &Job<'_>) -> Result<bool, Strea
     }
 }
 
-/// Each of them has its answer; else the first that has another one is named.
+/// Tests that each job has its answer. Names the first that has another.
 pub(crate) fn are_answered(rt: &HostRuntime, jobs: &[Job<'static>]) -> Result<(), Fail> {
     for job in jobs {
         if !is_answered(rt, job)? {

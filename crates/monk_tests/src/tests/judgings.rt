@@ -9,19 +9,19 @@ use monk_logs::{LogLine, read_log};
 use monk_object::Buffer;
 use std::test::Fail;
 
-/// The lines of a log of three seats, one condition and a buffer for one item, and what is told of them.
+/// The lines of a log of three seats, one condition and a buffer for one item, and the report on them.
 struct Row {
     lines: &'static [u8],
     misfit: Option<(usize, Blame)>,
-    /// How many were served, passed others, woke unasked; and how many signals found nobody.
+    /// How many were served, passed others and woke unasked, and how many signals found nobody.
     counts: [u64; 4],
     first_spurious: Option<usize>,
     last_unheard: Option<usize>,
-    /// Who has the lock at the end since when, how many sleep, and how many were woken.
+    /// At the end: who has the lock and since when, how many sleep, and how many were woken.
     end: (Option<Holder>, u8, u8),
 }
 
-/// The lines behind the header of such a log.
+/// Reads the lines after the header of such a log.
 fn lines_of(rt: &HostRuntime, lines: &[u8]) -> Result<Vec<LogLine>, Fail>
     ensures { IfOk result (λ v. length v.items ≤ most_lines) }
 {
@@ -32,10 +32,10 @@ fn lines_of(rt: &HostRuntime, lines: &[u8]) -> Result<Vec<LogLine>, Fail>
     Ok(lines)
 }
 
-/// What those wait for who wait on the condition: that the buffer isn't empty.
+/// Those who wait on the condition wait until the buffer isn't empty.
 static MEANS: [WaitsFor; 1] = [WaitsFor { cond: 0, pred: 1 }];
 
-/// What a judge tells of a log.
+/// Returns a judge's report on a log.
 fn judged(rt: &HostRuntime, lines: &[u8]) -> Result<Report, Fail> {
     let lines = lines_of(rt, lines)?;
     let buffer = Buffer::make(rt.alloc(), 1)?;
@@ -62,7 +62,7 @@ fn is_row(report: &Report, row: &Row) -> bool {
 const FREE: (Option<Holder>, u8, u8) = (None, 0, 0);
 
 static ROWS: [Row; 12] = [
-    // A waiter is served, and comes back behind the signaller.
+    // A waiter is served, and comes back after the signaller.
     Row {
         lines: b"enter 0\nwait 0 0\nenter 1\nsignal 1 0\nleave 1\nresume 0\nleave 0\n",
         misfit: None,
@@ -116,7 +116,7 @@ static ROWS: [Row; 12] = [
         last_unheard: None,
         end: (None, 0, 1),
     },
-    // A wait that ran out before the signal, so that it finds nobody.
+    // A wait runs out before the signal, which therefore finds nobody.
     Row {
         lines: b"enter 0\nwait 0 0\nenter 1\nsignal 1 0\nleave 1\nlapse 0\nleave 0\n",
         misfit: None,
@@ -134,7 +134,7 @@ static ROWS: [Row; 12] = [
         last_unheard: None,
         end: (Some(Holder { seat: 0, since: 0 }), 0, 0),
     },
-    // A thread does without the lock what needs it.
+    // A thread leaves without the lock.
     Row {
         lines: b"enter 0\nwait 0 0\nleave 0\n",
         misfit: Some((2, Blame::NoLock)),
@@ -143,7 +143,7 @@ static ROWS: [Row; 12] = [
         last_unheard: None,
         end: (None, 1, 0),
     },
-    // A thread comes in that sleeps, and one comes back that doesn't.
+    // A thread that sleeps comes in. In the next row one that doesn't sleep comes back.
     Row {
         lines: b"enter 0\nwait 0 0\nenter 0\n",
         misfit: Some((2, Blame::Asleep)),
@@ -178,7 +178,7 @@ fn logs_are_judged(rt: HostRuntime) -> Result<(), Fail> {
     Ok(())
 }
 
-/// Logs, and the first line of each behind which a thread sleeps though the buffer isn't empty.
+/// Logs, and the first line of each after which a thread sleeps though the buffer isn't empty.
 static MISSED: [(&[u8], Option<usize>); 4] = [
     // A thread puts an item and sends no signal.
     (
@@ -191,7 +191,7 @@ static MISSED: [(&[u8], Option<usize>); 4] = [
     ),
     // A thread sleeps though an item is there.
     (b"enter 0\nact 0 0 7 1\nwait 0 0\n", Some(2)),
-    // A signal from outside can be on its way to who sleeps.
+    // A signal from outside may be on its way to the sleeper.
     (
         b"enter 0\nsignal 1 0\nwait 0 0\nenter 1\nact 1 0 7 1\nleave 1\n",
         None,
@@ -206,8 +206,8 @@ fn missed_signals_are_named(rt: HostRuntime) -> Result<(), Fail> {
     Ok(())
 }
 
-/// Logs in each of which a woken thread comes back behind another: how many do, how many of these wait
-/// again at once, and the first that doesn't.
+/// Logs in which a woken thread comes back: how many come back after another was inside, how many of
+/// these wait again at once, and the first line of one that doesn't.
 static OVERTAKEN: [(&[u8], u64, u64, Option<usize>); 3] = [
     (
         b"enter 0\nwait 0 0\nenter 1\nsignal 1 0\nleave 1\nenter 2\nleave 2\nresume 0\nleave 0\n",
@@ -241,14 +241,14 @@ fn overtaken_threads_are_counted(rt: HostRuntime) -> Result<(), Fail> {
     Ok(())
 }
 
-/// The run that a log tells.
+/// Returns the run that tells a log.
 fn run(rt: &HostRuntime, lines: &[u8]) -> Result<Run, Fail> {
     let lines = lines_of(rt, lines)?;
     let buffer = Buffer::make(rt.alloc(), 1)?;
     Ok(run_of_log(rt.alloc(), 3, 1, buffer, &lines)?)
 }
 
-/// The lines of its steps.
+/// Returns the lines of its steps.
 fn text_of(rt: &HostRuntime, lines: &[u8]) -> Result<String, Fail> {
     let run = run(rt, lines)?;
     let mut text = String::new(rt.alloc());
@@ -258,7 +258,7 @@ fn text_of(rt: &HostRuntime, lines: &[u8]) -> Result<String, Fail> {
     Ok(text)
 }
 
-/// A log in which a signal wakes one of two, a wait runs out, and a thread wakes unasked; and its run.
+/// A log in which a signal wakes one of two, a wait runs out, and a thread wakes unasked; and its run up to the misfit.
 static LOG: &[u8] =
     b"enter 0\nwait 0 0\nenter 1\nwait 1 0\nsignal 2 0\nresume 1\nact 1 0 7 1\nbroadcast 1 0\nleave 1\nenter 2\nwait 2 0\nlapse 2\nwait 2 0\nresume 2\nleave 1\n";
 
@@ -271,7 +271,7 @@ fn runs_are_found(rt: HostRuntime) -> Result<(), Fail> {
     Ok(())
 }
 
-/// Where the seat is behind the lines.
+/// Returns where the seat is after the lines.
 fn place_behind(rt: &HostRuntime, lines: &[u8], seat: u8) -> Result<Option<Place>, Fail> {
     let lines = lines_of(rt, lines)?;
     let ends = look_ahead(rt.alloc(), &lines)?;

@@ -38,7 +38,7 @@ fn other_texts_name_no_kind(rt: HostRuntime) {
     }
 }
 
-/// Three priorities of 0 to 3 have all thirteen orderings. Entry is above neither other in six of them, whose kinds
+/// Three priorities of 0 to 3 have all thirteen orderings. In six of them entry is above neither other. Their kinds
 /// are the six with a signaller queue.
 #[test]
 fn thirteen_orderings(rt: HostRuntime) {

@@ -1,4 +1,4 @@
-//! Pictures of logs: of a run that tells the log, up to the line that misfits.
+//! Pictures of logs. Each shows a run that tells the log, up to the line that misfits.
 
 use super::drawings::{Drawing, shows};
 use monk_commands::Task;
@@ -53,7 +53,7 @@ static DRAWINGS: [Drawing<'static>; 6] = [
     },
 ];
 
-/// Whether the log is drawn so.
+/// Whether the log has this picture.
 fn is_drawn(alloc: Global, drawing: &Drawing<'static>) -> bool {
     let mut page = Vec::new(alloc);
     let mut reader = Device::new(drawing.input);

@@ -26,7 +26,7 @@ const SHORT_LINES: [LogLine; 10] = [
     LogLine::Enter(9),
 ];
 
-/// Whether these are the lines, and then there is none, however often one asks.
+/// Whether these are all the lines, and then there is none, however often one asks.
 fn are(lines: &mut LogLines<'_>, want: &[LogLine]) -> bool {
     for line in want {
         if lines.next() != Some(*line) {

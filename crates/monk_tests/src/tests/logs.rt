@@ -17,7 +17,7 @@ fn outcome(rt: &HostRuntime, bytes: &[u8]) -> (u8, u32) {
     }
 }
 
-/// The fault's number and line, or 0 and 0, of a text whose lines are not kept.
+/// The fault's number and line, or 0 and 0, for a text whose lines are not kept.
 fn checked(bytes: &[u8]) -> (u8, u32) {
     match LogLines::check(bytes) {
         Ok(_) => (0, 0),
@@ -53,7 +53,7 @@ fn each_line_of_a_log(rt: HostRuntime) -> Result<(), Fail> {
     Ok(())
 }
 
-/// Texts, and what is told of them.
+/// Texts, and the outcome of each.
 static FAULTY_LOGS: [(&[u8], u8, u32); 12] = [
     (b"", 1, 1),
     (b"log 1 2 1 buffer 1", 4, 1),
@@ -78,7 +78,7 @@ fn faulty_logs(rt: HostRuntime) {
     }
 }
 
-/// Numbers of a header, and whether there is such a one.
+/// Seats, conditions, object and size, and whether there is such a header.
 static HEADERS: [(u8, u8, ObjectName, u8, bool); 7] = [
     (1, 0, ObjectName::Buffer, 1, true),
     (32, 8, ObjectName::Book, 255, true),
@@ -100,7 +100,7 @@ fn headers_of_logs(rt: HostRuntime) {
 const SIGNALLER_FIRST: &[u8] =
     b"log 1 2 1 buffer 1\nenter 0\nwait 0 0\nenter 1\nsignal 1 0\nleave 1\nresume 0\nleave 0\n";
 
-/// The same, and the seat that was signalled goes on.
+/// The same, but the seat that was signalled goes on.
 const SIGNALLED_FIRST: &[u8] =
     b"log 1 2 1 buffer 1\nenter 0\nwait 0 0\nenter 1\nsignal 1 0\nresume 0\nleave 0\nresume 1\nleave 1\n";
 
@@ -112,8 +112,8 @@ const BARGED: &[u8] =
 const OVERTAKEN: &[u8] =
     b"log 1 3 1 buffer 1\nenter 0\nwait 0 0\nenter 1\nwait 1 0\nenter 2\nsignal 2 0\nsignal 2 0\nleave 2\nresume 1\n";
 
-/// A log, and the line that misfits the kind with what is to blame, if one does. Under immediate return the line behind
-/// a signal says which signal it is.
+/// A log, and the line that misfits the kind and the reason, if one does. Under immediate return the line after a
+/// signal says which signal it is.
 type Judged = (&'static str, KindName, &'static [u8], Option<(u32, Blame)>);
 
 static JUDGED: [Judged; 16] = [
@@ -205,7 +205,7 @@ static JUDGED: [Judged; 16] = [
     ),
 ];
 
-/// Whether that is found of the log.
+/// Whether the log has that misfit, or none.
 fn is_found(rt: &HostRuntime, row: &Judged) -> Result<bool, Fail> {
     let (_, kind, text, misfit) = *row;
     let (header, lines) = read_log(rt.alloc(), text)?;
@@ -229,7 +229,7 @@ fn logs_are_judged(rt: HostRuntime) -> Result<(), Fail> {
 const PAST_A_SIGNALLER: &[u8] =
     b"log 1 3 1 buffer 1\nenter 0\nwait 0 0\nenter 1\nwait 1 0\nenter 2\nsignal 2 0\nresume 0\nsignal 0 0\nleave 0\n";
 
-/// Logs whose last line misfits behind a release, under the kind, and what is to blame.
+/// Kinds, logs whose last line misfits the kind after a release, and the reason.
 static BLAMED: [(KindName, &[u8], Blame); 16] = [
     (
         KindName::Npnb,
@@ -323,7 +323,7 @@ fn each_reason_behind_a_release(rt: HostRuntime) -> Result<(), Fail> {
     Ok(())
 }
 
-/// The nine, with their numbers and words.
+/// The nine reasons, with their numbers and words.
 static REASONS: [(Blame, u8, &str); 9] = [
     (Blame::Range, 1, "range"),
     (Blame::Call, 2, "call"),
@@ -343,7 +343,7 @@ fn reasons_are_numbered(rt: HostRuntime) {
     }
 }
 
-/// Whether the object is refused where the log names one that is too great.
+/// The object is refused if the log names one that is too great.
 #[test]
 fn too_great_an_object_of_a_log(rt: HostRuntime) -> Result<(), Fail> {
     let (header, lines) = read_log(rt.alloc(), b"log 1 2 1 book 33\n")?;

@@ -5,7 +5,7 @@ use std::hint::spin_loop;
 use std::sync::atomic::{AtomicBool, Ordering};
 use std::test::Fail;
 
-/// How often a worker looks for the other, with a pause each time: some seconds long.
+/// How often a worker looks for the other, with a pause each time: some seconds in all.
 const MOST_LOOKS: u32 = 100_000_000;
 
 /// A gate at which each of two workers has to be there before the other may go on.
@@ -45,7 +45,7 @@ fn workers_run_side_by_side(rt: HostRuntime) -> Result<(), Fail> {
         second: AtomicBool::new(false),
         missed: AtomicBool::new(false),
     };
-    // Late, where a worker has waited for the other to end.
+    // The run is late if a worker waited for the other to end.
     let outcome = run::<Pb, _, Meeting>(&rt, rt.alloc(), Sample::Buffer, 2, 1, &meeting)?;
     assert!(rt; outcome.totals == [1, 1, 1, 1]);
     Ok(())

@@ -2,12 +2,12 @@ use super::marks::{from_here, up_to_here};
 use monk_object::{Book, Buffer, Flags, Guarded, ObjectFault, ObjectName, Op, Shop};
 use std::test::Fail;
 
-/// What is done with an object, or looked at.
+/// What is done with an object, or asked of it.
 #[derive(Clone, Copy)]
 enum Step {
     /// An operation, by its code and its argument, and its reply.
     Act(u8, u32, u64),
-    /// Which predicates hold; there are as many.
+    /// Which predicates hold, with one entry for each.
     Holds(&'static [bool]),
     /// Which predicates hold, as the bits of a number.
     Bits(u32),
@@ -34,7 +34,7 @@ fn bits_of<T: Guarded>(object: &T) -> u32 {
     bits
 }
 
-/// Whether the step comes to what it must.
+/// Whether the act has its reply, or the predicates hold as the step says.
 fn is_so<T: Guarded>(object: &mut T, step: Step) -> bool {
     match step {
         Step::Act(code, arg, reply) => code < T::CODES && object.act(Op { code, arg }) == reply,
@@ -43,7 +43,7 @@ fn is_so<T: Guarded>(object: &mut T, step: Step) -> bool {
     }
 }
 
-/// Whether each of the steps does, and takes no memory.
+/// Whether this is so for each of the steps, and they take no memory.
 fn are_so<T: Guarded>(rt: &HostRuntime, object: &mut T, steps: &[Step]) -> Result<bool, Fail> {
     from_here(rt)?;
     for step in steps {
@@ -141,7 +141,7 @@ fn book_shop_and_flags(rt: HostRuntime) -> Result<(), Fail> {
     Ok(())
 }
 
-/// The number of the fault, or 0 where there is none.
+/// The number of the fault, or 0 if there is none.
 fn number_of<T>(made: &Result<T, ObjectFault>) -> u8 {
     match made {
         Ok(_) => 0,
@@ -152,7 +152,7 @@ fn number_of<T>(made: &Result<T, ObjectFault>) -> u8 {
 /// Sizes of buffers and shops, and the number of the fault: 1 and the greatest are taken, 0 and one above are not.
 static LARGE: [(u8, u8); 4] = [(0, 1), (1, 0), (64, 0), (65, 1)];
 
-/// The same of books and flags.
+/// The same for books and flags.
 static SMALL: [(u8, u8); 4] = [(0, 1), (1, 0), (32, 0), (33, 1)];
 
 #[test]

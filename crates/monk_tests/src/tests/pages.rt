@@ -8,7 +8,7 @@ use monk_page::{NOTHING_TOLD, article, page_of};
 use std::alloc::{AllocError, Global};
 use std::test::Fail;
 
-/// A hand-over as Hoare's, of a kind whose signallers go on.
+/// A hand-over as Hoare's, under a kind whose signallers go on.
 const WHERE_SIGNALLERS_GO_ON: &[u8] =
     b"monk 1 PNB 2 2 buffer 1\nenter 0 free\nact 0 1 0 0\nwait 0 1 entry\nenter 1 free\nact 1 0 7 1\nsignal 1 1 waiter 0\nresume 0 waiter\n";
 
@@ -16,7 +16,7 @@ const WHERE_SIGNALLERS_GO_ON: &[u8] =
 const UNTIL: &[u8] =
     b"monk 1 PIS 2 0 buffer 1\nenter 0 free\nuntil 0 1 entry\nenter 1 free\nact 1 0 5 1\nleave 1 until 0\n";
 
-/// A page, and what is written in it.
+/// The history and the window of a page, and words that are in it.
 #[derive(Clone, Copy)]
 struct Page<'a> {
     input: &'a [u8],
@@ -68,7 +68,7 @@ static PAGES: [Page<'static>; 9] = [
         to: None,
         says: "\"event\":\"act 1 0 7 1\",\"inside\":[0,1],\"ready\":null,\"signaller\":[],\"state\":[1,7],\"turn\":\"of 1\",\"until\":null,\"waiter\":[]}],\"verdict\":\"forbidden 6 6 choice\",\"version\":1}",
     },
-    // The forbidden event is behind the window.
+    // The forbidden event is after the window.
     Page {
         input: WHERE_SIGNALLERS_GO_ON,
         from: Some(2),
@@ -83,7 +83,7 @@ static PAGES: [Page<'static>; 9] = [
     },
 ];
 
-/// The page of a history beside which nothing is told.
+/// Returns the page of a history without names and data of a program.
 pub(super) fn single_page(
     alloc: Global,
     header: &Header,
@@ -96,7 +96,7 @@ pub(super) fn single_page(
     Ok(page_of(alloc, article.as_str())?)
 }
 
-/// The page of a text that can be read.
+/// Returns the page of a text, or nothing if the text can't be read.
 fn read_page(
     alloc: Global,
     text: &[u8],
@@ -111,7 +111,7 @@ fn read_page(
     Some(single_page(alloc, &header, &events, window))
 }
 
-/// Whether the page says so, and is one.
+/// Whether the text is a page, and has these words.
 fn says(page: &str, words: &str) -> bool {
     page.starts_with("<!DOCTYPE html>")
         && page.ends_with("</html>\n")
@@ -119,7 +119,7 @@ fn says(page: &str, words: &str) -> bool {
         && page.find(words).is_some()
 }
 
-/// Whether the page that is asked for says so.
+/// Whether the page that is asked for has its words.
 fn is_paged(alloc: Global, asked: &Page<'_>) -> bool {
     let Ok(window) = Window::asked(asked.from, asked.to) else {
         return false;
@@ -153,7 +153,7 @@ fn thousand_visits(alloc: Global) -> Result<String, AllocError> {
     Ok(text)
 }
 
-/// How many pieces the page of the widest window has between its steps.
+/// Returns the number of pieces into which the steps divide the page of the widest window.
 fn pieces_of_widest(alloc: Global, text: &str) -> usize {
     let Ok(window) = Window::asked(Some(1), Some(2000)) else {
         return 0;

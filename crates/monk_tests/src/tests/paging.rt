@@ -1,4 +1,4 @@
-//! The pages that the command writes; what stands in those of histories, the tests of pages say.
+//! The pages that the command writes. What is in those of histories is tested in `pages`.
 
 use monk_commands::Task;
 use monk_draw::Window;
@@ -6,7 +6,7 @@ use monk_history::Device;
 use std::alloc::Global;
 use std::test::Fail;
 
-/// A text of which a page is to be made, of which events, what is written in it, and the status.
+/// The text of a page, the first event that is asked for, words that are in the page, and the status.
 type Row = (&'static [u8], Option<u32>, &'static str, u8);
 
 /// Seat 2 comes in between the signal and seat 0, which doesn't test again.
@@ -66,7 +66,7 @@ static ROWS: [Row; 9] = [
     ),
 ];
 
-/// Whether that is written.
+/// Whether the page has these words and this status.
 fn is_paged(alloc: Global, row: &Row) -> bool {
     let (input, from, says, status) = *row;
     let Ok(window) = Window::asked(from, None) else {

@@ -12,7 +12,7 @@ const LOST_TICKET: &[u8] =
 const EACH: &[u8] =
     b"play 1 NPIS 32 8 shop 255 1048576\n255 arrive\n0 look\n1 out\n2 peek\n3 drop\n4 grant\n5 act 255 4294967295\n6 act 0 0\n7 leave entry\n8 wait 255 waiter\n9 signal 0 signaller\n10 signal-leave 255 entry\n11 until 3 waiter\n";
 
-/// The object that version 3 names, and actions of each version.
+/// The object that version 3 adds, and actions of each version.
 const EACH_OF_VERSION_THREE: &[u8] =
     b"play 3 PIS 2 0 flags 32 8\n0 act 0 4294967295\n0 until 31 entry\n0 signal-all 0\n";
 
@@ -45,7 +45,7 @@ struct Play {
     version: u8,
     kind: KindName,
     object: ObjectName,
-    /// Of seats, of conditions, the size and the budget.
+    /// The numbers of seats and of conditions, the size and the budget.
     numbers: (u8, u8, u8, u32),
     commands: &'static [(u8, Command)],
 }
@@ -121,7 +121,7 @@ static PLAYS: [Play; 4] = [
     },
 ];
 
-/// Whether that is read.
+/// Whether the text is read as this play.
 fn is_read(rt: &HostRuntime, play: &Play) -> Result<bool, ReadFault> {
     let (header, budget, commands) = read_play(rt.alloc(), play.text)?;
     let numbers = (header.seats(), header.conds(), header.size(), budget);
@@ -144,14 +144,14 @@ fn plays_are_read(rt: HostRuntime) -> Result<(), Fail> {
     Ok(())
 }
 
-/// What is told of the one text behind the other.
+/// Returns the outcome of the first text followed by the second.
 fn outcome_of_both(rt: &HostRuntime, first: &[u8], second: &[u8]) -> Result<(u8, u32), Fail> {
     let mut text = Vec::from_slice(rt.alloc(), first)?;
     text.extend_from_slice(second)?;
     Ok(outcome(rt, &text))
 }
 
-/// Lines that version 2 has besides, or that look like one, and what is told of each in both versions.
+/// Lines that version 2 adds, or that look like one, and the outcome of each in both versions.
 static ACTIONS_OF_VERSION_TWO: [(&[u8], (u8, u32), (u8, u32)); 6] = [
     (b"0 signal-all 0\n", (2, 2), (0, 1)),
     (b"0 signal-all x\n", (2, 2), (3, 2)),
@@ -171,7 +171,7 @@ fn actions_in_both_versions(rt: HostRuntime) -> Result<(), Fail> {
     Ok(())
 }
 
-/// First lines, and what is told of them.
+/// First lines, and the outcome of each.
 static FIRST_LINES: [(&[u8], u8, u32); 16] = [
     (b"", 1, 1),
     (b"play 1 PB 1 0 buffer 1 2\n", 0, 0),
@@ -199,7 +199,7 @@ fn first_lines(rt: HostRuntime) {
     one_play_each();
 }
 
-/// Lines behind a good first line, and what is told of them.
+/// Lines after a good first line, and the outcome of each.
 static FAULTY_LINES: [(&[u8], u8, u32); 11] = [
     (b"0 arrive\n", 0, 1),
     (b"0 leave anybody\n", 2, 2),

@@ -6,7 +6,7 @@ use monk_kinds::KindName;
 use std::alloc::AllocError;
 use std::test::Fail;
 
-/// Whether a visit is played under the kind over the object, and what is written of it in that version is legal.
+/// Whether a visit is played under the kind over the object, and its history in that version is legal.
 fn is_visited(rt: &HostRuntime, version: u8, kind: &str, object: &str) -> Result<bool, AllocError> {
     let commands = "0 arrive\n0 out\n0 act 0 5\n0 leave entry\n0 drop\n";
     let play = format!(in rt.alloc(); "play {version} {kind} 2 1 {object} 8\n{commands}")?;
@@ -29,7 +29,7 @@ fn is_visited(rt: &HostRuntime, version: u8, kind: &str, object: &str) -> Result
     Ok(matches!(is_answered(rt, &visit), Ok(true)) && matches!(is_answered(rt, &judged), Ok(true)))
 }
 
-/// The objects of their greatest sizes, and the version that names each.
+/// The objects with their greatest sizes, and the version that names each.
 static OBJECTS: [(u8, &str); 4] = [
     (1, "buffer 64"),
     (1, "book 32"),

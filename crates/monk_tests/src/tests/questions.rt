@@ -1,8 +1,8 @@
-//! How texts are asked about.
+//! The usual questions about a text.
 
 use monk_commands::{FitForm, Question, Task};
 
-/// Nothing is named but the text.
+/// A question that names only the text.
 pub(crate) const ASKED: Question<'static> = Question {
     kind: None,
     means: &[],
@@ -11,8 +11,8 @@ pub(crate) const ASKED: Question<'static> = Question {
     has_ended: false,
 };
 
-/// A finding of it in words.
+/// Writes the finding in words.
 pub(crate) const FIT: Task<'static> = Task::Fit(FitForm::Words, ASKED);
 
-/// It is explained.
+/// Explains the text.
 pub(crate) const EXPLAIN: Task<'static> = Task::Explain(ASKED);

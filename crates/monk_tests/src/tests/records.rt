@@ -1,4 +1,4 @@
-//! What a recorded run writes is audited.
+//! The history that a recorded run writes is audited.
 ghost use Rattle.monk_samples.specs.Samples.{IsInRange};
 
 use super::jobs::Expected;
@@ -17,7 +17,7 @@ pub(super) fn is_legal(alloc: Global, text: &[u8]) -> bool {
     matches!(told, Ok(0)) && line.agrees() && line.taken > 6
 }
 
-/// Whether the run is recorded with status 0 behind this header, and an audit finds its text legal.
+/// Whether the run is recorded with status 0, its text begins with `header`, and an audit finds it legal.
 fn is_recorded<R: Threads + Wait + Sync + AllocGlobal>(
     rt: &R,
     kind: KindName,

@@ -16,13 +16,13 @@ use super::jobs::is_answered;
 use std::test::Fail;
 use streams::{JOBS, PICTURES, is_drawn};
 
-/// Prints the name of the next call, which shows in which one a request was refused.
+/// Prints the name of the next call. It shows in which call a request was refused.
 fn begins(rt: &HostRuntime, call: &str) -> Result<(), Fail> {
     println!(rt; "{call}")?;
     Ok(())
 }
 
-/// Each call of the crates below the commands has its answer, or hands on its fault.
+/// Each call of the crates below the commands has its answer, or hands its fault on.
 #[test]
 fn each_call(rt: HostRuntime) -> Result<(), Fail> {
     assert!(rt; buffers::buffer(&rt)?);
@@ -37,7 +37,7 @@ fn each_call(rt: HostRuntime) -> Result<(), Fail> {
     Ok(())
 }
 
-/// The same for the commands, and for what pictures and pages are made of.
+/// The same for the commands, and for the calls that make pictures and pages.
 #[test]
 fn each_command(rt: HostRuntime) -> Result<(), Fail> {
     for job in JOBS.iter() {

@@ -107,7 +107,7 @@ static ASKING: [Asking; 32] = [
     ),
 ];
 
-/// The same of logs that are completed, and of runs.
+/// The same for logs that are completed, and for runs.
 static ASKING_FOR_MORE: [Asking; 27] = [
     (
         &["monk", "complete", "--kind", "PB"],
@@ -216,13 +216,13 @@ static ASKING_FOR_MORE: [Asking; 27] = [
     ),
 ];
 
-/// Whether the words ask for that.
+/// Whether the words ask for what is wanted.
 fn ask_for(alloc: Global, words: &[&str], wanted: &str) -> Result<bool, LineFault> {
     let line = line(alloc, words)?;
     Ok(format!(in alloc; "{line:?}")?.as_str() == wanted)
 }
 
-/// All of them ask for that; else what the first doesn't ask for is named.
+/// Tests that all rows ask for what is wanted. Names what the first that doesn't should ask for.
 fn all_ask(alloc: Global, rows: &[Asking]) -> Result<(), Fail> {
     for (words, wanted) in rows {
         if !ask_for(alloc, words, wanted)? {
@@ -250,8 +250,8 @@ fn is_refused(alloc: Global, words: &[&str]) -> bool {
     }
 }
 
-/// Words that ask for nothing; of a picture also numbers of no events, of a run a number out of
-/// range, and another kind or sample.
+/// Words that ask for nothing: for a picture also numbers of no events, for a run also a number
+/// out of range, and another kind or sample.
 static NOTHING: [&[&str]; 64] = [
     &["monk", "adit"],
     &["monk", "help"],
@@ -319,7 +319,7 @@ static NOTHING: [&[&str]; 64] = [
     &["monk", "hasty", "NPNB", "4", "200", "a", "b"],
 ];
 
-/// Words with what is gone, and what is said of it.
+/// Words that are no longer taken, and what is said about them.
 static GONE: [(&[&str], &str); 3] = [
     (
         &["monk", "fit", "--lapses", "a"],
@@ -335,7 +335,7 @@ static GONE: [(&[&str], &str); 3] = [
     ),
 ];
 
-/// Whether the words are refused with a text that ends so.
+/// Whether the words are refused with a text that ends with `end`.
 fn is_refused_with(alloc: Global, words: &[&str], end: &str) -> bool {
     match line(alloc, words) {
         Err(LineFault::Words(text)) => text.as_str().trim_end().ends_with(end),
@@ -360,7 +360,7 @@ fn words_that_ask_for_nothing(rt: HostRuntime) {
     }
 }
 
-/// Whether that is what is written of the priorities of the entry, waiter and signaller queues.
+/// Whether this is written for the priorities of the entry, waiter and signaller queues.
 fn are_classified(of: (u8, u8, u8), wanted: &[u8]) -> bool {
     let mut lines = Expected::new(wanted);
     let told = classify_stream(of.0, of.1, of.2, &mut Device::new(&mut lines));

@@ -1,4 +1,4 @@
-//! Threads over the samples: what they leave is audited, and its totals are told.
+//! Threads over the samples: the histories that they leave are audited, and the totals are printed.
 ghost use Rattle.monk_samples.specs.Samples.{IsInRange};
 
 use super::jobs::Expected;
@@ -14,7 +14,7 @@ use std::thread::Threads;
 /// How often each run is made.
 const TIMES: u32 = 20;
 
-/// Whether a run of so many threads over a buffer ends with a history that the auditor finds legal, each time.
+/// Whether each run of `seats` threads over a buffer ends with a history that the auditor finds legal.
 fn are_legal<K: Style, R: Threads + Wait + Sync + AllocGlobal>(rt: &R, seats: u8) -> bool {
     for _ in 0..TIMES {
         let Ok(outcome) = run::<K, R, OpenGate>(
@@ -36,7 +36,7 @@ fn are_legal<K: Style, R: Threads + Wait + Sync + AllocGlobal>(rt: &R, seats: u8
     true
 }
 
-/// The runs of so many threads are legal under each of some kinds; else the first is named under which one isn't.
+/// Tests that the runs of `seats` threads are legal under each of five kinds. Names the first kind with one that isn't.
 fn all_are_legal<R: Threads + Wait + Sync + AllocGlobal>(rt: &R, seats: u8) -> Result<(), Fail> {
     let other = if !are_legal::<Pb, R>(rt, seats) {
         "PB"
@@ -81,7 +81,7 @@ fn tells<R: Threads + Wait + Sync + AllocGlobal>(
     matches!(told, Ok(0)) && page.agrees() && page.taken == text.len()
 }
 
-/// A run tells exactly this text under each of the kinds; else the first is named under which it doesn't.
+/// Tests that a run prints exactly this text under each of the kinds. Names the first under which it doesn't.
 fn all_tell<R: Threads + Wait + Sync + AllocGlobal>(
     rt: &R,
     kinds: &[KindName],
@@ -120,7 +120,7 @@ fn shops_tell_who_came_and_went(rt: HostRuntime) -> Result<(), Fail> {
     all_tell(&rt, &KindName::ALL, Sample::Shop, 4, 10, text)
 }
 
-/// The line that a run prints where it doesn't serve all its rounds.
+/// The word that a run prints if it doesn't serve all its rounds, else `served`.
 fn end_of(page: &[u8]) -> &'static str {
     match page {
         b"tired\n" => "tired",
@@ -143,7 +143,7 @@ fn end_of_run<R: Threads + Wait + Sync + AllocGlobal>(
 
 static SAMPLES: [Sample; 2] = [Sample::Buffer, Sample::Book];
 
-/// It is served; where something is in its way, `checks/wrong_bodies --by tests` compares what is printed here.
+/// The run serves its round. If a wrong body ends it early, `checks/wrong_bodies --by tests` compares what is printed.
 #[test]
 fn run_says_how_it_ends(rt: HostRuntime) -> Result<(), Fail> {
     for sample in SAMPLES.iter() {

@@ -1,4 +1,4 @@
-//! Members at work in one thread, where nobody has to wait.
+//! Members at work in one thread. Nobody has to wait.
 ghost use Rattle.std.specs.Prelude.{IfOk};
 ghost use Rattle.monk_tests.specs.Passes.{AreSeats, IsSeat};
 
@@ -28,7 +28,7 @@ fn hall<K: Style, T: Guarded>(
     Ok(Hall::make(rt.alloc(), object, 2, 3, budget)?)
 }
 
-/// The last of the passes.
+/// Takes the last of the passes.
 fn last<K: Style, T: Guarded>(
     hall: &Hall<K, T>,
     passes: &mut Vec<Pass<K, T>>,
@@ -68,7 +68,7 @@ fn item_goes_through(rt: HostRuntime) -> Result<(), Fail> {
     Ok(())
 }
 
-/// Comes in at once, and leaves: whether it found this history.
+/// Comes in at once and leaves. Returns whether the seat found this history.
 fn comes_in_and_finds<K: Style, T: Guarded>(
     pass: Pass<K, T>,
     hall: &Hall<K, T>,
@@ -92,7 +92,7 @@ fn comes_in_and_finds<K: Style, T: Guarded>(
     }
 }
 
-/// A budget of two events is to come and go, so nothing is put.
+/// A budget of two events suffices only to come and go, so nothing is put.
 #[test]
 fn tired_putter_leaves(rt: HostRuntime) -> Result<(), Fail> {
     let (hall, putter, other) = two::<Pb, Buffer>(&rt, Buffer::make(rt.alloc(), 1)?, 2)?;

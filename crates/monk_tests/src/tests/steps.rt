@@ -4,7 +4,7 @@ use monk_audit::AuditFault;
 use monk_history::{Event, From3, Next, Turn, Via, read};
 use monk_tell::{Choice, Conditions, QueueLists, SeatList, Step, tell_steps};
 
-/// A hand-over as Hoare's; the last event may not enter.
+/// A hand-over as Hoare's. The last event, an enter, is forbidden.
 const HAND_OVER: &[u8] =
     b"monk 1 PB 2 2 buffer 1\nenter 0 free\nwait 0 1 entry\nenter 1 free\nact 1 0 7 1\nsignal 1 1 waiter 0\nresume 0 waiter\nenter 1 free\n";
 
@@ -12,7 +12,7 @@ const HAND_OVER: &[u8] =
 const UNTIL: &[u8] =
     b"monk 1 PIS 2 0 buffer 1\nenter 0 free\nuntil 0 1 entry\nenter 1 free\nact 1 0 5 1\nleave 1 until 0\n";
 
-/// The steps of a text that can be read, from after so many events to that one.
+/// Returns the state after `before` events and the steps up to event `last`, or nothing if the text can't be read.
 fn steps_of(
     rt: &HostRuntime,
     text: &[u8],
@@ -46,14 +46,14 @@ fn has(queue: &Option<SeatList>, want: &[u8]) -> bool {
     matches!(queue, Some(seats) if are(seats, want))
 }
 
-/// Whether these seats wait on the second condition, nobody in the waiter queue, and those in the signaller queue.
+/// Whether the second condition and the signaller queue have these seats, and the waiter queue is empty.
 fn are_queues(queues: &QueueLists, second: &[u8], signallers: &[u8]) -> bool {
     matches!(&queues.conditions, Some(conditions) if wait_on_the_second(conditions, second))
         && has(&queues.waiters, &[])
         && has(&queues.signallers, signallers)
 }
 
-/// Whether the choice was among those first in their queues, and might be these.
+/// Whether these were the first in their queues, and these the permitted choices.
 fn might_be(choice: &Option<Choice>, fronts: &[(From3, u8)], may: &[Next]) -> bool {
     match choice {
         Some(choice) => { choice.fronts.0.as_slice() == fronts && choice.may.0.as_slice() == may }
@@ -84,7 +84,7 @@ fn hands_over(step: &Step) -> bool {
         && step.standing.turn == Turn::Due(0, From3::Waiter)
 }
 
-/// Whether the hand-over is told, and who comes in by it.
+/// Whether these are the steps of the hand-over, up to the resume of the seat that it served.
 fn end_before_the_forbidden(told: &[Step]) -> bool {
     match told {
         [first, signal, resume] => {
@@ -104,7 +104,7 @@ fn steps_end_before_a_forbidden_event(rt: HostRuntime) {
     assert!(rt; matches!(&told, Some(Ok(told)) if end_before_the_forbidden(told)));
 }
 
-/// Whether the first seat comes in.
+/// Whether the steps are the opening state and the enter of the first seat.
 fn begin_with_an_entry(told: &[Step]) -> bool {
     match told {
         [first, enter] => {
@@ -125,7 +125,7 @@ fn steps_end_with_the_last_asked_for(rt: HostRuntime) {
     assert!(rt; matches!(&told, Some(Ok(told)) if told.is_empty()));
 }
 
-/// Whether a seat is ready whose predicate holds, and is chosen.
+/// Whether the seat whose predicate holds is ready, and is chosen.
 fn choose_the_ready(told: &[Step]) -> bool {
     match told {
         [act, leave] => {

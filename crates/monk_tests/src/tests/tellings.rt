@@ -1,10 +1,10 @@
-//! What is told of known histories.
+//! The tellings of known histories.
 
 use monk_audit::{AuditFault, Verdict};
 use monk_history::{Event, From3, Next, Turn, read};
 use monk_tell::{Choice, ForbiddenEvent, QueueLists, SeatList, Telling, tell};
 
-/// A hand-over as Hoare's, of a kind whose signallers go on.
+/// A hand-over as Hoare's, under a kind whose signallers go on.
 const WHERE_SIGNALLERS_GO_ON: &[u8] =
     b"monk 1 PNB 2 2 buffer 1\nenter 0 free\nact 0 1 0 0\nwait 0 1 entry\nenter 1 free\nact 1 0 7 1\nsignal 1 1 waiter 0\nresume 0 waiter\n";
 
@@ -15,7 +15,7 @@ const UNTIL: &[u8] =
 /// A reply that isn't the object's.
 const WRONG_REPLY: &[u8] = b"monk 1 PB 1 1 buffer 1\nenter 0 free\nact 0 1 0 3\n";
 
-/// What is told of a text that can be read.
+/// Returns the telling of a text, or nothing if the text can't be read.
 fn told_of(rt: &HostRuntime, text: &[u8]) -> Option<Result<Telling, AuditFault>> {
     let Ok((header, events)) = read(rt.alloc(), text) else {
         return None;
@@ -31,7 +31,7 @@ fn are(seats: &SeatList, want: &[u8]) -> bool {
     seats.0.as_slice() == want
 }
 
-/// Whether the seats of the second condition wait, and no others.
+/// Whether these seats wait on the second condition, and no others wait.
 fn wait_on_the_second(queues: &QueueLists, want: &[u8]) -> bool {
     let Some(conditions) = &queues.conditions else {
         return false;
@@ -51,7 +51,7 @@ fn is_empty(queue: &Option<SeatList>) -> bool {
     matches!(queue, Some(seats) if are(seats, &[]))
 }
 
-/// Whether the choice was among those first in their queues, and had to be this one.
+/// Whether these were the first in their queues, and `next` was the only permitted choice.
 fn had_to_be(choice: &Option<Choice>, fronts: &[(From3, u8)], next: Next) -> bool {
     match choice {
         Some(choice) => {
@@ -61,7 +61,7 @@ fn had_to_be(choice: &Option<Choice>, fronts: &[(From3, u8)], next: Next) -> boo
     }
 }
 
-/// Whether the signal is blamed, which had to let its seat go on.
+/// Whether the signal is blamed because its seat had to stay.
 fn blames_the_signal(blame: &Option<ForbiddenEvent>) -> bool {
     match blame {
         Some(blame) => {
@@ -78,7 +78,7 @@ fn blames_the_signal(blame: &Option<ForbiddenEvent>) -> bool {
     }
 }
 
-/// Whether a signal is forbidden that had to let its seat go on.
+/// Whether the signal is forbidden, and the situation before it and the refused act are right.
 fn is_choice_told(told: &Telling) -> bool {
     let standing = &told.standing;
     let is_told = told.verdict == Verdict::Forbidden { step: 6, reason: 6 }
@@ -101,7 +101,7 @@ fn nobody_waits(queues: &QueueLists) -> bool {
     matches!(&queues.untils, Some(untils) if untils.0.is_empty()) && is_empty(&queues.ready)
 }
 
-/// Whether a seat is due whose predicate holds.
+/// Whether the history is legal, and the seat whose predicate holds is due.
 fn is_wait_told(told: &Telling) -> bool {
     let standing = &told.standing;
     told.verdict == Verdict::Legal(5)
@@ -117,7 +117,7 @@ fn waits_until_are_told(rt: HostRuntime) {
     assert!(rt; matches!(&told, Some(Ok(told)) if is_wait_told(told)));
 }
 
-/// Whether a reply is forbidden, and the object's is told.
+/// Whether the reply is forbidden, and the object's reply is named.
 fn is_reply_told(told: &Telling) -> bool {
     let is_blamed = match &told.blame {
         Some(blame) => blame.reply == Some(0) && blame.choice.is_none(),

@@ -1,4 +1,4 @@
-//! Pictures of text that words alone don't ask for: of one column, and with names.
+//! Pictures as text that options alone can't ask for: of one column, and with names.
 
 use crate::tests::jobs::Expected;
 use monk_commands::Task;
@@ -8,7 +8,7 @@ use monk_page::told_names;
 use std::alloc::Global;
 use std::test::Fail;
 
-/// A text that is to be drawn, and its picture.
+/// A text to draw, and its picture.
 #[derive(Clone, Copy)]
 struct TextPicture {
     name: &'static str,

@@ -15,11 +15,11 @@ const RUN: &[u8] =
 const EACH: &[u8] =
     b"monk 1 NPIR 32 8 shop 255\nenter 255 free\nenter 0 handed\nact 255 255 4294967295 18446744073709551615\nact 0 0 0 0\nleave 10 stay\nwait 255 255 entry\nsignal 7 99 waiter 100\nsignal-leave 255 255 signaller 255\nuntil 1 2 until 3\nresume 4 waiter\nresume 5 signaller\nresume 6 until\n";
 
-/// Each word that version 2 has besides, with the greatest numbers.
+/// Each word that version 2 adds, with the greatest numbers.
 const EACH_OF_VERSION_TWO: &[u8] =
     b"monk 2 NPIR 32 8 shop 255\nenter 255 free\nsignal-all 255 255\nsignal-all 0 10\nsignal-wait 255 255 255 signaller 255\nsignal-wait 0 10 9 stay\nleave 0 entry\n";
 
-/// The object that version 3 names, and words of each version.
+/// The object that version 3 adds, and words of each version.
 const EACH_OF_VERSION_THREE: &[u8] =
     b"monk 3 PIS 32 8 flags 32\nenter 0 free\nact 0 0 4294967295 1\nsignal-all 255 255\nsignal-wait 255 255 255 stay\nuntil 0 31 stay\nleave 0 entry\n";
 
@@ -41,7 +41,7 @@ fn header_end(text: &[u8]) -> usize {
     0
 }
 
-/// A header, and those lines so many times.
+/// Returns the header of the text, and its lines `times` times.
 fn repeated(rt: &HostRuntime, text: &[u8], times: usize) -> Result<Vec<u8>, Fail> {
     let end = header_end(text);
     let mut bytes = Vec::from_slice(rt.alloc(), text)?;
@@ -53,7 +53,7 @@ fn repeated(rt: &HostRuntime, text: &[u8], times: usize) -> Result<Vec<u8>, Fail
     Ok(bytes)
 }
 
-/// Texts, and what is told of them.
+/// Texts, and the outcome of each.
 static WHOLE_TEXTS: [(&[u8], u8, u32); 4] = [
     (RUN, 0, 8),
     (b"monk 1 PB 2 2 buffer 1\n", 0, 0),
@@ -86,14 +86,14 @@ fn cut_texts(rt: HostRuntime) {
     }
 }
 
-/// What is told of the one text behind the other.
+/// Returns the outcome of the first text followed by the second.
 fn outcome_of_both(rt: &HostRuntime, first: &[u8], second: &[u8]) -> Result<(u8, u32), Fail> {
     let mut text = Vec::from_slice(rt.alloc(), first)?;
     text.extend_from_slice(second)?;
     Ok(outcome(rt, &text))
 }
 
-/// Lines behind a good header, and what is told of them.
+/// Lines after a good header, and the outcome of each.
 static FAULTY_LINES: [(&[u8], u8, u32); 13] = [
     (b"enter 0  free\n", 2, 2),
     (b"enter  0 free\n", 3, 2),
@@ -129,7 +129,7 @@ fn limit_of_lines(rt: HostRuntime) {
     assert!(rt; told == (5, 5));
 }
 
-/// Numbers of which there is no header: of seats, of conditions, and the size.
+/// Numbers for which there is no header: of seats, of conditions, and the size.
 static NO_HEADERS: [(u8, u8, u8); 4] = [(0, 0, 1), (33, 0, 1), (1, 9, 1), (1, 0, 0)];
 
 #[test]
@@ -196,7 +196,7 @@ fn first_versions(rt: HostRuntime) {
 /// How the header of each version begins.
 static FIRST_WORDS: [&[u8]; 3] = [b"monk 1", b"monk 2", b"monk 3"];
 
-/// Headers of each object, and what is told of each in the three versions.
+/// Headers of each object, and the outcome of each in the three versions.
 static OBJECTS_OF_VERSIONS: [(&[u8], [(u8, u32); 3]); 6] = [
     (b" PIS 2 0 buffer 1\n", [(0, 0), (0, 0), (1, 1)]),
     (b" PIS 2 0 book 1\n", [(0, 0), (0, 0), (1, 1)]),
@@ -216,8 +216,8 @@ fn objects_of_versions(rt: HostRuntime) -> Result<(), Fail> {
     Ok(())
 }
 
-/// Lines that version 2 has besides, or that look like one, and what is told of each in version 1
-/// and in the later ones.
+/// Lines that version 2 adds, or that look like one, and the outcome of each in version 1 and in
+/// the later ones.
 static WORDS_OF_VERSION_TWO: [(&[u8], (u8, u32), (u8, u32)); 7] = [
     (b"signal-all 0 0\n", (2, 2), (0, 1)),
     (b"signal-all x 0\n", (2, 2), (3, 2)),
@@ -239,7 +239,7 @@ fn words_of_version_two(rt: HostRuntime) -> Result<(), Fail> {
     Ok(())
 }
 
-/// The first words of texts that are of no version over a buffer.
+/// First words that begin no text over a buffer.
 static OTHER_VERSIONS: [&[u8]; 6] = [
     b"monk 0",
     b"monk 3",
@@ -257,7 +257,7 @@ fn other_versions(rt: HostRuntime) -> Result<(), Fail> {
     Ok(())
 }
 
-/// Whether the text is written again as it was read, by a writer that takes so many bytes at a time.
+/// Whether the text is written again as it was read, by a writer that takes `step` bytes at a time.
 fn is_written_again(rt: &HostRuntime, bytes: &[u8], step: usize) -> Result<bool, Fail> {
     let (header, events) = read(rt.alloc(), bytes)?;
     let mut tight = Tight {
@@ -289,7 +289,8 @@ fn written_and_read(rt: HostRuntime) -> Result<(), Fail> {
     Ok(())
 }
 
-/// Whether a writer that fails at that write, by so many bytes at a time, is told of; else it has the whole text.
+/// Whether writing fails if the writer takes `step` bytes at a time and fails at write `fails_at`. If writing doesn't
+/// fail, the writer has the whole text.
 fn is_refused(
     rt: &HostRuntime,
     bytes: &[u8],
@@ -314,10 +315,10 @@ fn is_refused(
     Ok(fails)
 }
 
-/// How many bytes a writer takes at a time, and whether it takes none where it fails.
+/// How many bytes a writer takes at a time, and whether it fails by taking none.
 static WRITERS: [(usize, bool); 3] = [(1000, false), (1000, true), (4096, false)];
 
-/// The writes that fail are the first, each of them, and there are some and an end to them.
+/// Writing fails at each of its writes in turn. There is at least one, and there are fewer than 30.
 #[test]
 fn writers_fail_in_turn(rt: HostRuntime) -> Result<(), Fail> {
     let bytes = repeated(&rt, RUN, 90)?;
@@ -334,7 +335,7 @@ fn writers_fail_in_turn(rt: HostRuntime) -> Result<(), Fail> {
     Ok(())
 }
 
-/// Whether a reader's bytes come through.
+/// Whether a reader's bytes come through a device.
 fn gives_its_bytes(bytes: &[u8], front: [u8; 4]) -> bool {
     let mut reader = Device::new(bytes);
     let mut piece = [0u8; 4];
@@ -364,7 +365,7 @@ fn devices(rt: HostRuntime) {
     assert!(rt; takes && gives_its_bytes(RUN, *b"monk"));
 }
 
-/// Whether the words of a line are read one after the other, a number that is no word left out.
+/// Whether the words of a line are read one after the other. An empty word is no number.
 fn are_read(line: &[u8]) -> bool {
     let mut words = LineWords::of(line);
     words.literal(b"play").is_ok()

@@ -1,13 +1,13 @@
 use std::io;
 use std::io::Write;
 
-/// A writer that takes at most `step` bytes at a time, and at one of its writes, or at a flush in place of it, fails or
-/// takes none.
+/// A writer that takes at most `step` bytes at a time. One of its writes fails or takes none. A flush in place of that
+/// write fails.
 #[derive(Drop)]
 pub(crate) struct Tight {
     pub(crate) taken: Vec<u8>,
     pub(crate) step: usize,
-    /// Counted down to the one that fails; at 0 none will.
+    /// Counts down to the write that fails; at 0 no write will fail.
     pub(crate) writes_left: u32,
     pub(crate) refuses: bool,
 }

@@ -1,4 +1,4 @@
-//! Pages of several histories, and what may be told beside one.
+//! Pages of several histories, and the names and data of a program beside one.
 
 use monk_commands::{Paged, pages_stream};
 use monk_history::Device;
@@ -6,7 +6,7 @@ use monk_page::{ToldFault, ToldWrong, check_told};
 use std::alloc::Global;
 use std::test::Fail;
 
-/// A text of what is told, and where it is wrong.
+/// A text of names and data, and where and how it is wrong, if it is.
 type Telling = (&'static str, Option<(usize, usize, ToldWrong)>);
 
 static TELLINGS: [Telling; 20] = [
@@ -44,7 +44,7 @@ static TELLINGS: [Telling; 20] = [
     ),
 ];
 
-/// Whether that is said of the text.
+/// Whether the text is right, or wrong there and in that way.
 fn is_told(alloc: Global, (text, wrong): &Telling) -> bool {
     match (check_told(alloc, text), wrong) {
         (Ok(()), None) => true,
@@ -87,7 +87,7 @@ const UNREADABLE: Paged<'static> = Paged {
 
 pub(super) const FORBIDDEN_AND_LEGAL: [Paged<'static>; 2] = [FORBIDDEN, LEGAL];
 
-/// Histories, the status of their page, and words that stand in it in this order.
+/// Histories, the status of their page, and words that it has in this order.
 type Row = (&'static [Paged<'static>], u8, &'static [&'static str]);
 
 static ROWS: [Row; 4] = [
@@ -113,7 +113,7 @@ static ROWS: [Row; 4] = [
     ),
 ];
 
-/// Whether the words stand in the text, one behind the other.
+/// Whether the text has the words, one after the other.
 fn stand_in(text: &str, words: &[&str]) -> bool {
     let mut rest = text;
     for word in words {
@@ -125,7 +125,7 @@ fn stand_in(text: &str, words: &[&str]) -> bool {
     true
 }
 
-/// Whether the page is so.
+/// Whether the page has this status and these words.
 fn is_page(alloc: Global, (histories, status, words): &Row) -> bool {
     let mut page = Vec::new(alloc);
     let told = pages_stream(alloc, histories, None, &mut Device::new(&mut page));

@@ -96,7 +96,7 @@ static PLAYS: [Play; 8] = [
             Event::Leave(1, Next::Entry),
         ],
     },
-    // One seat with a budget of 2: each refusal stands in front of the next, where that would apply too.
+    // One seat with a budget of 2. Each refusal goes before the next if that would apply too.
     Play {
         name: "refusals_change_nothing",
         kind: KindName::Pb,
@@ -105,7 +105,7 @@ static PLAYS: [Play; 8] = [
             // Out of range, and a call that the kind doesn't have.
             (1, UNTIL, Answer::Range),
             (0, NO_SUCH_UNTIL, Answer::Range),
-            // A call that the kind doesn't have, of a seat that stands elsewhere.
+            // A call that the kind doesn't have, by a seat in another place.
             (0, UNTIL, Answer::NoCall),
             (0, Command::Drop, Answer::NotNow),
             (0, Command::Arrive, Answer::Arrived(0, 0)),
@@ -117,7 +117,7 @@ static PLAYS: [Play; 8] = [
             (0, UNTIL, Answer::NoCall),
             (0, Command::Look, Answer::NotNow),
             (0, LEAVE, Answer::Chose(Next::Entry)),
-            // A seat that stands elsewhere, and has nothing left.
+            // A seat in another place, with nothing left.
             (0, PUT, Answer::NotNow),
             (0, WAIT, Answer::NotNow),
             (0, Command::Arrive, Answer::NotNow),
@@ -157,8 +157,8 @@ static PLAYS: [Play; 8] = [
             Event::Leave(0, Next::Entry),
         ],
     },
-    // A wait until an item is there, a put, and a look at what has come of it. The waiter comes in once the putter
-    // leaves.
+    // A wait until an item is there, a put, and an until of the putter, which stays. The waiter comes in once the
+    // putter leaves.
     Play {
         name: "predicate_is_awaited",
         kind: KindName::Pis,
@@ -347,7 +347,7 @@ fn arrives_at_the_drop(rt: HostRuntime) -> Result<(), Fail> {
     Ok(())
 }
 
-/// One seat with a budget of 2 comes and goes, and has nothing left; the wait is what it is by the conditions.
+/// One seat with a budget of 2 comes and goes, and has nothing left. The answer `wait` depends on the conditions.
 fn comes_once(rt: &HostRuntime, conds: u8, wait: Answer) -> Result<bool, Fail> {
     let steps = [
         (0, Command::Arrive, Answer::Arrived(0, 0)),
@@ -372,7 +372,7 @@ fn worn_out_seat_is_refused(rt: HostRuntime) -> Result<(), Fail> {
     Ok(())
 }
 
-/// One seat with a budget of 2, and each refusal once.
+/// One seat with a budget of 2, and each refusal.
 const WITH_REFUSALS: [(u8, Command); 9] = [
     (1, UNTIL),
     (0, UNTIL),

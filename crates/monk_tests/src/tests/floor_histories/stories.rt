@@ -10,7 +10,7 @@ use std::test::Fail;
 
 const PUT_FIVE: Op = Op { code: 0, arg: 5 };
 
-/// A history, and of which floor it is: its kind, its size, and whom it would rather let go on.
+/// A history and its floor: the kind, the size, and the wish of each release.
 struct Story {
     name: &'static str,
     kind: KindName,
@@ -79,7 +79,7 @@ static STORIES: [Story; 22] = [
         pick: Pick::Waiter,
         events: SIGNAL_AND_CONTINUE,
     },
-    // Under Mesa's kind, where no caller has come in between.
+    // Under Mesa's kind, and no caller comes in between.
     Story {
         name: "mesa_signal_and_continue",
         kind: KindName::Npnb,
@@ -106,7 +106,7 @@ static STORIES: [Story; 22] = [
             Event::Enter(1, Via::Handed),
         ],
     },
-    // Nobody waits, so the next wait waits.
+    // Nobody waits at the signal, so the wait after it waits.
     Story {
         name: "signal_is_not_remembered",
         kind: KindName::Pb,
@@ -248,7 +248,7 @@ static STORIES: [Story; 22] = [
         pick: Pick::Waiter,
         events: PING_PONG,
     },
-    // The seat that waited is served, and the caller waits where it stood.
+    // The seat that waited is served, and the caller waits on the same condition.
     Story {
         name: "signal_wait_on_one_condition",
         kind: KindName::Pir,
@@ -327,7 +327,7 @@ static STORIES: [Story; 22] = [
     },
 ];
 
-/// Whether a floor of that kind makes it, both by the general scheduler step and by the path of the mode.
+/// Whether a floor makes the story, both by the general scheduler step and by the path of the mode.
 fn is_made(rt: &HostRuntime, story: &Story) -> Result<bool, Fail> {
     let (size, events, pick) = (story.size, story.events, story.pick);
     match story.kind {

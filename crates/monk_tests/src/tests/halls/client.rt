@@ -10,8 +10,8 @@ use monk_kinds::{Kind, Npnb, Pick};
 use monk_object::{Buffer, Guarded, Op};
 use std::test::Fail;
 
-/// A seat comes in, does an operation and ends the hall: in the closed history its events are those that it had, and
-/// then its enter, its act and its leave.
+/// A seat comes in, does an operation and ends the hall. In the closed history its events are those that it had,
+/// followed by its enter, its act and its leave.
 fn visits_and_closes<K: Kind, T: Guarded>(
     hall: Hall<K, T>,
     pass: Pass<K, T>,
@@ -41,7 +41,7 @@ fn visits_and_closes<K: Kind, T: Guarded>(
     }
 }
 
-/// In no state of a table under the rule are two seats active.
+/// No two seats are active in any state of a table under the rule.
 fn no_two_are_active()
     ensures { NoTwoAreActive }
 {

@@ -1,4 +1,4 @@
-//! That a closed history holds what its seats did, and nothing else.
+//! A closed history holds what its seats did, and nothing else.
 ghost use Rattle.std.specs.Prelude.{◌≡◌, IfSome};
 ghost use Rattle.monk_hall.specs.Floors.{StartsWith};
 
@@ -10,7 +10,7 @@ use monk_kinds::{Pb, Pick};
 use monk_object::Buffer;
 use std::test::Fail;
 
-/// Comes in by the ticket of that number, and ends the hall. What the seat had seen begins the closed history.
+/// Comes in by the ticket of that number, and ends the hall. The closed history begins with what the seat had seen.
 fn ends_by_ticket(
     hall: Hall<Pb, Buffer>,
     pass: Pass<Pb, Buffer>,
@@ -43,7 +43,7 @@ fn ends_by_ticket(
     }
 }
 
-/// Two seats visit, and meet; the first ends the hall. Both did all that was done, and the first did not do it alone.
+/// Two seats visit and meet, and the first ends the hall. Together they did all that was done. The first alone did not.
 fn two_did_it_all(hall: Hall<Pb, Buffer>, first: Pass<Pb, Buffer>, second: Pass<Pb, Buffer>) -> bool
     requires first { first.hall ≡ hall.id }
     requires second { second.hall ≡ hall.id }
@@ -77,8 +77,8 @@ fn closed_history_holds_two_seats_calls(rt: HostRuntime) -> Result<(), Fail> {
     well_up_to_here(&rt, well)
 }
 
-/// The second seat visits once more after they met, so the first doesn't know that what the second has seen begins the
-/// closed history, and can't ask whether that is complete.
+/// The second seat visits once more after they met. So the first doesn't know that the closed history begins with what
+/// the second has seen, and can't ask whether it is complete.
 fn second_goes_on(hall: Hall<Pb, Buffer>, first: Pass<Pb, Buffer>, second: Pass<Pb, Buffer>) -> bool
     requires first { first.hall ≡ hall.id }
     requires second { second.hall ≡ hall.id }

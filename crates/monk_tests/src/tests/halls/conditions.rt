@@ -29,7 +29,7 @@ fn takes_and_waits<K: Conditional>(
     wait(hall, active, 1)
 }
 
-/// Puts 7, and signals condition 1, where one seat waits.
+/// Puts 7, and signals condition 1, on which one seat waits.
 fn puts_and_signals(hall: &Hall<Pb, Buffer>, pass: Pass<Pb, Buffer>) -> Option<Parked<Pb, Buffer>>
     requires hall { pass.hall ≡ hall.now.id }
     requires cond { 1 < pass.me.setting.conds }
@@ -163,7 +163,7 @@ fn signals_and_stays(
     signal_stay(hall, active, 0)
 }
 
-/// With the entry queue above the waiters a ticket goes before a seat that was signalled.
+/// Entry and waiters tie, so by the wish for entry a ticket goes before a seat that was signalled.
 fn barges(
     hall: &Hall<Npnb, Buffer>,
     first: Pass<Npnb, Buffer>,
@@ -210,7 +210,7 @@ fn ticket_barges_past_a_waiter(rt: HostRuntime) -> Result<(), Fail> {
     well_up_to_here(&rt, well)
 }
 
-/// Where nobody has a ticket, though a third seat could, the same wish lets the waiter go on.
+/// If nobody has a ticket, though a third seat could, the same wish lets the waiter go on.
 fn lets_the_waiter_in(
     hall: &Hall<Npnb, Buffer>,
     first: Pass<Npnb, Buffer>,

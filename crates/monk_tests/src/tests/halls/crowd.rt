@@ -12,7 +12,7 @@ use std::test::Fail;
 
 const SEATS: u8 = 32;
 
-/// Draws the ticket of its own number, and finds that it must wait.
+/// Draws the ticket with the seat's own number, and finds that it must wait.
 fn stand_in_line(hall: &Hall<Pb, Buffer>, pass: Pass<Pb, Buffer>) -> Option<Parked<Pb, Buffer>>
     requires { pass.hall ≡ hall.now.id }
     ensures { IfSome result (λ p. p.hall ≡ hall.now.id) }
@@ -31,7 +31,7 @@ fn stand_in_line(hall: &Hall<Pb, Buffer>, pass: Pass<Pb, Buffer>) -> Option<Park
     }
 }
 
-/// These seats stand in line, one behind the other.
+/// These seats draw their tickets, one after the other.
 fn line_up(
     alloc: Global,
     hall: &Hall<Pb, Buffer>,
@@ -51,7 +51,7 @@ fn line_up(
     line
 }
 
-/// Comes in behind all seats of lower numbers, each of which entered and left, and leaves with nothing left.
+/// Comes in after all seats of lower numbers have entered and left. Leaves with no event left.
 fn comes_in_its_turn(hall: &Hall<Pb, Buffer>, parked: Parked<Pb, Buffer>) -> bool
     requires { parked.hall ≡ hall.now.id }
 {
@@ -63,7 +63,7 @@ fn comes_in_its_turn(hall: &Hall<Pb, Buffer>, parked: Parked<Pb, Buffer>) -> boo
     behind && left == 0
 }
 
-/// Whether those in the line come in one behind the other.
+/// Whether those in the line come in one after the other.
 fn file_in(hall: &Hall<Pb, Buffer>, mut line: VecDeque<Parked<Pb, Buffer>>) -> bool
     requires { All (λ p. p.hall ≡ hall.now.id) line.items }
 {
@@ -75,7 +75,7 @@ fn file_in(hall: &Hall<Pb, Buffer>, mut line: VecDeque<Parked<Pb, Buffer>>) -> b
     well
 }
 
-/// While the first is active all others come, and then each comes in behind the one before it.
+/// All others arrive while the first is active. Then each comes in after the one before it.
 fn all_come(alloc: Global, hall: &Hall<Pb, Buffer>, mut outside: VecDeque<Pass<Pb, Buffer>>) -> bool
     requires { AreOf hall.now.id hall.now.setting outside.items }
 {

@@ -1,4 +1,4 @@
-//! How a hall ends, and that nobody ends it beside a seat that waits.
+//! How a hall ends, and that nobody ends it while a seat waits.
 ghost use Rattle.std.specs.Prelude.{◌≡◌, ◌<◌, IfSome};
 
 use crate::tests::halls::{arrive, comes_in, enter, two_from_here, wait};
@@ -36,7 +36,7 @@ fn ends_last(hall: Hall<Pb, Buffer>, first: Pass<Pb, Buffer>, second: Pass<Pb, B
     }
 }
 
-/// Ends the hall: whether this is its history.
+/// Ends the hall, and returns whether this is its history.
 pub(super) fn ends<K: Kind>(
     hall: Hall<K, Buffer>,
     active: Active<K, Buffer>,
@@ -67,7 +67,7 @@ fn last_ends_the_hall(rt: HostRuntime) -> Result<(), Fail> {
     well_up_to_here(&rt, well)
 }
 
-/// Nobody ends a hall beside a seat that waits on a condition.
+/// Nobody ends a hall while a seat waits on a condition.
 fn goes_on(hall: Hall<Pb, Buffer>, first: Pass<Pb, Buffer>, second: Pass<Pb, Buffer>) -> bool
     requires first { (first.hall ≡ hall.id) × (0 < first.me.setting.conds) }
     requires second { second.hall ≡ hall.id }

@@ -38,7 +38,7 @@ fn takes_over(hall: &Hall<Pb, Buffer>, first: Pass<Pb, Buffer>, second: Pass<Pb,
     waits && put && taken
 }
 
-/// It comes in behind a seat that put 7, and takes it.
+/// Comes in after a seat that put 7, and takes it.
 fn takes_seven(hall: &Hall<Pb, Buffer>, parked: Parked<Pb, Buffer>) -> bool
     requires { parked.hall ≡ hall.now.id }
 {
@@ -100,7 +100,7 @@ fn second_resumes(rt: HostRuntime) -> Result<(), Fail> {
     well_up_to_here(&rt, well)
 }
 
-/// What is left to a seat that comes and goes, where its budget is two events.
+/// Whether a seat with a budget of two events has the right number left at each call of a visit.
 fn comes_once(hall: &Hall<Pb, Buffer>, pass: Pass<Pb, Buffer>) -> bool
     requires { pass.hall ≡ hall.now.id }
 {
@@ -124,7 +124,7 @@ fn budget_is_spent(rt: HostRuntime) -> Result<(), Fail> {
     well_up_to_here(&rt, well)
 }
 
-/// Why a hall of these numbers isn't made.
+/// Returns why a hall of these numbers isn't made, or nothing if it is.
 fn refusal(rt: &HostRuntime, seats: u8, conds: u8, budget: u32) -> Result<Option<MakeFault>, Fail> {
     let buffer = Buffer::make(rt.alloc(), 1)?;
     match Hall::<Pb, Buffer>::make(rt.alloc(), buffer, seats, conds, budget) {
@@ -133,7 +133,7 @@ fn refusal(rt: &HostRuntime, seats: u8, conds: u8, budget: u32) -> Result<Option
     }
 }
 
-/// Seats, conditions and budgets, and what is told of them.
+/// Seats, conditions and budgets, and the fault of a hall that is made of them, if any.
 static REFUSALS: [(u8, u8, u32, Option<MakeFault>); 4] = [
     (33, 0, 8, Some(MakeFault::Seats)),
     (2, 9, 8, Some(MakeFault::Conds)),
@@ -149,7 +149,7 @@ fn refuses_bad_numbers(rt: HostRuntime) -> Result<(), Fail> {
     Ok(())
 }
 
-/// Whether each of so many polls gives the seat back. It is then given up.
+/// Whether each of `times` polls gives the seat back. It is then given up.
 fn polls_in_vain(hall: &Hall<Pb, Buffer>, mut parked: Parked<Pb, Buffer>, times: u32) -> bool
     requires { parked.hall ≡ hall.now.id }
 {
@@ -166,7 +166,7 @@ fn polls_in_vain(hall: &Hall<Pb, Buffer>, mut parked: Parked<Pb, Buffer>, times:
     true
 }
 
-/// The second gives up beside the first, and nobody comes in behind its ticket.
+/// The second gives up while the first is active, and nobody comes in after its ticket.
 fn loses_a_ticket(
     hall: &Hall<Pb, Buffer>,
     first: Pass<Pb, Buffer>,

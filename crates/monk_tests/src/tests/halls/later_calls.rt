@@ -21,7 +21,7 @@ fn waits<K: Conditional>(hall: &Hall<K, Buffer>, pass: Pass<K, Buffer>) -> Optio
     wait(hall, enter(hall, pass)?, 0)
 }
 
-/// Signals all who wait on the first condition, and leaves: how many they were.
+/// Signals all who wait on the first condition, and leaves. Returns how many they were.
 fn wakes(hall: &Hall<Pnb, Buffer>, pass: Pass<Pnb, Buffer>) -> Option<u32>
     requires hall { pass.hall ≡ hall.now.id }
     requires cond { 0 < pass.me.setting.conds }

@@ -5,7 +5,7 @@ use monk_kinds::KindName;
 use monk_object::{ObjectName, Op};
 use std::test::Fail;
 
-/// Two seats wait, one signals, and both queues are taken from: each list of the audit grows but that of the untils.
+/// Two seats wait, one signals, and both inner queues let a seat go on. Each list of the audit grows but the untils'.
 const SIGNALS: [Event; 10] = [
     Event::Enter(0, Via::Free),
     Event::Act(0, Op { code: 0, arg: 6 }, 1),
@@ -19,7 +19,7 @@ const SIGNALS: [Event; 10] = [
     Event::Resume(2, From3::Signaller),
 ];
 
-/// A signal that leaves, and a second one that passes over the task that it served.
+/// Two seats wait, and a signal that leaves passes over the task that it served.
 const RETURNS: [Event; 6] = [
     Event::Enter(0, Via::Free),
     Event::Wait(0, 0, Next::Entry),
@@ -39,7 +39,7 @@ const UNTILS: [Event; 6] = [
     Event::Resume(0, From3::Until),
 ];
 
-/// By its name: a kind, how many conditions, the events of a history of three seats over a buffer, and the verdict.
+/// A name, a kind, the number of conditions, the events of a history of three seats over a buffer, and the verdict.
 type Row = (&'static str, KindName, u8, &'static [Event], Verdict);
 
 static ROWS: [Row; 3] = [

@@ -39,7 +39,7 @@ fn header() -> Result<LogHeader, Fail> {
     }
 }
 
-/// Both who were signalled are counted, and no item is there for those who wait on condition 1.
+/// Both signalled seats are counted, and no item is there for those who wait on condition 1.
 pub(super) fn are_judged(rt: &HostRuntime) -> Result<bool, Fail> {
     begins(rt, "judged")?;
     let means = [WaitsFor { cond: 1, pred: 1 }];
@@ -52,7 +52,7 @@ pub(super) fn are_judged(rt: &HostRuntime) -> Result<bool, Fail> {
     Ok(report.misfit.is_none() && report.tally.served == 2 && report.woken == 1 && is_run)
 }
 
-/// They are completed to as many events.
+/// The lines are completed to as many events.
 pub(super) fn are_completed(rt: &HostRuntime) -> Result<bool, Fail> {
     let header = header()?;
     begins(rt, "completed")?;

@@ -9,7 +9,7 @@ use std::test::Fail;
 /// A history whose last event is forbidden.
 const FORBIDDEN: &[u8] = b"monk 1 PB 2 1 buffer 1\nenter 0 free\nwait 0 0 entry\nenter 0 free\n";
 
-/// How a picture of text is laid out.
+/// How a picture as text is laid out.
 const LAYOUT: TextLayout = TextLayout {
     width: TextLayout::USUAL_WIDTH,
     is_ascii: true,

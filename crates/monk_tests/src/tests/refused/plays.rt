@@ -11,7 +11,7 @@ const LONG: &[u8] =
 const FAULTY: &[u8] =
     b"play 1 PB 2 2 buffer 1 8\n0 arrive\n1 look\n0 arrive\n1 look\n0 arrive\n1 look\n0 arrive\n1 look\n0 arrive\n1 look\n0 arrive\n1 look\n0 arrive\n1 look\n0 arrive\n1 look\n0 arrive 1\n";
 
-/// What is told of the text: 0 and the number of commands where these are the right ones, else the fault.
+/// Returns 0 and the number of commands, or 255 and 0 if they are wrong ones; else the fault's number and line.
 fn told(rt: &HostRuntime, bytes: &[u8]) -> Result<(u8, u32), ReadFault> {
     match read_play(rt.alloc(), bytes) {
         Ok((header, budget, commands)) => {

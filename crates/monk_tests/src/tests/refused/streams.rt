@@ -5,7 +5,7 @@ use monk_history::Device;
 use monk_judge::WaitsFor;
 use monk_kinds::KindName;
 
-/// By the names that `checks/fail_alloc` knows them by.
+/// Jobs, by the names that `checks/fail_alloc` knows.
 pub(super) static JOBS: [Job<'static>; 24] = [
     Job {
         name: "legal",
@@ -36,7 +36,7 @@ pub(super) static JOBS: [Job<'static>; 24] = [
         status: 2,
         answer: b"object\n",
     },
-    // Eight commands over a buffer; the seat that came behind is granted the right.
+    // Eight commands over a buffer. The seat that came later is granted the right.
     Job {
         name: "played",
         task: Task::Play,
@@ -198,7 +198,7 @@ pub(super) static JOBS: [Job<'static>; 24] = [
     },
 ];
 
-/// A text that is shown, how what shows it begins, and the status.
+/// A text, how the picture or the page of it begins, and the status.
 pub(super) struct Picture<'a> {
     pub(super) name: &'static str,
     task: Task<'a>,
@@ -207,7 +207,7 @@ pub(super) struct Picture<'a> {
     status: u8,
 }
 
-/// By the names that `checks/fail_alloc` knows them by.
+/// Pictures, by the names that `checks/fail_alloc` knows.
 pub(super) static PICTURES: [Picture<'static>; 4] = [
     Picture {
         name: "drawn",
@@ -239,7 +239,7 @@ pub(super) static PICTURES: [Picture<'static>; 4] = [
     },
 ];
 
-/// Whether a picture or a page was written, or a fault with nothing written.
+/// Whether a picture or a page was written. A fault is returned if nothing was written.
 pub(super) fn is_drawn(rt: &HostRuntime, drawn: &Picture<'_>) -> Result<bool, StreamFault> {
     let front: &[u8] = drawn.front;
     let mut picture = Expected::new(front);

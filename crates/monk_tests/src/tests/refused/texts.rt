@@ -10,7 +10,7 @@ const LONG: &[u8] =
 const FAULTY: &[u8] =
     b"monk 1 PB 2 2 buffer 1\nenter 0 free\nleave 0 entry\nenter 0 free\nleave 0 entry\nenter 0 free\nleave 0 entry\nenter 0 free\nleave 0 entry\nenter 0 free\nleave 0 entry\nenter 0 free\nleave 0 entry\nenter 0 free\nleave 0 entry\nenter 0 free\nleave 0 entry\nenter 0 free 1\n";
 
-/// What is told of the text: 0 and the number of events where these are the right ones, else the fault.
+/// Returns 0 and the number of events, or 255 and 0 if they are wrong ones; else the fault's number and line.
 fn told(rt: &HostRuntime, bytes: &[u8]) -> Result<(u8, u32), ReadFault> {
     match read(rt.alloc(), bytes) {
         Ok((header, events)) => {

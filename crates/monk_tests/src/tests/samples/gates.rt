@@ -1,9 +1,9 @@
-//! A worker asks its gate once before each round, and takes the answer.
+//! A worker asks its gate once before each round, and obeys the answer.
 use monk_kinds::Pb;
 use monk_samples::{Gate, RunFault, Sample, run};
 use std::sync::atomic::{AtomicBool, AtomicU32, Ordering};
 
-/// A gate that counts how often it is asked, and says no to each of two seats when it first asks for the second round.
+/// A gate that counts how often it is asked. It says no the first time that a seat asks for the second round.
 #[derive(Drop)]
 struct OnceShut {
     asked: AtomicU32,

@@ -56,7 +56,7 @@ fn writes_and_wakes<R: Wait>(pass: Pass<Pnb, Book>, rt: &R, hall: &Hall<Pnb, Boo
     begun == End::Done && ended == End::Done
 }
 
-/// Where nobody waits it ends as a write does.
+/// If nobody waits, it ends as a plain write does.
 #[test]
 fn writer_wakes_all(rt: HostRuntime) -> Result<(), Fail> {
     let (hall, reader, writer) = two::<Pnb, Book>(&rt, Book::make(1)?, 16)?;

@@ -1,5 +1,5 @@
-//! The releases that a mode has of its own, in two threads: one takes an item, another puts it. The
-//! members make the plain ones, which serve every mode.
+//! The releases that a mode has of its own, in two threads: one takes an item, and the other puts it.
+//! The members make the plain releases, which serve every mode.
 ghost use Rattle.std.specs.Prelude.{IfSome};
 ghost use Rattle.monk_tests.specs.Passes.{IsInside, IsSeat};
 
@@ -29,7 +29,7 @@ const TAKE: Op = Op {
 /// The reply of a take that took the item.
 const TAKEN: u64 = 8;
 
-/// Comes in, if enough is left.
+/// Comes in, if the seat has enough left.
 fn enter<K: Kind, R: Wait>(
     pass: Pass<K, Buffer>,
     rt: &R,
@@ -44,7 +44,7 @@ fn enter<K: Kind, R: Wait>(
     Some(pass.arrive(hall).resume(rt, hall))
 }
 
-/// Takes the item and leaves: whether it was there.
+/// Takes the item and leaves. Returns whether it was there.
 fn takes_and_leaves<K: Kind>(active: Active<K, Buffer>, hall: &Hall<K, Buffer>) -> bool
     requires { IsInside hall.now.id active }
 {
@@ -58,7 +58,7 @@ fn takes_and_leaves<K: Kind>(active: Active<K, Buffer>, hall: &Hall<K, Buffer>) 
     reply == TAKEN
 }
 
-/// Waits once while there is no item, and takes it.
+/// Waits once if there is no item, and takes it.
 fn takes_after_a_wait<K: Conditional, R: Wait>(
     pass: Pass<K, Buffer>,
     rt: &R,
@@ -103,7 +103,7 @@ fn takes_when_there<K: Automatic, R: Wait>(
     }
 }
 
-/// Comes in and puts the item, if enough is left for that and for what comes next.
+/// Comes in and puts the item, if the seat has enough left for that and for what comes next.
 fn enters_and_puts<K: Kind, R: Wait>(
     pass: Pass<K, Buffer>,
     rt: &R,

@@ -1,4 +1,4 @@
-//! Runs in threads, of which known totals come out.
+//! Runs in threads whose totals are known.
 use monk_kinds::{Npnb, Pb};
 use monk_samples::{Gate, OpenGate, RunFault, Sample, Style, run, run_hasty};
 use std::sync::Wait;
@@ -24,7 +24,7 @@ static TOTALS: [(&str, Sample, u8, u32, [u64; 4]); 4] = [
     ("buffer", Sample::Buffer, 4, 100, [200, 10100, 200, 10100]),
     ("book", Sample::Book, 4, 10, [20, 20, 20, 20]),
     ("shop", Sample::Shop, 4, 10, [30, 30, 30, 30]),
-    // Where a reader or a writer signalled the wrong condition, or a waiter were lost, so many rounds would not end.
+    // If a reader or a writer signalled the wrong condition, or a waiter were lost, 300 rounds would not end.
     (
         "many_read_and_write",
         Sample::Book,
@@ -45,7 +45,7 @@ fn known_totals(rt: HostRuntime) -> Result<(), Fail> {
     Ok(())
 }
 
-/// A first act that was refused is told exactly where some are counted.
+/// A first refused act is named exactly if some are counted.
 #[test]
 fn known_totals_in_haste(rt: HostRuntime) {
     let outcome = run_hasty::<Npnb, _, OpenGate>(&rt, rt.alloc(), 4, 100, &OpenGate);
@@ -62,7 +62,7 @@ fn no_hasty_seat_misses_under_hoares_kind(rt: HostRuntime) {
     assert!(rt; matches!(&outcome, Ok(outcome) if outcome.missed == 0 && outcome.first.is_none()));
 }
 
-/// Seats and rounds of which there is no run.
+/// Seats and rounds for which there is no run.
 static OUT_OF_RANGE: [(u8, u32); 4] = [(1, 1), (17, 1), (2, 0), (2, 1001)];
 
 #[test]
@@ -82,7 +82,7 @@ fn out_of_range_is_refused(rt: HostRuntime) {
     }
 }
 
-/// A gate that is open in the first round alone.
+/// A gate that is open only in the first round.
 #[derive(Clone, Copy)]
 struct FirstRound;
 
