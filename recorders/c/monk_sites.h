@@ -219,7 +219,7 @@ static inline unsigned find_site(uintptr_t address) {
     return atomic_load_explicit(&sites[at].address, memory_order_relaxed) == address ? at : meet_site(address, at);
 }
 
-/* The place of the outermost call that is asked for, if the call at place `at` has its frame's end there. */
+/* The place of the caller that is meant, for a call at place `at` whose frame ends there. */
 static unsigned outer_site(unsigned at, const char *end) {
     for (int left = MOST_FRAMES; at && left > 0; left--) {
         int known = atomic_load_explicit(&sites[at].step, memory_order_relaxed);

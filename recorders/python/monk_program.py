@@ -1,5 +1,5 @@
-"""Runs an unchanged program of Python, and records its locks and conditions: the part of monk_log.py for `python -m
-monk_log`."""
+"""Runs an unchanged program of Python, and records its locks and conditions: the part of monk_log.py for
+`python -m monk_log`."""
 from __future__ import annotations
 
 import atexit

@@ -52,7 +52,7 @@ def holds(title: str, made: Made, kinds: Sequence[str] = KINDS, orders: Orders =
 
 
 def breaks(title: str, made: Made, kinds: Sequence[str], orders: Orders = "all") -> Check:
-    """The scene goes wrong under these kinds, and right under all others: the student was to find this."""
+    """The scene doesn't go right under these kinds, and does under all others: the student was to find that."""
     def look() -> Verdict:
         found = compare(made, orders=orders)
         if sorted(kinds) == sorted(found.breaks):
