@@ -22,8 +22,7 @@
  * may leave the seat waiting, returns the seat's place, above 0. An error is below 0. After it NOTHING HAS CHANGED and
  * nothing was recorded: the seat and the monitor are as they were. (Only MONK_STOPPED comes after the call was taken.)
  * If several errors apply, the call returns the first in this order: IN_USE, CLOSED, NOT_OF_KIND, RANGE, NOT_NOW,
- * SPENT. But a null pointer is RANGE before all these, and a seat that was given back is NOT_NOW before all that
- * follow CLOSED.
+ * SPENT. But a null pointer is RANGE before all these, and a seat that was given back is NOT_NOW right after CLOSED.
  *
  * THREADS. One thread at a time uses a seat. The seat may pass to another thread between two calls. While a call by a
  * seat is under way, a second one returns MONK_IN_USE. Any thread may make all other calls at any time. The next
@@ -159,8 +158,8 @@ int monk_place(const monk_seat *s);              /* MONK_OUTSIDE, _WAITING, _INS
 uint32_t monk_left(const monk_seat *s);          /* events that it has left: each call below says how many it needs */
 
 /* Sets whom the seat's releases prefer if the kind's priorities leave it open (in NP and Q kinds), until it is set
- * again. At first it is MONK_WAITER. A wish for entry counts if somebody is known to wait for entry. MONK_ANY throws
- * dice at each release: it soon shows what a program may not rely on. */
+ * again. At first it is MONK_WAITER. A wish for entry counts only if somebody is known to wait for entry. MONK_ANY
+ * throws dice at each release: it soon shows what a program may not rely on. */
 typedef enum monk_wish { MONK_ENTRY, MONK_WAITER, MONK_SIGNALLER, MONK_ANY } monk_wish;
 int monk_set_wish(monk_seat *s, int wish);
 
@@ -169,7 +168,7 @@ int monk_set_wish(monk_seat *s, int wish);
 int monk_enter(monk_seat *s);                                  /* outside   inside   all                   2, 1 */
 int monk_leave(monk_seat *s);                                  /* inside    outside  all                   1, 1 */
 
-/* Waits on a condition until a signal serves it and its turn comes. */
+/* Waits on a condition until a signal serves the seat and its turn comes. */
 int monk_wait(monk_seat *s, unsigned condition);               /* inside    inside   all but automatic     3, 2 */
 
 /* Serves the first who waits on the condition. If nobody does, nothing happens, and nothing is kept for later. The

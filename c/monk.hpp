@@ -119,8 +119,8 @@ private:
 };
 
 /// A visit: its seat is inside from its beginning to its end. A call that leads outside ends it before its scope does,
-/// and so does the end of its seat: from then on every call is refused with MONK_NOT_NOW, even if somebody has the
-/// seat. It may not outlive the monitor.
+/// and so does the end of its seat: from then on every call is refused with MONK_NOT_NOW, even if somebody else has
+/// the seat. It may not outlive the monitor.
 class visit {
 public:
     explicit visit(seat &by) : seat_(by.get()) { checked(monk_enter(seat_)); }

@@ -148,9 +148,8 @@ static inline void unlock(monk_monitor *m) {
     if (atomic_exchange(&m->lock, OPEN) == WANTED) futex_wake(&m->lock, 1);
 }
 
-/* ---- Handles: what the program has for a seat. The lower bits are the seat's address, and the upper ones the number
-   of the lending. So a handle that was given back isn't that of the next owner. (In a program's addresses the upper
-   bits are 0.) */
+/* ---- Handles: what the program has for a seat. The lower bits are the seat's address, the upper ones (0 in a
+   program's addresses) the number of the lending. So a handle that was given back isn't the next owner's. */
 
 enum { ADDRESS_BITS = 48, LENDINGS = 1 << 16 };
 _Static_assert(sizeof(void *) == sizeof(uint64_t), "a handle has room for a lending");
@@ -248,9 +247,9 @@ static inline void set_free(monk_seat *s) {
 /* Lets seats that were abandoned come in if it is their turn. Under the lock. */
 void settle_abandoned(monk_monitor *m);
 
-/* Wakes the thread that was let in, or settles its seat if it was abandoned. A thread that abandons a seat first
- * marks its bell, and then polls. One that releases first grants, and then reads the mark. So one of the two sees to
- * the grant. */
+/* Wakes the thread that was let in, or settles its seat if it was abandoned. A thread that abandons a seat marks its
+ * bell, then polls; one that releases grants, then reads the mark. So the poll finds the grant, or the release finds
+ * the mark. */
 static inline void let_in(monk_monitor *m, size_t word) {
     if (word == NOBODY || !atomic_load(&ring(m, word)->is_minded)) return;
     lock(m);

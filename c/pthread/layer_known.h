@@ -30,7 +30,7 @@ struct thread {
     pthread_t self;
     pid_t id;
     unsigned index;   /* in the order in which threads made their first call */
-    int numbers;      /* that it has, and didn't give back itself; touched by the thread alone */
+    int numbers;      /* those that it has, and didn't give back itself; touched by the thread alone */
     _Atomic int uses; /* LIVE, less what others gave back for it; after its end the numbers that it still has */
     _Atomic int is_cancelled, has_ended;
     _Atomic int sleeps;       /* in a wait that has no limit: it wakes at times to look whether it is cancelled */
@@ -154,7 +154,7 @@ static inline void take(_Atomic int *lock) {
 
 static inline void let(_Atomic int *lock) { atomic_store_explicit(lock, 0, memory_order_release); }
 
-/* The thread that takes over what was lent, or comes in later, sees the store. Not everybody sees it at once, as with
+/* The thread that takes over what was lent, or comes in later, sees the store. Not everybody sees it at once, unlike
    a plain store to an atomic. */
 #define store(object, value) atomic_store_explicit(&(object), value, memory_order_release)
 
@@ -223,7 +223,7 @@ static inline struct condition *condition_of(const void *address) {
     return (struct condition *)find(&conditions, address);
 }
 
-/* From now on the condition is known. */
+/* What is known of a condition, which is known from now on. */
 static struct condition *make_condition(const void *address) {
     take(&conditions.lock);
     struct condition *c = condition_of(address);

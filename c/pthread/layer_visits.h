@@ -88,8 +88,7 @@ static int is_named(const pthread_mutex_t *mutex) {
     return 0;
 }
 
-/* If it is between processes, robust or with priorities; if that was asked for; or if nobody we know has locked
- * it. */
+/* Whether it is between processes, robust or with priorities; or named by the user; or locked by nobody we know. */
 static int is_left_alone(const pthread_mutex_t *mutex, const struct thread *t) {
     if (mutex->__data.__kind & (ROBUST | INHERITS | PROTECTS | SHARED) || mutex->__data.__owner != t->id) return 1;
     return asked.left_alone && is_named(mutex);

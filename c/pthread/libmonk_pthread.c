@@ -1,9 +1,8 @@
 /* libmonk_pthread.c - runs an unchanged program of pthreads or C11 threads under any kind of monitor that has
    signals, by LD_PRELOAD.
 
-   monk-run says how to ask for it, and docs/TRY.md what it reports. A mutex becomes a monitor when a thread first
-   waits on a condition with it; until then it is what it was. None of this is proved: the monitors below it are
-   (monk.h).
+   monk-run has its options, docs/TRY.md says what it reports. A mutex becomes a monitor when a thread first waits on
+   a condition with it; until then it is what it was. None of this is proved: the monitors below it are (monk.h).
 
    The parts: layer_real.h, the system's functions; layer_settings.h, what is asked; layer_known.h, threads, monitors
    and conditions; layer_queues.h, who waits where; layer_files.h, histories and the report; layer_halls.h, volumes of

@@ -126,7 +126,7 @@ class Telling(unittest.TestCase):
         def host() -> None:
             has_begun.wait()
             with monitor:
-                # The guest has let the monitor go. What it waits for is told by its own thread, a moment later.
+                # The guest has let the monitor go. Its own thread notes what it waits for, a moment later.
                 while "(guest): waiting" in monitor.who():
                     time.sleep(0.001)
                 self.assertRegex(monitor.who(),

@@ -19,8 +19,8 @@ import java.util.concurrent.locks.ReentrantLock;
  * <p>For a {@code ReentrantLock}: {@code log.lock(fair)} in its place, and {@code lock.newCondition()} for its
  * conditions.
  *
- * <p>For {@code synchronized (object)}: {@link #enter} first and {@link #leave} last in each block, and
- * {@link #await}, {@link #signal} and {@link #signalAll} in place of {@code wait}, {@code notify} and {@code notifyAll}.
+ * <p>In {@code synchronized (object)}: {@link #enter} first and {@link #leave} last in each block, and {@link #await},
+ * {@link #signal} and {@link #signalAll} in place of {@code wait}, {@code notify} and {@code notifyAll}.
  *
  * <p>{@link #write} writes the log, and beside it the threads' names and the places in the source of its lines.
  *

@@ -3,7 +3,7 @@
     recorder = Recorder()
     lock = recorder.lock()                  # in place of threading.Lock(); recorder.rlock() of threading.RLock()
     not_full = recorder.condition(lock)     # in place of threading.Condition(lock)
-    recorder.act(code, arg, reply)          # while the lock is held, behind an operation on what it guards, if that is
+    recorder.act(code, arg, reply)          # while the lock is held, after an operation on what it guards, if that is
                                             # to be judged
     recorder.write("run", "buffer 4")       # the log, into a new file, and beside it run.names; the object and its size
     recorder.summary()                      # what was seen, in words

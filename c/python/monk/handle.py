@@ -87,7 +87,7 @@ class Handle:
         # By the numbers of seats: the seat that was taken last, and whose it was.
         self.sitters: "Dict[int, weakref.ref[Seat]]" = {}
         self.names: Dict[int, str] = {}
-        # For how many seconds a thread waits before it says who waits where. None: for ever.
+        # How many seconds a thread waits before it says who waits where. None: for ever.
         self.patience: Optional[float] = None
         self.is_told = self.is_stopped = False
         self._process, self._is_closed = os.getpid(), False
