@@ -238,7 +238,7 @@ static void watch_signals(void) {
         if (!real.sigaction(fatal[i], NULL, &now) && now.sa_handler == SIG_DFL) end_by_default(fatal[i]);
 }
 
-/* Once in a process, if there is anything to watch for. */
+/* Starts to watch, once in a process, if there is anything to watch for. */
 static void watch_process(void) {
     if ((asked.seconds == 0 && !asked.history && !asked.report) || atomic_exchange(&is_watched, 1)) return;
     start_watcher();

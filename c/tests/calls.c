@@ -252,7 +252,7 @@ static struct timespec in_microseconds(long microseconds) {
     return then;
 }
 
-/* By how many nanoseconds a wait of 100 microseconds that nobody ends is late, in the best of many. */
+/* How many nanoseconds late a wait of 100 microseconds ends, in the best of many that nobody ends before. */
 static long least_late(void) {
     long least = 1000000000;
     for (int i = 0; i < 50; i++) {

@@ -91,7 +91,7 @@ struct monitor {
 static struct pool threads = {sizeof(struct thread), 0}, monitors = {sizeof(struct monitor), 0};
 static struct pool conditions = {sizeof(struct condition), 0}, logs = {sizeof(struct log), 0};
 static _Atomic(struct log *) all_logs;
-static struct known *idle_logs; /* those of them that no mutex has */
+static struct known *idle_logs; /* the logs that no mutex has */
 static struct {
     atomic_int mutexes, stray_acts, without_memory;
     atomic_int left_out; /* signals from outside that belong to no log */

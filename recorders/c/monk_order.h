@@ -14,7 +14,7 @@ enum {
     STUCK = -1              /* in place of the process: somebody gave up, so others needn't wait as long */
 };
 
-/* In each thread, without a call that might ask for memory. */
+/* For a variable of each thread, without a call that might ask for memory. */
 #define OF_THREAD static __thread __attribute__((tls_model("initial-exec")))
 
 /* A function of its own for what is seldom called, so that the usual way keeps no registers for it. */

@@ -1,9 +1,9 @@
-/* From where in the program its calls come. Part of libmonk_log.c. A place has the same number whenever a call comes
-   from there, and no lock is needed to ask for it. In C a call comes from the address to which it returns. In C++
-   that may be a function of C++'s library, or of its headers: then its caller is meant, or the caller's caller. A
-   frame ends at the same distance at each call from the same place. So a frame is unwound once, and later its end is
-   known. What belongs to C++'s library is found out when the program starts: later nothing here asks the loader,
-   which may hold a lock of its own. */
+/* The places in the program from which its calls come. Part of libmonk_log.c. A place has the same number whenever a
+   call comes from there, and no lock is needed to ask for it. In C a call comes from the address to which it returns.
+   In C++ that may be a function of C++'s library, or of its headers: then its caller is meant, or the caller's
+   caller. A frame ends at the same distance at each call from the same place. So a frame is unwound once, and later
+   its end is known. What belongs to C++'s library is found out when the program starts: later nothing here asks the
+   loader, which may hold a lock of its own. */
 #ifndef MONK_SITES_H
 #define MONK_SITES_H
 
