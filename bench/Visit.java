@@ -4,7 +4,7 @@ import java.util.concurrent.locks.ReentrantLock;
 /**
  * The nanoseconds of a visit by Java's ReentrantLock: Visit CHUNKS
  *
- * bench/c_library builds it, and compares. It is measured as bench/c_library.c measures a visit: the least of so many
+ * bench/c_library builds it, and compares. It is measured as bench/c_library.c measures a visit: the least of CHUNKS
  * chunks of 2,000. As many chunks run before, so that what is measured is compiled.
  */
 final class Visit {

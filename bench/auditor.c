@@ -1,4 +1,4 @@
-/* A yardstick for `monk audit`: the same audit in plain C, in one pass, with nothing proved of it. It reads both
+/* A yardstick for `monk audit`: the same audit in plain C, in one pass, and nothing in it is proved. It reads both
    versions of the text, judges all ten events, and prints what monk prints. It shares no code with monk.
 
    usage: auditor [--mapped] FILE      the file is read whole into memory; with --mapped it is mapped */
@@ -239,7 +239,7 @@ static int read_object(struct text *t) {
     return fails(t, WORD);
 }
 
-/* The version, or 0 where the first line is no header. */
+/* The version, or 0 if the first line is no header. */
 static int read_header(struct text *t) {
     t->flaw = 0;
     if (!TAKES("monk")) return 0;

@@ -16,7 +16,7 @@ struct text { const unsigned char *at, *end; int flaw; };
 
 struct event { int verb, seat, cond, wait_cond, handed, queue, next, chosen; uint64_t code, arg, reply; };
 
-/* Takes the word where it is the next one, with the space behind it or the line's end before it. */
+/* Takes the word if it is the next one, and a space or the line's end follows it. */
 INLINE int takes(struct text *t, const char *word, size_t length) {
     if ((size_t)(t->end - t->at) <= length || *t->at != (unsigned char)*word) return 0;
     if (memcmp(t->at, word, length) || (t->at[length] != ' ' && t->at[length] != '\n')) return 0;

@@ -2,12 +2,12 @@
  * with -DPLAIN by a pthread mutex and its conditions.
  *
  *     c_library build                       which library it is
- *     c_library visit MONITORS CHUNKS       the nanoseconds of a visit by the only seat: the least of so many chunks of
- *                                           2,000 visits to the last of so many monitors; the first one's memory was
+ *     c_library visit MONITORS CHUNKS       the nanoseconds of a visit by the only seat: the least of CHUNKS chunks of
+ *                                           2,000 visits to the last of MONITORS monitors; the first one's memory was
  *                                           never used before
- *     c_library abandoned SEATS CHUNKS      the same, to one monitor, while so many abandoned seats wait on a condition
+ *     c_library abandoned SEATS CHUNKS      the same, to one monitor, while SEATS abandoned seats wait on a condition
  *     c_library visits THREADS ROUNDS       the nanoseconds of a visit, by the clock
- *     c_library buffer KIND ROUNDS          the seconds of so many puts and as many takes, by two threads each */
+ *     c_library buffer KIND ROUNDS          the seconds while two threads put ROUNDS items each, and two take */
 #include <pthread.h>
 #include <stdio.h>
 #include <stdlib.h>
@@ -22,7 +22,7 @@ enum { MOST_THREADS = 32, NOT_FULL = 0, NOT_EMPTY = 1, CONDITIONS = 2, SIZE = 8,
     NS_A_SECOND = 1000000000 };
 
 static pthread_barrier_t line;
-static long rounds, count;                  /* touched inside alone, as the buffer is */
+static long rounds, count;                  /* touched only inside, as the buffer is */
 static long buffer[SIZE], first, filled, taken_sum;
 
 #ifdef PLAIN
@@ -74,7 +74,7 @@ static void end(void) {
     must(monk_free(monitor));
 }
 
-/* One seat more waits on a condition, and nobody has it. */
+/* One more seat waits on a condition, and nobody has it. */
 static void abandon_one(void) {
     monk_seat *s;
     must(monk_take_seat(monitor, &s));
@@ -163,7 +163,7 @@ static double timed(job *jobs, unsigned threads) {
     return ended - began;
 }
 
-/* That there is a second thread makes a mutex no cheaper than it is in a program that needs one. */
+/* A second thread, so that a mutex isn't cheaper than in a program that needs one. */
 static void *be_there(void *unused) {
     for (;;) pause();
     return unused;
@@ -180,7 +180,7 @@ static double least_of(seat *s, long chunks) {
     return best;
 }
 
-/* The least of a visit's nanoseconds, to the last of so many monitors, while so many abandoned seats wait. */
+/* The least nanoseconds of a visit to the last of these monitors, while that number of abandoned seats wait. */
 static double least(unsigned monitors, unsigned abandoned, long chunks) {
     pthread_t other;
     seat s;

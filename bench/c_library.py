@@ -2,7 +2,7 @@
 
     c_library.py CHUNKS      prints the nanoseconds of each, alone and with a notify
 
-Each is the least of so many chunks of 100 visits. bench/c_library runs it."""
+Each is the least of CHUNKS chunks of 100 visits. bench/c_library runs it."""
 
 from __future__ import annotations
 

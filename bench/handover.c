@@ -160,7 +160,7 @@ static void work_shop(int seat) {
         }
 }
 
-/* What the history says that was done. */
+/* How often the history says that this was done. */
 static unsigned long times(int code) {
     unsigned long count = 0;
     for (unsigned long at = 0; at < length; at++)
@@ -204,7 +204,7 @@ static void *work(void *number) {
 }
 
 /* Runs the sample in threads, none of which begins before all are there; an odd last seat of a buffer or a book stays
-   idle. 0 where there was no memory or thread. */
+   idle. 0 if there was no memory or thread. */
 static int run(void) {
     int working = sample->work == work_shop ? seats : seats / 2 * 2;
     pthread_t threads[MOST_SEATS];

@@ -1,6 +1,6 @@
 /* A hand-over monitor of pthreads, by hand: a yardstick for the hall. Each thread sleeps on a condition variable of
-   its own until the monitor is handed to it. Who waits for entry, on a condition and after a signal stands in a
-   queue; a signal hands the monitor to the first that waits there, and the signaller gets it back before anybody
+   its own until the monitor is handed to it. Threads that wait for entry, on a condition or after a signal are in
+   queues. A signal hands the monitor to the first that waits there, and the signaller gets it back before anybody
    enters. Every call is recorded in a history. */
 #ifndef HANDOVER_H
 #define HANDOVER_H
@@ -44,7 +44,7 @@ static void await_grant(int seat) {
 /* Hands the monitor to a thread, which has to be woken then. */
 static void grant(int seat) { granted[seat] = 1; }
 
-/* Hands the monitor to who is next when the active thread gives it up, if there is one. */
+/* Hands the monitor to the next thread, if there is one, when the active thread gives it up. */
 static int hand_over(void) {
     int next = urgent.count ? leave_queue(&urgent) : entry.count ? leave_queue(&entry) : -1;
     if (next < 0)
@@ -103,7 +103,7 @@ static void signal_on(int seat, int cond) {
     pthread_mutex_unlock(&lock);
 }
 
-/* An operation of the active thread, with what the object replied. */
+/* Records an operation of the active thread, with the object's reply. */
 static void act(int seat, int code, unsigned arg, unsigned long reply) { record(ACT, seat, code, 0, arg, reply); }
 
 #endif

@@ -3,8 +3,8 @@
        gcc -O2 -o recorder bench/recorder.c -lpthread
        ./recorder; MONK_LOG=run LD_PRELOAD=./libmonk_log.so ./recorder
 
-   Each thread does so on the same mutex, after one wait of a moment, without which there is no log. Prints the
-   nanoseconds of a round. */
+   Each thread does so on the same mutex, after one short wait, without which there is no log. Prints the nanoseconds
+   of a round. */
 #include <pthread.h>
 #include <stdio.h>
 #include <stdlib.h>

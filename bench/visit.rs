@@ -1,7 +1,7 @@
 //! The nanoseconds of a visit by Rust's mutex, alone or with the two events of 24 bytes that a monitor records: visit
 //! plain|records CHUNKS
 //!
-//! bench/c_library builds it, and compares. It is measured as bench/c_library.c measures a visit: the least of so many
+//! bench/c_library builds it, and compares. It is measured as bench/c_library.c measures a visit: the least of CHUNKS
 //! chunks of 2,000.
 use std::hint::black_box;
 use std::sync::Mutex;

@@ -1,4 +1,4 @@
-/* abandoned.c - what seats do that were abandoned while they waited: they come in when it is their turn, and leave. */
+/* abandoned.c - seats that were abandoned while they waited: they come in when it is their turn, and leave. */
 #include "seats.h"
 
 /* Whether it was a signal that let this seat in: it waited on a condition, and no broadcast served all who did. */
@@ -6,8 +6,8 @@ static int was_signalled(const monk_seat *s) {
     return s->waits_on != NO_CONDITION && s->monitor->broadcasts[s->waits_on] == s->broadcasts;
 }
 
-/* Signals the condition on which an abandoned seat waited, if anybody else waits there. It may be waiting behind
- * this, or have left. */
+/* Signals the condition on which an abandoned seat waited, if anybody else waits there. After this the seat may wait,
+ * or have left. */
 static int pass_on(monk_seat *s, size_t *word) {
     uint8_t condition = s->waits_on;
     if (monk_k_waiting(s->token, condition) <= 0) return MONK_INSIDE;
@@ -15,8 +15,8 @@ static int pass_on(monk_seat *s, size_t *word) {
     return (leaves ? monk_k_signal_leave : monk_k_start_signal)(s->token, condition, MONK_WAITER, word);
 }
 
-/* What an abandoned seat does that has come in: it passes on the signal that served it, unless too few events are
- * left to it, and leaves. Under a blocking kind its leave is yet to come then. Under the lock. */
+/* An abandoned seat has come in: it passes on the signal that served it, unless it has too few events left, and
+ * leaves. Under a blocking kind it may leave later. Under the lock. */
 static void go_on_and_out(monk_seat *s) {
     monk_monitor *m = s->monitor;
     size_t word = NOBODY;

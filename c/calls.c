@@ -1,4 +1,4 @@
-/* calls.c - the calls of monk.h by a seat: each asks the kernel for its step, and sleeps where it has to wait. */
+/* calls.c - the calls of monk.h by a seat: each asks the kernel for its step, and sleeps if it has to wait. */
 #include "seats.h"
 #include <sys/eventfd.h>
 
@@ -13,7 +13,7 @@ static int poll_once(monk_seat *s) {
     return noted(s, answer, 1);
 }
 
-/* It arrives, and comes in if it may at once. */
+/* Arrives, and comes in if it may do so at once. */
 static int arrive_and_poll(monk_seat *s) {
     int answer = monk_k_enter(s->token);
     if (answer != MONK_INSIDE) return noted(s, answer, 0);
@@ -28,7 +28,7 @@ static int go_out(monk_seat *s) {
     return handed_on(s, answer, word);
 }
 
-/* How many broadcasts there were on a condition, for a seat that is inside: of any other a wait is refused. */
+/* How many broadcasts there were on a condition, if the seat is inside; else 0: its wait is refused. */
 static uint32_t broadcasts_on(const monk_seat *s, unsigned condition) {
     return place_of(s) == MONK_INSIDE && condition < MOST_CONDITIONS ? s->monitor->broadcasts[condition] : 0;
 }
@@ -77,8 +77,8 @@ static int is_sent_home(const monk_seat *s) {
 }
 
 /* Waits until the seat is inside. A stop sends it home, unless it comes for a look at the history. The bell is read
- * before the poll and the stop flag: a grant or a stop that the two missed rings later, and then the thread doesn't
- * sleep, or is woken. */
+ * before the poll and the stop flag. If these miss a grant or a stop, it rings later, and then the thread doesn't
+ * fall asleep, or is woken. */
 static int come_in(monk_seat *s, const struct timespec *limit) {
     monk_monitor *m = s->monitor;
     int answer = poll_once(s), in_time = 1;
@@ -179,7 +179,7 @@ int monk_flags(monk_seat *s, uint32_t *bits) {
 
 enum { MS_A_SECOND = 1000, NS_A_MS = 1000000, NS_A_SECOND = 1000000000 };
 
-/* So many milliseconds from now. */
+/* The time that is `milliseconds` from now. */
 static struct timespec limit_in(long milliseconds) {
     struct timespec limit;
     clock_gettime(CLOCK_MONOTONIC, &limit);
@@ -213,7 +213,7 @@ int monk_await_until(monk_seat *s, const struct timespec *time) {
     return end(s, place_of(s) == MONK_INSIDE ? MONK_INSIDE : come_in(s, time));
 }
 
-/* From now on the seat's eventfd is written when its bell rings; what was written before is taken away. */
+/* From now on the seat's eventfd is written when its bell rings; what was written before is discarded. */
 static int watch(monk_seat *s) {
     if (s->file == NO_FILE) s->file = eventfd(0, EFD_CLOEXEC | EFD_NONBLOCK);
     if (s->file == NO_FILE) return MONK_IO;

@@ -1,6 +1,6 @@
 /* monk.c - monk.h over the proved kernel (monk_kernel.h): seats are lent and given back, monitors made and closed,
- * and histories become files. In calls.c threads sleep and are woken. The kernel decides who goes on, and records
- * it. Nothing of these files is proved. docs/C.md argues why no wake-up is missed. */
+ * and histories become files. In calls.c threads sleep and are woken. The kernel decides who goes on, and records it.
+ * Nothing in these files is proved. docs/C.md argues why no wake-up is missed. */
 #include "seats.h"
 
 #ifndef MONK_BUILT
@@ -9,7 +9,7 @@
 
 /* ---- Seats */
 
-/* The first seat that nobody has and that can pay a visit, from the lowest on or from the highest. Under the lock. */
+/* The first free seat with enough events for a visit, from the lowest on or from the highest. Under the lock. */
 static monk_seat *spare_seat(monk_monitor *m, int from_highest, int *answer) {
     *answer = MONK_NO_SEAT;
     for (unsigned i = 0; i < m->seat_count; i++) {
@@ -21,9 +21,9 @@ static monk_seat *spare_seat(monk_monitor *m, int from_highest, int *answer) {
     return NULL;
 }
 
-/* The seat of an earlier look whose turn didn't come in time. It waits still, and can't be taken out of its queue:
- * so the next look goes on by it, and doesn't use up another seat. Who takes it up polls for it from now on, so
- * nobody is missed. Under the lock. */
+/* The seat of an earlier look whose turn didn't come in time. It still waits, and can't be taken out of its queue. So
+ * the next look uses it, and not another seat. The next look polls for it from now on, so its turn isn't missed.
+ * Under the lock. */
 static monk_seat *visitor_that_waits(monk_monitor *m) {
     for (unsigned i = 0; i < m->seat_count; i++) {
         monk_seat *s = &m->seats[i];
@@ -34,7 +34,7 @@ static monk_seat *visitor_that_waits(monk_monitor *m) {
     return NULL;
 }
 
-/* To a thread the lowest seat, to a visitor the highest. */
+/* Lends the lowest seat to a thread, and the highest to a visitor. */
 static int lend(monk_monitor *m, int is_visitor, monk_seat **seat) {
     int answer = MONK_CLOSED;
     lock(m);
@@ -61,7 +61,7 @@ int monk_give_seat(monk_seat *s) {
     lock(m);
     set_lent(s, FREE);              /* before the call ends: another thread's call finds one of the two */
     end(s, MONK_OK);
-    unlock(m);                      /* behind this the monitor may be freed */
+    unlock(m);                      /* after this the monitor may be freed */
     return MONK_OK;
 }
 
@@ -110,7 +110,7 @@ static int is_in_range(const monk_shape *shape) {
         && shape->budget != 1;
 }
 
-/* The dice of a seat: never 0, and of no other seat. */
+/* The dice of a seat: never 0, and not those of another seat. */
 static uint64_t dice_of(uint64_t seed, unsigned number) {
     uint64_t dice = (seed + 1) * 0x9e3779b97f4a7c15u + (number + 1) * 0xbf58476d1ce4e5b9u;
     return dice ? dice : 1;
@@ -180,7 +180,7 @@ static int text_of(monk_seat *s, char **text, size_t *length) {
     return MONK_OK;
 }
 
-/* Any thread may ask for it, and a token is used by one call at a time. */
+/* Any thread may ask for it, but only one call at a time may use a token. */
 static int text_of_closed(monk_monitor *m, char **text, size_t *length) {
     lock(m);
     int r = text_of(m->reader, text, length);
@@ -202,7 +202,7 @@ int monk_history(monk_monitor *m, monk_seat *by, char **text, size_t *length) {
     int r = lend(m, 1, &visitor);
     if (r == MONK_CLOSED) return text_of_closed(m, text, length);
     if (r) return r;
-    monk_arrive(visitor);                   /* refused where it waits since an earlier look */
+    monk_arrive(visitor);                   /* refused if it has waited since an earlier look */
     r = monk_await(visitor, PATIENCE_MS) == MONK_INSIDE ? history_by(visitor, text, length) : MONK_BUSY;
     monk_abandon(visitor);
     return r;

@@ -15,34 +15,33 @@
  *         return monk_leave(s);
  *     }
  *
- * WHERE A SEAT STANDS. A thread comes to a monitor by a seat, and the seat is at one place: OUTSIDE; WAITING, for entry
- * or on a queue inside; or INSIDE, which at most one seat is. Each call says from which place it may be made.
+ * WHERE A SEAT IS. A thread uses a monitor by a seat. The seat is in one of three places: OUTSIDE; WAITING, for entry
+ * or on a queue inside; or INSIDE. At most one seat is inside. Each call says from which place it may be made.
  *
- * ANSWERS. A call that waits answers MONK_OK (0) once the seat is where the call leads. A call that doesn't wait and
- * may leave the seat waiting answers its place, above 0. Below 0 is an error, and then NOTHING HAS CHANGED and nothing
- * was recorded: the seat stands where it stood, the monitor as it was. (MONK_STOPPED alone comes after the call was
- * taken.) Of several errors the first in this order is answered: IN_USE, CLOSED, NOT_OF_KIND, RANGE, NOT_NOW, SPENT. A
- * null pointer is out of range, and a seat that was given back is NOT_NOW, before what follows CLOSED.
+ * ANSWERS. A call that waits returns MONK_OK (0) once the seat is where the call leads. A call that doesn't wait, but
+ * may leave the seat waiting, returns the seat's place, above 0. An error is below 0. After it NOTHING HAS CHANGED and
+ * nothing was recorded: the seat and the monitor are as they were. (Only MONK_STOPPED comes after the call was taken.)
+ * If several errors apply, the call returns the first in this order: IN_USE, CLOSED, NOT_OF_KIND, RANGE, NOT_NOW,
+ * SPENT. But a null pointer is RANGE before all these, and a seat that was given back is NOT_NOW right after CLOSED.
  *
- * THREADS. A seat is used by one thread at a time. It may pass to another thread between two calls. A second call by a
- * seat while one is under way is answered MONK_IN_USE. All other calls may be made by any thread at any time. What a
- * thread does to its data while its seat is inside, the next thread inside sees: the monitor orders memory as a mutex
- * does. So does a stop for whomever it sends home, and a seat that is given back for whoever takes it. ThreadSanitizer
- * sees this order.
+ * THREADS. One thread at a time uses a seat. The seat may pass to another thread between two calls. While a call by a
+ * seat is under way, a second one returns MONK_IN_USE. Any thread may make all other calls at any time. The next
+ * thread inside sees what a thread did to its data while its seat was inside: the monitor orders memory as a mutex
+ * does. So does a stop for the threads that it sends home, and a seat that is given back for the thread that takes it
+ * next. ThreadSanitizer sees this order.
  *
- * WHAT IS PROVED of the library (not of reference/, a plain model of it): that at most one seat is inside,
- * that every call which was taken is in the history exactly once, that the history is legal for the kind, and that
- * every release chooses by the kind's priorities; for every kind, number of seats and schedule. NOT PROVED: the C part,
- * which sleeps, wakes, lends seats and writes files; that a thread wakes, progress, fairness, time; your data, which
- * the monitor doesn't know; and that your flags tell the truth.
+ * WHAT IS PROVED of the library (not of reference/, a plain model of it): that at most one seat is inside, that every
+ * call that was taken is in the history exactly once, that the history is legal for the kind, and that every release
+ * chooses by the kind's priorities; for every kind, number of seats and schedule. NOT PROVED: the C part, which sleeps,
+ * wakes, lends seats and writes files; that a thread wakes, progress, fairness, time; your data, which the monitor
+ * doesn't know; and that your flags are right.
  *
- * NOT OFFERED. No call is safe in a signal handler; a signal that arrives while a call waits doesn't end it (EINTR is
- * not answered). Neither does pthread_cancel: a thread that is cancelled while it waits comes in when its turn comes,
- * and ends at its next cancellation point. It may be inside then, so it wants a clean-up handler that calls
- * monk_abandon. monk_save writes to a stream, and is such a point. After fork() the child must not call the library
- * about monitors that were made before. A monitor lives in one process. No call may be made while another monitor's
- * seat of the same thread is inside, if you want to know that you won't deadlock: a wait gives up its own monitor
- * alone.
+ * NOT OFFERED. No call is safe in a signal handler. A signal that arrives while a call waits doesn't end the call
+ * (none returns EINTR). pthread_cancel doesn't either: a thread that is cancelled while it waits comes in when its
+ * turn comes, and ends at its next cancellation point. It may be inside then, so it needs a clean-up handler that
+ * calls monk_abandon. monk_save writes to a stream, and is such a point. After fork() the child must not call the
+ * library for monitors that were made before. A monitor lives in one process. To be sure that you won't deadlock,
+ * make no call while the thread has a seat inside another monitor: a wait gives up only its own monitor.
  */
 #ifndef MONK_H
 #define MONK_H
@@ -56,15 +55,15 @@
 extern "C" {
 #endif
 
-#define MONK_VERSION 0x010000        /* 1.0.0; monk_version() is that of the library which is linked */
+#define MONK_VERSION 0x010000        /* 1.0.0; monk_version() is the version of the library that is linked */
 
 typedef struct monk_monitor monk_monitor;
 typedef struct monk_seat monk_seat;      /* a pointer to it names a lending of a seat, not where the seat is kept */
 
 /* ---- Kinds ------------------------------------------------------------------------------------------------------- */
 
-/* In a P kind callers at the entry come behind all who wait inside; in an NP kind they are on a level with the
- * lowest. */
+/* In a P kind, callers at the entry come after all who wait inside. In an NP kind, they tie with the lowest of
+ * these. */
 typedef enum monk_kind {
     MONK_PB, MONK_NPB,               /* blocking: a signal hands the monitor over (Hoare) */
     MONK_PNB, MONK_NPNB,             /* non-blocking: the signaller goes on (NPNB: Mesa, POSIX, Java) */
@@ -77,8 +76,8 @@ typedef enum monk_mode {
     MONK_BLOCKING, MONK_NON_BLOCKING, MONK_QUASI_BLOCKING, MONK_IMMEDIATE_RETURN, MONK_AUTOMATIC
 } monk_mode;
 
-int monk_kind_named(const char *name);           /* "PB" gives MONK_PB; MONK_RANGE where there is none */
-const char *monk_kind_name(int kind);            /* "PB"; NULL where there is none */
+int monk_kind_named(const char *name);           /* "PB" gives MONK_PB; MONK_RANGE if there is none */
+const char *monk_kind_name(int kind);            /* "PB"; NULL if there is none */
 int monk_mode_of(int kind);                      /* a monk_mode; MONK_RANGE */
 
 /* ---- Answers ----------------------------------------------------------------------------------------------------- */
@@ -87,13 +86,13 @@ enum {
     MONK_OK = 0,
     MONK_OUTSIDE = 1, MONK_WAITING = 2, MONK_INSIDE = 3,      /* places */
 
-    MONK_NOT_NOW = -1,       /* the seat is at another place than the call asks for */
-    MONK_SPENT = -2,         /* too few events are left to the seat: it can still leave */
+    MONK_NOT_NOW = -1,       /* the seat is in a place from which the call can't be made */
+    MONK_SPENT = -2,         /* the seat has too few events left: it can still leave */
     MONK_NOT_OF_KIND = -3,   /* monitors of this kind have no such call */
     MONK_RANGE = -4,         /* a kind, number of seats, condition, flag, budget or time out of range; a null pointer */
     MONK_MEMORY = -5,        /* a request for memory was refused */
     MONK_NO_SEAT = -6,       /* every seat is taken */
-    MONK_BUSY = -7,          /* seats are taken still, or the monitor didn't come free in time */
+    MONK_BUSY = -7,          /* seats are still taken, or the monitor didn't become free in time */
     MONK_IN_USE = -8,        /* another thread is in a call by this seat */
     MONK_STOPPED = -9,       /* monk_stop: the call was taken, but the seat is not in; it still waits */
     MONK_CLOSED = -10,       /* the monitor is closed */
@@ -108,108 +107,109 @@ const char *monk_build(void);                    /* "kernel proved, KIT, commit 
 
 typedef struct monk_shape {
     int kind;                /* a monk_kind */
-    unsigned seats;          /* 1 to 32: one for each thread, and one to spare if a hung run is to be looked at */
+    unsigned seats;          /* 1 to 32: one for each thread, and one more to look at a run that hangs */
     unsigned conditions;     /* 0 to 8 */
     unsigned flags;          /* 0 to 32 */
-    uint32_t budget;         /* events of each seat, 2 to 2^20; 0: 65536. Memory for seats * budget is taken at make */
-    uint64_t seed;           /* of the wish MONK_ANY */
+    uint32_t budget;         /* events of each seat, 2 to 2^20; 0: 65536. monk_make takes memory for seats * budget */
+    uint64_t seed;           /* for the wish MONK_ANY */
 } monk_shape;
 
-/* MONK_RANGE, MONK_MEMORY. *m is set on MONK_OK alone. No later call takes memory, but for the texts of histories. */
+/* Makes a monitor; sets *m on MONK_OK alone. MONK_RANGE, MONK_MEMORY. Later only texts of histories take memory. */
 int monk_make(monk_monitor **m, const monk_shape *shape);
 
-/* Ends all waiting, from any thread: whoever waits comes back with MONK_STOPPED, and from now on a call that would
- * have to wait answers it at once. The seat that is inside goes on, so a stopped monitor still has a legal history.
- * For a run that hangs, a test that failed, a seat that is spent: the threads come home and give up their seats by
+/* Ends all waiting, from any thread: each call that waits returns MONK_STOPPED, and from now on a call that would
+ * have to wait returns it at once. The seat that is inside goes on, so a stopped monitor still has a legal history.
+ * Use it if a run hangs, a test failed, or a seat is spent: the threads come home and give up their seats by
  * monk_abandon. */
 int monk_stop(monk_monitor *m);
 
-/* Closes: the lowest seat that can pay a visit comes in, and stays. From then on every call by a seat is answered
- * MONK_CLOSED, and the history is whole. MONK_BUSY while a seat is taken, or an abandoned one still waits;
- * MONK_SPENT where no seat has two events left; MONK_CLOSED the second time. */
+/* Closes the monitor: the lowest seat with two events left comes in, and stays. From then on every call by a seat
+ * returns MONK_CLOSED, and the history is complete. MONK_BUSY while a seat is taken, or an abandoned one still waits;
+ * MONK_SPENT if no seat has two events left; MONK_CLOSED the second time. */
 int monk_close(monk_monitor *m);
 
-/* Frees it, closed or not. MONK_BUSY, and nothing is freed, while a seat is taken. NULL is nothing to free: MONK_OK. */
+/* Frees it, closed or not. MONK_BUSY while a seat is taken: nothing is freed. NULL is nothing to free: MONK_OK. */
 int monk_free(monk_monitor *m);
 
 int monk_kind_of(const monk_monitor *m);
 
 /* ---- Seats ------------------------------------------------------------------------------------------------------- */
 
-/* The lowest seat that nobody has and that has two events left. MONK_NO_SEAT; MONK_SPENT where all that are free
- * are. */
+/* Takes the lowest seat that nobody has and that has two events left. MONK_NO_SEAT if none is free; MONK_SPENT if no
+ * free seat has two events left. */
 int monk_take_seat(monk_monitor *m, monk_seat **s);
 
-/* Gives an outside seat back. Its events stay counted. The pointer is no seat any more: every call by it is NOT_NOW,
- * and disturbs nobody, also when somebody else has taken the seat. (Of a seat's lendings each 65,536th has the same
- * pointer.) */
+/* Gives back a seat that is outside. Its events stay counted. The pointer is no seat any more: every call by it
+ * returns MONK_NOT_NOW and disturbs nobody, even if somebody else has taken the seat. (Each 65,536th lending of a
+ * seat has the same pointer.) */
 int monk_give_seat(monk_seat *s);
 
-/* Gives a seat back wherever it stands, for a thread that ends or an error path. An inside seat leaves. A waiting
+/* Gives a seat back wherever it is, for a thread that ends or an error path. A seat that is inside leaves. A waiting
  * one keeps its place, comes in when its turn comes, and leaves at once: the library does that in some thread's next
  * release, and the history has it. So an abandoned seat never keeps the monitor. Nobody can take it before it is
- * outside. Nor does it keep a signal: if one serves it, and others wait on its condition still, it signals the
+ * outside. It doesn't keep a signal either: if one serves it, and others still wait on its condition, it signals the
  * condition before it leaves (in immediate-return kinds as it leaves). After a broadcast, which served all, it
- * doesn't. A signal wants three events of it, as monk_signal does: a seat with fewer leaves without one. */
+ * doesn't. The signal needs as many events as monk_signal (or monk_signal_leave): a seat with fewer leaves without
+ * it. */
 int monk_abandon(monk_seat *s);
 
 unsigned monk_seat_number(const monk_seat *s);   /* as in the history */
 int monk_place(const monk_seat *s);              /* MONK_OUTSIDE, _WAITING, _INSIDE; _NOT_NOW if it was given back */
-uint32_t monk_left(const monk_seat *s);          /* events left to it: what each call costs is told with the call */
+uint32_t monk_left(const monk_seat *s);          /* events that it has left: each call below says how many it needs */
 
-/* Whom the seat's releases prefer where the kind's priorities leave it open (in NP and Q kinds). It stays until the
- * next call. At first MONK_WAITER. A wish for entry is taken where somebody is known to wait for entry. MONK_ANY
- * throws dice at each release: what a program may not rely on soon shows. */
+/* Sets whom the seat's releases prefer if the kind's priorities leave it open (in NP and Q kinds), until it is set
+ * again. At first it is MONK_WAITER. A wish for entry counts only if somebody is known to wait for entry. MONK_ANY
+ * throws dice at each release: it soon shows what a program may not rely on. */
 typedef enum monk_wish { MONK_ENTRY, MONK_WAITER, MONK_SIGNALLER, MONK_ANY } monk_wish;
 int monk_set_wish(monk_seat *s, int wish);
 
 /* ---- Calls ------------------------------------------------------------------------------------------------------- */
-/*                                                                  from      to       kinds           wants, makes */
+/* The last column: events that must be left, and events made.      from      to       kinds           needs, makes */
 int monk_enter(monk_seat *s);                                  /* outside   inside   all                   2, 1 */
 int monk_leave(monk_seat *s);                                  /* inside    outside  all                   1, 1 */
 
-/* Waits on a condition until a signal serves it and its turn comes. */
+/* Waits on a condition until a signal serves the seat and its turn comes. */
 int monk_wait(monk_seat *s, unsigned condition);               /* inside    inside   all but automatic     3, 2 */
 
-/* Serves the first who waits on the condition; if nobody does, nothing happens, and nothing is kept for later.
- * Returns when the caller is inside, always. Non-blocking kinds: at once, it never left. Blocking kinds: if somebody
- * was served, that thread goes on first, and the call BLOCKS until the caller has the monitor again. What held
- * before may not hold after: signal last, or test again. Quasi-blocking: either. */
+/* Serves the first who waits on the condition. If nobody does, nothing happens, and nothing is kept for later. The
+ * caller is always inside when it returns. Non-blocking kinds: it returns at once, and the caller never left.
+ * Blocking kinds: if somebody was served, that thread goes on first, and the call BLOCKS until the caller has the
+ * monitor again. What held before may not hold after it: signal last, or test again. Quasi-blocking kinds: either. */
 int monk_signal(monk_seat *s, unsigned condition);             /* inside    inside   B, NB, QB             3, 1 or 2 */
 
 /* Serves all who wait on the condition, in order; the caller goes on. */
 int monk_broadcast(monk_seat *s, unsigned condition);          /* inside    inside   non-blocking          2, 1 */
 
-/* Signals and leaves, also where nobody waits: the way out of the immediate-return kinds. */
+/* Signals and leaves, even if nobody waits: the way out of the immediate-return kinds. */
 int monk_signal_leave(monk_seat *s, unsigned condition);       /* inside    outside  immediate return      1, 1 */
 
 /* Signals the first condition and then waits on the second, as one. */
 int monk_signal_wait(monk_seat *s, unsigned condition, unsigned wait_condition);
                                                                /* inside    inside   immediate return      3, 2 */
 
-/* Automatic kinds judge who may go on by flags that the threads set: flag p is bit p. Whoever changed what a flag
- * stands for sets the flags before it leaves or waits. All flags are 0 at first; without flags this is out of range.
- * In other kinds they are data in the history. */
+/* Sets the flags: flag p is bit p. Automatic kinds judge by them who may go on. A thread that changed what a flag
+ * stands for sets the flags before it leaves or waits. All flags are 0 at first. A monitor without flags answers
+ * MONK_RANGE. In other kinds flags are data in the history. */
 int monk_set_flags(monk_seat *s, uint32_t bits);               /* inside    inside   all                   2, 1 */
 
-/* Goes on at once where the flag is set; else waits until it is, and its turn has come. No other thread has been inside
- * between the release that chose it and its return, so the flag is still set. */
+/* Goes on at once if the flag is set; else waits until it is set and the seat's turn has come. No other thread has been
+ * inside between the release that chose it and its return, so the flag is still set. */
 int monk_wait_until(monk_seat *s, unsigned flag);              /* inside    inside   automatic             3, 1 or 2 */
 
-/* How many wait on a condition; the flags. From inside. */
+/* Returns how many wait on a condition; sets *bits to the flags. Both from inside. */
 int monk_waiting(monk_seat *s, unsigned condition);
 int monk_flags(monk_seat *s, uint32_t *bits);
 
-/* For code that is to run under all ten kinds, if its condition n and its flag n stand for the same: monk_pause is
- * monk_wait or monk_wait_until; monk_finish lets one who pauses on n go on and leaves: signal and leave,
- * signal_leave, or leave. */
+/* For code that runs under all ten kinds, if its condition n and its flag n stand for the same. monk_pause is
+ * monk_wait or monk_wait_until. monk_finish lets one who pauses on n go on, and leaves: it is monk_signal and
+ * monk_leave, monk_signal_leave, or monk_leave. */
 int monk_pause(monk_seat *s, unsigned n);                      /* inside    inside   all */
 int monk_finish(monk_seat *s, unsigned n);                     /* inside    outside  all */
 
 /* ---- The same without waiting ------------------------------------------------------------------------------------ */
-/* For event loops, tests of one order of steps, time limits. Each answers the seat's place: MONK_INSIDE or
- * MONK_WAITING, and WAITING is ended by monk_poll or monk_await. monk_enter is monk_arrive and monk_await, and so
- * on. A seat whose turn has come and that isn't polled keeps the monitor from everybody: poll it, or abandon it. */
+/* For event loops, time limits, and tests that fix the order of steps. Each returns the seat's place: MONK_INSIDE or
+ * MONK_WAITING. monk_poll or monk_await ends the waiting. monk_enter is monk_arrive and monk_await, and so on. A seat
+ * whose turn has come keeps the monitor from everybody until it is polled: poll it, or abandon it. */
 int monk_arrive(monk_seat *s);                                 /* outside   waiting */
 int monk_poll(monk_seat *s);                                   /* waiting   inside, or waiting */
 int monk_start_wait(monk_seat *s, unsigned condition);         /* inside    waiting */
@@ -217,18 +217,18 @@ int monk_start_signal(monk_seat *s, unsigned condition);       /* inside    insi
 int monk_start_signal_wait(monk_seat *s, unsigned condition, unsigned wait_condition);   /* inside  waiting */
 int monk_start_wait_until(monk_seat *s, unsigned flag);        /* inside    inside or waiting */
 
-/* Waits until the seat is inside, at most so many milliseconds (below 0: as long as it takes). MONK_INSIDE;
- * MONK_WAITING where the time is over, and the seat waits on, at its place in its queue; MONK_STOPPED. */
+/* Waits until the seat is inside, for that time at most (below 0: as long as it takes). MONK_INSIDE; MONK_WAITING if
+ * the time is over, and then the seat waits on, at its place in its queue; MONK_STOPPED. */
 int monk_await(monk_seat *s, long milliseconds);
 
-/* As monk_await, until a time by the clock CLOCK_MONOTONIC; one that is over is as 0 milliseconds. MONK_RANGE if it
- * is no time of that clock, whose nanoseconds are below 10^9 and which has nothing below 0. */
+/* As monk_await, until a time of the clock CLOCK_MONOTONIC. A time that is over is as 0 milliseconds. MONK_RANGE if a
+ * part of it is below 0, or the nanoseconds are 10^9 or more. */
 int monk_await_until(monk_seat *s, const struct timespec *time);
 
-/* As monk_await with 0 milliseconds; and if the answer is MONK_WAITING, *file is a file that becomes readable when
- * this wait ends, by the seat's turn or a stop. It may be readable before; so call this again then, and at each new
- * wait. For poll, epoll and the like alone: don't read it. Each seat has one, which stays open until monk_free, so
- * take it out of your set before you give the seat back. MONK_IO if the system has no file left. */
+/* As monk_await with 0 milliseconds. If the answer is MONK_WAITING, *file is a descriptor that becomes readable when
+ * this wait ends, by the seat's turn or a stop. It may become readable earlier. So call this again then, and at each
+ * new wait. It is only for poll, epoll and the like: don't read it. Each seat has one, which stays open until
+ * monk_free, so take it out of your set before you give the seat back. MONK_IO if the system has no file left. */
 int monk_wait_fd(monk_seat *s, int *file);
 
 /* monk_arrive and monk_await as one call.                                             outside   inside, or waiting */
@@ -236,19 +236,19 @@ int monk_enter_within(monk_seat *s, long milliseconds);
 
 /* ---- The history ------------------------------------------------------------------------------------------------- */
 /* The text of all events up to now, in version 3 of monk's format: header `monk 3 KIND SEATS CONDITIONS flags FLAGS`
- * (without flags: `flags 1`, none of which is ever set). It is legal at every moment, however the run ends.
+ * (without flags: `flags 1`, and that flag is never set). It is legal at every moment, however the run ends.
  *
- * Who reads: a seat that is inside (`by`). With `by` NULL any thread: of a closed monitor at once; else the library
- * pays a visit of its own, by a seat that nobody has (two events of it in the history), and waits for its turn for
- * one second at most: MONK_NO_SEAT, MONK_SPENT, or MONK_BUSY if its turn didn't come, since the seat that is inside
- * doesn't leave. A stop doesn't end this wait. After MONK_BUSY the visit's seat waits on; the next look goes on by
- * it, and takes no other. A run that hangs with everybody waiting leaves the monitor free, so with one spare seat
- * its history can always be read; if a thread hangs inside, it alone can read it. */
+ * A seat that is inside may read it (`by`). If `by` is NULL, any thread may. A closed monitor is read at once. Else
+ * the library makes a visit, by a seat that nobody has (two events of it in the history), and waits for its turn for
+ * one second at most: MONK_NO_SEAT, MONK_SPENT, or MONK_BUSY if its turn didn't come because the seat that is inside
+ * doesn't leave. A stop doesn't end this wait. After MONK_BUSY the visit's seat waits on, and the next look uses it
+ * and no other. If a run hangs because all threads wait, the monitor is free, so with one spare seat its history can
+ * always be read. If a thread hangs inside, only that thread can read it. */
 
-/* The text in memory, ended by a 0 that *length doesn't count; free() it. */
+/* Puts the text into memory, with a 0 at the end that *length doesn't count; free() it. */
 int monk_history(monk_monitor *m, monk_seat *by, char **text, size_t *length);
 
-/* The text to a stream. MONK_IO. */
+/* Writes the text to a stream. MONK_IO if that fails. */
 int monk_save(monk_monitor *m, monk_seat *by, FILE *to);
 
 #ifdef __cplusplus

@@ -10,8 +10,8 @@
 //         in.notify_one(not_empty);
 //     }
 //
-// Every call that monk.h refuses throws monk::error, and nothing has changed then. Nothing here can leave a seat
-// inside: a visit that ends leaves, and a seat that ends, or that another is moved to, is given up wherever it stands.
+// Every call that monk.h refuses throws monk::error, and then nothing has changed. Nothing here can leave a seat
+// inside: a visit that ends leaves. A seat that ends, or to which another is moved, is given up wherever it is.
 #ifndef MONK_HPP
 #define MONK_HPP
 
@@ -32,7 +32,7 @@ public:
     int answer;
 };
 
-/// An answer that is none of an error; else throws it.
+/// Returns the answer if it is no error; else throws it.
 inline int checked(int answer) {
     if (answer < 0) throw error(answer);
     return answer;
@@ -58,8 +58,7 @@ private:
     unsigned number_;
 };
 
-/// A monitor. It has to live longer than its seats: one that ends before them is kept in memory, and its history with
-/// it.
+/// A monitor. It must live longer than its seats: a monitor that ends before them stays in memory, with its history.
 class monitor {
 public:
     explicit monitor(const monk_shape &shape) { checked(monk_make(&at_, &shape)); }
@@ -70,13 +69,13 @@ public:
     monk_monitor *get() const { return at_; }
     int kind() const { return monk_kind_of(at_); }
 
-    /// Ends all waiting: whoever waits gets an error with MONK_STOPPED.
+    /// Ends all waiting: each call that waits throws an error with MONK_STOPPED.
     void stop() { checked(monk_stop(at_)); }
 
-    /// No seat may be taken. From then on the history is whole.
+    /// Closes the monitor, if no seat is taken. From then on the history is complete.
     void close() { checked(monk_close(at_)); }
 
-    /// The text of all events up to now, by a seat that nobody has, or of the closed monitor.
+    /// Returns the text of all events up to now. Unless the monitor is closed, it is read by a seat that nobody has.
     std::string history() const { return history_by(nullptr); }
 
 private:
@@ -92,12 +91,12 @@ private:
     }
 };
 
-/// A seat: one thread at a time uses it. It is given up when it ends, wherever it stands.
+/// A seat: one thread at a time uses it. It is given up when it ends, wherever it is.
 class seat {
 public:
     explicit seat(const monitor &of) { checked(monk_take_seat(of.get(), &at_)); }
     seat(seat &&other) noexcept : at_(std::exchange(other.at_, nullptr)) {}
-    /// The seat that it was is given up at once.
+    /// Gives up at once the seat that it had.
     seat &operator=(seat &&other) noexcept {
         if (this == &other) return *this;
         give_up();
@@ -119,22 +118,22 @@ private:
     }
 };
 
-/// A visit: inside from its beginning to its end. A call that leads outside ends it before its scope does, and so does
-/// the end of its seat: from then on every call is refused with MONK_NOT_NOW, whoever has the seat. It may not outlive
-/// the monitor.
+/// A visit: its seat is inside from its beginning to its end. A call that leads outside ends it before its scope does,
+/// and so does the end of its seat: from then on every call is refused with MONK_NOT_NOW, even if somebody else has
+/// the seat. It may not outlive the monitor.
 class visit {
 public:
     explicit visit(seat &by) : seat_(by.get()) { checked(monk_enter(seat_)); }
     visit(const visit &) = delete;
     visit &operator=(const visit &) = delete;
-    /// Leaves, if the seat is inside still. One whose wait was stopped isn't: its seat gives it up.
+    /// Leaves, if the seat is still inside. After a stopped wait it isn't: the seat is given up when it ends.
     ~visit() {
         if (monk_place(seat_) == MONK_INSIDE) monk_leave(seat_);
     }
 
     void wait(condition on) { checked(monk_wait(seat_, on.number())); }
 
-    /// Waits until that holds, and tests it each time: right under every kind that has conditions.
+    /// Waits until `ready()` holds, and tests it after each wait: right under every kind that has conditions.
     template <class Ready> void wait(condition on, Ready ready) {
         while (!ready()) wait(on);
     }
@@ -142,7 +141,7 @@ public:
     /// Goes on once the flag is set; automatic kinds.
     void wait(flag until) { checked(monk_wait_until(seat_, until.number())); }
 
-    /// Signals. Under a blocking kind whoever is served goes on first.
+    /// Signals. Under a blocking kind the thread that is served goes on first.
     void notify_one(condition on) { checked(monk_signal(seat_, on.number())); }
 
     /// Serves all who wait; non-blocking kinds.

@@ -22,16 +22,16 @@ enum {
     USUAL_BUDGET = 65536,
     BELLS = 2 * MOST_SEATS,     /* one for each word of a hall at which seats wait: 1 to 64 */
     LINE = 64,                  /* bytes that processors pass on together */
-    SPINS = 1024,               /* as the hall spins: so many looks over the square of the number of seats */
+    SPINS = 1024,               /* as the hall spins: looks, divided by the square of the number of seats */
     PATIENCE_MS = 1000,
-    VISIT = 2,                  /* events that a visit wants: an enter and a leave */
-    NOBODY = 0,                 /* the word that was granted where none was */
+    VISIT = 2,                  /* events that a visit needs: an enter and a leave */
+    NOBODY = 0,                 /* the word that was granted if none was */
     NO_CONDITION = MOST_CONDITIONS,
     NO_FILE = -1
 };
 
-/* ThreadSanitizer doesn't see the kernel's atomic words: it is told where one thread hands what it did to the next.
- * These names are null in a program that is built without it. */
+/* ThreadSanitizer doesn't see the kernel's atomic words: these calls say where one thread hands on to the next what
+ * it did. The names are null in a program that is built without it. */
 void __tsan_acquire(void *at) __attribute__((weak));
 void __tsan_release(void *at) __attribute__((weak));
 
@@ -43,13 +43,13 @@ static inline void show(void *at) {
     if (__tsan_release) __tsan_release(at);
 }
 
-/* Whether somebody has a seat. A lending is the time for which somebody does, and each has a number. */
+/* Whether somebody has a seat. A lending is the time for which somebody has it; each has a number. */
 typedef enum lent { FREE, TAKEN, ABANDONED, LENT_STATES } lent;
 
 typedef struct bell {
     _Alignas(LINE) _Atomic uint32_t rings;
     _Atomic int file;                   /* an eventfd by which an event loop waits for this bell, plus 1; else 0 */
-    _Atomic int is_minded;              /* whose seat was abandoned: the library lets it come in, and leave */
+    _Atomic int is_minded;              /* its seat was abandoned: the library lets it come in, and leave */
 } bell;
 
 struct monk_seat {
@@ -77,9 +77,9 @@ struct monk_monitor {
     uint32_t bits;                              /* a copy of the flags, touched by the seat that is inside */
     uint32_t broadcasts[MOST_CONDITIONS];       /* how many there were on each condition, touched as `bits` is */
     _Atomic int stopped, closed;
-    _Atomic uint32_t lock;                      /* of lending, and of abandoned seats that a release lets in */
+    _Atomic uint32_t lock;                      /* for lending, and for abandoned seats that a release lets in */
     monk_seat *reader;                          /* the seat that closed it, through which the history is read */
-    void *room;                                 /* the tokens' */
+    void *room;                                 /* memory of the tokens */
     monk_k_seat tokens[MOST_SEATS];
     struct monk_seat seats[MOST_SEATS];
 };
@@ -90,17 +90,17 @@ static inline void futex_wake(_Atomic uint32_t *at, int most) {
     syscall(SYS_futex, at, FUTEX_WAKE_PRIVATE, most, NULL, NULL, 0);
 }
 
-/* Sleeps if the number is still what was seen; until then at most, where there is a limit. 0 if the time is over. */
+/* Sleeps if the number is still what was seen, until the limit, if there is one. 0 if the time is over. */
 static inline int sleep_on(_Atomic uint32_t *at, uint32_t seen, const struct timespec *limit) {
     long slept = syscall(SYS_futex, at, FUTEX_WAIT_BITSET_PRIVATE, seen, limit, NULL, FUTEX_BITSET_MATCH_ANY);
     return slept == 0 || errno != ETIMEDOUT;
 }
 
-/* The bell of a word: each has one of its own, since words count from 1 and there are two for each seat. */
+/* The bell of a word: each word has its own, because words count from 1 and there are two for each seat. */
 static inline bell *bell_of(monk_monitor *m, size_t word) { return &m->bells[(word - 1) % BELLS]; }
 
-/* Rings for so many threads that sleep there at most, and for an event loop. (In the C library's write a thread
- * could be cancelled.) */
+/* Wakes at most that many threads that sleep there, and an event loop. (It doesn't use the C library's write, because
+ * a thread could be cancelled in it.) */
 static inline void ring_for(bell *b, int most) {
     atomic_fetch_add(&b->rings, 1);
     futex_wake(&b->rings, most);
@@ -108,7 +108,7 @@ static inline void ring_for(bell *b, int most) {
     if (file != NO_FILE) syscall(SYS_write, file, &(uint64_t){1}, sizeof(uint64_t));
 }
 
-/* Wakes whoever waits for that word. The kernel has granted it before. */
+/* Wakes the thread that waits for that word. The kernel has granted it before. */
 static inline bell *ring(monk_monitor *m, size_t word) {
     bell *b = bell_of(m, word);
     ring_for(b, 1);
@@ -121,7 +121,7 @@ static inline void pause_processor(void) {
 #endif
 }
 
-/* Looks at the bell for a while before its thread sleeps. */
+/* Whether the bell rings soon. The thread looks for a while before it sleeps. */
 static inline int rings_soon(bell *b, uint32_t seen, unsigned seats) {
     for (unsigned looks = SPINS / (seats * seats) + 1; looks > 0; looks--) {
         if (atomic_load_explicit(&b->rings, memory_order_relaxed) != seen) return 1;
@@ -130,8 +130,8 @@ static inline int rings_soon(bell *b, uint32_t seen, unsigned seats) {
     return 0;
 }
 
-/* ---- The monitor's lock. It isn't a mutex of the system's, since a program may have something in place of
-   pthread_mutex_lock that records the program's own locks. */
+/* ---- The monitor's lock. It isn't a mutex of the system, because a program may replace pthread_mutex_lock by
+   something that records its own locks. */
 
 enum { OPEN, LOCKED, WANTED };
 
@@ -142,14 +142,14 @@ static inline void lock(monk_monitor *m) {
     see_what_was_shown(&m->lock);
 }
 
-/* Behind this the monitor may be freed: the wake goes by the address alone. */
+/* After the exchange the monitor may be freed: the wake uses only the address. */
 static inline void unlock(monk_monitor *m) {
     show(&m->lock);
     if (atomic_exchange(&m->lock, OPEN) == WANTED) futex_wake(&m->lock, 1);
 }
 
-/* ---- Handles: what the program has of a seat. Below is the seat's address, and above the number of the lending, so
-   that a handle that was given back isn't that of the next owner. (Addresses of programs leave these bits 0.) */
+/* ---- Handles: what the program has for a seat. The lower bits are the seat's address, the upper ones (0 in a
+   program's addresses) the number of the lending. So a handle that was given back isn't the next owner's. */
 
 enum { ADDRESS_BITS = 48, LENDINGS = 1 << 16 };
 _Static_assert(sizeof(void *) == sizeof(uint64_t), "a handle has room for a lending");
@@ -169,7 +169,7 @@ static inline void set_lent(monk_seat *s, lent how) {
     atomic_store(&s->lent, atomic_load(&s->lent) / LENT_STATES * LENT_STATES + how);
 }
 
-/* Begins a lending: its handle. Under the lock. */
+/* Begins a lending, and returns its handle. Under the lock. */
 static inline monk_seat *lent_anew(monk_seat *s) {
     uint32_t lending = (atomic_load(&s->lent) / LENT_STATES + 1) % LENDINGS;
     atomic_store(&s->lent, lending * LENT_STATES + TAKEN);
@@ -183,14 +183,14 @@ static inline int is_had_by(const monk_seat *handle) {
 
 /* ---- The frame of each call */
 
-/* Why no call may be made by this handle, if it may not: MONK_CLOSED or MONK_NOT_NOW, else MONK_OK. */
+/* Why no call may be made by this handle: MONK_CLOSED or MONK_NOT_NOW. MONK_OK if calls may be made. */
 static inline int refused_to(const monk_seat *handle) {
     return atomic_load(&seat_of(handle)->monitor->closed) ? MONK_CLOSED : is_had_by(handle) ? MONK_OK : MONK_NOT_NOW;
 }
 
-/* What a call by the handle *s finds before the kernel is asked; *s is the seat then. Where it answers MONK_OK the
- * call is under way, until `end`. A handle that was given back is refused before the seat is touched, so that a call
- * of its owner isn't MONK_IN_USE. */
+/* Begins a call by the handle *s, before the kernel is asked; *s is the seat then. If it returns MONK_OK, the call is
+ * under way until `end`. A handle that was given back is refused before the seat is touched, so that a call of the
+ * seat's owner isn't MONK_IN_USE. */
 static inline int begin(monk_seat **s) {
     monk_seat *handle = *s;
     if (!handle) return MONK_RANGE;
@@ -207,7 +207,7 @@ static inline int end(monk_seat *s, int answer) {
     return answer;
 }
 
-/* Notes where the seat stands after a call that the kernel took, and that so many events were recorded. */
+/* Notes where the seat is after a call that the kernel took, and how many events were recorded. */
 static inline int noted(monk_seat *s, int answer, uint32_t recorded) {
     if (answer < 0) return answer;
     uint32_t left = atomic_load_explicit(&s->left, memory_order_relaxed);
@@ -218,7 +218,7 @@ static inline int noted(monk_seat *s, int answer, uint32_t recorded) {
 
 static inline int place_of(const monk_seat *s) { return atomic_load_explicit(&s->place, memory_order_relaxed); }
 
-/* Of a call that doesn't wait: its place becomes MONK_OK. */
+/* For a call that doesn't return the seat's place: the place becomes MONK_OK. */
 static inline int done(int answer) { return answer > 0 ? MONK_OK : answer; }
 
 static inline uint8_t byte_of(unsigned number) { return number < UINT8_MAX ? (uint8_t)number : UINT8_MAX; }
@@ -229,7 +229,7 @@ static inline uint8_t wish_of(monk_seat *s) {
     return (uint8_t)((s->dice >> 32) % MONK_ANY);
 }
 
-/* From now on whoever grants the word of that waiting seat looks after it. Under the lock. */
+/* From now on a thread that grants the word of this waiting seat looks after it. Under the lock. */
 static inline void mind(monk_seat *s) {
     s->bell = bell_of(s->monitor, monk_k_word(s->token));
     atomic_store(&s->bell->is_minded, 1);
@@ -247,8 +247,9 @@ static inline void set_free(monk_seat *s) {
 /* Lets seats that were abandoned come in if it is their turn. Under the lock. */
 void settle_abandoned(monk_monitor *m);
 
-/* Wakes whoever was let in, or settles that seat if it was abandoned. Who abandons a seat marks its bell first and
- * then polls; who releases grants first and then reads the mark: so one of the two sees the grant. */
+/* Wakes the thread that was let in, or settles its seat if it was abandoned. A thread that abandons a seat marks its
+ * bell, then polls; one that releases grants, then reads the mark. So the poll finds the grant, or the release finds
+ * the mark. */
 static inline void let_in(monk_monitor *m, size_t word) {
     if (word == NOBODY || !atomic_load(&ring(m, word)->is_minded)) return;
     lock(m);

@@ -8,11 +8,11 @@ import subprocess
 from typing import Callable, Dict, List
 
 HERE = os.path.dirname(os.path.abspath(__file__))
-# How long a recorded run may last, in seconds, one that may hang, and one that is shaken besides; how many signals
-# there are to one that is dropped.
+# How long a recorded run may last, in seconds; one that may hang; and one that may hang and is shaken. Of how many
+# signals one is dropped.
 LONG, LONG_IF_HANGING, LONG_IF_SHAKEN, EVERY = "20", "0.3", "0.6", "7"
 HANGING, STATUS_LATE = ("if", "forgotten", "drop", "single", "early", "returns", "deadlock"), 124
-# The faults that take a rare order: each run is shaken by a seed of its own.
+# The faults that need a rare order: each run is shaken by a seed of its own.
 SHAKEN, SMALL = ("early", "unlocked", "deadlock"), ("pair", "drop", "single", "early")
 TOOLS = {"c": ("gcc",), "c++": ("gcc", "g++"), "python": ("python3",), "java": ("javac", "java"), "go": ("go",),
          "rust": ("rustc",)}
@@ -21,7 +21,7 @@ ROWS, PRIME = 300000, 999983
 
 
 def missing(language: str) -> list[str]:
-    """The tools of the language that aren't there."""
+    """The tools of the language that are missing."""
     return [tool for tool in TOOLS[language] if not shutil.which(tool)]
 
 
@@ -79,7 +79,7 @@ def build_nothing(_: str) -> None:
 BUILDS = {"c": build_c, "c++": build_cpp, "python": build_nothing, "java": build_java, "go": build_go,
           "rust": build_rust}
 LOST = ("lost notify", "passed on")
-# The words of a program of a language, that writes all its logs itself.
+# By language, the words of a program that writes all its logs itself.
 WRITERS: Dict[str, Callable[[str, str], List[str]]] = {
     "python": lambda folder, style: ["python3", demo("lost_notify.py" if style in LOST else "buffer.py")],
     "java": lambda folder, style: ["java", "-cp", folder, "Buffer"],
@@ -89,7 +89,7 @@ WRITERS: Dict[str, Callable[[str, str], List[str]]] = {
 
 
 def shaking(style: str, seed: int) -> dict[str, str]:
-    """What the environment has besides, where a style is shaken."""
+    """What the environment has in addition, if a style is shaken."""
     return {"MONK_SHAKE": str(seed)} if style in SHAKEN else {}
 
 
@@ -99,7 +99,7 @@ def seconds_of(style: str) -> str:
 
 
 def run_recorded(folder: str, style: str, prefix: str, seed: int) -> str:
-    """Runs a program with the recorder loaded; what it says on standard error."""
+    """Runs a program with the recorder loaded; returns what it says on standard error."""
     drops, program = style == "drop", os.path.join(folder, style if style == "unoptimized" else "buffer")
     words = [*UNMODIFIED[style], input_of(folder)] if style in UNMODIFIED else [program, "pair" if drops else style]
     env = {
@@ -133,7 +133,7 @@ UNMODIFIED = {
 
 
 def run(language: str, style: str, folder: str, times: int) -> tuple[list[str], str]:
-    """Runs a demonstration some times; its logs, and what was said on standard error. What it wrote before goes."""
+    """Runs a demonstration some times, without its earlier logs; its logs, and what standard error says."""
     prefix, said = os.path.join(folder, f"{style.replace(' ', '_')}.log"), ""
     for path in glob.glob(f"{prefix}.*"):
         os.remove(path)
@@ -151,5 +151,5 @@ def run(language: str, style: str, folder: str, times: int) -> tuple[list[str], 
 
 
 def logs_of(prefix: str) -> list[str]:
-    """The logs whose names begin so; beside each stands a file of names."""
+    """The logs whose names begin with that; beside each is a file of names."""
     return sorted(path for path in glob.glob(f"{prefix}.*") if not path.endswith(".names"))

@@ -8,7 +8,7 @@ from typing import Iterable, Tuple
 
 TOP = os.path.dirname(os.path.dirname(os.path.abspath(__file__)))
 COUNTS = ("served", "passed", "unheard", "crossed")
-# By condition, the predicate for which those wait who wait on it.
+# By condition, the predicate that threads wait for on it.
 Means = Iterable[Tuple[int, int]]
 
 
@@ -22,7 +22,7 @@ class Said:
         self.word = misfit[1] if misfit else ""
         if not misfit and not verdict.startswith("fits"):
             raise SystemExit(f"recorders: no answer: {line}")
-        # The end is told behind a verdict that fits.
+        # The end is said only after a verdict that fits.
         self.ending = "" if misfit else parts[0].split(",")[0]
         counts = {word: self.number(rf"\b{word} (\d+)") for word in COUNTS}
         self.counts = {**counts, "spurious": self.number(r"(\d+) spurious")}
@@ -65,11 +65,11 @@ class Judge:
         return self.asked("explain", *told(means), path).stdout.splitlines()
 
     def completes(self, kind: str, path: str) -> bool:
-        """Whether it could be of a monitor of that kind, in order of arrival."""
+        """Whether the log could be that of a monitor of that kind, in order of arrival."""
         return self.asked("complete", "--kind", kind, path).returncode == 0
 
     def suspects_if(self, path: str) -> bool:
-        """Whether its lines without the acts have the hint that a wait has an `if`."""
+        """Whether there is the hint, for its lines without the acts, that a wait has an `if`."""
         with open(path) as file:
             lines = "".join(line for line in file if not line.startswith("act "))
         return "; never waits again" in self.asked("fit", "-", text=lines).stdout

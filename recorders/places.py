@@ -9,8 +9,8 @@ import sys
 
 import builds
 
-# A pattern of the line of a demonstration from which a line of its log comes. A `leave` has no place in Rust. In C it
-# may have that of its function's caller, since an unlock that comes last is jumped to.
+# A pattern for the line of a demonstration from which a line of its log comes. A `leave` has no place in Rust. In C
+# it may have the place of its function's caller, because an unlock that comes last is jumped to.
 CALLS = {
     "c": {"enter": "pthread_mutex_lock", "wait": "pthread_cond_wait", "signal": "pthread_cond_signal",
           "act": "MONK_ACT"},
@@ -24,8 +24,8 @@ CALLS = {
            "act": "monitor.Act"},
     "rust": {"enter": "buffer.enter", "wait": "inside.wait", "signal": "notify_one", "act": "inside.act"},
 }
-# A line of a log as `monk explain` names it: its number, its words and its place. And one since which a seat is where
-# it is.
+# A line of a log as `monk explain` names it: its number, its words and its place. And the line since which a seat is
+# where it is.
 NAMED = re.compile(r"line (\d+): (.*?)(?: \((\S+:\d+)\))?: ")
 SINCE = re.compile(r"seat \d+: .* since line (\d+)(?: \((\S+:\d+)\))?(?:;.*)?")
 SOURCES = {"c": "buffer.c", "c++": "buffer.cc", "python": "buffer.py", "java": "Buffer.java", "go": "buffer.go",
@@ -33,7 +33,7 @@ SOURCES = {"c": "buffer.c", "c++": "buffer.cc", "python": "buffer.py", "java": "
 
 
 def places_of(path: str) -> list[str]:
-    """By line of a log, FILE:LINE or nothing."""
+    """For each line of a log, FILE:LINE or nothing."""
     places = [""]
     numbers: list[int] = []
     with open(f"{path}.names") as file:
@@ -51,7 +51,7 @@ def lines_of(path: str) -> list[str]:
 
 
 def miscounted(path: str) -> str:
-    """Whether the row of numbers isn't as long as the log."""
+    """What to say if the row of numbers isn't as long as the log; else nothing."""
     places, lines = len(places_of(path)), len(lines_of(path))
     return "" if places == lines else f"{path}.names: {places} places of {lines} lines"
 
@@ -73,7 +73,7 @@ def misplaced(language: str, path: str) -> str:
 
 def misexplained(path: str, explained: list[str]) -> str:
     """The first line that an explanation names with other words, or with another place than the file beside the log
-    has; or nothing. If it tells what is wrong it has to name one."""
+    has; or nothing. If it says what is wrong, it has to name a line."""
     lines, places = lines_of(path), places_of(path)
     named = [found.groups() for found in map(NAMED.match, explained) if found]
     since = [(found[1], lines[int(found[1]) - 2], found[2]) for found in map(SINCE.fullmatch, explained) if found]
@@ -86,7 +86,7 @@ def misexplained(path: str, explained: list[str]) -> str:
 
 
 def first_misplaced(language: str, paths: list[str]) -> str:
-    """The same of some logs. In C and C++ their places are told by the tool first."""
+    """The same for some logs. In C and C++ the tool first writes their places."""
     if language in ("c", "c++"):
         tool = os.path.join(builds.HERE, "c", "sites")
         subprocess.run([sys.executable, tool, *(f"{path}.names" for path in paths)], check=True)

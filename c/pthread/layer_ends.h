@@ -12,10 +12,10 @@ enum { TICK_NS = 50000000, QUIET_TICKS = 8, MOST_WAKES = 20, WRITING_MS = 2000 }
 
 static _Atomic int is_ending, is_written;
 static _Atomic int is_watched, has_watcher; /* whether a watcher was wanted, and whether there is one */
-static _Atomic int ending_signal;           /* which the watcher is asked to write the histories for */
+static _Atomic int ending_signal;           /* the signal for which the watcher is to write the histories */
 static _Atomic int watcher_lock;            /* taken while the watcher begins or looks, and may be in an allocator */
 
-/* Whether the process ends behind this, or the program goes on. */
+/* Whether the process ends after this, or the program goes on. */
 enum { GOES_ON, IS_LAST };
 
 static void finish(const char *why, int is_last) {
@@ -24,7 +24,7 @@ static void finish(const char *why, int is_last) {
     is_written = 1;
 }
 
-/* ---- Children of a program that is ended from here are ended with it */
+/* ---- If a program is ended from here, its children are ended with it */
 
 static void end_children_of(pid_t parent);
 
@@ -33,7 +33,7 @@ static void end_family(pid_t process) {
     kill(process, SIGKILL);
 }
 
-/* By /proc: the children of each of its threads. */
+/* Ends the children of each of its threads, as /proc lists them. */
 static void end_children_of(pid_t parent) {
     char path[64];
     int child;
@@ -48,7 +48,7 @@ static void end_children_of(pid_t parent) {
     if (threads) closedir(threads);
 }
 
-/* The program can't be run so: this is said once, histories are written, and the program ends. */
+/* The program can't be run so: says this once, writes histories, and ends the program. */
 static void refuse(const char *format, ...) {
     static _Atomic int is_told;
     char line[LONGEST_LINE];
@@ -68,7 +68,7 @@ static void refuse(const char *format, ...) {
 /* ---- Whether the program hangs: no step was made for a while, and each of its threads sleeps in a futex without a
    limit */
 
-/* A timer or a child may wake somebody; so may whoever signals at a mutex that is left alone. */
+/* A timer or a child may wake somebody, and so may a signal at a mutex that is left alone. */
 static int may_be_woken(void) {
     struct itimerval alarm;
     siginfo_t child;
@@ -101,7 +101,7 @@ static int sleeps_in_a_wait(pid_t id) {
 
 enum sleep { AWAKE, ASLEEP, GONE };
 
-/* By the system call in which the thread is, and the call's words. */
+/* Found by the system call in which the thread is, and the call's arguments. */
 static enum sleep sleep_of(pid_t id) {
     char path[64], text[256] = "";
     unsigned long words[4];
@@ -139,8 +139,8 @@ static void broadcast_all(struct monitor *m) {
         if (count_queued(m, k)) signal_by(m, m->inside, k, 1, self());
 }
 
-/* Everybody who waits is woken, as POSIX allows. Whoever then goes on has slept though what it waits for held. How
-   many are woken. */
+/* Wakes everybody who waits, as POSIX allows; returns how many. A thread that then goes on has slept although what it
+   waits for held. */
 static int wake_sleepers(void) {
     int woken = 0;
     for (struct monitor *m = every_monitor; m; m = m->next) {
@@ -154,7 +154,7 @@ static int wake_sleepers(void) {
     return woken;
 }
 
-/* ---- The watcher: a thread of the layer's that takes no signal */
+/* ---- The watcher: a thread of the layer that takes no signal */
 
 static double seconds_since(struct timespec begin) {
     struct timespec now = time_of(CLOCK_MONOTONIC);
@@ -205,8 +205,8 @@ static void start_watcher(void) {
     pthread_sigmask(SIG_SETMASK, &before, NULL);
 }
 
-/* ---- Signals that end a program which asks for nothing else. The watcher writes, since no call is safe in a
-   handler; the thread that got the signal waits for that, but not for ever: it may have what the writing needs. */
+/* ---- Signals that end a program that asks for nothing else. The watcher writes, because no call is safe in a
+   handler. The thread that got the signal waits for that, but not for ever: it may hold what the writing needs. */
 
 static const int fatal[] = {SIGINT, SIGTERM, SIGHUP, SIGSEGV, SIGBUS, SIGFPE, SIGILL, SIGABRT};
 enum { FATAL = sizeof fatal / sizeof *fatal };
@@ -238,16 +238,16 @@ static void watch_signals(void) {
         if (!real.sigaction(fatal[i], NULL, &now) && now.sa_handler == SIG_DFL) end_by_default(fatal[i]);
 }
 
-/* Once in a process, if there is anything to watch for. */
+/* Starts to watch, once in a process, if there is anything to watch for. */
 static void watch_process(void) {
     if ((asked.seconds == 0 && !asked.history && !asked.report) || atomic_exchange(&is_watched, 1)) return;
     start_watcher();
     watch_signals();
 }
 
-/* ---- Forks. In the child no mutex is a monitor; those that its thread was inside it has locked. It is watched from
-   its first wait on: as it is forked, an allocator may still have its locks. The watcher has none then, since a child's
-   own watcher would wait for it for ever. */
+/* ---- Forks. In the child no mutex is a monitor. Mutexes whose monitors its thread was inside are locked by it. The
+   child is watched from its first wait on: as it is forked, an allocator may still have its locks. The watcher then
+   holds none, or the child's own watcher would wait for it for ever. */
 
 static void before_fork(void) {
     take(&watcher_lock);
@@ -259,7 +259,7 @@ static void let_tables(void) {
     let(&watcher_lock);
 }
 
-/* (What isn't ours may be gone: its memory isn't touched.) */
+/* (A mutex that isn't ours may be gone: its memory isn't touched.) */
 static void lock_for_child(struct monitor *m) {
     pthread_mutex_t *mutex = (pthread_mutex_t *)(uintptr_t)atomic_load(&m->known.address);
     int kind = mutex->__data.__kind;

@@ -45,8 +45,8 @@ static FILE *open_history(struct monitor *m, const char *ending, const char *how
     return fopen(path, how);
 }
 
-/* How many seats and conditions were used, so that pictures have no empty lanes. Of the steward one event may be
-   that of the look. */
+/* How many seats and conditions were used, so that pictures have no empty lanes. One event of the steward may be the
+   look. */
 static int count_used_seats(struct hall *h, int is_look) {
     if (monk_left(h->seats[STEWARD]) + (uint32_t)is_look < h->budget) return SEATS;
     int seats = NUMBERS;
@@ -60,8 +60,8 @@ static int count_used_conditions(struct monitor *m) {
     return count;
 }
 
-/* The text without its last line. The visit that reads is none of the program's, and a history is legal without its
-   last event. */
+/* The text without its last line. The visit that reads isn't the program's, and a history is legal without its last
+   event. */
 static size_t without_last_event(const char *text, size_t length) {
     do length--;
     while (length > 0 && text[length - 1] != '\n');

@@ -1,12 +1,12 @@
-/* layer_ghosts.h - seats at which no thread stands: they wait for entry, or for a condition, though their thread
-   didn't want to wait any longer; or they carry a signal in. Once inside they do what is theirs, and leave. Part of
+/* layer_ghosts.h - seats without a thread. They wait for entry or for a condition, though their thread doesn't want
+   to wait any longer; or they carry a signal in. Once inside they do their errands, and leave. Part of
    libmonk_pthread.c. */
 #ifndef LAYER_GHOSTS_H
 #define LAYER_GHOSTS_H
 
 #include "layer_signals.h"
 
-/* The seat n goes out, and sends the signal that was kept for that. */
+/* The seat goes out, and sends the signal that was kept for this. */
 static void leave_by(struct monitor *m, monk_seat *seat) {
     int condition = m->deferred;
     m->deferred = NONE;
@@ -18,8 +18,8 @@ static void leave_by(struct monitor *m, monk_seat *seat) {
     sure(m, monk_signal_leave(seat, (unsigned)condition), "signal_leave");
 }
 
-/* What a ghost does that has come in. A signal that served it is passed on by the signaller, or by the ghost as it
-   leaves. Behind its own signal it may be out. */
+/* What a ghost does once it is in. A signal that served it is passed on by the signaller, or by the ghost as it
+   leaves. After its own signal it may be out. */
 static void do_errands(struct monitor *m, int n) {
     struct place *p = &m->places[n];
     int passes_on = asked.mode == MONK_IMMEDIATE_RETURN && count_queued(m, p->condition);
@@ -29,7 +29,7 @@ static void do_errands(struct monitor *m, int n) {
     if (p->standing == GHOST_LATE) send_pending(m, n);
 }
 
-/* Whether it moved. Under the monitor's lock. */
+/* Whether the ghost came in. Under the monitor's lock. */
 static int look_after(struct monitor *m, int n) {
     struct place *p = &m->places[n];
     struct hall *h = p->home;
@@ -59,9 +59,9 @@ static void released(struct monitor *m) {
     if (atomic_load(&m->due) > 0) look_after_ghosts(m);
 }
 
-/* A number for a visit: the steward's if all others are lent. NONE if by now somebody else sends the signals:
-   whoever has come in, or the thread itself by its own seat, which a signal has served. It doesn't sleep for a
-   number: others may wait for its own seat. */
+/* A number for a visit: the steward's if all others are lent. NONE if by now somebody else sends the signals: a
+   thread that has come in, or this thread by its own seat, which a signal has served. It doesn't sleep for a number,
+   because others may wait for its own seat. */
 static int visiting_number(struct monitor *m, struct thread *t, const struct place *own) {
     for (;;) {
         int n = free_number(m, t);
@@ -73,7 +73,7 @@ static int visiting_number(struct monitor *m, struct thread *t, const struct pla
     }
 }
 
-/* For pending signals, by a ghost: so no thread sleeps because it signals. */
+/* A ghost visits to send the pending signals, so that no thread sleeps because it signals. */
 static void visit(struct monitor *m, int n) {
     struct place *p = &m->places[n];
     take(&m->lock); /* no renewal now */
@@ -86,8 +86,8 @@ static void visit(struct monitor *m, int n) {
     look_after_ghosts(m);
 }
 
-/* After the monitor was given up: signals that came too late for whoever was inside, if nobody is. The thread may
-   wait by its own seat. */
+/* After the monitor was given up: sends signals that came too late for the seat that was inside, if nobody is inside
+   now. The thread may wait by its own seat. */
 static void visit_if_pending(struct monitor *m, const struct place *own) {
     if (!atomic_load(&m->has_pending) || atomic_load(&m->owner)) return;
     int n = visiting_number(m, self(), own);

@@ -1,10 +1,10 @@
-/* layer_halls.h - the library's monitors behind one of the program's: a volume of its history each. Part of
+/* layer_halls.h - the library's monitors for one monitor of the program: each is a volume of its history. Part of
    libmonk_pthread.c.
 
-   A seat has so many events. When one has spent half of them, the next thread that is inside while nobody is on the
-   way makes a new hall, in which all who wait wait in the same order, and stops the old one. Whoever sleeps in the
-   old hall comes back from it, and goes on in the new. The renewer's seat stays inside the old hall for ever, so
-   nobody else comes in there. */
+   A seat has a budget of events. When one has spent half of it, the next thread that is inside while nobody is on the
+   way makes a new hall, and stops the old one. All who wait wait in the new hall in the same order. A thread that
+   sleeps in the old hall comes back from it, and goes on in the new one. The renewer's seat stays inside the old hall
+   for ever, so nobody else comes in there. */
 #ifndef LAYER_HALLS_H
 #define LAYER_HALLS_H
 
@@ -40,14 +40,14 @@ static void free_hall(struct hall *h) {
     free(h);
 }
 
-/* The answer of a call that can't be refused. If it is, the layer's picture of the monitor is wrong, and the run is
-   worth nothing. */
+/* The answer of a call that can't be refused. If it is refused, what the layer knows of the monitor is wrong, and the
+   run is worth nothing. */
 static int sure(struct monitor *m, int answer, const char *call) {
     if (answer < 0) refuse_of(m, "%s: %s", call, monk_strerror(answer));
     return answer;
 }
 
-/* The hall that is named there, which nobody frees from now on until the number is given back or uses another. */
+/* The hall that is named there. From now on nobody frees it until the number is given back or uses another. */
 static struct hall *use(struct place *p, struct hall *_Atomic *where) {
     for (;;) {
         struct hall *h = atomic_load(where);
@@ -76,14 +76,14 @@ static void free_retired(struct monitor *m) {
     }
 }
 
-/* Nobody comes in there any more, and who sleeps there comes back. Under the monitor's lock. */
+/* Nobody comes into the hall any more, and threads that sleep there come back. Under the monitor's lock. */
 static void retire(struct monitor *m, struct hall *h) {
     monk_stop(h->monitor);
     h->next = m->retired, m->retired = h;
     free_retired(m);
 }
 
-/* Who waits, by their tickets: the first after one that has been seen. */
+/* Of those who wait and haven't been seen, the one with the lowest ticket; or NONE. */
 static int next_waiting(struct monitor *m, uint32_t seen) {
     int first = NONE;
     for (int n = 0; n < NUMBERS; n++)
@@ -93,7 +93,7 @@ static int next_waiting(struct monitor *m, uint32_t seen) {
     return first;
 }
 
-/* All who wait wait in the new hall, too, in the same order: the numbers that do. Under the monitor's lock. */
+/* Lets all who wait do so in the new hall, in the same order; returns their numbers. Under the monitor's lock. */
 static uint32_t carry_over(struct monitor *m, struct hall *new) {
     uint32_t moved = 0;
     for (int n; (n = next_waiting(m, moved)) != NONE; moved |= 1u << n) {
@@ -103,8 +103,8 @@ static uint32_t carry_over(struct monitor *m, struct hall *new) {
     return moved;
 }
 
-/* Who was carried over may have become a ghost meanwhile: then it is one of the new hall. All other ghosts are left
-   behind: those that waited on a condition. */
+/* A seat that was carried over may have become a ghost meanwhile: then it is a ghost of the new hall. All other
+   ghosts are left behind; returns those that waited on a condition. */
 static uint32_t move_numbers(struct monitor *m, struct hall *new, uint32_t moved) {
     uint32_t left = 0;
     for (int n = 0; n < SEATS; n++) {
@@ -120,8 +120,8 @@ static uint32_t move_numbers(struct monitor *m, struct hall *new, uint32_t moved
     return left;
 }
 
-/* A new hall takes the place of the old one, by the seat n that is inside. Nobody may be on the way: then what has
-   to be carried over is who waits where. 0 if there is no memory. */
+/* A new hall takes the place of the old one, by the seat n that is inside. Nobody may be on the way: so only who
+   waits where has to be carried over. 0 if there is no memory. */
 static int renew(struct monitor *m, int n) {
     struct hall *old = m->hall, *new = make_hall(old->volume + 1, m->serial);
     if (!new) return 0;
@@ -142,7 +142,7 @@ static int renew(struct monitor *m, int n) {
 
 static int may_renew(const struct monitor *m) { return m->transit == 0 && m->deferred == NONE; }
 
-/* By the seat n that is inside. While somebody is on the way releases prefer who waits inside, so that soon nobody
+/* By the seat n that is inside. While somebody is on the way, releases prefer waiters inside, so that soon nobody
    is. */
 static void renew_if_due(struct monitor *m, int n) {
     struct hall *h = m->hall;

@@ -12,7 +12,7 @@
 
 enum {
     NUMBERS = 31, /* the seats by which threads come */
-    STEWARD = 31, /* the last seat: for a look at the history, and for a renewal where ghosts have all numbers */
+    STEWARD = 31, /* the last seat: for a look at the history, and for a renewal if ghosts have all numbers */
     SEATS = 32,
     CONDITIONS = 8,
     SLOT_BITS = 14,
@@ -22,7 +22,7 @@ enum {
     NONE = -1               /* no number, no condition */
 };
 
-/* Where a seat stands, by its number, which it keeps from hall to hall. A ghost is a seat that no thread stands at. */
+/* Where a seat is, by its number, which it keeps from hall to hall. A ghost is a seat without a thread. */
 enum standing { AWAY, AT_THE_ENTRY, INSIDE, WAITS, SERVED, SIGNALS, GHOST_WAITS, GHOST_SERVED, GHOST_LATE };
 
 struct thread {
@@ -30,15 +30,15 @@ struct thread {
     pthread_t self;
     pid_t id;
     unsigned index;   /* in the order in which threads made their first call */
-    int numbers;      /* that it has, and didn't give back itself; touched by the thread alone */
-    _Atomic int uses; /* LIVE, less what others gave back for it; behind its end the numbers that it still has */
+    int numbers;      /* those that it has, and didn't give back itself; touched by the thread alone */
+    _Atomic int uses; /* LIVE, less what others gave back for it; after its end the numbers that it still has */
     _Atomic int is_cancelled, has_ended;
     _Atomic int sleeps;       /* in a wait that has no limit: it wakes at times to look whether it is cancelled */
     const void *_Atomic from; /* where its last wait was called */
     uint64_t dice;
 };
 
-/* One monitor of the library's, with all its seats: a volume of a monitor of the program's. */
+/* One monitor of the library, with all its seats: a volume of a monitor of the program. */
 struct hall {
     monk_monitor *monitor;
     monk_seat *seats[SEATS];
@@ -50,24 +50,23 @@ struct hall {
 struct place {
     _Atomic int standing, condition;
     struct hall *_Atomic used; /* the hall that a thread may be using by this number: nobody frees it */
-    struct hall *_Atomic home; /* the hall where the number stands now */
+    struct hall *_Atomic home; /* the hall where the number is now */
     struct thread *_Atomic who;
     uint64_t ticket;  /* of waits, in the order in which they began */
     int is_signaller; /* of a ghost: it signalled, and is to come back in */
 };
 
-/* Begins what is known of an address. Its memory never becomes that of another kind of thing: a thread may look at
-   it late. */
+/* The beginning of what is known of an address. Its memory is never used for another kind of thing, because a thread
+   may look at it late. */
 struct known {
     const void *_Atomic address;
 };
 
-/* A mutex of the program's on whose conditions threads wait. What isn't atomic is touched by the seat that is
-   inside. */
+/* A mutex of the program on whose conditions threads wait. Only the seat that is inside touches what isn't atomic. */
 struct monitor {
     struct known known;
-    struct monitor *next; /* of every monitor that ever was */
-    _Atomic int lock;     /* of ghosts, and of renewal */
+    struct monitor *next; /* in the list of every monitor that ever was */
+    _Atomic int lock;     /* for ghosts, and for renewal */
     struct hall *_Atomic hall;
     struct hall *retired;
     struct place places[SEATS];
@@ -147,7 +146,7 @@ __attribute__((noreturn, format(printf, 2, 3))) static void refuse_of(struct mon
     refuse("the mutex %s: %s", name_of(m->known.address).text, line);
 }
 
-/* ---- Locks of the layer's own, and memory that is never given back */
+/* ---- The layer's own locks, and memory that is never given back */
 
 static inline void take(_Atomic int *lock) {
     while (atomic_exchange_explicit(lock, 1, memory_order_acquire)) sched_yield();
@@ -155,11 +154,11 @@ static inline void take(_Atomic int *lock) {
 
 static inline void let(_Atomic int *lock) { atomic_store_explicit(lock, 0, memory_order_release); }
 
-/* Seen by whoever takes over what was lent, or comes in later; not at once by everybody, as a plain store to an
-   atomic would be. */
+/* The thread that takes over what was lent, or comes in later, sees the store. Not everybody sees it at once, unlike
+   a plain store to an atomic. */
 #define store(object, value) atomic_store_explicit(&(object), value, memory_order_release)
 
-/* Fresh memory, all zero. It doesn't come from malloc, whose locks may be those that the layer stands in for. */
+/* Fresh memory, all zero. It doesn't come from malloc, whose locks may be those that the layer replaces. */
 static void *room_for(size_t size) {
     static char *chunk;
     static size_t left;
@@ -193,7 +192,7 @@ static inline struct known *find(struct table *t, const void *address) {
     }
 }
 
-/* Under the table's lock. A table is full when half of it is used; 0 then. */
+/* Under the table's lock. Returns 0 if the table is full: half of it is used. */
 static int insert(struct table *t, struct known *k) {
     if (t->count >= SLOTS / 2) return 0;
     size_t slot = slot_of(k->address);
@@ -224,7 +223,7 @@ static inline struct condition *condition_of(const void *address) {
     return (struct condition *)find(&conditions, address);
 }
 
-/* What is known of a condition from now on. */
+/* What is known of a condition, which is known from now on. */
 static struct condition *make_condition(const void *address) {
     take(&conditions.lock);
     struct condition *c = condition_of(address);
@@ -238,7 +237,7 @@ static struct condition *make_condition(const void *address) {
     return c;
 }
 
-/* Whether anybody ever waited on it with a monitor. It is unknown from now on. */
+/* From now on the condition is unknown. Returns whether anybody ever waited on it with a monitor. */
 static int forget_condition(const void *address) {
     if (!condition_of(address)) return 0;
     take(&conditions.lock);
@@ -324,7 +323,7 @@ __attribute__((noinline, cold)) static void shake_now(void) {
     errno = error;
 }
 
-/* Before a call that another thread may go before. */
+/* Before a call, which another thread's call may then precede. */
 static inline void shake(void) {
     if (__builtin_expect(asked.shakes, 0)) shake_now();
 }
@@ -337,7 +336,7 @@ static int count_standing(struct monitor *m, int standing) {
     return count;
 }
 
-/* One that nobody has: the thread's own if that is free, so that in most histories a seat is a thread. */
+/* A number that nobody has: the thread's own if it is free, so that in most histories a seat is a thread. */
 static int free_number(struct monitor *m, const struct thread *t) {
     uint32_t is = atomic_load(&m->free);
     while (is) {
@@ -348,7 +347,7 @@ static int free_number(struct monitor *m, const struct thread *t) {
     return NONE;
 }
 
-/* Sleeps until a number is given back; for a short while at most, since ghosts may give theirs back unheard. */
+/* Sleeps until a number is given back, for a short while at most: a ghost may give its number back unheard. */
 static void await_number(struct monitor *m) {
     struct timespec while_none = {0, 20000000};
     atomic_fetch_add(&m->wanting, 1);
@@ -356,11 +355,11 @@ static void await_number(struct monitor *m) {
     atomic_fetch_sub(&m->wanting, 1);
 }
 
-/* Looks for a number before it is said that there are too many threads: by then some that were served may have gone
+/* Looks for a number before the refusal that there are too many threads: by then some that were served may have gone
    on. */
 enum { PATIENT_LOOKS = 20 };
 
-/* To the thread that calls. */
+/* Lends the number to the thread that calls. */
 static int lend(struct monitor *m, int n, struct thread *t) {
     t->numbers++;
     m->places[n].is_signaller = 0;

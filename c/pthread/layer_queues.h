@@ -1,5 +1,5 @@
-/* layer_queues.h - who waits on which condition, as the kernel has it too: so the layer knows whom a signal serves
-   before the kernel is told of it. All is called from inside. Part of libmonk_pthread.c. */
+/* layer_queues.h - who waits on which condition. The kernel has the same queues, so the layer knows whom a signal
+   serves before it calls the kernel. All functions are called from inside. Part of libmonk_pthread.c. */
 #ifndef LAYER_QUEUES_H
 #define LAYER_QUEUES_H
 

@@ -1,4 +1,4 @@
-/* layer_real.h - the functions that stand behind those of the layer. Part of libmonk_pthread.c. */
+/* layer_real.h - the system's functions that those of the layer replace. Part of libmonk_pthread.c. */
 #ifndef LAYER_REAL_H
 #define LAYER_REAL_H
 
@@ -36,7 +36,7 @@ static void *condition_function(const char *name) {
 
 #define FIND_CONDITION(field, name) (*(void **)&real.field = condition_function(name))
 
-/* Those of mutexes come first: an allocator may lock one of its own while the others are looked for. */
+/* Functions of mutexes come first: an allocator may lock a mutex of its own while the others are looked for. */
 static void find_functions(void) {
     FIND(lock, "pthread_mutex_lock");
     FIND(unlock, "pthread_mutex_unlock");

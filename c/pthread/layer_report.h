@@ -19,7 +19,7 @@ static void save_by_ended(struct monitor *m) {
     if (t && t->has_ended) save_volume(m, m->hall, m->inside);
 }
 
-/* The program goes on behind this: the steward comes in and leaves, or stays as a ghost if its turn doesn't come.
+/* The program goes on after this: the steward comes in and leaves, or stays as a ghost if its turn doesn't come.
    Whether it came. */
 static int save_by_visit(struct monitor *m, int looks) {
     struct timespec limit = look_limit(looks);
@@ -31,7 +31,7 @@ static int save_by_visit(struct monitor *m, int looks) {
     return 1;
 }
 
-/* The process ends behind this: so no seat needs to leave, and the seat of whoever is inside may be used. (Whoever
+/* The process ends after this. So no seat needs to leave, and the seat that is inside may be used. (A thread that
    refuses may hold the monitor's lock.) */
 static int save_at_last(struct monitor *m, int looks) {
     struct hall *h = use(&m->places[STEWARD], &m->hall);
@@ -40,7 +40,7 @@ static int save_at_last(struct monitor *m, int looks) {
     return monk_enter_within(h->seats[STEWARD], looks > 0 ? LOOK_MS : 0) == MONK_INSIDE && save_volume(m, h, STEWARD);
 }
 
-/* By any seat that is inside: its thread may not know yet that it was let in. */
+/* By whichever seat is inside: its thread may not know yet that it was let in. */
 static void save_by_another(struct monitor *m) {
     struct hall *h = m->hall;
     int n = 0;

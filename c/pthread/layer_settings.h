@@ -1,4 +1,4 @@
-/* layer_settings.h - what monk-run asks of the layer, by the environment. Part of libmonk_pthread.c. */
+/* layer_settings.h - what monk-run asks of the layer, through the environment. Part of libmonk_pthread.c. */
 #ifndef LAYER_SETTINGS_H
 #define LAYER_SETTINGS_H
 
@@ -20,18 +20,18 @@ enum {
     MOST_BUDGET = 1 << 20
 };
 
-/* How the layer mends a program, for monk-try to see what would be right: each signal is a broadcast; or all who
+/* How the layer mends a program, so that monk-try sees what would be right: each signal is a broadcast; or all who
    wait are woken when all sleep for ever. */
 enum { AS_IT_IS, BROADCASTS, WAKES_SLEEPERS };
 
 static struct {
     int kind, mode, wish;
     int shakes; /* threads let others go first at random */
-    int eager;  /* so many mutexes are monitors from their first lock on */
+    int eager;  /* this number of mutexes are monitors from their first lock on */
     int mend;
     uint32_t budget; /* events of a seat in a volume; 0: each volume has twice as many as the one before */
     uint64_t seed;
-    double seconds;         /* after so long the program is ended; 0: never */
+    double seconds;         /* the time after which the program is ended; 0: never */
     const char *left_alone; /* mutexes that stay what they are */
     const char *history, *report;
 } asked = {.kind = MONK_NPNB, .wish = MONK_WAITER, .seed = 1};
@@ -67,7 +67,7 @@ __attribute__((noreturn)) static void refuse_setting(const char *name, const cha
 
 /* ---- Reading */
 
-/* A whole number of that range, where the variable is set. */
+/* Reads a whole number of that range, if the variable is set. */
 static void read_number(const char *name, uint64_t least, uint64_t most, uint64_t *number) {
     const char *text = getenv(name);
     char *end;
@@ -110,7 +110,7 @@ static void read_seconds(void) {
         refuse_setting("MONK_SECONDS", text, "no number of seconds");
 }
 
-/* The process that monk-run became writes into DIR and FILE; each other that it starts or that is forked into
+/* The process that monk-run became writes into DIR and FILE; each other process, started or forked, writes into
    DIR/PID and FILE.PID. */
 static void name_files(const char *history, const char *report) {
     const char *owner = getenv("MONK_OWNER");
@@ -122,8 +122,8 @@ static void name_files(const char *history, const char *report) {
     asked.report = report ? report_of_process : NULL;
 }
 
-/* An allocator that isn't the C library's may have mutexes. A hall takes memory, so none can be made while one of
-   those is held. */
+/* An allocator other than the C library's may have mutexes. A hall takes memory, so none can be made while such a
+   mutex is held. */
 static int has_own_allocator(void) {
     Dl_info of_malloc, of_library;
     void *allocator = dlsym(RTLD_DEFAULT, "malloc"), *library = dlsym(RTLD_NEXT, "getenv");

@@ -1,14 +1,14 @@
-/* layer_signals.h - signals from inside, and those that came from outside and are sent by whoever is inside. Part of
+/* layer_signals.h - signals from inside, and those from outside, which the seat that is inside sends. Part of
    libmonk_pthread.c.
 
-   A ghost signals too, if it was made to carry a signal in. No thread stands there then (the thread is null), so
-   nobody sleeps for it. */
+   A ghost signals too, if it was made to carry a signal in. It has no thread then (the thread is null), so nobody
+   sleeps for it. */
 #ifndef LAYER_SIGNALS_H
 #define LAYER_SIGNALS_H
 
 #include "layer_halls.h"
 
-/* Lets ghosts come in whose turn it is. It follows each release. */
+/* Lets ghosts come in if it is their turn. It follows each release. */
 static void released(struct monitor *m);
 
 static const int64_t a_broadcast = (int64_t)1 << 32; /* among pending signals; a signal is 1 */
@@ -18,7 +18,7 @@ static monk_seat *seat_in(struct monitor *m, int n) {
     return h->seats[n];
 }
 
-/* From inside, where nobody else counts. */
+/* From inside, so nobody else counts at the same time. */
 static void count_step(struct monitor *m) {
     store(m->steps, atomic_load_explicit(&m->steps, memory_order_relaxed) + 1);
 }
@@ -31,14 +31,14 @@ static void note_inside(struct monitor *m, int n, struct thread *t, int depth) {
     count_step(m);
 }
 
-/* Before the release: a signal from outside that finds nobody inside later than this isn't left to this thread. */
+/* Before the release: after this, a signal from outside finds nobody inside, and isn't left to this thread. */
 static void note_outside(struct monitor *m) {
     count_step(m);
     store(m->inside, NONE);
     atomic_store(&m->owner, NULL);
 }
 
-/* The thread gives the monitor up to whom it signalled, and sleeps until it has it back. */
+/* The thread gives the monitor up to the one that it signalled, and sleeps until it has it back. */
 static void signal_and_return(struct monitor *m, int n, int condition, struct thread *t) {
     monk_seat *seat = seat_in(m, n);
     int depth = m->depth;
@@ -95,14 +95,14 @@ static int is_still_inside(struct monitor *m, int n, const struct thread *t) {
     return t ? m->inside == n : !m->places[n].is_signaller;
 }
 
-/* A ghost that signals may be out before all is sent: it sends the rest when it is back. */
+/* A ghost that signals may be out before all signals are sent: it sends the rest when it is back. */
 static void keep_rest(struct monitor *m, int condition, int count) {
     if (count <= 0) return;
     atomic_fetch_add(&m->pending[condition], count);
     atomic_store(&m->has_pending, 1);
 }
 
-/* Where signals hand the monitor over, a broadcast is as many as wait at its beginning. */
+/* If signals hand the monitor over, a broadcast is as many signals as seats wait at its beginning. */
 static void signal_each(struct monitor *m, int n, int condition, struct thread *t) {
     int count = count_queued(m, condition);
     for (; count > 0 && is_still_inside(m, n, t); count--) signal_once(m, n, condition, t);
@@ -133,7 +133,7 @@ static void signal_by(struct monitor *m, int n, int condition, int is_broadcast,
 
 /* ---- Signals of threads that were outside, sent by the seat n that is inside before it releases the monitor */
 
-/* Whether there is one that is pending. A broadcast is for all that are. */
+/* Whether a signal is pending. A broadcast takes all that are. */
 static int take_pending(struct monitor *m, int condition, int *is_broadcast) {
     int64_t is = atomic_load(&m->pending[condition]);
     *is_broadcast = is >= a_broadcast;
@@ -141,8 +141,7 @@ static int take_pending(struct monitor *m, int condition, int *is_broadcast) {
     return is != 0;
 }
 
-/* Whether it could be done to the end: a ghost that signalled may be out, and an immediate-return kind signals once
-   a visit. */
+/* Whether all were sent: a ghost that signalled may be out, and an immediate-return kind signals once a visit. */
 static int send_pending_of(struct monitor *m, int n, int condition, struct thread *t) {
     int is_broadcast;
     while (m->deferred == NONE && take_pending(m, condition, &is_broadcast)) {
@@ -163,9 +162,9 @@ static void send_pending(struct monitor *m, int n) {
     }
 }
 
-/* Where a signal gives the monitor up, none may be sent between the program's test and its wait: what was tested
-   might not hold any more. They are kept till behind the wait; at most as many as have somebody to serve by now, so
-   that they don't serve this wait. */
+/* If a signal gives the monitor up, none may be sent between the program's test and its wait: what was tested might
+   not hold any more. They are kept until after the wait. No more are kept than have somebody to serve by now, so that
+   they don't serve this wait. */
 static void keep_pending_of(struct monitor *m, int condition) {
     int64_t is = atomic_load(&m->pending[condition]), most;
     do {

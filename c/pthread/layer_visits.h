@@ -16,7 +16,7 @@ static void go_out(struct monitor *m) {
     visit_if_pending(m, NULL);
 }
 
-/* MONK_WAITING if the limit is over (a time of CLOCK_MONOTONIC; null: there is none). MONK_STOPPED: another hall
+/* MONK_WAITING if the limit is over (a time of CLOCK_MONOTONIC; null if there is none). MONK_STOPPED: another hall
    took this one's place. */
 static int arrive_at(struct monitor *m, struct hall *h, int n, const struct timespec *limit) {
     if (!limit) return monk_enter(h->seats[n]);
@@ -24,7 +24,7 @@ static int arrive_at(struct monitor *m, struct hall *h, int n, const struct time
     return monk_await_until(h->seats[n], limit);
 }
 
-/* The thread goes away, and its seat waits on as a ghost; unless the hall in which it waits has been left meanwhile. */
+/* The thread goes away, and its seat waits on as a ghost, unless the hall in which it waits has been left meanwhile. */
 static void stay_as_ghost(struct monitor *m, int n) {
     struct place *p = &m->places[n];
     take(&m->lock);
@@ -53,8 +53,8 @@ static int come_in_by(struct monitor *m, int n, const struct timespec *limit) {
     return 0;
 }
 
-/* Whether the thread came in before the limit was over. The steward is lent where ghosts have all numbers: it leaves
-   them behind in a new hall, and then the thread comes by another. */
+/* Whether the thread came in before the limit was over. The steward is lent if ghosts have all numbers: it leaves
+   them behind in a new hall, and then the thread comes in by another number. */
 static int enter(struct monitor *m, struct thread *t, const struct timespec *limit, int depth) {
     for (;;) {
         int n = take_number(m, t);
@@ -69,14 +69,14 @@ static int enter(struct monitor *m, struct thread *t, const struct timespec *lim
 
 static const struct timespec no_time; /* a limit that is over */
 
-/* ---- Promotion. A mutex becomes a monitor by the thread that has it, and under it. Who slept at the mutex looks
-   again once it has it: so whoever has the mutex, and finds no monitor, is inside. */
+/* ---- Promotion. The thread that has a mutex makes it a monitor, while it has it. A thread that slept at the mutex
+   looks again once it has it. So a thread that has the mutex, and finds no monitor, is inside. */
 
 enum { TYPE_BITS = 3, ROBUST = 16, INHERITS = 32, PROTECTS = 64, SHARED = 128 };
 
 static int type_of(const pthread_mutex_t *mutex) { return mutex->__data.__kind & TYPE_BITS; }
 
-/* Whether it is among those that are to be left alone, between blanks. */
+/* Whether it is in the list of those to be left alone, which has blanks between them. */
 static int is_named(const pthread_mutex_t *mutex) {
     struct name name = name_of(mutex);
     size_t length = strlen(name.text);
@@ -88,13 +88,13 @@ static int is_named(const pthread_mutex_t *mutex) {
     return 0;
 }
 
-/* Between processes, robust or with priorities; asked for; or locked by nobody we know. */
+/* Whether it is between processes, robust or with priorities; or named by the user; or locked by nobody we know. */
 static int is_left_alone(const pthread_mutex_t *mutex, const struct thread *t) {
     if (mutex->__data.__kind & (ROBUST | INHERITS | PROTECTS | SHARED) || mutex->__data.__owner != t->id) return 1;
     return asked.left_alone && is_named(mutex);
 }
 
-/* Whether nothing of its last mutex is under way any more. */
+/* Whether nothing for its last mutex is under way any more. */
 static int is_unused(struct monitor *m) {
     if (!m->is_dead || m->free != (1u << NUMBERS) - 1 || m->has_steward) return 0;
     take(&m->lock);
@@ -103,7 +103,7 @@ static int is_unused(struct monitor *m) {
     return !m->retired;
 }
 
-/* One whose mutex was destroyed, or a new one. Under the table's lock. */
+/* A monitor whose mutex was destroyed, or a new one. Under the table's lock. */
 static struct monitor *spare_monitor(void) {
     struct monitor *m = every_monitor;
     while (m && !is_unused(m)) m = m->next;
@@ -129,8 +129,7 @@ static void set_up(struct monitor *m, const void *mutex, struct hall *h, int ser
     m->is_dead = 0;
 }
 
-/* The monitor of a mutex that the thread has locked so many times: the thread is inside. Null where there is no
-   room. */
+/* The monitor of a mutex that the thread has locked `times` times: the thread is inside. Null if there is no room. */
 static struct monitor *make_monitor(pthread_mutex_t *mutex, struct thread *t, int times) {
     int serial = atomic_fetch_add(&serials, 1) + 1;
     struct hall *h = make_hall(1, serial);
@@ -147,7 +146,7 @@ static struct monitor *make_monitor(pthread_mutex_t *mutex, struct thread *t, in
     return m;
 }
 
-/* Null: the mutex is left what it is. */
+/* Null if the mutex is left what it is. */
 static struct monitor *promote(pthread_mutex_t *mutex, struct thread *t) {
     if (is_left_alone(mutex, t)) return NULL;
     int times = type_of(mutex) == PTHREAD_MUTEX_RECURSIVE ? (int)mutex->__data.__count : 1;
@@ -156,7 +155,7 @@ static struct monitor *promote(pthread_mutex_t *mutex, struct thread *t) {
     return m;
 }
 
-/* A mutex that is promoted at its first lock, since so many were asked for. What locks meanwhile isn't the program. */
+/* Promotes a mutex at its first lock, if fewer than asked for were. What locks meanwhile isn't the program. */
 __attribute__((noinline, cold)) static void promote_early(pthread_mutex_t *mutex) {
     static __thread __attribute__((tls_model("initial-exec"))) int is_busy;
     if (is_busy || serials >= asked.eager) return;
@@ -180,8 +179,8 @@ static void give_ghosts_back(struct monitor *m) {
         if (m->places[n].standing >= GHOST_WAITS) give_number(m, n);
 }
 
-/* The mutex is destroyed, or its memory is used for another. If somebody has it or waits, it stays: that is the
-   program's error. */
+/* The mutex is destroyed, or its memory is used for another. If somebody has it or waits, it stays: that is an error
+   of the program. */
 static void forget_mutex(const void *mutex) {
     struct monitor *m = monitor_of(mutex);
     if (!m || m->owner || count_standing(m, WAITS) || !enter(m, self(), &no_time, 1)) return;

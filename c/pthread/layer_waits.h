@@ -1,8 +1,8 @@
 /* layer_waits.h - waits on conditions, with and without a limit. Part of libmonk_pthread.c.
 
-   A thread whose time is over makes its seat a ghost, if no signal has served it, and comes in by another. A signal
-   that serves the ghost is passed on. A later wait of the thread on the same condition takes the ghost over, at its
-   old place in the queue. */
+   A thread whose time is over makes its seat a ghost, if no signal has served it, and comes in by another seat. A
+   signal that serves the ghost is passed on. A later wait of the thread on the same condition takes the ghost over,
+   at its old place in the queue. */
 #ifndef LAYER_WAITS_H
 #define LAYER_WAITS_H
 
@@ -30,7 +30,7 @@ static struct timespec time_of(clockid_t clock) {
     return now;
 }
 
-/* The same time by CLOCK_MONOTONIC, as the clocks stand now; now if it is over. */
+/* The same time by CLOCK_MONOTONIC, as the clocks are now; the present time if it is over. */
 static struct timespec monotonic(clockid_t clock, const struct timespec *until) {
     struct timespec now = time_of(CLOCK_MONOTONIC), here = time_of(clock);
     if (!is_before(here, *until)) return now;
@@ -71,8 +71,8 @@ static int number_without(struct monitor *m, int (*count)(struct monitor *, int)
     return k < CONDITIONS ? k : NONE;
 }
 
-/* That which the condition had (it may have gone to another mutex, and come back), one that was never used, or one
-   where nobody waits; at last one where only ghosts do, since they pass each signal on. */
+/* The number that the condition had (it may have gone to another mutex, and come back), else one that was never used,
+   else one where nobody waits; last, one where only ghosts wait, because they pass each signal on. */
 static int spare_number(struct monitor *m, const void *address) {
     int k = number_with(m, address);
     if (k == NONE) k = number_with(m, NULL);
@@ -161,7 +161,7 @@ static void begin_wait(struct wait *w) {
     visit_if_pending(m, &m->places[w->number]);
 }
 
-/* Whether the thread is to end now: it was cancelled, and lets itself be. */
+/* Whether the thread is to end now: it was cancelled, and allows that. */
 static int is_to_end(struct thread *t) {
     int state = PTHREAD_CANCEL_DISABLE;
     if (!t->is_cancelled) return 0;
@@ -177,7 +177,7 @@ static int is_given_up(struct wait *w, struct place *p) {
     return atomic_compare_exchange_strong(&p->standing, &is, GHOST_WAITS);
 }
 
-/* Whether a signal served it; else it was given up. */
+/* Whether a signal served the seat; else it was given up. */
 static int sleep_through(struct wait *w) {
     struct monitor *m = w->monitor;
     struct place *p = &m->places[w->number];
@@ -200,7 +200,7 @@ static void end_served(struct wait *w) {
     renew_if_due(m, w->number);
 }
 
-/* The thread is inside again, by another number. If it was cancelled it ends here, and its clean-up handlers have
+/* The thread is inside again, by another number. If it was cancelled, it ends here, while its clean-up handlers have
    the mutex. */
 static int end_given_up(struct wait *w) {
     struct monitor *m = w->monitor;

@@ -1,13 +1,13 @@
 /* libmonk_pthread.c - runs an unchanged program of pthreads or C11 threads under any kind of monitor that has
    signals, by LD_PRELOAD.
 
-   monk-run says how it is asked, and docs/TRY.md what it tells. A mutex becomes a monitor when a thread first waits
-   on a condition with it; until then it is what it was. None of this is proved: the monitors below it are (monk.h).
+   monk-run has its options, docs/TRY.md says what it reports. A mutex becomes a monitor when a thread first waits on
+   a condition with it; until then it is what it was. None of this is proved: the monitors below it are (monk.h).
 
-   The parts: layer_real.h, the functions behind; layer_settings.h, what is asked; layer_known.h, threads, monitors
-   and conditions; layer_queues.h, who waits where; layer_files.h, histories and the report; layer_halls.h, volumes
-   of a monitor; layer_signals.h; layer_ghosts.h, seats without a thread; layer_visits.h, entering, leaving, and how
-   a mutex becomes a monitor; layer_waits.h; layer_report.h and layer_ends.h, the ends of a run. */
+   The parts: layer_real.h, the system's functions; layer_settings.h, what is asked; layer_known.h, threads, monitors
+   and conditions; layer_queues.h, who waits where; layer_files.h, histories and the report; layer_halls.h, volumes of
+   a monitor; layer_signals.h; layer_ghosts.h, seats without a thread; layer_visits.h, entering, leaving, and how a
+   mutex becomes a monitor; layer_waits.h; layer_report.h and layer_ends.h, the ends of a run. */
 #define _GNU_SOURCE
 #include "layer_ends.h"
 
@@ -15,8 +15,8 @@
 
 static _Atomic int is_ready;
 
-/* How much a call on a mutex has to look at: all, while the start isn't over, if threads are shaken, or if mutexes
-   are monitors from their first lock on; else whether the mutex is a monitor, once there is one. */
+/* How much a call on a mutex has to look at. It is all while the start isn't over, if threads are shaken, or if
+   mutexes are monitors from their first lock on. Else it is whether the mutex is a monitor, once there is one. */
 enum attention { NOTHING, MONITORS, ALL };
 static _Atomic int attention = ALL;
 
@@ -76,7 +76,7 @@ static inline int lock_really(const struct locking *it) {
     }
 }
 
-/* The thread has it already. Of a plain mutex that is a deadlock: it waits for itself. */
+/* The thread has it already. For a plain mutex that is a deadlock: the thread waits for itself. */
 static int lock_again(struct monitor *m, const struct locking *it) {
     int type = type_of(it->mutex);
     if (type == PTHREAD_MUTEX_RECURSIVE) return m->depth++, 0;
@@ -111,7 +111,7 @@ static int lock_by(struct locking it) {
     return m ? lock_monitor(m, &it) : look_again(&it, lock_really(&it));
 }
 
-/* The way of an ordinary mutex is short. */
+/* For an ordinary mutex the way is short. */
 int pthread_mutex_lock(pthread_mutex_t *mutex) {
     int is = attention;
     if (is == ALL || (is == MONITORS && monitor_of(mutex)))
@@ -211,7 +211,7 @@ int pthread_cond_clockwait(pthread_cond_t *condition, pthread_mutex_t *mutex, cl
     return wait_by((struct locking){mutex, CLOCK, clock, until}, condition, CALLER);
 }
 
-/* By a thread outside: whoever is inside sends it. If nobody waits, there is nobody to serve. */
+/* By a thread outside: the seat that is inside sends it. If nobody waits, there is nobody to serve. */
 static void signal_from_outside(struct monitor *m, int k, int is_broadcast) {
     if (!count_queued(m, k)) return;
     m->outside++;
@@ -320,8 +320,8 @@ void cnd_destroy(cnd_t *condition) {
 
 /* ---- Ends and signals of the process */
 
-/* The target sees the mark when it wakes from its wait to look; a thread that isn't known yet finds itself cancelled
-   as it begins one. */
+/* The target sees the mark when it wakes from its wait to look. A thread that isn't known yet notices as it begins a
+   wait that it is cancelled. */
 int pthread_cancel(pthread_t thread) {
     init();
     int answer = real.cancel(thread);
@@ -338,7 +338,7 @@ void _exit(int status) {
 
 void _Exit(int status) { _exit(status); }
 
-/* The program is told that nothing was changed. */
+/* The program sees its own settings, as if the layer had changed nothing. */
 int sigaction(int number, const struct sigaction *new, struct sigaction *old) {
     init();
     int is_default = new && !(new->sa_flags &SA_SIGINFO) && new->sa_handler == SIG_DFL;

@@ -5,7 +5,7 @@ from typing import Counter as Counts, Dict, List, NamedTuple, Optional
 from monk_runs import CANT, HUNG, OK, WRONG, Result
 
 KINDS = ["PB", "NPB", "PNB", "NPNB", "PQB", "NPQB", "PIR", "NPIR"]
-# Those under which a signal gives the monitor up.
+# The kinds under which a signal gives the monitor up.
 GIVE_UP = ["PB", "NPB", "PQB", "NPQB"]
 # How monk-run mends a program (--mend).
 BROADCASTS, WAKES_SLEEPERS = 1, 2
@@ -43,7 +43,7 @@ class Facts:
             self.by_kind.setdefault(cell.kind, Counter()).update(result.what for result in cell.results)
 
     def having(self, *whats: str) -> List[str]:
-        """The kinds under which some run ended so, in the order of KINDS."""
+        """The kinds under which some run ended in one of these ways, in the order of KINDS."""
         return [kind for kind in KINDS if kind in self.by_kind and any(self.by_kind[kind][what] for what in whats)]
 
     def bad(self) -> List[str]:
@@ -81,7 +81,7 @@ USE_BROADCAST = ("It is right when each signal is made a broadcast: a signal wak
 
 
 def preferred(facts: Facts, kind: str) -> str:
-    """Which wish it takes, if it isn't wrong under each."""
+    """The wish that it takes to go wrong, if it isn't wrong under each."""
     wishes = [cell.wish for cell in facts.cells if cell.kind == kind and cell.is_bad()]
     return " with entry preferred" if wishes and "waiter" not in wishes else ""
 
@@ -139,7 +139,7 @@ def hoare(facts: Facts) -> Optional[Lesson]:
 
 
 def elsewhere(facts: Facts) -> Optional[Lesson]:
-    """Too few kinds were tried to say more."""
+    """The lesson if too few kinds were tried to say more."""
     right_under = f", right under {' '.join(facts.fine())}" if facts.fine() else ""
     return Lesson("order", f"{wrong_under(facts)}{right_under}: it relies on an order that not all of these kinds keep;"
                   " or the fault isn't one of waiting.")

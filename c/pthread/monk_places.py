@@ -1,4 +1,4 @@
-"""Where threads stood at the end of a run, in the words of the program's source; and the step of a history at which a
+"""Where threads were at the end of a run, in the words of the program's source; and the step of a history at which a
 woken thread may rely on too much. Part of monk-try."""
 import os
 import subprocess
@@ -6,7 +6,7 @@ from typing import Dict, List, NamedTuple, Optional, Tuple
 
 from monk_runs import reports
 
-# The data of a program, as nm tells them; and how far behind a name an address may be that belongs to it.
+# The letters that nm gives to data of a program; and how far after a name an address may be that belongs to it.
 DATA, FARTHEST = "bBdDvVuC", 4096
 MOST_HISTORIES = 3
 _symbols: Dict[str, List[Tuple[int, str]]] = {}
@@ -42,8 +42,8 @@ def name_of(place: str) -> str:
 
 
 def line_of(place: str) -> str:
-    """File and line of the code at PATH+0xOFFSET, behind a call, or of what called that, if it stands in a header of
-    the system; the place itself if the program doesn't tell."""
+    """File and line of the call before PATH+0xOFFSET, or of its caller, if the call is in a header of the system; the
+    place itself if the program doesn't say."""
     path, plus, offset = place.rpartition("+0x")
     if not plus:
         return place
@@ -56,7 +56,7 @@ def line_of(place: str) -> str:
 class Names(NamedTuple):
     mutexes: Dict[str, str]
     conditions: Dict[Tuple[str, str], str]
-    waits: Dict[Tuple[str, str], Tuple[str, str]]        # of a monitor and a seat: the condition, and where it waits
+    waits: Dict[Tuple[str, str], Tuple[str, str]]        # for a monitor and a seat: the condition, and where it waits
 
 
 def names_in(rows: List[List[str]]) -> Names:
@@ -72,7 +72,7 @@ def names_in(rows: List[List[str]]) -> Names:
 
 
 def sentence(row: List[str], names: Names) -> str:
-    """Of the row `seat MONITOR SEAT thread THREAD STANDING ..`."""
+    """The sentence for the row `seat MONITOR SEAT thread THREAD STANDING ..`."""
     monitor, seat, thread, standing = row[1], row[2], row[4], " ".join(row[5:])
     mutex = names.mutexes.get(monitor, "?")
     if not standing.startswith("waits"):
@@ -83,7 +83,7 @@ def sentence(row: List[str], names: Names) -> str:
 
 
 def who_waits(folder: str) -> List[str]:
-    """Who stood where at the end of a run, one sentence each."""
+    """Who was where at the end of a run, one sentence each."""
     told = []
     for rows in reports(folder).values():
         names = names_in(rows)
@@ -101,7 +101,7 @@ def last_volumes(folder: str) -> Dict[int, int]:
 
 
 def worth_reading(folder: str) -> List[str]:
-    """The last volumes of the monitors at which somebody stood at the end; else of the first."""
+    """The last volumes of the monitors at which somebody was at the end; else those of the first monitors."""
     found = []
     for history, rows in reports(folder).items():
         last = last_volumes(history)
@@ -115,13 +115,13 @@ def worth_reading(folder: str) -> List[str]:
 
 class Suspect(NamedTuple):
     step: int
-    seat: int            # which comes back from its wait and goes on
-    between: int         # which came in behind the signal
+    seat: int            # the one that comes back from its wait and goes on
+    between: int         # the one that came in after the signal
     steps: int           # how many such steps there are
 
 
 class Waits:
-    """Who waits on what, and since when those who were signalled may come in, as a history is read."""
+    """While a history is read: who waits on what, and since when those who were signalled may come in."""
 
     def __init__(self) -> None:
         self.queues: Dict[str, List[str]] = {}
@@ -146,7 +146,7 @@ def goes_on(rows: List[List[str]], step: int, seat: str) -> bool:
 
 
 def suspect(path: str) -> Optional[Suspect]:
-    """The first step at which a thread comes back from a wait though another came in behind its signal, and goes on
+    """The first step at which a thread comes back from a wait though another came in after its signal, and goes on
     without waiting again. A hint: right programs have such steps too."""
     with open(path) as file:
         rows = [line.split() for line in file.read().splitlines()[1:]]

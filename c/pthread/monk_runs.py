@@ -1,4 +1,4 @@
-"""One run of a program, plain or under a kind of monitor, and what is expected of it. Part of monk-try."""
+"""One run of a program, plain or under a kind of monitor, and how it is judged. Part of monk-try."""
 import os
 import re
 import signal
@@ -11,7 +11,7 @@ from typing import Counter as Counts, Dict, List, NamedTuple, Optional, Set, Tup
 HERE = os.path.dirname(os.path.realpath(__file__))
 OK, WRONG, HUNG, CANT = "ok", "wrong", "hung", "n/a"
 STATUS_HUNG, STATUS_CANT = 124, 125
-# What a run may take beyond its time limit, for its histories.
+# The seconds that a run may take beyond its time limit, for its histories.
 TO_WRITE = 10
 FEWEST_PLAIN, LONGEST_PLAIN_SECONDS = 3, 5
 BUDGET = "65536"
@@ -30,7 +30,7 @@ class Expected(NamedTuple):
 
 
 class Job(NamedTuple):
-    """What is to be run, and how it is judged."""
+    """The program to run, and how it is judged."""
     words: List[str]
     seconds: float
     expected: Expected
@@ -52,13 +52,13 @@ def status_words(status: int) -> str:
     return f"ended by {signal.Signals(-status).name}" if status < 0 else f"status {status}"
 
 
-# The runs that go on, by their leaders; and whether no other may begin.
+# The runs that are under way, by their leaders; and whether no other may begin.
 _sessions: Set[int] = set()
 _is_over = threading.Event()
 
 
 def run(words: List[str], seconds: float) -> Ended:
-    """Runs it in a session of its own, of which nothing is left behind it. STATUS_HUNG if the time is over."""
+    """Runs it in a session of its own, and leaves no process of it. The status is STATUS_HUNG if the time is over."""
     if _is_over.is_set():
         return Ended(STATUS_HUNG, b"", "")
     process = subprocess.Popen(words, stdin=subprocess.DEVNULL, stdout=subprocess.PIPE, stderr=subprocess.PIPE,
@@ -123,7 +123,7 @@ def run_under(job: Job, folder: str, options: List[str]) -> Result:
 
 
 def reports(folder: str) -> Dict[str, List[List[str]]]:
-    """The lines of each process's report, by the folder of its histories; those of the program itself are first."""
+    """The lines of each process's report, by the folder of its histories; the program's own come first."""
     found: Dict[str, List[List[str]]] = {}
     names = [name for name in os.listdir(folder) if name.startswith("report")] if os.path.isdir(folder) else []
     for name in sorted(names):

@@ -1,9 +1,9 @@
-/* calls.c - the interface of monk.h by one mutex and a condition variable for each seat. Nothing of it is proved:
- * it is a plain model of the rules, an oracle for tests of the proved library and a peer for its benchmarks. Here are
- * the calls by a seat; seats.c lends seats and makes and ends monitors, history.c tells the history.
+/* calls.c - the interface of monk.h by one mutex and a condition variable for each seat. Nothing in it is proved: it
+ * is a plain model of the rules, an oracle for tests of the proved library and a peer for its benchmarks. Here are
+ * the calls by a seat; seats.c lends seats and makes and ends monitors, history.c writes the history.
  *
  * Everything is changed under the mutex, so each call is one step; a thread that waits sleeps on its seat's bell. One
- * thing of the library's is missing: a pointer to a seat that was given back isn't told from the next owner's. */
+ * thing that the library has is missing: a pointer to a seat that was given back is that of the next owner. */
 #define _GNU_SOURCE
 #include "frame.h"
 #include <errno.h>
@@ -89,7 +89,7 @@ int monk_start_wait_until(monk_seat *s, unsigned flag) {
     return end(s, s->place);
 }
 
-/* Of a call that doesn't wait: its place becomes MONK_OK. */
+/* For a call that doesn't return the seat's place: the place becomes MONK_OK. */
 static int taken(int answer) { return answer > 0 ? MONK_OK : answer; }
 
 int monk_leave(monk_seat *s) {

@@ -6,7 +6,7 @@
 #include <sys/syscall.h>
 #include <unistd.h>
 
-/* What refuses a call that is made from a place and wants so many events. */
+/* Why a call from `place` that needs `wants` events is refused. */
 static inline int refusal(const monk_seat *s, int place, uint32_t wants) {
     if (s->place != place) return MONK_NOT_NOW;
     return s->left < wants ? MONK_SPENT : MONK_OK;
@@ -24,7 +24,7 @@ static inline int begin(monk_seat *s) {
     return answer;
 }
 
-/* Wakes the event loop that waits for a seat, under the lock since the monitor may be freed behind it. */
+/* Wakes the event loop that waits for a seat, under the lock because after it the monitor may be freed. */
 static inline void write_file(const monk_seat *s) {
     if (s->file != NO_FILE) syscall(SYS_write, s->file, &(uint64_t){1}, sizeof(uint64_t));
 }

@@ -33,7 +33,7 @@ static int write_event(char *at, const event *e) {
     return n;
 }
 
-/* Without flags there is one that nobody sets: an object has a size of 1 or more. */
+/* Without flags it names one that nobody sets: an object has a size of 1 or more. */
 static int write_header(char *at, const monk_monitor *m) {
     unsigned flags = m->flag_count ? m->flag_count : 1;
     return sprintf(at, "monk 3 %s %u %u flags %u\n", m->rules->name, m->seat_count, m->conditions, flags);
@@ -53,14 +53,14 @@ static int text_of(const monk_monitor *m, char **text, size_t *length) {
     return MONK_OK;
 }
 
-/* The seat of an earlier look that waits still, since its turn didn't come in time. */
+/* The seat of an earlier look that still waits, because its turn didn't come in time. */
 static monk_seat *visitor_that_waits(monk_monitor *m) {
     for (unsigned i = 0; i < m->seat_count; i++)
         if (m->seats[i].is_visitor && m->seats[i].abandoned) return &m->seats[i];
     return NULL;
 }
 
-/* The highest seat that nobody has and that can pay a visit. */
+/* The highest seat that nobody has and that has the events for a visit. */
 static monk_seat *last_seat(monk_monitor *m, int *answer) {
     *answer = MONK_NO_SEAT;
     for (unsigned i = m->seat_count; i-- > 0;) {
@@ -72,7 +72,7 @@ static monk_seat *last_seat(monk_monitor *m, int *answer) {
     return NULL;
 }
 
-/* A seat for a visit of the library's own. */
+/* Takes a seat for a visit by the library itself. */
 static int take_last_seat(monk_monitor *m, monk_seat **seat) {
     int answer = MONK_CLOSED;
     pthread_mutex_lock(&m->lock);
@@ -99,7 +99,7 @@ int monk_history(monk_monitor *m, monk_seat *by, char **text, size_t *length) {
     int r = take_last_seat(m, &s);
     if (r == MONK_CLOSED) return text_of(m, text, length);
     if (r) return r;
-    monk_arrive(s);                         /* refused where it waits since an earlier look */
+    monk_arrive(s);                         /* refused if it has waited since an earlier look */
     r = monk_await(s, PATIENCE_MS);
     if (r != MONK_INSIDE) return monk_abandon(s), MONK_BUSY;
     r = text_of(m, text, length);

@@ -1,4 +1,4 @@
-/* scheduler.h - whom a release of the plain model chooses, and how a seat comes in. The rules stand in
+/* scheduler.h - whom a release of the plain model chooses, and how a seat comes in. The rules are in
  * docs/MONITORS.md, "The wish". */
 #ifndef MONK_REFERENCE_SCHEDULER_H
 #define MONK_REFERENCE_SCHEDULER_H
@@ -58,7 +58,7 @@ static inline void make_due(monk_monitor *m, int seat, way by) {
     m->holder = seat;
 }
 
-/* Records a release of the seat that is inside, whose own moves are made, and hands the monitor on. */
+/* Records a release of the seat that is inside, after the moves of its own, and hands the monitor on. */
 static inline void release(monk_monitor *m, monk_seat *s, event e, int place) {
     int chosen = 0;
     e.seat = s->number;
@@ -87,8 +87,8 @@ static inline int serve(monk_monitor *m, unsigned condition) {
     return 1;
 }
 
-/* Lets an abandoned seat come in that is due. A signal that served it goes on to the next who waits there, if events
- * enough are left to it; no broadcast does, since that served all. Then it leaves, unless it waits after its signal. */
+/* Lets an abandoned seat that is due come in. It passes on a signal that served it to the next who waits there, if it
+ * has events enough; not a broadcast, which served all. Then it leaves, unless it waits after its signal. */
 static inline void go_on_and_out(monk_monitor *m, monk_seat *s) {
     unsigned c = s->condition;
     int leaves = m->rules->mode == MONK_IMMEDIATE_RETURN;
@@ -103,7 +103,7 @@ static inline void go_on_and_out(monk_monitor *m, monk_seat *s) {
     if (s->place == MONK_OUTSIDE) free_seat(s);
 }
 
-/* Seats that were abandoned come in when they are due. Tells whom to wake then, or -1. */
+/* Seats that were abandoned come in when they are due. Returns whom to wake then, or -1. */
 static inline int settle(monk_monitor *m) {
     for (;;) {
         monk_seat *s = m->holder < 0 ? NULL : &m->seats[m->holder];

@@ -62,7 +62,7 @@ int monk_abandon(monk_seat *s) {
 
 unsigned monk_seat_number(const monk_seat *s) { return s->number; }
 
-/* A look at a seat, under the lock since another thread may be settling it. */
+/* A look at a seat, under the lock because another thread may be settling it. */
 int monk_place(const monk_seat *s) {
     if (!s) return MONK_RANGE;
     pthread_mutex_lock(&s->monitor->lock);
@@ -151,7 +151,7 @@ static int has_taken(const monk_monitor *m) {
     return 0;
 }
 
-/* Seats that were abandoned and wait still don't hinder freeing. */
+/* Seats that were abandoned and still wait don't hinder freeing. */
 static int has_lent(const monk_monitor *m) {
     for (unsigned i = 0; i < m->seat_count; i++)
         if (m->seats[i].taken && !m->seats[i].abandoned) return 1;

@@ -1,4 +1,4 @@
-/* state.h - what the plain model of calls.c has of each monitor: its kind's rules, its seats, queues and events. */
+/* state.h - what the plain model of calls.c keeps of each monitor: its kind's rules, its seats, queues and events. */
 #ifndef MONK_REFERENCE_STATE_H
 #define MONK_REFERENCE_STATE_H
 
@@ -12,7 +12,7 @@ typedef struct { const char *name; monk_mode mode; int entry, waiter, signaller;
 
 typedef enum { ENTER, ACT, LEAVE, WAIT, SIGNAL, SIGNAL_LEAVE, UNTIL, RESUME, SIGNAL_ALL, SIGNAL_WAIT } verb;
 
-/* What a release chose, and by which queue a seat comes in; FREE and HANDED are of an enter alone. */
+/* What a release chose, and by which queue a seat comes in; only an enter has FREE and HANDED. */
 typedef enum { NOBODY, STAY, ENTRY, WAITER, SIGNALLER, READY, FREE, HANDED } way;
 
 typedef struct { uint8_t verb, seat, a, b, way, chosen; uint32_t bits; } event;

@@ -1,4 +1,4 @@
-/* Threads give their seats up in every place: at the entry, inside, in a wait, behind a signal.
+/* Threads give their seats up in every place: at the entry, inside, in a wait, after a signal.
  *
  *     abandon KIND ROUNDS SEED FILE
  *
@@ -18,7 +18,7 @@ static atomic_int given_up[PLACES];
 
 static int is_automatic(void) { return monk_mode_of(kind) == MONK_AUTOMATIC; }
 
-/* Some of what a thread may do inside, but for going out. It may be waiting then. */
+/* Some of what a thread may do inside, except to leave. It may be waiting then. */
 static int works_inside(monk_seat *s, uint64_t *dice) {
     unsigned queue = thrown(dice, QUEUES);
     switch (monk_mode_of(kind)) {

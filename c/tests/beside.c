@@ -1,7 +1,7 @@
 /* Visits beside seats that were abandoned in a wait: beside ABANDONED
  *
  * A release looks after an abandoned seat only if it lets that seat in. So a visit takes as long beside them as
- * without them: at most a quarter more is allowed, for the clock. The two take turns, since the processor is not
+ * without them: at most a quarter more is allowed, for the clock. The two take turns, because the processor is not
  * always equally fast. */
 #include "common.h"
 #include <time.h>
@@ -20,7 +20,7 @@ static double nanoseconds(void) {
     return (double)now.tv_sec * NS_A_SECOND + (double)now.tv_nsec;
 }
 
-/* A monitor with so many abandoned seats that wait on a condition. */
+/* A monitor with that number of abandoned seats that wait on a condition. */
 static visited made_beside(unsigned abandoned) {
     monk_shape shape = {.kind = MONK_PNB, .seats = SEATS, .conditions = 1, .budget = 2 * (CHUNKS + 1) * VISITS};
     visited it = {.least = NS_A_SECOND};

@@ -1,4 +1,4 @@
-/* What every call answers, where it is right and where it isn't; by one thread where that will do. */
+/* What every call answers, if it is allowed and if it isn't; in one thread if that will do. */
 #include "calls.h"
 #include <poll.h>
 #include <pthread.h>
@@ -74,7 +74,7 @@ static void hoare(void) {
     end();
 }
 
-/* Barging under NPNB: each time, since the order of steps is given. */
+/* Barging under NPNB: each time, because the order of steps is given. */
 static void barging(void) {
     for (int kind = MONK_PNB; kind <= MONK_NPNB; kind++) {
         begin(kind, 3, 1, 0, 100);
@@ -124,7 +124,7 @@ static void *stopper(void *p) {
     return NULL;
 }
 
-/* All wait for good: the run is looked at by a spare seat, and ended. */
+/* All wait for ever: a spare seat looks at the run, which is then ended. */
 static void hung(void) {
     pthread_t t;
     begin(MONK_PB, 3, 1, 0, 100);
@@ -154,7 +154,7 @@ static void abandoned(void) {
     end();
 }
 
-/* A thread that hangs inside keeps the history: a second is waited for it. */
+/* A thread that hangs inside keeps the history: the call waits a second for it. */
 static void held(void) {
     char *text;
     begin(MONK_PNB, 2, 1, 0, 100);
@@ -167,7 +167,7 @@ static void held(void) {
     end();
 }
 
-/* Lets that seat come in and go out again, if it may come in. Whether it could. */
+/* Lets that seat come in and go out again, if it may come in. Returns whether it could. */
 static int comes_and_goes(monk_seat *s) {
     if (monk_place(s) == MONK_WAITING) monk_poll(s);
     if (monk_place(s) != MONK_INSIDE) return 0;
@@ -197,8 +197,8 @@ static void passed_on(void) {
     }
 }
 
-/* Hoare's hand-over goes by the abandoned seat to the one behind it; it comes back behind the signaller, and signals
- * no more. */
+/* Hoare's hand-over goes through the abandoned seat to the next one. The abandoned seat comes back after the
+ * signaller, and doesn't signal again. */
 static void passed_on_at_once(void) {
     begin(MONK_PB, 4, 1, 0, 100);
     OK(monk_enter(a)); WAITS(monk_start_wait(a, 0)); OK(monk_abandon(a));
@@ -213,7 +213,7 @@ static void passed_on_at_once(void) {
     end();
 }
 
-/* What was no signal for one isn't passed on: a broadcast, which served all; and where too few events are left. */
+/* Not passed on: a broadcast, which served all; and a signal that served a seat with too few events left. */
 static void not_passed_on(void) {
     for (int kind = MONK_PNB; kind <= MONK_NPNB; kind++) {
         begin(kind, 3, 1, 0, 100);
@@ -252,7 +252,7 @@ static struct timespec in_microseconds(long microseconds) {
     return then;
 }
 
-/* By how many nanoseconds a wait of 100 microseconds that nobody ends is late, in the best of many. */
+/* How many nanoseconds late a wait of 100 microseconds ends, in the best of many that nobody ends before. */
 static long least_late(void) {
     long least = 1000000000;
     for (int i = 0; i < 50; i++) {
@@ -298,7 +298,7 @@ static void watched(void) {
     WAITS(monk_start_wait(b, 0)); WAITS(monk_wait_fd(b, &same)); IS(same, file); IS(is_readable(file), 0);
     OK(monk_enter(a)); OK(monk_signal(a, 0)); IS(is_readable(file), 0); OK(monk_leave(a)); IS(is_readable(file), 1);
     IS_IN(monk_await(b, 0)); OK(monk_leave(b));
-    /* One that was granted, or stopped, before the file was asked for. */
+    /* A wait that was granted, or stopped, before the file was asked for. */
     OK(monk_enter(a)); WAITS(monk_arrive(b)); OK(monk_leave(a)); IS_IN(monk_wait_fd(b, &file));
     WAITS(monk_arrive(a)); WAITS(monk_wait_fd(a, &file)); IS(is_readable(file), 0); OK(monk_stop(m));
     IS(is_readable(file), 1); IS(monk_wait_fd(a, &file), MONK_STOPPED);
@@ -312,7 +312,7 @@ static void *leaver(void *p) {
     return NULL;
 }
 
-/* A stop doesn't end a look at the history, and looks in vain use one spare seat up, not one each. */
+/* A stop doesn't end a look at the history. Looks in vain use up one spare seat in all, not one each. */
 static void looked_at(void) {
     char *text = NULL;
     pthread_t t;
@@ -324,7 +324,7 @@ static void looked_at(void) {
         IS(monk_history(m, NULL, &text, NULL), MONK_BUSY);
         IS(milliseconds() - began >= 900, 1);
     }
-    IS(monk_take_seat(m, &b), MONK_NO_SEAT);       /* it waits still, for its one visit */
+    IS(monk_take_seat(m, &b), MONK_NO_SEAT);       /* it still waits, for its one visit */
     pthread_create(&t, NULL, leaver, NULL);
     ENDS(NULL, "monk 3 PNB 2 1 flags 1\nenter 0 free\nleave 0 entry\nenter 1 handed\n");
     pthread_join(t, NULL);
@@ -341,7 +341,7 @@ static void *cancelled_waiter(void *p) {
     return NULL;
 }
 
-/* A thread that is cancelled in a wait waits on, comes in at its turn, and ends behind the call. */
+/* A thread that is cancelled in a wait waits on, comes in at its turn, and ends after the call. */
 static void cancelled(void) {
     pthread_t t;
     void *ended = NULL;

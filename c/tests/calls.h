@@ -1,5 +1,5 @@
-/* calls.h - what calls.c says of each call: its answer, or the end of the history. One monitor and up to four seats of
- * it are there at a time. */
+/* calls.h - what calls.c expects of each call: its answer, or the end of the history. One monitor and up to four seats
+ * of it are there at a time. */
 #ifndef MONK_CALLS_H
 #define MONK_CALLS_H
 

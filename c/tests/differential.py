@@ -4,9 +4,9 @@
     differential.py LIBRARY REFERENCE MONK [SCRIPTS [SEED]]
 
 LIBRARY and REFERENCE are script.c, linked with the one and with the other: both must print the same answers and the
-same history. MONK plays the same calls as atomic steps, and must print that history too, and audit it `legal`. Behind
+same history. MONK plays the same calls as atomic steps, and must print that history too, and audit it `legal`. After
 these come as many scripts in which seats are abandoned and taken again. What such a seat does then is no call, so MONK
-audits their histories alone."""
+only audits their histories."""
 import concurrent.futures
 import os
 import random
@@ -24,7 +24,7 @@ NON_BLOCKING = ("PNB", "NPNB")
 WISHES = ("entry", "waiter", "signaller", "any")
 MOST_FLAGS = 5
 LONGEST = 200
-# How often a call is one that is probably taken: mostly, but misuse has to come too. And how often it is of the seat
+# How often a call is one that is probably taken: mostly, but misuse has to come too. And how often it is by the seat
 # that is inside.
 LIKELY, BUSY = 0.93, 0.5
 # How often a seat is abandoned, and how often one is taken again, in a script that has such seats.
@@ -40,7 +40,7 @@ def shape_at_random(kind: str, dice: random.Random) -> Shape:
 
 
 class Guess:
-    """Where the seats probably stand, so that most calls are taken: whoever polls comes in where nobody is known to be
+    """Where the seats probably are, so that most calls are taken: a seat that polls comes in if nobody is known to be
     inside."""
 
     def __init__(self, seats: int) -> None:
@@ -111,7 +111,7 @@ def next_at_random(shape: Shape, seats: int, guess: Guess, dice: random.Random, 
 
 
 def script_at_random(kind: str, dice: random.Random, has_abandoned: bool) -> tuple[Shape, list[Call]]:
-    """The last seat is spared for the end: then each seat comes in that can, so that somebody is inside and can read
+    """The last seat is spared for the end: then each seat that can comes in, so that somebody is inside and can read
     the history."""
     shape = shape_at_random(kind, dice)
     spare = shape[1] - 1
@@ -126,7 +126,7 @@ def text_of(shape: Shape, calls: list[Call]) -> str:
 
 
 def steps_of(seat: int, name: str, numbers: tuple[int, ...], wish: str) -> list[str]:
-    """The call as atomic steps. Of a step that can't be taken where the seat stands, `monk play` records nothing."""
+    """The call as atomic steps. If the seat can't take a step from its place, `monk play` records nothing."""
     if name == "arrive":
         return [f"{seat} arrive"]
     if name == "poll":
@@ -159,7 +159,7 @@ def said(words: list[str], text: str) -> str:
 
 
 def agreed(library: str, reference: str, text: str, seed: str) -> list[str]:
-    """What library and reference both print; ends the program where they differ."""
+    """What library and reference both print; ends the program if they differ."""
     ours, theirs = said([library], text), said([reference], text)
     if ours != theirs:
         sys.exit(f"seed {seed}: library and reference differ\n{text}\n--- library\n{ours}\n--- reference\n{theirs}")
@@ -174,7 +174,7 @@ def audited(monk: str, history: str, seed: str) -> int:
 
 
 def tried(library: str, reference: str, monk: str, kind: str, seed: str, has_abandoned: bool) -> int:
-    """How many events the history of a script has; ends the program where two disagree."""
+    """How many events the history of a script has; ends the program if two disagree."""
     shape, calls = script_at_random(kind, random.Random(seed), has_abandoned)
     lines = agreed(library, reference, text_of(shape, calls), seed)
     answers, history = [int(line) for line in lines[: len(calls)]], "\n".join(lines[len(calls):]) + "\n"

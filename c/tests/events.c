@@ -1,7 +1,7 @@
 /* Hand-overs between threads and an event loop: events KIND TURNS
  *
  * Seats take turns in a circle, as in handover.c. Half of them have a thread each; the others have one event loop
- * together, which sleeps until one of their files can be read. A turn that nobody takes for so long ends the
+ * together, which sleeps until one of their files can be read. A turn that nobody takes for too long ends the
  * program: a wake-up was missed. */
 #include "common.h"
 #include <poll.h>
@@ -20,7 +20,7 @@ typedef struct looped {
 static monk_monitor *monitor;
 static int kind;
 static long rounds;
-static unsigned turn;       /* whose it is; touched inside alone */
+static unsigned turn;       /* whose it is; touched only inside */
 
 static int is_automatic(void) { return monk_mode_of(kind) == MONK_AUTOMATIC; }
 
@@ -59,7 +59,7 @@ static void take_turn(looped *it) {
     else MUST(monk_start_signal(it->seat, turn));
 }
 
-/* What a seat does that is inside. */
+/* What a seat does once it is inside. */
 static void step(looped *it) {
     if (it->has_signalled) {
         MUST(monk_leave(it->seat));
@@ -69,7 +69,7 @@ static void step(looped *it) {
     if (monk_place(it->seat) == MONK_OUTSIDE && it->rounds > 0) MUST(monk_arrive(it->seat));
 }
 
-/* Goes on with a seat until it waits; its file is in `file` then. 0 if it is at its end. */
+/* Goes on with a seat until it waits; then its file is in `file`. Returns 0 if the seat is at its end. */
 static int goes_on(looped *it, struct pollfd *file) {
     int place;
     while (monk_place(it->seat) != MONK_OUTSIDE) {

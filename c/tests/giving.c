@@ -1,9 +1,9 @@
-/* One thread gives a seat back while another calls by it: what was given back no call gets.
+/* One thread gives a seat back while another calls by it: no call gets what was given back.
  *
  *     giving ROUNDS
  *
- * In each round the seat is lent, and the two call at once. Where `monk_give_seat` is done, the other's
- * `monk_arrive` has to be refused. */
+ * In each round the seat is lent, and the two call at once. If `monk_give_seat` is done, the other's `monk_arrive`
+ * has to be refused. */
 #include "common.h"
 #include <pthread.h>
 #include <stdatomic.h>

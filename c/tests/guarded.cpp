@@ -40,7 +40,7 @@ void take(monk::monitor &monitor) {
     }
 }
 
-// One seat, which a thread after the other takes: who has it sees what was done before it was given back.
+// One seat, which one thread after the other takes: its owner sees what was done before it was given back.
 void lend(monk::monitor &monitor) {
     for (;;) {
         monk_seat *seat;
@@ -53,7 +53,7 @@ void lend(monk::monitor &monitor) {
     }
 }
 
-// Who is sent home sees what was done before the stop.
+// A thread that is sent home sees what was done before the stop.
 void stop(int kind) {
     monk::monitor monitor({kind, 1, 1, 0, 0, 1});
     int told = 0;

@@ -3,8 +3,8 @@
  *     handover KIND THREADS HANDOVERS
  *
  * The threads take turns: each pauses until it's its turn, and lets the next go on. So each turn is a hand-over, and
- * at most one thread is awake that isn't on its way to sleep. The watchdog ends the program where no turn was taken
- * for so long. */
+ * at most one thread is awake that isn't on its way to sleep. The watchdog ends the program if no turn was taken for
+ * too long. */
 #include "common.h"
 #include <pthread.h>
 #include <stdatomic.h>
@@ -18,7 +18,7 @@ static int kind;
 static unsigned threads;
 static long handovers;
 static atomic_long turns;
-static unsigned turn;                   /* whose it is; touched inside alone */
+static unsigned turn;                   /* whose it is; touched only inside */
 static pthread_barrier_t line;
 
 static void *watch(void *unused) {

@@ -31,7 +31,7 @@ def interrupt(*_: object) -> None:
 
 
 class AtCall:
-    """Raises an interrupt in the calling thread where a function of the package begins: the first that is called, the
+    """Raises an interrupt in the calling thread as a function of the package begins: the first that is called, the
     second and so on."""
 
     def __init__(self, number: int) -> None:
@@ -141,7 +141,7 @@ class Interrupts(unittest.TestCase):
         self.all_come_back(monitor)
 
     def test_at_each_call(self) -> None:
-        """Of a visit that waits, signals and leaves, beside a thread that signals."""
+        """Interrupts a visit that waits, signals and leaves, beside a thread that signals."""
         for kind in KINDS_THAT_WAIT:
             with self.subTest(kind):
                 # Seats that were given up in a wait are taken again once they have been signalled.
@@ -198,7 +198,7 @@ class Interrupts(unittest.TestCase):
         self.assertTrue(second.await_(3))
 
     def test_time_limits(self) -> None:
-        """A wait is as long as it is told, in the main thread and in another."""
+        """A wait is as long as its limit says, in the main thread and in another."""
         monitor = monk.Monitor("PB", seats=2)
         first, second = monitor.seat(), monitor.seat()
         first.enter()

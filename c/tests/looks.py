@@ -1,4 +1,4 @@
-"""The looks of the library for Python at a run: the history is what the calls made of it, however often somebody looks.
+"""The looks of the library for Python at a run: the history holds what the calls did, however often somebody looks.
 And what the program `monk` says of it.
 
 test_monk.py runs these tests."""
@@ -96,8 +96,8 @@ class Looks(unittest.TestCase):
                     self.assertTrue(monk.ask("audit", history).startswith("legal "))
 
     def test_whom_a_look_chose(self) -> None:
-        """A look that comes in between a signal and whom it served: the release before it is told to have chosen that
-        seat."""
+        """A look that comes in between a signal and the seat that it served: the release before it is written as if
+        it had chosen that seat."""
         monitor = made("NPNB", 4)
         served, signaller = monitor.seat(), monitor.seat()
         served.enter()
@@ -133,7 +133,7 @@ class Looks(unittest.TestCase):
 
 
 class Programs(unittest.TestCase):
-    """What `monk` says: its status tells whether it failed, and not what it writes to standard error."""
+    """What `monk` says: its status shows whether it failed, not what it writes to standard error."""
 
     def asked(self, script: str) -> str:
         with tempfile.TemporaryDirectory() as room:

@@ -56,7 +56,7 @@ static int read_inside(void) {
     return answer;
 }
 
-/* Each request of the call refused in turn; how many it makes. */
+/* Refuses each request of the call in turn; returns how many it makes. */
 static long refuse_each(int call(void)) {
     for (long n = 1;; n++) {
         long before = kept;

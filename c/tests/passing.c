@@ -1,8 +1,8 @@
 /* No signal is lost at waits with time limits: passing KIND ROUNDS
  *
  * In each round TAKERS threads take a token each, and wait for it without a limit. Beside them HASTY threads wait
- * with tiny limits and never take one: whoever was signalled signals the next, and whoever was late gives its seat
- * up, and takes another. So the library has to pass on each signal that serves a seat which was given up. The
+ * with tiny limits and never take one: a thread that was signalled signals the next, and one that was late gives its
+ * seat up, and takes another. So the library has to pass on each signal that serves a seat that was given up. The
  * program ends if that takes minutes: a signal was lost. */
 #include "common.h"
 #include <pthread.h>
@@ -16,7 +16,7 @@ enum { TAKERS = 3, HASTY = 4, SEATS = 32, TOKEN = 0, BUDGET = 1 << 20, SECONDS =
 
 static monk_monitor *monitor;
 static int rounds;
-static int tokens;              /* touched inside alone */
+static int tokens;              /* touched only inside */
 static atomic_int taken, is_over;
 static atomic_long late, signalled;
 

@@ -1,5 +1,5 @@
-"""Scenes: what the driver says of runs that go wrong and of scenes that it can't play, and that a run comes again by
-its schedule.
+"""Scenes: what the driver says of runs that go wrong and of scenes that it can't play; and whether a run comes again
+by its schedule.
 
 test_monk.py runs these tests."""
 
@@ -100,7 +100,7 @@ class Scenes(unittest.TestCase):
         self.assertEqual([it.outcome for it in compare(scene).findings.values()], 10 * ["right"])
 
     def test_programs_that_do_not_end_quietly(self) -> None:
-        """A `finally` that makes a call, and names that are no words of a schedule."""
+        """A `finally` that makes a call, and names that can't be words of a schedule."""
         def scene() -> List[Any]:
             def of(name: str) -> Any:
                 def program() -> Any:

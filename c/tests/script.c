@@ -1,9 +1,9 @@
-/* Carries a script out by one thread, for differential.py: a line for each answer, and the history at the end.
+/* Carries out a script by one thread, for differential.py: a line for each answer, and the history at the end.
  *
  *     script <SCRIPT      the first line is `KIND SEATS CONDITIONS FLAGS BUDGET`, the others are
  *                         `SEAT CALL [NUMBER [NUMBER]]`
  *
- * `take` takes the lowest seat that was abandoned and is outside, whichever SEAT is: its number is the answer. */
+ * `take` takes the lowest seat that was abandoned and is outside, whatever SEAT is: its number is the answer. */
 #include "monk.h"
 #include <stdio.h>
 #include <stdlib.h>

@@ -9,7 +9,7 @@ enum { LENDINGS = 1000, VISITS = 100000, BUDGET = 4 * VISITS };
 static monk_monitor *m;
 static monk_seat *stale;
 static atomic_int is_over;
-static long count;      /* touched inside alone */
+static long count;      /* touched only inside */
 
 static void make(unsigned seats) {
     monk_shape shape = {.kind = MONK_PNB, .seats = seats, .conditions = 1, .flags = 1, .budget = BUDGET};
@@ -36,7 +36,7 @@ static void all_refused(monk_seat *s) {
     HOLDS(monk_left(s) == 0);
 }
 
-/* The next owner is outside, then inside, and all the same stays where it is. */
+/* The next owner is outside, then inside, and each time stays where it is. */
 static void next_owner_is_left_alone(void (*ends)(monk_seat *)) {
     monk_seat *next;
     make(1);
@@ -76,7 +76,7 @@ static void *call_on(void *unused) {
     return unused;
 }
 
-/* Another thread that calls by a stale handle makes none of the owner's calls be refused. */
+/* Another thread calls by a stale handle, and yet no call of the owner is refused. */
 static void calls_at_the_same_time(void) {
     pthread_t other;
     monk_seat *s;

@@ -1,4 +1,4 @@
-"""What the library for Python tells: names, refusals that say what to do, who waits where, a run in which nobody can
+"""What the library for Python says: names, refusals that say what to do, who waits where, a run in which nobody can
 go on, and what is written of a history.
 
 test_monk.py runs these tests."""
@@ -32,7 +32,7 @@ LAYOUTS: List[Tuple[int, Tuple[str, ...]]] = [(80, ()), (40, ("--ascii",))]
 
 
 def run(*works: Callable[[], None]) -> None:
-    """Each in a thread of its name. An error of one is left to it."""
+    """Runs each in a thread of its name. An error of one stays in its thread."""
     crew = [threading.Thread(target=work, name=work.__name__, daemon=True) for work in works]
     for thread in crew:
         thread.start()
@@ -126,7 +126,7 @@ class Telling(unittest.TestCase):
         def host() -> None:
             has_begun.wait()
             with monitor:
-                # The guest has let the monitor go. What it waits for is told by its own thread, a moment later.
+                # The guest has let the monitor go. Its own thread notes what it waits for, a moment later.
                 while "(guest): waiting" in monitor.who():
                     time.sleep(0.001)
                 self.assertRegex(monitor.who(),
@@ -136,7 +136,7 @@ class Telling(unittest.TestCase):
         run(guest, host)
 
     def test_a_run_in_which_nobody_can_go_on(self) -> None:
-        """Once all have waited so long, who waits where is told, and all waiting is ended."""
+        """Once all have waited that long, who waits where is printed, and all waiting is ended."""
         monitor, stopped, told = monk.Monitor("PB", seats=3, patience=PATIENCE), [], io.StringIO()
         conditions = [monitor.condition("tea"), monitor.condition("cups")]
 
@@ -161,7 +161,7 @@ class Telling(unittest.TestCase):
         self.assertEqual(told.getvalue().count("Each seat that is taken waits, so nobody can go on"), 1)
 
     def test_a_run_in_which_somebody_can_go_on(self) -> None:
-        """One that waits long is told of once, and the run goes on."""
+        """A thread that waits long is reported once, and the run goes on."""
         monitor, told = monk.Monitor("PNB", seats=3, patience=PATIENCE), io.StringIO()
         tea = monitor.condition("tea")
 
@@ -216,7 +216,7 @@ class Telling(unittest.TestCase):
         self.assertGreater(len(legal), 20)
 
     def test_seats_that_are_lost(self) -> None:
-        """At the end of a program the history is kept as well. So it is of the first ten seats."""
+        """At the end of a program the history is kept as well, for the first ten seats that are lost."""
         script = ("import monk\nfor _ in range(12):\n    monitor = monk.Monitor('PB')\n    monitor.acquire()\n")
         with tempfile.TemporaryDirectory() as folder:
             setting = {**os.environ, "TMPDIR": folder, "PYTHONPATH": os.path.join(os.path.dirname(HERE), "python")}

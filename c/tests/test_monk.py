@@ -1,8 +1,8 @@
 """The library for Python: every kind, seats that come back, exceptions inside a visit, a run that hangs, many threads,
-threads that end inside, numbers out of range, the child of a fork, looks at a run (looks.py), what is told
+threads that end inside, numbers out of range, the child of a fork, looks at a run (looks.py), what it says
 (telling.py), interrupts (interrupts.py) and scenes (scenes.py).
 
-MONK_LIBRARY names the library that is tried, and MONK the program that audits."""
+MONK_LIBRARY names the library that is tested, and MONK the program that audits."""
 
 from __future__ import annotations
 
@@ -45,7 +45,7 @@ def run(threads: list[threading.Thread]) -> None:
 
 
 class NoLibrary:
-    """Stands for the library in a process that has none: whoever asks it ends the process."""
+    """Stands for the library in a process that has none: a call to it ends the process."""
 
     def __getattr__(self, name: str) -> None:
         os._exit(3)
@@ -240,7 +240,7 @@ class Endings(unittest.TestCase):
         os.remove(str(told[0].message).split()[-1])
 
     def test_the_child_of_a_fork(self) -> None:
-        """Its finalizers call nothing of the library, which isn't for it, and tell nothing."""
+        """Its finalizers call nothing in the library, which isn't for it, and print nothing."""
         monitor = made("PB")
         spare = monitor.seat()
         monitor.acquire()
@@ -265,7 +265,7 @@ class Endings(unittest.TestCase):
                 self.assertRaises(monk.NotNow, monitor.release)
 
     def test_a_release_after_the_way_out(self) -> None:
-        """A signal that leads out is a way out, and the release behind it is taken once."""
+        """A signal that leads out is a way out, and the release after it is taken once."""
         for kind in monk.KINDS:
             with self.subTest(kind):
                 monitor = made(kind)

@@ -6,7 +6,7 @@ enum { MOST_THREADS = 32, EVENTS_OF_A_VISIT = 2 };
 
 static monk_monitor *monitor;
 static pthread_barrier_t line;
-static long visits_of_each, count;      /* count: touched inside alone */
+static long visits_of_each, count;      /* count: touched only inside */
 
 static void *play(void *unused) {
     monk_seat *s;

@@ -12,7 +12,7 @@ WRONG_WITH_IF = ["NPNB", "NPQB", "NPIR"]
 
 
 def scene(answer: Any, putters: int = 1, takers: int = 1, items: int = 1) -> Callable[[], Scene]:
-    """Putters with so many items each, and takers. There is never more than one item, and each arrives once."""
+    """Putters with `items` items each, and takers. There is never more than one item, and each arrives once."""
     def made() -> Scene:
         box, got = types.SimpleNamespace(items=[]), []
         put, take = answer.procedures(box)

@@ -1,6 +1,6 @@
 """Exercise 1: a buffer of one place. Fill in the two procedures, then run: python3 check.py skeleton.py
 
-A monitor's procedure is a generator. It yields its calls, and what stands between two yields nobody can interrupt:
+A monitor's procedure is a generator. It yields its calls, and nobody can interrupt what is between two yields:
 
     yield enter()    yield leave()    yield wait("item", lambda: box.items)    yield signal("item")
 

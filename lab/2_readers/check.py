@@ -8,7 +8,7 @@ from typing import Any, Callable, List
 from monk import Scene
 from monk.lab import Check, holds, is_so, main
 
-# Random orders of a kind, where all would be too many.
+# Random orders of a kind, if all would be too many.
 DICE = 100
 
 

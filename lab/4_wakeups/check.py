@@ -19,7 +19,7 @@ def put_and_take(program: Any) -> Callable[[], Scene]:
 
 
 def gate_with(guests: int) -> Callable[[Any], Callable[[], Scene]]:
-    """So many guests and a porter. The gate is open at the end, and nobody goes through before."""
+    """That number of guests, and a porter. The gate is open at the end, and nobody goes through before."""
     def of(program: Any) -> Callable[[], Scene]:
         def made() -> Scene:
             gate = types.SimpleNamespace(is_open=False)

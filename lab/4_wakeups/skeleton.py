@@ -1,6 +1,6 @@
 """Exercise 4: lost wake-ups. Run: python3 check.py skeleton.py
 
-Three programs stand in given.py, each with a mistake. First write down under which kinds each goes wrong. Then copy
+Three programs are in given.py, each with a mistake. First write down under which kinds each goes wrong. Then copy
 each to here, in place of its import, and mend it, so that it goes right under every kind. Change how it waits and
 signals, and not what it does to the data."""
 

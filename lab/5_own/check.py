@@ -7,12 +7,12 @@ from typing import Any, List
 from monk import KINDS, compare
 from monk.lab import Check, Verdict, breaks, holds, is_so, main
 
-# Random orders of a kind, where all would be too many.
+# Random orders of a kind, if all would be too many.
 DICE = 100
 
 
 def breaks_its_invariant(answer: Any) -> Check:
-    """Under the first kind that is named. So the invariant isn't one that always holds."""
+    """The slip breaks the invariant under the first kind that is named. So the invariant doesn't hold always."""
     def look() -> Verdict:
         found = compare(answer.slip, answer.WRONG_WITH_SLIP[:1], orders=DICE)
         faults = [f"{it.kind}: {it.example.fault}, after event {it.example.at}" for it in found.findings.values()]

@@ -1,5 +1,5 @@
-"""An answer to exercise 5: a car park of one place. The slip is an `if`: a car that was told of the place doesn't
-look again."""
+"""An answer to exercise 5: a car park of one place. The slip is an `if`: a car that was signalled doesn't look
+again."""
 
 import types
 

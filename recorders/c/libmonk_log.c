@@ -5,17 +5,17 @@
        MONK_LOG=PREFIX LD_PRELOAD=./libmonk_log.so PROGRAM ..
 
    When the program ends, the logs are written into PREFIX.1, PREFIX.2, .. (no file is written over), one for each mutex
-   with a wait, and beside each the names in it, PREFIX.1.names. The last line on standard error tells what was seen. A
-   child that is forked writes PREFIX.PID.1, .. . A line is written by the thread that holds the mutex. So the lines
-   stand in the order in which things happened. Signals by other threads need a lock for that, and so do the lines of
-   waits: one of the recorder's own (monk_outside.h). MONK_OBJECT is the end of the first line, `buffer 1` if it isn't
-   set. After MONK_SECONDS the logs are written and the program is ended with status 124, for programs that hang. With
+   with a wait, and beside each the names in it, PREFIX.1.names. The last line on standard error says what was seen. A
+   child that is forked writes PREFIX.PID.1, .. . The thread that holds the mutex writes a line. So the lines have the
+   order in which things happened. For that, signals by other threads and the lines of waits need a lock of the
+   recorder's own (monk_outside.h). MONK_OBJECT is the end of the first line, `buffer 1` if it isn't set. After
+   MONK_SECONDS the logs are written and the program is ended with status 124, for programs that hang. With
    MONK_SHAKE=SEED threads let others go first at random.
 
    The parts: monk_order.h, locks; monk_memory.h, what is known of an address; monk_sites.h, where in the program a
-   call stands; monk_known.h, threads, mutexes and conditions; monk_lines.h, the lines; monk_outside.h, signals by
-   threads that don't hold the mutex; monk_files.h and monk_ends.h, how all are written at the end; monk_real.h, the
-   functions behind these; monk_shake.h. What the recorder can't see is told in recorders/README.md. */
+   call is; monk_known.h, threads, mutexes and conditions; monk_lines.h, the lines; monk_outside.h, signals by threads
+   that don't hold the mutex; monk_files.h and monk_ends.h, how all are written at the end; monk_real.h, the system's
+   functions; monk_shake.h. recorders/README.md says what the recorder can't see. */
 #define _GNU_SOURCE
 #include "monk_ends.h"
 
@@ -47,7 +47,7 @@ static inline int holds(struct thread *thread, struct monitor *m) {
     return thread && m && atomic_load_explicit(&m->owner, memory_order_relaxed) == thread;
 }
 
-/* A mutex that its thread has locked already is entered but once. */
+/* A mutex that its thread has locked already is entered only once. */
 static inline int entered(const void *mutex, int result, unsigned site) {
     if (result && result != EOWNERDEAD)
         return result;
@@ -68,7 +68,7 @@ static inline int entered(const void *mutex, int result, unsigned site) {
     return result;
 }
 
-/* Mostly it is the one that was locked last, which need not be looked for. */
+/* Mostly it is the mutex that was locked last, which needn't be looked for. */
 static inline void leave(const void *mutex, unsigned site) {
     struct thread *thread = me;
     struct monitor *m = thread && thread->depth ? thread->held[thread->depth - 1] : 0;
@@ -80,7 +80,7 @@ static inline void leave(const void *mutex, unsigned site) {
     let_go(m, thread);
 }
 
-/* ---- acts, which the program tells (monk_log.h) */
+/* ---- acts, which the program reports (monk_log.h) */
 
 static void tell_act(struct monitor *m, struct act it) {
     if (holds(me, m))
@@ -98,9 +98,9 @@ void monk_log_act_of(const void *mutex, unsigned code, unsigned arg, unsigned lo
     tell_act(monitor_of(mutex, site), (struct act){code, arg, site, reply});
 }
 
-/* ---- what stands in place of the functions of pthreads and C11 for mutexes */
+/* ---- what replaces the functions of pthreads and C11 for mutexes */
 
-/* Calls the function behind, between what has to be told before and after. */
+/* Calls the system's function, between what has to be noted before and after. */
 #define LOCKS(name, field, parameters, arguments) \
     int name parameters {                               \
         init();                                         \
@@ -167,7 +167,7 @@ struct wait {
     const struct timespec *until;
     clockid_t clock;
     struct monitor *monitor;
-    struct condition *condition; /* null where there is no memory for what is known */
+    struct condition *condition; /* null if there is no memory for what is known */
     struct thread *thread;
     int times;
     size_t before; /* how long the log was */
@@ -188,8 +188,8 @@ static int call_wait(const struct wait *it) {
     }
 }
 
-/* For a line of a wait: it is written while the condition's order is held, so that it stands on the right side of
-   each signal. Whether the order was got; a log that has to go on without it ends. */
+/* Begins a line of a wait: it is written while the condition's order is held, so that it is on the right side of each
+   signal. Returns whether the order was got; a log that doesn't get it ends. */
 static int begin_line(struct condition *c, struct log *log) {
     int has_order = take_order(&c->order);
     if (log && !has_order)
@@ -292,9 +292,9 @@ static inline struct monitor *waited_with(struct condition *c) {
     return m && atomic_load_explicit(&c->of, memory_order_relaxed) == m->known.serial ? m : 0;
 }
 
-/* A signal by a thread that doesn't hold the mutex, or of a condition on which nobody has waited yet. Then the mutex
-   isn't known: it is taken for the one that the thread locked last. Gives the condition, whose order is held until
-   the signal is sent; or null. */
+/* A signal by a thread that doesn't hold the mutex, or on a condition on which nobody has waited yet. In the second
+   case the mutex isn't known, and the one that the thread locked last is taken. Returns the condition, whose order is
+   held until the signal is sent; or null. */
 SELDOM static struct condition *tell_in_order(struct condition *c, struct thread *thread, enum verb verb,
     unsigned site) {
     if (is_closed())
@@ -312,7 +312,7 @@ SELDOM static struct condition *tell_in_order(struct condition *c, struct thread
     return c;
 }
 
-/* Gives a condition whose order is to be let go when the signal is sent, or null. */
+/* Returns a condition whose order is to be let go when the signal is sent, or null. */
 static struct condition *tell(enum verb verb, const void *cond, unsigned site) {
     init();
     shake();

@@ -80,7 +80,7 @@ static int count_waits(void) {
     return waits;
 }
 
-/* No signal is noted while its log's order is held. A handler of a signal doesn't wait for what its thread may hold. */
+/* No signal is noted while its log's order is held. A signal handler doesn't wait for what its thread may hold. */
 static void write_in_order(struct log *log, const char *prefix) {
     int has_order = !busy && take_order(&log->order);
     seat_outsiders(log);
@@ -107,8 +107,8 @@ static void write_all(void) {
     say_last(prefix, waits);
 }
 
-/* Whoever comes second waits until the logs are written. What the writing itself gives rise to, a full disk or a
-   reader that is gone, is not to end the program. */
+/* A thread that comes second waits until the logs are written. Signals that the writing itself causes, by a full disk
+   or a reader that is gone, must not end the program. */
 static void finish(void) {
     int state = RUNNING;
     sigset_t all, before;
@@ -134,7 +134,7 @@ static void finish(void) {
     pthread_sigmask(SIG_SETMASK, &before, 0);
 }
 
-/* ---- signals that end a program which asks for nothing else */
+/* ---- signals that end a program that asks for nothing else */
 
 static const int ENDING[] = {SIGINT, SIGTERM};
 
@@ -164,7 +164,7 @@ static void watch_signals(void) {
             end_by_default(ENDING[i]);
 }
 
-/* The program is told that nothing was changed. */
+/* The program sees its own settings, as if nothing had been changed. */
 int sigaction(int number, const struct sigaction *new, struct sigaction *old) {
     init();
     int is_default = new && !(new->sa_flags & SA_SIGINFO) && new->sa_handler == SIG_DFL;
@@ -204,7 +204,7 @@ pid_t setsid(void) {
     return real.setsid();
 }
 
-/* Sleeps again where it is woken early, as all threads are by setgid. */
+/* Sleeps again if it is woken early, as setgid wakes all threads. */
 static void *watch_time(void *end) {
     while (clock_nanosleep(CLOCK_MONOTONIC, TIMER_ABSTIME, end, 0) == EINTR)
         ;
@@ -212,7 +212,7 @@ static void *watch_time(void *end) {
     _exit(STATUS_LATE);
 }
 
-/* The thread for this takes no signal: each is meant for a thread of the program's. */
+/* The thread for this takes no signal: each is meant for a thread of the program. */
 static void end_after(double seconds) {
     static struct timespec end;
     sigset_t all, before;

@@ -1,5 +1,5 @@
-/* How logs are written into files, and what is said at the end. Part of libmonk_log.c. A signal may be what ends the
-   program, so nothing here asks for memory or writes through stdio. */
+/* How logs are written into files, and what is said at the end. Part of libmonk_log.c. A signal may end the program,
+   so nothing here asks for memory or writes through stdio. */
 #ifndef MONK_FILES_H
 #define MONK_FILES_H
 
@@ -45,7 +45,7 @@ static void keep_errors(void) {
         errors.copy = fcntl(STDERR_FILENO, F_DUPFD_CLOEXEC, HIGH_FILE);
 }
 
-/* A program that goes on in the background must not keep its caller waiting for the end of this file. */
+/* A program that goes on in the background must not keep its caller waiting for this file's end. */
 static void drop_errors(void) {
     if (is_errors(errors.copy))
         close(errors.copy);
@@ -67,7 +67,7 @@ __attribute__((format(printf, 1, 2))) static void say(const char *format, ...) {
 
 struct page {
     int file, error;
-    off_t whole; /* what stands in the file */
+    off_t whole; /* what is in the file */
     size_t length;
     char text[PAGE];
 };
@@ -95,7 +95,7 @@ __attribute__((format(printf, 2, 3))) static void print(struct page *page, const
     page->length += length < LONGEST ? length : LONGEST - 1;
 }
 
-/* Lines that were not written as a whole are taken away again. */
+/* Lines that were not written as a whole are removed again. */
 static void close_page(struct page *page, const char *name) {
     flush(page);
     if (page->error && (!page->whole || ftruncate(page->file, page->whole)))
@@ -105,9 +105,9 @@ static void close_page(struct page *page, const char *name) {
     close(page->file);
 }
 
-/* ---- the names that stand beside a log */
+/* ---- the names that are written beside a log */
 
-/* Where an address stands: the name of a symbol, or the file and how far in. */
+/* Where an address is: the name of a symbol, or the file and the offset in it. */
 static void print_place(struct page *page, const void *address) {
     Dl_info info;
     if (!address || !dladdr(address, &info) || !info.dli_fname) {
@@ -167,7 +167,7 @@ static void put_text(struct page *page, const char *text) {
         page->text[page->length++] = *text++;
 }
 
-/* Behind a space. */
+/* After a space. */
 static void put_number(struct page *page, unsigned long number) {
     char digits[32];
     int count = 0;
@@ -184,10 +184,10 @@ static unsigned part_of(uint32_t word, int from, int to) { return word << (BITS 
 
 static enum verb verb_of(uint32_t word) { return part_of(word, 0, SEAT_AT); }
 
-/* What is done with a line, given its words. */
+/* What is to be done with a line, given its words. */
 typedef void visit(struct page *page, const uint32_t *at);
 
-/* (There may be a million of them, for which printf takes too long.) */
+/* (There may be a million lines, for which printf takes too long.) */
 static void print_line(struct page *page, const uint32_t *at) {
     enum verb verb = verb_of(*at);
     put_text(page, verbs[verb]);
@@ -208,8 +208,8 @@ static void visit_line(struct page *page, const uint32_t *at, visit *one) {
     one(page, at);
 }
 
-/* The signals from outside from the given one on that have their place at that of a line; gives how many there are
- * by then. */
+/* Visits the signals from outside, from the given one on, that come before the line at that place; returns how many
+ * there are up to it. */
 static size_t visit_outside(struct page *page, struct log *log, size_t from, size_t place, visit *one) {
     for (; from < log->noted && log->outside[from].place <= place; from++) {
         struct outside it = log->outside[from];
@@ -232,13 +232,13 @@ static void visit_lines(struct page *page, struct log *log, visit *one) {
 
 /* ---- where in the program the lines come from */
 
-/* The numbers that places have beside a log: in the order in which its lines come from there first. */
+/* The numbers that places have beside a log, in the order in which its lines first come from them. */
 static struct {
     unsigned count;
     uint16_t of[SITES];
 } numbers;
 
-/* The file in which the call stands, and how far in, as addr2line counts. */
+/* The file in which the call is, and the offset in it, as addr2line counts. */
 static void print_call(struct page *page, uintptr_t call) {
     static char program[PREFIX];
     Dl_info info;
@@ -253,7 +253,7 @@ static void print_call(struct page *page, uintptr_t call) {
     print(page, "%s+0x%zx\n", name, (size_t)(call - object->l_addr));
 }
 
-/* Of a place that has none yet. (The address to which a call returns may be that of the next line.) */
+/* Numbers a place that has no number yet. (The address to which a call returns may belong to the next line.) */
 static void number_site(struct page *page, const uint32_t *at) {
     unsigned site = part_of(*at, SITE_AT, BITS);
     if (!site || numbers.of[site])

@@ -29,10 +29,10 @@ enum verb { ENTER, RESUME, LAPSE, LEAVE, WAIT, SIGNAL, BROADCAST, ACT };
 
 struct monitor;
 
-/* A thread; one that begins when it has ended may have its place. */
+/* A thread; after its end a new thread may take its place. */
 struct thread {
     struct known known;
-    unsigned long number, dice; /* which one it is, and where its dice stand (monk_shake.h) */
+    unsigned long number, dice; /* which one it is, and the state of its dice (monk_shake.h) */
     unsigned calls_left, is_slow;
     struct monitor *held[HELD]; /* the mutexes that it holds, the last at the end; some may be another's by now */
     struct monitor *waits_with; /* the mutex of the wait that it is in */
@@ -42,15 +42,15 @@ struct thread {
 
 struct condition {
     struct known known;
-    _Atomic(struct monitor *) monitor; /* with which it was last waited on */
-    atomic_ulong of;                   /* and the serial of that */
+    _Atomic(struct monitor *) monitor; /* the one with which it was last waited on */
+    atomic_ulong of;                   /* and that one's serial */
     atomic_int uses;                   /* by its place in the tree, and by logs */
     atomic_int is_gone;
     /* Held for each line of a wait on it, and for a signal from outside together with its call. */
     atomic_int order;
 };
 
-/* A signal by a thread that doesn't hold the mutex: it stands before the word of the log that has its place. */
+/* A signal by a thread that doesn't hold the mutex: it comes before the word of the log at its place. */
 struct outside {
     struct thread *thread;
     uint32_t place;
@@ -58,20 +58,20 @@ struct outside {
     uint16_t site;
 };
 
-/* The lines of a mutex. Changed by the thread that holds the mutex, but for what is atomic, and what has a lock. A
-   line is one word. An act has four words more: its code, what it was given, and what it replied. */
+/* The lines of a mutex. The thread that holds the mutex changes them, except what is atomic, and what has a lock. A
+   line is one word. An act has four more words: its code, its argument, and its reply. */
 struct log {
     struct known known;
     struct log *next;
     uint32_t *words;
     atomic_size_t length;
-    size_t room, end; /* where the lines end that are written */
+    size_t room, end; /* the end of the lines that are written */
     struct thread *seats[SEATS];
     int nconds, nseats, latest, latest_cond; /* the seat and the condition that were asked for last */
     int waits, waiting;            /* how many there were, and are */
     _Atomic(const char *) stopped; /* why no more lines are written, if so */
     atomic_int left_out;           /* signals from outside that it lacks */
-    atomic_int order;              /* held by who changes what follows, or reads it without the mutex */
+    atomic_int order;              /* held to change what follows, or to read it without the mutex */
     struct condition *conds[CONDS];
     struct outside *outside;
     size_t noted, outside_room;
@@ -91,10 +91,10 @@ struct monitor {
 static struct pool threads = {sizeof(struct thread), 0}, monitors = {sizeof(struct monitor), 0};
 static struct pool conditions = {sizeof(struct condition), 0}, logs = {sizeof(struct log), 0};
 static _Atomic(struct log *) all_logs;
-static struct known *idle_logs; /* of those, the ones that no mutex has */
+static struct known *idle_logs; /* the logs that no mutex has */
 static struct {
     atomic_int mutexes, stray_acts, without_memory;
-    atomic_int left_out; /* signals from outside that are of no log */
+    atomic_int left_out; /* signals from outside that belong to no log */
     atomic_ulong threads;
 } seen;
 /* no line is written any more */
@@ -122,8 +122,8 @@ static void thread_ends(void *it) {
     give(&threads, &thread->known);
 }
 
-/* Libraries that begin before this one lock mutexes, and the first key is theirs: so the key is made before it is
- * used. */
+/* Libraries that begin before this one lock mutexes, and the first key is theirs. So the key is made only when it is
+ * first needed. */
 static void make_key(void) {
     if (!has_key)
         has_key = !pthread_key_create(&end_of_thread, thread_ends);
@@ -151,7 +151,7 @@ static void release(struct condition *it) {
         give(&conditions, &it->known);
 }
 
-/* Lines without a wait tell nothing; others are kept to the end. */
+/* Lines without a wait say nothing; others are kept to the end. */
 static void close_log(struct monitor *m) {
     struct log *log = m->log;
     atomic_store(&m->log, 0);
@@ -173,7 +173,7 @@ static void close_log(struct monitor *m) {
     unlock_memory();
 }
 
-/* What stands at the place of an address is not, or no longer, what is there. */
+/* Puts `made` in place of `old`, or gives it back if `old` is gone. Returns what is there then, or null. */
 static struct known *replace(place *at, void *old, void *made, struct pool *pool) {
     if (!made) {
         atomic_fetch_add(&seen.without_memory, 1);
@@ -190,7 +190,7 @@ SELDOM static struct monitor *meet_mutex(place *at, void *old, const void *mutex
     return it && it->address == mutex ? (struct monitor *)it : 0;
 }
 
-/* Null where there is no memory. */
+/* Null if there is no memory. */
 static inline struct monitor *monitor_of(const void *mutex, unsigned site) {
     place *at = place_of(mutex);
     if (!at)
@@ -215,7 +215,7 @@ static inline struct condition *condition_of(const void *cond, unsigned site) {
     return there && there->address == cond ? (struct condition *)there : meet_condition(at, there, cond, site);
 }
 
-/* A mutex that is made or destroyed: what was known of it is of another one. */
+/* A mutex is made or destroyed: what was known of it belongs to another one. */
 static void forget_mutex(const void *mutex) {
     place *at = place_of(mutex);
     struct monitor *m = at ? atomic_load(at) : 0;

@@ -14,7 +14,7 @@ static inline int is_stopped(struct log *log) { return atomic_load_explicit(&log
 
 static inline int is_closed(void) { return atomic_load_explicit(&closed, memory_order_relaxed); }
 
-/* As far as the holder of the mutex sees it; another thread sees it so if a lock orders the two. */
+/* As the holder of the mutex sees it; another thread sees the same if a lock orders the two. */
 static inline size_t length_of(struct log *log) { return atomic_load_explicit(&log->length, memory_order_relaxed); }
 
 static inline void append(struct log *log, uint32_t word) {
@@ -44,7 +44,7 @@ static inline int seat_of(struct log *log, struct thread *thread) {
     return log->seats[log->latest] == thread ? log->latest : find_seat(log, thread);
 }
 
-/* While the log's order is held. The number of a condition that is gone is used again where there is no other. */
+/* While the log's order is held. The number of a condition that is gone is used again if there is no other. */
 static int new_number(struct log *log, struct condition *c) {
     int number = log->nconds < CONDS ? log->nconds++ : 0;
     while (number < CONDS && log->conds[number] && !atomic_load(&log->conds[number]->is_gone))
@@ -94,7 +94,7 @@ SELDOM static int grow(struct log *log) {
 
 static inline int has_room(struct log *log, size_t more) { return length_of(log) + more <= log->room || grow(log); }
 
-/* What stands before a line that isn't written is a log too. */
+/* The lines before one that isn't written are a log too. */
 static inline void put(struct log *log, struct thread *thread, enum verb verb, unsigned number, unsigned site) {
     if (!log || is_stopped(log) || is_closed())
         return;
@@ -103,7 +103,7 @@ static inline void put(struct log *log, struct thread *thread, enum verb verb, u
         append(log, verb | seat << SEAT_AT | number << NUMBER_AT | site << SITE_AT);
 }
 
-/* An operation on what a mutex guards, as it is told. */
+/* An operation on what a mutex guards, as it is reported. */
 struct act {
     unsigned code, arg, site;
     unsigned long reply;
@@ -141,7 +141,7 @@ SELDOM static struct log *new_log(const struct monitor *m) {
     return log;
 }
 
-/* What a mutex has of the process before a fork is not of this one. */
+/* What a mutex has from the process before a fork doesn't belong to this one. */
 static inline void refresh(struct monitor *m) {
     if (atomic_load_explicit(&m->process, memory_order_relaxed) == process)
         return;
@@ -150,8 +150,8 @@ static inline void refresh(struct monitor *m) {
     atomic_fetch_add_explicit(&seen.mutexes, 1, memory_order_relaxed);
 }
 
-/* Memory may be that of another mutex, though nobody has destroyed the one before, as in C++. It is taken for
-   another where all the conditions of a log were destroyed, and nobody waits. */
+/* The memory may be that of another mutex by now, though nobody has destroyed the one before, as in C++. It is taken
+   for another if all the conditions of a log were destroyed, and nobody waits. */
 SELDOM static void renew(struct monitor *m) {
     struct log *log = m->log;
     atomic_store(&m->lost_one, 0);
@@ -163,7 +163,7 @@ SELDOM static void renew(struct monitor *m) {
     close_log(m);
 }
 
-/* The log of a mutex that its caller holds; it begins where more than coming in and leaving is told. */
+/* The log of a mutex that its caller holds; it begins when more than coming in and leaving is reported. */
 SELDOM static struct log *begin_log(struct monitor *m, struct thread *thread) {
     struct log *log = new_log(m);
     if (!log)

@@ -1,5 +1,5 @@
-/* Memory of the recorder's own, and what is known of an address. Part of libmonk_log.c. An allocator may have a
-   mutex of its own, whose lines are written while it is held; so nothing here calls malloc. */
+/* The recorder's own memory, and what is known of an address. Part of libmonk_log.c. An allocator may have a mutex of
+   its own, whose lines are written while it is held. So nothing here calls malloc. */
 #ifndef MONK_MEMORY_H
 #define MONK_MEMORY_H
 
@@ -17,22 +17,22 @@
 
 enum {
     CHUNK = 1 << 20,   /* bytes that are asked for at once */
-    LARGE = 1 << 16,   /* what is as large is asked for by itself */
+    LARGE = 1 << 16,   /* a block as large as this is asked for by itself */
     PAGE_BYTES = 4096,
-    CLASSES = 17,      /* of sizes below, each twice the one before */
+    CLASSES = 17,      /* of smaller sizes, each twice the one before */
     GRAIN_BITS = 5,    /* a mutex and a condition have more bytes than a grain, so at most one begins in it */
     LEVEL_BITS = 14,   /* three levels of a tree over grains, which is what 47 bits of an address need */
     LEVELS = 3,
     LEVEL = 1 << LEVEL_BITS
 };
 
-/* Begins what is known of a mutex or a condition. Its memory never becomes that of another kind of thing, since a
-   signal may look at it while another thread gives it back. */
+/* The beginning of what is known of a mutex or a condition. Its memory is never used for another kind of thing,
+   because a signal may look at it while another thread gives it back. */
 struct known {
     const void *address;
-    unsigned site; /* where it was first told of (monk_sites.h) */
+    unsigned site; /* the call that first named it (monk_sites.h) */
     void *next_free;
-    unsigned long serial; /* of all that were ever known: another one at its address has another */
+    unsigned long serial; /* unlike that of all others, also of a later one at the same address */
 };
 
 struct pool {
@@ -84,7 +84,7 @@ static int class_of(size_t size) {
     return class;
 }
 
-/* Memory for lines: its size is a power of two. Null where there is none. */
+/* Memory for lines: its size is a power of two. Null if there is none. */
 static void *take_block(size_t size) {
     if (size >= LARGE)
         return map(size);
@@ -110,8 +110,8 @@ static void give_block(void *block, size_t size) {
     unlock_memory();
 }
 
-/* A larger block with what the smaller one has, which is given back. Its pages are asked for at once, since to meet
-   each when a line is written there takes longer than the line. Null where there is no memory. */
+/* A larger block with what the smaller one has, which is given back. Its pages are asked for at once, because a first
+   touch of each when a line is written takes longer than the line. Null if there is no memory. */
 static void *grow_block(void *block, size_t used, size_t size, size_t larger) {
     void *grown = size >= LARGE ? mremap(block, size, larger, MREMAP_MAYMOVE) : take_block(larger);
     if (!grown || grown == MAP_FAILED)
@@ -128,7 +128,7 @@ static void *grow_block(void *block, size_t used, size_t size, size_t larger) {
     return grown;
 }
 
-/* One of a pool's, all zero but for what is given and its serial. Null where there is no memory. */
+/* A piece of a pool, all zero except what is given and its serial. Null if there is no memory. */
 static void *take(struct pool *pool, const void *address, unsigned site) {
     lock_memory();
     struct known *it = pool->free;
@@ -152,8 +152,8 @@ static void give(struct pool *pool, struct known *it) {
     unlock_memory();
 }
 
-/* ---- what is known of an address: a tree whose leaves have a place for each grain; it takes as long whatever else
- * is known */
+/* ---- what is known of an address: a tree whose leaves have a place for each grain; a look-up takes as long whatever
+ * else is known */
 
 typedef _Atomic(void *) place;
 static place root[LEVEL];
@@ -171,7 +171,7 @@ SELDOM static void *below(place *at) {
     return found;
 }
 
-/* The place of an address, or null where there is no memory, or addresses are longer than these. */
+/* The place of an address, or null if there is no memory, or if the address is longer than 47 bits. */
 static inline place *place_of(const void *address) {
     uintptr_t grain = (uintptr_t)address >> GRAIN_BITS;
     if (grain >> LEVELS * LEVEL_BITS)

@@ -1,4 +1,4 @@
-/* The recorder's own small locks, and what a signal handler has to know of them. Part of libmonk_log.c. */
+/* The recorder's own small locks, and what a signal handler has to know about them. Part of libmonk_log.c. */
 #ifndef MONK_ORDER_H
 #define MONK_ORDER_H
 
@@ -11,16 +11,16 @@ enum {
     TRIES = 4000,           /* before a thread sleeps: a signal that wakes somebody takes a microsecond or two */
     NAPS = 10000,           /* before it gives up, which is about a second */
     NAP_NANOSECONDS = 20000,
-    STUCK = -1              /* in place of the process: somebody gave up; so others needn't wait as long */
+    STUCK = -1              /* in place of the process: somebody gave up, so others needn't wait as long */
 };
 
-/* In each thread, without a call that might ask for memory. */
+/* For a variable of each thread, without a call that might ask for memory. */
 #define OF_THREAD static __thread __attribute__((tls_model("initial-exec")))
 
-/* What is seldom called stands by itself, so that the usual way keeps no registers for it. */
+/* A function of its own for what is seldom called, so that the usual way keeps no registers for it. */
 #define SELDOM __attribute__((noinline, cold))
 
-/* How many of these locks the thread has or waits for. A signal handler that finds some must not ask for another. */
+/* How many of these locks the thread has or waits for. A signal handler that finds any must not ask for another. */
 OF_THREAD volatile int busy;
 /* Which process this is, of those that a fork made one after the other. */
 static int process;
@@ -66,7 +66,7 @@ SELDOM static int await_order(atomic_int *order) {
     return 0;
 }
 
-/* Whether the caller has the lock: it gives up where the one who has it was stopped, or left by a jump out of a
+/* Whether the caller has the lock. It gives up if the thread that has it was stopped, or left by a jump out of a
  * signal handler. */
 static inline int take_order(atomic_int *order) {
     get_busy();

@@ -1,6 +1,6 @@
-/* Signals by threads that don't hold the mutex. Part of libmonk_log.c. Such a signal has to stand behind the `wait`
-   of a thread that it serves and before its `resume`. So the condition's order is held while the signal is noted and
-   sent, and while these lines are written. The signal is no line yet, since other threads write lines meanwhile
+/* Signals by threads that don't hold the mutex. Part of libmonk_log.c. Such a signal has to come after the `wait` of
+   a thread that it serves and before its `resume`. So the condition's order is held while the signal is noted and
+   sent, and while these lines are written. The signal is no line yet, because other threads write lines meanwhile
    without any lock. It is noted with its place, and gets its seat when the log is written. So a thread that is never
    inside takes no seat from another. */
 #ifndef MONK_OUTSIDE_H
@@ -56,12 +56,12 @@ static void note_in(struct log *log, struct monitor *m, struct condition *c, str
     *noted = (struct outside){thread, (uint32_t)length_of(log), (uint8_t)it.verb, (uint8_t)number, (uint16_t)it.site};
 }
 
-/* The log of a mutex that isn't held, or null. (What a mutex has from before a fork is not of this process.) */
+/* The log of a mutex that isn't held, or null. (What a mutex has from before a fork isn't this process's.) */
 static struct log *log_beside(struct monitor *m) {
     return m && atomic_load(&m->process) == process ? atomic_load(&m->log) : 0;
 }
 
-/* A lock that is needed can't be got: a log that can't have the signal ends before it. */
+/* A lock that is needed can't be got. A log that can't have the signal ends before it. */
 static void give_up(struct log *log) {
     if (log)
         stop(log, NO_ORDER);
@@ -84,8 +84,8 @@ static void note(struct monitor *m, struct condition *c, struct thread *thread, 
     }
 }
 
-/* A wait that was refused has not let the mutex go, so its line is still the last. Signals that came meanwhile stand
- * before it. */
+/* A wait that was refused has not let the mutex go, so its line is still the last. Signals that came meanwhile are
+ * put before it. */
 SELDOM static void take_back(struct log *log, size_t before) {
     if (!take_order(&log->order)) {
         stop(log, NO_ORDER);
@@ -106,7 +106,7 @@ static int seat_at_the_end(struct log *log, const struct thread *thread) {
     return -1;
 }
 
-/* Whether the thread has a seat, or gets one of those that are left. */
+/* Whether the thread has a seat, or gets one that is left. */
 static int gets_seat(struct log *log, struct thread *thread) {
     if (seat_at_the_end(log, thread) >= 0)
         return 1;

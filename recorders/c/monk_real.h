@@ -1,4 +1,4 @@
-/* The functions that stand behind those of the recorder. Part of libmonk_log.c. */
+/* The system's functions, which those of the recorder replace. Part of libmonk_log.c. */
 #ifndef MONK_REAL_H
 #define MONK_REAL_H
 
@@ -32,9 +32,9 @@ static struct {
 
 static atomic_int is_ready;
 
-/* A condition of glibc on these machines has an old form of the same name, which dlsym would find; but another
-   library that was loaded for the same reason as this goes first. Only of these names is a version asked for: where
-   there is none, the loader makes a message, which asks for memory, and so may lock a mutex. */
+/* On these machines glibc has an old form of conditions by the same name, which dlsym would find. But another library
+   that was loaded for the same reason as this one goes first. A version is asked for only with these names: if there
+   is none, the loader makes a message, which asks for memory, and so may lock a mutex. */
 static void *find_condition(const char *name) {
     void *next = dlsym(RTLD_NEXT, name);
 #if defined __x86_64__ || defined __i386__

@@ -7,8 +7,8 @@
 
 #include "monk_lines.h"
 
-/* A thread is slow for some calls and then fast for some, so many at most: a woken thread that is slow meets others
-   that are fast. How often in 16 it is slow, and sleeps so many nanoseconds at most; and how often in 16 it lets
+/* A thread is slow for some calls and then fast for some, at most CALLS each: a woken thread that is slow meets
+   others that are fast. In SLOW of 16 cases it is slow, and sleeps NAP nanoseconds at most; in YIELDS of 16 it lets
    others go first while it is fast. */
 enum { CALLS = 8, SLOW = 6, NAP = 1 << 18, YIELDS = 4, SIDES = 16 };
 
@@ -42,7 +42,7 @@ SELDOM static void shake_now(struct thread *thread) {
     errno = error;
 }
 
-/* Before a call that another thread may go before. */
+/* Before a call, which another thread's call may then precede. */
 static inline void shake(void) {
     struct thread *thread = shake_seed ? self() : 0;
     if (thread)

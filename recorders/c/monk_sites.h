@@ -1,9 +1,9 @@
-/* From where in the program its calls come. Part of libmonk_log.c. A place has the same number whenever a call comes
-   from there, and it is asked for without a lock. In C a call comes from where it returns to. In C++ that may be a
-   function of C++'s library, or of its headers: then its caller is meant, or the caller's caller. Where a frame ends
-   is the same at each call from the same place. So a frame is unwound once, and later its end is known. What belongs
-   to C++'s library is found out when the program starts: later nothing here asks the loader, which may hold a lock
-   of its own. */
+/* The places in the program from which its calls come. Part of libmonk_log.c. A place has the same number whenever a
+   call comes from there, and no lock is needed to ask for it. In C a call comes from the address to which it returns.
+   In C++ that may be a function of C++'s library, or of its headers: then its caller is meant, or the caller's
+   caller. A frame ends at the same distance at each call from the same place. So a frame is unwound once, and later
+   its end is known. What belongs to C++'s library is found out when the program starts: later nothing here asks the
+   loader, which may hold a lock of its own. */
 #ifndef MONK_SITES_H
 #define MONK_SITES_H
 
@@ -21,7 +21,7 @@ enum {
     SITE_BITS = 13,
     SITES = 1 << SITE_BITS, /* more than most programs have; later ones have no number */
     PROBES = 64,
-    LAST = 1,               /* in place of a step: the caller isn't asked for */
+    LAST = 1,               /* in place of a step: no further caller is asked for */
     MOST_FRAMES = 16,
     LARGEST_FRAME = 1 << 16,
     RANGES_AT_ONCE = 1 << 14
@@ -38,9 +38,9 @@ struct range {
     uintptr_t from, to;
 };
 
-/* The number of a place is where it stands here; 0 means that it has none. */
+/* The number of a place is its index here; 0 means that it has none. */
 static struct site sites[SITES];
-/* What belongs to C++'s library, and whether there is something. */
+/* What belongs to C++'s library, and whether there is such a library. */
 static struct range *ranges;
 static int range_count, is_cpp;
 
@@ -59,7 +59,7 @@ static void add_range(uintptr_t from, uintptr_t to) {
         ranges[range_count++] = (struct range){from, to};
 }
 
-/* What of a file lies in memory, to look at its symbols. */
+/* A file in memory, to look at its symbols. */
 struct image {
     const char *bytes;
     size_t size;
@@ -72,8 +72,8 @@ static int is_within(const struct image *it, size_t from, size_t size) {
 
 static int begins_with(const char *name, const char *beginning) { return !strncmp(name, beginning, strlen(beginning)); }
 
-/* Behind the beginnings of names in C++'s library, and the namespaces within it: what locks, as compilers write it.
-   (Into other functions of the headers, as that by which a thread begins, the program's own may have been put.) */
+/* After the beginnings of names in C++'s library, and the namespaces within it: what locks, as compilers write it.
+   (Other functions of the headers, as the one by which a thread begins, may have the program's own put into them.) */
 static const char *const beginnings[] = {"_ZNSt", "_ZNKSt", "_ZZNSt", "_ZSt", "3__1", "3_V2", "8__detail"};
 static const char *const lockers[] = {
     "5mutex", "12__mutex_base", "9__condvar", "11unique_lock", "10lock_guard", "11scoped_lock", "11timed_mutex",
@@ -120,7 +120,7 @@ static void add_headers(const struct image *it) {
     }
 }
 
-/* What the program and its own libraries have of C++'s headers, as far as their symbols tell. */
+/* What the program and its own libraries have of C++'s headers, as far as their symbols show. */
 static int read_object(struct dl_phdr_info *object, size_t unused, void *no_more) {
     struct stat is;
     int file = open(*object->dlpi_name ? object->dlpi_name : "/proc/self/exe", O_RDONLY | O_CLOEXEC);
@@ -152,7 +152,7 @@ static int look_for_library(struct dl_phdr_info *object, size_t unused, void *no
     return 0;
 }
 
-/* Where the loader can't tell of a frame without a lock, or where a frame isn't laid out so, no caller is asked for. */
+/* If the loader can't describe a frame without a lock, or a frame isn't laid out so, no caller is asked for. */
 static void look_for_cpp(void) {
 #ifdef __x86_64__
     dl_iterate_phdr(look_for_library, 0);
@@ -219,7 +219,7 @@ static inline unsigned find_site(uintptr_t address) {
     return atomic_load_explicit(&sites[at].address, memory_order_relaxed) == address ? at : meet_site(address, at);
 }
 
-/* Of a call whose frame ends there, where the address stands to which it returns. */
+/* The place of the caller that is meant, for a call at place `at` whose frame ends there. */
 static unsigned outer_site(unsigned at, const char *end) {
     for (int left = MOST_FRAMES; at && left > 0; left--) {
         int known = atomic_load_explicit(&sites[at].step, memory_order_relaxed);
@@ -237,7 +237,7 @@ static inline unsigned site_of(const void *address, const void *end) {
     return is_cpp ? outer_site(at, end) : at;
 }
 
-/* Where the function that has this was called. */
+/* The place from which the function that uses this was called. */
 #define CALLER site_of(__builtin_return_address(0), __builtin_dwarf_cfa())
 
 #endif

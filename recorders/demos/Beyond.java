@@ -3,7 +3,7 @@ import java.util.concurrent.locks.Condition;
 import java.util.concurrent.locks.Lock;
 
 /**
- * Forty threads, or the last of ten conditions, and a signal without the lock; then a wait for ever: Beyond FILE
+ * Forty threads, or the last of ten conditions, and a signal without the lock; then waits for ever: Beyond FILE
  * [conditions].
  */
 public final class Beyond {

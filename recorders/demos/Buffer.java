@@ -5,15 +5,15 @@ import java.util.List;
 import java.util.concurrent.TimeUnit;
 
 /**
- * A bounded buffer of Java: Buffer PREFIX RUNS STYLE, whose logs are PREFIX.0, PREFIX.1, ..
+ * A bounded buffer in Java: Buffer PREFIX RUNS STYLE. Its logs are PREFIX.0, PREFIX.1, ..
  *
  * <ul>
  *   <li>good: a ReentrantLock with two conditions, each signalled
  *   <li>fair: the same with a fair lock
  *   <li>timed: as good, with waits that run out
  *   <li>synchronized: synchronized, with notifyAll
- *   <li>if: a fault: who waited doesn't test again
- *   <li>forgotten: a fault: who takes signals nobody
+ *   <li>if: a fault: a thread that waited doesn't test again
+ *   <li>forgotten: a fault: a taker signals nobody
  * </ul>
  *
  * Putters wait on condition 0 (predicate 0 of a buffer), takers on condition 1 (predicate 1).

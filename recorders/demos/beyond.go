@@ -6,8 +6,8 @@ import (
 	"time"
 )
 
-// Forty seats, or the last of ten conditions, and a signal without the mutex; then one waits for ever: beyond FILE
-// [conditions].
+// Forty seats, or the last of ten conditions, and a signal without the mutex; then one of them waits for ever: beyond
+// FILE [conditions].
 func main() {
 	var monitor monklog.Monitor
 	var conds [10]*monklog.Cond

@@ -1,4 +1,4 @@
-// Forty seats, one after the other, or ten conditions; then one waits for ever: beyond FILE [conditions].
+// Forty seats, one after the other, or ten conditions; then one of them waits for ever: beyond FILE [conditions].
 #[path = "../rust/monk_log.rs"]
 #[allow(dead_code)]
 mod monk_log;

@@ -3,18 +3,18 @@
      good       two conditions, each signalled
      all        one condition, and broadcasts
      timed      as good, with waits that run out
-     late       signals behind the unlock
-     pair       as good, of one putter and one taker, with room for one item: no later signal makes up for a lost one
-     if         a fault: who waited doesn't test again
-     forgotten  a fault: who takes signals nobody
+     late       signals after the unlock
+     pair       as good, with one putter, one taker and room for one item: no later signal makes up for a lost one
+     if         a fault: a thread that waited doesn't test again
+     forgotten  a fault: a taker signals nobody
      single     a fault: as all, with room for one item, and signals: one may wake only a thread that can't go on
-     early      a fault: as pair, but who puts takes no lock: its signal may come between a taker's test and its wait
+     early      a fault: as pair, but a putter takes no lock: its signal may come between a taker's test and its wait
      returns    a fault: a taker returns without its unlock
      deadlock   a fault: each takes two items, one after the other, and puts them back; there are two in all
 
-   It knows nothing of the recorder but MONK_ACT, by which it tells what it did to the buffer. Condition 0 is the one
-   on which a putter waits (predicate 0 of a buffer), condition 1 the one on which a taker waits (predicate 1). With
-   early it tells no acts, since they are told under the lock. */
+   It knows nothing of the recorder except MONK_ACT, by which it reports what it did to the buffer. A putter waits on
+   condition 0 (predicate 0 of a buffer), a taker on condition 1 (predicate 1). With early it reports no acts, because
+   they are reported under the lock. */
 #include <pthread.h>
 #include <sched.h>
 #include <stdatomic.h>
@@ -37,7 +37,7 @@ static int all, timed, late, once, forgotten, single, early, returns, deadlock;
 static int is_full(void) { return count >= size; }
 static int is_empty(void) { return count == 0; }
 
-/* The condition that stands for this one. */
+/* The condition that is used in place of this one. */
 static pthread_cond_t *shared(pthread_cond_t *cond) { return all || single ? &not_full : cond; }
 
 static void wait_for_a_while(pthread_cond_t *cond) {
@@ -123,7 +123,7 @@ static void *borrower(void *unused) {
     return 0;
 }
 
-/* Gives how many putters there are. */
+/* Returns how many putters there are. */
 static int begin(const char *style) {
     int is_pair = !strcmp(style, "pair");
     all = !strcmp(style, "all");

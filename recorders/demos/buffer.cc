@@ -1,10 +1,10 @@
-/* A bounded buffer of C++, which knows nothing of the recorder but MONK_ACT: buffer STYLE
+/* A bounded buffer in C++, which knows nothing of the recorder except MONK_ACT: buffer STYLE
 
      good       notifies under the lock
      timed      waits 20 microseconds at a time
-     late       notifies behind it
-     if         a fault: who waited doesn't test again
-     forgotten  a fault: who takes notifies nobody */
+     late       notifies after it
+     if         a fault: a thread that waited doesn't test again
+     forgotten  a fault: a taker notifies nobody */
 #include <chrono>
 #include <condition_variable>
 #include <deque>

@@ -1,12 +1,12 @@
-// A bounded buffer of Go: buffer PREFIX RUNS STYLE, whose logs are PREFIX.0, PREFIX.1, ..
+// A bounded buffer in Go: buffer PREFIX RUNS STYLE. Its logs are PREFIX.0, PREFIX.1, ..
 //
 //	good       two conditions, each signalled
 //	all        one condition, and broadcasts
-//	late       signals behind the unlock
-//	if         a fault: who waited doesn't test again
-//	forgotten  a fault: who takes signals nobody
+//	late       signals after the unlock
+//	if         a fault: a goroutine that waited doesn't test again
+//	forgotten  a fault: a taker signals nobody
 //
-// Putters wait on condition 0 (predicate 0 of a buffer), takers on condition 1 (predicate 1). The recorder lies in a
+// Putters wait on condition 0 (predicate 0 of a buffer), takers on condition 1 (predicate 1). The recorder is in the
 // folder monklog of the module demo.
 package main
 
@@ -25,12 +25,12 @@ const (
 	putters = 3
 	takers  = 3
 	size    = 2
-	items   = 60 // (more than in the other languages, since goroutines overtake each other less)
+	items   = 60 // (more than in the other languages, because goroutines overtake each other less)
 	put     = 0
 	take    = 1
 	pause   = 20 * time.Microsecond
 	long    = 20 * time.Second
-	// of those that may hang
+	// for runs that may hang
 	longIfHanging = 400 * time.Millisecond
 )
 
@@ -108,7 +108,7 @@ func (b *buffer) work(seat uint64) {
 	}
 }
 
-// run writes the log of one run, also where goroutines hang.
+// run writes the log of one run, even if goroutines hang.
 func run(style, path string) error {
 	b := newBuffer(style)
 	var all sync.WaitGroup

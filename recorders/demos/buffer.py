@@ -1,14 +1,14 @@
-"""A bounded buffer of Python: buffer.py PREFIX RUNS STYLE, whose logs are PREFIX.0, PREFIX.1, ..
+"""A bounded buffer in Python: buffer.py PREFIX RUNS STYLE. Its logs are PREFIX.0, PREFIX.1, ..
 
 good       two conditions, each notified
 all        one condition, and notify_all
 timed      as good, with waits that run out
 queue      queue.Queue of the standard library
-if         a fault: who waited doesn't test again
+if         a fault: a thread that waited doesn't test again
 two        the same fault, one putter and two takers, and threads take turns as seldom as ever
-forgotten  a fault: who takes notifies nobody
+forgotten  a fault: a taker notifies nobody
 single     a fault: as all, with room for one item, and notify: one may wake a thread that can't go on, and no other
-unlocked   a fault: as pair, but who takes tests without the lock: a notify may come between the test and the wait
+unlocked   a fault: as pair, but a taker tests without the lock: a notify may come between the test and the wait
 returns    a fault: a taker returns without its release
 deadlock   a fault: each takes two items, one after the other, and puts them back; there are two in all
 pair       one putter and one taker, with room for one item
@@ -31,7 +31,7 @@ import monk_log
 # As many putters as takers; a pair has less room, so that no later notify makes up for one that was lost.
 PUTTERS, SIZE, SIZE_IF_SMALL, ITEMS, ITEMS_OF_TWO, ITEMS_IF_UNLOCKED = 3, 2, 1, 12, 20, 200
 PUT, TAKE = 0, 1
-# How long a timed wait lasts, when threads take turns, and how long a run may last, in seconds; of those that may hang.
+# How long a timed wait lasts, when threads take turns, and how long a run may last, in seconds; the runs that may hang.
 SHORT, SWITCH, LONG, LONG_IF_HANGING, LONG_IF_SHAKEN, LONG_OF_TWO = 0.0002, 0.00002, 20, 0.4, 0.8, 2
 HANGING = ("if", "two", "forgotten", "drop", "single", "unlocked", "returns", "deadlock")
 ONE_CONDITION, PAIRS = ("all", "single"), ("pair", "drop", "unlocked")
@@ -99,7 +99,7 @@ class Dropping(threading.Condition):
 
 
 def works_of(style: str, buffer: queue.Queue[int] | Buffer) -> list[Callable[[], None]]:
-    """What each thread does."""
+    """The functions that the threads run."""
     putters = 1 if style in PAIRS or style == "two" else PUTTERS
     usual = ITEMS_IF_UNLOCKED if style == "unlocked" else ITEMS
     takers, items = (2, ITEMS_OF_TWO) if style == "two" else (putters, usual)
@@ -154,7 +154,7 @@ def main() -> None:
     if style != "two":
         sys.setswitchinterval(SWITCH)
     if style == "drop":
-        # what the recorder stands on is now the library with the fault
+        # the recorder's base class is now the library with the fault
         monk_log.Condition.__bases__ = (Dropping,)
     for number in range(runs):
         run(style).write(f"{prefix}.{number}", f"buffer {SIZE_IF_SMALL if style in SMALL else SIZE}")

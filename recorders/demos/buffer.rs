@@ -1,11 +1,11 @@
-//! A bounded buffer of Rust: buffer PREFIX RUNS STYLE, whose logs are PREFIX.0, PREFIX.1, ..
+//! A bounded buffer in Rust: buffer PREFIX RUNS STYLE. Its logs are PREFIX.0, PREFIX.1, ..
 //!
 //! - `good`: two conditions, each notified
 //! - `all`: one condition, and `notify_all`
 //! - `timed`: as good, with waits that run out
 //! - `late`: notifies once it has left
-//! - `if`: a fault: who waited doesn't test again
-//! - `forgotten`: a fault: who takes notifies nobody
+//! - `if`: a fault: a thread that waited doesn't test again
+//! - `forgotten`: a fault: a taker notifies nobody
 //!
 //! Putters wait on condition 0 (predicate 0 of a buffer), takers on condition 1 (predicate 1).
 
@@ -97,7 +97,7 @@ impl Style {
     }
 }
 
-/// Writes the log of one run, also where threads hang.
+/// Writes the log of one run, even if threads hang.
 fn run(style: Style, path: String) -> std::io::Result<()> {
     let buffer = Arc::new(Buffer::new(VecDeque::new()));
     let threads: Vec<_> = (0..PUTTERS + TAKERS)

@@ -1,4 +1,4 @@
-/* A library with a fault, to be loaded behind the recorder: every MONK_DROP-th signal wakes nobody.
+/* A library with a fault, to be loaded after the recorder: every MONK_DROP-th signal wakes nobody.
 
        gcc -O2 -shared -fPIC -o libdrop.so drop.c -ldl
        MONK_DROP=7 LD_PRELOAD="libmonk_log.so libdrop.so" PROGRAM .. */

@@ -1,4 +1,4 @@
-"""A program with a recorder of its own, which waits for ever and is ended: hangs.py FILE"""
+"""A program with its own recorder, which waits for ever and is ended: hangs.py FILE"""
 import os
 import sys
 

@@ -1,8 +1,8 @@
 /* A monitor by Hoare's rules, made of semaphores, that writes its own log: hoare buffer|barrier queue|stack
 
-   A signal hands the monitor to the longest waiter of its condition, and the signaller steps back; who leaves or
-   waits hands it to the one who stepped back first, else opens it. With `stack` it hands it to the one who stepped
-   back last: a fault, since it promises the order of arrival. In the buffer nobody tests again behind a wait: by
+   A signal hands the monitor to the longest waiter of its condition, and the signaller steps back. A seat that leaves
+   or waits hands it to the one who stepped back first, else opens it. With `stack` it hands it to the one who stepped
+   back last: a fault, because it promises the order of arrival. In the buffer nobody tests again after a wait: by
    these rules nobody needs to. In the barrier all but the last wait, and each wakes the next, so that many step
    back. */
 #include <pthread.h>
@@ -22,7 +22,7 @@ static sem_t door, own[SEATS];
 static struct queue conditions[CONDS], stepped_back;
 static int is_stack;
 
-/* The log. Only who is inside writes. */
+/* The log. Only the seat that is inside writes. */
 static FILE *lines;
 static char *text;
 static size_t length;

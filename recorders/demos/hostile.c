@@ -9,9 +9,9 @@
      Exit       ends by _Exit
      hang       waits for ever
      forks      a child that waits too, and one that ends at once
-     early      a key and a mutex from before any library begins; ends with 3 if the key's value is another's
+     early      a key and a mutex from before any library begins; ends with 3 if the key has another's value
      c11        mtx_t and cnd_t
-     acts       two mutexes held at once; the acts are of the first
+     acts       two mutexes held at once; the acts are on the first
      threads    40 threads of one mutex
      conds      ten conditions of one mutex
      lost       a signal without the mutex, before anybody waits
@@ -75,7 +75,7 @@ static void await(struct monitor *m) {
     pthread_mutex_unlock(&m->lock);
 }
 
-/* One thread waits for the other: it has the mutex from before that other begins. */
+/* One thread waits for the other: it has had the mutex since before the other began. */
 static void meet(struct monitor *m) {
     pthread_t thread;
     pthread_mutex_lock(&m->lock);
@@ -266,7 +266,7 @@ static void *set_outside(void *it) {
 static struct monitor sides[2] = {{PTHREAD_MUTEX_INITIALIZER, PTHREAD_COND_INITIALIZER, 0},
                                   {PTHREAD_MUTEX_INITIALIZER, PTHREAD_COND_INITIALIZER, 0}};
 
-/* Waits for its own side, and tells the other. */
+/* Waits for its own side, and signals the other. */
 static void *answer(void *it) {
     struct monitor *mine = it, *other = mine == &sides[0] ? &sides[1] : &sides[0];
     for (int i = 0; i < ROUNDS; i++) {

@@ -1,11 +1,11 @@
-"""A wake-up that a condition of Python's threading loses: lost_notify.py PREFIX RUNS STYLE, whose logs are PREFIX.0,
+"""A wake-up that a condition of Python's threading loses: lost_notify.py PREFIX RUNS STYLE. Its logs are PREFIX.0,
 PREFIX.1, ..
 
-Two takers wait for an item. The first does so for a while only, and its time runs out while the putter has the lock.
-Then the putter puts an item and notifies once. The second taker should get it, since the first has given up. Where it
+Two takers wait for an item. The first does so only for a while, and its time runs out while the putter has the lock.
+Then the putter puts an item and notifies once. The second taker should get it, because the first has given up. If it
 sleeps on, that notify was lost. Takers wait on condition 0 (predicate 1 of a buffer). The program is right;
-docs/LOGS.md follows its log to the line at fault. With the style `passed on` the condition is one whose line at fault
-is mended."""
+docs/LOGS.md follows its log to the line at fault. With the style `passed on` the condition has its line at fault
+mended."""
 from __future__ import annotations
 
 import os
@@ -19,15 +19,15 @@ sys.path.insert(0, os.path.join(os.path.dirname(os.path.abspath(__file__)), "../
 import monk_log
 
 PUT, TAKE, ITEM = 0, 1, 7
-# How long the first taker waits, and how long the putter has the lock and the second taker is given in the end, in
+# How long the first taker waits; and how long the putter has the lock, and the second taker gets in the end; in
 # seconds.
 PATIENCE, LONG = 0.2, 0.4
 
 
 class Mended(threading.Condition):
-    """As the condition of the standard library, but that a notify is passed on which found a wait that had run out."""
+    """As the condition of the standard library, but it passes on a notify that found a wait that had run out."""
 
-    # what threading.Condition has behind its public names
+    # the internals of threading.Condition
     _waiters: Any
     _release_save: Callable[[], Any]
     _acquire_restore: Callable[[Any], None]

@@ -1,5 +1,5 @@
-// Ten monitors of std::mutex, one after the other at the same memory; each has a wait. A std::mutex isn't destroyed,
-// its condition is.
+// Ten monitors of std::mutex, one after the other in the same memory; each has a wait. The std::mutex isn't
+// destroyed, its condition is.
 #include <condition_variable>
 #include <cstdio>
 #include <mutex>

@@ -1,4 +1,4 @@
-/* Right programs that a thread of the recorder's own may disturb: signals STYLE. Each ends with status 7 and says
+/* Right programs that a thread of the recorder may disturb: signals STYLE. Each ends with status 7 and says
    `done`.
 
      setgid   sets its group, for which glibc interrupts every thread

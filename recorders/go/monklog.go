@@ -1,9 +1,9 @@
-// Package monklog records one monitor of a sync.Mutex and its sync.Conds. Each line is written by the goroutine that
-// holds the mutex, but for signals by seats that are outside: they are noted with their place. A goroutine has no name,
-// so each says the seat that it was given, from 0. Write writes the log, and beside it where in the source its lines
-// come from.
+// Package monklog records one monitor of a sync.Mutex and its sync.Conds. The goroutine that holds the mutex writes
+// each line, except signals by seats that are outside: they are noted with their place. A goroutine has no name, so
+// each call says the goroutine's seat, from 0. Write writes the log, and beside it the places in the source from which
+// its lines come.
 //
-// What a recorder can't see is told in recorders/README.md.
+// recorders/README.md says what a recorder can't see.
 package monklog
 
 import (
@@ -18,7 +18,7 @@ import (
 	"time"
 )
 
-// Of a log; and the status of a program that is ended.
+// The limits of a log; and the status of a program that is ended.
 const (
 	seats      = 32
 	conditions = 8
@@ -36,7 +36,7 @@ func min(one, other int) int {
 	return other
 }
 
-// Monitor stands in place of a sync.Mutex.
+// Monitor takes the place of a sync.Mutex.
 type Monitor struct {
 	mutex   sync.Mutex
 	lines   []line
@@ -49,30 +49,30 @@ type Monitor struct {
 	leftOut int
 }
 
-// site is from where in the program a function of the recorder was called.
+// site is the place in the program from which a function of the recorder was called.
 type site uintptr
 
-// line is one of the log, and from where it comes.
+// line is a line of the log, and the place from which it comes.
 type line struct {
 	text string
 	from site
 }
 
-// signal is one by a seat that hadn't the mutex, and how many lines there are before it.
+// signal is a signal by a seat that didn't have the mutex, and how many lines there are before it.
 type signal struct {
 	place int64
 	line  line
 }
 
-// Cond stands in place of a sync.Cond.
+// Cond takes the place of a sync.Cond.
 type Cond struct {
 	monitor *Monitor
 	raw     *sync.Cond
 	number  int
 }
 
-// caller is the site of the function that asks. Each frame takes a tenth of a microsecond, so what the program calls
-// asks itself.
+// caller is the site from which the function that asks was called. Each frame takes a tenth of a microsecond, so a
+// function that the program calls asks itself.
 func caller() site {
 	var at [1]uintptr
 	runtime.Callers(skipped, at[:])
@@ -85,7 +85,7 @@ func (s site) place() string {
 	return fmt.Sprintf("%s:%d", filepath.Base(frame.File), frame.Line)
 }
 
-// newLine is a verb, and the seat and what else belongs to it.
+// newLine makes a line of a verb, the seat, and what else belongs to it.
 func newLine(from site, verb string, numbers ...uint64) line {
 	text := []byte(verb)
 	for _, number := range numbers {
@@ -94,7 +94,7 @@ func newLine(from site, verb string, numbers ...uint64) line {
 	return line{string(text), from}
 }
 
-// put writes a line. What stands before a line that isn't written is a log too.
+// put writes a line. The lines before one that isn't written are a log too.
 func (m *Monitor) put(from site, verb string, numbers ...uint64) {
 	if m.stopped == "" && numbers[0] >= seats {
 		m.stopped = fmt.Sprintf("there are more than %d threads, and a log has no more seats", seats)
@@ -137,7 +137,7 @@ func (m *Monitor) Unlock(seat uint64) {
 	m.mutex.Unlock()
 }
 
-// Act tells of an operation on what the mutex guards: its code, what it was given, what it replied (docs/MONITORS.md).
+// Act reports an operation on what the mutex guards: its code, its argument and its reply (docs/MONITORS.md).
 func (m *Monitor) Act(seat, code, arg, reply uint64) {
 	m.put(caller(), "act", seat, code, arg, reply)
 }
@@ -150,7 +150,7 @@ func (c *Cond) on(from site, verb string, seat uint64) {
 	c.monitor.put(from, verb, seat, uint64(c.number))
 }
 
-// tell writes a signal down and calls it. One from outside is noted: whom it serves can't write yet that it goes on.
+// tell writes a signal down and makes it. One from outside is noted: the served seat can't write yet that it goes on.
 func (c *Cond) tell(from site, verb string, seat uint64, call func()) {
 	m := c.monitor
 	if m.active.Load() == seat+1 {
@@ -169,8 +169,8 @@ func (c *Cond) tell(from site, verb string, seat uint64, call func()) {
 	call()
 }
 
-// Wait holds the order until its caller is among those that wait (gate), so a signal from outside finds whom the lines
-// show.
+// Wait holds the order until its caller is among those that wait (gate), so a signal from outside finds those whom the
+// lines show.
 func (c *Cond) Wait(seat uint64) {
 	m, from := c.monitor, caller()
 	m.order.Lock()
@@ -210,7 +210,7 @@ func (m *Monitor) Summary() string {
 	return said
 }
 
-// comesFree tells whether the mutex is free in a moment.
+// comesFree reports whether the mutex becomes free in a moment.
 func (m *Monitor) comesFree() bool {
 	for tries := 0; tries < 100; tries++ {
 		if m.mutex.TryLock() {
@@ -222,7 +222,7 @@ func (m *Monitor) comesFree() bool {
 	return false
 }
 
-// EndAfter is for a program that hangs: after so long its log is written into a new file, and it ends with status 124.
+// EndAfter is for a program that hangs: after that time it writes the log into a new file, and ends with status 124.
 func (m *Monitor) EndAfter(long time.Duration, path string, seats int, object string) {
 	time.AfterFunc(long, func() {
 		if !m.comesFree() {
@@ -263,12 +263,12 @@ func (m *Monitor) text(lines []line, count int, object string) string {
 	return text.String()
 }
 
-// Text is the log so far, of so many seats; the words are the object and its size, as "buffer 4".
+// Text is the log so far, with count seats; object is the object and its size, as "buffer 4".
 func (m *Monitor) Text(count int, object string) string {
 	return m.text(m.merged(), count, object)
 }
 
-// names is what stands beside the log: the places from which its lines come.
+// names is what is written beside the log: the places from which its lines come.
 func names(lines []line) string {
 	var sites, numbers strings.Builder
 	places, of := map[site]string{}, map[string]int{}

@@ -14,30 +14,30 @@ import java.util.concurrent.locks.Condition;
 import java.util.concurrent.locks.ReentrantLock;
 
 /**
- * Records one monitor. Each line is written by the thread that holds the lock.
+ * Records one monitor. The thread that holds the lock writes each line.
  *
- * <p>Of a {@code ReentrantLock}: {@code log.lock(fair)} in its place, and {@code lock.newCondition()} for its
+ * <p>For a {@code ReentrantLock}: {@code log.lock(fair)} in its place, and {@code lock.newCondition()} for its
  * conditions.
  *
- * <p>Of {@code synchronized (object)}: {@link #enter} first and {@link #leave} last in each block, and {@link #await},
+ * <p>In {@code synchronized (object)}: {@link #enter} first and {@link #leave} last in each block, and {@link #await},
  * {@link #signal} and {@link #signalAll} in place of {@code wait}, {@code notify} and {@code notifyAll}.
  *
- * <p>{@link #write} writes the log, and beside it the threads' names and where in the source its lines come from.
+ * <p>{@link #write} writes the log, and beside it the threads' names and the places in the source of its lines.
  *
- * <p>What a recorder can't see is told in recorders/README.md.
+ * <p>recorders/README.md says what a recorder can't see.
  */
 public final class MonkLog {
-    /** Of a log. */
+    /** The limits of a log. */
     private static final int SEATS = 32, CONDITIONS = 8;
 
     private static final int STATUS_LATE = 124;
 
-    /** Of {@link #caller} and of the method that asks. */
+    /** The frames of {@link #caller} and of the method that asks. */
     private static final int OWN_FRAMES = 2;
 
     private static final StackWalker STACK = StackWalker.getInstance();
 
-    /** A line, and the frame from which it comes. (Its file and number are only asked for when the log is written.) */
+    /** A line, and the frame from which it comes. (Its file and line are asked for only when the log is written.) */
     private static final class Line {
         private final String text;
         private final StackFrame from;
@@ -58,12 +58,12 @@ public final class MonkLog {
     private int conditions;
     private String stopped = "";
 
-    /** From where the method that asks was called; what the program calls asks itself. */
+    /** The place from which the method that asks was called; a method that the program calls asks itself. */
     private static StackFrame caller() {
         return STACK.walk(frames -> frames.skip(OWN_FRAMES).findFirst()).orElse(null);
     }
 
-    /** What stands before a line that isn't written is a log too. */
+    /** The lines before one that isn't written are a log too. */
     private void put(StackFrame from, String verb, String numbers) {
         Integer seat = seats.get(Thread.currentThread());
         if (seat == null && seats.size() == SEATS) {
@@ -93,7 +93,7 @@ public final class MonkLog {
         }
     }
 
-    /** A signal is written down where its caller holds the lock; else it is counted, and the library refuses it. */
+    /** A signal is written down if its caller holds the lock; else it is counted, and the library refuses it. */
     private void tell(boolean isHeld, StackFrame from, String verb, int condition) {
         if (isHeld) {
             put(from, verb, condition);
@@ -102,7 +102,7 @@ public final class MonkLog {
         }
     }
 
-    /** The log so far; the words are the object and its size, as {@code buffer 4}. No thread may be active. */
+    /** The log so far; {@code object} is the object and its size, as {@code buffer 4}. No thread may be active. */
     public String text(String object) {
         return text(lines, object);
     }
@@ -114,7 +114,7 @@ public final class MonkLog {
         return text.toString();
     }
 
-    /** What stands beside the log: the threads' names, how the program ended if that is known, the lines' places. */
+    /** The text beside the log: the threads' names, how the program ended if that is known, the lines' places. */
     private String names(List<Line> all, String ended) {
         StringBuilder text = new StringBuilder(), numbers = new StringBuilder("lines");
         seats.forEach((thread, seat) -> text.append("seat " + seat + " " + thread.getName() + "\n"));
@@ -133,7 +133,7 @@ public final class MonkLog {
         Files.writeString(Path.of(file + ".names"), names(all, ended), StandardOpenOption.CREATE_NEW);
     }
 
-    /** The log so far, into a new file, and beside it the file of names. No thread may be active. */
+    /** Writes the log so far into a new file, and beside it the file of names. No thread may be active. */
     public void write(Path file, String object) throws IOException {
         write(file, object, "");
     }
@@ -145,7 +145,7 @@ public final class MonkLog {
         return seen + cut + (strays.get() == 0 ? "" : "; signals without the lock, refused: " + strays);
     }
 
-    /** For a program that hangs: after so many milliseconds its log is written, and it ends with status 124. */
+    /** For a program that hangs: after that many milliseconds its log is written, and it ends with status 124. */
     public void endAfter(long milliseconds, Path file, String object) {
         Thread watch = new Thread(() -> {
             try {
@@ -161,7 +161,7 @@ public final class MonkLog {
         watch.start();
     }
 
-    /** An operation on what the lock guards: its code, what it was given, what it replied (docs/MONITORS.md). */
+    /** Reports an operation on what the lock guards: its code, its argument and its reply (docs/MONITORS.md). */
     public void act(int code, long arg, long reply) {
         put(caller(), "act", " " + code + " " + arg + " " + reply);
     }
@@ -180,7 +180,7 @@ public final class MonkLog {
         await(caller(), monitor, 0);
     }
 
-    /** Nothing tells whether a wait with a time ran out, so it is always told as a {@code resume}. */
+    /** Nothing says whether a wait with a time ran out, so its line is always a {@code resume}. */
     public void await(Object monitor, long milliseconds) throws InterruptedException {
         await(caller(), monitor, milliseconds);
     }
@@ -215,7 +215,7 @@ public final class MonkLog {
         return new Lock(fair);
     }
 
-    /** In place of a {@code ReentrantLock}. Who has the lock already comes in but once. */
+    /** Takes the place of a {@code ReentrantLock}. A thread that has the lock already comes in only once. */
     public final class Lock implements java.util.concurrent.locks.Lock {
         private final ReentrantLock raw;
 
@@ -223,7 +223,7 @@ public final class MonkLog {
             raw = new ReentrantLock(fair);
         }
 
-        /** Who has the lock comes in. The frame was asked for before, when nobody had to wait for that. */
+        /** Comes in, with the lock. The frame was asked for before, when nobody had to wait for that. */
         private void comeIn(StackFrame from) {
             if (raw.getHoldCount() == 1) {
                 put(from, "enter", "");
@@ -248,7 +248,7 @@ public final class MonkLog {
             return got;
         }
 
-        /** Whether it came free before the time was over. */
+        /** Whether it became free before the time was over. */
         @Override
         public boolean tryLock(long time, TimeUnit unit) throws InterruptedException {
             StackFrame from = caller();
@@ -292,12 +292,12 @@ public final class MonkLog {
             this.number = number;
         }
 
-        /** How a wait ended: whether before its time. */
+        /** A wait, which returns whether it ended before its time. */
         private interface Waiting {
             boolean endsEarly() throws InterruptedException;
         }
 
-        /** A wait with its two lines. Who doesn't hold the lock has none: the library refuses the wait. */
+        /** A wait with its two lines. A thread that doesn't hold the lock has none: the library refuses the wait. */
         private boolean recorded(StackFrame from, Waiting waiting) throws InterruptedException {
             if (!lock.isHeldByCurrentThread()) {
                 return waiting.endsEarly();

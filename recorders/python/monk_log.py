@@ -1,22 +1,22 @@
-"""Records monitors that are made of a lock of threading's and its conditions.
+"""Records monitors that are made of a lock of threading and its conditions.
 
     recorder = Recorder()
     lock = recorder.lock()                  # in place of threading.Lock(); recorder.rlock() of threading.RLock()
     not_full = recorder.condition(lock)     # in place of threading.Condition(lock)
-    recorder.act(code, arg, reply)          # while the lock is held, behind an operation on what it guards, if that is
+    recorder.act(code, arg, reply)          # while the lock is held, after an operation on what it guards, if that is
                                             # to be judged
     recorder.write("run", "buffer 4")       # the log, into a new file, and beside it run.names; the object and its size
     recorder.summary()                      # what was seen, in words
 
-`record_queue(queue.Queue(4))` puts a recorder into a queue of the standard library. Each line is written by the thread
-that holds the lock. A program as it is, with monk_program.py beside this file:
+`record_queue(queue.Queue(4))` puts a recorder into a queue of the standard library. The thread that holds the lock
+writes each line. For an unchanged program, with monk_program.py beside this file:
 
     MONK_LOG=PREFIX PYTHONPATH=recorders/python python -m monk_log PROGRAM ARGS ..
 
 writes PREFIX.1, PREFIX.2, .. when it ends, one for each lock with a wait, beside each the names in it, PREFIX.1.names,
 and a last line on standard error. MONK_OBJECT is the end of the first line of a log. After MONK_SECONDS the logs are
 written, and the program ends with status 124. With MONK_SHAKE=SEED threads let others go first at random, here and with
-a recorder of one's own. What a recorder can't see is told in recorders/README.md.
+a recorder of one's own. recorders/README.md says what a recorder can't see.
 """
 from __future__ import annotations
 
@@ -30,11 +30,11 @@ import time
 import types
 from typing import Any, Callable, Iterator
 
-SEATS, CONDITIONS = 32, 8  # of a log
+SEATS, CONDITIONS = 32, 8  # the limits of a log
 STATUS_LATE = 124
-# A thread is slow for some calls and then fast for some: so many at most. How often it is slow, and sleeps so many
-# seconds at most; and how often it lets others go first while it is fast. One that was woken is slow more often, and so
-# many times as long: then others come in before it.
+# A thread is slow for some calls and then fast for some: CALLS at most. How often it is slow, and how many seconds it
+# then sleeps at most; and how often it lets others go first while it is fast. A thread that was woken is slow more
+# often, and TIMES_WOKEN times as long: then others come in before it.
 CALLS, SLOW, NAP, YIELD = 8, 0.4, 0.001, 0.25
 SLOW_WOKEN, TIMES_WOKEN = 0.9, 8
 
@@ -64,7 +64,7 @@ SEED = os.environ.get("MONK_SHAKE")
 
 
 def _be_still(is_woken: bool = False) -> None:
-    """Without a seed nobody is shaken."""
+    """Does nothing: without a seed nobody is shaken."""
 
 
 shake: Callable[..., None] = _be_still
@@ -73,18 +73,18 @@ if SEED:
 
 
 HERE = os.path.dirname(os.path.abspath(__file__))
-# What stands between a program and a line of its log.
+# The files whose frames come between a program and a line of its log.
 BETWEEN = {__file__, threading.__file__, *(os.path.join(HERE, name) for name in ("monk_log.py", "monk_program.py"))}
 
 
-# A line of a log: from where it comes, as code and how far in, and its words. (To ask at once for the line of the
-# source takes longer than all else.)
+# A line of a log: the place from which it comes, as code and an offset in it, and its words. (To ask at once for the
+# line of the source takes longer than all else.)
 Line = tuple[Any, ...]
-WORDS = 2  # where they begin
+WORDS = 2  # where the words begin
 
 
 def caller(depth: int) -> types.FrameType:
-    """What of the program is being run, so many frames above or more."""
+    """The frame of the program that is being run, `depth` frames above or more."""
     frame = sys._getframe(depth)
     while frame.f_code.co_filename in BETWEEN and frame.f_back:
         frame = frame.f_back
@@ -97,7 +97,7 @@ def place_of(code: types.CodeType, offset: int) -> str:
 
 
 def start_watch(watch: Callable[..., None], *words: object) -> None:
-    """In a thread that takes no signal: each is meant for a thread of the program's."""
+    """Runs it in a thread that takes no signal: each signal is meant for a thread of the program."""
     before = signal.pthread_sigmask(signal.SIG_BLOCK, signal.valid_signals())
     threading.Thread(target=watch, args=words, daemon=True).start()
     signal.pthread_sigmask(signal.SIG_SETMASK, before)
@@ -128,7 +128,7 @@ class Recorder:
         return self._conditions - 1
 
     def act(self, code: int, arg: int, reply: int) -> None:
-        """An operation on what the lock guards: its code, what it was given, what it replied (docs/MONITORS.md)."""
+        """Reports an operation on what the lock guards: its code, its argument and its reply (docs/MONITORS.md)."""
         self.put("act", code, arg, reply)
 
     def text(self, thing: str = "buffer 1") -> str:
@@ -140,8 +140,8 @@ class Recorder:
         yield from (" ".join(map(str, line[WORDS:])) for line in lines)
 
     def _names(self, lines: list[Line], how_it_ended: str) -> Iterator[str]:
-        """What stands beside the log: where the lock and its conditions were made, the names of threads, and the places
-        of lines."""
+        """What is written beside the log: where the lock and its conditions were made, the names of threads, and the
+        places of lines."""
         whats = ["lock", *(f"condition {number}" for number in range(len(self.made_at) - 1))]
         yield from (f"{what} made at {where}" for what, where in zip(whats, self.made_at))
         yield from (f"seat {seat} {name}" for seat, name in enumerate(self.names))
@@ -152,7 +152,7 @@ class Recorder:
         yield " ".join(["lines", *(str(numbers[places[line[:WORDS]]]) for line in lines)])
 
     def write(self, path: str, thing: str = "buffer 1", how_it_ended: str = "") -> None:
-        """The log so far, into a new file, and PATH.names beside it. No thread may be active."""
+        """Writes the log so far into a new file, and PATH.names beside it. No thread may be active."""
         lines = list(self._lines)
         with open(path, "x") as file:
             file.writelines(f"{row}\n" for row in self._rows(lines, thing))
@@ -172,8 +172,8 @@ class Recorder:
         return "; ".join(parts)
 
     def end_after(self, seconds: float, path: str, thing: str = "buffer 1") -> None:
-        """For a program that hangs: after so many seconds its log is written into a new file, and it ends with status
-        124."""
+        """For a program that hangs: after that many seconds its log is written into a new file, and it ends with
+        status 124."""
         start_watch(self._end_late, seconds, path, thing)
 
     def _end_late(self, seconds: float, path: str, thing: str) -> None:
@@ -187,7 +187,7 @@ class Recorder:
         os._exit(STATUS_LATE)
 
     def put(self, verb: str, *numbers: int) -> None:
-        """A line. What stands before a line that isn't written is a log too."""
+        """Writes a line. The lines before one that isn't written are a log too."""
         if self.stopped:
             return
         thread = threading.get_ident()
@@ -201,30 +201,30 @@ class Recorder:
     def _add(self, verb: str, thread: int, numbers: tuple[int, ...]) -> None:
         if thread not in self._seats:
             self._seats[thread] = len(self._seats)
-            # (current_thread() would make a new one of a thread that is only beginning)
+            # (current_thread() would make a new one for a thread that is only beginning)
             self.names.append(getattr(threading._active.get(thread), "name", "?"))  # type: ignore[attr-defined]
         frame = caller(4)
         self._lines.append((frame.f_code, frame.f_lasti, verb, self._seats[thread], *numbers))
         self.waits += verb == "wait"
         self._is_used |= verb not in ("enter", "leave")
-        # who came and left before tells nothing, and most locks have no conditions
+        # a thread that came and left before says nothing, and most locks have no conditions
         if verb == "leave" and not self._is_used:
             self._lines.clear()
 
     def forget(self) -> None:
-        """In a child that was forked."""
+        """Forgets the log, in a child that was forked."""
         self._lines.clear()
         self._seats.clear()
         self.names.clear()
         self.waits, self.strays, self.stopped, self._is_used = 0, 0, "", False
 
 
-# What stands behind a lock, though a program sees others in its place.
+# What a recorded lock is made of, though a program sees others in its place.
 threading_lock, threading_rlock, ThreadingCondition = threading.Lock, threading.RLock, threading.Condition
 
 
 class Lock:
-    """A lock that tells who comes in and leaves. Who has it already comes in but once."""
+    """A lock that records who comes in and leaves. A thread that has it already comes in only once."""
 
     def __init__(self, recorder: Recorder, raw: Any) -> None:
         self.recorder, self._raw, self._owner, self._times = recorder, raw, 0, 0
@@ -278,9 +278,9 @@ class Lock:
 
 
 class Condition(threading.Condition):
-    """A condition that tells who waits, goes on and signals; without a recorder one as any other."""
+    """A condition that records who waits, goes on and signals; without a recorder it is as any other."""
 
-    # what threading.Condition has behind its public names
+    # the internals of threading.Condition
     _is_owned: Callable[[], bool]
     _waiters: Any
 
@@ -320,8 +320,8 @@ class Condition(threading.Condition):
 
 
 def record_queue(queue: Any, number: Callable[[Any], int] | None = None) -> Recorder:
-    """Puts a recorder into a queue that no thread uses yet, and gives it. Condition 0 is `not_full`, 1 `not_empty`, 2
-    `all_tasks_done`. Where `number` tells an item's number, a queue.Queue is recorded as a buffer."""
+    """Puts a recorder into a queue that no thread uses yet, and returns it. Condition 0 is `not_full`, 1 `not_empty`,
+    2 `all_tasks_done`. If `number` gives an item's number, a queue.Queue is recorded as a buffer."""
     recorder = Recorder()
     queue.mutex = recorder.lock()
     queue.not_full, queue.not_empty, queue.all_tasks_done = (recorder.condition(queue.mutex) for _ in range(3))

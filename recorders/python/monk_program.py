@@ -1,4 +1,4 @@
-"""Runs a program of Python as it is, and records its locks and conditions: the part of monk_log.py for
+"""Runs an unchanged program of Python, and records its locks and conditions: the part of monk_log.py for
 `python -m monk_log`."""
 from __future__ import annotations
 
@@ -22,12 +22,12 @@ class Program:
 
     def __init__(self) -> None:
         self.recorders: list[Recorder] = []
-        self.front = ""  # of the last line, of a child that was forked
+        self.front = ""  # of the last line, in a child that was forked
         self.how_it_ended = "by itself"
         self.prefix, self._is_written, self._is_refused = os.environ.get("MONK_LOG"), threading_lock(), False
 
     def recorder(self) -> Recorder | None:
-        """A new one, or none for what `threading` makes for each thread of its own."""
+        """A new recorder, or none for what `threading` itself makes for each thread."""
         frame: types.FrameType | None = sys._getframe(2)
         while frame and frame.f_code.co_filename == threading.__file__:
             if isinstance(frame.f_locals.get("self"), threading.Thread):
@@ -47,7 +47,7 @@ class Program:
         return made.rlock() if made else threading_rlock()
 
     def stand_in(self) -> None:
-        """In place of what `threading` has, of which `queue` and others make their own."""
+        """Replaces what `threading` has, from which `queue` and others make their own."""
         program = self
 
         class ProgramCondition(Condition):
@@ -65,7 +65,7 @@ class Program:
         os.register_at_fork(after_in_child=self.forked)
 
     def exit_at_once(self, status: int) -> None:
-        """A child of multiprocessing ends so."""
+        """Writes the logs and ends, as a child of multiprocessing does."""
         self.write()
         exit_at_once(status)
 
@@ -77,7 +77,7 @@ class Program:
             recorder.forget()
 
     def write(self) -> None:
-        """All logs, once, and the last line."""
+        """Writes all logs, once, and the last line."""
         if not self._is_written.acquire(blocking=False):
             return
         waited = [it for it in self.recorders if it.waits]
@@ -101,7 +101,7 @@ class Program:
         return "no log, since none could be written" if waited else "no log, since nobody waited on a condition"
 
     def _write_log(self, recorder: Recorder) -> str:
-        """The name of its file, or none."""
+        """Writes the log; returns the name of its file, or none."""
         for number in itertools.count(1):
             name = f"{self.prefix}.{number}"
             try:
@@ -173,7 +173,7 @@ def run_program(path: str) -> None:
     try:
         exec(code, module.__dict__)
     except Exception as error:
-        # as it would be told without this function
+        # as it would be printed without this function
         trace = error.__traceback__ and error.__traceback__.tb_next
         sys.excepthook(type(error), error.with_traceback(trace), trace)
         sys.exit(1)

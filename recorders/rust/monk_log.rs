@@ -1,9 +1,9 @@
-//! Records one monitor of a `std::sync::Mutex` and its `Condvar`s. Each line is written by the thread that holds the
-//! mutex, but for signals by seats that are outside: they are noted with their place. `write` writes the log, and
-//! beside it where in the source its lines come from: all but each `leave`, which is written where an `Inside` is
+//! Records one monitor of a `std::sync::Mutex` and its `Condvar`s. The thread that holds the mutex writes each line,
+//! except signals by seats that are outside: they are noted with their place. `write` writes the log, and beside it
+//! the places in the source from which its lines come: all but each `leave`, which is written when an `Inside` is
 //! dropped.
 //!
-//! What a recorder can't see is told in recorders/README.md.
+//! recorders/README.md says what a recorder can't see.
 
 use std::fmt::Arguments;
 use std::fs::OpenOptions;
@@ -17,7 +17,7 @@ use std::sync::{Arc, Condvar, Mutex, MutexGuard};
 use std::thread;
 use std::time::Duration;
 
-/// Stands in place of a `Mutex<T>` and its conditions, which are numbered from 0.
+/// Takes the place of a `Mutex<T>` and its conditions, which are numbered from 0.
 pub struct Monitor<T, const CONDITIONS: usize> {
     inner: Mutex<Recorded<T>>,
     conditions: [Condvar; CONDITIONS],
@@ -50,7 +50,7 @@ struct Recorded<T> {
     data: T,
 }
 
-// Of a log.
+// The limits of a log.
 const SEATS: usize = 32;
 const MOST_CONDITIONS: usize = 8;
 const STATUS_LATE: i32 = 124;
@@ -75,7 +75,7 @@ impl<T, const CONDITIONS: usize> Monitor<T, CONDITIONS> {
         Monitor { inner, conditions, count, order: Mutex::default() }
     }
 
-    /// Comes in. Each thread has a seat of its own, from 0.
+    /// Comes in. Each thread has a seat of its own; seats count from 0.
     #[track_caller]
     pub fn enter(&self, seat: usize) -> Inside<'_, T, CONDITIONS> {
         let guard = Some(self.inner.lock().unwrap());
@@ -96,7 +96,7 @@ impl<T, const CONDITIONS: usize> Monitor<T, CONDITIONS> {
         self.tell("broadcast", seat, condition, Condvar::notify_all);
     }
 
-    // Whom it serves has written that it waits, and can't write yet that it goes on.
+    // The thread that it serves has written that it waits, and can't write yet that it goes on.
     #[track_caller]
     fn tell(&self, verb: &str, seat: usize, condition: usize, call: fn(&Condvar)) {
         let condvar = &self.conditions[condition];
@@ -125,7 +125,7 @@ impl<T, const CONDITIONS: usize> Monitor<T, CONDITIONS> {
         all
     }
 
-    /// The log so far, of so many seats; `object` is the object and its size, as `buffer 4`.
+    /// The log so far, with `seats` seats; `object` is the object and its size, as `buffer 4`.
     pub fn text(&self, seats: usize, object: &str) -> String {
         Self::text_of(&self.merged(), seats, object)
     }
@@ -137,7 +137,7 @@ impl<T, const CONDITIONS: usize> Monitor<T, CONDITIONS> {
         text
     }
 
-    // What stands beside the log: the places from which its lines come.
+    // What is written beside the log: the places from which its lines come.
     fn names(lines: &[Line]) -> String {
         let (mut sites, mut numbers): (Vec<String>, _) = (Vec::new(), "lines".to_string());
         for line in lines {
@@ -176,7 +176,7 @@ impl<T, const CONDITIONS: usize> Monitor<T, CONDITIONS> {
         said
     }
 
-    // In a moment.
+    // Whether the mutex becomes free in a moment.
     fn comes_free(&self) -> bool {
         (0..100).any(|_| {
             let is_free = self.inner.try_lock().is_ok();
@@ -187,7 +187,7 @@ impl<T, const CONDITIONS: usize> Monitor<T, CONDITIONS> {
         })
     }
 
-    /// For a program that hangs: after so long its log is written into a new file, and it ends with status 124.
+    /// For a program that hangs: after that time its log is written into a new file, and it ends with status 124.
     pub fn end_after(self: &Arc<Self>, time: Duration, path: PathBuf, seats: usize, object: String)
     where
         T: Send + 'static,
@@ -217,7 +217,7 @@ fn place_of(site: Site) -> String {
     format!("{}:{}", name.to_string_lossy(), site.line())
 }
 
-// From 1.
+// The number of a place, from 1.
 fn number_of(sites: &mut Vec<String>, place: String) -> usize {
     let known = sites.iter().position(|site| *site == place);
     known.unwrap_or_else(|| {
@@ -233,7 +233,7 @@ impl<T, const CONDITIONS: usize> Inside<'_, T, CONDITIONS> {
         if seat >= SEATS && guard.stopped.is_none() {
             guard.stopped = Some("there are more than 32 threads, and a log has no more seats");
         }
-        // what stands before a line that isn't written is a log too
+        // the lines before one that isn't written are a log too
         let count = if guard.stopped.is_none() {
             guard.lines.push(Line { text: format!("{verb} {seat}{numbers}"), site });
             guard.lines.len()
@@ -250,7 +250,7 @@ impl<T, const CONDITIONS: usize> Inside<'_, T, CONDITIONS> {
         self.put(verb, numbers, Some(Location::caller()));
     }
 
-    /// An operation on the data: its code, what it was given, what it replied (docs/MONITORS.md).
+    /// Reports an operation on the data: its code, its argument and its reply (docs/MONITORS.md).
     #[track_caller]
     pub fn act(&mut self, code: u8, arg: u32, reply: u64) {
         self.put("act", format_args!(" {code} {arg} {reply}"), Some(Location::caller()));
@@ -264,7 +264,7 @@ impl<T, const CONDITIONS: usize> Inside<'_, T, CONDITIONS> {
         self.put_in_order("resume", format_args!(""));
     }
 
-    /// Waits for so long at most; whether the wait ended before.
+    /// Waits for that time at most; returns whether the wait ended before.
     #[track_caller]
     pub fn wait_timeout(&mut self, condition: usize, time: Duration) -> bool {
         self.put_in_order("wait", format_args!(" {condition}"));

@@ -1,4 +1,4 @@
-/* A barber and four customers, who all come again and again; each waits for the chair, and for the end of its cut.
+/* A barber and four customers, who all come again and again. Each waits for the chair, and for the end of its cut.
    Fault: if. */
 #include "textbook.h"
 

@@ -1,5 +1,5 @@
 // Threads of C++ that meet at a barrier, over and over; in every second round each looks at a clock as it waits. With
-// the fault `one` the last to come wakes one of the others.
+// the fault `one` the last to come wakes only one of the others.
 #include <chrono>
 #include <condition_variable>
 #include <cstdio>
@@ -46,7 +46,7 @@ barrier here;
 int met[parties];
 int wrong;
 
-// Behind the first barrier of a round nobody is in an earlier one, and before the second nobody in a later one.
+// After the first barrier of a round nobody is in an earlier round, and before the second nobody is in a later one.
 void work(int mine) {
     for (int round = 1; round <= rounds; round++) {
         met[mine] = round;

@@ -1,6 +1,6 @@
 /* A forked child waits for what nobody signals: for ever (`hang`), or until its time is over, and then a signal ends
    it (`raise`). Or a child can't become another program (`exec`), and its parent waits so. The status is the child's,
-   as a shell tells it. */
+   as a shell gives it. */
 #include <pthread.h>
 #include <signal.h>
 #include <string.h>

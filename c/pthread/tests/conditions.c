@@ -30,7 +30,7 @@ static void *take_all(void *it) {
     return NULL;
 }
 
-/* As each wait begins one of two others who wait was signalled, and is on the way. */
+/* As each wait begins, one of two others who wait was signalled, and is on its way. */
 static void signals_before_waits(void) {
     static pthread_cond_t conditions[2 * CONDITIONS];
     struct box b;

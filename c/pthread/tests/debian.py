@@ -1,4 +1,4 @@
-"""Programs of Debian that run threads. Each that is there has to give the output of a plain run under each kind."""
+"""Programs of Debian that run threads. Each that is there must give the output of a plain run under each kind."""
 import itertools
 import os
 import shutil
@@ -21,7 +21,7 @@ print(sum(told.get() for _ in range(5000)))
 # Width, height and frames of a film.
 FILM = (176, 144, 50)
 KINDS = ("NPNB", "PNB", "PB")
-# What may hang, since it relies on going on after its signal; and the status then.
+# What may hang, because it relies on going on after its signal; and the status then.
 HANGS, STATUS_HUNG = {("pigz", "PB"), ("ffmpeg", "PB")}, 124
 # What may give another output for that reason: the encoder's look-ahead signals that frames are there, and analyses
 # them after its signal, inside.
@@ -71,7 +71,7 @@ def ended(words: List[str]) -> "subprocess.CompletedProcess[bytes]":
 
 
 def first_wrong(monk_run: str, name: str, words: List[str]) -> str:
-    """What is wrong with the first run that is, of two under each kind; nothing, if all are right."""
+    """What is wrong with the first wrong run, of two under each kind; nothing, if all are right."""
     plain = ended(words)
     for kind, seed in itertools.product(KINDS, "12"):
         done = ended([monk_run, "--kind", kind, "--wish", "any", "--seed", seed, "--seconds", SECONDS, "--", *words])

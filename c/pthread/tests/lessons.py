@@ -1,4 +1,4 @@
-"""What monk-try has to say of runs that ended so."""
+"""What monk-try has to say of runs by how they ended."""
 import re
 from collections import Counter
 from typing import Dict, List, NamedTuple
@@ -35,7 +35,7 @@ def told_of(case: Case) -> Lesson:
 
 
 def first_wrong_lesson() -> str:
-    """The first that isn't as it has to be, or names a kind that wasn't run; nothing, if all are right."""
+    """The first lesson that isn't as it has to be, or names a kind that wasn't run; nothing, if all are right."""
     for case in CASES:
         told = told_of(case)
         if told.name != case.name or {*re.findall(r"\bN?P(?:N|Q|I)?[BR]\b", told.text)} - {*case.ends}:

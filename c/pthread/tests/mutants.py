@@ -71,7 +71,7 @@ MUTANTS: Dict[str, Mutant] = {
 
 
 def mutant(folder: str, room: str, it: Mutant) -> str:
-    """A copy of the layer's sources with that change in it: its main file."""
+    """Makes a copy of the layer's sources with that change in it; returns its main file."""
     shutil.copytree(folder, room, ignore=shutil.ignore_patterns("tests"))
     path = os.path.join(room, it.file)
     with open(path) as file:

@@ -34,7 +34,7 @@ static void *lock_soon_by_clock(void *it) {
     return (void *)(intptr_t)pthread_mutex_clocklock(&((struct box *)it)->mutex, CLOCK_MONOTONIC, &limit);
 }
 
-/* What another thread's call answers. */
+/* What the call answers if another thread makes it. */
 static int by_another(void *(*call)(void *), struct box *b) {
     pthread_t thread;
     void *answer;

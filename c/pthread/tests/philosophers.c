@@ -1,5 +1,5 @@
-/* Five philosophers, with a state and a condition for each. Faults: if (which is right here: who signals has set the
-   state of whom it wakes); forget (the look at the right neighbour, and its signal). */
+/* Five philosophers, with a state and a condition for each. Faults: if (which is right here: the thread that signals
+   has set the state of the one that it wakes); forget (the look at the right neighbour, and its signal). */
 #include "textbook.h"
 
 enum { SEATS = 5 };

@@ -1,5 +1,5 @@
 /* A pool of threads with a queue of work, a wait until all is done, and a broadcast at the end. `after` isn't a
-   fault: the signal comes behind the unlock. Faults: if; one (a signal at the end). */
+   fault: the signal comes after the unlock. Faults: if; one (a signal at the end). */
 #include "textbook.h"
 
 enum { WORKERS = 4, DRAINS = 3 };

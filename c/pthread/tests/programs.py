@@ -14,8 +14,8 @@ SOUND = (Program(("odd",), "odd: bad 0"), Program(("timed", "60"), "timed: late 
          Program(("barrier",), "barrier: wrong 0"), Program(("conditions",), "conditions: bad 0"))
 RIGHT = (("buffer", "right"), ("readers", "right"), ("philosophers", "right"), ("barber", "right"), ("pool", "right"),
          ("pool", "after"), ("barrier", "right"))
-# What monk-try has to say of a program with a planted fault; `right` where it is none. (A signal that the buffer
-# forgets in one round is covered by later ones: it can't be found for certain, so it isn't here.)
+# What monk-try has to say of a program with a planted fault; `right` if it is none. (A signal that the buffer forgets
+# in one round is covered by later ones: it can't be found for certain, so it isn't here.)
 LESSONS = {("buffer", "if"): "if", ("barber", "if"): "if", ("pool", "if"): "if", ("readers", "if"): "hoare",
            ("philosophers", "if"): "right", ("buffer", "one"): "broadcast", ("readers", "one"): "broadcast",
            ("pool", "one"): "broadcast", ("buffer", "early"): "signal", ("buffer", "unlock"): "unlock",

@@ -1,4 +1,4 @@
-/* Readers and writers, writers first. Faults: if; one (a signal to the readers where a broadcast is needed). */
+/* Readers and writers, writers first. Faults: if; one (a signal to the readers, though a broadcast is needed). */
 #include "textbook.h"
 
 enum { THREADS = 6, WRITERS = 2, WORK = 100 };

@@ -22,7 +22,7 @@ static inline void read_words(int count, char **words) {
 
 static inline void must_hold(int holds) { wrong += !holds; }
 
-/* Waits while the program may not go on; once at most, if the fault is that. */
+/* Waits while the program may not go on; once at most, if the fault is `if`. */
 #define WAIT_WHILE(barred, condition, mutex)     \
     do {                                         \
         while (barred) {                         \
@@ -31,7 +31,7 @@ static inline void must_hold(int holds) { wrong += !holds; }
         }                                        \
     } while (0)
 
-/* Runs so many threads to their ends. */
+/* Runs that number of threads to their ends. */
 static inline void run_threads(int count, void *(*work)(void *)) {
     pthread_t threads[count];
     for (long i = 0; i < count; i++) pthread_create(&threads[i], NULL, work, (void *)i);

@@ -1,4 +1,4 @@
-"""Whether a volume of a history begins with what the one before it ended with: who waits where, in order, and who is
+"""Whether a volume of a history begins as the one before it ended: who waits where, in order, and who is
 inside."""
 import os
 import re
@@ -7,7 +7,7 @@ from typing import Dict, List, Optional, Tuple
 
 
 def situation(monk: str, path: str) -> "Tuple[Dict[int, List[str]], str, List[str]]":
-    """At the end: the queues of the conditions, who is inside, and who else waits inside, which nobody may."""
+    """At the end: the queues of the conditions, who is inside, and who else waits inside, though nobody may."""
     with open(path) as file:
         text = subprocess.run([monk, "explain"], stdin=file, stdout=subprocess.PIPE, universal_newlines=True).stdout
     queues = {int(found[1]): found[2].split() for found in re.finditer(r"^condition (\d+):(.*)$", text, re.M)}

@@ -15,13 +15,13 @@
                 self.items.append(item)
                 self.not_empty.notify()
 
-`Buffer(monk.Monitor("NPNB"))` is for threads. Each has a seat, taken at its first `with` and given back when the
-thread ends. `monitor.history()` is the text that `monk audit`, `monk explain` and `monk draw` read. `monk.compare`
-runs a scene without threads, in every order, under each kind (`scenes`); `Buffer(monk.Staged())` is such a scene of
-this very class.
+`Buffer(monk.Monitor("NPNB"))` is for threads. Each thread has a seat, taken at its first `with` and given back when
+the thread ends. `monitor.history()` is the text that `monk audit`, `monk explain` and `monk draw` read.
+`monk.compare` runs a scene without threads, in every order, under each kind (`scenes`); `Buffer(monk.Staged())` is
+such a scene of this very class.
 
-The library behind it is libmonk (docs/C.md): the file that MONK_LIBRARY names, else libmonk.so in this folder, else
-the system's libmonk.so.1. A refused call raises an error named after the answer, and then nothing has changed. """
+The library below is libmonk (docs/C.md): the file that MONK_LIBRARY names, else libmonk.so in this folder, else the
+system's libmonk.so.1. A refused call raises an error named after the answer, and then nothing has changed."""
 
 from .calls import Call, Calls, condition, enter, leave, signal, signal_all, wait
 from .conditions import Condition, Flag

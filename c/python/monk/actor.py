@@ -1,4 +1,4 @@
-"""A program of a scene at its seat, as far as it has come."""
+"""A program of a scene at its seat, and how far it has come."""
 
 from __future__ import annotations
 
@@ -17,7 +17,7 @@ from .scene import Program, line_of
 from .seat import Seat
 from .staged import Threaded
 
-# Frames of these files are no part of what a user wrote.
+# Frames of these files aren't part of what a user wrote.
 OTHERS = (os.path.dirname(os.path.abspath(__file__)) + os.sep, sysconfig.get_paths()["stdlib"] + os.sep, "<frozen")
 
 
@@ -39,13 +39,13 @@ class Steps:
         return next(self.generator)
 
     def close(self) -> None:
-        """Ends it. It may have a `finally` that makes a call, which nobody takes any more."""
+        """Ends the program. It may have a `finally` that makes a call, which nobody takes any more."""
         with contextlib.suppress(Exception):
             self.generator.close()
 
     @property
     def line(self) -> int:
-        """At which line it stands."""
+        """The line at which the program is."""
         inner = self.generator
         while inspect.isgenerator(inner.gi_yieldfrom):
             inner = inner.gi_yieldfrom
@@ -54,7 +54,7 @@ class Steps:
 
 @dataclass
 class Served:
-    """By whom a seat was served in this visit, on which condition, by which event; and at which event it went on."""
+    """Who served a seat in this visit, on which condition, by which event; and at which event it went on."""
     by: str = ""
     on: str = ""
     at: int = 0
@@ -73,7 +73,7 @@ class Actor:
 
     @property
     def on(self) -> str:
-        """The condition on which it waits, or waited last: that of its last call."""
+        """The condition on which it waits, or waited last: the one of its last call."""
         return self.next.name if self.next else ""
 
     def waits(self) -> bool:
@@ -100,7 +100,7 @@ class Actor:
 
 
 def _steps(program: Program) -> Union[Steps, Threaded]:
-    """The calls of a program. OutOfRange, with its name and line, if it wants arguments."""
+    """The calls of a program. OutOfRange, with its name and line, if it needs arguments."""
     if not inspect.isgeneratorfunction(program):
         return Threaded(program)
     try:
@@ -110,7 +110,7 @@ def _steps(program: Program) -> Union[Steps, Threaded]:
 
 
 def where(fault: BaseException) -> str:
-    """The error, with the line of the user's that raised it."""
+    """The error, with the user's line that raised it."""
     frames = traceback.extract_tb(fault.__traceback__)
     own = [frame for frame in frames if not frame.filename.startswith(OTHERS)]
     place = f" (line {own[-1].lineno}: {own[-1].line})" if own else ""

@@ -25,7 +25,7 @@ class Call:
     until: Optional[Test] = None
 
 
-# What a program is that has the calls of a scene.
+# The type of a program's calls in a scene.
 Calls = Iterator[Call]
 
 
@@ -48,7 +48,7 @@ def enter() -> Call:
 
 
 def leave() -> Call:
-    """Leaves. Nothing under immediate return if a signal was the way out."""
+    """Leaves. Does nothing under immediate return if a signal was the way out."""
     return Call("leave")
 
 

@@ -60,7 +60,7 @@ class _Places:
 
 
 def picture_of(text: str, conditions: Sequence[str] = ()) -> Picture:
-    """What a picture shows of a legal history, with these names of its conditions."""
+    """What a picture shows of a legal history, with these names for its conditions."""
     head, *lines = text.split("\n")
     _, _, kind, seats, _, thing, size = head.split()
     events, places = [line.split() for line in lines if line], _Places(int(seats))

@@ -17,8 +17,8 @@ NO_TIME_LIMIT = ("a condition has no time limit, since who waits holds a place i
 
 
 class Condition(Visits):
-    """A condition of a monitor, used like threading.Condition by a thread that is inside. It has no time limits: who
-    waits holds a place in a queue."""
+    """A condition of a monitor, used like threading.Condition by a thread that is inside. It has no time limits: a
+    thread that waits holds a place in a queue."""
 
     def __init__(self, monitor: Monitor, number: int) -> None:
         self.monitor, self.number, self._here = monitor, number, monitor._here
@@ -43,7 +43,7 @@ class Condition(Visits):
         return True
 
     def wait_for(self, predicate: Callable[[], T], timeout: Optional[float] = None) -> T:
-        """Waits until the predicate is true, and tests it each time: right under every kind that has conditions."""
+        """Waits until the predicate is true; tests it after each wait. Right under each kind that has conditions."""
         result = predicate()
         while not result:
             self.wait(timeout)
@@ -51,8 +51,8 @@ class Condition(Visits):
         return result
 
     def notify(self, n: int = 1) -> None:
-        """Signals n times. Under a blocking kind whoever is served goes on first. Under immediate return the caller
-        is outside then."""
+        """Signals n times. Under a blocking kind the thread that is served goes on first. Under immediate return the
+        caller is outside then."""
         if self.monitor.mode != "immediate return":
             seat = self._here.seat or self.here
             for _ in range(n):
@@ -100,5 +100,5 @@ class Flag:
     pause = wait
 
     def finish(self) -> None:
-        """Leaves: whoever waits for a flag that is set goes on."""
+        """Leaves: a thread that waits for a flag that is set goes on."""
         self.monitor.here.finish(self.number)

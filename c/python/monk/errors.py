@@ -1,4 +1,4 @@
-"""What a call raises if it was refused. The errors are named after the answers of monk.h."""
+"""What a call raises if it is refused. The errors are named after the answers of monk.h."""
 
 from __future__ import annotations
 
@@ -10,11 +10,11 @@ class MonkError(RuntimeError):
 
 
 class NotNow(MonkError):
-    """The seat stands elsewhere: a wait from outside, an enter from inside."""
+    """The seat is in another place: a wait from outside, an enter from inside."""
 
 
 class Spent(MonkError):
-    """Too few events are left to the seat. It can still leave."""
+    """The seat has too few events left. It can still leave."""
 
 
 class NotOfKind(MonkError):
@@ -34,7 +34,7 @@ class NoSeat(MonkError):
 
 
 class Busy(MonkError):
-    """Seats are taken still, or the monitor didn't come free in time."""
+    """Seats are still taken, or the monitor didn't become free in time."""
 
 
 class InUse(MonkError):
@@ -42,7 +42,7 @@ class InUse(MonkError):
 
 
 class Stopped(MonkError):
-    """The monitor was stopped while the seat waited. It waits still, and the end of its `with` gives it up."""
+    """The monitor was stopped while the seat waited. The seat still waits, and the end of its `with` gives it up."""
 
 
 class Closed(MonkError):

@@ -18,7 +18,7 @@ if TYPE_CHECKING:
     from .seat import Seat
 
 USUAL_BUDGET = 65536
-# What the numbers of a shape may be: the least, the most, and how that is told.
+# What the numbers of a shape may be: the least, the most, and the same in words.
 SHAPES = {"seats": (1, 32, "1 to 32"), "conditions": (0, 8, "0 to 8"), "flags": (0, 32, "0 to 32"),
           "budget": (2, 2**20, f"2 to {2**20}, or 0 for {USUAL_BUDGET}"), "seed": (0, 2**64 - 1, f"0 to {2**64 - 1}")}
 
@@ -32,13 +32,13 @@ def test_shape(**numbers: Optional[int]) -> None:
 
 
 def has_none_such(call: str, what: str, count: int) -> OutOfRange:
-    """The error of a call with a number that the monitor doesn't have: it has so many."""
+    """The error of a call with a number that the monitor doesn't have: it has `count` of them."""
     return OutOfRange(f"{call}: {what} are 0 to {count - 1}" if count else f"{call}: the monitor has no {what}")
 
 
 class Numbered:
-    """The conditions of a monitor, or its flags. There are as many as is said, else as many as are asked for before
-    its first use."""
+    """The conditions of a monitor, or its flags. Their number is the one that is given, else how many are asked for
+    before the first use."""
 
     def __init__(self, what: str, said: Optional[int]) -> None:
         self.what, self.said, self.asked = what, said, 0
@@ -62,7 +62,7 @@ class Numbered:
         return number
 
     def next(self, name: Optional[str], is_made: bool) -> int:
-        """The number of the one of that name, which is the next one if the name is new."""
+        """The number of the one with that name. If the name is new, it is the next number."""
         for number, known in self._names.items():
             if known == name:
                 return number
@@ -78,16 +78,16 @@ class Numbered:
 
 
 class Handle:
-    """The library's monitor. Monitor and seats share it, so it ends with the last of them."""
+    """The library's monitor. A Monitor and its seats share it, so it ends with the last of them."""
 
     def __init__(self, shape: Shape, conditions: Optional[int], flags: Optional[int]) -> None:
         self.at, self.shape = ctypes.c_void_p(), shape
         self.kind, self.mode = KINDS[shape.kind], mode_of(KINDS[shape.kind])
         self.conditions, self.flags = Numbered("condition", conditions), Numbered("flag", flags)
-        # By the numbers of seats: the seats that were taken last, and whose they were.
+        # By the numbers of seats: the seat that was taken last, and whose it was.
         self.sitters: "Dict[int, weakref.ref[Seat]]" = {}
         self.names: Dict[int, str] = {}
-        # For how many seconds a thread waits before it says who waits where. None: for ever.
+        # How many seconds a thread waits before it says who waits where. None: for ever.
         self.patience: Optional[float] = None
         self.is_told = self.is_stopped = False
         self._process, self._is_closed = os.getpid(), False
@@ -99,7 +99,7 @@ class Handle:
 
     def made(self) -> ctypes.c_void_p:
         """The library's pointer. The first call makes the monitor, with the conditions and flags that were asked for
-        till then."""
+        until then."""
         with self._making:
             if not self.at:
                 self.shape.conditions, self.shape.flags = self.conditions.count, self.flags.count
@@ -128,7 +128,7 @@ class Handle:
         self._is_closed = True
 
     def history(self, by: Optional[Seat]) -> str:
-        """The history by a seat that is inside, else by a look: a visit of the library's own, which isn't in it."""
+        """The history by a seat that is inside, else by a look: the library's own visit, which is left out."""
         text = self._text(by)
         if by is None and not self._is_closed:
             self._looks.append(events_in(text))

@@ -13,12 +13,12 @@ WISHES = ("entry", "waiter", "signaller", "any")
 
 
 def mode_of(kind: str) -> str:
-    """Its mode, which says what a signal does."""
+    """The kind's mode, which says what a signal does."""
     return MODES[number_of(kind) // KINDS_OF_A_MODE]
 
 
 def number_of(kind: str) -> int:
-    """Its number for the library. OutOfRange, with the name that was perhaps meant, if there is no such kind."""
+    """Its number in the library. OutOfRange, with the name that was perhaps meant, if there is no such kind."""
     if kind in KINDS:
         return KINDS.index(kind)
     near = difflib.get_close_matches(str(kind).upper(), KINDS, 1)
@@ -27,7 +27,7 @@ def number_of(kind: str) -> int:
 
 
 def number_of_wish(wish: str) -> int:
-    """Its number for the library. OutOfRange if there is no such wish."""
+    """The wish's number in the library. OutOfRange if there is no such wish."""
     if wish in WISHES:
         return WISHES.index(wish)
     raise OutOfRange(f"no wish is {wish!r}: there are {', '.join(WISHES)}")

@@ -18,7 +18,7 @@ from .orders import Comparison, Orders, compare
 from .scene import Made
 
 WIDTH = 92
-# Of a check, in seconds of the processor. A check that is met takes one or two.
+# The limit of a check, in seconds of the processor. A check that is met takes one or two.
 MOST_SECONDS = 20
 INDENT = " " * 9
 
@@ -31,7 +31,7 @@ class Verdict(NamedTuple):
 
 @dataclass
 class Check:
-    """A thing that has to be so."""
+    """Something that has to hold of the student's work."""
     title: str
     look: Callable[[], Verdict]
 
@@ -52,7 +52,7 @@ def holds(title: str, made: Made, kinds: Sequence[str] = KINDS, orders: Orders =
 
 
 def breaks(title: str, made: Made, kinds: Sequence[str], orders: Orders = "all") -> Check:
-    """The scene doesn't go right under these kinds, and under no other: that is what the student was to find."""
+    """The scene doesn't go right under these kinds, and does under all others: the student was to find that."""
     def look() -> Verdict:
         found = compare(made, orders=orders)
         if sorted(kinds) == sorted(found.breaks):
@@ -62,14 +62,14 @@ def breaks(title: str, made: Made, kinds: Sequence[str], orders: Orders = "all")
 
 
 def is_so(title: str, is_met: Callable[[], bool], hint: str) -> Check:
-    """What needs no run of its own. The hint says what is wrong if it isn't so."""
+    """A check that needs no run of its own. The hint says what is wrong if it isn't so."""
     def look() -> Verdict:
         return Verdict(True, "yes") if is_met() else Verdict(False, hint)
     return Check(title, look)
 
 
 def _broken(found: Comparison) -> str:
-    """The first kind that breaks: in how many orders, where, who came between, the picture, and the moves."""
+    """Says of the first kind that breaks: in how many orders, where, who came between, picture, and moves."""
     finding = found[found.breaks[0]]
     run = finding.example
     bad = sum(finding.bad.values())
@@ -80,7 +80,7 @@ def _broken(found: Comparison) -> str:
 
 
 def _looked(check: Check) -> Verdict:
-    """What the check finds. An error in the student's file is no end of the others."""
+    """What the check finds. An error in the student's file doesn't end the other checks."""
     try:
         signal.setitimer(signal.ITIMER_PROF, MOST_SECONDS)
         return check.look()
@@ -93,7 +93,7 @@ def _looked(check: Check) -> Verdict:
 
 
 def grade(name: str, checks: Sequence[Check]) -> int:
-    """Prints what each check found. 0 if all are met, else 1."""
+    """Prints what each check found. Returns 0 if all are met, else 1."""
     def stop(*_: Any) -> None:
         raise TooLong("some program goes on without a call")
     signal.signal(signal.SIGPROF, stop)

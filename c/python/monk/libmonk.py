@@ -12,7 +12,7 @@ OUTSIDE, WAITING, INSIDE = 1, 2, 3
 PLACES = {OUTSIDE: "outside", WAITING: "waiting", INSIDE: "inside"}
 FOREVER = -1
 AT_ONCE = ctypes.c_long(0)
-# The greatest numbers that C holds: ctypes hands over what is left of a greater one, and says nothing.
+# The greatest numbers that C holds: of a greater one ctypes silently passes the low bits.
 MOST_UNSIGNED, MOST_LONG = 2**32 - 1, 2 ** (8 * ctypes.sizeof(ctypes.c_long) - 1) - 1
 SYSTEMS_LIBRARY = "libmonk.so.1"
 # Calls with a pointer, and those with a pointer and the number of a condition or a flag.

@@ -17,11 +17,11 @@ from .visits import Here, Visits
 class Monitor(Visits, Told):
     """A monitor of a kind. `with monitor:` comes in by the calling thread's seat, and leaves at the end.
 
-    kind: one of KINDS. seats: 1 to 32, one for each thread, and one to spare for a look at a run that hangs.
-    conditions: 0 to 8. flags: 0 to 32. Where these two are left out there are as many as are asked for before the
-    first use. budget: how many events each seat has. wish: whom releases prefer where the kind leaves it open, one of
-    WISHES. seed: of the wish "any". patience: for how many seconds a thread waits before it says who waits where, and
-    ends a run in which all wait; MONK_SECONDS names it, too."""
+    kind: one of KINDS. seats: 1 to 32, one for each thread, and one more for a look at a run that hangs. conditions:
+    0 to 8. flags: 0 to 32. If these two are left out, there are as many as are asked for before the first use.
+    budget: how many events each seat has. wish: whom releases prefer if the kind leaves it open, one of WISHES. seed:
+    for the wish "any". patience: how many seconds a thread waits before it says who waits where, and ends a run in
+    which all wait; MONK_SECONDS sets it, too."""
 
     def __init__(self, kind: str, seats: int = 8, conditions: Optional[int] = None, flags: Optional[int] = None,
                  budget: int = USUAL_BUDGET, wish: str = "waiter", seed: int = 0,
@@ -81,8 +81,8 @@ class Monitor(Visits, Told):
         self._here.seat.give()
 
     def set_flags(self, *flags: Union[int, Flag, Tuple[Union[int, Flag], bool]]) -> None:
-        """Sets all flags at once: those that are given are set, and no other. Each is a flag, or a pair of one and
-        whether it is set."""
+        """Sets all flags at once: those that are given are set, and no others. Each is a flag, or a pair of a flag
+        and whether it is set."""
         bits, seat = 0, self.here
         for flag in flags:
             given, is_set = flag if isinstance(flag, tuple) else (flag, True)
@@ -93,21 +93,21 @@ class Monitor(Visits, Told):
         seat.flags = bits
 
     def who(self) -> str:
-        """Who stands where, and who waits since when, a line for each seat that is taken: of a run that hangs."""
+        """For a run that hangs: who is where, and who waits since when, a line for each seat that is taken."""
         return report(self._handle)
 
     def stop(self) -> None:
-        """Ends all waiting, from any thread: whoever waits gets Stopped."""
+        """Ends all waiting, from any thread: each call that waits raises Stopped."""
         self._handle.stop()
 
     def close(self) -> None:
-        """No seat may be taken, but this thread's, which is given back. From then on the history is whole."""
+        """Gives back this thread's seat. No other may be taken. From then on the history is complete."""
         self.give()
         self._handle.close()
 
     def history(self) -> str:
         """The history up to now: by this thread's seat if it is inside, else by a look of a seat that nobody has,
-        which isn't in it."""
+        which the history leaves out."""
         seat = self._here.seat
         return seat.history() if seat and seat.place == PLACES[INSIDE] else self._handle.history(None)
 

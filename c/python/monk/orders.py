@@ -16,7 +16,7 @@ from .scenes import play, played
 from .stage import Choose, Way
 from .tables import html_table, table
 
-# Runs of a kind.
+# The most runs of a kind.
 MOST = 5_000
 # Outcomes, the worst first.
 ORDER = (NO_SUCH_CALL, WRONG, STUCK, RIGHT)
@@ -26,10 +26,10 @@ Ways = Iterator[Callable[[], Choose]]
 
 @dataclass
 class Finding:
-    """What the runs under one kind gave."""
+    """What the runs under one kind found."""
     kind: str
     runs: int = 0
-    # Runs by outcome, but for those that were right.
+    # Runs by outcome, except those that were right.
     bad: Dict[str, int] = field(default_factory=dict)
     # Whether every order of moves and every wish was tried.
     is_whole: bool = False
@@ -94,9 +94,9 @@ class Comparison:
 def compare(made: Made, kinds: Sequence[str] = KINDS, orders: Orders = "all", wish: Optional[str] = None,
             most: int = MOST, seed: int = 0) -> Comparison:
     """Plays the scene under each kind. orders: "all" tries each order of moves, and at each release each wish that
-    the kind leaves open, up to `most` runs of a kind; a number throws dice for so many runs, which `seed` makes
+    the kind leaves open, up to `most` runs of a kind; a number throws dice for that many runs, which `seed` makes
     repeatable; in "list" all arrive at once, in the order of the list. wish: this one in place of all. OutOfRange if
-    one of these can't be taken, or the scene.
+    one of these, or the scene, can't be taken.
 
     A run of a scene of generators costs some 0.5 ms, one of `Staged` one or two."""
     if orders not in ("all", "list") and not (isinstance(orders, int) and orders >= 1):
@@ -145,7 +145,7 @@ def _finding(made: Made, way: Way, names: List[str], ways: Ways, most: int) -> F
 
 def all_orders(most: int) -> Ways:
     """Each order of moves once, depth first: every run repeats the last one up to its last open choice, and there
-    takes the next. At most so many."""
+    takes the next. At most `most`."""
     path: List[Tuple[int, int]] = []
 
     def begin() -> Choose:

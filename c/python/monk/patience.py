@@ -1,4 +1,4 @@
-"""Who waits where, and what is done about a run in which nobody can go on."""
+"""Who waits where, and what is done if nobody in a run can go on."""
 
 from __future__ import annotations
 
@@ -17,7 +17,7 @@ VARIABLE = "MONK_SECONDS"
 
 
 def patience_of(seconds: Optional[float]) -> Optional[float]:
-    """The seconds that are given, else those of MONK_SECONDS, else None. OutOfRange if they aren't above 0."""
+    """The seconds that are given, else those in MONK_SECONDS, else None. OutOfRange if they aren't above 0."""
     named = os.environ.get(VARIABLE)
     if seconds is None and not named:
         return None
@@ -32,7 +32,7 @@ def patience_of(seconds: Optional[float]) -> Optional[float]:
 
 
 def report(handle: Handle) -> str:
-    """A line for each seat that is taken: whose it is, and for what it waits since when."""
+    """A line for each seat that is taken: whose it is, what it waits for, and since when."""
     now = time.monotonic()
     return "\n".join(f"  {seat.title}: {_doing(seat, now)}" for seat in handle.seats())
 
@@ -42,8 +42,8 @@ def _doing(seat: Seat, now: float) -> str:
 
 
 def lose(seat: Seat) -> None:
-    """Called by a thread that waits. If its patience is over it says so, once. If each seat that is taken has waited
-    as long, nobody can go on, and all waiting is ended."""
+    """Called by a thread that waits. If its patience is over, it says so, once. If each seat that is taken has waited
+    that long, nobody can go on, and it ends all waiting."""
     handle, now = seat.handle, time.monotonic()
     if handle.patience is None or handle.is_stopped or now - seat.since < handle.patience:
         return

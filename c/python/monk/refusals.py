@@ -11,11 +11,11 @@ from .handle import SHAPES
 if TYPE_CHECKING:
     from .seat import Seat
 
-# By the call and where the seat stands.
+# By the call and the place of the seat.
 REMEDIES = {("enter", "inside"): "leave first, or drop the inner `with`",
             ("leave", "outside"): "it never came in, or has left",
             ("release", "outside"): "it never came in, or has left"}
-# By where the seat stands.
+# By the place of the seat.
 REMEDIES_OF_ANY = {"outside": "come in first, by `with monitor:`", "inside": "leave first",
                    "waiting": "its last call isn't over, so await_ or poll it"}
 # By the call and the mode.
@@ -54,6 +54,6 @@ def _out_of_place(verb: str, seat: Seat) -> str:
 
 
 def no_seat(seats: int) -> MonkError:
-    """The error of a thread that finds each seat taken."""
+    """The error for a thread that finds every seat taken."""
     return ERRORS[NO_SEAT](f"each of the {seats} seats is taken: give Monitor(seats=..) a seat for each thread at once,"
                            " and one to spare for a look at the run")

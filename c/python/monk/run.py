@@ -14,11 +14,11 @@ RIGHT, WRONG, STUCK, NO_SUCH_CALL = "right", "wrong", "stuck", "no such call"
 
 @dataclass
 class Run(Told):
-    """One run of a scene. The history is the kernel's; what else is told is the driver's."""
+    """One run of a scene. The history is the kernel's; everything else is the driver's."""
     kind: str
     # The names of the seats.
     seats: List[str]
-    # "right", "wrong", "stuck" or "no such call"; whose fault that is, why, and after which event.
+    # "right", "wrong", "stuck" or "no such call"; whose fault it is, why, and after which event.
     outcome: str = RIGHT
     who: str = ""
     why: str = ""
@@ -28,9 +28,9 @@ class Run(Told):
     # Whether a program went on until its events were spent.
     is_endless: bool = False
     moves: List[str] = field(default_factory=list)
-    # For each event who made it, and what it was in words.
+    # For each event: who made it, and what it was in words.
     story: List[Tuple[str, str]] = field(default_factory=list)
-    # What the programs share: at the end; and before the first event and at each.
+    # What the programs share: at the end; and before the first event and at each event.
     data: Dict[str, str] = field(default_factory=dict)
     told: List[str] = field(default_factory=list)
     history: str = ""
@@ -56,8 +56,8 @@ class Run(Told):
         return self.conditions
 
     def page_data(self) -> Dict[str, Any]:
-        """What a page shows besides the history: names, the data before the first event and after each, and how it
-        ended."""
+        """What a page shows in addition to the history: names, the data before the first event and after each, and
+        how it ended."""
         return {**super().page_data(), "data": self.told, "end": f"Then {self.fault}." if self.why else ""}
 
     def _repr_html_(self) -> str:

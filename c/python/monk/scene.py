@@ -21,8 +21,8 @@ Program = Callable[[], Union[Iterator[Call], object]]
 @dataclass
 class Scene:
     """Programs; a test that has to hold whenever the monitor is given up; and one that has to hold at the end of a
-    run. A test fails if it returns a false value other than None, or raises. may_wait: the names of programs that may
-    rightly wait for ever."""
+    run. A test fails if it returns a false value other than None, or raises an error. may_wait: the names of programs
+    that may rightly wait for ever."""
     programs: Sequence[Program]
     invariant: Optional[Test] = None
     end: Optional[Test] = None
@@ -34,7 +34,7 @@ Made = Callable[[], Union[Scene, Sequence[Program]]]
 
 
 def scene_of(made: Made) -> Scene:
-    """The scene that the function makes. OutOfRange, with the function's name and line, if it is none."""
+    """The scene that the function makes. OutOfRange, with the function's name and line, if it makes no scene."""
     given: Any = made()
     scene = given if isinstance(given, Scene) else None
     programs = scene.programs if scene else given
@@ -65,7 +65,7 @@ def bare(function: Any) -> Any:
 
 
 def titles(programs: Sequence[Program]) -> List[str]:
-    """The names of the programs, as the words of a schedule. Those of one name are numbered."""
+    """The names of the programs, as the words of a schedule. Programs with the same name are numbered."""
     names = [NO_WORD.sub("_", name_of(program)) for program in programs]
     found = [name if names.count(name) == 1 else f"{name}{names[:i].count(name) + 1}" for i, name in enumerate(names)]
     return found if len(set(found)) == len(found) else [f"{name}.{i}" for i, name in enumerate(names, 1)]

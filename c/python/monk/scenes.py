@@ -24,9 +24,9 @@
 
     print(compare(buffer))
 
-Each program is a generator that yields its calls. What stands between two yields is one step. The real kernel takes
-the calls, one at a time. The driver only says who moves next, and a run is told by these moves: `play(buffer, "NPNB",
-"taker putter thief ..")`. """
+Each program is a generator that yields its calls. The code between two yields is one step. The real kernel takes the
+calls, one at a time. The driver only says who moves next, and these moves describe a run: `play(buffer, "NPNB",
+"taker putter thief ..")`."""
 
 from __future__ import annotations
 
@@ -43,7 +43,7 @@ from .stage import Choose, NewName, Stage, Way
 def play(made: Made, kind: str, schedule: str = "", wish: Optional[str] = None) -> Run:
     """One run of a scene under that kind, with its history. The words of the schedule say who moves, one after the
     other: `putter`, or `putter/entry` with whom the release prefers. When they are used up, all arrive in the order
-    of the list, and then whoever is inside moves. wish: whom all releases prefer where the kind leaves it open.
+    of the list, and then the one that is inside moves. wish: whom all releases prefer if the kind leaves it open.
     OutOfRange if the schedule can't be played: at which word, and who can move there."""
     number_of(kind)
     number_of_wish(wish or "any")
@@ -82,7 +82,7 @@ class Words:
 
 
 def played(made: Made, way: Way, names: List[str], begin: Callable[[], Choose]) -> Run:
-    """One run. It begins again with each condition whose name is new; these are added to the names."""
+    """One run. It begins again at each condition whose name is new, and adds it to the names."""
     while True:
         stage = Stage(scene_of(made), way, names)
         try:

@@ -20,12 +20,12 @@ from .lost import warn_of
 from .patience import lose
 from .refusals import no_seat, refusal
 
-# Who may have to be woken waits in slices: the main thread sees an interrupt then, and a thread that its patience is
-# over.
+# A thread that may have to wake early waits in slices: the main thread, to see an interrupt, and a thread with
+# patience, to see that it is over.
 SLICE_MS = 100
 MS_A_SECOND = 1000
 
-# Those of each visit, looked up once. A seat's pointer and the time are ctypes values already, so nothing is converted.
+# Each visit's calls, looked up once. A seat's pointer and the time are ctypes values already: nothing is converted.
 _enter_within: Any = library_now.monk_enter_within
 _leave: Any = library_now.monk_leave
 _start_signal: Any = library_now.monk_start_signal
@@ -38,24 +38,24 @@ def _is_left(answer: int, _: object, words: Tuple[Any, ...]) -> None:
 
 
 leave_visit = leave_before(_is_left)
-# A seat that ends is given back where it has left, too.
+# At the end of its `with` a seat is given back, also if it has left before.
 _leave_seat = leave_before(lambda _answer, _call, words: words[0].give())
 
 
 class Seat(ctypes.c_void_p):
-    """A seat of a monitor. One thread at a time uses it. It is the library's pointer, and null until the seat is
-    taken and after it was given back."""
+    """A seat of a monitor. One thread at a time uses it. It is the library's pointer. It is null until the seat is
+    taken, and after it was given back."""
 
     def __init__(self, handle: Handle) -> None:
         super().__init__()
-        # A call that signals and leaves was its way out, and no release or end of a `with` has come behind it yet.
+        # A call that signals and leaves was its way out, and no release or end of a `with` has come after it yet.
         self.has_signalled_out = False
         self.handle = handle
-        # For what it waits, in words, and since when.
+        # What it waits for, in words, and since when.
         self.waits, self.since = "", 0.0
 
     def take(self, wish: str) -> None:
-        """Takes a seat of the library's for this thread."""
+        """Takes a seat of the library for this thread."""
         answer = libmonk.library.monk_take_seat(self.handle.made(), ctypes.byref(self))
         if answer == NO_SEAT:
             raise no_seat(self.handle.shape.seats)
@@ -77,8 +77,8 @@ class Seat(ctypes.c_void_p):
         return answer
 
     def _asked(self, call: str, ask: Callable[..., int], among: Numbered, *numbers: int) -> int:
-        """The library's answer to a call about conditions or flags. It knows which there are, but C can't hold every
-        number."""
+        """The library's answer to a call about conditions or flags. The library knows which there are, but C can't
+        hold every number."""
         at = self._pointer()
         answer = ask(at, *numbers) if all(0 <= number <= MOST_UNSIGNED for number in numbers) else RANGE
         if answer == RANGE:
@@ -93,7 +93,7 @@ class Seat(ctypes.c_void_p):
 
     @property
     def name(self) -> str:
-        """Its name in reports and pictures: that of the thread that took it, or another that was set."""
+        """Its name in reports and pictures: the name of the thread that took it, or another that was set."""
         return self.handle.names.get(self.number, "")
 
     @name.setter
@@ -110,16 +110,16 @@ class Seat(ctypes.c_void_p):
 
     @property
     def left(self) -> int:
-        """How many events are left to it."""
+        """How many events it has left."""
         return int(libmonk.library.monk_left(self._pointer()))
 
     @property
     def place(self) -> str:
-        """Where it stands: "outside", "waiting" or "inside"."""
+        """Its place: "outside", "waiting" or "inside"."""
         return PLACES[checked(libmonk.library.monk_place(self._pointer()))]
 
     def wish(self, wish: str) -> None:
-        """Whom its releases prefer where the kind leaves it open: one of WISHES."""
+        """Sets whom its releases prefer if the kind leaves it open: one of WISHES."""
         checked(libmonk.library.monk_set_wish(self._pointer(), number_of_wish(wish)))
 
     def await_(self, timeout: Optional[float] = None) -> bool:
@@ -133,7 +133,7 @@ class Seat(ctypes.c_void_p):
         return self._tested(libmonk.library.monk_await(self._pointer(), limit), "await_") == INSIDE
 
     def _await_in_slices(self, limit: int) -> bool:
-        """Waits for so many milliseconds. After each slice of them it looks for an interrupt, and at what else
+        """Waits for `limit` milliseconds. After each slice of them it looks for an interrupt, and at what else
         waits."""
         end = math.inf if limit == FOREVER else time.monotonic() * MS_A_SECOND + limit
         while True:
@@ -145,7 +145,7 @@ class Seat(ctypes.c_void_p):
             lose(self)
 
     def _waiting_for(self, place: int, what: str) -> int:
-        """The place. If it is one of waiting, what it waits for is told."""
+        """Returns the place. If the seat waits there, notes what it waits for."""
         if place == WAITING:
             self.waits, self.since = what, time.monotonic()
         return place
@@ -193,7 +193,7 @@ class Seat(ctypes.c_void_p):
         return f"waits on condition {self.handle.conditions.name(condition)}"
 
     def signal(self, condition: int) -> None:
-        """Serves the first who waits there. Under a blocking kind that one goes on first."""
+        """Serves the first who waits there. Under a blocking kind that seat goes on first."""
         place: int = _start_signal(self, condition) if 0 <= condition <= MOST_UNSIGNED else RANGE
         if place != INSIDE:
             self._go_on_signalling(place, condition)
@@ -229,7 +229,7 @@ class Seat(ctypes.c_void_p):
         self._waiting_for(place, self._on(condition))
 
     def start_signal(self, condition: int) -> bool:
-        """As `signal`, but doesn't wait. Whether it is inside still."""
+        """As `signal`, but doesn't wait. Returns whether the seat is still inside."""
         place = self._asked("start_signal", libmonk.library.monk_start_signal, self.handle.conditions, condition)
         return self._waiting_for(place, GAVE_WAY) == INSIDE
 
@@ -240,7 +240,7 @@ class Seat(ctypes.c_void_p):
         self._waiting_for(place, self._on(wait_condition))
 
     def start_wait_until(self, flag: int) -> bool:
-        """As `wait_until`, but doesn't wait. Whether it is inside still."""
+        """As `wait_until`, but doesn't wait. Returns whether the seat is still inside."""
         place = self._asked("start_wait_until", libmonk.library.monk_start_wait_until, self.handle.flags, flag)
         return self._waiting_for(place, f"waits until flag {flag} is set") == INSIDE
 
@@ -283,14 +283,14 @@ class Seat(ctypes.c_void_p):
         return self.handle.history(self._pointer())
 
     def give(self) -> None:
-        """Gives it back, wherever it stands: an inside seat leaves, a waiting one leaves when its turn has come."""
+        """Gives it back, wherever it is: if it is inside it leaves, if it waits it leaves when its turn has come."""
         at = ctypes.c_void_p(self.value)
         self.value = None
         if at:
             checked(libmonk.library.monk_abandon(at))
 
     def go_out(self) -> None:
-        """Leaves if it is inside. If it waits still, since its wait was stopped or interrupted, it is given up."""
+        """Leaves if it is inside. If it still waits, because its wait was stopped or interrupted, it is given up."""
         _is_left(_leave(self), None, (self,))
 
     def release(self) -> None:
@@ -299,7 +299,7 @@ class Seat(ctypes.c_void_p):
         self._tested(self.not_left(answer) if answer < 0 else answer, "release")
 
     def not_left(self, answer: int) -> int:
-        """What follows a leave that was refused with this answer. It is the answer still, if there was no visit to
+        """What follows a leave that was refused with this answer. Returns the same answer if there was no visit to
         end."""
         was_out, self.has_signalled_out = self.has_signalled_out, False
         if libmonk.library.monk_place(self) == WAITING:

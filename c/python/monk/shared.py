@@ -13,7 +13,7 @@ ADDRESS = " at 0x"
 
 
 class Shared:
-    """The variables of the functions around the programs, and around those that these call."""
+    """The variables of the functions around the programs, and around the functions that these call."""
 
     def __init__(self, programs: Sequence[Program]) -> None:
         self.cells: Dict[str, types.CellType] = {}
@@ -27,8 +27,8 @@ class Shared:
                 rest += self._called_by(function)
 
     def _called_by(self, function: Any) -> List[Any]:
-        """Keeps the variables around the function that it names, and the object of a method. What of them can be
-        called is given."""
+        """Keeps the variables around the function that it names, and the object of a method. Returns those that can
+        be called."""
         if isinstance(function, functools.partial):
             return [function.func]
         if inspect.ismethod(function):
@@ -60,7 +60,7 @@ def _content(variable: Tuple[str, types.CellType]) -> Tuple[str, Any]:
 
 
 def _words(name: str, value: Any) -> Dict[str, str]:
-    """A variable in words. Of an object whose words are its address, which differs from run to run, these are its
+    """A variable in words. If the words of an object are its address, which differs from run to run, these are its
     fields."""
     if hasattr(value, "is_staged") or callable(value):
         return {}

@@ -1,6 +1,6 @@
 """The driver of a scene: one monitor of the kernel, a seat for each program, and who moves next. No thread waits in it.
 
-The driver says who moves. What a move does, and who goes on after it, is the kernel's answer."""
+The driver says who moves. The kernel answers what a move does, and who goes on after it."""
 
 from __future__ import annotations
 
@@ -17,7 +17,7 @@ from .run import NO_SUCH_CALL, STUCK, WRONG, Run
 from .scene import Scene, name_of, titles
 from .shared import Shared
 
-# Events of a seat. A program that spends them goes on and on.
+# The events of a seat. A program that spends them goes on and on.
 BUDGET = 1024
 MOST_CONDITIONS = SHAPES["conditions"][1]
 # The wishes that a kind's priorities leave open.
@@ -40,15 +40,15 @@ class Way:
     """How a scene is played."""
     kind: str
     wish: Optional[str] = None
-    # A call that gives nothing up is made at once: who arrives before it may as well arrive after it.
+    # A call that gives nothing up is made at once: a program that arrives before it may as well arrive after it.
     is_short: bool = False
-    # The run is told with its history and with the data at each event.
+    # The run keeps its history, and the data at each event.
     is_kept: bool = True
 
 
 class Stage:
-    """The seats of one run, and the kernel's monitor. The names are those of the conditions that are known up to
-    now."""
+    """The seats of one run, and the kernel's monitor. The names are those of the conditions that are known so
+    far."""
 
     def __init__(self, scene: Scene, way: Way, names: List[str]) -> None:
         self.scene, self.way, self.names, self.mode = scene, way, names, mode_of(way.kind)
@@ -61,7 +61,7 @@ class Stage:
         self.actors = [Actor(name, self.monitor.seat(), program) for name, program in zip(seats, scene.programs)]
         self.queues: Dict[str, List[Actor]] = {name: [] for name in names}
         self.tests: Dict[str, Test] = {}
-        # Of each condition the last signal that found nobody: whose, and at which event.
+        # For each condition the last signal that found nobody: whose, and at which event.
         self.lost: Dict[str, Tuple[str, int]] = {}
         self.run, self.shared = Run(way.kind, seats, conditions=names), Shared(scene.programs)
         self.make: Dict[str, Callable[[Actor, Call], None]] = {
@@ -69,7 +69,7 @@ class Stage:
             "signal_all": self._signal_all}
 
     def play(self, choose: Choose) -> Run:
-        """The run, with each move chosen from those that are possible."""
+        """Plays the run, and chooses each move from those that are possible."""
         run = self.run
         try:
             self._play(choose)
@@ -143,7 +143,7 @@ class Stage:
         self._go_on()
 
     def _go_on(self) -> None:
-        """Whoever has the turn comes in."""
+        """The seat that has the turn comes in."""
         for other in self.actors:
             if other.place in PLACES_OF_WAITING and other.seat.poll():
                 self._tell(other, ARRIVALS[int(other.place != "entry")])
@@ -207,7 +207,7 @@ class Stage:
         self._serve(actor, call, served, "; and gives way")
 
     def _signal_and_leave(self, actor: Actor, call: Call, number: int) -> None:
-        """What follows up to its leave is outside already, and there is no second leave."""
+        """What follows up to the program's leave is outside already, and that leave isn't made."""
         actor.seat.signal_leave(number)
         actor.place = "outside"
         self._serve(actor, call, self.queues[call.name][:1], "; and leaves")
@@ -245,7 +245,7 @@ class Stage:
             self._tell_flags(actor, call)
 
     def _tell_flags(self, actor: Actor, call: Call) -> None:
-        """Automatic kinds: the tests are judged before the monitor is given up, and told to the kernel as flags."""
+        """Automatic kinds: the tests are judged before the monitor is given up, and given to the kernel as flags."""
         if call.until is not None:
             self.tests[call.name] = call.until
         if call.verb == "wait" and call.name not in self.tests:
@@ -264,7 +264,7 @@ class Stage:
             raise Over(WRONG, who, f"{what} doesn't hold")
 
     def _test_end(self) -> None:
-        """Nobody can move: all are through, or those that aren't may wait for ever."""
+        """Nobody can move: all must be through, or allowed to wait for ever."""
         may = set(self.scene.may_wait)
         waits = [actor for actor in self.actors if actor.waits() and not may & {actor.name, name_of(actor.program)}]
         if waits:
@@ -273,8 +273,8 @@ class Stage:
         self._test(self.scene.end, "the end", "")
 
     def _blame(self) -> None:
-        """Who came between the signal and the seat that it served. Of a run that is stuck, the signals that found
-        nobody."""
+        """Notes who came between the signal and the seat that it served; for a run that is stuck, the signals that
+        found nobody."""
         if self.run.outcome == STUCK:
             self.run.between = self._lost_signals()
             return
@@ -293,8 +293,8 @@ class Stage:
         return ", ".join(f"{who} signalled {name} ({at}) when nobody waited" for name, who, at in lost)
 
     def _history(self) -> str:
-        """Read by whoever is inside or has the turn, else by the spare seat. What that adds is left out, and so is
-        that seat."""
+        """The history, read by the seat that is inside or has the turn, else by the spare seat. What that adds is
+        left out, and so is the spare seat."""
         waiting = (actor for actor in self.actors if actor.waits() and actor.seat.poll())
         inside = (actor for actor in self.actors if actor.place == "inside")
         reader = next(inside, None) or next(waiting, None)
@@ -304,7 +304,7 @@ class Stage:
         return "\n".join([" ".join(words), *events[:len(self.run.story)]]) + "\n"
 
     def close(self) -> None:
-        """Ends the programs, wherever they stand. A seat that is dropped inside would be warned of."""
+        """Ends the programs, wherever they are. There would be a warning of a seat that is dropped inside."""
         for actor in self.actors:
             actor.steps.close()
             actor.seat.give()

@@ -12,8 +12,8 @@ the driver.
         ..
         return taker, putter, thief
 
-Each program has a thread. But one of them runs at a time, and only while the driver waits for its next call: no luck
-is in it."""
+Each program has a thread. But one of them runs at a time, and only while the driver waits for its next call. So
+nothing depends on luck."""
 
 from __future__ import annotations
 
@@ -26,7 +26,7 @@ from typing import Any, Callable, List, Optional, TypeVar
 from .calls import Call, Named, Test, condition, enter, leave, signal, signal_all, wait
 from .errors import NotNow
 
-# So many seconds a program may take to its next call, after an interrupt.
+# How many seconds a program may take to its next call, after an interrupt.
 PATIENCE = 1
 T = TypeVar("T")
 S = TypeVar("S", bound="_StagedLock")
@@ -87,7 +87,7 @@ class Threaded:
         self.turn, self.back = _shut(), _shut()
 
     def run(self) -> None:
-        """By the worker: the whole program."""
+        """Called by the worker: runs the whole program."""
         try:
             given: Any = self.work()
             if inspect.isgenerator(given):          # as of `lambda: put("tea")`, where put is a generator function
@@ -116,7 +116,7 @@ class Threaded:
         return self.call
 
     def make(self, call: object) -> None:
-        """By the program: its call. It comes back when the driver has made it."""
+        """Called by the program to make its call. Returns when the driver has made it."""
         if self.is_gone:
             raise _Gone
         self.call, self.line = call, _line()
@@ -126,8 +126,8 @@ class Threaded:
             raise _Gone
 
     def close(self) -> None:
-        """Ends the program at its call, or at its next one if an interrupt came while it ran. One that makes no call
-        any more is left to its thread."""
+        """Ends the program at its call, or at its next one if an interrupt came while it ran. A program that makes no
+        call any more is left to its thread."""
         self.is_gone = True
         if self.is_running and not self.back.acquire(timeout=PATIENCE):
             return
@@ -151,8 +151,8 @@ def _make(call: Call) -> None:
 
 
 class _StagedLock:
-    """What a staged monitor and its conditions have of a lock."""
-    # No part of the data that a run tells.
+    """The part of a lock that a staged monitor and its conditions have."""
+    # It isn't part of the data that a run reports.
     is_staged = True
 
     def acquire(self) -> bool:
@@ -197,7 +197,7 @@ class StagedCondition(_StagedLock):
 
 
 class Staged(_StagedLock):
-    """Like monk.Monitor, in a scene. It has no kind: whoever plays the scene says it."""
+    """Like monk.Monitor, in a scene. It has no kind: the one who plays the scene names it."""
 
     def condition(self, name: str, until: Optional[Test] = None) -> StagedCondition:
         """A condition. The test is for the automatic kinds, which have no signals."""

@@ -32,7 +32,7 @@ def _reasons(finding: Finding) -> List[str]:
 
 
 def _summary(found: Comparison) -> str:
-    """The kinds by outcome. Those that aren't tried in every order are told apart."""
+    """The kinds by outcome. Kinds that weren't tried in every order are named apart."""
     groups = {}
     for word in (NO_SUCH_CALL, WRONG, STUCK):
         groups[word] = [kind for kind, it in found.findings.items() if it.outcome == word]

@@ -1,4 +1,4 @@
-"""What is told of a history: by the program `monk`, as pictures, and in files."""
+"""What can be said of a history: by the program `monk`, as pictures, and in files."""
 
 from __future__ import annotations
 
@@ -13,13 +13,13 @@ from .errors import MonkError
 from .picture import picture
 from .program import ask
 
-# What the name of a seat or a condition may be on a page.
+# The limits for the name of a seat or a condition on a page.
 UNUSUAL, LONGEST_NAME = re.compile("[^A-Za-z0-9_ -]"), 16
 WIDTH_IN_A_NOTEBOOK = 110
 
 
 class Told:
-    """What has a history. Each answer of the program needs it: `ask` says where it is looked for."""
+    """Something that has a history. Each answer needs the program `monk`: `ask` says where it is looked for."""
 
     def _text(self) -> str:
         raise NotImplementedError
@@ -36,8 +36,8 @@ class Told:
         return ask("audit", self._text())
 
     def explain(self, kind: Optional[str] = None) -> str:
-        """What `monk explain` says of the history: how the monitor stands, and why an event is forbidden. With a
-        kind: if the monitor were of that one."""
+        """What `monk explain` says of the history: the monitor's situation, and why an event is forbidden. With a
+        kind: the same as if the monitor were of that kind."""
         return ask("explain", self._text(), *(("--kind", kind) if kind else ()))
 
     def fit(self) -> str:
@@ -61,19 +61,19 @@ class Told:
         _write(path, answer)
 
     def save(self, path: str) -> None:
-        """Writes the history into a file, and what `page_data` tells into another beside it, PATH.told, which `monk
+        """Writes the history into a file, and what `page_data` returns into another beside it, PATH.told, which `monk
         page` reads."""
         _write(path, self._text())
         # a page can hold no `<`
         _write(path + ".told", json.dumps(self.page_data(), indent=1).replace("<", "\\u003c") + "\n")
 
     def page_data(self) -> Dict[str, Any]:
-        """What a page shows besides the history: names of seats and conditions."""
+        """What a page shows in addition to the history: names of seats and conditions."""
         return {"seats": _usual(self._names(), "seat"), "conditions": _usual(self._condition_names(), "condition")}
 
     def picture(self, width: Optional[int] = None, is_plain: bool = False) -> str:
-        """The history as a picture of text, in strips as wide as the terminal, or `width` columns wide. If it is plain
-        it is ASCII."""
+        """The history as a picture of text, in strips as wide as the terminal, or `width` columns wide. If it is
+        plain, it is ASCII."""
         return picture(self._text(), self._names(), self._condition_names(), width, is_plain)
 
     def _repr_html_(self) -> str:
@@ -85,7 +85,7 @@ class Told:
 
 
 def _usual(names: List[str], what: str) -> List[str]:
-    """The names as a page may have them; a number in place of one of which nothing is left."""
+    """The names as a page may have them; a number in place of a name if nothing is left of it."""
     return [UNUSUAL.sub("", name)[:LONGEST_NAME] or f"{what} {number}" for number, name in enumerate(names)]
 
 

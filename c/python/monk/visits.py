@@ -1,4 +1,4 @@
-"""What a monitor and its conditions have of a lock: a thread comes in by its own seat, and leaves."""
+"""The part of a lock that a monitor and its conditions have: a thread comes in by its own seat, and leaves."""
 
 from __future__ import annotations
 
@@ -24,7 +24,7 @@ class Here(threading.local):
 
 
 class Visits:
-    """What a monitor and its conditions have of a lock."""
+    """The part of a lock that a monitor and its conditions have."""
 
     _here: Here
 
@@ -39,7 +39,7 @@ class Visits:
         return True
 
     def release(self) -> None:
-        """Leaves; nothing if a signal was the way out already. NotNow if there is no visit to end, so a second
+        """Leaves; does nothing if a signal was the way out already. NotNow if there is no visit to end, so a second
         release is refused."""
         self.here.release()
 
