@@ -63,7 +63,7 @@ pub active_is : (p : Place) → (stage p == active_stage) ≡ true → IsActive 
 active_is Idle e = absurd cc
 active_is (Ticket t) e = absurd cc
 active_is (Due q) e = absurd cc
-pub active_is (Active q) e = record { source = q; is = refl }
+active_is (Active q) e = record { source = q; is = refl }
 active_is (Back x to) e = absurd cc
 active_is (Passing t to) e = absurd cc
 active_is Inner e = absurd cc
