@@ -15,7 +15,7 @@ use Rattle.monk_history.proofs.PublicLaws.Meaning.{same_sums, sum_by_all_seats, 
 use Rattle.monk_hall.specs.Complete.{AreApart, HaveSeenPart, HoldsOnly}
 use Rattle.monk_hall.specs.Floors.{StartsWith}
 use Rattle.monk_hall.specs.Tokens.{Token}
-use Rattle.monk_hall.proofs.MeetLaws.{events_of-append}
+use Rattle.monk_hall.proofs.IdleLearns.{events_of-append}
 
 -- the seats that may have events
 abbrev seats_of : ℕ → List Token → List ℕ

@@ -29,7 +29,7 @@ use Rattle.monk_hall.specs.Tokens.{IsSeated, IsResting}
 use Rattle.monk_hall.specs.declared.deed.Deed.{Deed}
 use Rattle.monk_hall.specs.declared.seat_numbers.SeatNumbers.{SeatNumbers}
 use Rattle.monk_hall.proofs.Releasing.{back_is, said}
-use Rattle.monk_hall.proofs.TokenLaws.{own_longer}
+use Rattle.monk_hall.proofs.EntrySteps.{own_longer}
 
 last_is : {A : Type 0} (o : Option A) (h : List A) (e : A) → last_or o (h ++ e ∷ []) ≡ Some e
 last_is o [] e = refl

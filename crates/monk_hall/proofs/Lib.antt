@@ -1,3 +1,4 @@
+mod EntrySteps
 mod TokenLaws
 mod HandingLaws
 mod Seats
@@ -15,7 +16,9 @@ mod Private
 mod Releasing
 mod FloorIn
 mod Dealing
+mod IdleLearns
 mod MeetLaws
+mod ReleaseChosen
 mod ReleaseLaws
 mod KindLaws
 mod ClosingLaws
@@ -30,9 +33,11 @@ mod WordWaits
 mod ScheduleLists
 mod ScheduleReturns
 mod ScheduleLaws
+mod PlacesAfter
 mod ScheduleSteps
 mod ScheduleMoves
 mod Reached
+mod GrantStands
 mod GrantsTaken
 mod CompleteLaws
 pub mod PublicLaws

@@ -25,7 +25,7 @@ use Rattle.monk_hall.specs.Schedules.{Step, By, after_step, brought, deeds_by, d
 use Rattle.monk_hall.specs.declared.deed.Deed.{Deed}
 use Rattle.monk_hall.specs.declared.record.SeatRecord.{SeatRecord}
 use Rattle.monk_hall.specs.declared.setting.Setting.{Setting}
-use Rattle.monk_hall.proofs.MeetLaws.{events_of-append}
+use Rattle.monk_hall.proofs.IdleLearns.{events_of-append}
 use Rattle.monk_hall.proofs.ScheduleLists.{brought_push, deeds_push, home_append, knows_append, arrivals_push, AreOf, own_all, own_none}
 use Rattle.monk_hall.proofs.Seats.{only}
 

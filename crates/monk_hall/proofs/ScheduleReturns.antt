@@ -28,7 +28,8 @@ use Rattle.monk_hall.specs.declared.setting.Setting.{Setting}
 use Rattle.monk_hall.proofs.Private.{own_event}
 use Rattle.monk_hall.proofs.Standing as standing
 use Rattle.monk_hall.proofs.Stepping as stepping
-use Rattle.monk_hall.proofs.TokenLaws.{grown_goes, out_seat, out_owns}
+use Rattle.monk_hall.proofs.EntrySteps.{out_seat, out_owns}
+use Rattle.monk_hall.proofs.TokenLaws.{grown_goes}
 
 -- a floor goes on with each event of its own that is allowed
 played_goes : (k : Rules) (o : Object) (r : SeatRecord) (f : FloorView) (es : List Event) → GoesOn k o r f

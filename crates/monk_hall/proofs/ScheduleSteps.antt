@@ -1,5 +1,5 @@
 -- The nine steps of a seat, each after a schedule
-use Rattle.std.proofs.Common.{◌≡◌, ℕ, ◌+◌, ◌-◌, ◌%◌, ◌==◌, ◌<◌, ◌≤◌, ◌⊎◌, cond, Bool, true, false, List, [], ◌∷◌, ◌++◌, length, set}
+use Rattle.std.proofs.Common.{◌≡◌, ℕ, ◌+◌, ◌-◌, ◌%◌, ◌==◌, ◌<◌, ◌≤◌, ◌⊎◌, Bool, true, false, List, [], ◌∷◌, ◌++◌, length, set}
 use Rattle.std.proofs.Common.{sym, refl, ap, subst, ◌∙◌, inl, inr, arith, append-nil, append_assoc, length-append}
 use Rattle.std.proofs.Common.{drop, get_or-set_same, get_or-set_other}
 use Rattle.std.proofs.Math.Seq.{drop-append_seam}
@@ -12,23 +12,19 @@ use Rattle.atomic_table.proofs.Lists.{at_last, set_here}
 use Rattle.monk_kinds.specs.Kind.{IsKind}
 use Rattle.monk_kinds.specs.declared.mode.Rules.{Rules}
 use Rattle.monk_object.specs.Object.{Object}
-use Rattle.monk_history.specs.Meaning.Counts.{enters_of, granted_of, is_enter}
+use Rattle.monk_history.specs.Meaning.Counts.{enters_of, granted_of}
 use Rattle.monk_history.specs.Meaning.Release.{with_next, choice_of}
 use Rattle.monk_history.specs.Meaning.Turn.{turn}
 use Rattle.monk_history.specs.declared.event.Event.{Event}
-use Rattle.monk_history.specs.declared.event.Event.TheVariants as event
 use Rattle.monk_history.specs.declared.event.Next.{Next}
 use Rattle.monk_history.specs.declared.event.Next.TheVariants.{Entry}
-use Rattle.monk_history.specs.declared.event.Turn.{Turn}
 use Rattle.monk_floor.specs.View.{FloorView, stands_of}
-use Rattle.monk_world.specs.Places.{HoldsRight, stage, ticket, back_turn, due_to, place_of, ticketed_stage, due_stage, active_stage}
+use Rattle.monk_world.specs.Places.{HoldsRight, stage, ticket, back_turn, due_to, ticketed_stage, due_stage, active_stage}
 use Rattle.monk_world.specs.Places.{passing_stage, inside_stage}
 use Rattle.monk_world.specs.State.{is_quiet}
 use Rattle.monk_world.specs.StepTable.{out_event}
-use Rattle.monk_world.specs.Steps.{place_after_arrive, place_after_ticket_look, place_after_seat_look, place_after_drop}
 use Rattle.monk_world.specs.declared.home.Home.{Home}
-use Rattle.monk_world.specs.declared.home.Home.TheVariants as home
-use Rattle.monk_world.specs.declared.place.Place.TheVariants.{Idle, Ticket, Due, Active, Back, Passing}
+use Rattle.monk_world.specs.declared.place.Place.TheVariants.{Idle, Active, Back}
 use Rattle.monk_world.specs.declared.source.Source.{Source}
 use Rattle.monk_world.specs.declared.source.Source.TheVariants.{Free, Granted, Called}
 use Rattle.monk_world.proofs.PublicLaws.{few_drawn}
@@ -40,7 +36,7 @@ use Rattle.monk_hall.specs.Laws.{HallState, IsRecord}
 use Rattle.monk_hall.specs.Layout.{tickets, unpassed, ticket_word, place_word, seat_word, floor_of, shown_state}
 use Rattle.monk_hall.specs.Rule.{IsHall}
 use Rattle.monk_hall.specs.Schedules.{Step, after_step, brought, arrivals, entered, IsLedRelease}
-use Rattle.monk_hall.specs.Tells.{Returns, IsReleaseTo}
+use Rattle.monk_hall.specs.Tells.{Returns}
 use Rattle.monk_hall.specs.declared.deed.Deed.TheVariants.{Arrive, LookForTicket, LookForCall, Peek, FloorOut, FloorIn}
 use Rattle.monk_hall.specs.declared.deed.Deed.TheVariants.{Drop, GrantTicket, CallSeat}
 use Rattle.monk_hall.specs.declared.record.SeatRecord.{SeatRecord}
@@ -60,90 +56,9 @@ use Rattle.monk_hall.proofs.Seats.{is_setting, long}
 use Rattle.monk_hall.proofs.Standing as standing
 use Rattle.monk_hall.proofs.Stepping as stepping
 use Rattle.monk_hall.proofs.WordSteps as words
-
-held_arrived : (t n : ℕ) → held (place_after_arrive t n) ≡ Some t
-held_arrived t n = by_free (n == 0)
-  where
-    by_free : (b : Bool) → held (cond b (Due (Free t)) (Ticket t)) ≡ Some t
-    by_free true = refl
-    by_free false = refl
-
-held_looked : (t : ℕ) (found : Bool) → held (place_after_ticket_look t found) ≡ Some t
-held_looked t true = refl
-held_looked t false = refl
-
-held_answered : (found : Bool) → held (place_after_seat_look found) ≡ None
-held_answered true = refl
-held_answered false = refl
-
-held_home : (to : Home) → held (place_of to) ≡ None
-held_home home.Idle = refl
-held_home home.Inner = refl
-
-held_dropped : (t n : ℕ) (to : Home) → held (place_after_drop t n to) ≡ None
-held_dropped t n to = by_last (n == 1)
-  where
-    by_last : (b : Bool) → held (cond b (place_of to) (Passing (t - n + 1) to)) ≡ None
-    by_last true = held_home to
-    by_last false = refl
-
-none_held : {o : Option ℕ} (t : ℕ) → o ≡ None → o ≡ Some t → ⊥
-none_held t is_none e = none-some t (sym is_none ∙ e)
-
-came_arrived : (t n : ℕ) → came_by (place_after_arrive t n) ≡ None
-came_arrived t n = by_free (n == 0)
-  where
-    by_free : (b : Bool) → came_by (cond b (Due (Free t)) (Ticket t)) ≡ None
-    by_free true = refl
-    by_free false = refl
-
-came_looked : (t : ℕ) (found : Bool) → came_by (place_after_ticket_look t found) ≡ None
-came_looked t true = refl
-came_looked t false = refl
-
-came_answered : (found : Bool) → came_by (place_after_seat_look found) ≡ None
-came_answered true = refl
-came_answered false = refl
-
-came_home : (to : Home) → came_by (place_of to) ≡ None
-came_home home.Idle = refl
-came_home home.Inner = refl
-
--- a seat that passes the right on after a drop passes it to the ticket whose number is that of the enters so far
-came_dropped : (t n e : ℕ) (to : Home) → n ≤ t → t + 1 ≡ n + e → (m : ℕ) → came_by (place_after_drop t n to) ≡ Some m
-    → e ≡ m
-came_dropped t n e to within next m = by_last (n == 1)
-  where
-    by_last : (b : Bool) → came_by (cond b (place_of to) (Passing (t - n + 1) to)) ≡ Some m → e ≡ m
-    by_last true at = absurd (none_held m (came_home to) at)
-    by_last false at = let p = same_Some (t - n + 1) m at in omega arith
-
--- no release is an enter
-release_enters : (i : ℕ) (to : Home) (call : Event) (x : Next) → IsReleaseTo i to call
-    → is_enter (with_next x call) ≡ false
-release_enters i to (event.Enter s via) x r = absurd r
-release_enters i to (event.Act s op n) x r = absurd r
-release_enters i to (event.Leave s y) x r = refl
-release_enters i to (event.Wait s c y) x r = refl
-release_enters i to (event.Signal s c y) x r = refl
-release_enters i to (event.SignalLeave s c y) x r = refl
-release_enters i to (event.Until s p y) x r = refl
-release_enters i to (event.Resume s q) x r = absurd r
-release_enters i to (event.SignalAll s c) x r = absurd r
-release_enters i to (event.SignalWait s c d y) x r = refl
-
--- a seat that comes by a ticket enters, and any other resumes
-came_enters : (i : ℕ) (q : Source) (u : Turn) (t : ℕ) → ticket_by q ≡ Some t → (rest : List Event) → entered rest ≡ []
-    → entered (out_event i q u ∷ rest) ≡ i ∷ []
-came_enters i (Free n) u t e rest nobody = ap (λ (l : List ℕ). i ∷ l) nobody
-came_enters i (Granted n) u t e rest nobody = ap (λ (l : List ℕ). i ∷ l) nobody
-came_enters i Called u t e rest nobody = absurd (none-some t e)
-
-came_resumes : (i : ℕ) (q : Source) (u : Turn) → ticket_by q ≡ None → (rest : List Event) → entered rest ≡ []
-    → entered (out_event i q u ∷ rest) ≡ []
-came_resumes i (Free n) u e rest nobody = absurd (none-some n (sym e))
-came_resumes i (Granted n) u e rest nobody = absurd (none-some n (sym e))
-came_resumes i Called u e rest nobody = nobody
+use Rattle.monk_hall.proofs.PlacesAfter.{held_arrived, held_looked, held_answered, held_home, held_dropped, none_held}
+use Rattle.monk_hall.proofs.PlacesAfter.{came_arrived, came_looked, came_answered, came_home, came_dropped}
+use Rattle.monk_hall.proofs.PlacesAfter.{release_enters, came_enters, came_resumes}
 
 module _ (k : Rules) (o : Object) (c : Setting) (kind : IsKind k) (steps : List Step) (s : HallState)
     (led : IsLed k o c steps s) (id : ℕ) (r : SeatRecord) (here : get_elem? s.views id ≡ some (r ∷ [])) where

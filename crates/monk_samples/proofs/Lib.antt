@@ -2,6 +2,7 @@ mod TrailLaws
 mod StyleLaws
 mod PromiseLaws
 mod ShortLaws
+mod PauseLaws
 mod VisitLaws
 mod AwaitLaws
 mod HasteLaws

@@ -5,7 +5,7 @@ use Rattle.monk_floor.specs.View.{monitor_of}
 use Rattle.monk_samples.specs.Trails.{outside}
 use Rattle.monk_samples.specs.Visits.{hasty_guard}
 use Rattle.monk_samples.proofs.HasteLaws.{acted_ok, looked_since, tired_since}
-use Rattle.monk_samples.proofs.VisitLaws.{acted_looked, stayed_out, tired_inside, unready}
+use Rattle.monk_samples.proofs.PauseLaws.{acted_looked, stayed_out, tired_inside, unready}
 use Rattle.monk_samples.proofs.haste.act_in_haste.Goals as goal
 
 pub returns-in-Err-clause-acted : goal.returns-in-Err-clause-acted

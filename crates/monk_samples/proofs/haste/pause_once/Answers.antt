@@ -7,7 +7,7 @@ use Rattle.monk_samples.specs.Trails.{inside}
 use Rattle.monk_samples.specs.Visits.{hasty_guard}
 use Rattle.monk_samples.proofs.ShortLaws.{still_pauses}
 use Rattle.monk_samples.proofs.TrailLaws.{called_none}
-use Rattle.monk_samples.proofs.VisitLaws.{left_after, looked_first, looked_none, paused_none}
+use Rattle.monk_samples.proofs.PauseLaws.{left_after, looked_first, looked_none, paused_none}
 use Rattle.monk_samples.proofs.haste.pause_once.Goals as goal
 
 pub returns-then-holds-clause-paused : goal.returns-then-holds-clause-paused

@@ -4,7 +4,7 @@ use Rattle.monk_history.specs.Meaning.Monitor.{data_of}
 use Rattle.monk_floor.specs.View.{monitor_of}
 use Rattle.monk_samples.specs.Trails.{outside}
 use Rattle.monk_samples.specs.Visits.{guard}
-use Rattle.monk_samples.proofs.VisitLaws.{acted_after, tired_inside, unready}
+use Rattle.monk_samples.proofs.PauseLaws.{acted_after, tired_inside, unready}
 use Rattle.monk_samples.proofs.visit.act_when.Goals as goal
 
 pub returns-in-Ok-clause-acted : goal.returns-in-Ok-clause-acted

@@ -5,7 +5,7 @@ use Rattle.monk_samples.specs.Trails.{inside}
 use Rattle.monk_samples.specs.Visits.{guard}
 use Rattle.monk_samples.proofs.ShortLaws.{still_pauses}
 use Rattle.monk_samples.proofs.TrailLaws.{called_none}
-use Rattle.monk_samples.proofs.VisitLaws.{left_after, paused_none, paused_once}
+use Rattle.monk_samples.proofs.PauseLaws.{left_after, paused_none, paused_once}
 use Rattle.monk_samples.proofs.visit.pause_until.Goals as goal
 
 pub loop-active-init : goal.loop-active-init

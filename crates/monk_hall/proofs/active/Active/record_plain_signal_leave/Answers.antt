@@ -1,7 +1,8 @@
 use Rattle.monk_history.proofs.PublicLaws.Meaning.{may_signal_leave}
 use Rattle.monk_floor.specs.View.{monitor_of}
 use Rattle.monk_hall.proofs.Boxed.{shown_apart}
-use Rattle.monk_hall.proofs.ReleaseLaws.{has_cond, is_near, owns, signal_leave_goes, signals_and_leaves}
+use Rattle.monk_hall.proofs.ReleaseChosen.{signal_leave_goes}
+use Rattle.monk_hall.proofs.ReleaseLaws.{has_cond, is_near, owns, signals_and_leaves}
 use Rattle.monk_hall.proofs.active.Active.record_plain_signal_leave.Goals as goal
 
 pub plain_signal_leave-release-requires-clause-call : goal.plain_signal_leave-release-requires-clause-call

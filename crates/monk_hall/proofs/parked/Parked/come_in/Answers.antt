@@ -6,7 +6,7 @@ use Rattle.monk_world.specs.StepTable.{out_event}
 use Rattle.monk_hall.specs.Calls.{HasEntered}
 use Rattle.monk_hall.specs.Records.{the}
 use Rattle.monk_hall.specs.Tokens.{Token, holder}
-use Rattle.monk_hall.proofs.TokenLaws.{entry, entry_holds}
+use Rattle.monk_hall.proofs.EntrySteps.{entry, entry_holds}
 use Rattle.monk_hall.proofs.parked.Parked.come_in.Goals as goal
 
 pub invariant_of-result : goal.invariant_of-result

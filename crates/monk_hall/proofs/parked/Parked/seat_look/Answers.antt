@@ -1,4 +1,4 @@
-use Rattle.monk_hall.proofs.TokenLaws.{call_look_rests}
+use Rattle.monk_hall.proofs.EntrySteps.{call_look_rests}
 use Rattle.monk_hall.proofs.parked.Parked.seat_look.Goals as goal
 
 pub invariant_of-result : goal.invariant_of-result

@@ -1,6 +1,6 @@
 use Rattle.std.proofs.Common.{ap, ◌∙◌}
 use Rattle.monk_hall.specs.Tokens.{Token}
-use Rattle.monk_hall.proofs.TokenLaws.{ticket_look_rests}
+use Rattle.monk_hall.proofs.EntrySteps.{ticket_look_rests}
 use Rattle.monk_hall.proofs.parked.Parked.ticket_look.Goals as goal
 
 pub invariant_of-result : goal.invariant_of-result

@@ -2,7 +2,7 @@ use Rattle.std.proofs.Common.{◌+◌, ◌≤◌, length, sym, ap, subst, ◌∙
 use Rattle.monk_hall.specs.Calls.{HasArrived}
 use Rattle.monk_hall.specs.Records.{the}
 use Rattle.monk_hall.specs.Tokens.{Token, top}
-use Rattle.monk_hall.proofs.TokenLaws.{token, arrival, arrival_rests}
+use Rattle.monk_hall.proofs.EntrySteps.{token, arrival, arrival_rests}
 use Rattle.monk_hall.proofs.pass.Pass.arrive.Goals as goal
 
 pub invariant_of-result : goal.invariant_of-result

@@ -6,7 +6,8 @@ use Rattle.monk_world.specs.declared.home.Home.TheVariants as home
 use Rattle.monk_hall.specs.Handing.{HasGone}
 use Rattle.monk_hall.specs.Records.{the}
 use Rattle.monk_hall.proofs.HandingLaws.{gone_rests, home_is}
-use Rattle.monk_hall.proofs.ReleaseLaws.{has_released, released_of}
+use Rattle.monk_hall.proofs.ReleaseChosen.{has_released}
+use Rattle.monk_hall.proofs.ReleaseLaws.{released_of}
 use Rattle.monk_hall.proofs.release.Release.go_inside.Goals as goal
 
 pub go_home-granted-requires-clause-released : goal.go_home-granted-requires-clause-released

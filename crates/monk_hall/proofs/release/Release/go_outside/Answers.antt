@@ -10,7 +10,8 @@ use Rattle.monk_hall.specs.Records.{View, the}
 use Rattle.monk_hall.specs.Tells.{SeesTruly}
 use Rattle.monk_hall.specs.Tokens.{IsResting, top}
 use Rattle.monk_hall.proofs.HandingLaws.{gone_rests, home_is}
-use Rattle.monk_hall.proofs.ReleaseLaws.{has_released, released_of}
+use Rattle.monk_hall.proofs.ReleaseChosen.{has_released}
+use Rattle.monk_hall.proofs.ReleaseLaws.{released_of}
 use Rattle.monk_hall.proofs.release.Release.go_outside.Goals as goal
 
 pub go_home-granted-requires-clause-released : goal.go_home-granted-requires-clause-released

@@ -1,0 +1,213 @@
+-- What a release chooses, and what it leaves in the records if the turn goes from the active seat
+use Rattle.std.proofs.Common.{◌≡◌, ℕ, ◌+◌, Bool, true, false, true≢false, cond, List, [], ◌∷◌, ◌++◌}
+use Rattle.std.proofs.Common.{append_assoc, Some, refl, sym, ap, subst, ◌∙◌}
+use Rattle.atomic_table.specs.Seated.{TableId}
+use Rattle.monk_kinds.specs.declared.mode.Rules.{Rules}
+use Rattle.monk_kinds.specs.declared.mode.Pick.{Pick}
+use Rattle.monk_kinds.specs.declared.mode.Pick.TheVariants.{Entry as WishEntry, Waiter as WishWaiter, Signaller as WishSignaller}
+use Rattle.monk_object.specs.Object.{Object}
+use Rattle.monk_history.specs.Meaning.Choice.{Queues, must_stay, queues_at}
+use Rattle.monk_history.specs.Meaning.Counts.{events_of, is_enter}
+use Rattle.monk_history.specs.Meaning.Events.{seat_of, is_stay}
+use Rattle.monk_history.specs.Meaning.Monitor.{Monitor}
+use Rattle.monk_history.specs.Meaning.Reasons.{IsAllowed}
+use Rattle.monk_history.specs.Meaning.Release.{with_next, choice_of}
+use Rattle.monk_history.specs.Meaning.Wish.{choice_by}
+use Rattle.monk_history.specs.declared.event.Event.{Event}
+use Rattle.monk_history.specs.declared.event.Event.TheVariants.{Enter, Act, Leave, Wait, Signal, SignalLeave, Until, Resume}
+use Rattle.monk_history.specs.declared.event.Event.TheVariants.{SignalAll, SignalWait}
+use Rattle.monk_history.specs.declared.event.Next.{Next}
+use Rattle.monk_history.specs.declared.event.Next.TheVariants as next
+use Rattle.monk_history.specs.Meaning.Turn.{turn_by}
+use Rattle.monk_history.specs.declared.event.Turn.TheVariants.{Owned}
+use Rattle.monk_floor.specs.View.{FloorView, stands_of}
+use Rattle.monk_world.specs.declared.home.Home.{Home}
+use Rattle.monk_hall.specs.Calls.{HasReleased, HasPeeked, Remembers, is_entry_known, peeks_at}
+use Rattle.monk_hall.specs.Changes.{since}
+use Rattle.monk_hall.specs.Handing.{HasRecordedRelease, HandsOn, HasGone, seat_called_by}
+use Rattle.monk_hall.specs.Layout.{floor_of}
+use Rattle.monk_hall.specs.Recorded.{IsRelease}
+use Rattle.monk_hall.specs.Records.{the}
+use Rattle.monk_hall.specs.Tells.{Me, IsReleaseTo, SeesTruly}
+use Rattle.monk_hall.specs.Tokens.{Token, Holder, IsHolding, holder}
+use Rattle.monk_hall.specs.declared.deed.Deed.{Deed}
+use Rattle.monk_hall.specs.declared.deed.Deed.TheVariants.{FloorIn}
+use Rattle.monk_hall.specs.declared.record.SeatRecord.{SeatRecord}
+use Rattle.monk_hall.specs.declared.seat_numbers.SeatNumbers.{SeatNumbers}
+use Rattle.monk_hall.proofs.Private.{own_event}
+use Rattle.monk_hall.proofs.Releasing.{said}
+
+-- the wish rules ask whether somebody is known to wait for entry only if the wish is for entry
+knows_reads : (k : Rules) (q : Queues) (s : ℕ) (known : Bool) (wish : Pick)
+    → choice_by k q s known wish ≡ choice_by k q s (is_entry_known wish known) wish
+knows_reads k q s known WishEntry = refl
+knows_reads k q s known WishWaiter = refl
+knows_reads k q s known WishSignaller = refl
+
+-- and if there is something to choose
+choice_knows : (b : Bool) (kept : Next) (by : Bool → Next) (x y : Bool) → (b ≡ false → by x ≡ by y)
+    → cond b kept (by x) ≡ cond b kept (by y)
+choice_knows true kept by x y e = refl
+choice_knows false kept by x y e = e refl
+
+-- a leave, a wait and a signal and leave never stay
+pub leave_goes : (m : Monitor) (h : List Event) (s : ℕ) (x : Next) → IsAllowed m h (Leave s x)
+    → is_stay (Some x) ≡ false
+leave_goes m h s next.Stay a = absurd (true≢false (sym a.permitted))
+leave_goes m h s next.Entry a = refl
+leave_goes m h s (next.Waiter j) a = refl
+leave_goes m h s (next.Signaller j) a = refl
+leave_goes m h s (next.Until j) a = refl
+
+pub wait_goes : (m : Monitor) (h : List Event) (s c : ℕ) (x : Next) → IsAllowed m h (Wait s c x)
+    → is_stay (Some x) ≡ false
+wait_goes m h s c next.Stay a = absurd (true≢false (sym a.permitted))
+wait_goes m h s c next.Entry a = refl
+wait_goes m h s c (next.Waiter j) a = refl
+wait_goes m h s c (next.Signaller j) a = refl
+wait_goes m h s c (next.Until j) a = refl
+
+pub signal_leave_goes : (m : Monitor) (h : List Event) (s c : ℕ) (x : Next) → IsAllowed m h (SignalLeave s c x)
+    → is_stay (Some x) ≡ false
+signal_leave_goes m h s c next.Stay a = absurd (true≢false (sym a.permitted))
+signal_leave_goes m h s c next.Entry a = refl
+signal_leave_goes m h s c (next.Waiter j) a = refl
+signal_leave_goes m h s c (next.Signaller j) a = refl
+signal_leave_goes m h s c (next.Until j) a = refl
+
+pub signal_wait_goes : (m : Monitor) (h : List Event) (s c d : ℕ) (x : Next) → IsAllowed m h (SignalWait s c d x)
+    → is_stay (Some x) ≡ false
+signal_wait_goes m h s c d next.Stay a = absurd (true≢false (sym a.permitted))
+signal_wait_goes m h s c d next.Entry a = refl
+signal_wait_goes m h s c d (next.Waiter j) a = refl
+signal_wait_goes m h s c d (next.Signaller j) a = refl
+signal_wait_goes m h s c d (next.Until j) a = refl
+
+pub stay_is : (x : Next) → is_stay (Some x) ≡ true → x ≡ next.Stay
+stay_is next.Stay e = refl
+stay_is next.Entry e = absurd (true≢false (sym e))
+stay_is (next.Waiter j) e = absurd (true≢false (sym e))
+stay_is (next.Signaller j) e = absurd (true≢false (sym e))
+stay_is (next.Until j) e = absurd (true≢false (sym e))
+
+pub stay_keeps : (i : ℕ) (x : Next) → is_stay (Some x) ≡ true → turn_by i (Some x) ≡ Owned i
+stay_keeps i x e = ap (λ y. turn_by i (Some y)) (stay_is x e)
+
+pub never_enters : (i : ℕ) (to : Home) (e : Event) (x : Next) → IsReleaseTo i to e → is_enter (with_next x e) ≡ false
+never_enters i to (Enter s via) x h = absurd h
+never_enters i to (Act s op r) x h = refl
+never_enters i to (Leave s y) x h = refl
+never_enters i to (Wait s c y) x h = refl
+never_enters i to (Signal s c y) x h = refl
+never_enters i to (SignalLeave s c y) x h = refl
+never_enters i to (Until s p y) x h = refl
+never_enters i to (Resume s q) x h = refl
+never_enters i to (SignalAll s c) x h = refl
+never_enters i to (SignalWait s c d y) x h = refl
+
+pub chosen_as_known : {k : Rules} {o : Object} {r : SeatRecord} {f : FloorView} {call : Event} {wish : Pick}
+    {known : Bool} {choice : Next} {to : Home} {g : FloorView}
+    → IsRelease k o r f call wish known choice to g
+    → choice ≡ choice_of k o (stands_of k o f) call (is_entry_known wish r.known) wish
+chosen_as_known {k} {o} {r} {f} {call} {wish} {known} x = let t = stands_of k o f in x.chosen
+    ∙ choice_knows (must_stay o t call) next.Stay (λ b. choice_by k (queues_at o t call) (seat_of call) b wish) known
+    (is_entry_known wish r.known)
+    (λ free. ap (λ b. choice_by k (queues_at o t call) (seat_of call) b wish) (x.known_is free))
+
+module _ {k : Rules} {o : Object} {z : TableId} {me : Me} {numbers : SeatNumbers} {f : FloorView} {call : Event}
+    {wish : Pick} {known : Bool} {choice : Next} {to : Home} {g : FloorView} where
+  pub has_released : IsHolding k o z me numbers f → IsRelease k o (the me.0) f call wish known choice to g
+      → is_stay (Some choice) ≡ false → HasRecordedRelease k o z me choice to g
+  has_released h x away = record {
+    one = h.one;
+    active = h.active;
+    sized = h.seated.sized;
+    returns = record {
+      before = f;
+      goes_on = h.goes;
+      call = call;
+      wish = wish;
+      to = to;
+      choice = choice;
+      release = x.release;
+      may = x.may;
+      chosen = chosen_as_known x
+          ∙ choice_knows (must_stay o (stands_of k o f) call) next.Stay
+          (λ b. choice_by k (queues_at o (stands_of k o f) call) (seat_of call) b wish)
+          (is_entry_known wish (the me.0).known) (the me.0).known
+          (λ _. sym (knows_reads k (queues_at o (stands_of k o f) call) (seat_of call) (the me.0).known wish));
+      away = away;
+      left = x.left;
+      grows = x.is_grown.grown;
+    };
+    is_choice = refl;
+    is_to = refl;
+    allowed = x.is_grown.allowed;
+  }
+
+  pub released : IsHolding k o z me numbers f → IsRelease k o (the me.0) f call wish known choice to g
+      → is_stay (Some choice) ≡ false
+      → (p : Token) → p.hall ≡ z → HasGone (the me.0) g.history choice to p.me → SeesTruly k o p.me
+      → HasReleased k o (holder z (the me.0) f) call wish to 0 p
+  released h x away p hall gone told =
+      let r = the me.0 in let history = ap (λ (y : FloorView). y.history) x.is_grown.grown in let is_known =
+      ap (λ w. w.known) gone.is in let seen = ap (λ w. w.seen) gone.is in record {
+        choice = choice;
+        chosen = chosen_as_known x
+            ∙ ap (λ b. choice_of k o (stands_of k o f) call (is_entry_known wish b) wish) (sym is_known);
+        away = away;
+        hall = hall;
+        seat = ap (λ w. w.seat) gone.is;
+        setting = ap (λ w. w.setting) gone.is;
+        place = ap (λ w. w.place) gone.is;
+        seen = ap (λ w. w.seen) gone.is ∙ history;
+        mine = ap (λ w. w.mine) gone.is ∙ ap (λ h. events_of h r.seat) history
+            ∙ own_event f.history (with_next choice call) r.seat (said r.seat to call choice x.release).seat;
+        found = 0;
+        handed = gone.handed;
+        did = ap (λ w. w.did) gone.is
+            ∙ append_assoc r.did (FloorIn (since r.seen g.history) ∷ []) gone.handed
+            ∙ ap (λ (h : List Event). r.did ++ FloorIn (since r.seen h) ∷ gone.handed) (sym seen);
+        hands_on = subst (λ (h : List Event). HandsOn (seat_called_by choice) h gone.handed) (sym seen) gone.hands_on;
+        remembers = record { knew = λ knew. is_known ∙ knew; learns = is_known };
+        told = told;
+        floor = h.goes.is_floor;
+      }
+
+pub remembers_twice : (peeks : ℕ) (a b : Holder) → (x : HasPeeked peeks a b) → (w : SeatRecord) → Remembers b.me [] w
+    → Remembers a.me (peeks_at peeks x.found) w
+remembers_twice peeks a b x w y =
+    record { knew = λ knew. y.knew (x.remembers.knew knew); learns = y.learns ∙ x.remembers.learns }
+
+-- a look changes neither the floor nor the setting
+pub of_setting : (a b : Holder) {known : Bool} {did : List Deed}
+    → b ≡ record a { me = record a.me { known = known; did = did } }
+    → b.floor ≡ floor_of b.me.setting b.floor.history → a.floor ≡ floor_of a.me.setting a.floor.history
+of_setting a b is floor = sym (ap (λ (h : Holder). h.floor) is) ∙ floor
+    ∙ ap (λ (h : Holder). floor_of h.me.setting h.floor.history) is
+
+-- a look at the ticket word before the release
+module _ {k : Rules} {o : Object} where
+  pub released_peeked : (peeks : ℕ) (a b : Holder) → HasPeeked peeks a b
+      → (call : Event) (wish : Pick) (to : Home) (p : Token) → HasReleased k o b call wish to 0 p
+      → HasReleased k o a call wish to peeks p
+  released_peeked peeks a b x call wish to p y = let is = x.is in record {
+    choice = y.choice;
+    chosen = y.chosen
+        ∙ ap (λ (h : Holder). choice_of k o (stands_of k o h.floor) call (is_entry_known wish p.me.known) wish) is;
+    away = y.away;
+    hall = y.hall ∙ ap (λ (h : Holder). h.hall) is;
+    seat = y.seat ∙ ap (λ (h : Holder). h.me.seat) is;
+    setting = y.setting ∙ ap (λ (h : Holder). h.me.setting) is;
+    place = y.place;
+    seen = y.seen ∙ ap (λ (h : Holder). h.floor.history ++ with_next y.choice call ∷ []) is;
+    mine = y.mine ∙ ap (λ (h : Holder). h.me.mine ++ with_next y.choice call ∷ []) is;
+    found = x.found;
+    handed = y.handed;
+    did = y.did ∙ ap (λ (h : Holder). h.me.did ++ FloorIn (since h.me.seen p.me.seen) ∷ y.handed) is
+        ∙ append_assoc a.me.did (peeks_at peeks x.found) (FloorIn (since a.me.seen p.me.seen) ∷ y.handed);
+    hands_on = y.hands_on;
+    remembers = remembers_twice peeks a b x p.me y.remembers;
+    told = y.told;
+    floor = of_setting a b is y.floor;
+  }
