@@ -120,7 +120,7 @@ module _ (k : Rules) (o : Object) (c : Setting) (words : List ℕ) (homes : Home
     (place : w.place ≡ (at i).place) (count : w.count ≡ (at i).count) (known : w.known ≡ (at i).known)
     (mine : w.mine ≡ (at i).mine) (idle : stage (at i).place ≡ outside_stage)
     (part : StartsWith kh.past w.seen) (own : events_of w.seen i ≡ w.mine) where
-  same : Path State (shown_state c words at kh.history) (shown_state c words (update at i w) kh.history)
+  pub same : Path State (shown_state c words at kh.history) (shown_state c words (update at i w) kh.history)
   same = λ z. record {
     world = record (shown_world words at) {
       place = sym (field_stays (λ (y : SeatRecord). y.place) at i w (sym place)) z;
@@ -130,13 +130,13 @@ module _ (k : Rules) (o : Object) (c : Setting) (words : List ℕ) (homes : Home
     floor = floor_of c kh.history;
   }
 
-  recount : CountsCalls (shown_world words (update at i w)) kh.past
+  pub recount : CountsCalls (shown_world words (update at i w)) kh.past
   recount = subst (λ (p : ℕ → Place). CountsCalls
       (record (shown_world words at) { place = p; count = λ j. (update at i w j).count }) kh.past)
       (sym (field_stays (λ (y : SeatRecord). y.place) at i w (sym place)))
       (record { choosing = kh.told.calls.choosing; settled = kh.told.calls.settled })
 
-  pub learns : IsKeptHall k o c words homes (update at i w)
+  unfoldable pub learns : IsKeptHall k o c words homes (update at i w)
   learns =
       let told = kh.told in
       let not_at : (n : ℕ) → n ≢ outside_stage → stage w.place ≢ n = λ n ne e. ne (sym e ∙ ap stage place ∙ idle) in

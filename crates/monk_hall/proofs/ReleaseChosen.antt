@@ -145,7 +145,7 @@ module _ {k : Rules} {o : Object} {z : TableId} {me : Me} {numbers : SeatNumbers
     allowed = x.is_grown.allowed;
   }
 
-  pub released : IsHolding k o z me numbers f → IsRelease k o (the me.0) f call wish known choice to g
+  unfoldable pub released : IsHolding k o z me numbers f → IsRelease k o (the me.0) f call wish known choice to g
       → is_stay (Some choice) ≡ false
       → (p : Token) → p.hall ≡ z → HasGone (the me.0) g.history choice to p.me → SeesTruly k o p.me
       → HasReleased k o (holder z (the me.0) f) call wish to 0 p
@@ -188,7 +188,7 @@ of_setting a b is floor = sym (ap (λ (h : Holder). h.floor) is) ∙ floor
 
 -- a look at the ticket word before the release
 module _ {k : Rules} {o : Object} where
-  pub released_peeked : (peeks : ℕ) (a b : Holder) → HasPeeked peeks a b
+  unfoldable pub released_peeked : (peeks : ℕ) (a b : Holder) → HasPeeked peeks a b
       → (call : Event) (wish : Pick) (to : Home) (p : Token) → HasReleased k o b call wish to 0 p
       → HasReleased k o a call wish to peeks p
   released_peeked peeks a b x call wish to p y = let is = x.is in record {

@@ -5,7 +5,6 @@ use monk_completion::{Blame, Completion, complete};
 use monk_history::{Event, From3, Header, Next, Via};
 use monk_kinds::KindName;
 use monk_logs::{LogHeader, read_log};
-use monk_object::Op;
 use std::test::Fail;
 
 /// A log and its completion under a kind: events, or the line that misfits and the reason.
@@ -25,49 +24,7 @@ const SIGNALLER_FIRST: &[u8] =
 const SIGNALLED_FIRST: &[u8] =
     b"log 1 2 1 buffer 1\nenter 0\nwait 0 0\nenter 1\nsignal 1 0\nresume 0\nleave 0\nresume 1\nleave 1\n";
 
-const SIGNAL_AT_THE_END: &[u8] = b"log 1 2 1 buffer 1\nenter 0\nwait 0 0\nenter 1\nsignal 1 0\n";
-
-const SIGNAL_TO_NOBODY: &[u8] = b"log 1 2 1 buffer 1\nenter 0\nsignal 0 0\n";
-
-const PUT_FOR_A_WAITER: &[u8] =
-    b"log 1 2 0 buffer 1\nenter 0\nuntil 0 1\nenter 1\nact 1 0 7 1\nleave 1\n";
-
-/// Under immediate return, a log that ends with a signal is completed by a signal that leaves.
-const LEAVES_BY_IT: &[Event] = &[
-    Event::Enter(0, Via::Free),
-    Event::Wait(0, 0, Next::Entry),
-    Event::Enter(1, Via::Handed),
-    Event::SignalLeave(1, 0, Next::Waiter(0)),
-];
-
-/// Under automatic signalling, the last release chooses the first ready seat.
-const CHOOSES_WHO_IS_READY: &[Event] = &[
-    Event::Enter(0, Via::Free),
-    Event::Until(0, 1, Next::Entry),
-    Event::Enter(1, Via::Handed),
-    Event::Act(1, Op { code: 0, arg: 7 }, 1),
-    Event::Leave(1, Next::Until(0)),
-];
-
-/// After a signal that serves nobody, its caller stays.
-const SERVES_NOBODY: &[Event] = &[Event::Enter(0, Via::Free), Event::Signal(0, 0, Next::Stay)];
-
-/// After a signal that ends a log, its caller stays if waiters may not go before signallers.
-const STAYS: &[Event] = &[
-    Event::Enter(0, Via::Free),
-    Event::Wait(0, 0, Next::Entry),
-    Event::Enter(1, Via::Handed),
-    Event::Signal(1, 0, Next::Stay),
-];
-
-const HANDS_OVER: &[Event] = &[
-    Event::Enter(0, Via::Free),
-    Event::Wait(0, 0, Next::Entry),
-    Event::Enter(1, Via::Handed),
-    Event::Signal(1, 0, Next::Waiter(0)),
-];
-
-static ROWS: [Row; 16] = [
+static ROWS: [Row; 2] = [
     Row {
         name: "a blocking kind, where the seat that was signalled goes on",
         log: SIGNALLED_FIRST,
@@ -90,124 +47,6 @@ static ROWS: [Row; 16] = [
         kind: KindName::Pb,
         events: &[],
         misfit: Some((5, Blame::Choice)),
-    },
-    Row {
-        name: "a non-blocking kind, where the signaller goes on",
-        log: SIGNALLER_FIRST,
-        kind: KindName::Npnb,
-        events: &[
-            Event::Enter(0, Via::Free),
-            Event::Wait(0, 0, Next::Entry),
-            Event::Enter(1, Via::Handed),
-            Event::Signal(1, 0, Next::Stay),
-            Event::Leave(1, Next::Waiter(0)),
-            Event::Resume(0, From3::Waiter),
-            Event::Leave(0, Next::Entry),
-        ],
-        misfit: None,
-    },
-    Row {
-        name: "a non-blocking kind, where the seat that was signalled goes on",
-        log: SIGNALLED_FIRST,
-        kind: KindName::Npnb,
-        events: &[],
-        misfit: Some((5, Blame::Choice)),
-    },
-    Row {
-        name: "half a signal under PIR",
-        log: SIGNAL_AT_THE_END,
-        kind: KindName::Pir,
-        events: LEAVES_BY_IT,
-        misfit: None,
-    },
-    Row {
-        name: "half a signal under NPIR",
-        log: SIGNAL_AT_THE_END,
-        kind: KindName::Npir,
-        events: LEAVES_BY_IT,
-        misfit: None,
-    },
-    Row {
-        name: "automatic signalling under PIS",
-        log: PUT_FOR_A_WAITER,
-        kind: KindName::Pis,
-        events: CHOOSES_WHO_IS_READY,
-        misfit: None,
-    },
-    Row {
-        name: "automatic signalling under NPIS",
-        log: PUT_FOR_A_WAITER,
-        kind: KindName::Npis,
-        events: CHOOSES_WHO_IS_READY,
-        misfit: None,
-    },
-    Row {
-        name: "a last signal to nobody under PB",
-        log: SIGNAL_TO_NOBODY,
-        kind: KindName::Pb,
-        events: SERVES_NOBODY,
-        misfit: None,
-    },
-    Row {
-        name: "a last signal to nobody under PQB",
-        log: SIGNAL_TO_NOBODY,
-        kind: KindName::Pqb,
-        events: SERVES_NOBODY,
-        misfit: None,
-    },
-    Row {
-        name: "a last signal under PNB",
-        log: SIGNAL_AT_THE_END,
-        kind: KindName::Pnb,
-        events: STAYS,
-        misfit: None,
-    },
-    Row {
-        name: "a last signal under NPNB",
-        log: SIGNAL_AT_THE_END,
-        kind: KindName::Npnb,
-        events: STAYS,
-        misfit: None,
-    },
-    Row {
-        name: "a last signal under NPB",
-        log: SIGNAL_AT_THE_END,
-        kind: KindName::Npb,
-        events: HANDS_OVER,
-        misfit: None,
-    },
-    Row {
-        name: "a last signal under NPQB",
-        log: SIGNAL_AT_THE_END,
-        kind: KindName::Npqb,
-        events: HANDS_OVER,
-        misfit: None,
-    },
-    // A signal followed by a wait is one event, and two lines of a log.
-    Row {
-        name: "a signaller that waits",
-        log: b"log 1 2 1 buffer 1\nenter 0\nsignal 0 0\nwait 0 0\nenter 1\nleave 1\n",
-        kind: KindName::Npir,
-        events: &[
-            Event::Enter(0, Via::Free),
-            Event::SignalWait(0, 0, 0, Next::Entry),
-            Event::Enter(1, Via::Handed),
-            Event::Leave(1, Next::Entry),
-        ],
-        misfit: None,
-    },
-    Row {
-        name: "a signal to all",
-        log: b"log 1 2 1 buffer 1\nenter 0\nwait 0 0\nenter 1\nbroadcast 1 0\nleave 1\n",
-        kind: KindName::Pnb,
-        events: &[
-            Event::Enter(0, Via::Free),
-            Event::Wait(0, 0, Next::Entry),
-            Event::Enter(1, Via::Handed),
-            Event::SignalAll(1, 0),
-            Event::Leave(1, Next::Waiter(0)),
-        ],
-        misfit: None,
     },
 ];
 

@@ -16,14 +16,6 @@ const EACH: &[u8] =
 const EACH_OF_VERSION_THREE: &[u8] =
     b"play 3 PIS 2 0 flags 32 8\n0 act 0 4294967295\n0 until 31 entry\n0 signal-all 0\n";
 
-/// The fault's number and line, or 0 and the number of commands.
-fn outcome(rt: &HostRuntime, bytes: &[u8]) -> (u8, u32) {
-    match read_play(rt.alloc(), bytes) {
-        Ok((_, _, commands)) => (0, u32::try_from(commands.len()).unwrap_or(0)),
-        Err(fault) => (fault.number, fault.line),
-    }
-}
-
 /// The actions of version 2, with the greatest numbers.
 const EACH_OF_VERSION_TWO: &[u8] =
     b"play 2 NPIR 32 8 shop 255 1048576\n0 arrive\n1 signal-all 255\n2 signal-wait 255 10 entry\n3 signal-wait 0 0 signaller\n";
@@ -141,84 +133,6 @@ fn plays_are_read(rt: HostRuntime) -> Result<(), Fail> {
             return Err(play.name)?;
         }
     }
-    Ok(())
-}
-
-/// Returns the outcome of the first text followed by the second.
-fn outcome_of_both(rt: &HostRuntime, first: &[u8], second: &[u8]) -> Result<(u8, u32), Fail> {
-    let mut text = Vec::from_slice(rt.alloc(), first)?;
-    text.extend_from_slice(second)?;
-    Ok(outcome(rt, &text))
-}
-
-/// Lines that version 2 adds, or that look like one, and the outcome of each in both versions.
-static ACTIONS_OF_VERSION_TWO: [(&[u8], (u8, u32), (u8, u32)); 6] = [
-    (b"0 signal-all 0\n", (2, 2), (0, 1)),
-    (b"0 signal-all x\n", (2, 2), (3, 2)),
-    (b"0 signal-all 0 waiter\n", (2, 2), (2, 2)),
-    (b"0 signal-wait 0 0 waiter\n", (2, 2), (0, 1)),
-    (b"0 signal-wait 0 waiter\n", (2, 2), (3, 2)),
-    (b"0 signal 0 waiter\n", (0, 1), (0, 1)),
-];
-
-#[test]
-fn actions_in_both_versions(rt: HostRuntime) -> Result<(), Fail> {
-    for (line, old, new) in ACTIONS_OF_VERSION_TWO.iter() {
-        let first = outcome_of_both(&rt, b"play 1 PIR 2 2 buffer 1 8\n", line)?;
-        let second = outcome_of_both(&rt, b"play 2 PIR 2 2 buffer 1 8\n", line)?;
-        assert!(rt; first == *old && second == *new);
-    }
-    Ok(())
-}
-
-/// First lines, and the outcome of each.
-static FIRST_LINES: [(&[u8], u8, u32); 16] = [
-    (b"", 1, 1),
-    (b"play 1 PB 1 0 buffer 1 2\n", 0, 0),
-    (b"play 1 PB 1 0 buffer 1 1\n", 1, 1),
-    (b"play 1 PB 1 0 buffer 1 1048577\n", 1, 1),
-    (b"play 1 PB 0 0 buffer 1 2\n", 1, 1),
-    (b"play 1 PB 1 0 buffer 1\n", 1, 1),
-    (b"play 1 PB 1 0 buffer 1 2 2\n", 1, 1),
-    (b"monk 1 PB 1 0 buffer 1\n", 1, 1),
-    (b"play 1 PB 1 0 buffer 1 1", 4, 1),
-    (b"play 2 PB 1 0 buffer 1 2\n", 0, 0),
-    (b"play 0 PB 1 0 buffer 1 2\n", 1, 1),
-    (b"play 3 PB 1 0 buffer 1 2\n", 1, 1),
-    (b"play 3 PIS 1 0 flags 1 2\n", 0, 0),
-    (b"play 2 PIS 1 0 flags 1 2\n", 1, 1),
-    (b"play 1 PIS 1 0 flags 1 2\n", 1, 1),
-    (b"play 4 PIS 1 0 flags 1 2\n", 1, 1),
-];
-
-#[test]
-fn first_lines(rt: HostRuntime) {
-    for (text, number, line) in FIRST_LINES.iter() {
-        assert!(rt; outcome(&rt, text) == (*number, *line));
-    }
     one_play_each();
-}
-
-/// Lines after a good first line, and the outcome of each.
-static FAULTY_LINES: [(&[u8], u8, u32); 11] = [
-    (b"0 arrive\n", 0, 1),
-    (b"0 leave anybody\n", 2, 2),
-    (b"0 leave\n", 2, 2),
-    (b"0 arrives\n", 2, 2),
-    (b"0 arrive 0\n", 2, 2),
-    (b"\n", 3, 2),
-    (b"0 act 256 0\n", 3, 2),
-    (b"0 act 0 4294967296\n", 3, 2),
-    (b"arrive 0\n", 3, 2),
-    (b"0 wait 01 entry\n", 3, 2),
-    (b"0 arrive\n1 look", 4, 3),
-];
-
-#[test]
-fn faulty_lines(rt: HostRuntime) -> Result<(), Fail> {
-    for (text, number, line) in FAULTY_LINES.iter() {
-        let told = outcome_of_both(&rt, b"play 1 PB 2 2 buffer 1 8\n", text)?;
-        assert!(rt; told == (*number, *line));
-    }
     Ok(())
 }

@@ -108,46 +108,10 @@ static ASKING: [Asking; 32] = [
 ];
 
 /// The same for logs that are completed, and for runs.
-static ASKING_FOR_MORE: [Asking; 27] = [
+static ASKING_FOR_MORE: [Asking; 9] = [
     (
         &["monk", "complete", "--kind", "PB"],
         "Complete(None, Some(Pb))",
-    ),
-    (
-        &["monk", "complete", "--kind", "NPB"],
-        "Complete(None, Some(Npb))",
-    ),
-    (
-        &["monk", "complete", "--kind", "PNB"],
-        "Complete(None, Some(Pnb))",
-    ),
-    (
-        &["monk", "complete", "--kind", "NPNB"],
-        "Complete(None, Some(Npnb))",
-    ),
-    (
-        &["monk", "complete", "--kind", "PQB"],
-        "Complete(None, Some(Pqb))",
-    ),
-    (
-        &["monk", "complete", "--kind", "NPQB"],
-        "Complete(None, Some(Npqb))",
-    ),
-    (
-        &["monk", "complete", "--kind", "PIR"],
-        "Complete(None, Some(Pir))",
-    ),
-    (
-        &["monk", "complete", "--kind", "NPIR"],
-        "Complete(None, Some(Npir))",
-    ),
-    (
-        &["monk", "complete", "--kind", "PIS"],
-        "Complete(None, Some(Pis))",
-    ),
-    (
-        &["monk", "complete", "--kind", "NPIS"],
-        "Complete(None, Some(Npis))",
     ),
     (&["monk", "complete"], "Complete(None, None)"),
     (
@@ -157,42 +121,6 @@ static ASKING_FOR_MORE: [Asking; 27] = [
     (
         &["monk", "run", "PB", "book", "2", "1"],
         "Run(Pb, Book, 2, 1)",
-    ),
-    (
-        &["monk", "run", "NPB", "book", "2", "1"],
-        "Run(Npb, Book, 2, 1)",
-    ),
-    (
-        &["monk", "run", "PNB", "book", "2", "1"],
-        "Run(Pnb, Book, 2, 1)",
-    ),
-    (
-        &["monk", "run", "NPNB", "book", "2", "1"],
-        "Run(Npnb, Book, 2, 1)",
-    ),
-    (
-        &["monk", "run", "PQB", "book", "2", "1"],
-        "Run(Pqb, Book, 2, 1)",
-    ),
-    (
-        &["monk", "run", "NPQB", "book", "2", "1"],
-        "Run(Npqb, Book, 2, 1)",
-    ),
-    (
-        &["monk", "run", "PIR", "book", "2", "1"],
-        "Run(Pir, Book, 2, 1)",
-    ),
-    (
-        &["monk", "run", "NPIR", "book", "2", "1"],
-        "Run(Npir, Book, 2, 1)",
-    ),
-    (
-        &["monk", "run", "PIS", "book", "2", "1"],
-        "Run(Pis, Book, 2, 1)",
-    ),
-    (
-        &["monk", "run", "NPIS", "book", "2", "1"],
-        "Run(Npis, Book, 2, 1)",
     ),
     (
         &["monk", "run", "PIR", "shop", "16", "1000"],
@@ -242,83 +170,6 @@ fn words_that_ask_for_a_completion_or_a_run(rt: HostRuntime) -> Result<(), Fail>
     all_ask(rt.alloc(), &ASKING_FOR_MORE)
 }
 
-/// Whether the words are refused with a text.
-fn is_refused(alloc: Global, words: &[&str]) -> bool {
-    match line(alloc, words) {
-        Err(LineFault::Words(text)) => !text.is_empty(),
-        _ => false,
-    }
-}
-
-/// Words that ask for nothing: for a picture also numbers of no events, for a run also a number
-/// out of range, and another kind or sample.
-static NOTHING: [&[&str]; 64] = [
-    &["monk", "adit"],
-    &["monk", "help"],
-    &["monk", "--help"],
-    &["monk", "--version"],
-    &["monk"],
-    &["monk", "audit", "a", "b"],
-    &["monk", "play", "a", "b"],
-    &["monk", "upgrade", "a", "b"],
-    &["monk", "explain", "a", "b"],
-    &["monk", "explain", "--lapses", "a"],
-    &["monk", "explain", "--means", "1"],
-    &["monk", "explain", "--kind", "npnb", "a"],
-    &["monk", "draw", "a", "b"],
-    &["monk", "page", "a", "b", "c", "d", "e"],
-    &["monk", "page", "--from", "8", "--to", "7"],
-    &["monk", "draw", "--from", "0"],
-    &["monk", "draw", "--to", "0"],
-    &["monk", "draw", "--from", "8", "--to", "7"],
-    &["monk", "draw", "--from", "7", "--to", "2007"],
-    &["monk", "draw", "--from", "x"],
-    &["monk", "draw", "--to", "4294967296"],
-    &["monk", "draw", "--from", "1", "--from", "2"],
-    &["monk", "draw", "--ascii"],
-    &["monk", "draw", "--width", "80"],
-    &["monk", "draw", "--text", "--width", "39"],
-    &["monk", "draw", "--text", "--width", "1000001"],
-    &["monk", "fit", "--kind"],
-    &["monk", "fit", "--kind", "ABC", "a"],
-    &["monk", "fit", "--kind", "npnb", "a"],
-    &["monk", "fit", "--kind", "PB", "--kind", "NPB", "a"],
-    &["monk", "fit", "--kind", "PB", "--means", "1", "a", "b"],
-    &["monk", "fit", "--means", "1"],
-    &["monk", "fit", "--means", "0=256"],
-    &["monk", "fit", "--json", "--json"],
-    &["monk", "fit", "--lapses"],
-    &["monk", "draw", "--order", "any"],
-    &["monk", "draw", "--kind", "NPNB"],
-    &["monk", "complete", "PB", "x.log"],
-    &["monk", "complete", "--kind", "ABC"],
-    &["monk", "complete", "--order", "any"],
-    &["monk", "classify", "1", "2"],
-    &["monk", "classify", "1", "2", "3", "4"],
-    &["monk", "classify", "1", "2", "256"],
-    &["monk", "classify", "1", "2", "x"],
-    &["monk", "run", "ABC", "buffer", "8", "100"],
-    &["monk", "run", "pb", "buffer", "8", "100"],
-    &["monk", "run", "PB", "Buffer", "8", "100"],
-    &["monk", "run", "PB", "queue", "8", "100"],
-    &["monk", "run", "PB", "flags", "8", "100"],
-    &["monk", "run", "PB", "buffer", "1", "100"],
-    &["monk", "run", "PB", "buffer", "17", "100"],
-    &["monk", "run", "PB", "buffer", "258", "100"],
-    &["monk", "run", "PB", "buffer", "8", "0"],
-    &["monk", "run", "PB", "buffer", "8", "1001"],
-    &["monk", "run", "PB", "buffer", "8"],
-    &["monk", "run", "PB", "buffer", "8", "100", "1"],
-    &["monk", "record", "PB", "buffer", "17", "100"],
-    &["monk", "record", "PB", "buffer", "8", "1001"],
-    &["monk", "run", "NPNB", "hasty", "4", "200"],
-    &["monk", "hasty", "ABC", "4", "200"],
-    &["monk", "hasty", "NPNB", "4"],
-    &["monk", "hasty", "NPNB", "17", "200"],
-    &["monk", "hasty", "NPNB", "4", "1001"],
-    &["monk", "hasty", "NPNB", "4", "200", "a", "b"],
-];
-
 /// Words that are no longer taken, and what is said about them.
 static GONE: [(&[&str], &str); 3] = [
     (
@@ -351,13 +202,6 @@ fn what_is_gone_is_told(rt: HostRuntime) -> Result<(), Fail> {
         }
     }
     Ok(())
-}
-
-#[test]
-fn words_that_ask_for_nothing(rt: HostRuntime) {
-    for words in NOTHING.iter() {
-        assert!(rt; is_refused(rt.alloc(), words));
-    }
 }
 
 /// Whether this is written for the priorities of the entry, waiter and signaller queues.

@@ -86,40 +86,6 @@ fn cut_texts(rt: HostRuntime) {
     }
 }
 
-/// Returns the outcome of the first text followed by the second.
-fn outcome_of_both(rt: &HostRuntime, first: &[u8], second: &[u8]) -> Result<(u8, u32), Fail> {
-    let mut text = Vec::from_slice(rt.alloc(), first)?;
-    text.extend_from_slice(second)?;
-    Ok(outcome(rt, &text))
-}
-
-/// Lines after a good header, and the outcome of each.
-static FAULTY_LINES: [(&[u8], u8, u32); 13] = [
-    (b"enter 0  free\n", 2, 2),
-    (b"enter  0 free\n", 3, 2),
-    (b"enter +1 free\n", 3, 2),
-    (b"enter 256 free\n", 3, 2),
-    (b"enter 00 free\n", 3, 2),
-    (b"enter 0 free\r\n", 2, 2),
-    (b"enter 0\n", 2, 2),
-    (b"enter 0 free 1\n", 2, 2),
-    (b"enter 0 fr", 4, 2),
-    (b"act 0 0 4294967296 1\n", 3, 2),
-    (b"act 0 0 4294967295 18446744073709551616\n", 3, 2),
-    (b"until 0 1 stays\n", 2, 2),
-    (b"\n", 2, 2),
-];
-
-#[test]
-fn faulty_lines(rt: HostRuntime) -> Result<(), Fail> {
-    assert!(rt; outcome_of_both(&rt, RUN, RUN)? == (2, 10));
-    for (line, number, at) in FAULTY_LINES.iter() {
-        let told = outcome_of_both(&rt, b"monk 1 PB 2 2 buffer 1\n", line)?;
-        assert!(rt; told == (*number, *at));
-    }
-    Ok(())
-}
-
 #[test]
 fn limit_of_lines(rt: HostRuntime) {
     let told = match read_limited(rt.alloc(), RUN, 3) {
@@ -191,70 +157,6 @@ fn first_versions(rt: HostRuntime) {
         let made = Header::new(KindName::Pis, 1, 0, *object, 1);
         assert!(rt; matches!(made, Some(header) if header.version() == *version));
     }
-}
-
-/// How the header of each version begins.
-static FIRST_WORDS: [&[u8]; 3] = [b"monk 1", b"monk 2", b"monk 3"];
-
-/// Headers of each object, and the outcome of each in the three versions.
-static OBJECTS_OF_VERSIONS: [(&[u8], [(u8, u32); 3]); 6] = [
-    (b" PIS 2 0 buffer 1\n", [(0, 0), (0, 0), (1, 1)]),
-    (b" PIS 2 0 book 1\n", [(0, 0), (0, 0), (1, 1)]),
-    (b" PIS 2 0 shop 1\n", [(0, 0), (0, 0), (1, 1)]),
-    (b" PIS 2 0 flags 1\n", [(1, 1), (1, 1), (0, 0)]),
-    (b" PIS 2 0 flags 0\n", [(1, 1), (1, 1), (1, 1)]),
-    (b" PIS 2 0 flag 1\n", [(1, 1), (1, 1), (1, 1)]),
-];
-
-#[test]
-fn objects_of_versions(rt: HostRuntime) -> Result<(), Fail> {
-    for (header, told) in OBJECTS_OF_VERSIONS.iter() {
-        for (first, told) in FIRST_WORDS.iter().zip(told.iter()) {
-            assert!(rt; outcome_of_both(&rt, first, header)? == *told);
-        }
-    }
-    Ok(())
-}
-
-/// Lines that version 2 adds, or that look like one, and the outcome of each in version 1 and in
-/// the later ones.
-static WORDS_OF_VERSION_TWO: [(&[u8], (u8, u32), (u8, u32)); 7] = [
-    (b"signal-all 0 0\n", (2, 2), (0, 1)),
-    (b"signal-all x 0\n", (2, 2), (3, 2)),
-    (b"signal-all 0 0 stay\n", (2, 2), (2, 2)),
-    (b"signal-wait 0 0 0 stay\n", (2, 2), (0, 1)),
-    (b"signal-wait 0 0 stay\n", (2, 2), (3, 2)),
-    (b"signal-wait 0 0 256 stay\n", (2, 2), (3, 2)),
-    (b"signal 0 0 stay\n", (0, 1), (0, 1)),
-];
-
-#[test]
-fn words_of_version_two(rt: HostRuntime) -> Result<(), Fail> {
-    for (line, old, new) in WORDS_OF_VERSION_TWO.iter() {
-        let first = outcome_of_both(&rt, b"monk 1 PIR 2 2 buffer 1\n", line)?;
-        let second = outcome_of_both(&rt, b"monk 2 PIR 2 2 buffer 1\n", line)?;
-        let third = outcome_of_both(&rt, b"monk 3 PIR 2 2 flags 1\n", line)?;
-        assert!(rt; first == *old && second == *new && third == *new);
-    }
-    Ok(())
-}
-
-/// First words that begin no text over a buffer.
-static OTHER_VERSIONS: [&[u8]; 6] = [
-    b"monk 0",
-    b"monk 3",
-    b"monk 4",
-    b"monk 02",
-    b"monk 256",
-    b"monk x",
-];
-
-#[test]
-fn other_versions(rt: HostRuntime) -> Result<(), Fail> {
-    for first in OTHER_VERSIONS.iter() {
-        assert!(rt; outcome_of_both(&rt, first, b" PIR 2 2 buffer 1\n")? == (1, 1));
-    }
-    Ok(())
 }
 
 /// Whether the text is written again as it was read, by a writer that takes `step` bytes at a time.
