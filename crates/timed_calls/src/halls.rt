@@ -1,9 +1,5 @@
-//! Visits to a hall by one thread: what `bench/hall` times.
-//!
-//! `hall_visits` prints how many visits it makes in each of two ways. With one more word it prints
-//! the least nanoseconds of a visit instead. One kind of visit arrives, polls and leaves. The other
-//! arrives, resumes, acts and leaves.
-#![tactic(auto)]
+//! Visits to a hall by one thread. One kind of visit arrives, polls and leaves. The other arrives, resumes, acts and
+//! leaves.
 
 ghost use Rattle.std.specs.Prelude.{◌≡◌, IfSome};
 
@@ -12,7 +8,6 @@ use monk_hall::{Hall, Pass};
 use monk_kinds::{Pick, Pnb};
 use monk_object::{Flags, Op};
 use std::alloc::Global;
-use std::env;
 use std::rt::Clock;
 use std::sync::Wait;
 use std::time::Instant;
@@ -129,15 +124,12 @@ fn least_of_halls<R: Clock + Wait>(rt: &R, alloc: Global, way: Way) -> anyhow::R
     Ok(best)
 }
 
-fn main(rt: HostRuntime) -> anyhow::Result<()> {
-    let alloc = rt.alloc();
-    let words: Vec<String> = env::args(&rt)?.collect(alloc)?;
-    let poll = least_of_halls(&rt, alloc, Way::Poll)? / VISITS as u64;
-    let act = least_of_halls(&rt, alloc, Way::Act)? / VISITS as u64;
-    if words.len() > 1 {
-        println!(rt; "{poll} {act}")?;
-    } else {
-        println!(rt; "{}", HALLS * CHUNKS * VISITS)?;
-    }
-    Ok(())
+/// How many visits are made in each of the two ways.
+pub const MADE: u32 = HALLS * CHUNKS * VISITS;
+
+/// Returns the least nanoseconds of a visit that polls, and of one that acts.
+pub fn least_of_both<R: Clock + Wait>(rt: &R, alloc: Global) -> anyhow::Result<(u64, u64)> {
+    let poll = least_of_halls(rt, alloc, Way::Poll)? / VISITS as u64;
+    let act = least_of_halls(rt, alloc, Way::Act)? / VISITS as u64;
+    Ok((poll, act))
 }

@@ -3,7 +3,7 @@ use Rattle.monk_history.specs.Meaning.Signallers.{is_empty}
 use Rattle.monk_history.specs.Meaning.Turn.{turn}
 use Rattle.monk_history.specs.declared.event.Turn.TheVariants.{Open}
 use Rattle.monk_history.proofs.PublicLaws.Meaning.{may_enter_begun, may_enter_first}
-use Rattle.floor_calls.proofs.enter.Goals as goal
+use Rattle.timed_calls.proofs.floors.enter.Goals as goal
 
 pub enter-requires-clause-call : goal.enter-requires-clause-call
 enter-requires-clause-call g c κs within =

@@ -1,5 +1,5 @@
 use Rattle.std.proofs.Common.{◌≡◌}
-use Rattle.hall_visits.proofs.visits.Given as goal
+use Rattle.timed_calls.proofs.halls.visits.Given as goal
 
 abbrev pub invariant-loop : goal.invariant-loop
 invariant-loop g l = l.pass.hall ≡ l.hall.id

@@ -1,23 +1,17 @@
-//! Random legal calls on a floor, in one thread: what `bench/floor` times.
-//!
-//! In `floor_calls KIND SEATS`, KIND is PB, PNB or PIS. It prints how many calls were recorded.
-#![tactic(auto)]
+//! Random legal calls on a floor, in one thread.
 
 ghost use Rattle.std.specs.Prelude.{◌≡◌, ◌<◌, IfSome, not};
 ghost use Rattle.monk_history.specs.Meaning.Signallers.{is_empty};
 ghost use Rattle.monk_history.specs.Meaning.Turn.{turn};
-ghost use Rattle.floor_calls.specs.Calls.{IsSameSize, OwnsTurn};
+ghost use Rattle.timed_calls.specs.Calls.{IsSameSize, OwnsTurn};
 
-mod chance;
-
+use crate::chance::Chance;
 use anyhow::anyhow;
-use chance::Chance;
 use monk_floor::Floor;
 use monk_history::{Event, Turn, Via};
 use monk_kinds::{Automatic, Explicit, Kind, Pb, Pick, Pis, Pnb};
 use monk_object::{Buffer, Op};
 use std::alloc::Global;
-use std::env;
 
 /// How many condition variables a floor has: the most that it can have.
 const CONDS: u8 = 8;
@@ -31,19 +25,14 @@ const CALLS: u32 = 1 << 18;
 /// How many floors there are, one after another.
 const FLOORS: u32 = 8;
 
-fn main(rt: HostRuntime) -> anyhow::Result<()> {
-    let alloc = rt.alloc();
-    let words: Vec<String> = env::args(&rt)?.collect(alloc)?;
-    let [_, kind, seats] = words.as_slice() else {
-        return Err(anyhow!("floor_calls KIND SEATS"));
-    };
-    let seats: u8 = seats.as_str().parse()?;
+/// Returns how many calls were recorded under the kind with so many seats.
+pub fn calls_of(alloc: Global, kind: &str, seats: u8) -> anyhow::Result<u64> {
     if seats < 2 || seats > 32 {
         return Err(anyhow!("2 to 32 seats"));
     }
     let mut count = 0u64;
     for _ in 0..FLOORS {
-        let calls = match kind.as_str() {
+        let calls = match kind {
             "PB" => explicit::<Pb>(alloc, seats)?,
             "PNB" => explicit::<Pnb>(alloc, seats)?,
             "PIS" => automatic::<Pis>(alloc, seats)?,
@@ -51,8 +40,7 @@ fn main(rt: HostRuntime) -> anyhow::Result<()> {
         };
         count = count.wrapping_add(calls as u64);
     }
-    println!(rt; "{count}")?;
-    Ok(())
+    Ok(count)
 }
 
 fn explicit<K: Explicit>(alloc: Global, seats: u8) -> anyhow::Result<usize> {
