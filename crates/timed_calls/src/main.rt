@@ -1,7 +1,7 @@
 //! Calls that `bench/floor` and `bench/hall` time.
 //!
-//! `timed_calls KIND SEATS` makes random legal calls on a floor, where KIND is PB, PNB or PIS, and prints how many were
-//! recorded. `timed_calls visits` makes visits to a hall, and prints how many it makes in each of two ways. `timed_calls
+//! `timed_calls KIND SEATS` makes random legal calls on a floor, and prints how many were recorded. KIND is PB, PNB or
+//! PIS. `timed_calls visits` makes visits to a hall, and prints how many it makes in each of two ways; `timed_calls
 //! times` prints the least nanoseconds of a visit in each. Without a word it makes the visits, and then the calls under
 //! PB with four seats.
 #![tactic(auto)]
