@@ -1,5 +1,6 @@
 use super::begins;
 use crate::tests::told_pages::FORBIDDEN_AND_LEGAL;
+use monk_audit::AuditFault;
 use monk_commands::pages_stream;
 use monk_history::{Device, Event, Header, Next, Via};
 use monk_kinds::KindName;
@@ -22,7 +23,7 @@ pub(super) fn page_of_four(rt: &HostRuntime) -> Result<bool, Fail> {
         return Err(Fail::new("no header"));
     };
     let article = article(rt.alloc(), &header, &WRONG_CHOICE, None, NOTHING_TOLD)?;
-    let page = page_of(rt.alloc(), article.as_str())?;
+    let page = page_of(rt.alloc(), article.as_str()).map_err(AuditFault::from)?;
     Ok(page.as_str().ends_with("</html>\n"))
 }
 
