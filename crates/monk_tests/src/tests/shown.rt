@@ -29,10 +29,25 @@ fn histories_and_logs_are_shown(rt: HostRuntime) -> Result<(), Fail> {
         return Err("no window")?;
     };
     let rows: [Row<'_>; 4] = [
-        (Task::Draw(None), VISIT, "<title>3: leave 0 entry</title>", 0),
-        (Task::Draw(None), MISFIT, ">2 is forbidden: reply, line 3 of the file</text>", 1),
+        (
+            Task::Draw(None),
+            VISIT,
+            "<title>3: leave 0 entry</title>",
+            0,
+        ),
+        (
+            Task::Draw(None),
+            MISFIT,
+            ">2 is forbidden: reply, line 3 of the file</text>",
+            1,
+        ),
         (Task::Page(third), VISIT, "{\"before\":2,", 0),
-        (Task::Page(None), MISFIT, "\"misfit\":{\"index\":1,\"told\":\"act 0 1 0 8\",", 1),
+        (
+            Task::Page(None),
+            MISFIT,
+            "\"misfit\":{\"index\":1,\"told\":\"act 0 1 0 8\",",
+            1,
+        ),
     ];
     for row in rows.iter() {
         if !is_shown(&rt, row) {
