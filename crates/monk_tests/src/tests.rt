@@ -30,6 +30,5 @@ mod samples;
 mod shown;
 mod text_pictures;
 mod texts;
-mod tight;
 mod told_pages;
 mod worlds;
