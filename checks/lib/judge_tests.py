@@ -14,14 +14,16 @@ asks for some there, which the test itself can't see.
 A body that waits for a thread which isn't there names a test that must not end with it where the start of that thread
 is refused ('hangs:' and 'thread:'). Without the body it ends there, and with it where no thread is refused.
 
-No test sees what the program's process ends with; such a body names the script that must fail in place of tests, and
-what it says of the program that is built from the copy. The script passes without the body: the gate has run it.
+No test sees what the program's process ends with; such an edit names the script that must fail in place of tests, and
+what it says. The script is given lines of shell that call monk's program (MONK) and end otherwise ('wraps:'), and so
+does nothing else. It passes with the program itself: the gate has run it.
 
 At last, where no name is given, the tests' programs go to checks/fail_alloc, with none of the bodies chosen.
 --look tries none, and says which can't be put in."""
 from __future__ import annotations
 
 import os
+import shlex
 import shutil
 import subprocess
 import sys
@@ -34,11 +36,10 @@ from edits import TOP, Change
 from refusing import Refusing
 
 DECLARED = '\nunsafe extern "C" {\n    safe fn chosen_body() -> u32;\n}\n'
-PROGRAM = "monk"
 # The words with which a body begins: what must fail with it. And the words that it has once at most.
-BEGINS, SAID = ("test", "takes", "hangs", "script"), ("takes", "hangs", "thread", "script", "says")
+BEGINS, SAID = ("test", "takes", "hangs", "script"), ("takes", "hangs", "thread", "script", "wraps", "says")
 # The modules of tests that checks/fail_alloc wants, by crate.
-WANTED = {"monk_tests": ["refused", "objects", "floor_histories", "full_floor", "worlds", "halls"]}
+WANTED = {"monk_tests": ["refused", "objects", "floor_histories", "worlds", "halls"]}
 # How long a test or a script may take, in seconds; one that has not ended by then has not failed.
 SECONDS = 300
 
@@ -54,8 +55,8 @@ class Body:
         self.name, self.number = name, 0
         told = {word: edits.said(lines, word) for word in SAID}
         self.takes, self.hangs, self.script = told["takes"], told["hangs"], told["script"]
-        self.thread, self.says = int(told["thread"] or 0), told["says"] or ""
-        self.crate = PROGRAM if self.script else crate
+        self.thread, self.says, self.wraps = int(told["thread"] or 0), told["says"] or "", told["wraps"] or ""
+        self.crate = crate
         self.tests = [text for word, text in lines if word == "test"]
         self.changes = [Change(os.path.normpath(os.path.join("crates", crate, file)), old, new)
                         for file, old, new in edits.changes(lines)]
@@ -101,8 +102,7 @@ def copy_with(bodies: List[Body], folder: str) -> None:
     """A copy of the repository, without what checks have kept, with all bodies."""
     files, but = texts_with(bodies), shutil.ignore_patterns("out")
     shutil.copytree(os.path.join(TOP, "crates"), os.path.join(folder, "crates"), ignore=but)
-    for part in ("checks", "docs", "examples"):
-        shutil.copytree(os.path.join(TOP, part), os.path.join(folder, part))
+    shutil.copytree(os.path.join(TOP, "checks"), os.path.join(folder, "checks"))
     for part in ("crates.txt", "HANDLES"):
         shutil.copy(os.path.join(TOP, part), folder)
     for file, text in files.items():
@@ -113,15 +113,12 @@ def copy_with(bodies: List[Body], folder: str) -> None:
 
 
 def built(crate: str, bodies: List[Body], folder: str, also: List[str]) -> str:
-    """The program of the crate's tests, with the modules of the bodies and of `also`, or monk's own, from the copy."""
+    """The program of the crate's tests, with the modules of the bodies and of `also`, from the copy."""
     program = os.path.join(folder, "programs", crate)
     words = [os.path.join(folder, "checks", "program"), "--link=" + os.path.join(folder, "chosen.o")]
-    if crate == PROGRAM:
-        words += ["--into", program]
-    else:
-        named = [test for body in bodies if body.crate == crate for test in body.named()]
-        modules = sorted({test.split("::")[0] for test in named}.union(also))
-        words += ["--tests", "--of=" + ",".join(modules), os.path.join(folder, "crates", crate), program]
+    named = [test for body in bodies if body.crate == crate for test in body.named()]
+    modules = sorted({test.split("::")[0] for test in named}.union(also))
+    words += ["--tests", "--of=" + ",".join(modules), os.path.join(folder, "crates", crate), program]
     done = subprocess.run(words, capture_output=True, text=True, check=False)
     if done.returncode:
         stop(f"{crate} could not be built with the bodies: {done.stdout}{done.stderr}")
@@ -166,7 +163,11 @@ class Judge:
         return self.by_tests(body)
 
     def by_script(self, body: Body, script: str) -> str:
-        status, said = ends([os.path.join(self.folder, script)], body.number, MONK=self.programs[body.crate])
+        monk = subprocess.check_output([os.path.join(TOP, "checks", "program")], text=True).strip()
+        wrapper = os.path.join(self.folder, body.name)
+        edits.write(wrapper, f"#!/bin/sh\nMONK={shlex.quote(monk)}\n{body.wraps}\n")
+        os.chmod(wrapper, 0o755)
+        status, said = ends([os.path.join(TOP, script)], body.number, MONK=wrapper)
         if not status or body.says not in said:
             stop(f"{body.name}: {script} does not fail, or says otherwise: {said[-2000:]}")
         return script
@@ -219,7 +220,7 @@ def main(asked: List[str]) -> int:
     bodies, also = numbered(asked or edits.all_of("tests")), {} if asked else WANTED
     with tempfile.TemporaryDirectory() as folder, ThreadPoolExecutor(os.cpu_count()) as pool:
         copy_with(bodies, folder)
-        crates = sorted({body.crate for body in bodies})
+        crates = sorted({body.crate for body in bodies if not body.script})
         programs = pool.map(lambda crate: built(crate, bodies, folder, also.get(crate, [])), crates)
         judge = Judge(folder, dict(zip(crates, programs)))
         for body, by in zip(bodies, pool.map(judge.by, bodies)):

@@ -6,21 +6,8 @@ use Rattle.monk_object.specs.declared.name.ObjectName.TheVariants.{Buffer}
 use Rattle.monk_history.specs.Meaning.Counts.{left_of}
 use Rattle.monk_history.specs.Meaning.Events.{seat_of}
 use Rattle.monk_history.specs.Meaning.Reasons.{IsAllowed}
-use Rattle.monk_history.specs.Meaning.Turn.{turn}
 use Rattle.monk_history.specs.declared.event.Event.{Event}
-use Rattle.monk_history.specs.declared.event.Turn.TheVariants.{Owned}
 use Rattle.monk_floor.specs.View.{FloorView, monitor_of}
-
--- the numbers of seats and of conditions are as before
-pub record IsSameSize (old new : FloorView) : Type 0 where
-  pub seats : new.seats ≡ old.seats
-  pub conds : new.conds ≡ old.conds
-
--- the seat has the turn, and an event left
-pub record OwnsTurn (f : FloorView) (seat : ℕ) : Type 0 where
-  pub turn_is : turn f.history ≡ Owned seat
-  pub within : seat < f.seats
-  pub left : 0 < left_of f.budget f.history seat
 
 -- a floor with these numbers of seats and conditions, over a buffer of that size that was empty at first
 pub record IsRoom (seats conds size : ℕ) (f : FloorView) : Type 0 where

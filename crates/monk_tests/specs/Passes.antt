@@ -1,15 +1,11 @@
 -- What the tests know of their passes
 use Rattle.std.specs.Prelude.{◌≡◌, List, [], ◌∷◌}
 use Rattle.atomic_table.specs.Seated.{TableId}
-use Rattle.monk_hall.specs.Tokens.{Token, Holder}
+use Rattle.monk_hall.specs.Tokens.{Token}
 
 -- a token of this hall, which has three conditions
 abbrev pub IsSeat : TableId → Token → Type 0
 IsSeat z p = (p.hall ≡ z) × (p.me.setting.conds ≡ 3)
-
--- the active seat of such a hall
-abbrev pub IsInside : TableId → Holder → Type 0
-IsInside z a = (a.hall ≡ z) × (a.me.setting.conds ≡ 3)
 
 -- each of those passes is a seat of that table
 abbrev pub AreSeats : TableId → List Token → Type 0

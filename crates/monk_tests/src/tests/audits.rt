@@ -26,9 +26,12 @@ fn is_audited(rt: &HostRuntime, kind: KindName, object: ObjectName) -> bool {
 
 /// The same over each object.
 fn are_audited(rt: &HostRuntime, kind: KindName) -> bool {
-    ObjectName::ALL
-        .iter()
-        .all(|object| is_audited(rt, kind, *object))
+    for object in ObjectName::ALL.iter() {
+        if !is_audited(rt, kind, *object) {
+            return false;
+        }
+    }
+    true
 }
 
 #[test]

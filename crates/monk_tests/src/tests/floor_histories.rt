@@ -70,7 +70,7 @@ fn looks<K: Kind>(floor: &Floor<K, Buffer>) -> (u32, u32, bool, u32)
 }
 
 /// Whether the floor gives the right answers after each half of a hand-over.
-fn tells_of_both(rt: &HostRuntime, floor: &mut Floor<Pb, Buffer>) -> Result<bool, Fail>
+fn is_handed_over(rt: &HostRuntime, floor: &mut Floor<Pb, Buffer>) -> Result<bool, Fail>
     requires { IsRoom 2 2 ITEMS floor.old }
 {
     let signalled = runs_explicitly(rt, TWO_AND_TWO, floor, &HOARE_HANDOVER[..5], Pick::Waiter)?
@@ -79,38 +79,16 @@ fn tells_of_both(rt: &HostRuntime, floor: &mut Floor<Pb, Buffer>) -> Result<bool
     let left = runs_explicitly(rt, TWO_AND_TWO, floor, &HOARE_HANDOVER[5..], Pick::Waiter)?
         && looks(floor) == (10, 1, false, 0)
         && floor.enters() == 2;
-    Ok(signalled && left && floor.history().len() == 11)
+    Ok(signalled && left)
 }
 
-/// The same for a new floor.
-fn is_told_of_both(rt: &HostRuntime) -> Result<bool, Fail> {
-    let mut floor: Floor<Pb, Buffer> = room(rt, TWO_AND_TWO)?;
-    tells_of_both(rt, &mut floor)
-}
-
+/// It closes with its buffer and history.
 #[test]
 fn what_a_floor_tells(rt: HostRuntime) -> Result<(), Fail> {
-    assert!(rt; is_told_of_both(&rt)?);
-    Ok(())
-}
-
-/// Whether the floor gives the right answers after the hand-over, and closes with its buffer and history.
-fn is_closed_with_it(floor: Floor<Pb, Buffer>) -> bool
-    requires { IsRoom 2 2 ITEMS floor }
-{
-    let told = looks(&floor) == (10, 1, false, 0)
-        && floor.enters() == 2
-        && floor.history().len() == 11
-        && floor.holds(Buffer::HAS_ROOM);
-    let (buffer, history) = floor.close();
-    told && buffer.holds(Buffer::HAS_ROOM) && history.len() == 11
-}
-
-#[test]
-fn what_is_left_when_it_closes(rt: HostRuntime) -> Result<(), Fail> {
     let mut floor: Floor<Pb, Buffer> = room(&rt, TWO_AND_TWO)?;
-    let made = runs_explicitly(&rt, TWO_AND_TWO, &mut floor, &HOARE_HANDOVER, Pick::Waiter)?;
+    let told = is_handed_over(&rt, &mut floor)?;
     from_here(&rt)?;
-    let left = is_closed_with_it(floor);
-    well_up_to_here(&rt, made && left)
+    let (buffer, history) = floor.close();
+    let closed = buffer.holds(Buffer::HAS_ROOM) && history.len() == HOARE_HANDOVER.len();
+    well_up_to_here(&rt, told && closed)
 }

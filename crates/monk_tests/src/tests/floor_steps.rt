@@ -125,22 +125,19 @@ fn calls_plainly<K: Kind>(
     }
 }
 
-/// Whether a floor makes exactly these events.
-fn runs_plainly<K: Kind>(
+/// Whether a new floor makes exactly these events.
+pub(crate) fn runs_plainly<K: Kind>(
     rt: &HostRuntime,
     size: Size,
-    floor: &mut Floor<K, Buffer>,
     events: &[Event],
     pick: Pick,
-) -> Result<bool, Fail>
-    requires { IsRoom size.seats size.conds ITEMS floor.old }
-    ensures { IsRoom size.seats size.conds ITEMS floor.new }
-{
+) -> Result<bool, Fail> {
+    let mut floor: Floor<K, Buffer> = room(rt, size)?;
     for event in events {
-        if !comes_next(rt, size, floor, *event)? {
+        if !comes_next(rt, size, &floor, *event)? {
             return Ok(false);
         }
-        let came = calls_plainly(size, floor, *event, pick);
+        let came = calls_plainly(size, &mut floor, *event, pick);
         up_to_here(rt)?;
         if !came {
             return Ok(false);
@@ -213,22 +210,19 @@ fn calls_non_blocking<K: NonBlocking>(
     calls_explicitly(size, floor, event, pick)
 }
 
-/// Whether a floor makes exactly these events by those paths.
-fn runs_non_blocking<K: NonBlocking>(
+/// Whether a new floor makes exactly these events by those paths.
+pub(crate) fn runs_non_blocking<K: NonBlocking>(
     rt: &HostRuntime,
     size: Size,
-    floor: &mut Floor<K, Buffer>,
     events: &[Event],
     pick: Pick,
-) -> Result<bool, Fail>
-    requires { IsRoom size.seats size.conds ITEMS floor.old }
-    ensures { IsRoom size.seats size.conds ITEMS floor.new }
-{
+) -> Result<bool, Fail> {
+    let mut floor: Floor<K, Buffer> = room(rt, size)?;
     for event in events {
-        if !comes_next(rt, size, floor, *event)? {
+        if !comes_next(rt, size, &floor, *event)? {
             return Ok(false);
         }
-        let came = calls_non_blocking(size, floor, *event, pick);
+        let came = calls_non_blocking(size, &mut floor, *event, pick);
         up_to_here(rt)?;
         if !came {
             return Ok(false);
@@ -261,22 +255,19 @@ fn calls_returning<K: ImmediateReturn>(
     }
 }
 
-/// Whether a floor makes exactly these events by those paths.
-fn runs_returning<K: ImmediateReturn>(
+/// Whether a new floor makes exactly these events by those paths.
+pub(crate) fn runs_returning<K: ImmediateReturn>(
     rt: &HostRuntime,
     size: Size,
-    floor: &mut Floor<K, Buffer>,
     events: &[Event],
     pick: Pick,
-) -> Result<bool, Fail>
-    requires { IsRoom size.seats size.conds ITEMS floor.old }
-    ensures { IsRoom size.seats size.conds ITEMS floor.new }
-{
+) -> Result<bool, Fail> {
+    let mut floor: Floor<K, Buffer> = room(rt, size)?;
     for event in events {
-        if !comes_next(rt, size, floor, *event)? {
+        if !comes_next(rt, size, &floor, *event)? {
             return Ok(false);
         }
-        let came = calls_returning(size, floor, *event, pick);
+        let came = calls_returning(size, &mut floor, *event, pick);
         up_to_here(rt)?;
         if !came {
             return Ok(false);
@@ -305,22 +296,19 @@ fn calls_automatically<K: Automatic>(
     }
 }
 
-/// Whether a floor makes exactly these events by those paths.
-fn runs_automatically<K: Automatic>(
+/// Whether a new floor makes exactly these events by those paths.
+pub(crate) fn runs_automatically<K: Automatic>(
     rt: &HostRuntime,
     size: Size,
-    floor: &mut Floor<K, Buffer>,
     events: &[Event],
     pick: Pick,
-) -> Result<bool, Fail>
-    requires { IsRoom size.seats size.conds ITEMS floor.old }
-    ensures { IsRoom size.seats size.conds ITEMS floor.new }
-{
+) -> Result<bool, Fail> {
+    let mut floor: Floor<K, Buffer> = room(rt, size)?;
     for event in events {
-        if !comes_next(rt, size, floor, *event)? {
+        if !comes_next(rt, size, &floor, *event)? {
             return Ok(false);
         }
-        let came = calls_automatically(size, floor, *event, pick);
+        let came = calls_automatically(size, &mut floor, *event, pick);
         up_to_here(rt)?;
         if !came {
             return Ok(false);
@@ -329,66 +317,13 @@ fn runs_automatically<K: Automatic>(
     Ok(true)
 }
 
-/// Whether a new floor makes exactly these events by the general scheduler step.
-fn is_run_plainly<K: Kind>(
+/// The same for a new floor.
+pub(crate) fn makes_explicitly<K: Explicit>(
     rt: &HostRuntime,
     size: Size,
     events: &[Event],
     pick: Pick,
 ) -> Result<bool, Fail> {
-    let mut floor: Floor<K, Buffer> = room(rt, size)?;
-    runs_plainly(rt, size, &mut floor, events, pick)
-}
-
-/// Whether both paths make exactly these events.
-pub(crate) fn both_explicit<K: Explicit>(
-    rt: &HostRuntime,
-    size: Size,
-    events: &[Event],
-    pick: Pick,
-) -> Result<bool, Fail> {
-    if !is_run_plainly::<K>(rt, size, events, pick)? {
-        return Ok(false);
-    }
     let mut floor: Floor<K, Buffer> = room(rt, size)?;
     runs_explicitly(rt, size, &mut floor, events, pick)
-}
-
-pub(crate) fn both_non_blocking<K: NonBlocking>(
-    rt: &HostRuntime,
-    size: Size,
-    events: &[Event],
-    pick: Pick,
-) -> Result<bool, Fail> {
-    if !is_run_plainly::<K>(rt, size, events, pick)? {
-        return Ok(false);
-    }
-    let mut floor: Floor<K, Buffer> = room(rt, size)?;
-    runs_non_blocking(rt, size, &mut floor, events, pick)
-}
-
-pub(crate) fn both_returning<K: ImmediateReturn>(
-    rt: &HostRuntime,
-    size: Size,
-    events: &[Event],
-    pick: Pick,
-) -> Result<bool, Fail> {
-    if !is_run_plainly::<K>(rt, size, events, pick)? {
-        return Ok(false);
-    }
-    let mut floor: Floor<K, Buffer> = room(rt, size)?;
-    runs_returning(rt, size, &mut floor, events, pick)
-}
-
-pub(crate) fn both_automatic<K: Automatic>(
-    rt: &HostRuntime,
-    size: Size,
-    events: &[Event],
-    pick: Pick,
-) -> Result<bool, Fail> {
-    if !is_run_plainly::<K>(rt, size, events, pick)? {
-        return Ok(false);
-    }
-    let mut floor: Floor<K, Buffer> = room(rt, size)?;
-    runs_automatically(rt, size, &mut floor, events, pick)
 }

@@ -56,32 +56,3 @@ fn thirteen_orderings(rt: HostRuntime) {
     }
     assert!(rt; seen == [true; 13]);
 }
-
-/// Three priorities, the text of their ordering, and the kind's text or `rejected`.
-static ORDERINGS: [(u8, u8, u8, &[u8], &[u8]); 13] = [
-    (1, 3, 2, b"Ep<Sp<Wp", b"PB"),
-    (1, 2, 1, b"Ep=Sp<Wp", b"NPB"),
-    (1, 2, 3, b"Ep<Wp<Sp", b"PNB"),
-    (1, 1, 2, b"Ep=Wp<Sp", b"NPNB"),
-    (1, 2, 2, b"Ep<Wp=Sp", b"PQB"),
-    (1, 1, 1, b"Ep=Wp=Sp", b"NPQB"),
-    (2, 1, 2, b"Wp<Ep=Sp", b"rejected"),
-    (2, 2, 1, b"Sp<Ep=Wp", b"rejected"),
-    (2, 1, 1, b"Wp=Sp<Ep", b"rejected"),
-    (2, 1, 3, b"Wp<Ep<Sp", b"rejected"),
-    (3, 1, 2, b"Wp<Sp<Ep", b"rejected"),
-    (2, 3, 1, b"Sp<Ep<Wp", b"rejected"),
-    (3, 2, 1, b"Sp<Wp<Ep", b"rejected"),
-];
-
-#[test]
-fn orderings_by_text(rt: HostRuntime) {
-    for (e, w, s, text, kind) in ORDERINGS.iter() {
-        let ordering = classify(*e, *w, *s);
-        let found = match ordering.kind() {
-            Some(name) => name.text(),
-            None => b"rejected",
-        };
-        assert!(rt; ordering.text() == *text && found == *kind);
-    }
-}

@@ -1,29 +1,13 @@
 use monk_audit::AuditFault;
 use monk_completion::{Blame, complete};
 use monk_kinds::KindName;
-use monk_logs::{LogHeader, LogLine, LogLines, one_log_each, read_log};
+use monk_logs::{LogHeader, LogLine, one_log_each, read_log};
 use monk_object::{ObjectName, Op};
 use std::test::Fail;
 
 /// Each kind of line, with the least and the greatest numbers.
 const EACH: &[u8] =
     b"log 1 32 8 shop 255\nenter 0\nresume 255\nlapse 1\nleave 2\nwait 3 255\nsignal 4 0\nbroadcast 5 1\nuntil 6 2\nact 7 255 4294967295 18446744073709551615\nact 8 0 0 0\n";
-
-/// The fault's number and line, or 0 and the number of lines.
-fn outcome(rt: &HostRuntime, bytes: &[u8]) -> (u8, u32) {
-    match read_log(rt.alloc(), bytes) {
-        Ok((_, lines)) => (0, u32::try_from(lines.len()).unwrap_or(0)),
-        Err(fault) => (fault.number, fault.line),
-    }
-}
-
-/// The fault's number and line, or 0 and 0, for a text whose lines are not kept.
-fn checked(bytes: &[u8]) -> (u8, u32) {
-    match LogLines::check(bytes) {
-        Ok(_) => (0, 0),
-        Err(fault) => (fault.number, fault.line),
-    }
-}
 
 const GREATEST: Op = Op {
     code: 255,
@@ -51,31 +35,6 @@ fn each_line_of_a_log(rt: HostRuntime) -> Result<(), Fail> {
         && (header.seats(), header.conds(), header.size()) == (32, 8, 255);
     assert!(rt; is_header && lines.as_slice() == EACH_LINE.as_slice());
     Ok(())
-}
-
-/// Texts, and the outcome of each.
-static FAULTY_LOGS: [(&[u8], u8, u32); 12] = [
-    (b"", 1, 1),
-    (b"log 1 2 1 buffer 1", 4, 1),
-    (b"log 2 2 1 buffer 1\n", 1, 1),
-    (b"log 1 2 1 flags 1\n", 1, 1),
-    (b"log 2 2 1 flags 1\nact 0 0 1 1\n", 0, 1),
-    (b"log 3 2 1 flags 1\n", 1, 1),
-    (b"log 1 33 1 buffer 1\n", 1, 1),
-    (b"log 1 2 1 buffer 1\n", 0, 0),
-    (b"log 1 2 1 buffer 1\nenter 0 free\n", 2, 2),
-    (b"log 1 2 1 buffer 1\nenter 0\nwait 0 00\n", 3, 3),
-    (b"log 1 2 1 buffer 1\nenter 0\nsignal-all 0 0\n", 2, 3),
-    (b"log 1 2 1 buffer 1\nenter 0\nwait 0", 4, 3),
-];
-
-#[test]
-fn faulty_logs(rt: HostRuntime) {
-    for (text, number, line) in FAULTY_LOGS.iter() {
-        let whole = if *number == 0 { 0 } else { *line };
-        let is_outcome = outcome(&rt, text) == (*number, *line);
-        assert!(rt; is_outcome && checked(text) == (*number, whole));
-    }
 }
 
 /// Seats, conditions, object and size, and whether there is such a header.

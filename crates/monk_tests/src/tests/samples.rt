@@ -4,7 +4,6 @@ ghost use Rattle.monk_tests.specs.Passes.{AreSeats, IsSeat};
 
 mod gates;
 mod later_members;
-mod paths;
 mod runs;
 
 use monk_hall::{Hall, Pass};

@@ -1,11 +1,10 @@
-use super::tight::Tight;
+use super::jobs::Expected;
 use monk_history::lines::{Flaw, LineWords};
 use monk_history::{
     Device, Header, ReadFault, one_history_each, read, read_limited, reads_back, writable, write,
 };
 use monk_kinds::KindName;
 use monk_object::ObjectName;
-use std::io::{Read, Write};
 use std::test::Fail;
 
 const RUN: &[u8] =
@@ -162,15 +161,10 @@ fn first_versions(rt: HostRuntime) {
 /// Whether the text is written again as it was read, by a writer that takes `step` bytes at a time.
 fn is_written_again(rt: &HostRuntime, bytes: &[u8], step: usize) -> Result<bool, Fail> {
     let (header, events) = read(rt.alloc(), bytes)?;
-    let mut tight = Tight {
-        taken: Vec::new(rt.alloc()),
-        step,
-        writes_left: 0,
-        refuses: false,
-    };
-    let mut device = Device::new(&mut tight);
+    let mut written = Expected::failing(bytes, step, 0, false);
+    let mut device = Device::new(&mut written);
     write(&header, &events, &mut device)?;
-    Ok(!device.failed() && tight.taken.as_slice() == bytes)
+    Ok(!device.failed() && written.agrees() && written.taken == bytes.len())
 }
 
 static WRITTEN: [&[u8]; 4] = [RUN, EACH, EACH_OF_VERSION_TWO, EACH_OF_VERSION_THREE];
@@ -196,20 +190,16 @@ fn written_and_read(rt: HostRuntime) -> Result<(), Fail> {
 fn is_refused(
     rt: &HostRuntime,
     bytes: &[u8],
-    fails_at: u32,
+    fails_at: usize,
     step: usize,
     refuses: bool,
 ) -> Result<bool, Fail> {
     let (header, events) = read(rt.alloc(), bytes)?;
-    let mut tight = Tight {
-        taken: Vec::new(rt.alloc()),
-        step,
-        writes_left: fails_at,
-        refuses,
-    };
-    let mut device = Device::new(&mut tight);
+    let mut written = Expected::failing(bytes, step, fails_at, refuses);
+    let mut device = Device::new(&mut written);
     let fails = write(&header, &events, &mut device).is_err();
-    if fails != device.failed() || !fails && tight.taken.as_slice() != bytes {
+    let is_told = fails == device.failed() && written.agrees();
+    if !is_told || !fails && written.taken != bytes.len() {
         return Err(Fail::new(
             "a write and its device tell different things, or the text is another",
         ));
@@ -225,8 +215,8 @@ static WRITERS: [(usize, bool); 3] = [(1000, false), (1000, true), (4096, false)
 fn writers_fail_in_turn(rt: HostRuntime) -> Result<(), Fail> {
     let bytes = repeated(&rt, RUN, 90)?;
     for (step, refuses) in WRITERS.iter() {
-        let mut refused = 0u32;
-        for fails_at in 1..31u32 {
+        let mut refused = 0usize;
+        for fails_at in 1..31usize {
             if is_refused(&rt, &bytes, fails_at, *step, *refuses)? {
                 refused = refused.wrapping_add(1);
                 assert!(rt; refused == fails_at);
@@ -235,36 +225,6 @@ fn writers_fail_in_turn(rt: HostRuntime) -> Result<(), Fail> {
         assert!(rt; 0 < refused && refused < 30);
     }
     Ok(())
-}
-
-/// Whether a reader's bytes come through a device.
-fn gives_its_bytes(bytes: &[u8], front: [u8; 4]) -> bool {
-    let mut reader = Device::new(bytes);
-    let mut piece = [0u8; 4];
-    matches!(reader.read(&mut piece), Ok(4)) && piece == front && !reader.failed()
-}
-
-/// Whether a writer that takes three bytes at a time gets them, until its flush fails.
-fn takes_three<W: Write>(writer: &mut Device<W>) -> bool {
-    matches!(writer.write(b"monk"), Ok(3))
-        && writer.write_all(b"onk").is_ok()
-        && writer.flush().is_ok()
-        && matches!(writer.write(b""), Ok(0))
-        && !writer.failed()
-        && writer.flush().is_err()
-        && writer.failed()
-}
-
-#[test]
-fn devices(rt: HostRuntime) {
-    let mut writer = Device::new(Tight {
-        taken: Vec::new(rt.alloc()),
-        step: 3,
-        writes_left: 4,
-        refuses: true,
-    });
-    let takes = takes_three(&mut writer);
-    assert!(rt; takes && gives_its_bytes(RUN, *b"monk"));
 }
 
 /// Whether the words of a line are read one after the other. An empty word is no number.

@@ -8,6 +8,7 @@ use crate::tests::marks::well_up_to_here;
 use monk_hall::{Busy, Closed, Hall, Pass, close, complete, meet};
 use monk_kinds::{Pb, Pick};
 use monk_object::Buffer;
+use std::slice::from_ref;
 use std::test::Fail;
 
 /// Comes in by the ticket of that number, and ends the hall. The closed history begins with what the seat had seen.
@@ -63,10 +64,8 @@ fn two_did_it_all(hall: Hall<Pb, Buffer>, first: Pass<Pb, Buffer>, second: Pass<
         return false;
     };
     let history = closed.history.as_slice();
-    let others = [two];
-    let nobody: [Pass<Pb, Buffer>; 0] = [];
-    let both = complete(history, seat, others.as_slice());
-    let alone = complete(history, seat, nobody.as_slice());
+    let both = complete(history, seat, from_ref(&two));
+    let alone = complete::<Pb, Buffer>(history, seat, &[]);
     history == MET.as_slice() && both && !alone
 }
 

@@ -1,11 +1,11 @@
 use super::begins;
-use crate::tests::pages::single_page;
 use crate::tests::told_pages::FORBIDDEN_AND_LEGAL;
+use monk_audit::AuditFault;
 use monk_commands::pages_stream;
 use monk_history::{Device, Event, Header, Next, Via};
 use monk_kinds::KindName;
 use monk_object::ObjectName;
-use monk_page::check_told;
+use monk_page::{NOTHING_TOLD, article, check_told, page_of};
 use std::io;
 use std::test::Fail;
 
@@ -22,7 +22,8 @@ pub(super) fn page_of_four(rt: &HostRuntime) -> Result<bool, Fail> {
     let Some(header) = Header::new(KindName::Pb, 2, 1, ObjectName::Buffer, 1) else {
         return Err(Fail::new("no header"));
     };
-    let page = single_page(rt.alloc(), &header, &WRONG_CHOICE, None)?;
+    let article = article(rt.alloc(), &header, &WRONG_CHOICE, None, NOTHING_TOLD)?;
+    let page = page_of(rt.alloc(), article.as_str()).map_err(AuditFault::from)?;
     Ok(page.as_str().ends_with("</html>\n"))
 }
 
