@@ -15,8 +15,8 @@ A body that waits for a thread which isn't there names a test that must not end 
 is refused ('hangs:' and 'thread:'). Without the body it ends there, and with it where no thread is refused.
 
 No test sees what the program's process ends with; such an edit names the script that must fail in place of tests, and
-what it says. The script is given lines of shell that call monk's program (MONK) and end otherwise ('wraps:'), and so
-does nothing else. It passes with the program itself: the gate has run it.
+what it says. In place of monk's program the script gets a line of shell, which calls that program (MONK) and ends
+otherwise ('wraps:'). With the program itself the script passes: the gate has run it.
 
 At last, where no name is given, the tests' programs go to checks/fail_alloc, with none of the bodies chosen.
 --look tries none, and says which can't be put in."""

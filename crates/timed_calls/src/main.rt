@@ -16,19 +16,24 @@ use std::env;
 fn main(rt: HostRuntime) -> anyhow::Result<()> {
     let alloc = rt.alloc();
     let words: Vec<String> = env::args(&rt)?.collect(alloc)?;
-    let [_, asked @ ..] = words.as_slice() else {
-        return Err(anyhow!("no name"));
-    };
-    if let [kind, seats] = asked {
-        let count = floors::calls_of(alloc, kind.as_str(), seats.as_str().parse()?)?;
-        println!(rt; "{count}")?;
-        return Ok(());
-    }
-    let (poll, act) = halls::least_of_both(&rt, alloc)?;
-    match asked.first() {
-        None => println!(rt; "{}\n{}", halls::MADE, floors::calls_of(alloc, "PB", 4)?)?,
-        Some(word) if word.as_str() == "times" => println!(rt; "{poll} {act}")?,
-        Some(_) => println!(rt; "{}", halls::MADE)?,
+    match words.as_slice() {
+        [_, kind, seats] => {
+            let count = floors::calls_of(alloc, kind.as_str(), seats.as_str().parse()?)?;
+            println!(rt; "{count}")?;
+        }
+        [_, word] if word.as_str() == "times" => {
+            let (poll, act) = halls::least_of_both(&rt, alloc)?;
+            println!(rt; "{poll} {act}")?;
+        }
+        [_, word] if word.as_str() == "visits" => {
+            halls::least_of_both(&rt, alloc)?;
+            println!(rt; "{}", halls::MADE)?;
+        }
+        [_] => {
+            halls::least_of_both(&rt, alloc)?;
+            println!(rt; "{}\n{}", halls::MADE, floors::calls_of(alloc, "PB", 4)?)?;
+        }
+        _ => return Err(anyhow!("timed_calls [visits | times | KIND SEATS]")),
     }
     Ok(())
 }
