@@ -7,7 +7,7 @@ use monk_judge::Report;
 use monk_logs::Crossed;
 
 /// What is found for a log.
-#[derive(Clone, Copy, Debug, PartialEq, Eq)]
+#[derive(Clone, Copy)]
 pub(crate) struct Finding {
     /// What the log shows of its program.
     pub(crate) report: Report,

@@ -2,6 +2,7 @@
 
 use crate::logs::finding::Finding;
 use crate::logs::verdict_words::number;
+use monk_judge::Tally;
 use serde_json::{Map, Value, json, put};
 use std::alloc::{AllocError, Global};
 
@@ -11,30 +12,13 @@ pub(crate) fn finding_json(
     name: &str,
     finding: &Finding,
 ) -> Result<String, AllocError> {
-    let (report, tally) = (&finding.report, &finding.report.tally);
-    let crossed = finding.crossed.map_or(0, |crossed| crossed.seats as u64);
-    let mut value = json!(in alloc; {
-        "file": name,
-        "fits": report.misfit.is_none(),
-        "end": finding.end_name(),
-        "ended": finding.has_ended,
-        "asleep": report.asleep,
-        "woken": report.woken,
-        "served": tally.served,
-        "passed": tally.passed,
-        "spurious": {"count": tally.spurious, "first": line_value(tally.first_spurious)},
-        "unheard": {"count": tally.unheard, "last": line_value(tally.last_unheard)},
-        "overtaken": {
-            "count": tally.overtaken, "again": tally.again, "first": line_value(tally.first_not_again)
-        },
-        "missed": line_value(report.missed),
-        "crossed": {"count": crossed, "last": line_value(finding.crossed_at())}
-    })?;
-    if let Some(map) = value.as_object_mut() {
-        put_misfit(alloc, map, finding)?;
-        put_holder(alloc, map, finding)?;
-    }
-    line_of(alloc, &value)
+    let mut map = Map::new(alloc);
+    put_end(alloc, &mut map, name, finding)?;
+    put_threads(alloc, &mut map, finding)?;
+    put_tally(alloc, &mut map, &finding.report.tally)?;
+    put_misfit(alloc, &mut map, finding)?;
+    put_holder(alloc, &mut map, finding)?;
+    line_of(alloc, &Value::Object(map))
 }
 
 /// Returns why nothing is found, as one line of JSON.
@@ -55,6 +39,65 @@ fn line_value(index: Option<usize>) -> Value {
         Some(index) => Value::from(number(index)),
         None => Value::Null,
     }
+}
+
+/// Adds the log's name, whether it fits, and how its program ends.
+fn put_end(
+    alloc: Global,
+    map: &mut Map<String, Value>,
+    name: &str,
+    finding: &Finding,
+) -> Result<(), AllocError> {
+    put(map, alloc, "file", Value::try_from_str(alloc, name)?)?;
+    let end = Value::try_from_str(alloc, finding.end_name())?;
+    put(map, alloc, "end", end)?;
+    let (fits, has_ended) = (finding.report.misfit.is_none(), finding.has_ended);
+    put(map, alloc, "fits", Value::from(fits))?;
+    put(map, alloc, "ended", Value::from(has_ended))
+}
+
+/// Adds how many threads sleep or are on their way at the end, and the signals that were missed or crossed.
+fn put_threads(
+    alloc: Global,
+    map: &mut Map<String, Value>,
+    finding: &Finding,
+) -> Result<(), AllocError> {
+    let report = &finding.report;
+    put(map, alloc, "asleep", Value::from(report.asleep))?;
+    put(map, alloc, "woken", Value::from(report.woken))?;
+    put(map, alloc, "missed", line_value(report.missed))?;
+    let crossed = finding.crossed.map_or(0, |crossed| crossed.seats as u64);
+    let crossed = counted(alloc, crossed, "last", finding.crossed_at())?;
+    put(map, alloc, "crossed", crossed)
+}
+
+/// Adds what is counted over the lines.
+fn put_tally(alloc: Global, map: &mut Map<String, Value>, tally: &Tally) -> Result<(), AllocError> {
+    put(map, alloc, "served", Value::from(tally.served))?;
+    put(map, alloc, "passed", Value::from(tally.passed))?;
+    put(map, alloc, "overtaken", overtaken(alloc, tally)?)?;
+    let spurious = counted(alloc, tally.spurious, "first", tally.first_spurious)?;
+    put(map, alloc, "spurious", spurious)?;
+    let unheard = counted(alloc, tally.unheard, "last", tally.last_unheard)?;
+    put(map, alloc, "unheard", unheard)
+}
+
+/// Returns how often something is found, and the line that is `first` or `last`.
+fn counted(
+    alloc: Global,
+    count: u64,
+    which: &'static str,
+    line: Option<usize>,
+) -> Result<Value, AllocError> {
+    let line = line_value(line);
+    json!(in alloc; {"count": count, which: line})
+}
+
+/// Returns how many threads were overtaken, how many of them waited again, and the first that didn't.
+fn overtaken(alloc: Global, tally: &Tally) -> Result<Value, AllocError> {
+    let (count, again) = (tally.overtaken, tally.again);
+    let first = line_value(tally.first_not_again);
+    json!(in alloc; {"count": count, "again": again, "first": first})
 }
 
 /// Adds what is wrong with which line, if the log misfits.

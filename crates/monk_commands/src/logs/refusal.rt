@@ -10,7 +10,7 @@ use monk_logs::{LogHeader, LogLine};
 use std::alloc::{AllocError, Global};
 
 /// Why a log isn't judged.
-#[derive(Clone, Copy, Debug, PartialEq, Eq)]
+#[derive(Clone, Copy)]
 pub(crate) enum LogRefusal {
     /// The size is above the object's greatest.
     TooBig,

@@ -3,7 +3,7 @@
 use monk_judge::Place;
 
 /// A signal that woke a thread.
-#[derive(Clone, Copy, Debug, PartialEq, Eq)]
+#[derive(Clone, Copy)]
 pub(crate) struct WokenBy {
     /// Who sent it.
     pub(crate) seat: u8,
@@ -12,7 +12,7 @@ pub(crate) struct WokenBy {
 }
 
 /// Where a thread is, and how it came there.
-#[derive(Clone, Copy, Debug, PartialEq, Eq)]
+#[derive(Clone, Copy)]
 pub(crate) struct Trail {
     /// Where it is.
     pub(crate) place: Place,

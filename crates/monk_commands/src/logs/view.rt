@@ -1,7 +1,7 @@
 //! How a finding is written.
 
 /// How a finding is written.
-#[derive(Clone, Copy, Debug, PartialEq, Eq)]
+#[derive(Clone, Copy)]
 pub(crate) enum LogView {
     /// In one line for a reader and for `grep`.
     Line,

@@ -1,7 +1,5 @@
-//! Worked histories of floors, and what a floor answers.
+//! What a floor answers. `checks/answers.jsonl` has worked histories of floors, each with a play that leads to it.
 ghost use Rattle.monk_tests.specs.FloorCalls.{IsRoom};
-
-mod stories;
 
 use super::floor_steps::{ITEMS, Size, room, runs_explicitly};
 use super::marks::{from_here, well_up_to_here};
