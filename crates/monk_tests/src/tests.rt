@@ -11,7 +11,6 @@ mod floor_steps;
 mod halls;
 mod hasty_runs;
 mod hints;
-mod histories;
 mod jobs;
 mod kinds;
 mod last_lines;

@@ -113,9 +113,11 @@ fn tells_of(failing: u32, are_reads: bool) -> bool {
     each_tells(&mut device, failing, are_reads)
 }
 
+static FAILING: [u32; 4] = [1, 2, MANY, NEVER];
+
 #[test]
 fn device_tells_of_the_first_failure(rt: HostRuntime) {
-    for failing in [1, 2, MANY, NEVER] {
-        assert!(rt; tells_of(failing, true) && tells_of(failing, false));
+    for failing in FAILING.iter() {
+        assert!(rt; tells_of(*failing, true) && tells_of(*failing, false));
     }
 }
