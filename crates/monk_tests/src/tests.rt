@@ -26,7 +26,6 @@ mod refused;
 mod requests;
 mod runs;
 mod samples;
-mod shown;
 mod text_pictures;
 mod texts;
 mod told_pages;

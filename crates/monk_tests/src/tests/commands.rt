@@ -3,6 +3,7 @@
 use super::jobs::{Job, are_answered};
 use super::questions::{ASKED, EXPLAIN, FIT};
 use monk_commands::{FitForm, Question, Task, ended_by_itself};
+use monk_draw::{Names, TextForm, TextLayout};
 use monk_kinds::KindName;
 use std::test::Fail;
 
@@ -21,8 +22,20 @@ const WITH_SITES: Task<'static> = Task::Explain(Question {
     ..ASKED
 });
 
+/// A picture as text, of 40 columns.
+const DRAWN: Task<'static> = Task::DrawText(
+    None,
+    TextForm {
+        layout: TextLayout {
+            width: 40,
+            is_ascii: false,
+        },
+        names: Names::NONE,
+    },
+);
+
 /// Each command that reads an input, with a history, a log or a play, and what it says if it refuses one.
-pub(super) static JOBS: [Job<'static>; 16] = [
+pub(super) static JOBS: [Job<'static>; 18] = [
     Job {
         name: "legal",
         task: Task::Audit,
@@ -99,6 +112,20 @@ pub(super) static JOBS: [Job<'static>; 16] = [
         input: b"monk 1 PB 1 0 buffer 1\nenter 0 free\nleave +0 entry\n",
         status: 2,
         answer: b"unreadable 3 3 number\n",
+    },
+    Job {
+        name: "drawn",
+        task: DRAWN,
+        input: b"monk 2 PB 2 1 buffer 1\nenter 0 free\nsignal-all 0 0\nleave 0 entry\n",
+        status: 1,
+        answer: b"PB, 2 events, 1 seat never came\nstep      1       2\nseat 0    enter   signal-all 0\n                  ^\nforbidden: call, this kind has no such call\n",
+    },
+    Job {
+        name: "a log drawn",
+        task: DRAWN,
+        input: b"log 1 2 1 buffer 1\nenter 0\nact 0 1 0 8\nleave 0\n",
+        status: 1,
+        answer: b"NPNB, 2 events, 1 seat never came\nstep      1       2\nseat 0    enter   take 7\n                  ^\n    forbidden: reply, line 3 of the file\n",
     },
     Job {
         name: "traced",

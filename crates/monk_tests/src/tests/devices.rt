@@ -2,41 +2,15 @@
 ghost use Rattle.std.specs.Prelude.{◌<◌};
 
 use super::commands::JOBS;
-use super::jobs::{Expected, Job};
-use monk_commands::{StreamFault, Task, classify_stream, run_stream};
+use super::jobs::{Expected, Job, Slow};
+use monk_commands::{StreamFault, classify_stream, run_stream};
 use monk_history::Device;
 use monk_kinds::KindName;
 use monk_samples::Sample;
 use std::alloc::Global;
-use std::io;
-use std::io::Read;
 use std::sync::Wait;
 use std::test::Fail;
 use std::thread::Threads;
-
-/// A reader that gives a few bytes at a time and fails at one of its reads.
-#[derive(Drop)]
-struct Slow<'a> {
-    rest: &'a [u8],
-    step: usize,
-    /// Counts down to the read that fails; at 0 no read will fail.
-    reads_left: usize,
-}
-
-impl Read for Slow<'_> {
-    fn read(&mut self, buf: &mut [u8]) -> io::Result<usize> {
-        if self.reads_left == 1 {
-            self.reads_left = 0;
-            return Err(io::Error::from(io::ErrorKind::Interrupted));
-        }
-        self.reads_left = self.reads_left.saturating_sub(1);
-        let taken = self.step.min(buf.len()).min(self.rest.len());
-        let (front, rest) = self.rest.split_at(taken);
-        buf[..taken].copy_from_slice(front);
-        self.rest = rest;
-        Ok(taken)
-    }
-}
 
 /// Whether a failing call gave the file fault and the front of the answer, or else the whole answer was written.
 fn is_due(
@@ -55,11 +29,7 @@ fn is_due(
 
 /// Whether read `fails_at` fails and nothing is written, or no read fails if `fails` is false.
 fn read_fails(alloc: Global, job: &Job<'_>, step: usize, fails_at: usize, fails: bool) -> bool {
-    let mut reader = Device::new(Slow {
-        rest: job.input,
-        step,
-        reads_left: fails_at,
-    });
+    let mut reader = Device::new(Slow::failing(job.input, step, fails_at));
     let mut written = Expected::new(job.answer);
     let told = job
         .task
@@ -108,9 +78,8 @@ fn write_fails(
     fails: bool,
 ) -> bool {
     let mut writer = Device::new(&mut written);
-    let told = job
-        .task
-        .stream(alloc, &mut Device::new(job.input), &mut writer);
+    let mut reader = Device::new(Slow::new(job.input));
+    let told = job.task.stream(alloc, &mut reader, &mut writer);
     let has_failed = writer.failed();
     let is_whole = written.taken == before.min(job.answer.len());
     is_whole && has_failed == fails && is_due(told, &written, job, fails)
@@ -154,53 +123,12 @@ fn writes_fail_in_turn(rt: HostRuntime) -> Result<(), Fail> {
     all_writes_fail(rt.alloc(), &JOBS)
 }
 
-/// Texts whose pictures have some 4000 bytes.
-static DRAWN: [(Task<'static>, &[u8]); 2] = [
-    (
-        Task::Draw(None),
-        b"monk 1 PB 1 0 buffer 1\nenter 0 free\nleave 0 entry\n",
-    ),
-    (Task::Draw(None), b"log 1 1 0 buffer 1\nenter 0\nleave 0\n"),
-];
-
-/// Whether each read and write of this picture fails in turn.
-fn picture_fails(alloc: Global, job: &Job<'_>) -> bool {
-    reads_fail(alloc, job, 64)
-        && reads_fail(alloc, job, 4096)
-        && writes_fail(alloc, job, 64)
-        && writes_fail(alloc, job, 4096)
-}
-
-/// The same for the picture of the text. A first drawing gives its bytes.
-fn drawing_fails(alloc: Global, task: Task<'static>, input: &[u8]) -> bool {
-    let mut page = Vec::new(alloc);
-    let told = task.stream(alloc, &mut Device::new(input), &mut Device::new(&mut page));
-    let Ok(status) = told else {
-        return false;
-    };
-    let job = Job {
-        name: "drawn",
-        task,
-        input,
-        status,
-        answer: &page,
-    };
-    picture_fails(alloc, &job)
-}
-
-#[test]
-fn pictures_fail_in_turn(rt: HostRuntime) {
-    for (task, input) in DRAWN.iter() {
-        assert!(rt; drawing_fails(rt.alloc(), *task, input));
-    }
-}
-
 /// Whether the file fault is returned if a writer never takes a byte.
 fn fails_at_once(alloc: Global, job: &Job<'_>) -> bool {
-    let mut writer = Device::new(Expected::failing(job.answer, 0, 0, true));
-    let told = job
-        .task
-        .stream(alloc, &mut Device::new(job.input), &mut writer);
+    let mut taking = Expected::failing(job.answer, 0, 0, true);
+    let mut writer = Device::new(&mut taking);
+    let mut reader = Device::new(Slow::new(job.input));
+    let told = job.task.stream(alloc, &mut reader, &mut writer);
     matches!(told, Err(StreamFault::File)) && writer.failed()
 }
 
@@ -231,7 +159,8 @@ fn is_file_fault(told: Result<u8, StreamFault>, failed: bool, fails: bool) -> bo
 /// Whether writing an ordering fails at write `fails_at`, or at none if `fails` is false.
 fn two_lines_fail(step: usize, fails_at: usize, refuses: bool, fails: bool) -> bool {
     let lines = b"Ep<Sp<Wp\nPB\n";
-    let mut writer = Device::new(Expected::failing(lines, step, fails_at, refuses));
+    let mut failing = Expected::failing(lines, step, fails_at, refuses);
+    let mut writer = Device::new(&mut failing);
     let told = classify_stream(1, 3, 2, &mut writer);
     is_file_fault(told, writer.failed(), fails)
 }
@@ -261,7 +190,8 @@ fn totals_fail<R: Threads + Wait + Sync + AllocGlobal>(
     fails: bool,
 ) -> bool {
     let totals = b"put 1 1\ntaken 1 1\nlegal\n";
-    let mut writer = Device::new(Expected::failing(totals, step, fails_at, refuses));
+    let mut failing = Expected::failing(totals, step, fails_at, refuses);
+    let mut writer = Device::new(&mut failing);
     let told = run_stream(
         rt,
         rt.alloc(),

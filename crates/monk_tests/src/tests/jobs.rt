@@ -1,9 +1,10 @@
-//! An input of a command, and the answer to it.
+//! An input of a command, and the answer to it. All tests of streams share one reader and one writer, because a check
+//! proves and compiles each stream once for each pair of them.
 
 use monk_commands::{StreamFault, Task};
 use monk_history::Device;
 use std::io;
-use std::io::Write;
+use std::io::{Read, Write};
 use std::test::Fail;
 
 /// An input, what is done with it, and the answer.
@@ -14,6 +15,46 @@ pub(crate) struct Job<'a> {
     pub(crate) input: &'a [u8],
     pub(crate) status: u8,
     pub(crate) answer: &'a [u8],
+}
+
+/// A reader that gives a few bytes at a time and fails at one of its reads.
+#[derive(Drop)]
+pub(crate) struct Slow<'a> {
+    rest: &'a [u8],
+    step: usize,
+    /// Counts down to the read that fails; at 0 no read will fail.
+    reads_left: usize,
+}
+
+impl<'a> Slow<'a> {
+    /// Returns one that gives all that it is asked for.
+    pub(crate) fn new(input: &'a [u8]) -> Self {
+        Slow::failing(input, usize::MAX, 0)
+    }
+
+    /// Returns one that gives `step` bytes at a time. At read `reads_left` it fails.
+    pub(crate) fn failing(input: &'a [u8], step: usize, reads_left: usize) -> Self {
+        Slow {
+            rest: input,
+            step,
+            reads_left,
+        }
+    }
+}
+
+impl Read for Slow<'_> {
+    fn read(&mut self, buf: &mut [u8]) -> io::Result<usize> {
+        if self.reads_left == 1 {
+            self.reads_left = 0;
+            return Err(io::Error::from(io::ErrorKind::Interrupted));
+        }
+        self.reads_left = self.reads_left.saturating_sub(1);
+        let taken = self.step.min(buf.len()).min(self.rest.len());
+        let (front, rest) = self.rest.split_at(taken);
+        buf[..taken].copy_from_slice(front);
+        self.rest = rest;
+        Ok(taken)
+    }
 }
 
 /// A writer that keeps nothing: it compares what it gets with what is still expected. It takes a few bytes
@@ -97,7 +138,7 @@ impl Write for Expected<'_> {
 /// memory, is returned if nothing was written.
 pub(crate) fn is_answered(rt: &HostRuntime, job: &Job<'_>) -> Result<bool, StreamFault> {
     let mut answer = Expected::new(job.answer);
-    let mut reader = Device::new(job.input);
+    let mut reader = Device::new(Slow::new(job.input));
     let told = job
         .task
         .stream(rt.alloc(), &mut reader, &mut Device::new(&mut answer));

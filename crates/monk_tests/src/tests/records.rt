@@ -1,7 +1,7 @@
 //! The history that a recorded run writes is audited.
 ghost use Rattle.monk_samples.specs.Samples.{IsInRange};
 
-use super::jobs::Expected;
+use super::jobs::{Expected, Slow};
 use monk_commands::{Crew, audit_stream, record_stream};
 use monk_history::Device;
 use monk_kinds::KindName;
@@ -13,7 +13,8 @@ use std::thread::Threads;
 /// Whether an audit finds the text legal.
 pub(super) fn is_legal(alloc: Global, text: &[u8]) -> bool {
     let mut line = Expected::new(b"legal ");
-    let told = audit_stream(alloc, &mut Device::new(text), &mut Device::new(&mut line));
+    let mut reader = Device::new(Slow::new(text));
+    let told = audit_stream(alloc, &mut reader, &mut Device::new(&mut line));
     matches!(told, Ok(0)) && line.agrees() && line.taken > 6
 }
 

@@ -1,6 +1,6 @@
 //! Pictures as text that options alone can't ask for: of one column, and with names.
 
-use crate::tests::jobs::Expected;
+use crate::tests::jobs::{Expected, Slow};
 use monk_commands::Task;
 use monk_draw::{Names, TextForm, TextLayout, Window};
 use monk_history::Device;
@@ -88,7 +88,7 @@ fn is_drawn(alloc: Global, picture: &TextPicture) -> bool {
         return false;
     };
     let mut answer = Expected::new(picture.answer.as_bytes());
-    let mut reader = Device::new(picture.input);
+    let mut reader = Device::new(Slow::new(picture.input));
     let told = Task::DrawText(window, picture.form).stream(
         alloc,
         &mut reader,

@@ -1,9 +1,9 @@
 use super::begins;
+use crate::tests::jobs::{Expected, Slow};
 use monk_commands::Task;
 use monk_draw::{Names, TextForm, TextLayout};
 use monk_history::Device;
 use monk_page::told_names;
-use std::io;
 use std::test::Fail;
 
 /// A history whose last event is forbidden.
@@ -22,8 +22,9 @@ pub(super) fn picture_of_three(rt: &HostRuntime) -> Result<bool, Fail> {
         layout: LAYOUT,
         names: Names::NONE,
     };
-    let mut reader = Device::new(FORBIDDEN);
-    let mut nowhere = Device::new(io::sink());
-    let status = Task::DrawText(None, form).stream(rt.alloc(), &mut reader, &mut nowhere)?;
+    let mut reader = Device::new(Slow::new(FORBIDDEN));
+    let mut drawn = Expected::new(b"PB, ");
+    let mut writer = Device::new(&mut drawn);
+    let status = Task::DrawText(None, form).stream(rt.alloc(), &mut reader, &mut writer)?;
     Ok(status == 1 && told.seats.len() == 1)
 }

@@ -1,4 +1,4 @@
-use crate::tests::jobs::{Expected, Job};
+use crate::tests::jobs::{Expected, Job, Slow};
 use crate::tests::questions::{ASKED, EXPLAIN, FIT};
 use monk_commands::{FitForm, Question, StreamFault, Task};
 use monk_history::Device;
@@ -243,7 +243,7 @@ pub(super) static PICTURES: [Picture<'static>; 4] = [
 pub(super) fn is_drawn(rt: &HostRuntime, drawn: &Picture<'_>) -> Result<bool, StreamFault> {
     let front: &[u8] = drawn.front;
     let mut picture = Expected::new(front);
-    let mut reader = Device::new(drawn.input);
+    let mut reader = Device::new(Slow::new(drawn.input));
     let told = drawn
         .task
         .stream(rt.alloc(), &mut reader, &mut Device::new(&mut picture));
