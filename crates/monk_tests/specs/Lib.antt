@@ -1,3 +1,2 @@
-pub mod FloorCalls
 pub mod Halls
 pub mod Passes
