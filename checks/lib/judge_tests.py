@@ -39,7 +39,7 @@ DECLARED = '\nunsafe extern "C" {\n    safe fn chosen_body() -> u32;\n}\n'
 # The words with which a body begins: what must fail with it. And the words that it has once at most.
 BEGINS, SAID = ("test", "takes", "hangs", "script"), ("takes", "hangs", "thread", "script", "wraps", "says")
 # The modules of tests that checks/fail_alloc wants, by crate.
-WANTED = {"monk_tests": ["refused", "objects", "floors", "worlds", "halls"]}
+WANTED = {"monk_tests": ["refused", "objects", "floor_histories", "worlds", "halls"]}
 # How long a test or a script may take, in seconds; one that has not ended by then has not failed.
 SECONDS = 300
 

@@ -1,2 +1,3 @@
+pub mod FloorCalls
 pub mod Halls
 pub mod Passes

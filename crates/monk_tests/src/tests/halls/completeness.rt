@@ -75,3 +75,32 @@ fn closed_history_holds_two_seats_calls(rt: HostRuntime) -> Result<(), Fail> {
     let well = two_did_it_all(hall, first, second);
     well_up_to_here(&rt, well)
 }
+
+/// The second seat visits once more after they met. So the first doesn't know that the closed history begins with what
+/// the second has seen, and can't ask whether it is complete.
+fn second_goes_on(hall: Hall<Pb, Buffer>, first: Pass<Pb, Buffer>, second: Pass<Pb, Buffer>) -> bool
+    requires first { first.hall ≡ hall.id }
+    requires second { second.hall ≡ hall.id }
+{
+    let Some(mut one) = visit(&hall, first) else {
+        return false;
+    };
+    let Some(mut two) = visit(&hall, second) else {
+        return false;
+    };
+    meet(&hall, &mut one, &mut two);
+    if visit(&hall, two).is_none() {
+        return false;
+    }
+    let Some(closed) = ends_by_ticket(hall, one, 3) else {
+        return false;
+    };
+    closed.history.len() == 8
+}
+
+#[test]
+fn seat_that_goes_on_is_in_the_history(rt: HostRuntime) -> Result<(), Fail> {
+    let (hall, first, second) = two_from_here::<Pb>(&rt, 0, 8)?;
+    let well = second_goes_on(hall, first, second);
+    well_up_to_here(&rt, well)
+}

@@ -209,3 +209,41 @@ fn ticket_barges_past_a_waiter(rt: HostRuntime) -> Result<(), Fail> {
     let well = barges(&hall, first, second, third);
     well_up_to_here(&rt, well)
 }
+
+/// If nobody has a ticket, though a third seat could, the same wish lets the waiter go on.
+fn lets_the_waiter_in(
+    hall: &Hall<Npnb, Buffer>,
+    first: Pass<Npnb, Buffer>,
+    second: Pass<Npnb, Buffer>,
+) -> bool
+    requires first { (first.hall ≡ hall.now.id) × (0 < first.me.setting.conds) }
+    requires second { (second.hall ≡ hall.now.id) × (0 < second.me.setting.conds) }
+{
+    let Some(active) = enter(hall, first) else {
+        return false;
+    };
+    let Some(waiting) = wait(hall, active, 0) else {
+        return false;
+    };
+    let Some(signaller) = signals_and_stays(hall, second) else {
+        waiting.give_up();
+        return false;
+    };
+    signaller.leave(hall, Pick::Entry);
+    let history = [
+        Event::Enter(0, Via::Free),
+        Event::Wait(0, 0, Next::Entry),
+        Event::Enter(1, Via::Free),
+        Event::Signal(1, 0, Next::Stay),
+        Event::Leave(1, Next::Waiter(0)),
+        Event::Resume(0, From3::Waiter),
+    ];
+    comes_in_and_finds(hall, waiting, history.as_slice())
+}
+
+#[test]
+fn waiter_goes_on_where_nobody_has_a_ticket(rt: HostRuntime) -> Result<(), Fail> {
+    let (hall, first, second, _third) = three_from_here::<Npnb>(&rt, 1, 8)?;
+    let well = lets_the_waiter_in(&hall, first, second);
+    well_up_to_here(&rt, well)
+}

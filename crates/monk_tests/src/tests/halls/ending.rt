@@ -3,7 +3,7 @@ ghost use Rattle.std.specs.Prelude.{◌≡◌, ◌<◌, IfSome};
 
 use crate::tests::halls::{arrive, comes_in, enter, two_from_here, wait};
 use crate::tests::marks::well_up_to_here;
-use monk_hall::{Active, Busy, Hall, Pass, close};
+use monk_hall::{Active, Busy, Hall, Pass, close, meet};
 use monk_history::{Event, Next, Via};
 use monk_kinds::{Kind, Pb, Pick};
 use monk_object::Buffer;
@@ -114,3 +114,32 @@ pub(super) const MET: [Event; 6] = [
     Event::Enter(0, Via::Free),
     Event::Leave(0, Next::Entry),
 ];
+
+/// Two seats that have met go on as before, and one of them ends the hall.
+fn meets_and_ends(hall: Hall<Pb, Buffer>, first: Pass<Pb, Buffer>, second: Pass<Pb, Buffer>) -> bool
+    requires first { first.hall ≡ hall.id }
+    requires second { second.hall ≡ hall.id }
+{
+    let Some(mut one) = visit(&hall, first) else {
+        return false;
+    };
+    let Some(mut two) = visit(&hall, second) else {
+        return false;
+    };
+    meet(&hall, &mut one, &mut two);
+    let Some(parked) = arrive(&hall, one) else {
+        return false;
+    };
+    let drawn = parked.ticket() == Some(2);
+    match comes_in(&hall, parked) {
+        Some(active) => ends(hall, active, MET.as_slice()) && drawn,
+        None => false,
+    }
+}
+
+#[test]
+fn seats_that_met_go_on(rt: HostRuntime) -> Result<(), Fail> {
+    let (hall, first, second) = two_from_here::<Pb>(&rt, 0, 8)?;
+    let well = meets_and_ends(hall, first, second);
+    well_up_to_here(&rt, well)
+}

@@ -55,6 +55,13 @@ fn known_totals_in_haste(rt: HostRuntime) {
     );
 }
 
+/// Under Hoare's kind an `if` suffices: a hasty seat finds what it waited for.
+#[test]
+fn no_hasty_seat_misses_under_hoares_kind(rt: HostRuntime) {
+    let outcome = run_hasty::<Pb, _, OpenGate>(&rt, rt.alloc(), 4, 50, &OpenGate);
+    assert!(rt; matches!(&outcome, Ok(outcome) if outcome.missed == 0 && outcome.first.is_none()));
+}
+
 /// Seats and rounds for which there is no run.
 static OUT_OF_RANGE: [(u8, u32); 4] = [(1, 1), (17, 1), (2, 0), (2, 1001)];
 
