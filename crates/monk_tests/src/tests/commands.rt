@@ -35,7 +35,7 @@ const DRAWN: Task<'static> = Task::DrawText(
 );
 
 /// Each command that reads an input, with a history, a log or a play, and what it says if it refuses one.
-pub(super) static JOBS: [Job<'static>; 18] = [
+static JOBS: [Job<'static>; 18] = [
     Job {
         name: "legal",
         task: Task::Audit,
@@ -172,9 +172,14 @@ pub(super) static JOBS: [Job<'static>; 18] = [
     },
 ];
 
+/// Returns them. A function that names the table is proved with all of its rows.
+pub(super) fn jobs() -> &'static [Job<'static>] {
+    &JOBS
+}
+
 #[test]
 fn each_command_answers(rt: HostRuntime) -> Result<(), Fail> {
-    are_answered(&rt, &JOBS)
+    are_answered(&rt, jobs())
 }
 
 #[test]

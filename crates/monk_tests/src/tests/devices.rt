@@ -1,7 +1,7 @@
 //! Readers and writers that fail at each of their calls in turn. They give or take a few bytes at a time, or none.
 ghost use Rattle.std.specs.Prelude.{◌<◌};
 
-use super::commands::JOBS;
+use super::commands::jobs;
 use super::jobs::{Expected, Job, Slow};
 use monk_commands::{StreamFault, classify_stream, run_stream};
 use monk_history::Device;
@@ -66,7 +66,7 @@ fn all_reads_fail(alloc: Global, jobs: &[Job<'static>]) -> Result<(), Fail> {
 
 #[test]
 fn reads_fail_in_turn(rt: HostRuntime) -> Result<(), Fail> {
-    all_reads_fail(rt.alloc(), &JOBS)
+    all_reads_fail(rt.alloc(), jobs())
 }
 
 /// Whether a write fails after `before` bytes are taken, or no write fails if `fails` is false.
@@ -120,7 +120,7 @@ fn all_writes_fail(alloc: Global, jobs: &[Job<'static>]) -> Result<(), Fail> {
 
 #[test]
 fn writes_fail_in_turn(rt: HostRuntime) -> Result<(), Fail> {
-    all_writes_fail(rt.alloc(), &JOBS)
+    all_writes_fail(rt.alloc(), jobs())
 }
 
 /// Whether the file fault is returned if a writer never takes a byte.
@@ -144,7 +144,7 @@ fn all_fail_at_once(alloc: Global, jobs: &[Job<'static>]) -> Result<(), Fail> {
 
 #[test]
 fn nothing_is_taken(rt: HostRuntime) -> Result<(), Fail> {
-    all_fail_at_once(rt.alloc(), &JOBS)
+    all_fail_at_once(rt.alloc(), jobs())
 }
 
 /// Whether the file fault is returned and the writer has failed, or neither if `fails` is false.

@@ -14,7 +14,7 @@ mod worlds;
 
 use super::jobs::is_answered;
 use std::test::Fail;
-use streams::{JOBS, PICTURES, is_drawn};
+use streams::{all_pictures, is_drawn, jobs};
 
 /// Prints the name of the next call. It shows in which call a request was refused.
 fn begins(rt: &HostRuntime, call: &str) -> Result<(), Fail> {
@@ -40,11 +40,11 @@ fn each_call(rt: HostRuntime) -> Result<(), Fail> {
 /// The same for the commands, and for the calls that make pictures and pages.
 #[test]
 fn each_command(rt: HostRuntime) -> Result<(), Fail> {
-    for job in JOBS.iter() {
+    for job in jobs() {
         begins(&rt, job.name)?;
         assert!(rt; is_answered(&rt, job)?);
     }
-    for picture in PICTURES.iter() {
+    for picture in all_pictures() {
         begins(&rt, picture.name)?;
         assert!(rt; is_drawn(&rt, picture)?);
     }

@@ -1,5 +1,5 @@
 use super::jobs::Expected;
-use monk_commands::{LineFault, classify_stream, line};
+use monk_commands::{Line, LineFault, classify_stream, line};
 use monk_history::Device;
 use std::alloc::Global;
 use std::test::Fail;
@@ -7,7 +7,7 @@ use std::test::Fail;
 /// Words, and what they ask for.
 type Asking = (&'static [&'static str], &'static str);
 
-static ASKING: [Asking; 32] = [
+static ASKING: [Asking; 13] = [
     (&["monk", "audit"], "Audit(None)"),
     (&["monk", "audit", "x.text"], "Audit(Some(\"x.text\"))"),
     (&["monk", "play"], "Play(None)"),
@@ -32,6 +32,14 @@ static ASKING: [Asking; 32] = [
         &["monk", "explain", "x.log", "--means=0=1", "--kind=PQB"],
         "Explain(Some(\"x.log\"), Judging { kind: Some(Pqb), means: [WaitsFor { cond: 0, pred: 1 }] })",
     ),
+    (
+        &["monk", "classify", "3", "0", "255"],
+        "Classify(3, 0, 255)",
+    ),
+];
+
+/// The same for pictures and pages.
+static ASKING_FOR_PICTURES: [Asking; 11] = [
     (&["monk", "draw"], "Draw(None, None)"),
     (&["monk", "draw", "x.text"], "Draw(Some(\"x.text\"), None)"),
     (
@@ -69,10 +77,10 @@ static ASKING: [Asking; 32] = [
         &["monk", "draw", "--to=4000"],
         "Draw(None, Some(Window { from: 2001, to: 4000 }))",
     ),
-    (
-        &["monk", "classify", "3", "0", "255"],
-        "Classify(3, 0, 255)",
-    ),
+];
+
+/// The same for what fits.
+static ASKING_FOR_A_FIT: [Asking; 8] = [
     (
         &["monk", "fit"],
         "Fit([], Judging { kind: None, means: [] }, Words)",
@@ -144,10 +152,15 @@ static ASKING_FOR_MORE: [Asking; 9] = [
     ),
 ];
 
+/// Whether the line is printed as what is wanted.
+fn is_printed_as(alloc: Global, line: &Line, wanted: &str) -> Result<bool, LineFault> {
+    Ok(format!(in alloc; "{line:?}")?.as_str() == wanted)
+}
+
 /// Whether the words ask for what is wanted.
 fn ask_for(alloc: Global, words: &[&str], wanted: &str) -> Result<bool, LineFault> {
     let line = line(alloc, words)?;
-    Ok(format!(in alloc; "{line:?}")?.as_str() == wanted)
+    is_printed_as(alloc, &line, wanted)
 }
 
 /// Tests that all rows ask for what is wanted. Names what the first that doesn't should ask for.
@@ -163,6 +176,16 @@ fn all_ask(alloc: Global, rows: &[Asking]) -> Result<(), Fail> {
 #[test]
 fn words_that_ask(rt: HostRuntime) -> Result<(), Fail> {
     all_ask(rt.alloc(), &ASKING)
+}
+
+#[test]
+fn words_that_ask_for_pictures(rt: HostRuntime) -> Result<(), Fail> {
+    all_ask(rt.alloc(), &ASKING_FOR_PICTURES)
+}
+
+#[test]
+fn words_that_ask_for_a_fit(rt: HostRuntime) -> Result<(), Fail> {
+    all_ask(rt.alloc(), &ASKING_FOR_A_FIT)
 }
 
 #[test]

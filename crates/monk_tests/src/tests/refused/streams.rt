@@ -6,7 +6,7 @@ use monk_judge::WaitsFor;
 use monk_kinds::KindName;
 
 /// Jobs, by the names that `checks/fail_alloc` knows.
-pub(super) static JOBS: [Job<'static>; 24] = [
+static JOBS: [Job<'static>; 24] = [
     Job {
         name: "legal",
         task: Task::Audit,
@@ -208,7 +208,7 @@ pub(super) struct Picture<'a> {
 }
 
 /// Pictures, by the names that `checks/fail_alloc` knows.
-pub(super) static PICTURES: [Picture<'static>; 4] = [
+static PICTURES: [Picture<'static>; 4] = [
     Picture {
         name: "drawn",
         task: Task::Draw(None),
@@ -238,6 +238,16 @@ pub(super) static PICTURES: [Picture<'static>; 4] = [
         status: 1,
     },
 ];
+
+/// Returns the jobs. A function that names the table is proved with all of its rows.
+pub(super) fn jobs() -> &'static [Job<'static>] {
+    &JOBS
+}
+
+/// Returns the pictures and the page.
+pub(super) fn all_pictures() -> &'static [Picture<'static>] {
+    &PICTURES
+}
 
 /// Whether a picture or a page was written. A fault is returned if nothing was written.
 pub(super) fn is_drawn(rt: &HostRuntime, drawn: &Picture<'_>) -> Result<bool, StreamFault> {
