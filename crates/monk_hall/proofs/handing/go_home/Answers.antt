@@ -1,17 +1,81 @@
-use Rattle.std.proofs.Common.{◌≡◌, Some, refl, sym, ap, subst, ◌∙◌}
+use Rattle.std.proofs.Common.{◌≡◌, ℕ, ◌<◌, Bool, true, ◌&&◌, Option, Some, ◌∷◌, refl, sym, ap}
+use Rattle.std.proofs.Common.{subst, ◌∙◌, arith, rules}
+use Rattle.std.specs.Prelude.{nat_lt}
+use Rattle.std.specs.List.{list_all}
+use Rattle.monk_kinds.specs.declared.mode.Rules.{Rules}
+use Rattle.monk_object.specs.Object.{Object}
+use Rattle.atomic_table.specs.Seated.{TableId}
+use Rattle.monk_history.specs.declared.event.Event.{Event}
+use Rattle.monk_history.specs.declared.event.Next.{Next}
 use Rattle.monk_history.specs.Meaning.Counts.{granted_of}
+use Rattle.monk_history.specs.Meaning.Events.{named_seat, next_of, seat_of}
+use Rattle.monk_history.specs.Meaning.Reasons.{is_in_range}
+use Rattle.monk_history.specs.Meaning.Release.{with_next}
+use Rattle.monk_world.specs.declared.home.Home.{Home}
 use Rattle.monk_history.specs.declared.event.Next.TheVariants as next
 use Rattle.monk_floor.specs.View.{FloorView}
 use Rattle.monk_world.specs.Places.{back_turn, due_to}
 use Rattle.monk_world.specs.declared.place.Place.TheVariants.{Back}
 use Rattle.monk_hall.specs.Changes.{home_at}
 use Rattle.monk_hall.specs.Granting.{granted_last}
+use Rattle.monk_hall.specs.Layout.{word_count}
+use Rattle.monk_hall.specs.Handing.{seat_called_by, HasRecordedRelease}
 use Rattle.monk_hall.specs.Records.{IsOne, the}
 use Rattle.monk_hall.specs.Tells.{Me}
 use Rattle.monk_hall.specs.Tokens.{House}
 use Rattle.monk_hall.specs.declared.deed.Deed.TheVariants.{CallSeat}
 use Rattle.monk_hall.proofs.HandingLaws.{chosen_due, chosen_entry, grants_by}
+use Rattle.monk_hall.proofs.Releasing.{said}
 use Rattle.monk_hall.proofs.handing.go_home.Goals as goal
+
+-- ---- the seat that a release chose is one of the hall's
+
+first_true : (a b c d : Bool) → (a && b && c && d) ≡ true → a ≡ true
+first_true a b c d h = grind arith
+
+named_near : (seats i : ℕ) (x : Next) (j : ℕ) → list_all (λ s. nat_lt s seats) (i ∷ named_seat (Some x)) ≡ true
+    → seat_called_by x ≡ Some j → j < seats
+named_near seats i x j h e = grind arith
+
+chosen_in : (seats conds codes predicates : ℕ) (e : Event) (x : Next) (j : ℕ) → next_of e ≡ Some x
+    → is_in_range seats conds codes predicates e ≡ true → seat_called_by x ≡ Some j → j < seats
+chosen_in seats conds codes predicates e x j is h called =
+    named_near seats (seat_of e) x j
+    (subst (λ (y : Option Next). list_all (λ s. nat_lt s seats) (seat_of e ∷ named_seat y) ≡ true) is
+    (first_true _ _ _ _ h)) called
+
+module _ {k : Rules} {o : Object} {z : TableId} {me : Me} {choice : Next} {to : Home} {f : FloorView} where
+  chosen_before : (x : HasRecordedRelease k o z me choice to f) → (j : ℕ) → seat_called_by choice ≡ Some j
+      → j < x.returns.before.seats
+  chosen_before x j e =
+      let r = x.returns in
+      chosen_in r.before.seats r.before.conds o.codes o.predicates (with_next r.choice r.call) r.choice j
+      (said (the me.0).seat r.to r.call r.choice r.release).chose x.allowed.in_range (ap seat_called_by x.is_choice ∙ e)
+
+  chosen_floor : HasRecordedRelease k o z me choice to f → (j : ℕ) → seat_called_by choice ≡ Some j → j < f.seats
+  chosen_floor x j e =
+      subst (λ (n : ℕ). j < n) (sym (ap (λ (g : FloorView). g.seats) x.returns.grows)) (chosen_before x j e)
+
+  chosen_hall : HasRecordedRelease k o z me choice to f → (j : ℕ) → seat_called_by choice ≡ Some j → (seats : ℕ)
+      → z.words ≡ word_count seats → j < seats
+  chosen_hall x j e seats sized =
+      let near = chosen_before x j e in
+      let same = ap (λ (g : FloorView). g.seats) x.returns.goes_on.is_floor in
+      let words = x.sized in
+      omega arith
+
+pub granted-calls-requires : goal.granted-calls-requires
+granted-calls-requires g c =
+    (search rules, (search rules, (search rules,
+    subst (λ (f : FloorView). c.in-Some.called < f.seats) (sym c.deref.ensures)
+    (chosen_floor c.requires.released.1 c.in-Some.called (sym c.seat_called_by.ensures ∙ c.in-Some.is)))))
+
+pub seat_grant-requires-clause-near : goal.seat_grant-requires-clause-near
+seat_grant-requires-clause-near g c κs within =
+    chosen_hall c.requires.released.1 c.in-Some.called (sym c.seat_called_by.ensures ∙ c.in-Some.is)
+    c.hall.inside.table.shared.key.seats
+    (ap (λ (a : TableId). a.words) (c.requires.table ∙ sym (ap (λ (x : House). x.id) c.hall.view_is))
+    ∙ c.hall.invariant.0.0)
 
 pub seat_grant-requires-clause-back : goal.seat_grant-requires-clause-back
 seat_grant-requires-clause-back g c κs within =
