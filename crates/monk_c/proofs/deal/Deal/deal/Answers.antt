@@ -40,7 +40,8 @@ new-requires g c =
       search rules,
       (
         search rules,
-        at_home (arc_value c.in-Some.room) (arc_value c.self.inside.first) (length c.pop.new.self.items) c.in_ok-pass.pass
+        at_home (arc_value c.in-Some.room) (arc_value c.self.inside.first) (length c.pop.new.self.items)
+            c.in_ok-pass.pass
             (last_room (λ s. arc_value s) (arc_value c.self.inside.first) c.self.inside.rooms.items
             c.pop-2.new.self.items
             c.in-Some.room rooms held.1)
