@@ -1,33 +1,13 @@
-use Rattle.std.proofs.Common.{◌≡◌, ℕ, List, sym, subst}
+use Rattle.std.proofs.Common.{List, sym, subst}
 use Rattle.std.specs.Prelude.{Result, OnOk}
 use Rattle.monk_history.specs.declared.event.Event.{Event}
-use Rattle.monk_object.specs.Object.{Object}
 use Rattle.monk_history.specs.Meaning.Monitor.{monitor}
-use Rattle.monk_history.specs.Meaning.Release.{MayCallIn}
-use Rattle.monk_history.specs.Meaning.Situation.{Situation, situation}
 use Rattle.monk_audit.specs.Replay.{IsReplayOf, replay_situation}
-use Rattle.monk_completion.specs.Stand.{IsHeldOver, monitor_in}
 use Rattle.monk_completion.specs.declared.blame.Blame.{Blame}
 use Rattle.monk_completion.specs.declared.pending.Pending.{Pending}
-use Rattle.monk_completion.specs.declared.pending.Pending.TheVariants.{Settled, Half, Release}
-use Rattle.monk_completion.specs.declared.setting.MonitorSetting.{MonitorSetting}
+use Rattle.monk_completion.specs.declared.pending.Pending.TheVariants.{Settled}
 use Rattle.monk_completion.proofs.Lines.{Follows, ends, fits, goes, misfits, opens}
-use Rattle.monk_completion.proofs.Soundness.{IsStill}
 use Rattle.monk_completion.proofs.completing.follow.Goals as goal
-
--- what is known of the last event is what the next line asks for, whatever the object's opening state was
-called : (k : MonitorSetting) (o : Object) (d : List ℕ) (t u : Situation) (e : Event) → t ≡ u
-    → MayCallIn (monitor k.rules k.seats k.conds o d) t e → MayCallIn (monitor_in k o) u e
-called k o d t u e is h =
-    subst (λ (v : Situation). MayCallIn (monitor_in k o) v e) is
-    (record { in_range = h.in_range; offered = h.offered; in_turn = h.in_turn; in_place = h.in_place })
-
-held : (k : MonitorSetting) (o : Object) (d : List ℕ) (past : List Event) (u : Situation) (p : Pending)
-    → situation (monitor k.rules k.seats k.conds o d) past ≡ u
-    → IsStill (monitor k.rules k.seats k.conds o d) past p → IsHeldOver (monitor_in k o) u p
-held k o d past u Settled is h = tt
-held k o d past u (Half s c) is h = called k o d _ u _ is h
-held k o d past u (Release e) is h = (called k o d _ u e is h.0, h.1)
 
 pub loop-i-init : goal.loop-i-init
 loop-i-init g c =
@@ -82,15 +62,3 @@ returns g c =
           c.loop-i.events.items c.loop-i.invariant.on c.loop-i-test.false c.end.new.events.items c.requires.kind
           c.in_ok-end.ensures,
     )
-
-pub judge_line-requires-clause-held : goal.judge_line-requires-clause-held
-judge_line-requires-clause-held g c κs within =
-    held c.args.setting g.T.Guarded.meaning (g.T.Guarded.state c.args.object) c.loop-i.events.items
-    (replay_situation c.loop-i.replay (g.T.Guarded.state c.loop-i.object)) c.loop-i.pending
-    c.loop-i.invariant.on.at.stands c.loop-i.invariant.on.at.tells.still
-
-pub end-requires-clause-held : goal.end-requires-clause-held
-end-requires-clause-held g c κs within =
-    held c.args.setting g.T.Guarded.meaning (g.T.Guarded.state c.args.object) c.loop-i.events.items
-    (replay_situation c.loop-i.replay (g.T.Guarded.state c.loop-i.object)) c.loop-i.pending
-    c.loop-i.invariant.on.at.stands c.loop-i.invariant.on.at.tells.still
