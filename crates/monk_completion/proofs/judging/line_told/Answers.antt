@@ -81,11 +81,11 @@ returns-then-is_lapse g c =
     let t = replay_situation c.args.replay.now (g.T.Guarded.state c.args.object.now) in
     record {
       judged = sym (misfits m t c.args.event c.args.line (elim c.then-is_lapse.branch [
-          then-is_lapse-via-then-is_lapse w ↦ lapses m t c.args.event c.args.line c.is_lapse.result c.is_lapse.ensures
-              w.if-is_lapse.true
+        | then-is_lapse-via-then-is_lapse w ↦ lapses m t c.args.event c.args.line c.is_lapse.result c.is_lapse.ensures
+            w.if-is_lapse.true
         | then-is_lapse-via-else-is_lapse+then-refuses w ↦ fails m t c.args.event c.args.line c.is_lapse.result
-              c.is_lapse.ensures w.if-is_lapse.false c.told_release-told.result c.told_release-told.ensures
-              w.refuses.result w.refuses.ensures w.if-refuses.true
+            c.is_lapse.ensures w.if-is_lapse.false c.told_release-told.result c.told_release-told.ensures
+            w.refuses.result w.refuses.ensures w.if-refuses.true
       ]) c.in_ok-blame.blame c.in_ok-blame.ensures);
       sound = tt;
       events = tt;

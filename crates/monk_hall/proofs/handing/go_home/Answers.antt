@@ -65,10 +65,17 @@ module _ {k : Rules} {o : Object} {z : TableId} {me : Me} {choice : Next} {to : 
       omega arith
 
 pub granted-calls-requires : goal.granted-calls-requires
-granted-calls-requires g c =
-    (search rules, (search rules, (search rules,
-    subst (λ (f : FloorView). c.in-Some.called < f.seats) (sym c.deref.ensures)
-    (chosen_floor c.requires.released.1 c.in-Some.called (sym c.seat_called_by.ensures ∙ c.in-Some.is)))))
+granted-calls-requires g c = (
+  search rules,
+  (
+    search rules,
+    (
+      search rules,
+      subst (λ (f : FloorView). c.in-Some.called < f.seats) (sym c.deref.ensures)
+          (chosen_floor c.requires.released.1 c.in-Some.called (sym c.seat_called_by.ensures ∙ c.in-Some.is)),
+    ),
+  ),
+)
 
 pub seat_grant-requires-clause-near : goal.seat_grant-requires-clause-near
 seat_grant-requires-clause-near g c κs within =
