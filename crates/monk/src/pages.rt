@@ -9,6 +9,7 @@ use monk_commands::{Paged, StreamFault, Task, pages_stream};
 use monk_draw::Window;
 use monk_history::Device;
 use monk_page::NOTHING_TOLD;
+use std::alloc::{AllocError, Global};
 use std::fs;
 use std::io::Write;
 use std::rt::Files;
@@ -36,6 +37,35 @@ fn read_source<R: Files + Eprint + AllocGlobal>(rt: &R, name: &str) -> Result<So
     }
 }
 
+/// Reads the files of these names, and those beside them.
+fn read_sources<R: Files + Eprint + AllocGlobal>(
+    rt: &R,
+    files: &[String],
+) -> Result<Vec<Source>, Unmade> {
+    let mut sources = Vec::new(rt.alloc());
+    for file in files {
+        sources.push(read_source(rt, file.as_str())?)?;
+    }
+    Ok(sources)
+}
+
+/// Returns the histories with these names.
+fn paged<'a>(
+    alloc: Global,
+    files: &'a [String],
+    sources: &'a [Source],
+) -> Result<Vec<Paged<'a>>, AllocError> {
+    let mut histories = Vec::new(alloc);
+    for (file, source) in files.iter().zip(sources) {
+        histories.push(Paged {
+            name: file.as_str(),
+            text: source.text.as_slice(),
+            beside: source.beside.as_str(),
+        })?;
+    }
+    Ok(histories)
+}
+
 /// Makes one page of files, each with what the file beside it says. Returns the exit status.
 fn page_of_files<R: Files + Eprint + AllocGlobal, W: Write>(
     rt: &R,
@@ -45,30 +75,15 @@ fn page_of_files<R: Files + Eprint + AllocGlobal, W: Write>(
 ) -> Result<u8, Unmade>
     requires { has_failed out.old ≡ false }
 {
-    let alloc = rt.alloc();
-    let mut all = Vec::new(alloc);
-    for file in files {
-        all.push(read_source(rt, file.as_str())?)?;
-    }
-    let mut histories = Vec::new(alloc);
-    for (file, source) in files.iter().zip(all.iter()) {
-        histories.push(Paged {
-            name: file.as_str(),
-            text: source.text.as_slice(),
-            beside: source.beside.as_str(),
-        })?;
-    }
-    match pages_stream(alloc, &histories, window, out) {
-        Ok(status) => {
-            if status == UNREADABLE {
-                for history in &histories {
-                    tell_hint(rt, &Task::Page(window), history.text);
-                }
-            }
-            Ok(status)
+    let sources = read_sources(rt, files)?;
+    let histories = paged(rt.alloc(), files, &sources)?;
+    let status = pages_stream(rt.alloc(), &histories, window, out)?;
+    if status == UNREADABLE {
+        for history in &histories {
+            tell_hint(rt, &Task::Page(window), history.text);
         }
-        Err(fault) => Err(Unmade::Fault(fault)),
     }
+    Ok(status)
 }
 
 /// Makes a page of files, or of standard input if none is named. Returns the exit status.

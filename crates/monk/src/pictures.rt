@@ -16,10 +16,10 @@ use std::rt::Files;
 /// Returns the names in the file beside it, if there are some. Standard input has none.
 fn names_of<R: Files + Eprint + AllocGlobal>(
     rt: &R,
-    file: &Option<String>,
+    file: Option<&str>,
 ) -> Result<Option<ToldNames>, Unmade> {
     match file {
-        Some(name) if name.as_str() != STANDARD_INPUT => names_beside(rt, name.as_str()),
+        Some(name) if name != STANDARD_INPUT => names_beside(rt, name),
         _ => Ok(None),
     }
 }
@@ -35,7 +35,7 @@ fn borrowed<'a>(alloc: Global, names: &'a [String]) -> Result<Vec<&'a str>, Allo
 /// Draws the file as text, with these names. Returns the exit status.
 fn draw_named<R: Files + Input + Eprint + AllocGlobal, W: Write>(
     rt: &R,
-    file: Option<String>,
+    file: Option<&str>,
     window: Option<Window>,
     layout: TextLayout,
     told: &ToldNames,
@@ -60,7 +60,7 @@ fn draw_named<R: Files + Input + Eprint + AllocGlobal, W: Write>(
 /// Draws the file as text, or standard input if none is named. Returns the exit status.
 pub(crate) fn draw_text<R: Files + Input + Eprint + AllocGlobal, W: Write>(
     rt: &R,
-    file: Option<String>,
+    file: Option<&str>,
     window: Option<Window>,
     layout: TextLayout,
     out: &mut Device<W>,
@@ -68,7 +68,7 @@ pub(crate) fn draw_text<R: Files + Input + Eprint + AllocGlobal, W: Write>(
     requires { has_failed out.old ≡ false }
 {
     let names = Names::NONE;
-    match names_of(rt, &file) {
+    match names_of(rt, file) {
         Ok(Some(told)) => draw_named(rt, file, window, layout, &told, out),
         Ok(None) => from_input(
             rt,

@@ -28,6 +28,12 @@ impl<T: Drop> From<AllocFailed<T>> for Unmade {
     }
 }
 
+impl From<StreamFault> for Unmade {
+    fn from(fault: StreamFault) -> Unmade {
+        Unmade::Fault(fault)
+    }
+}
+
 /// Says that the file of that name can't be read, and returns why nothing is made.
 pub(crate) fn unread(rt: &impl Eprint, name: &str, error: &io::Error) -> Unmade {
     if error.kind() == io::ErrorKind::OutOfMemory {
