@@ -3,7 +3,7 @@
 ghost use Rattle.std.specs.Prelude.{IfOk, IsTrue};
 ghost use Rattle.monk_tests.specs.FloorCalls.{IsRoom, IsAllowedOn, MayCome};
 
-use super::marks::{from_here, up_to_here};
+use super::marks::{from_here, well_up_to_here};
 use monk_audit::{Verdict, audit};
 use monk_floor::Floor;
 use monk_history::laws::{allowed_may_be_called, seat_resumes};
@@ -56,22 +56,21 @@ fn is_allowed<K: Kind>(
     }
 }
 
-/// Whether an event may come next, and one is left to its seat. If so, the test asks for no memory from here on.
+/// Fails unless the event may come next, and one is left to its seat. From here on the test asks for no memory.
 fn comes_next<K: Kind>(
     rt: &HostRuntime,
     size: Size,
     floor: &Floor<K, Buffer>,
     event: Event,
-) -> Result<bool, Fail>
+) -> Result<(), Fail>
     requires { IsRoom size.seats size.conds ITEMS floor.now }
-    ensures { IfOk result (λ may. IsTrue may → MayCome K.rules floor.now event) }
+    ensures { IfOk result (λ _. MayCome K.rules floor.now event) }
 {
     let seat = event.seat();
     if seat >= size.seats || floor.left(seat) == 0 || !is_allowed(rt, size, floor, event)? {
-        return Ok(false);
+        return Err("an event that may not come")?;
     }
-    from_here(rt)?;
-    Ok(true)
+    from_here(rt)
 }
 
 /// Makes the call of an event that chooses nobody, and says whether that very event came of it.
@@ -125,25 +124,20 @@ fn calls_plainly<K: Kind>(
     }
 }
 
-/// Whether a new floor makes exactly these events.
+/// Fails unless a new floor makes exactly these events.
 pub(crate) fn runs_plainly<K: Kind>(
     rt: &HostRuntime,
     size: Size,
     events: &[Event],
     pick: Pick,
-) -> Result<bool, Fail> {
+) -> Result<(), Fail> {
     let mut floor: Floor<K, Buffer> = room(rt, size)?;
     for event in events {
-        if !comes_next(rt, size, &floor, *event)? {
-            return Ok(false);
-        }
+        comes_next(rt, size, &floor, *event)?;
         let came = calls_plainly(size, &mut floor, *event, pick);
-        up_to_here(rt)?;
-        if !came {
-            return Ok(false);
-        }
+        well_up_to_here(rt, came)?;
     }
-    Ok(true)
+    Ok(())
 }
 
 /// The same by the paths of a kind that has a signaller queue.
@@ -167,28 +161,23 @@ fn calls_explicitly<K: Explicit>(
     }
 }
 
-/// Whether a floor makes exactly these events by those paths.
+/// Fails unless a floor makes exactly these events by those paths.
 pub(crate) fn runs_explicitly<K: Explicit>(
     rt: &HostRuntime,
     size: Size,
     floor: &mut Floor<K, Buffer>,
     events: &[Event],
     pick: Pick,
-) -> Result<bool, Fail>
+) -> Result<(), Fail>
     requires { IsRoom size.seats size.conds ITEMS floor.old }
     ensures { IsRoom size.seats size.conds ITEMS floor.new }
 {
     for event in events {
-        if !comes_next(rt, size, floor, *event)? {
-            return Ok(false);
-        }
+        comes_next(rt, size, floor, *event)?;
         let came = calls_explicitly(size, floor, *event, pick);
-        up_to_here(rt)?;
-        if !came {
-            return Ok(false);
-        }
+        well_up_to_here(rt, came)?;
     }
-    Ok(true)
+    Ok(())
 }
 
 /// The same for a kind whose signal to all is a call of its own.
@@ -210,25 +199,20 @@ fn calls_non_blocking<K: NonBlocking>(
     calls_explicitly(size, floor, event, pick)
 }
 
-/// Whether a new floor makes exactly these events by those paths.
+/// Fails unless a new floor makes exactly these events by those paths.
 pub(crate) fn runs_non_blocking<K: NonBlocking>(
     rt: &HostRuntime,
     size: Size,
     events: &[Event],
     pick: Pick,
-) -> Result<bool, Fail> {
+) -> Result<(), Fail> {
     let mut floor: Floor<K, Buffer> = room(rt, size)?;
     for event in events {
-        if !comes_next(rt, size, &floor, *event)? {
-            return Ok(false);
-        }
+        comes_next(rt, size, &floor, *event)?;
         let came = calls_non_blocking(size, &mut floor, *event, pick);
-        up_to_here(rt)?;
-        if !came {
-            return Ok(false);
-        }
+        well_up_to_here(rt, came)?;
     }
-    Ok(true)
+    Ok(())
 }
 
 /// The same by the paths of immediate return.
@@ -255,25 +239,20 @@ fn calls_returning<K: ImmediateReturn>(
     }
 }
 
-/// Whether a new floor makes exactly these events by those paths.
+/// Fails unless a new floor makes exactly these events by those paths.
 pub(crate) fn runs_returning<K: ImmediateReturn>(
     rt: &HostRuntime,
     size: Size,
     events: &[Event],
     pick: Pick,
-) -> Result<bool, Fail> {
+) -> Result<(), Fail> {
     let mut floor: Floor<K, Buffer> = room(rt, size)?;
     for event in events {
-        if !comes_next(rt, size, &floor, *event)? {
-            return Ok(false);
-        }
+        comes_next(rt, size, &floor, *event)?;
         let came = calls_returning(size, &mut floor, *event, pick);
-        up_to_here(rt)?;
-        if !came {
-            return Ok(false);
-        }
+        well_up_to_here(rt, came)?;
     }
-    Ok(true)
+    Ok(())
 }
 
 /// The same by the paths of automatic signalling.
@@ -296,25 +275,20 @@ fn calls_automatically<K: Automatic>(
     }
 }
 
-/// Whether a new floor makes exactly these events by those paths.
+/// Fails unless a new floor makes exactly these events by those paths.
 pub(crate) fn runs_automatically<K: Automatic>(
     rt: &HostRuntime,
     size: Size,
     events: &[Event],
     pick: Pick,
-) -> Result<bool, Fail> {
+) -> Result<(), Fail> {
     let mut floor: Floor<K, Buffer> = room(rt, size)?;
     for event in events {
-        if !comes_next(rt, size, &floor, *event)? {
-            return Ok(false);
-        }
+        comes_next(rt, size, &floor, *event)?;
         let came = calls_automatically(size, &mut floor, *event, pick);
-        up_to_here(rt)?;
-        if !came {
-            return Ok(false);
-        }
+        well_up_to_here(rt, came)?;
     }
-    Ok(true)
+    Ok(())
 }
 
 /// The same for a new floor.
@@ -323,7 +297,7 @@ pub(crate) fn makes_explicitly<K: Explicit>(
     size: Size,
     events: &[Event],
     pick: Pick,
-) -> Result<bool, Fail> {
+) -> Result<(), Fail> {
     let mut floor: Floor<K, Buffer> = room(rt, size)?;
     runs_explicitly(rt, size, &mut floor, events, pick)
 }
