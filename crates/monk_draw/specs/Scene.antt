@@ -1,5 +1,5 @@
 -- What a picture shows: the events, who goes on after each of them, and where each seat is between them
-use Rattle.std.specs.Prelude.{ℕ, ◌+◌, Option, Some, None, List, length, map, slice_get}
+use Rattle.std.specs.Prelude.{ℕ, ◌+◌, Option, Some, None, List, length, map, slice_get, slice_range}
 use Rattle.std.specs.List.{range_with_len}
 use Rattle.std.specs.declared.alloc.Global.{Global}
 use Rattle.std.specs.declared.vec.Vec.{Vec}
@@ -9,11 +9,14 @@ use Rattle.monk_history.specs.declared.event.Event.TheVariants as event
 use Rattle.monk_history.specs.declared.event.Via.TheVariants.{Handed}
 use Rattle.monk_history.specs.declared.event.Next.{Next}
 use Rattle.monk_history.specs.declared.event.Next.TheVariants.{Stay, Entry, Waiter, Signaller, Until}
-use Rattle.monk_tell.specs.Steps.{ShownStep}
+use Rattle.monk_history.specs.Text.{Heading}
+use Rattle.monk_tell.specs.Steps.{ShownStep, steps_between}
 use Rattle.monk_tell.specs.Told.{ShownStanding}
 use Rattle.monk_tell.specs.Place.{place_in}
 use Rattle.monk_tell.specs.declared.place.SeatPlace.{SeatPlace}
+use Rattle.monk_draw.specs.Window.{not_shown, showable, shown_last}
 use Rattle.monk_draw.specs.declared.scene.Scene.{Scene}
+use Rattle.monk_draw.specs.declared.window.Window.{Window}
 
 -- who comes in by an event because it was handed the monitor
 abbrev pub handed : Option Event → Option ℕ
@@ -70,3 +73,13 @@ history_scene seats steps before es = record {
   events = es;
   arrows = arrows_below es (length es);
 }
+
+-- the scene of a history's events after `before` and up to number `last`
+abbrev pub scene_between : Heading → List Event → ℕ → ℕ → ShownScene
+scene_between h es before last =
+    history_scene h.seats (steps_between h es before last) before (slice_range es before last)
+
+-- the scene of the events that a window shows, if `forbidden` is the number of the forbidden event
+abbrev pub window_scene : Heading → List Event → Option Window → Option ℕ → ShownScene
+window_scene h es w forbidden =
+    let last = shown_last w (showable forbidden (length es)) in scene_between h es (not_shown w last) last

@@ -3,15 +3,13 @@
 ghost use Rattle.std.specs.Prelude.{◌<◌, ◌≤◌, ◌^◌, IsErrOf, length};
 ghost use Rattle.monk_object.specs.Names.{most};
 
-use crate::scene::{Scene, history_scene};
-use crate::span::{Span, showable};
+use crate::scene::Scene;
 use crate::svg::draw;
 use crate::text::draw_text;
 use crate::text_form::TextForm;
 use crate::window::Window;
 use monk_audit::{AuditFault, Verdict};
 use monk_history::{Event, Header};
-use monk_tell::{forbidden_step, tell_steps};
 use std::alloc::{AllocError, Global};
 
 /// The form in which a picture is written.
@@ -46,18 +44,15 @@ impl Picture<'_> {
         }
     }
 
-    /// Returns the picture of a history with that verdict. It shows events up to the forbidden one, or up to
-    /// the end: those of the window, or without a window the last [`MOST_SHOWN`](crate::MOST_SHOWN). If the
-    /// window begins after all of them ([`is_behind`](crate::is_behind)), no event is shown.
+    /// Returns the picture of a history with that verdict: of the scene that [`Scene::of_history`] returns.
     ///
     /// # Errors
     ///
-    /// [`AuditFault::Object`] only if the size is above the object's greatest.
-    /// [`AuditFault::Memory`] if a request for memory was refused.
+    /// As [`Scene::of_history`].
     ///
     /// # Cost
     ///
-    /// The cost of [`tell_steps`] and of [`Picture::of_scene`].
+    /// The cost of [`Scene::of_history`] and of [`Picture::of_scene`].
     pub fn of_history(
         self,
         alloc: Global,
@@ -69,10 +64,7 @@ impl Picture<'_> {
         requires { length events.now ≤ 2 ^ 25 }
         ensures { IsErrOf result AuditFault.Object → most header.now.object < header.now.size }
     {
-        let span = Span::of(window, showable(forbidden_step(verdict), events.len()));
-        let steps = tell_steps(alloc, header, events, span.before, span.last)?;
-        let shown = &events[span.before..span.last];
-        let scene = history_scene(alloc, header.seats(), &steps, span.before, shown)?;
+        let scene = Scene::of_history(alloc, header, events, window, verdict)?;
         Ok(self.of_scene(alloc, header, &scene, verdict.caption())?)
     }
 }

@@ -1,12 +1,17 @@
 //! What a picture shows.
 
-ghost use Rattle.std.specs.Prelude.{◌≡◌, ◌<◌, IfOk, length, map, slice_get};
+ghost use Rattle.std.specs.Prelude.{◌≡◌, ◌<◌, ◌≤◌, ◌^◌, IfOk, IsErrOf, length, map, slice_get};
+ghost use Rattle.monk_object.specs.Names.{most};
 ghost use Rattle.monk_tell.specs.Steps.{step_of};
-ghost use Rattle.monk_tell.specs.Told.{standing_of};
+ghost use Rattle.monk_tell.specs.Told.{forbidden_step, standing_of};
 ghost use Rattle.monk_draw.specs.Scene.{arrows_below, goes_on, handed, history_scene, places_below, row_of, scene_of};
+ghost use Rattle.monk_draw.specs.Scene.{window_scene};
 
-use monk_history::{Event, Next, Via};
-use monk_tell::{SeatPlace, Standing, Step};
+use crate::span::{Span, showable};
+use crate::window::Window;
+use monk_audit::{AuditFault, Verdict};
+use monk_history::{Event, Header, Next, Via};
+use monk_tell::{SeatPlace, Standing, Step, forbidden_step, tell_steps};
 use std::alloc::{AllocError, Global};
 
 /// What a picture shows: some events, who goes on after each of them, and where each seat is between them.
@@ -48,6 +53,36 @@ impl Scene {
             events: shown.to_vec(alloc)?,
             arrows: arrows(alloc, shown)?,
         })
+    }
+
+    /// Returns the scene of a history with that verdict. It shows events up to the forbidden one, or up to the end:
+    /// those of the window, or without a window the last [`MOST_SHOWN`](crate::MOST_SHOWN). If the window begins
+    /// after all of them ([`is_behind`](crate::is_behind)), no event is shown.
+    ///
+    /// # Errors
+    ///
+    /// [`AuditFault::Object`] only if the size is above the object's greatest.
+    /// [`AuditFault::Memory`] if a request for memory was refused.
+    ///
+    /// # Cost
+    ///
+    /// The cost of [`tell_steps`] and of [`history_scene`].
+    pub fn of_history(
+        alloc: Global,
+        header: &Header,
+        events: &[Event],
+        window: Option<Window>,
+        verdict: Verdict,
+    ) -> Result<Scene, AuditFault>
+        requires { length events.now ≤ 2 ^ 25 }
+        ensures scene { IfOk result
+            (λ s. scene_of s ≡ window_scene header.now events.now window (forbidden_step verdict)) }
+        ensures object { IsErrOf result AuditFault.Object → most header.now.object < header.now.size }
+    {
+        let span = Span::of(window, showable(forbidden_step(verdict), events.len()));
+        let steps = tell_steps(alloc, header, events, span.before, span.last)?;
+        let shown = &events[span.before..span.last];
+        Ok(history_scene(alloc, header.seats(), &steps, span.before, shown)?)
     }
 
     /// Returns how many of the events are allowed: all, or all but the last.
