@@ -8,7 +8,7 @@ use Rattle.monk_history.specs.declared.event.Event.TheVariants as event
 use Rattle.monk_history.specs.declared.event.Next.TheVariants.{Stay}
 use Rattle.monk_world.specs.Places.{stage, due_stage}
 use Rattle.monk_world.specs.declared.home.Home.TheVariants as home
-use Rattle.monk_hall.specs.Calls.{HasArrived, HasEntered, StillWaits, HasStayed, HasDone, peeks_for}
+use Rattle.monk_hall.specs.Calls.{ComesAfter, HasArrived, HasEntered, StillWaits, HasStayed, HasDone, peeks_for}
 use Rattle.monk_hall.specs.Granting.{Grant, HasGranted, GrantsOut, GrantsInside}
 use Rattle.monk_hall.specs.Tokens.{House, Token, Holder}
 use Rattle.monk_c.specs.Answers.{refusal_number, place_number}
@@ -50,7 +50,7 @@ IsInside (Inside a) f = f a
 abbrev pub HasPolled : Rules → Token → At → Type 0
 HasPolled k p (Outside q) = ⊥
 HasPolled k p (Waiting q) = StillWaits k flags_meaning p q × (stage p.me.place ≢ due_stage)
-HasPolled k p (Inside a) = HasEntered k flags_meaning p a
+HasPolled k p (Inside a) = HasEntered k flags_meaning p a × ComesAfter 0 p.me a.me
 
 -- by this release it went out, or parked inside, and C got what it granted: the word of the seat
 -- that the release chose, or the word of the ticket that enters next. The number of that ticket
