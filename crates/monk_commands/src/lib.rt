@@ -4,6 +4,7 @@
 //! as a function of what was read.
 #![tactic(auto)]
 
+mod advice;
 mod answer;
 mod auditing;
 mod classifying;
@@ -47,6 +48,7 @@ mod window_words;
 mod word;
 mod words;
 
+pub use advice::advice_for;
 pub use answer::LineAnswer;
 pub use auditing::audit_stream;
 pub use classifying::classify_stream;

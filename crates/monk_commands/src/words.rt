@@ -6,14 +6,13 @@ ghost use Rattle.monk_commands.specs.Request.{IsAsked, IsMonk, IsOwnApp, IsRead,
 ghost use Rattle.monk_commands.specs.Request.{with_commands};
 
 use crate::commands::{COMMANDS, CommandWords};
-use crate::found_words::{byte, file_of, files_of, missing, one_kind};
+use crate::found_words::{byte, file_of, missing, one_kind};
 use crate::judging_words::{line_to_explain, line_to_fit};
 use crate::request::{Line, LineFault};
 use crate::run_words::{line_to_hasty, line_to_run};
 use crate::window_words::{line_to_draw, line_to_page};
 use clap::error::ErrorKind;
 use clap::{ArgMatches, Command};
-use monk_kinds::KindName;
 use std::alloc::{AllocError, Global};
 
 const VERSION: &str = "1.0.0";
@@ -58,32 +57,12 @@ fn command<'a>(alloc: Global, words: &CommandWords) -> Result<Command<'a>, Alloc
     Ok(command)
 }
 
-/// Returns clap's text, and advice if an option is used that is gone.
-fn fault_text(alloc: Global, words: &[&str], error: &clap::Error) -> Result<String, LineFault> {
+/// Returns clap's text.
+fn fault_text(alloc: Global, error: &clap::Error) -> Result<String, LineFault> {
     if error.kind() == ErrorKind::OutOfMemory {
         return Err(LineFault::Memory);
     }
-    let mut text = error.to_string(alloc)?;
-    if error.kind() == ErrorKind::UnknownArgument {
-        for word in words {
-            if let Some(advice) = advice_on(word) {
-                write!(text, "\n{advice}\n")?;
-                return Ok(text);
-            }
-        }
-    }
-    Ok(text)
-}
-
-/// Returns what to do in place of an option that is gone, or of a kind where none may be now.
-fn advice_on(word: &str) -> Option<&'static str> {
-    if word == "--lapses" {
-        return Some("spurious wake-ups are always allowed and counted: leave --lapses out");
-    }
-    if word.starts_with("--order") {
-        return Some("a log promises no order: leave --order out");
-    }
-    KindName::of_text(word.as_bytes()).and(Some("complete takes a kind by --kind"))
+    Ok(error.to_string(alloc)?)
 }
 
 fn priorities_of(alloc: Global, matches: &ArgMatches<'_>) -> Result<Line, LineFault>
@@ -160,13 +139,15 @@ fn monk<'a>(alloc: Global) -> Result<Command<'a>, AllocError>
 /// # Errors
 ///
 /// [`LineFault::Words`] with clap's own text if the words are no command of the program, or if they
-/// ask for help or for the version. [`LineFault::Memory`] if a request for memory was refused.
+/// ask for help or for the version; [`advice_for`](crate::advice_for) may say more. Its text is one
+/// line that begins with `error:` if the meanings, the window, the width or the number of files
+/// can't be taken. [`LineFault::Memory`] if a request for memory was refused.
 pub fn line(alloc: Global, words: &[&str]) -> Result<Line, LineFault>
     ensures { IfOk result (λ l. (a : App)
         × (IsMonk a × IsAsked l (subcommand_of a (map (λ w. w.now) words.entry.now)))) }
 {
     match monk(alloc)?.try_get_matches_from(words) {
         Ok(matches) => asked(alloc, &matches),
-        Err(error) => Err(LineFault::Words(fault_text(alloc, words, &error)?)),
+        Err(error) => Err(LineFault::Words(fault_text(alloc, &error)?)),
     }
 }

@@ -193,40 +193,6 @@ fn words_that_ask_for_a_completion_or_a_run(rt: HostRuntime) -> Result<(), Fail>
     all_ask(rt.alloc(), &ASKING_FOR_MORE)
 }
 
-/// Words that are no longer taken, and what is said about them.
-static GONE: [(&[&str], &str); 3] = [
-    (
-        &["monk", "fit", "--lapses", "a"],
-        "spurious wake-ups are always allowed and counted: leave --lapses out",
-    ),
-    (
-        &["monk", "complete", "--order", "any", "a"],
-        "a log promises no order: leave --order out",
-    ),
-    (
-        &["monk", "complete", "PB", "a"],
-        "complete takes a kind by --kind",
-    ),
-];
-
-/// Whether the words are refused with a text that ends with `end`.
-fn is_refused_with(alloc: Global, words: &[&str], end: &str) -> bool {
-    match line(alloc, words) {
-        Err(LineFault::Words(text)) => text.as_str().trim_end().ends_with(end),
-        _ => false,
-    }
-}
-
-#[test]
-fn what_is_gone_is_told(rt: HostRuntime) -> Result<(), Fail> {
-    for (words, end) in GONE.iter() {
-        if !is_refused_with(rt.alloc(), words, end) {
-            return Err(*end)?;
-        }
-    }
-    Ok(())
-}
-
 /// Whether this is written for the priorities of the entry, waiter and signaller queues.
 fn are_classified(of: (u8, u8, u8), wanted: &[u8]) -> bool {
     let mut lines = Expected::new(wanted);
