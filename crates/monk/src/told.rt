@@ -46,11 +46,8 @@ pub(crate) fn unread(rt: &impl Eprint, name: &str, error: &io::Error) -> Unmade 
 fn unfit(rt: &impl Eprint, file: &str, fault: ToldFault) -> Unmade {
     match fault {
         ToldFault::Memory => Unmade::Fault(StreamFault::Memory),
-        ToldFault::At(line, column, wrong) => {
-            let _ = eprintln!(rt;
-                "monk: {file}, line {line}, column {column}: {}",
-                wrong.sentence()
-            );
+        ToldFault::At(..) => {
+            let _ = eprintln!(rt; "monk: {file}, {fault}");
             Unmade::Told(UNREADABLE)
         }
     }

@@ -9,16 +9,19 @@ ghost use Rattle.monk_page.specs.Told.{AreNames, names_in};
 
 use serde_json::Value;
 use std::alloc::{AllocError, Global};
+use thiserror::Error;
 
 /// The greatest length of the name of a seat or of a condition.
 const LONGEST_NAME: u8 = 16;
 
 /// What is wrong with such a text, and where.
-#[derive(Clone, Copy, Debug, PartialEq, Eq)]
+#[derive(Clone, Copy, Debug, PartialEq, Eq, Error)]
 pub enum ToldFault {
     /// A request for memory was refused.
+    #[error("memory")]
     Memory,
     /// The text isn't as [`check_told`] says. The numbers are the line and the column, counted from 1.
+    #[error("line {}, column {}: {}", .0, .1, .2.sentence())]
     At(usize, usize, ToldWrong),
 }
 

@@ -61,7 +61,7 @@ fn choice<T: Guarded>(
 
 /// The first event that is not allowed.
 #[derive(Clone, Copy)]
-pub(crate) struct FirstFault {
+pub(crate) struct FirstForbidden {
     /// Its number, counted from 1.
     pub(crate) step: u32,
     /// The first reason against it.
@@ -77,7 +77,7 @@ pub(crate) fn blame<T: Guarded>(
     rules: Rules,
     replay: &Replay,
     object: &mut T,
-    fault: FirstFault,
+    fault: FirstForbidden,
 ) -> Result<ForbiddenEvent, AllocError>
     requires preds { All (λ w. w.1 < T.PREDICATES) (replay_situation replay.now (T.state object.old)).untils }
     requires reason { number_of fault.reason ≡ reason_in
@@ -87,7 +87,7 @@ pub(crate) fn blame<T: Guarded>(
         (λ b. blame_of b ≡ blame_of_event header.now.kind rules header.now.seats header.now.conds T.meaning
         (replay_situation replay.now (T.state object.old)) fault.step (number_of fault.reason) fault.event) }
 {
-    let FirstFault {
+    let FirstForbidden {
         step,
         reason,
         event,

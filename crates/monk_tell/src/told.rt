@@ -8,7 +8,7 @@ ghost use Rattle.monk_tell.specs.Told.{account, allowed_events, blame_by, blame_
 
 use crate::forbidden::ForbiddenEvent;
 use crate::judged::{JudgedHistory, allowed_events};
-use crate::judging::{FirstFault, blame};
+use crate::judging::{FirstForbidden, blame};
 use crate::refused::refused_acts;
 use crate::standing::Standing;
 use crate::step::Step;
@@ -36,7 +36,7 @@ fn blamed<T: Guarded>(
         Verdict::Legal(_) => Ok(None),
         Verdict::Forbidden { step, reason } => {
             let rules = rules_by_name(history.header.kind());
-            let fault = FirstFault {
+            let fault = FirstForbidden {
                 step,
                 reason: Reason::numbered(reason),
                 event: history.events[step as usize - 1],
