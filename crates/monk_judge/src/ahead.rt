@@ -5,11 +5,8 @@ ghost use Rattle.monk_history.specs.Limits.{most_lines};
 ghost use Rattle.monk_judge.specs.Ends.{AreEnds};
 
 use crate::wait_end::WaitEnd;
-use monk_logs::LogLine;
+use monk_logs::{LINE_SEATS, LogLine};
 use std::alloc::{AllocError, Global};
-
-/// How many seats a line can name.
-const SEATS: usize = 256;
 
 /// Returns for each line how a wait of its seat there would end. Makes one pass from the last line to the
 /// first. Takes 8 bytes of memory for each line, and fails only if a request for memory is refused.
@@ -17,11 +14,8 @@ pub fn look_ahead(alloc: Global, lines: &[LogLine]) -> Result<Vec<WaitEnd>, Allo
     requires { length lines.now ≤ most_lines }
     ensures { IfOk result (λ v. AreEnds v.items lines.now) }
 {
-    let mut ends = Vec::new(alloc);
-    for _ in 0..lines.len() {
-        ends.push(WaitEnd::Never)?;
-    }
-    let mut next = [WaitEnd::Never; SEATS];
+    let mut ends = vec![in alloc; WaitEnd::Never; lines.len()]?;
+    let mut next = [WaitEnd::Never; LINE_SEATS];
     let mut index = lines.len();
     while index > 0 {
         let number = index as u32;

@@ -9,17 +9,14 @@ ghost use Rattle.monk_judge.specs.declared.place.Place.TheVariants.{Outside};
 use crate::holder::takes_lock;
 use crate::judge::Judge;
 use crate::place::Place;
-use monk_logs::LogLine;
+use monk_logs::{LINE_SEATS, LogLine};
 use monk_object::Guarded;
-
-/// How many seats a line can name.
-const SEATS: usize = 256;
 
 /// Which woken threads were overtaken. A seat has a condition here if it was woken there, another
 /// thread has taken the lock since, and it isn't back.
 #[derive(Drop)]
 pub(crate) struct Passed {
-    seats: [Option<u8>; SEATS],
+    seats: [Option<u8>; LINE_SEATS],
 }
 
 impl Passed {
@@ -29,7 +26,7 @@ impl Passed {
         ensures nobody { (j : ℕ) → j < 256 → slice_index_or result.seats j None ≡ None }
     {
         Passed {
-            seats: [None; SEATS],
+            seats: [None; LINE_SEATS],
         }
     }
 

@@ -1,8 +1,8 @@
-use Rattle.std.proofs.Common.{◌≡◌, ◌+◌, ◌-◌, ◌<◌, ◌≤◌, ◌∙◌, length, get_or, drop, refl, sym, subst, arith}
-use Rattle.std.proofs.Math.ListN.{length-set, set}
+use Rattle.std.proofs.Common.{◌≡◌, ◌+◌, ◌-◌, ◌<◌, ◌≤◌, ◌∙◌, length, get_or, drop, refl, sym, ap, subst, arith}
+use Rattle.std.proofs.Math.ListN.{length-set, length-replicate, set}
 use Rattle.monk_logs.specs.Log.{line_seat}
 use Rattle.monk_logs.specs.declared.text.line.LogLine.TheVariants.{Enter}
-use Rattle.monk_judge.specs.declared.wait_end.WaitEnd.TheVariants.{Resumes}
+use Rattle.monk_judge.specs.declared.wait_end.WaitEnd.TheVariants.{Never, Resumes}
 use Rattle.monk_judge.specs.Ends.{IsEnd}
 use Rattle.monk_judge.proofs.LinesAhead.{IsEndBy, each_kept, next_kept, nothing_next}
 use Rattle.monk_judge.proofs.Covers.{rest_is}
@@ -11,7 +11,9 @@ use Rattle.monk_judge.proofs.ahead.look_ahead.Goals as goal
 pub loop-index-init : goal.loop-index-init
 loop-index-init c = record {
   within = omega arith;
-  many = c.loop.invariant ∙ omega arith;
+  many =
+      ap (λ ends. length ends) (c.in_ok-ends.ensures.items_if_clones_equal (λ y same. same))
+      ∙ length-replicate (length c.args.lines.now) Never;
   size = refl;
   next = λ s small. nothing_next c.args.lines.now 256 s small;
   each = λ k le lt. absurd (omega arith);

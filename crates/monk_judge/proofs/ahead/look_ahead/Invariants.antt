@@ -4,9 +4,6 @@ use Rattle.monk_judge.specs.Ends.{IsEnd}
 use Rattle.monk_judge.proofs.LinesAhead.{IsEndAt}
 use Rattle.monk_judge.proofs.ahead.look_ahead.Given as goal
 
-abbrev pub invariant-loop : goal.invariant-loop
-invariant-loop l = length l.ends.items ≡ l.counter
-
 abbrev pub invariant-loop-index : goal.invariant-loop-index
 invariant-loop-index l = record {
   within : l.index ≤ length l.lines;
