@@ -7,6 +7,8 @@ import os
 import re
 from typing import Any, List, Match, Optional, Sequence, Tuple
 
+from edits import read
+
 PUB = r"(?:pub(?:\([\w ]+\))? )?"
 FUNCTION = re.compile(rf"^( *){PUB}(?:const )?(?:unsafe )?(?:extern \"C\" )?fn (\w+)", re.M)
 TRAIT = r"(?:(?P<trait>[\w:]+)(?:<(?P<of>[^{]*?)>)? for )?"
@@ -29,11 +31,6 @@ class Function:
         self.named = re.compile(f"{re.escape(crate.name)}::{named}")
         # a function that a trait asks for can't have a second one beside it
         self.may_stand_again = bool(self.folder) and is_free
-
-
-def read(path: str) -> str:
-    with open(path, encoding="utf-8") as it:
-        return it.read()
 
 
 def module_of(path: str) -> str:

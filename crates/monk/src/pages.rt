@@ -49,7 +49,7 @@ fn read_sources<R: Files + Eprint + AllocGlobal>(
     Ok(sources)
 }
 
-/// Returns the histories with these names.
+/// Returns each source with the name of its file.
 fn paged<'a>(
     alloc: Global,
     files: &'a [String],

@@ -11,7 +11,7 @@ use crate::request::{Line, LineFault};
 use clap::ArgMatches;
 use monk_kinds::KindName;
 use monk_object::ObjectName;
-use monk_samples::Sample;
+use monk_samples::{LEAST_RUN_SEATS, MOST_ROUNDS, MOST_RUN_SEATS, Sample};
 use std::alloc::Global;
 
 /// Returns the kind that is named.
@@ -49,7 +49,9 @@ fn sizes(alloc: Global, matches: &ArgMatches<'_>) -> Result<(u8, u32), LineFault
 {
     let seats = byte(alloc, matches, "SEATS")?;
     let rounds = number(alloc, matches, "ROUNDS")?;
-    if !(2..=16).contains(&seats) || !(1..=1000).contains(&rounds) {
+    if !(LEAST_RUN_SEATS..=MOST_RUN_SEATS).contains(&seats)
+        || !(1..=MOST_ROUNDS).contains(&rounds)
+    {
         return Err(missing(alloc));
     }
     Ok((seats, rounds))

@@ -41,9 +41,9 @@ pub enum Task<'a> {
     /// REASON WORD`. With a kind only its line is written, after `NAME: `. The status is 0 if a line says `legal`,
     /// else 1.
     ///
-    /// A log takes one pass over its text and two over its lines. It takes 24 bytes of memory a line and the text, or
-    /// 32 bytes a line, whichever is more. A history takes a pass over the text, and one over the events for each
-    /// kind.
+    /// A log takes one pass over its text, three over its lines, and one over the last visit of each thread that
+    /// waits at its end. It takes 24 bytes of memory a line and the text, or 32 bytes a line, whichever is more. A
+    /// history takes a pass over the text, and one over the events for each kind.
     Fit(FitForm, Question<'a>),
     /// Each command of a play with its answer, by [`trace_stream`].
     Trace,

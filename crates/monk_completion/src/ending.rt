@@ -7,7 +7,6 @@ ghost use Rattle.monk_completion.specs.Ending as endings;
 ghost use Rattle.monk_completion.specs.Stand.{IsHeldOver, monitor_in};
 
 use crate::fronts::Fronts;
-use crate::judging::with_next;
 use crate::pending::Pending;
 use crate::setting::MonitorSetting;
 use monk_audit::Replay;
@@ -56,7 +55,7 @@ pub(crate) fn end<T: Guarded>(
 {
     if let Some(event) = last_release(pending) {
         let next = unwished(setting, replay, object, event);
-        events.push(with_next(event, next))?;
+        events.push(event.with_next(next))?;
     }
     Ok(())
 }

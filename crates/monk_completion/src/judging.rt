@@ -4,7 +4,6 @@ ghost use Rattle.std.specs.Prelude.{◌≡◌, ◌<◌, ◌==◌, ◌++◌, ◌�
 ghost use Rattle.monk_history.specs.declared.event.Next.{Next};
 ghost use Rattle.monk_history.specs.Meaning.Events.{answered_act, next_of};
 ghost use Rattle.monk_history.specs.Meaning.Reasons.{reason_in};
-ghost use Rattle.monk_history.specs.Meaning.Release as releases;
 ghost use Rattle.monk_history.specs.Meaning.Release.{MayCallIn};
 ghost use Rattle.monk_audit.specs.Replay.{IsReplayOf, replay_situation};
 ghost use Rattle.monk_completion.specs.Events.{line_events, told_events};
@@ -24,21 +23,6 @@ use monk_kinds::Mode;
 use monk_logs::LogLine;
 use monk_object::Guarded;
 use std::alloc::AllocError;
-
-/// Returns the event with this choice, if it is a release.
-pub(crate) fn with_next(event: Event, next: Next) -> Event
-    ensures { result ≡ releases.with_next next event }
-{
-    match event {
-        Event::Leave(seat, _) => Event::Leave(seat, next),
-        Event::Wait(seat, cond, _) => Event::Wait(seat, cond, next),
-        Event::Signal(seat, cond, _) => Event::Signal(seat, cond, next),
-        Event::SignalLeave(seat, cond, _) => Event::SignalLeave(seat, cond, next),
-        Event::Until(seat, pred, _) => Event::Until(seat, pred, next),
-        Event::SignalWait(seat, cond, second, _) => Event::SignalWait(seat, cond, second, next),
-        _ => event,
-    }
-}
 
 /// Returns how a task comes in now. It only matters whether it is the first.
 fn via_now(replay: &Replay) -> Via
@@ -230,7 +214,7 @@ fn told_release<T: Guarded>(replay: &Replay, object: &T, event: Event, line: Log
     requires { All (λ w. w.1 < T.PREDICATES) (replay_situation replay.now []).untils }
     ensures { result ≡ told.told_release T.meaning (replay_situation replay.now (T.state object.now)) event line }
 {
-    with_next(event, Fronts::at(replay, object, event).told_next(line))
+    event.with_next(Fronts::at(replay, object, event).told_next(line))
 }
 
 /// Whether the release fails a test.

@@ -2,7 +2,7 @@
 
 use monk_history::Event;
 use monk_object::{Book, Buffer, Flags, ObjectName, Shop};
-use monk_tell::{queue_word, via_word};
+use monk_tell::{call_word, queue_word, via_word};
 use std::alloc::AllocError;
 
 /// Returns the ending of a word for `number` things.
@@ -28,22 +28,6 @@ pub(crate) fn act_word(object: ObjectName, code: u8) -> &'static str {
     }
 }
 
-/// Returns the word with which the event begins in a text.
-pub(crate) fn verb(event: Event) -> &'static str {
-    match event {
-        Event::Enter(..) => "enter",
-        Event::Act(..) => "act",
-        Event::Leave(..) => "leave",
-        Event::Wait(..) => "wait",
-        Event::Signal(..) => "signal",
-        Event::SignalLeave(..) => "signal-leave",
-        Event::Until(..) => "until",
-        Event::Resume(..) => "resume",
-        Event::SignalAll(..) => "signal-all",
-        Event::SignalWait(..) => "signal-wait",
-    }
-}
-
 /// Returns what the event is, in a word or two.
 pub(crate) fn event_word(object: ObjectName, event: Event) -> &'static str {
     match event {
@@ -51,7 +35,7 @@ pub(crate) fn event_word(object: ObjectName, event: Event) -> &'static str {
         Event::SignalLeave(..) => "signal, leave",
         Event::SignalAll(..) => "signal all",
         Event::SignalWait(..) => "signal, wait",
-        _ => verb(event),
+        _ => call_word(event),
     }
 }
 

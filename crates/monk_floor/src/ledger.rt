@@ -8,7 +8,7 @@ ghost use Rattle.monk_floor.specs.Queues.{IsMoved};
 ghost use Rattle.monk_floor.specs.Ready.{HasRoomFor};
 
 use crate::queues::Queues;
-use monk_history::{Event, From3, Next, Turn};
+use monk_history::{Event, Next, Turn};
 use std::alloc::{AllocError, Global};
 
 /// Updates who is inside after an event.

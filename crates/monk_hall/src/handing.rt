@@ -26,11 +26,8 @@ fn seat_called_by(choice: Next) -> Option<u8>
     ensures { result ≡ seat_called_by choice }
 {
     match choice {
-        Next::Stay => None,
-        Next::Entry => None,
-        Next::Waiter(called) => Some(called),
-        Next::Signaller(called) => Some(called),
-        Next::Until(called) => Some(called),
+        Next::Stay | Next::Entry => None,
+        Next::Waiter(called) | Next::Signaller(called) | Next::Until(called) => Some(called),
     }
 }
 
@@ -38,13 +35,7 @@ fn seat_called_by(choice: Next) -> Option<u8>
 pub(crate) fn is_stay(choice: Next) -> bool
     ensures { result ≡ is_stay (Some choice) }
 {
-    match choice {
-        Next::Stay => true,
-        Next::Entry => false,
-        Next::Waiter(_) => false,
-        Next::Signaller(_) => false,
-        Next::Until(_) => false,
-    }
+    matches!(choice, Next::Stay)
 }
 
 /// After a choice of entry, takes the seat off the ticket word, and grants the next ticket if there is one.

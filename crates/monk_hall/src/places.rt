@@ -6,7 +6,7 @@ ghost use Rattle.monk_hall.specs.Layout.{tickets, unpassed};
 use monk_world::{Place, Source};
 
 /// What one drawn ticket adds to the ticket word, which counts them above its low 32 bits.
-const TICKET: u64 = 1 << 32;
+pub(crate) const TICKET: u64 = 1 << 32;
 
 /// Returns how many tickets were drawn, by the ticket word.
 pub(crate) fn tickets(word: u64) -> u32

@@ -24,11 +24,7 @@ use monk_object::Guarded;
 fn asks_for_entry(chooses: bool, pick: Pick) -> bool
     ensures { result ≡ (chooses && wants_entry pick) }
 {
-    match pick {
-        Pick::Entry => chooses,
-        Pick::Waiter => false,
-        Pick::Signaller => false,
-    }
+    chooses && matches!(pick, Pick::Entry)
 }
 
 impl<K: Kind, T: Guarded> Active<K, T> {

@@ -12,6 +12,7 @@ ghost use Rattle.monk_hall.specs.Records.{IsOne, the};
 ghost use Rattle.monk_hall.specs.Tells.{TellsArrive, TellsTicketLook, TellsSeatLook, TellsPeek, TellsDrop, Returns, IsOfTable, IsSameSeat};
 
 use crate::boxed_floor::BoxedFloor;
+use crate::places::TICKET;
 use crate::plays::{
     ArriveStep, DropStep, FloorInStep, FloorOutStep, PeekStep, SeatLookStep, TicketLookStep,
 };
@@ -20,7 +21,7 @@ use monk_kinds::Kind;
 use monk_object::Guarded;
 
 /// What an arrival adds: one ticket drawn, and one more not passed on.
-const ARRIVAL: u64 = (1 << 32) + 1;
+const ARRIVAL: u64 = TICKET + 1;
 
 /// Returns the word that has the place of a ticket.
 pub(crate) fn ticket_word(seats: u8, ticket: u32) -> usize
@@ -136,6 +137,7 @@ pub(crate) fn floor_in<K: Kind, T: Guarded>(
     let spare = words.exchange(seat, 0, Some(floor));
     match spare {
         None => {}
+        // The slot is empty while the floor is out.
         Some(_) => unreachable!(),
     }
     words.load::<FloorInStep>(seat, 0);

@@ -8,8 +8,8 @@ ghost use Rattle.monk_logs.specs.declared.subject.Subject.TheVariants.{Seat};
 use crate::subject::Subject;
 use crate::text::line::LogLine;
 
-/// How many seats a line can name.
-const SEATS: usize = 256;
+/// How many seats a line can name: the numbers from 0 to 255.
+pub const LINE_SEATS: usize = 256;
 
 /// Seats that a signal crossed on their way to sleep.
 #[derive(Clone, Copy, Debug, PartialEq, Eq)]
@@ -56,10 +56,10 @@ fn last_crossing(before: &[LogLine], seat: u8, cond: u8) -> Option<usize>
 }
 
 /// Returns the number of the last line of each seat, counted from 1.
-fn last_numbers(lines: &[LogLine]) -> [Option<usize>; SEATS]
+fn last_numbers(lines: &[LogLine]) -> [Option<usize>; LINE_SEATS]
     ensures { (s : ℕ) → get_or result s None ≡ last_line (Seat s) lines.now }
 {
-    let mut numbers = [None; SEATS];
+    let mut numbers = [None; LINE_SEATS];
     let mut number = 0;
     for line in lines {
         number += 1;

@@ -6,7 +6,7 @@ mod last_lines;
 mod subject;
 mod text;
 
-pub use crossed::{Crossed, find_crossed};
+pub use crossed::{Crossed, LINE_SEATS, find_crossed};
 pub use last_lines::last_line;
 pub use subject::Subject;
 pub use text::header::LogHeader;

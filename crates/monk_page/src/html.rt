@@ -45,7 +45,7 @@ fn article_told(alloc: Global, told: ToldHistory, beside: &str) -> Result<String
 /// # Errors
 ///
 /// [`AuditFault::Object`] exactly if the size is above the object's greatest.
-/// [`AuditFault::Memory`] if a growth was refused.
+/// [`AuditFault::Memory`] if a request for memory was refused.
 ///
 /// # Cost
 ///
@@ -87,7 +87,7 @@ pub fn article(
 ///
 /// # Errors
 ///
-/// A growth was refused.
+/// `AllocError` if a request for memory was refused.
 ///
 /// # Cost
 ///

@@ -56,7 +56,7 @@ pub trait InJson {
     ///
     /// # Errors
     ///
-    /// `AllocError` if a growth was refused.
+    /// `AllocError` if a request for memory was refused.
     fn write(&self, out: &mut JsonText) -> Result<(), AllocError>
         ensures { OnOk result (AddsValue (json self.now) out.old.writer out.new.writer) };
 }

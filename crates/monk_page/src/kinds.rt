@@ -12,7 +12,7 @@ use crate::told_history::ToldHistory;
 use monk_audit::{AuditFault, Verdict, audit, under};
 use monk_kinds::KindName;
 use monk_tell::{ForbiddenEvent, JudgedHistory, tell_judged};
-use std::alloc::{AllocError, Global};
+use std::alloc::AllocError;
 
 /// Writes why an event is forbidden, if one is.
 fn write_why(out: &mut JsonText, blame: &Option<ForbiddenEvent>) -> Result<(), AllocError>
@@ -58,6 +58,7 @@ fn write_other(out: &mut JsonText, told: ToldHistory, kind: KindName) -> Result<
     let verdict = match audit(out.alloc, &header, told.events) {
         Ok(verdict) => verdict,
         Err(AuditFault::Memory) => return Err(AllocError),
+        // The size isn't above the object's greatest.
         Err(AuditFault::Object) => unreachable!(),
     };
     if let Verdict::Legal(_) = verdict {
@@ -72,6 +73,7 @@ fn write_other(out: &mut JsonText, told: ToldHistory, kind: KindName) -> Result<
     match tell_judged(out.alloc, history, 1, 0) {
         Ok((telling, _)) => write_verdict(out, kind, verdict, &telling.blame),
         Err(AuditFault::Memory) => Err(AllocError),
+        // The size isn't above the object's greatest.
         Err(AuditFault::Object) => unreachable!(),
     }
 }

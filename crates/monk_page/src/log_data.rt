@@ -16,7 +16,7 @@ use monk_judge::{Judge, Misfit, Place, Step, cut};
 use monk_logs::LogLine;
 use monk_object::Listed;
 use monk_tell::data_numbers;
-use std::alloc::{AllocError, Global};
+use std::alloc::AllocError;
 
 impl InJson for Place {
     ghost json = { place_json };

@@ -26,6 +26,20 @@ const NOT_FULL: u8 = 0;
 /// The condition on which seats wait until an item is there.
 const NOT_EMPTY: u8 = 1;
 
+/// A take.
+const TAKE: Op = Op {
+    code: Buffer::TAKE,
+    arg: 0,
+};
+
+/// What a taker does between coming in and going out.
+const TAKE_VISIT: Visit = Visit {
+    cond: NOT_EMPTY,
+    pred: Buffer::HAS_ITEM,
+    op: TAKE,
+    next: NOT_FULL,
+};
+
 /// Puts an item into the buffer, when there is room, and lets a taker go on.
 pub fn put<K: Style, R: Wait>(
     pass: Pass<K, Buffer>,
@@ -101,11 +115,7 @@ pub fn take<K: Style, R: Wait>(
         × (items_taken (acts_in (events_in visit.calls)) ≡ option_to_list result.1) }
     ensures done { result.2 ≡ End.Done → IsSome result.1 }
 {
-    let take = Op {
-        code: Buffer::TAKE,
-        arg: 0,
-    };
-    match act_when(pass, rt, hall, NOT_EMPTY, Buffer::HAS_ITEM, take) {
+    match act_when(pass, rt, hall, NOT_EMPTY, Buffer::HAS_ITEM, TAKE) {
         Ok((active, reply)) => {
             let (pass, end) = K::finish(active, rt, hall, NOT_FULL);
             (pass, Some(item_of(reply)), end)
@@ -125,17 +135,7 @@ pub(crate) fn take_from<K: Style, T: Guarded, R: Wait>(
     requires conds { Offers K.rules pass.me.setting.conds 2 }
     ensures { HasVisited K.rules T.meaning pass (takes ∷ []) result.0 result.1 }
 {
-    let take = Op {
-        code: Buffer::TAKE,
-        arg: 0,
-    };
-    let visit = Visit {
-        cond: NOT_EMPTY,
-        pred: Buffer::HAS_ITEM,
-        op: take,
-        next: NOT_FULL,
-    };
-    act_and_finish(pass, rt, hall, visit)
+    act_and_finish(pass, rt, hall, TAKE_VISIT)
 }
 
 /// Puts an item in haste into an object with the meaning of a buffer, and lets a taker go on. It looks for room once,
@@ -176,17 +176,7 @@ pub(crate) fn take_hastily<K: Style, T: Guarded, R: Wait>(
     requires conds { Offers K.rules pass.me.setting.conds 2 }
     ensures { HasVisited K.rules T.meaning pass (takes_by Manner.Hasty ∷ []) result.0 result.1 }
 {
-    let take = Op {
-        code: Buffer::TAKE,
-        arg: 0,
-    };
-    let visit = Visit {
-        cond: NOT_EMPTY,
-        pred: Buffer::HAS_ITEM,
-        op: take,
-        next: NOT_FULL,
-    };
-    act_and_finish_in_haste(pass, rt, hall, visit)
+    act_and_finish_in_haste(pass, rt, hall, TAKE_VISIT)
 }
 
 /// Returns the item that a take took out, by the buffer's reply.

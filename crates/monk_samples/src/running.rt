@@ -20,6 +20,7 @@ use crate::crew_fault::CrewFault;
 use crate::gate::Gate;
 use crate::hasty_outcome::HastyOutcome;
 use crate::heading::{conds_of, header_of};
+use crate::limits::{LEAST_RUN_SEATS, MOST_ROUNDS, MOST_RUN_SEATS};
 use crate::manner::Manner;
 use crate::outcome::Outcome;
 use crate::rota::Rota;
@@ -55,8 +56,8 @@ use std::thread::Threads;
 ///
 /// # Cost
 ///
-/// Memory for the budgets of all seats, `64 + rounds * (40 + 32 * seats)` events each, at once. Two to four passes
-/// over the history for the totals, and four more for a book.
+/// Memory for the budgets of all seats, `64 + rounds * (40 + 32 * seats)` events each, at once. Four passes over
+/// the history for the totals, two when the hall is closed, and up to four more for a book.
 pub fn run<K: Style, R: Threads + Wait + Sync, G: Gate>(
     rt: &R,
     alloc: Global,
@@ -88,7 +89,8 @@ pub fn run<K: Style, R: Threads + Wait + Sync, G: Gate>(
 
 /// Runs a buffer of one place in haste, with an `if` in place of a `while`. A seat looks at its predicate once, then
 /// acts, whatever holds, and comes again if its act was refused. Its releases wish for entry. So under some kinds an
-/// item is gone when the seat that was signalled goes on. The rest, also the cost, is as for [`run`] of a buffer.
+/// item is gone when the seat that was signalled goes on. The rest, also the cost but for two passes more, is as for
+/// [`run`] of a buffer.
 ///
 /// # Errors
 ///
@@ -139,7 +141,9 @@ fn run_by<K: Style, R: Threads + Wait + Sync, G: Gate>(
     ensures totals { IfOk result (λ o. HasTotals scenario.sample seats rounds o.totals) }
     ensures missed { IfOk result (λ o. RefusesNothing K.rules scenario o.history.items) }
 {
-    if !(2..=16).contains(&seats) || !(1..=1000).contains(&rounds) {
+    if !(LEAST_RUN_SEATS..=MOST_RUN_SEATS).contains(&seats)
+        || !(1..=MOST_ROUNDS).contains(&rounds)
+    {
         return Err(RunFault::Range);
     }
     let rota = Rota {

@@ -135,10 +135,7 @@ fn is_refused(event: &Event) -> bool
     ensures counts { refusals_in (act_of event.now) ≡ (if result then 1 else 0) }
     ensures is { result ≡ is_refused_act event.now }
 {
-    match *event {
-        Event::Act(_, _, reply) => reply == 0,
-        _ => false,
-    }
+    event.is_refused()
 }
 
 /// Returns the item that it put, or 0.

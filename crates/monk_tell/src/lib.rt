@@ -32,7 +32,7 @@ pub use place::SeatPlace;
 pub use queues::{Conditions, QueueLists};
 pub use refused::Refused;
 pub use rules::{Ranks, mode_word};
-pub use said::{SaidEvent, SaidTurn, queue_word, via_word};
+pub use said::{SaidEvent, SaidTurn, call_word, queue_word, via_word};
 pub use standing::{Standing, data_numbers};
 pub use step::Step;
 pub use telling::Telling;

@@ -29,7 +29,7 @@ pub fn via_word(via: Via) -> &'static str
 }
 
 /// Returns the first word of an event's line.
-fn call_word(event: Event) -> &'static str
+pub fn call_word(event: Event) -> &'static str
     ensures { result.now ≡ get_or (event_words event) 0 [] }
 {
     match event {

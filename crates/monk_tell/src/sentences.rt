@@ -170,10 +170,7 @@ fn may_not_admit(kind: KindName, rules: Rules, firsts: Firsts, seat: u8) -> Why
 fn is_first(seat: u8, first: Option<u8>) -> bool
     ensures { result ≡ is_first seat first }
 {
-    match first {
-        Some(other) => other == seat,
-        None => false,
-    }
+    first == Some(seat)
 }
 
 /// Returns why a seat may not be chosen that is not the first of its queue.

@@ -14,7 +14,7 @@ use crate::lines::{line_up, must_stay};
 use crate::permitted::choice_from;
 use crate::standing::Standing;
 use monk_audit::{Replay, rules_by_name};
-use monk_history::{Event, Header};
+use monk_history::Event;
 use monk_kinds::Rules;
 use monk_object::{Guarded, Listed};
 use std::alloc::{AllocError, Global};

@@ -32,9 +32,9 @@ pub enum Command {
     SignalLeave(u8, Pick),
     /// Wait until this predicate holds, with a wish for who is next.
     Until(u8, Pick),
-    /// Signal all who wait on this condition, and go on. In plays of version 2.
+    /// Signal all who wait on this condition, and go on. In plays from version 2 on.
     SignalAll(u8),
-    /// Signal the first condition and then wait on the second, with a wish for who is next. In plays of version 2.
+    /// Signal the first condition and then wait on the second, with a wish for who is next. In plays from version 2 on.
     SignalWait(u8, u8, Pick),
 }
 

@@ -16,7 +16,6 @@ use crate::entry::record_entry;
 use crate::home::Home;
 use crate::place::Place;
 use crate::play::PlayLines;
-use crate::source::Source;
 use crate::telling::{is_in_range, is_offered, left_for, may_be_told};
 use crate::words::WorldWords;
 use monk_floor::{Floor, MakeFault};
@@ -252,6 +251,7 @@ impl<K: Kind, T: Guarded> World<K, T> {
         match self.words.place(seat) {
             Place::Ticket(ticket) => self.words.ticket_look(seat, ticket),
             Place::Inner => self.words.seat_look(seat),
+            // The refusal lets no other place through.
             _ => unreachable!(),
         }
     }
@@ -267,6 +267,7 @@ impl<K: Kind, T: Guarded> World<K, T> {
                 record_entry(&mut self.floor, seat, source);
                 self.words.floor_out(seat, source)
             }
+            // The refusal lets no other place through.
             _ => unreachable!(),
         }
     }
@@ -291,6 +292,7 @@ impl<K: Kind, T: Guarded> World<K, T> {
     {
         match self.words.place(seat) {
             Place::Back(_, home) => self.words.drop_ticket(seat, home),
+            // The refusal lets no other place through.
             _ => unreachable!(),
         }
     }
@@ -306,6 +308,7 @@ impl<K: Kind, T: Guarded> World<K, T> {
             Place::Back(Next::Waiter(called), home) => self.words.seat_grant(seat, called, home),
             Place::Back(Next::Signaller(called), home) => self.words.seat_grant(seat, called, home),
             Place::Back(Next::Until(called), home) => self.words.seat_grant(seat, called, home),
+            // The refusal lets no other place through.
             _ => unreachable!(),
         }
     }

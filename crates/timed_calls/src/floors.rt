@@ -9,7 +9,7 @@ use crate::chance::Chance;
 use anyhow::anyhow;
 use monk_floor::Floor;
 use monk_history::{Event, Turn, Via};
-use monk_kinds::{Automatic, Explicit, Kind, Pb, Pick, Pis, Pnb};
+use monk_kinds::{Automatic, Explicit, Kind, Pb, Pis, Pnb};
 use monk_object::{Buffer, Op};
 use std::alloc::Global;
 

@@ -1,13 +1,11 @@
-//! The part of a replay without the queues, which are kept elsewhere: whose turn it is, who is
-//! inside, and who waits until a predicate holds.
+//! What an event does to a replay apart from the queues of conditions, waiters and signallers; and who is ready.
 
-ghost use Rattle.std.specs.Prelude.{◌≡◌, ◌<◌, ◌++◌, ◌&&◌, ◌||◌, ℕ, List, []};
+ghost use Rattle.std.specs.Prelude.{◌≡◌, ◌<◌, ◌++◌, ◌&&◌, ◌||◌, ℕ, []};
 ghost use Rattle.std.specs.Prelude.{All, OnOk, filter, length, not, slice_get, slice_index_or, false, true};
 ghost use Rattle.monk_history.specs.Meaning.Events.{next_of, seat_of};
-ghost use Rattle.monk_history.specs.Meaning.Reasons.{fits_object};
 ghost use Rattle.monk_history.specs.Meaning.Turn as turns;
 ghost use Rattle.monk_history.specs.Meaning.Untils.{chooses, ready_of, waits_until};
-ghost use Rattle.monk_audit.specs.Replay.{IsReplayOf, has, with_turn_of, passed_on, replay_situation, seats_in};
+ghost use Rattle.monk_audit.specs.Replay.{has, replay_situation};
 
 use crate::inside::mark_inside;
 use crate::moves::{drop_chosen, join_untils};
@@ -15,7 +13,7 @@ use crate::queues::{first_ready, is_ready};
 use crate::replay::Replay;
 use monk_history::{Event, Turn};
 use monk_object::Guarded;
-use std::alloc::{AllocError, Global};
+use std::alloc::AllocError;
 
 impl Replay {
     /// Carries out what an event does apart from the queues of the conditions, of the waiters and
@@ -41,31 +39,6 @@ impl Replay {
         mark_inside(&mut self.inside, event);
         drop_chosen(&mut self.untils, event);
         join_untils(&mut self.untils, event)
-    }
-
-    /// Carries out what an event does apart from the queues of the conditions, of the waiters and of the
-    /// signallers. The replay's own list of waits-until may grow by it; `_alloc` says that it may.
-    #[inline(always)]
-    pub fn pass_on(&mut self, _alloc: Global, event: Event) -> Result<(), AllocError>
-        requires { seat_of event < seats_in self.old }
-        ensures passed { OnOk result
-            ((state : List ℕ) → replay_situation self.new state ≡ passed_on (replay_situation self.old state) event) }
-        ensures sound { OnOk result
-            ((seats conds codes predicates : ℕ) → IsReplayOf seats conds predicates self.old
-            → fits_object codes predicates event ≡ true → IsReplayOf seats conds predicates self.new) }
-    {
-        self.go_on(event)
-    }
-
-    /// Makes it the turn of a seat that nobody has chosen.
-    pub fn own(&mut self, seat: u8)
-        ensures owned { (state : List ℕ)
-            → replay_situation self.new state ≡ with_turn_of (replay_situation self.old state) seat }
-        ensures sound { (seats conds predicates : ℕ) → IsReplayOf seats conds predicates self.old
-            → IsReplayOf seats conds predicates self.new }
-    {
-        self.turn = Turn::Owned(seat);
-        self.begun = true;
     }
 
     /// Returns the first ready seat: it waits until a predicate, and the predicate holds.

@@ -18,6 +18,10 @@ use std::alloc::{AllocError, Global};
 
 impl Replay {
     /// Returns the state of a monitor before any event.
+    ///
+    /// # Errors
+    ///
+    /// `AllocError` if a request for memory was refused.
     pub fn opening(alloc: Global, seats: u8, conds: u8) -> Result<Replay, AllocError>
         ensures stands { IfOk result
             (λ r. (rules : Rules) (o : Object) (state : List ℕ)
@@ -47,6 +51,10 @@ impl Replay {
     /// Judges an event, and carries it out if there is no reason against it. Returns the first
     /// reason, if there is one; then the replay is of no further use. The replay's own queues may
     /// grow by it; `_alloc` says that they may.
+    ///
+    /// # Errors
+    ///
+    /// `AllocError` if a request for memory was refused.
     pub fn carry_out<T: Guarded>(
         &mut self,
         _alloc: Global,

@@ -1,42 +1,13 @@
 //! What others see of a replay: the state of a monitor after legal events.
 
-ghost use Rattle.std.specs.Prelude.{◌≡◌, ◌<◌, ℕ, List, [], IfOk, All, slice_get};
-ghost use Rattle.monk_history.specs.Meaning.Legal.{IsLegal};
-ghost use Rattle.monk_history.specs.Meaning.Monitor.{monitor};
-ghost use Rattle.monk_history.specs.Meaning.Situation.{situation};
-ghost use Rattle.monk_audit.specs.Replay.{IsReplayOf, replay_situation};
+ghost use Rattle.std.specs.Prelude.{◌≡◌, ℕ, List, [], IfOk, slice_get};
+ghost use Rattle.monk_audit.specs.Replay.{replay_situation};
 
 use crate::replay::Replay;
-use monk_history::{Event, Turn};
-use monk_kinds::Rules;
-use monk_object::Guarded;
+use monk_history::Turn;
 use std::alloc::{AllocError, Global};
 
 impl Replay {
-    /// Returns the state of the monitor of those rules after the events, which are legal. The object comes in
-    /// its opening state, and leaves in the state that the events lead to. One pass over the events.
-    pub fn after_all<T: Guarded>(
-        alloc: Global,
-        object: &mut T,
-        rules: Rules,
-        seats: u8,
-        conds: u8,
-        events: &[Event],
-    ) -> Result<Replay, AllocError>
-        requires { IsLegal (monitor rules seats conds T.meaning (T.state object.old)) events.now }
-        ensures stands { IfOk result (λ r. replay_situation r (T.state object.new) ≡ situation
-            (monitor rules seats conds T.meaning (T.state object.old)) events.now) }
-        ensures preds { IfOk result
-            (λ r. All (λ w. w.1 < T.PREDICATES) (replay_situation r (T.state object.new)).untils) }
-        ensures sound { IfOk result (IsReplayOf seats conds T.PREDICATES) }
-    {
-        let mut replay = Replay::new(alloc, seats, conds)?;
-        for event in events {
-            replay.judge::<T, Replay>(rules, object, conds, *event)?;
-        }
-        Ok(replay)
-    }
-
     /// Returns whose turn it is.
     pub fn turn(&self) -> Turn
         ensures { (state : List ℕ) → result ≡ (replay_situation self.now state).turn }
@@ -55,6 +26,10 @@ impl Replay {
     }
 
     /// Returns the seats that wait on the condition, in order; none if there is no such condition.
+    ///
+    /// # Errors
+    ///
+    /// `AllocError` if a request for memory was refused.
     #[tactic(auto, using(crate::proofs::QueueLaws::queue_past))]
     pub fn condition(&self, alloc: Global, cond: u8) -> Result<Vec<u8>, AllocError>
         ensures { IfOk result (λ v. (state : List ℕ) → v.items ≡ (replay_situation self.now state).condition cond) }
@@ -66,6 +41,10 @@ impl Replay {
     }
 
     /// Returns the waiter queue, in order.
+    ///
+    /// # Errors
+    ///
+    /// `AllocError` if a request for memory was refused.
     pub fn waiters(&self, alloc: Global) -> Result<Vec<u8>, AllocError>
         ensures { IfOk result (λ v. (state : List ℕ) → v.items ≡ (replay_situation self.now state).waiters) }
     {
@@ -98,6 +77,10 @@ impl Replay {
     }
 
     /// Returns the signaller queue, in order.
+    ///
+    /// # Errors
+    ///
+    /// `AllocError` if a request for memory was refused.
     pub fn signallers(&self, alloc: Global) -> Result<Vec<u8>, AllocError>
         ensures { IfOk result (λ v. (state : List ℕ) → v.items ≡ (replay_situation self.now state).signallers) }
     {
@@ -105,6 +88,10 @@ impl Replay {
     }
 
     /// Returns the seats that wait until a predicate holds, each with its predicate, in order of the waits.
+    ///
+    /// # Errors
+    ///
+    /// `AllocError` if a request for memory was refused.
     pub fn untils(&self, alloc: Global) -> Result<Vec<(u8, u8)>, AllocError>
         ensures { IfOk result (λ v. (state : List ℕ) → v.items ≡ (replay_situation self.now state).untils) }
     {

@@ -1,7 +1,5 @@
 //! Where the lines of a log are in the source of its program.
 
-use std::alloc::{AllocError, Global};
-
 /// The places in the source that a recorder wrote into the file beside a log: `site K FILE:LINE` for each place, and a
 /// row `lines` with the number of the place of each line, 0 if it has none.
 #[derive(Clone, Copy)]

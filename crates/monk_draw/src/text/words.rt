@@ -1,9 +1,10 @@
 //! An event in words, for a picture of text.
 
-use crate::label::{act_word, verb};
+use crate::label::act_word;
 use crate::names::Names;
 use monk_history::{Event, Header};
 use monk_object::{Buffer, Flags, ObjectName, Op};
+use monk_tell::call_word;
 use std::alloc::AllocError;
 
 /// Writes the name of a condition or a predicate, or its number.
@@ -52,7 +53,7 @@ pub(crate) fn put_words(
     if let Event::Act(_, op, reply) = event {
         return put_act(line, header, op, reply);
     }
-    line.push_str(verb(event))?;
+    line.push_str(call_word(event))?;
     match event {
         Event::Wait(_, number, _)
         | Event::Signal(_, number, _)

@@ -8,6 +8,7 @@ ghost use Rattle.monk_history.specs.Text.Lines.{line};
 ghost use Rattle.monk_history.specs.Text.Places.{StandsAt};
 
 use crate::event::{Event, From3, Next, Via};
+use crate::limits::ALL_EVENTS_VERSION;
 use crate::text::lines::places::{
     four_stand_at, number_at, one_stands_at, short_number_at, two_stand_at,
 };
@@ -128,7 +129,7 @@ fn any_signal<Caller>(bytes: &[u8], version: u8) -> Option<(Event, usize)>
     {
         let (seat, cond, next, place) = call_at(bytes, 13)?;
         Some((Event::SignalLeave(seat, cond, next), place))
-    } else if version >= 2 {
+    } else if version >= ALL_EVENTS_VERSION {
         later_signal(bytes)
     } else {
         None

@@ -7,6 +7,7 @@ ghost use Rattle.monk_history.specs.Text.Reading.{vias, froms, next_word, all_ne
 ghost use Rattle.monk_history.specs.Text.Reading.{cond_next_at, act_at, event_after, event_at};
 
 use crate::event::{Event, From3, Next, Via};
+use crate::limits::ALL_EVENTS_VERSION;
 use crate::text::event_front::{WINDOW, event_at_front};
 use crate::text::fault::Flaw;
 use crate::text::header::Header;
@@ -62,7 +63,7 @@ fn event_after(words: &mut LineWords<'_>, verb: Verb, seat: u8) -> Result<Event,
     match verb {
         Verb::Enter => Ok(Event::Enter(seat, via(words)?)),
         Verb::Act => {
-            let (op, reply) = act(words)?;
+            let (op, reply) = act_parts(words)?;
             Ok(Event::Act(seat, op, reply))
         }
         Verb::Leave => Ok(Event::Leave(seat, next(words)?)),
@@ -92,10 +93,13 @@ fn event_after(words: &mut LineWords<'_>, verb: Verb, seat: u8) -> Result<Event,
     }
 }
 
-/// Reads a code, an argument and a reply.
+/// Takes the three words `CODE ARG REPLY` of an act, and leaves the words after them.
+///
+/// Returns [`Flaw::Word`] if one of them is missing, and [`Flaw::Number`] if a code isn't a number from 0 to 255, an
+/// argument isn't below 2^32, or a reply isn't below 2^64. Takes no memory.
 #[tactic(auto, unfolding(crate::specs::Text::Reading::act_at))]
 #[inline(always)]
-fn act(words: &mut LineWords<'_>) -> Result<(Op, u64), Flaw>
+pub fn act_parts(words: &mut LineWords<'_>) -> Result<(Op, u64), Flaw>
     ensures { Reads result words.new (act_at words.old) }
 {
     let code = words.byte()?;
@@ -152,7 +156,7 @@ fn verb(words: &mut LineWords<'_>, version: u8) -> Result<Verb, Flaw>
         Ok(Verb::Until)
     } else if words.takes(b"resume") {
         Ok(Verb::Resume)
-    } else if version < 2 {
+    } else if version < ALL_EVENTS_VERSION {
         Err(Flaw::Word)
     } else if words.takes(b"signal-all") {
         Ok(Verb::SignalAll)

@@ -48,7 +48,7 @@ pub fn header_parts(words: &mut LineWords<'_>, version: u8) -> Result<Header, Fl
     let kind = kind(words)?;
     let seats = words.byte()?;
     let conds = words.byte()?;
-    let object = object(words)?;
+    let object = object_part(words)?;
     let size = words.byte()?;
     Header::of_version(version, kind, seats, conds, object, size).ok_or(Flaw::Word)
 }
@@ -61,8 +61,11 @@ fn kind(words: &mut LineWords<'_>) -> Result<KindName, Flaw>
     KindName::of_text(word).ok_or(Flaw::Word)
 }
 
+/// Takes the word of an object, and leaves the words after it.
+///
+/// Returns [`Flaw::Word`] if there is no word, or if it is no name of an object. Takes no memory.
 #[tactic(auto, unfolding(crate::specs::Text::Words::one_of))]
-fn object(words: &mut LineWords<'_>) -> Result<ObjectName, Flaw>
+pub fn object_part(words: &mut LineWords<'_>) -> Result<ObjectName, Flaw>
     ensures { Reads result words.new (one_of object_word objects words.old) }
 {
     let word = words.next().ok_or(Flaw::Word)?;

@@ -4,6 +4,7 @@ ghost use Rattle.std.specs.Prelude.{◌≡◌};
 ghost use Rattle.monk_history.specs.Text.{first_version, is_writable};
 
 use crate::event::Event;
+use crate::limits::ALL_EVENTS_VERSION;
 use crate::text::header::Header;
 
 /// Returns the first version of a text that has a line for the event.
@@ -19,7 +20,7 @@ fn first_version(event: Event) -> u8
         | Event::SignalLeave(..)
         | Event::Until(..)
         | Event::Resume(..) => 1,
-        Event::SignalAll(..) | Event::SignalWait(..) => 2,
+        Event::SignalAll(..) | Event::SignalWait(..) => ALL_EVENTS_VERSION,
     }
 }
 

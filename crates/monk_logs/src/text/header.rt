@@ -1,13 +1,12 @@
 //! The header of a log.
 
 ghost use Rattle.std.specs.Prelude.{◌≡◌};
-ghost use Rattle.monk_object.specs.Names.{object_word, objects};
-ghost use Rattle.monk_history.specs.Text.Words.{Reads, one_of};
+ghost use Rattle.monk_history.specs.Text.Words.{Reads};
 ghost use Rattle.monk_logs.specs.Log.{LogHeading, IsLogHeading, log_version};
 ghost use Rattle.monk_logs.specs.Log.Reading.{log_header_at, log_heading_of};
 
 use monk_history::lines::{Flaw, Head, LineWords};
-use monk_history::{MOST_CONDS, MOST_SEATS};
+use monk_history::{MOST_CONDS, MOST_SEATS, object_part};
 use monk_object::ObjectName;
 use std::marker::Model;
 
@@ -100,21 +99,13 @@ fn log_header(words: &mut LineWords<'_>) -> Result<LogHeader, Flaw>
     let version = words.byte()?;
     let seats = words.byte()?;
     let conds = words.byte()?;
-    let object = object(words)?;
+    let object = object_part(words)?;
     let size = words.byte()?;
     words.end()?;
     if version != log_version(object) {
         return Err(Flaw::Word);
     }
     LogHeader::new(seats, conds, object, size).ok_or(Flaw::Word)
-}
-
-#[tactic(auto, unfolding(monk_history::specs::Text::Words::one_of))]
-fn object(words: &mut LineWords<'_>) -> Result<ObjectName, Flaw>
-    ensures { Reads result words.new (one_of object_word objects words.old) }
-{
-    let word = words.next().ok_or(Flaw::Word)?;
-    ObjectName::of_text(word).ok_or(Flaw::Word)
 }
 
 /// Returns the version of the logs that name the object.

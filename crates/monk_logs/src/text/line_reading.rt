@@ -1,6 +1,5 @@
 //! A line of a log, read from its words.
 
-ghost use Rattle.monk_history.specs.Text.Reading.{act_at};
 ghost use Rattle.monk_history.specs.Text.Words.{Reads, one_of};
 ghost use Rattle.monk_logs.specs.Log.Reading.{log_verb_word, log_verbs, line_after, log_line_at};
 
@@ -8,8 +7,8 @@ use crate::text::header::LogHeader;
 use crate::text::line::LogLine;
 use crate::text::log_front::{WINDOW, line_at_front};
 use crate::text::verb::LineVerb;
+use monk_history::act_parts;
 use monk_history::lines::{Flaw, LineWords, Record};
-use monk_object::Op;
 
 impl Record<LogHeader> for LogLine {
     ghost use Rattle.std.specs.Prelude.{IfSome};
@@ -61,21 +60,10 @@ fn line_after(words: &mut LineWords<'_>, verb: LineVerb, seat: u8) -> Result<Log
         LineVerb::Broadcast => Ok(LogLine::Broadcast(seat, words.byte()?)),
         LineVerb::Until => Ok(LogLine::Until(seat, words.byte()?)),
         LineVerb::Act => {
-            let (op, reply) = act(words)?;
+            let (op, reply) = act_parts(words)?;
             Ok(LogLine::Act(seat, op, reply))
         }
     }
-}
-
-/// Reads a code, an argument and a reply.
-#[tactic(auto, unfolding(monk_history::specs::Text::Reading::act_at))]
-fn act(words: &mut LineWords<'_>) -> Result<(Op, u64), Flaw>
-    ensures { Reads result words.new (act_at words.old) }
-{
-    let code = words.byte()?;
-    let arg = words.number(u64::from(u32::MAX))? as u32;
-    let reply = words.number(u64::MAX)?;
-    Ok((Op { code, arg }, reply))
 }
 
 #[tactic(auto, unfolding(monk_history::specs::Text::Words::one_of))]

@@ -20,8 +20,8 @@ pub(crate) fn left_behind_word<'a>(line: &'a [u8], word: &[u8]) -> Option<Option
 /// A number must be below this if one more digit is to fit.
 const ROOM_FOR_A_DIGIT: u64 = 1 << 59;
 
-/// Returns the first word of the line if it is a number of at most seventeen digits, and what is left of the line
-/// after it.
+/// Returns the first word of the line if it is a number of at most eighteen digits, or a small one of nineteen, and
+/// what is left of the line after it.
 #[inline(always)]
 pub(crate) fn left_behind_number(line: &[u8]) -> Option<(u64, Option<&[u8]>)>
     ensures { IfSome result (λ x. words_of line.now ≡ decimal x.0 ∷ words_left (option_copied x.1)) }

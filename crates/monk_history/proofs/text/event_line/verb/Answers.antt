@@ -68,8 +68,8 @@ returns-then-takes-8 c =
 
 pub returns-then-takes-9 : goal.returns-then-takes-9
 returns-then-takes-9 c =
-    verb-next c.args.version verb.SignalAll c.args.words.now c.takes-else-version-lt2.new.self
-    (omega (arith, c.if-version-lt2.false))
+    verb-next c.args.version verb.SignalAll c.args.words.now c.takes-else-version-lt-ALL_EVENTS_VERSION.new.self
+    (omega (arith, c.if-version-lt-ALL_EVENTS_VERSION.false))
     (c.takes.ensures.left c.if-takes.false ∙ c.takes-else-takes.ensures.left c.if-takes-2.false
     ∙ c.takes-else-takes-2.ensures.left c.if-takes-3.false
     ∙ c.takes-else-takes-3.ensures.left c.if-takes-4.false
@@ -77,12 +77,12 @@ returns-then-takes-9 c =
     ∙ c.takes-else-takes-5.ensures.left c.if-takes-6.false
     ∙ c.takes-else-takes-6.ensures.left c.if-takes-7.false
     ∙ c.takes-else-takes-7.ensures.left c.if-takes-8.false
-    ∙ c.takes-else-version-lt2.ensures.taken c.if-takes-9.true)
+    ∙ c.takes-else-version-lt-ALL_EVENTS_VERSION.ensures.taken c.if-takes-9.true)
 
 pub returns-then-takes-10 : goal.returns-then-takes-10
 returns-then-takes-10 c =
     verb-next c.args.version verb.SignalWait c.args.words.now c.takes-else-takes-9.new.self
-    (omega (arith, c.if-version-lt2.false))
+    (omega (arith, c.if-version-lt-ALL_EVENTS_VERSION.false))
     (c.takes.ensures.left c.if-takes.false ∙ c.takes-else-takes.ensures.left c.if-takes-2.false
     ∙ c.takes-else-takes-2.ensures.left c.if-takes-3.false
     ∙ c.takes-else-takes-3.ensures.left c.if-takes-4.false
@@ -90,11 +90,11 @@ returns-then-takes-10 c =
     ∙ c.takes-else-takes-5.ensures.left c.if-takes-6.false
     ∙ c.takes-else-takes-6.ensures.left c.if-takes-7.false
     ∙ c.takes-else-takes-7.ensures.left c.if-takes-8.false
-    ∙ c.takes-else-version-lt2.ensures.left c.if-takes-9.false
+    ∙ c.takes-else-version-lt-ALL_EVENTS_VERSION.ensures.left c.if-takes-9.false
     ∙ c.takes-else-takes-9.ensures.taken c.if-takes-10.true)
 
-pub returns-then-version-lt2 : goal.returns-then-version-lt2
-returns-then-version-lt2 c =
+pub returns-then-version-lt-ALL_EVENTS_VERSION : goal.returns-then-version-lt-ALL_EVENTS_VERSION
+returns-then-version-lt-ALL_EVENTS_VERSION c =
     let same2 = c.takes.ensures.left c.if-takes.false in
     let same3 = same2 ∙ c.takes-else-takes.ensures.left c.if-takes-2.false in
     let same4 = same3 ∙ c.takes-else-takes-2.ensures.left c.if-takes-3.false in
@@ -113,7 +113,7 @@ returns-then-version-lt2 c =
           ∙ c.if-takes-6.false;
       until = ap (is_next (codes "until")) same7 ∙ sym c.takes-else-takes-6.ensures.is ∙ c.if-takes-7.false;
       resume = ap (is_next (codes "resume")) same8 ∙ sym c.takes-else-takes-7.ensures.is ∙ c.if-takes-8.false;
-    } (λ has. absurd (omega (arith, has, c.if-version-lt2.true)))
+    } (λ has. absurd (omega (arith, has, c.if-version-lt-ALL_EVENTS_VERSION.true)))
 
 pub returns-else-takes-10 : goal.returns-else-takes-10
 returns-else-takes-10 c =
@@ -125,7 +125,7 @@ returns-else-takes-10 c =
     let same7 = same6 ∙ c.takes-else-takes-5.ensures.left c.if-takes-6.false in
     let same8 = same7 ∙ c.takes-else-takes-6.ensures.left c.if-takes-7.false in
     let same9 = same8 ∙ c.takes-else-takes-7.ensures.left c.if-takes-8.false in
-    let same10 = same9 ∙ c.takes-else-version-lt2.ensures.left c.if-takes-9.false in
+    let same10 = same9 ∙ c.takes-else-version-lt-ALL_EVENTS_VERSION.ensures.left c.if-takes-9.false in
     verb-none c.args.version c.args.words.now
     record {
       enter = sym c.takes.ensures.is ∙ c.if-takes.false;
@@ -138,6 +138,7 @@ returns-else-takes-10 c =
       until = ap (is_next (codes "until")) same7 ∙ sym c.takes-else-takes-6.ensures.is ∙ c.if-takes-7.false;
       resume = ap (is_next (codes "resume")) same8 ∙ sym c.takes-else-takes-7.ensures.is ∙ c.if-takes-8.false;
     } (λ has. (
-      ap (is_next (codes "signal-all")) same9 ∙ sym c.takes-else-version-lt2.ensures.is ∙ c.if-takes-9.false,
+      ap (is_next (codes "signal-all")) same9
+          ∙ sym c.takes-else-version-lt-ALL_EVENTS_VERSION.ensures.is ∙ c.if-takes-9.false,
       ap (is_next (codes "signal-wait")) same10 ∙ sym c.takes-else-takes-9.ensures.is ∙ c.if-takes-10.false,
     ))
