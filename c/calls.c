@@ -76,22 +76,29 @@ static int is_sent_home(const monk_seat *s) {
     return 1;
 }
 
-/* Waits until the seat is inside. A stop sends it home, unless it comes for a look at the history. The bell is read
- * before the poll and the stop flag. If these miss a grant or a stop, it rings later, and then the thread doesn't
- * fall asleep, or is woken. */
-static int come_in(monk_seat *s, const struct timespec *limit) {
-    monk_monitor *m = s->monitor;
-    int answer = poll_once(s), in_time = 1;
-    if (answer != MONK_WAITING) return answer;
-    bell *b = bell_of(m, monk_k_word(s->token));
-    for (;;) {
+/* Waits for that word, at its bell. The bell is read before the poll and the stop flag. If these miss a grant or a
+ * stop, it rings later, and then the thread doesn't fall asleep, or is woken. */
+static int come_in_at(monk_seat *s, size_t word, bell *b, const struct timespec *limit) {
+    for (int in_time = 1;;) {
         uint32_t seen = atomic_load(&b->rings);
-        answer = poll_once(s);
+        int answer = poll_once(s);
         if (answer != MONK_WAITING) return answer;
         if (is_sent_home(s)) return MONK_STOPPED;
         if (!in_time) return MONK_WAITING;
-        if (!rings_soon(b, seen, m->seat_count)) in_time = sleep_on(&b->rings, seen, limit);
+        if (!rings_within(b, seen, looks_for(s->monitor, word))) in_time = sleep_at(b, seen, limit);
     }
+}
+
+/* Waits until the seat is inside. A stop sends it home, unless it comes for a look at the history. */
+static int come_in(monk_seat *s, const struct timespec *limit) {
+    int answer = poll_once(s);
+    if (answer != MONK_WAITING) return answer;
+    size_t word = monk_k_word(s->token);
+    bell *b = bell_of(s->monitor, word);
+    atomic_store_explicit(&b->waiter, AWAKE, memory_order_relaxed);
+    answer = come_in_at(s, word, b, limit);
+    atomic_store_explicit(&b->waiter, NONE, memory_order_relaxed);
+    return answer;
 }
 
 /* The rest of a call that has started, and may have to wait. */

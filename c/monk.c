@@ -2,6 +2,7 @@
  * and histories become files. In calls.c threads sleep and are woken. The kernel decides who goes on, and records it.
  * Nothing in these files is proved. docs/C.md argues why no wake-up is missed. */
 #include "seats.h"
+#include <sched.h>
 
 #ifndef MONK_BUILT
 #define MONK_BUILT "proved kernel"
@@ -127,13 +128,19 @@ static void set_up(monk_monitor *m, const monk_shape *shape, uint32_t budget) {
     }
 }
 
+/* On how many processors this thread may run. */
+static unsigned processors(void) {
+    cpu_set_t set;
+    return sched_getaffinity(0, sizeof set, &set) == 0 ? (unsigned)CPU_COUNT(&set) : 1;
+}
+
 int monk_make(monk_monitor **out, const monk_shape *shape) {
     if (!out || !shape || !is_in_range(shape)) return MONK_RANGE;
     size_t each = (monk_k_seat_size() + LINE - 1) / LINE * LINE;
     monk_monitor *m = aligned_alloc(LINE, sizeof *m);
     void *room = aligned_alloc(LINE, each * shape->seats);
     if (!m || !room) return free(m), free(room), MONK_MEMORY;
-    *m = (monk_monitor){.kind = shape->kind, .seat_count = shape->seats, .room = room};
+    *m = (monk_monitor){.kind = shape->kind, .seat_count = shape->seats, .room = room, .processors = processors()};
     for (size_t at = 0; at < each * shape->seats; at++) ((char *)room)[at] = 0;
     for (unsigned i = 0; i < shape->seats; i++) m->tokens[i].at = (char *)room + each * i;
     uint32_t budget = shape->budget ? shape->budget : USUAL_BUDGET;

@@ -21,7 +21,11 @@ enum {
     USUAL_BUDGET = 65536,
     BELLS = 2 * MOST_SEATS,     /* one for each word of a hall at which seats wait: 1 to 64 */
     LINE = 64,                  /* bytes that processors pass on together */
-    SPINS = 1024,               /* as the hall spins: looks, divided by the square of the number of seats */
+    LOOKS = 512,                /* how often a seat looks before it sleeps, for each visit that comes before its own:
+                                   some 3 us, about as long as a thread takes to wake */
+    INNER_LOOKS = 1024,         /* how often a seat looks that waits inside, where nobody knows when its turn comes */
+    CROWD_LOOKS = 1024,         /* with more threads than processors: divided by the square of the number of seats */
+    A_TRY = 2,                  /* one grant of so many wakes ahead even if who was let in slept */
     PATIENCE_MS = 1000,
     VISIT = 2,                  /* events that a visit needs: an enter and a leave */
     NOBODY = 0,                 /* the word that was granted if none was */
@@ -45,8 +49,12 @@ static inline void show(void *at) {
 /* Whether somebody has a seat. A lending is the time for which somebody has it; each has a number. */
 typedef enum lent { FREE, TAKEN, ABANDONED, LENT_STATES } lent;
 
+/* What the thread does that waits at a bell. */
+typedef enum waiter { NONE, AWAKE, ASLEEP } waiter;
+
 typedef struct bell {
     _Alignas(LINE) _Atomic uint32_t rings;
+    _Atomic uint32_t waiter;            /* what its thread does; written by that thread alone, or 0 */
     _Atomic int file;                   /* an eventfd by which an event loop waits for this bell, plus 1; else 0 */
     _Atomic int is_minded;              /* its seat was abandoned: the library lets it come in, and leave */
 } bell;
@@ -76,6 +84,8 @@ struct monk_monitor {
     uint32_t bits;                              /* a copy of the flags, touched by the seat that is inside */
     uint32_t broadcasts[MOST_CONDITIONS];       /* how many there were on each condition, touched as `bits` is */
     _Atomic int stopped, closed;
+    unsigned processors;                        /* that it may use */
+    _Atomic unsigned lent;                      /* how many seats are lent; changed under the lock */
     _Atomic uint32_t lock;                      /* for lending, and for abandoned seats that a release lets in */
     monk_seat *reader;                          /* the seat that closed it, through which the history is read */
     void *room;                                 /* memory of the tokens */
@@ -98,19 +108,47 @@ static inline int sleep_on(_Atomic uint32_t *at, uint32_t seen, const struct tim
 /* The bell of a word: each word has its own, because words count from 1 and there are two for each seat. */
 static inline bell *bell_of(monk_monitor *m, size_t word) { return &m->bells[(word - 1) % BELLS]; }
 
-/* Wakes at most that many threads that sleep there, and an event loop. (It doesn't use the C library's write, because
- * a thread could be cancelled in it.) */
-static inline void ring_for(bell *b, int most) {
-    atomic_fetch_add(&b->rings, 1);
+/* Wakes at most that many threads that sleep there. A thread says that it is asleep, and then the system lets it sleep
+ * if the bell hasn't rung since it looked. One that rings does that first, and then reads what the thread said. So it
+ * finds a thread that falls asleep. Returns whether it found one. */
+static inline int wake(bell *b, int most) {
+    if (atomic_load(&b->waiter) != ASLEEP) return 0;
     futex_wake(&b->rings, most);
-    int file = atomic_load(&b->file) - 1;
-    if (file != NO_FILE) syscall(SYS_write, file, &(uint64_t){1}, sizeof(uint64_t));
+    return 1;
 }
 
-/* Wakes the thread that waits for that word. The kernel has granted it before. */
+/* Wakes at most that many threads that sleep there, and an event loop. (It doesn't use the C library's write, because
+ * a thread could be cancelled in it.) Returns whether to wake ahead: nobody slept there, or it is to be tried. */
+static inline int ring_for(bell *b, int most) {
+    uint32_t rung = atomic_fetch_add(&b->rings, 1);
+    int slept = wake(b, most);
+    int file = atomic_load(&b->file) - 1;
+    if (file != NO_FILE) syscall(SYS_write, file, &(uint64_t){1}, sizeof(uint64_t));
+    return !slept || rung % A_TRY == 0;
+}
+
+/* The places of tickets are the odd words, in the order of their turns; after the last comes the first. */
+static inline int is_for_entry(size_t word) { return word % 2 == 1; }
+
+static inline size_t word_after(const monk_monitor *m, size_t word) {
+    return word + 2 < 2 * (size_t)m->seat_count ? word + 2 : 1;
+}
+
+static inline size_t word_before(const monk_monitor *m, size_t word) {
+    return word > 2 ? word - 2 : 2 * (size_t)m->seat_count - 1;
+}
+
+/* Whether there may be more threads than processors. One that looks would keep another from running. */
+static inline int is_crowded(monk_monitor *m) {
+    return atomic_load_explicit(&m->lent, memory_order_relaxed) > m->processors;
+}
+
+/* Wakes the thread that waits for that word. The kernel has granted it before. It also wakes the one whose turn to
+ * enter comes next, so that it is awake by then: else each hand-over takes as long as a wake. If the first one slept,
+ * a visit takes longer than the next one would look, and it is only tried now and then. */
 static inline bell *ring(monk_monitor *m, size_t word) {
     bell *b = bell_of(m, word);
-    ring_for(b, 1);
+    if (ring_for(b, 1) && is_for_entry(word) && !is_crowded(m)) wake(bell_of(m, word_after(m, word)), 1);
     return b;
 }
 
@@ -120,13 +158,34 @@ static inline void pause_processor(void) {
 #endif
 }
 
-/* Whether the bell rings soon. The thread looks for a while before it sleeps. */
-static inline int rings_soon(bell *b, uint32_t seen, unsigned seats) {
-    for (unsigned looks = SPINS / (seats * seats) + 1; looks > 0; looks--) {
+/* How often a thread looks for the ring for that word before it sleeps: the oftener, the more visits come first. It
+ * counts those that wait right before it, and may miss one. Only time rests on it. */
+static inline unsigned looks_for(monk_monitor *m, size_t word) {
+    if (is_crowded(m)) return CROWD_LOOKS / (m->seat_count * m->seat_count) + 1;
+    if (!is_for_entry(word)) return INNER_LOOKS;
+    unsigned visits = 1;
+    for (size_t at = word_before(m, word); at != word; at = word_before(m, at)) {
+        if (atomic_load_explicit(&bell_of(m, at)->waiter, memory_order_relaxed) == NONE) break;
+        visits++;
+    }
+    return visits * LOOKS;
+}
+
+/* Whether the bell rings within so many looks. */
+static inline int rings_within(bell *b, uint32_t seen, unsigned looks) {
+    for (; looks > 0; looks--) {
         if (atomic_load_explicit(&b->rings, memory_order_relaxed) != seen) return 1;
         pause_processor();
     }
     return 0;
+}
+
+/* Sleeps until the bell rings, or until the limit. 0 if the time is over. */
+static inline int sleep_at(bell *b, uint32_t seen, const struct timespec *limit) {
+    atomic_store(&b->waiter, ASLEEP);
+    int in_time = sleep_on(&b->rings, seen, limit);
+    atomic_store_explicit(&b->waiter, AWAKE, memory_order_relaxed);
+    return in_time;
 }
 
 /* ---- The monitor's lock. It isn't a mutex of the system, because a program may replace pthread_mutex_lock by
@@ -163,8 +222,9 @@ static inline monk_seat *handle_of(monk_seat *s, uint32_t lending) {
 
 static inline lent lent_of(monk_seat *s) { return (lent)(atomic_load(&s->lent) % LENT_STATES); }
 
-/* Under the lock. */
+/* Under the lock. A seat that is lent becomes free or abandoned, or one that is abandoned free. */
 static inline void set_lent(monk_seat *s, lent how) {
+    if (lent_of(s) == TAKEN) atomic_fetch_sub(&s->monitor->lent, 1);
     atomic_store(&s->lent, atomic_load(&s->lent) / LENT_STATES * LENT_STATES + how);
 }
 
@@ -172,6 +232,7 @@ static inline void set_lent(monk_seat *s, lent how) {
 static inline monk_seat *lent_anew(monk_seat *s) {
     uint32_t lending = (atomic_load(&s->lent) / LENT_STATES + 1) % LENDINGS;
     atomic_store(&s->lent, lending * LENT_STATES + TAKEN);
+    atomic_fetch_add(&s->monitor->lent, 1);
     return handle_of(s, lending);
 }
 

@@ -5,7 +5,7 @@ use denote.Param.Send.{recorded_send, recorded_sync, view_send, view_sync}
 use denote.Struct.Declared.{shape}
 use denote.Struct.Owning as owning
 use denote.Struct.Struct.{Struct}
-use Rattle.std.proofs.Crossing.{frees, Box-send, send as heap_send, sync as heap_sync}
+use Rattle.std.proofs.Crossing.{crosses, frees, Box-send, Vec-send, Vec-sync, send as heap_send, sync as heap_sync}
 use Rattle.std.specs.contracts.alloc.Global as Heap
 use Rattle.std.specs.contracts.impls.GlobalAllocator.TheImpl.{ghosts}
 use Rattle.std.specs.contracts.option.Option as Option
@@ -31,6 +31,8 @@ use Rattle.monk_hall.specs.contracts.rule.HallRule as HallRule
 use Rattle.monk_hall.specs.contracts.rule.HallRuleTableRuleOptionBoxedFloorViewSetup.TheImpl as RuleImpl
 use Rattle.monk_hall.specs.contracts.seat_numbers.SeatNumbers as SeatNumbers
 use Rattle.monk_hall.specs.contracts.setup.Setup as Setup
+use Rattle.monk_hall.specs.contracts.sleepers.Sleepers as Sleepers
+use Rattle.monk_hall.specs.contracts.steps.Words as Words
 use Rattle.monk_hall.specs.contracts.hall.Hall as Hall
 use Rattle.monk_hall.specs.contracts.hall.Hall.TheInside as HallInside
 use Rattle.monk_hall.specs.contracts.parked.Parked as Parked
@@ -87,16 +89,31 @@ boxed_floor_send : (K T : RattleType) (k : Kind.Ghosts K.Denot) (t : Guarded.Gho
     → IsSend (BoxedFloor.the_row K T k t)
 boxed_floor_send K T k t sk st = view_send (BoxedFloorInside.the_row K T k t) _ _ _ _ (boxed_floor_inside K T k t sk st)
 
-hall_inside : (K T : RattleType) (k : Kind.Ghosts K.Denot) (t : Guarded.Ghosts T.Denot) → IsSend K → IsSend T
-    → IsSync (HallInside.the_row K T k t)
-hall_inside K T k t sk st =
-    let all : AllSync (shape (HallInside.the_type K T k t)).fields = (
+sleepers_sync : IsSync (Sleepers.the_field).row
+sleepers_sync = struct_sync (shape Sleepers.the_type) (Vec-sync _ (search crosses depth 20), tt)
+
+sleepers_send : IsSend (Sleepers.the_field).row
+sleepers_send = struct_send (shape Sleepers.the_type) (Vec-send _ (search crosses depth 20), tt)
+
+words_sync : (K T : RattleType) (k : Kind.Ghosts K.Denot) (t : Guarded.Ghosts T.Denot) → IsSend K → IsSend T
+    → IsSync (Words.the_field K T k t).row
+words_sync K T k t sk st =
+    let all : AllSync (shape (Words.the_type K T k t)).fields = (
       table_sync (Option.the_row (BoxedFloor.the_row K T k t))
           (LinkedList.the_row SeatRecord.the_row Heap.the_row ghosts)
           (Setup.the_row T) (HallRule.the_row K T)
           (RuleImpl.ghosts K T k RuleImpl.no_dict t RuleImpl.no_dict RuleImpl.no_dict RuleImpl.no_dict)
           (option_send (BoxedFloor.the_row K T k t) (boxed_floor_send K T k t sk st)),
-      (search sendable, tt),
+      (sleepers_sync, tt),
+    ) in
+    struct_sync (shape (Words.the_type K T k t)) all
+
+hall_inside : (K T : RattleType) (k : Kind.Ghosts K.Denot) (t : Guarded.Ghosts T.Denot) → IsSend K → IsSend T
+    → IsSync (HallInside.the_row K T k t)
+hall_inside K T k t sk st =
+    let all : AllSync (shape (HallInside.the_type K T k t)).fields = (
+      words_sync K T k t sk st,
+      (search sendable, (search sendable, tt)),
     ) in
     recorded_sync _ _ _ ((HallInside.the_type K T k t).to_one) (struct_sync (shape (HallInside.the_type K T k t)) all)
 
@@ -179,16 +196,25 @@ table_send S V K P g s =
     ) in
     struct_send (shape (Table.the_type S V K P Heap.the_row g ghosts)) all
 
-pub hall_send : (K T : RattleType) (k : Kind.Ghosts K.Denot) (t : Guarded.Ghosts T.Denot) → IsSend K → IsSend T
-    → IsSend (Hall.the_row K T k t)
-hall_send K T k t sk st =
-    let all : AllSend (shape (HallInside.the_type K T k t)).fields = (
+words_send : (K T : RattleType) (k : Kind.Ghosts K.Denot) (t : Guarded.Ghosts T.Denot) → IsSend K → IsSend T
+    → IsSend (Words.the_field K T k t).row
+words_send K T k t sk st =
+    let all : AllSend (shape (Words.the_type K T k t)).fields = (
       table_send (Option.the_row (BoxedFloor.the_row K T k t))
           (LinkedList.the_row SeatRecord.the_row Heap.the_row ghosts)
           (Setup.the_row T) (HallRule.the_row K T)
           (RuleImpl.ghosts K T k RuleImpl.no_dict t RuleImpl.no_dict RuleImpl.no_dict RuleImpl.no_dict)
           (option_send (BoxedFloor.the_row K T k t) (boxed_floor_send K T k t sk st)),
-      (search sendable, tt),
+      (sleepers_send, tt),
+    ) in
+    struct_send (shape (Words.the_type K T k t)) all
+
+pub hall_send : (K T : RattleType) (k : Kind.Ghosts K.Denot) (t : Guarded.Ghosts T.Denot) → IsSend K → IsSend T
+    → IsSend (Hall.the_row K T k t)
+hall_send K T k t sk st =
+    let all : AllSend (shape (HallInside.the_type K T k t)).fields = (
+      words_send K T k t sk st,
+      (search sendable, (search sendable, tt)),
     ) in
     view_send (HallInside.the_row K T k t) _ _ _ _
     (recorded_send _ _ _ ((HallInside.the_type K T k t).to_one) (struct_send (shape (HallInside.the_type K T k t)) all))

@@ -46,7 +46,7 @@ stands_still c words ws at bt j w x place count word = record {
 }
 
 -- no word of a seat is the ticket word
-not_first : (seats j w : ℕ) (p : Place) → waiting_word_at seats j p ≡ w → 0 ≢ w
+pub not_first : (seats j w : ℕ) (p : Place) → waiting_word_at seats j p ≡ w → 0 ≢ w
 not_first seats j w Idle e z = omega arith
 not_first seats j w (Ticket t) e z = omega arith
 not_first seats j w (Due q) e z = omega arith
@@ -55,16 +55,16 @@ not_first seats j w (Back x to) e z = omega arith
 not_first seats j w (Passing t to) e z = omega arith
 not_first seats j w Inner e z = omega arith
 
-holds_active : (p : Place) → stage p ≡ active_stage → HoldsRight p
+pub holds_active : (p : Place) → stage p ≡ active_stage → HoldsRight p
 holds_active p e = subst HoldsRight (sym (standing.active_at p e)) tt
 
-holds_due : (p : Place) → stage p ≡ due_stage → HoldsRight p
+pub holds_due : (p : Place) → stage p ≡ due_stage → HoldsRight p
 holds_due p e = subst HoldsRight (sym (standing.due_at p e)) tt
 
-holds_passing : (p : Place) → stage p ≡ passing_stage → HoldsRight p
+pub holds_passing : (p : Place) → stage p ≡ passing_stage → HoldsRight p
 holds_passing p e = subst HoldsRight (sym (standing.passing_at p e)) tt
 
-holds_chosen : (p : Place) (m : ℕ) → back_turn p ≡ due_to m → HoldsRight p
+pub holds_chosen : (p : Place) (m : ℕ) → back_turn p ≡ due_to m → HoldsRight p
 holds_chosen Idle m e = absurd (omega arith)
 holds_chosen (Ticket t) m e = absurd (omega arith)
 holds_chosen (Due q) m e = tt
@@ -78,7 +78,7 @@ module _ (k : Rules) (o : Object) (c : Setting) (s : HallState) (h : IsHall k o 
   one = right_in_one_place k o c s h
 
   -- while a grant is in its word, nobody has the right
-  nobody_holds : (j w : ℕ) → Stands c s.words h.0 j w → (i : ℕ) → HoldsRight (h.0 i).place → ⊥
+  pub nobody_holds : (j w : ℕ) → Stands c s.words h.0 j w → (i : ℕ) → HoldsRight (h.0 i).place → ⊥
   nobody_holds j w x i holds = let with_i = (one.with_seat i).0 holds in ⊎_elim
       (λ y. let at = standing.ticket_at (h.0 j).place y.0 in
       let t : ℕ = ticket (h.0 j).place in
@@ -98,7 +98,7 @@ module _ (k : Rules) (o : Object) (c : Setting) (kind : IsKind k) (steps : List 
   h = led.hall
 
   -- a move of views doesn't change where each seat is
-  moved_stays : (x : Step) (t : HallState) → IsStep k o c s x t → IsMoveOf x
+  pub moved_stays : (x : Step) (t : HallState) → IsStep k o c s x t → IsMoveOf x
       → (more : List Step) (next : IsLed k o c more t) (j : ℕ) → j < c.seats
       → ((next.hall.0 j).place ≡ (h.0 j).place) × ((next.hall.0 j).count ≡ (h.0 j).count)
   moved_stays x t step move more next j near =

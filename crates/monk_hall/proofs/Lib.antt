@@ -39,5 +39,7 @@ mod ScheduleMoves
 mod Reached
 mod GrantStands
 mod GrantsTaken
+mod HandedOver
+mod NoWakeMissed
 mod CompleteLaws
 pub mod PublicLaws

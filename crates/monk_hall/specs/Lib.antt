@@ -18,3 +18,5 @@ pub mod NextTicket
 pub mod FewSteps
 pub mod Schedules
 pub mod GrantsInTurn
+pub mod HandOver
+pub mod Wakes

@@ -1,5 +1,6 @@
 ghost use Rattle.std.specs.Prelude.{◌≡◌, IfOk};
 
+use crate::steps::alone::Alone;
 use monk_floor::Floor;
 use monk_kinds::Kind;
 use monk_object::Guarded;
@@ -31,8 +32,8 @@ impl<K: Kind, T: Guarded> BoxedFloor<K, T> {
         })
     }
 
-    /// Returns the floor alone.
-    pub(crate) fn into_inner(self) -> Floor<K, T>
+    /// Returns the floor alone, when its hall ends: only a look that found nobody else lets it out of its box.
+    pub(crate) fn into_inner(self, _alone: Alone) -> Floor<K, T>
         ensures { result ≡ self }
     {
         Box::into_inner(self.floor)

@@ -1,11 +1,14 @@
 //! How a hall ends.
-ghost use Rattle.std.specs.Prelude.{◌≡◌, true, false, IfOk, IfErr};
+ghost use Rattle.std.specs.Prelude.{◌≡◌, None, true, false, IfOk, IfErr};
+ghost use Rattle.monk_hall.specs.Calls.{HasPeeked};
 ghost use Rattle.monk_hall.specs.Closing.{HasSomebody, IsUnqueued, IsEnded, IsBusy};
 
 use crate::active::Active;
 use crate::busy::Busy;
 use crate::closed::Closed;
 use crate::hall::Hall;
+use crate::steps;
+use crate::steps::alone::Alone;
 use monk_floor::Floor;
 use monk_kinds::{Kind, Pick};
 use monk_object::Guarded;
@@ -41,15 +44,24 @@ pub fn close<K: Kind, T: Guarded>(
         return Err(Busy { hall, active });
     }
     let mut active = active;
-    if active.peek(&hall) {
-        return Err(Busy { hall, active });
+    match active.peek_alone(&hall) {
+        None => Err(Busy { hall, active }),
+        Some(alone) => Ok(active.end(alone)),
     }
-    Ok(active.end())
 }
 
 impl<K: Kind, T: Guarded> Active<K, T> {
-    /// Makes the last seat leave. Returns the object and the history.
-    fn end(self) -> Closed<T>
+    /// Looks at the ticket word, in the one step by which a hall ends.
+    fn peek_alone(&mut self, hall: &Hall<K, T>) -> Option<Alone>
+        requires { self.old.hall ≡ hall.now.id }
+        ensures peeked { HasPeeked 1 self.old self.new }
+        ensures known { result ≡ None → self.new.me.known ≡ true }
+    {
+        steps::peek_alone(&hall.words, &mut self.seat)
+    }
+
+    /// Makes the last seat leave. Only a look that found nobody lets the floor go. Returns the object and the history.
+    fn end(self, alone: Alone) -> Closed<T>
         requires { IsUnqueued K.rules T.meaning self.floor self.floor.seats }
         ensures { IsEnded K.rules T.meaning self result.history.items (T.state result.object) }
     {
@@ -58,7 +70,7 @@ impl<K: Kind, T: Guarded> Active<K, T> {
             numbers,
             floor,
         } = self;
-        let mut floor = floor.into_inner();
+        let mut floor = floor.into_inner(alone);
         floor.leave(numbers.seat, Pick::Entry, false);
         let (object, history) = floor.close();
         Closed { object, history }

@@ -3,7 +3,6 @@ ghost use Rattle.std.specs.Prelude.{◌≡◌};
 
 use crate::active::Active;
 use crate::hall::Hall;
-use crate::plays::{Deal, Meet, NeverStep};
 use monk_kinds::Kind;
 use monk_object::Guarded;
 
@@ -17,8 +16,5 @@ pub fn never_two_active<K: Kind, T: Guarded>(
     requires { (a.old.hall ≡ hall.now.id) × (b.old.hall ≡ hall.now.id) }
     ensures { ⊥ }
 {
-    let words = &hall.table.shared;
-    let other = words.split_seat::<Deal>(&mut b.seat);
-    words.join_seat::<Meet>(&mut a.seat, other);
-    words.load::<NeverStep>(&mut a.seat, 0);
+    hall.words.never(&mut a.seat, &mut b.seat);
 }

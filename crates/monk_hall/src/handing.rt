@@ -11,11 +11,10 @@ ghost use Rattle.monk_hall.specs.Records.{IsOne, the};
 ghost use Rattle.monk_hall.specs.Tells.{IsOfTable, IsSameSeat};
 
 use crate::boxed_floor::BoxedFloor;
-use crate::granted::{Granted, seat_grant, ticket_grant};
 use crate::hall::Hall;
 use crate::places::{tickets, unpassed};
-use crate::rule::{SharedTable, TableSeat};
-use crate::steps;
+use crate::rule::TableSeat;
+use crate::steps::{self, Granted, Words, seat_grant, ticket_grant};
 use monk_history::Next;
 use monk_kinds::Kind;
 use monk_object::Guarded;
@@ -41,18 +40,18 @@ pub(crate) fn is_stay(choice: Next) -> bool
 /// After a choice of entry, takes the seat off the ticket word, and grants the next ticket if there is one.
 #[inline(always)]
 fn let_in<K: Kind, T: Guarded>(
-    words: &SharedTable<K, T>,
+    words: &Words<K, T>,
     seat: &mut TableSeat<K, T>,
     seats: u8,
 ) -> Option<Granted<K, T>>
-    requires table { IsOfTable seat.old words.now.table_id words.now.key.seats }
-    requires seats { (seats ≡ words.now.key.seats) × (0 < seats) }
+    requires table { IsOfTable seat.old words.now.table.shared.table_id words.now.table.shared.key.seats }
+    requires seats { (seats ≡ words.now.table.shared.key.seats) × (0 < seats) }
     requires back { IsOne seat.old.me.0
         × ((the seat.old.me.0).place ≡ at.Back Next.Entry (home_at (the seat.old.me.0).place)) }
     ensures table { IsSameSeat seat.old seat.new }
     ensures step { HasHandedOn None (the seat.old.me.0) (the seat.new.me.0) }
     ensures view { seat.new.me ≡ (the seat.new.me.0 ∷ [], seat.old.me.1) }
-    ensures granted { result ≡ granted_last words.now.table_id seats (the seat.new.me.0).did }
+    ensures granted { result ≡ granted_last words.now.table.shared.table_id seats (the seat.new.me.0).did }
 {
     let found = steps::drop_ticket(words, seat);
     let waiting = unpassed(found);
@@ -81,7 +80,7 @@ pub(crate) fn go_home<K: Kind, T: Guarded>(
     ensures view { seat.new.me ≡ (the seat.new.me.0 ∷ [], []) }
     ensures granted { result ≡ granted_last hall.now.id hall.now.setting.seats (the seat.new.me.0).did }
 {
-    let words = &hall.table.shared;
+    let words = &hall.words;
     match seat_called_by(choice) {
         Some(called) => {
             let calls = floor.granted(called);

@@ -8,6 +8,8 @@ ghost use Rattle.monk_hall.specs.NextTicket.{NextTicketWaits, NoTicketWaits, Gra
 ghost use Rattle.monk_hall.specs.FewSteps.{ArrivalsAreFewSteps, PollsAreFewSteps, ComesInFewSteps, ReleasesAreFewSteps};
 ghost use Rattle.monk_hall.specs.FewSteps.{StaysAreFewSteps, BusyIsFewSteps, GrantsAreSteps, UnlookedLearnsNothing};
 ghost use Rattle.monk_hall.specs.GrantsInTurn.{GrantsComeInTurn};
+ghost use Rattle.monk_hall.specs.HandOver.{FloorChangesHands, NeverByReadsAlone};
+ghost use Rattle.monk_hall.specs.Wakes.{NoWakeIsMissed};
 ghost use Rattle.monk_hall.specs.Schedules.{EveryScheduleIsOneHistory};
 
 /// For every kind, object, number of seats and schedule of the table's steps from its opening: the right to be active
@@ -77,6 +79,21 @@ pub fn one_waits_at_a_word()
 /// found it. So no grant comes to a word before the one that is there is taken.
 pub fn grants_come_in_turn()
     ensures { GrantsComeInTurn }
+{}
+
+/// In every schedule, between a step that takes the floor home and the next that takes it out: the seat that took it
+/// home writes a word afterwards, and the seat that takes it out reads there what that step wrote, before it takes the
+/// floor. So a hand-over is never by steps that only read.
+pub fn floor_changes_hands_by_a_word()
+    ensures word { FloorChangesHands }
+    ensures reads { NeverByReadsAlone }
+{}
+
+/// In every run of threads that wait and wake beside the steps of the table: a seat whose thread sleeps sleeps on its
+/// own word, and the mark of that word is set, so its wake isn't skipped; if its grant is there, the wake of that word
+/// is still to come. `specs/Wakes.antt` says what threads do.
+pub fn no_wake_is_missed()
+    ensures { NoWakeIsMissed }
 {}
 
 /// What a call's contract says that its token did is few steps: at most one for an arrival, two for a poll, four for

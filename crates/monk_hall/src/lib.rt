@@ -35,6 +35,7 @@ mod rule;
 mod seat_numbers;
 mod setting;
 mod setup;
+mod sleepers;
 mod steps;
 mod watching;
 
@@ -45,8 +46,8 @@ pub use closed::Closed;
 pub use closing::close;
 pub use completeness::complete;
 pub use excluding::never_two_active;
-pub use granted::Granted;
 pub use hall::Hall;
 pub use meeting::meet;
 pub use parked::Parked;
 pub use pass::Pass;
+pub use steps::Granted;

@@ -10,11 +10,10 @@ ghost use Rattle.monk_hall.specs.Tokens.{tokens};
 use crate::boxed_floor::BoxedFloor;
 use crate::hall::Hall;
 use crate::pass::Pass;
-use crate::plays::Deal;
-use crate::rule::{SharedTable, TableSeat};
+use crate::rule::TableSeat;
 use crate::seat_numbers::SeatNumbers;
 use crate::setup::Setup;
-use atomic_table::{Refused, Table};
+use crate::steps::{First, Words};
 use monk_floor::{Floor, MakeFault};
 use monk_kinds::Kind;
 use monk_object::Guarded;
@@ -72,12 +71,16 @@ fn open<K: Kind, T: Guarded>(
     let mut slots = Vec::new(alloc);
     slots.push(Some(BoxedFloor::make(alloc, floor)?))?;
     let words = zeros(alloc, 2 * seats as usize + 1)?;
-    let (table, first) = match Table::new(alloc, &words, slots, &setup) {
-        Ok(made) => made,
-        Err(Refused { slots: _ }) => return Err(AllocError),
-    };
-    let passes = deal(alloc, &table.shared, first, seats, budget)?;
-    Ok((Hall { table, seats }, passes))
+    let (table, first) = Words::new(alloc, &words, slots, &setup)?;
+    let passes = deal(alloc, &table, first, seats, budget)?;
+    Ok((
+        Hall {
+            words: table,
+            seats,
+            processors: 1,
+        },
+        passes,
+    ))
 }
 
 /// Returns `count` words that are 0.
@@ -90,26 +93,28 @@ fn zeros(alloc: Global, count: usize) -> Result<Vec<u64>, AllocError>
 /// Gives each seat its record, out of the view that has them all.
 fn deal<K: Kind, T: Guarded>(
     alloc: Global,
-    words: &SharedTable<K, T>,
-    mut first: TableSeat<K, T>,
+    words: &Words<K, T>,
+    mut first: First<K, T>,
     seats: u8,
     budget: u32,
 ) -> Result<Vec<Pass<K, T>>, AllocError>
-    requires table { (first.table_id ≡ words.now.table_id) × IsSized words.now.table_id words.now.key.seats }
-    requires numbers { (seats ≡ words.now.key.seats) × (budget ≡ words.now.key.budget) }
-    requires view { first.me ≡ (
+    requires table { (first.seat.table_id ≡ words.now.table.shared.table_id) × IsSized
+        words.now.table.shared.table_id words.now.table.shared.key.seats }
+    requires numbers { (seats ≡ words.now.table.shared.key.seats) × (budget ≡ words.now.table.shared.key.budget) }
+    requires view { first.seat.me ≡ (
       first_view
-          (setting_of (T.state words.now.key.opening.value) seats words.now.key.conds budget),
+          (setting_of (T.state words.now.table.shared.key.opening.value) seats words.now.table.shared.key.conds budget),
       [],
     ) }
     ensures { IfOk result
-        (λ v. v.items ≡ tokens words.now.table_id
-        (first_view (setting_of (T.state words.now.key.opening.value) seats words.now.key.conds budget))) }
+        (λ v. v.items ≡ tokens words.now.table.shared.table_id
+        (first_view (setting_of (T.state words.now.table.shared.key.opening.value) seats
+        words.now.table.shared.key.conds budget))) }
 {
     let mut passes = Vec::new(alloc);
     let mut dealt = 0;
     while dealt < seats {
-        let seat = words.split_seat::<Deal>(&mut first);
+        let seat = words.deal(&mut first);
         passes.push(fresh_pass(seat, dealt, budget))?;
         dealt += 1;
     }

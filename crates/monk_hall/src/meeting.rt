@@ -8,7 +8,6 @@ ghost use Rattle.monk_hall.specs.declared.deed.Deed.TheVariants as deed;
 
 use crate::hall::Hall;
 use crate::pass::Pass;
-use crate::plays::{CompareStep, Meet, Part};
 use crate::record::View;
 use crate::rule::TableSeat;
 use atomic_table::Badge;
@@ -38,12 +37,12 @@ pub fn meet<K: Kind, T: Guarded>(hall: &Hall<K, T>, a: &mut Pass<K, T>, b: &mut 
     ensures second_learns { StartsWith b.new.me.seen a.old.me.seen × StartsWith b.new.me.seen b.old.me.seen }
     ensures told { SeesTruly K.rules T.meaning a.new.me × SeesTruly K.rules T.meaning b.new.me }
 {
-    let words = &hall.table.shared;
+    let words = &hall.words;
     let mut first: TableSeat<K, T> = lift::<K, T>(&mut a.badge);
     let other: TableSeat<K, T> = lift::<K, T>(&mut b.badge);
-    words.join_seat::<Meet>(&mut first, other);
-    words.load::<CompareStep>(&mut first, 0);
-    let second = words.split_seat::<Part>(&mut first);
+    words.join(&mut first, other);
+    words.compare(&mut first);
+    let second = words.part(&mut first);
     a.badge = first.into_badge();
     b.badge = second.into_badge();
 }

@@ -107,7 +107,7 @@ impl<K: Kind, T: Guarded> Parked<K, T> {
             left,
             place: _,
         } = self;
-        let found = steps::ticket_look(&hall.table.shared, &mut seat, hall.seats, ticket);
+        let found = steps::ticket_look(&hall.words, &mut seat, hall.seats, ticket);
         Parked {
             seat,
             numbers,
@@ -129,7 +129,7 @@ impl<K: Kind, T: Guarded> Parked<K, T> {
             left,
             place: _,
         } = self;
-        let found = steps::seat_look(&hall.table.shared, &mut seat, numbers.seat);
+        let found = steps::seat_look(&hall.words, &mut seat, numbers.seat);
         Parked {
             seat,
             numbers: SeatNumbers {
@@ -158,7 +158,7 @@ impl<K: Kind, T: Guarded> Parked<K, T> {
             left: _,
             place: _,
         } = self;
-        let mut floor = steps::floor_out(&hall.table.shared, &mut seat);
+        let mut floor = steps::floor_out(&hall.words, &mut seat);
         record_entry(&mut floor, numbers.seat, source);
         Active {
             seat,

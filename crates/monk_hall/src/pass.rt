@@ -79,7 +79,7 @@ impl<K: Kind, T: Guarded> Pass<K, T> {
             gap: _,
         } = self;
         let mut seat: TableSeat<K, T> = badge.into_seat();
-        let found = steps::arrive(&hall.table.shared, &mut seat);
+        let found = steps::arrive(&hall.words, &mut seat);
         Parked {
             seat,
             numbers,

@@ -13,11 +13,11 @@ ghost use Rattle.monk_hall.specs.Recorded.{HasRecorded};
 
 use crate::active::Active;
 use crate::after::After;
-use crate::granted::Granted;
 use crate::hall::Hall;
 use crate::parked::Parked;
 use crate::pass::Pass;
 use crate::release::Release;
+use crate::steps::Granted;
 use monk_history::{Event, Next};
 use monk_kinds::{Kind, Pick};
 use monk_object::Guarded;

@@ -7,13 +7,13 @@ ghost use Rattle.monk_hall.specs.Recorded.{IsApart, IsRecorded, GoesOutside, Goe
 use crate::active::Active;
 use crate::after::After;
 use crate::boxed_floor::BoxedFloor;
-use crate::granted::Granted;
 use crate::hall::Hall;
 use crate::handing::{go_home, is_stay};
 use crate::parked::Parked;
 use crate::pass::Pass;
 use crate::rule::TableSeat;
 use crate::seat_numbers::SeatNumbers;
+use crate::steps::Granted;
 use monk_history::Next;
 use monk_kinds::Kind;
 use monk_object::Guarded;

@@ -9,13 +9,13 @@ ghost use Rattle.monk_hall.specs.Recorded.{HasRecorded};
 
 use crate::active::Active;
 use crate::after::After;
-use crate::granted::Granted;
 use crate::hall::Hall;
 use crate::parked::Parked;
 use crate::pass::Pass;
 use crate::places::unpassed;
 use crate::release::Release;
 use crate::steps;
+use crate::steps::Granted;
 use monk_history::{Event, Next};
 use monk_kinds::{Automatic, Conditional, Explicit, ImmediateReturn, Kind, NonBlocking, Pick};
 use monk_object::Guarded;
@@ -34,7 +34,7 @@ impl<K: Kind, T: Guarded> Active<K, T> {
         ensures peeked { HasPeeked 1 self.old self.new }
         ensures known { result ≡ self.new.me.known }
     {
-        let found = steps::peek(&hall.table.shared, &mut self.seat);
+        let found = steps::peek(&hall.words, &mut self.seat);
         unpassed(found) >= 2
     }
 

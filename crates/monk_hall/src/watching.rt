@@ -7,17 +7,28 @@ ghost use Rattle.monk_hall.specs.Layout.{waiting_word};
 use crate::active::Active;
 use crate::hall::Hall;
 use crate::parked::Parked;
+use crate::places::{tickets, unpassed};
 use crate::steps::{seat_word, ticket_word};
+use monk_history::MOST_SEATS;
 use monk_kinds::Kind;
 use monk_object::Guarded;
 use monk_world::Place;
-use std::hint::spin_loop;
 use std::sync::Wait;
+use std::sync::atomic::AtomicU64;
+use std::sync::atomic::Ordering::SeqCst;
 
-/// How often the seat of a one-seat hall looks before its thread sleeps. With n seats each looks `SPINS / n^2` times.
-/// The reason is that its turn comes after those of the others, and that threads that spin keep others from their
-/// processor.
-const SPINS: u32 = 1024;
+// The kit's `spin_loop` does nothing. So a look is followed by an atomic step on a word of the thread's own. That takes
+// some 20 cycles however the program is compiled: as long as a processor's own instruction for this.
+
+/// How often a seat with a ticket looks before its thread sleeps, for each visit that comes before its own: some 3
+/// microseconds, about as long as a thread takes to wake.
+const LOOKS: u32 = 512;
+
+/// How often a seat looks that waits inside, where nobody knows when its turn comes.
+const INNER_LOOKS: u32 = 1024;
+
+/// How often a seat looks with more threads than processors, divided by the square of the number of seats.
+const CROWD_LOOKS: u32 = 1024;
 
 /// A waiting seat that has looked at its word and has not polled yet.
 pub(crate) struct Watched<K: Kind, T: Guarded> {
@@ -48,13 +59,32 @@ impl<K: Kind, T: Guarded> Parked<K, T> {
         }
     }
 
+    /// Returns how often its thread looks for the grant before it sleeps: the oftener, the more visits come first.
+    fn looks(&self, hall: &Hall<K, T>) -> u32
+        requires { self.now.hall ≡ hall.now.id }
+    {
+        if hall.is_crowded() {
+            let seats = u32::from(hall.seats);
+            return CROWD_LOOKS / (seats * seats).max(1);
+        }
+        match self.place {
+            Place::Ticket(ticket) => {
+                let found = hall.words.peek(0);
+                let first = tickets(found).wrapping_sub(unpassed(found));
+                let visits = ticket.wrapping_sub(first);
+                visits.clamp(1, u32::from(MOST_SEATS)) * LOOKS
+            }
+            _ => INNER_LOOKS,
+        }
+    }
+
     /// The first stage: looks at its word.
     pub(crate) fn watch(self, hall: &Hall<K, T>) -> Watched<K, T>
         requires { self.hall ≡ hall.now.id }
         ensures { (result.parked ≡ self) × (result.word ≡ waiting_word self.me) }
     {
         let word = self.word(hall);
-        let seen = hall.table.shared.peek(word);
+        let seen = hall.words.peek(word);
         Watched {
             parked: self,
             word,
@@ -88,13 +118,13 @@ impl<K: Kind, T: Guarded> Polled<K, T> {
         ensures { result ≡ self.parked }
     {
         let Polled { parked, word, seen } = self;
-        let words = &hall.table.shared;
-        let seats = u32::from(hall.seats);
-        for _ in 0..SPINS / (seats * seats).max(1) {
+        let words = &hall.words;
+        let beat = AtomicU64::new(0);
+        for _ in 0..parked.looks(hall) {
             if words.peek(word) != seen {
                 return parked;
             }
-            spin_loop();
+            beat.fetch_add(1, SeqCst);
         }
         words.park(rt, word, (seen % (1 << 32)) as u32);
         parked

@@ -16,17 +16,19 @@ end-requires-after_bounds g c κs within =
     ∙ sym (ap (λ (h : House). h.id) c.hall.view_is)) in
     let floor_seats = ap (λ (f : FloorView). f.seats) inv.goes.is_floor in
     let all : c.hall.inside.seats ≡ c.active.inside.floor.seats = omega arith in
-    unqueued_all g.K.Kind.rules g.T.Guarded.meaning c.active.inside.floor c.peek.new.self.floor c.hall.inside.seats
+    unqueued_all g.K.Kind.rules g.T.Guarded.meaning c.active.inside.floor c.peek_alone.new.self.floor
+    c.hall.inside.seats
     (subst (λ (f : FloorView). IsUnqueued g.K.Kind.rules g.T.Guarded.meaning f c.hall.inside.seats) c.deref.ensures
     (c.has_queued.ensures.none c.if-has_queued.false)) all
-    (ap (λ (a : Holder). a.floor) c.peek.ensures.peeked.is ∙ sym (ap (λ (a : Holder). a.floor) c.active.view_is))
+    (ap (λ (a : Holder). a.floor) c.peek_alone.ensures.peeked.is ∙ sym (ap (λ (a : Holder). a.floor) c.active.view_is))
 
-pub returns-clause-ended : goal.returns-clause-ended
-returns-clause-ended g c =
-    ended_peeked g.K.Kind.rules g.T.Guarded.meaning c.args.active c.peek.new.self c.end.result.history.items
+pub returns-in-Some-clause-ended : goal.returns-in-Some-clause-ended
+returns-in-Some-clause-ended g c =
+    ended_peeked g.K.Kind.rules g.T.Guarded.meaning c.args.active c.peek_alone.new.self c.end.result.history.items
     (g.T.Guarded.state c.end.result.object)
-    (ap (λ (a : Holder). a.floor) c.peek.ensures.peeked.is) (ap (λ (a : Holder). a.me.seat) c.peek.ensures.peeked.is)
-    (ap (λ (a : Holder). a.me.mine) c.peek.ensures.peeked.is) c.end.ensures
+    (ap (λ (a : Holder). a.floor) c.peek_alone.ensures.peeked.is) (ap (λ (a : Holder). a.me.seat)
+    c.peek_alone.ensures.peeked.is)
+    (ap (λ (a : Holder). a.me.mine) c.peek_alone.ensures.peeked.is) c.end.ensures
 
 pub returns-then-has_queued-clause-busy : goal.returns-then-has_queued-clause-busy
 returns-then-has_queued-clause-busy g c = (

@@ -80,7 +80,7 @@ granted-calls-requires g c = (
 pub seat_grant-requires-clause-near : goal.seat_grant-requires-clause-near
 seat_grant-requires-clause-near g c κs within =
     chosen_hall c.requires.released.1 c.in-Some.called (sym c.seat_called_by.ensures ∙ c.in-Some.is)
-    c.hall.inside.table.shared.key.seats
+    c.hall.inside.words.table.shared.key.seats
     (ap (λ (a : TableId). a.words) (c.requires.table ∙ sym (ap (λ (x : House). x.id) c.hall.view_is))
     ∙ c.hall.invariant.0.0)
 

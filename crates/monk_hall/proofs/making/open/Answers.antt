@@ -10,8 +10,8 @@ use Rattle.monk_hall.specs.declared.setting.Setting.{Setting}
 use Rattle.monk_hall.proofs.Reached.{opens}
 use Rattle.monk_hall.proofs.making.open.Goals as goal
 
-pub new-requires : goal.new-requires
-new-requires g c =
+pub new-requires-after_bounds : goal.new-requires-after_bounds
+new-requires-after_bounds g c κs within =
     let setting : Setting = setting_of (g.T.Guarded.state c.args.setup.opening.value) c.args.setup.seats
     c.args.setup.conds c.args.setup.budget in
     let words : List ℕ = c.deref.result.now in

@@ -10,15 +10,15 @@ use Rattle.monk_hall.proofs.MeetLaws.{has_learned, met_rests}
 use Rattle.monk_hall.proofs.Reached.{IsTwo, meets, compares, parts_again}
 use Rattle.monk_hall.proofs.meeting.meet.Goals as goal
 
-pub join_seat-requires : goal.join_seat-requires
-join_seat-requires g c =
+pub join-requires-after_bounds : goal.join-requires-after_bounds
+join-requires-after_bounds g c κs within =
     let sized = c.hall.invariant.0.0 in
     let ia = c.a.invariant in
     let ib = c.b.invariant in
     let va = ap (λ m. m.0) c.lift-first.ensures.1 in
     let vb = ap (λ m. m.0) c.lift-other.ensures.1 in
     let at_hall = sym (ap (λ h. h.id) c.hall.view_is) in
-    let key = c.hall.inside.table.shared.key in (
+    let key = c.hall.inside.words.table.shared.key in (
       c.lift-first.ensures.0 ∙ ap (λ t. t.hall) c.a.view_is ∙ c.requires.0 ∙ at_hall,
       c.lift-other.ensures.0 ∙ ap (λ t. t.hall) c.b.view_is ∙ c.requires.1 ∙ at_hall,
       ap (λ m. m.1) c.lift-other.ensures.1,
@@ -29,47 +29,47 @@ join_seat-requires g c =
           (subst IsOne (sym va) ia.1.one) (subst IsOne (sym vb) ib.1.one) (ap (λ (v : View). (the v).place) va ∙ ia.2),
     )
 
-pub load-requires : goal.load-requires
-load-requires g c =
+pub compare-requires-after_bounds : goal.compare-requires-after_bounds
+compare-requires-after_bounds g c κs within =
     let sized = c.hall.invariant.0.0 in
     let ia = c.a.invariant in
     let ib = c.b.invariant in
     let va = ap (λ m. m.0) c.lift-first.ensures.1 in
     let vb = ap (λ m. m.0) c.lift-other.ensures.1 in
     let at_hall = sym (ap (λ h. h.id) c.hall.view_is) in
-    let key = c.hall.inside.table.shared.key in
-    let both = ap (λ m. m.0) c.join_seat.ensures.2 in (
-      c.join_seat.ensures.0 ∙ c.lift-first.ensures.0 ∙ ap (λ t. t.hall) c.a.view_is ∙ c.requires.0 ∙ at_hall,
+    let key = c.hall.inside.words.table.shared.key in
+    let both = ap (λ m. m.0) c.join.ensures.2 in (
+      c.join.ensures.0 ∙ c.lift-first.ensures.0 ∙ ap (λ t. t.hall) c.a.view_is ∙ c.requires.0 ∙ at_hall,
       omega arith,
       compares g.K.Kind.rules g.T.Guarded.meaning
           (setting_of (g.T.Guarded.state key.opening.value) key.seats key.conds key.budget) g.K.Kind.is_kind _ _
-          c.join_seat.new.seat.me
+          c.join.new.seat.me
           (subst IsTwo (sym both) refl)
           (ap (λ (v : View). (the v).place) both ∙ ap (λ (v : View). (the v).place) va ∙ ia.2)
           (ap (λ (v : View). (the (tail v)).place) both ∙ ap (λ (v : View). (the v).place) vb ∙ ib.2),
     )
 
-pub split_seat-second-requires : goal.split_seat-second-requires
-split_seat-second-requires g c =
+pub part-second-requires-after_bounds : goal.part-second-requires-after_bounds
+part-second-requires-after_bounds g c κs within =
     let sized = c.hall.invariant.0.0 in
     let at_hall = sym (ap (λ h. h.id) c.hall.view_is) in
-    let key = c.hall.inside.table.shared.key in (
-      c.load.ensures.0 ∙ c.join_seat.ensures.0 ∙ c.lift-first.ensures.0 ∙ ap (λ t. t.hall) c.a.view_is
+    let key = c.hall.inside.words.table.shared.key in (
+      c.compare.ensures.0 ∙ c.join.ensures.0 ∙ c.lift-first.ensures.0 ∙ ap (λ t. t.hall) c.a.view_is
           ∙ c.requires.0 ∙ at_hall,
       omega arith,
       parts_again g.K.Kind.rules g.T.Guarded.meaning
-          (setting_of (g.T.Guarded.state key.opening.value) key.seats key.conds key.budget) _ c.load.new.seat.me.0
-          c.join_seat.new.seat.me.0 (ap (λ m. m.0) c.load.ensures.2.0),
+          (setting_of (g.T.Guarded.state key.opening.value) key.seats key.conds key.budget) _ c.compare.new.seat.me.0
+          c.join.new.seat.me.0 (ap (λ m. m.0) c.compare.ensures.2.0),
     )
 
 pub invariant_of-a : goal.invariant_of-a
 invariant_of-a g c =
     let ia = c.a.invariant in
-    let m : View = c.join_seat.new.seat.me.0 in
+    let m : View = c.join.new.seat.me.0 in
     let both : m ≡ view_after_join c.lift-first.result.me.0 c.lift-other.result.me.0 =
-    ap (λ m. m.0) c.join_seat.ensures.2 in
+    ap (λ m. m.0) c.join.ensures.2 in
     let va = ap (λ m. m.0) c.lift-first.ensures.1 in
-    let loaded : c.load.new.seat.me.0 ≡ view_after_compare m = ap (λ m. m.0) c.load.ensures.2.0 in
+    let loaded : c.compare.new.seat.me.0 ≡ view_after_compare m = ap (λ m. m.0) c.compare.ensures.2.0 in
     let from_a : the m ≡ record (the (top c.a.inside.badge.views))
     { did = (the (top c.a.inside.badge.views)).did ++ Meet ∷ [] } = ap the both
     ∙ ap (λ (v : View). record (the v) { did = (the v).did ++ Meet ∷ [] }) va in
@@ -77,66 +77,66 @@ invariant_of-a g c =
     (top c.a.inside.badge.views) c.a.inside.numbers c.a.inside.left
     (the (view_after_compare m))
     c.into_badge.result.views
-    ia.1 ia.2 (c.into_badge.ensures.0 ∙ c.split_seat-second.ensures.0 ∙ c.load.ensures.0
-    ∙ c.join_seat.ensures.0 ∙ c.lift-first.ensures.0)
+    ia.1 ia.2 (c.into_badge.ensures.0 ∙ c.part-second.ensures.0 ∙ c.compare.ensures.0
+    ∙ c.join.ensures.0 ∙ c.lift-first.ensures.0)
     (ap (λ (r : SeatRecord). r.seat) from_a) (ap (λ (r : SeatRecord). r.setting) from_a)
     (ap (λ (r : SeatRecord). r.place) from_a) (ap (λ (r : SeatRecord). r.count) from_a)
     (ap (λ (r : SeatRecord). r.mine) from_a)
-    (subst (λ (v : View). SeesTruly g.K.Kind.rules g.T.Guarded.meaning (the v)) loaded c.load.ensures.2.2)
-    (c.into_badge.ensures.2 ∙ ap (λ (v : View). v ∷ []) (ap (λ m. m.0) c.split_seat-second.ensures.2 ∙ ap head loaded))
+    (subst (λ (v : View). SeesTruly g.K.Kind.rules g.T.Guarded.meaning (the v)) loaded c.compare.ensures.2.2)
+    (c.into_badge.ensures.2 ∙ ap (λ (v : View). v ∷ []) (ap (λ m. m.0) c.part-second.ensures.2 ∙ ap head loaded))
 
 pub invariant_of-b : goal.invariant_of-b
 invariant_of-b g c =
     let ib = c.b.invariant in
-    let m : View = c.join_seat.new.seat.me.0 in
+    let m : View = c.join.new.seat.me.0 in
     let both : m ≡ view_after_join c.lift-first.result.me.0 c.lift-other.result.me.0 =
-    ap (λ m. m.0) c.join_seat.ensures.2 in
+    ap (λ m. m.0) c.join.ensures.2 in
     let vb = ap (λ m. m.0) c.lift-other.ensures.1 in
-    let loaded : c.load.new.seat.me.0 ≡ view_after_compare m = ap (λ m. m.0) c.load.ensures.2.0 in
+    let loaded : c.compare.new.seat.me.0 ≡ view_after_compare m = ap (λ m. m.0) c.compare.ensures.2.0 in
     let from_b : the (tail m) ≡ the (top c.b.inside.badge.views) = ap (λ (v : View). the (tail v)) both ∙ ap the vb in
     met_rests g.K.Kind.rules g.T.Guarded.meaning c.into_badge-2.result.table_id c.b.inside.badge.table_id
     (top c.b.inside.badge.views) c.b.inside.numbers c.b.inside.left
     (the (tail (view_after_compare m))) c.into_badge-2.result.views
-    ib.1 ib.2 (c.into_badge-2.ensures.0 ∙ c.split_seat-second.ensures.3 ∙ c.load.ensures.0 ∙ c.join_seat.ensures.0
+    ib.1 ib.2 (c.into_badge-2.ensures.0 ∙ c.part-second.ensures.3 ∙ c.compare.ensures.0 ∙ c.join.ensures.0
     ∙ c.lift-first.ensures.0 ∙ same_table)
     (ap (λ (r : SeatRecord). r.seat) from_b) (ap (λ (r : SeatRecord). r.setting) from_b)
     (ap (λ (r : SeatRecord). r.place) from_b) (ap (λ (r : SeatRecord). r.count) from_b)
     (ap (λ (r : SeatRecord). r.mine) from_b)
-    (subst (λ (v : View). SeesTruly g.K.Kind.rules g.T.Guarded.meaning (the (tail v))) loaded c.load.ensures.2.3)
+    (subst (λ (v : View). SeesTruly g.K.Kind.rules g.T.Guarded.meaning (the (tail v))) loaded c.compare.ensures.2.3)
     (c.into_badge-2.ensures.2
-    ∙ ap (λ (v : View). v ∷ []) (ap (λ m. m.0) c.split_seat-second.ensures.4 ∙ ap tail loaded))
+    ∙ ap (λ (v : View). v ∷ []) (ap (λ m. m.0) c.part-second.ensures.4 ∙ ap tail loaded))
   where
     same_table : c.a.inside.badge.table_id ≡ c.b.inside.badge.table_id
     same_table = ap (λ t. t.hall) c.a.view_is ∙ c.requires.0 ∙ sym c.requires.1 ∙ sym (ap (λ t. t.hall) c.b.view_is)
 
 pub returns-clause-first_learns : goal.returns-clause-first_learns
 returns-clause-first_learns g c =
-    let m : View = c.join_seat.new.seat.me.0 in
+    let m : View = c.join.new.seat.me.0 in
     let both : m ≡ view_after_join c.lift-first.result.me.0 c.lift-other.result.me.0 =
-    ap (λ m. m.0) c.join_seat.ensures.2 in
-    let loaded : c.load.new.seat.me.0 ≡ view_after_compare m = ap (λ m. m.0) c.load.ensures.2.0 in
-    has_learned (the m).seen (the (tail m)).seen _ _ _ c.load.ensures.2.1
+    ap (λ m. m.0) c.join.ensures.2 in
+    let loaded : c.compare.new.seat.me.0 ≡ view_after_compare m = ap (λ m. m.0) c.compare.ensures.2.0 in
+    has_learned (the m).seen (the (tail m)).seen _ _ _ c.compare.ensures.2.1
     (ap (λ (v : View). (the v).seen) both ∙ ap (λ m. (the m.0).seen) c.lift-first.ensures.1
     ∙ ap (λ t. t.me.seen) c.a.view_is)
     (ap (λ (v : View). (the (tail v)).seen) both ∙ ap (λ m. (the m.0).seen) c.lift-other.ensures.1
     ∙ ap (λ t. t.me.seen) c.b.view_is)
     (ap (λ (vs : List View). (the (top vs)).seen)
-    (c.into_badge.ensures.2 ∙ ap (λ (v : View). v ∷ []) (ap (λ m. m.0) c.split_seat-second.ensures.2 ∙ ap head loaded)))
+    (c.into_badge.ensures.2 ∙ ap (λ (v : View). v ∷ []) (ap (λ m. m.0) c.part-second.ensures.2 ∙ ap head loaded)))
 
 pub returns-clause-second_learns : goal.returns-clause-second_learns
 returns-clause-second_learns g c =
-    let m : View = c.join_seat.new.seat.me.0 in
+    let m : View = c.join.new.seat.me.0 in
     let both : m ≡ view_after_join c.lift-first.result.me.0 c.lift-other.result.me.0 =
-    ap (λ m. m.0) c.join_seat.ensures.2 in
-    let loaded : c.load.new.seat.me.0 ≡ view_after_compare m = ap (λ m. m.0) c.load.ensures.2.0 in
-    has_learned (the m).seen (the (tail m)).seen _ _ _ c.load.ensures.2.1
+    ap (λ m. m.0) c.join.ensures.2 in
+    let loaded : c.compare.new.seat.me.0 ≡ view_after_compare m = ap (λ m. m.0) c.compare.ensures.2.0 in
+    has_learned (the m).seen (the (tail m)).seen _ _ _ c.compare.ensures.2.1
     (ap (λ (v : View). (the v).seen) both ∙ ap (λ m. (the m.0).seen) c.lift-first.ensures.1
     ∙ ap (λ t. t.me.seen) c.a.view_is)
     (ap (λ (v : View). (the (tail v)).seen) both ∙ ap (λ m. (the m.0).seen) c.lift-other.ensures.1
     ∙ ap (λ t. t.me.seen) c.b.view_is)
     (ap (λ (vs : List View). (the (top vs)).seen)
     (c.into_badge-2.ensures.2
-    ∙ ap (λ (v : View). v ∷ []) (ap (λ m. m.0) c.split_seat-second.ensures.4 ∙ ap tail loaded)))
+    ∙ ap (λ (v : View). v ∷ []) (ap (λ m. m.0) c.part-second.ensures.4 ∙ ap tail loaded)))
 
 pub returns-clause-told : goal.returns-clause-told
 returns-clause-told g c = ((invariant_of-a g c).1.told, (invariant_of-b g c).1.told)

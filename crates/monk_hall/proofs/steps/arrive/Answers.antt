@@ -7,7 +7,7 @@ pub fetch_add-requires : goal.fetch_add-requires
 fetch_add-requires g c =
     let idle = c.requires.idle in
     let sized = c.requires.table.1 in
-    let key = c.args.words.now.key in (
+    let key = c.args.words.now.table.shared.key in (
       c.requires.table.0,
       (let w = sized.0 in omega arith),
       arrives g.K.Kind.rules g.T.Guarded.meaning

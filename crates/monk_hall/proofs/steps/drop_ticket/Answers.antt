@@ -7,7 +7,7 @@ pub fetch_sub-requires : goal.fetch_sub-requires
 fetch_sub-requires g c =
     let back = c.requires.back in
     let sized = c.requires.table.1.0 in
-    let key = c.args.words.now.key in (
+    let key = c.args.words.now.table.shared.key in (
       c.requires.table.0,
       omega arith,
       takes_off g.K.Kind.rules g.T.Guarded.meaning

@@ -14,7 +14,7 @@ load-requires g c =
     let now = c.exchange-spare.ensures.3 in
     let same = ap (λ m. m.0) now in
     let holds = ap (λ m. m.1) now ∙ ap (λ z. (0, Some c.args.floor) ∷ rest z) active.1 in
-    let key = c.args.words.now.key in (
+    let key = c.args.words.now.table.shared.key in (
       c.exchange-spare.ensures.0 ∙ c.requires.table.0,
       omega arith,
       gives_floor g.K.Kind.rules g.T.Guarded.meaning

@@ -10,7 +10,7 @@ pub load-requires : goal.load-requires
 load-requires g c =
     let sized = c.requires.table.1.0 in
     let due = c.requires.due in
-    let key = c.args.words.now.key in (
+    let key = c.args.words.now.table.shared.key in (
       c.requires.table.0,
       omega arith,
       subst (λ (z : ℕ). Allows

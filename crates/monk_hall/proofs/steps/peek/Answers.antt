@@ -7,7 +7,7 @@ pub load-requires : goal.load-requires
 load-requires g c =
     let active = c.requires.active in
     let sized = c.requires.table.1.0 in
-    let key = c.args.words.now.key in (
+    let key = c.args.words.now.table.shared.key in (
       c.requires.table.0,
       omega arith,
       peeks g.K.Kind.rules g.T.Guarded.meaning

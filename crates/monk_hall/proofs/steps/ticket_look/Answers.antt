@@ -13,7 +13,7 @@ pub load-requires : goal.load-requires
 load-requires g c =
     let waits = c.requires.waits in
     let sized = c.requires.table.1.0 in
-    let key = c.args.words.now.key in
+    let key = c.args.words.now.table.shared.key in
     let seats : c.args.seats ≡ key.seats = c.requires.seats.0 in
     let some = c.requires.seats.1 in
     let low : c.args.number % c.args.seats < c.args.seats = mod-lt c.args.number some in
@@ -24,7 +24,7 @@ load-requires g c =
       subst (λ (p : ℕ). Allows
           (IsReached g.K.Kind.rules g.T.Guarded.meaning
           (setting_of (g.T.Guarded.state key.opening.value) key.seats key.conds key.budget))
-          c.args.words.now.table_id.slots c.args.seat.now.id c.args.seat.now.me p (λ n. n)
+          c.args.words.now.table.shared.table_id.slots c.args.seat.now.id c.args.seat.now.me p (λ n. n)
           (TellsTicketLook c.args.seat.now.me)) word
           (looks_for_ticket g.K.Kind.rules g.T.Guarded.meaning
           (setting_of (g.T.Guarded.state key.opening.value) key.seats key.conds key.budget) g.K.Kind.is_kind _ _

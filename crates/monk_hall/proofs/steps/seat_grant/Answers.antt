@@ -7,20 +7,20 @@ use Rattle.monk_hall.specs.Schedules.{IsReached}
 use Rattle.monk_hall.specs.Tells.{TellsCall}
 use Rattle.monk_hall.specs.declared.deed.Deed.TheVariants.{CallSeat}
 use Rattle.monk_hall.proofs.Reached.{calls_seat}
-use Rattle.monk_hall.proofs.granted.seat_grant.Goals as goal
+use Rattle.monk_hall.proofs.steps.seat_grant.Goals as goal
 
 pub store-requires : goal.store-requires
 store-requires g c =
     let back = c.requires.back in
     let sized = c.requires.table.1.0 in
-    let key = c.args.words.now.key in
+    let key = c.args.words.now.table.shared.key in
     let low = c.requires.near in (
       c.requires.table.0,
       (let e = c.seat_word-place.ensures in omega arith),
       subst (λ (p : ℕ). Allows
           (IsReached g.K.Kind.rules g.T.Guarded.meaning
           (setting_of (g.T.Guarded.state key.opening.value) key.seats key.conds key.budget))
-          c.args.words.now.table_id.slots c.args.seat.now.id c.args.seat.now.me p (λ _. c.args.calls)
+          c.args.words.now.table.shared.table_id.slots c.args.seat.now.id c.args.seat.now.me p (λ _. c.args.calls)
           (λ _. TellsCall c.args.seat.now.me c.args.calls)) (sym c.seat_word-place.ensures)
           (calls_seat g.K.Kind.rules g.T.Guarded.meaning
           (setting_of (g.T.Guarded.state key.opening.value) key.seats key.conds key.budget) g.K.Kind.is_kind _ _

@@ -9,13 +9,13 @@ use Rattle.monk_hall.specs.Schedules.{IsReached}
 use Rattle.monk_hall.specs.Tells.{TellsTicketGrant}
 use Rattle.monk_hall.specs.declared.deed.Deed.TheVariants.{GrantTicket}
 use Rattle.monk_hall.proofs.Reached.{grants_ticket}
-use Rattle.monk_hall.proofs.granted.ticket_grant.Goals as goal
+use Rattle.monk_hall.proofs.steps.ticket_grant.Goals as goal
 
 pub store-requires : goal.store-requires
 store-requires g c =
     let passing = c.requires.passing in
     let sized = c.requires.table.1.0 in
-    let key = c.args.words.now.key in
+    let key = c.args.words.now.table.shared.key in
     let seats : c.args.seats ≡ key.seats = c.requires.seats.0 in
     let some = c.requires.seats.1 in
     let low : c.args.number % c.args.seats < c.args.seats = mod-lt c.args.number some in
@@ -28,12 +28,13 @@ store-requires g c =
       subst (λ (n : ℕ). Allows
           (IsReached g.K.Kind.rules g.T.Guarded.meaning
           (setting_of (g.T.Guarded.state key.opening.value) key.seats key.conds key.budget))
-          c.args.words.now.table_id.slots c.args.seat.now.id c.args.seat.now.me c.ticket_word-place.result (λ _. n)
+          c.args.words.now.table.shared.table_id.slots c.args.seat.now.id c.args.seat.now.me
+          c.ticket_word-place.result (λ _. n)
           (λ _. TellsTicketGrant c.args.seat.now.me n)) next
           (subst (λ (p : ℕ). Allows
           (IsReached g.K.Kind.rules g.T.Guarded.meaning
           (setting_of (g.T.Guarded.state key.opening.value) key.seats key.conds key.budget))
-          c.args.words.now.table_id.slots c.args.seat.now.id c.args.seat.now.me p
+          c.args.words.now.table.shared.table_id.slots c.args.seat.now.id c.args.seat.now.me p
           (λ _. ticket (the c.args.seat.now.me.0).place + 1)
           (λ _. TellsTicketGrant c.args.seat.now.me (ticket (the c.args.seat.now.me.0).place + 1))) word
           (grants_ticket g.K.Kind.rules g.T.Guarded.meaning
