@@ -1,48 +1,52 @@
 /* What a visit costs, and a bounded buffer: bench/c_library builds this with libmonk, with the plain reference, and
- * with -DPLAIN by a pthread mutex and its conditions.
+ * with -DLOCK=MUTEX, TICKET or MCS by a lock of bench/locks.h.
  *
  *     c_library build                       which library it is
  *     c_library visit MONITORS CHUNKS       the nanoseconds of a visit by the only seat: the least of CHUNKS chunks of
  *                                           2,000 visits to the last of MONITORS monitors; the first one's memory was
  *                                           never used before
  *     c_library abandoned SEATS CHUNKS      the same, to one monitor, while SEATS abandoned seats wait on a condition
- *     c_library visits THREADS ROUNDS       the nanoseconds of a visit, by the clock
- *     c_library buffer KIND ROUNDS          the seconds while two threads put ROUNDS items each, and two take */
+ *     c_library visits THREADS ROUNDS INSIDE   the nanoseconds of a visit, by the clock and then of all processors,
+ *                                           if each works for INSIDE nanoseconds inside
+ *     c_library buffer KIND ROUNDS          the same of a visit to a buffer: two threads put ROUNDS items each, and two
+ *                                           take */
 #include <pthread.h>
 #include <stdio.h>
 #include <stdlib.h>
 #include <string.h>
+#include <sys/resource.h>
 #include <time.h>
 #include <unistd.h>
-#ifndef PLAIN
+#ifdef LOCK
+#include "locks.h"
+#else
 #include "monk.h"
 #endif
 
 enum { MOST_THREADS = 32, NOT_FULL = 0, NOT_EMPTY = 1, CONDITIONS = 2, SIZE = 8, CHUNK = 2000,
-    NS_A_SECOND = 1000000000 };
+    US_A_SECOND = 1000000, NS_A_SECOND = 1000000000 };
 
 static pthread_barrier_t line;
-static long rounds, count;                  /* touched only inside, as the buffer is */
+static long rounds, work_inside;
+static long count;                          /* touched only inside, as the buffer is */
 static long buffer[SIZE], first, filled, taken_sum;
 
-#ifdef PLAIN
-typedef struct { int unused; } seat;
-static pthread_mutex_t lock = PTHREAD_MUTEX_INITIALIZER;
-static pthread_cond_t conditions[CONDITIONS] = {PTHREAD_COND_INITIALIZER, PTHREAD_COND_INITIALIZER};
+#ifdef LOCK
+typedef struct { node node; } seat;
 
-static const char *build(void) { return "pthread mutex"; }
+static const char *build(void) { return lock_name(); }
 static void make(const char *kind, unsigned threads) { (void)kind, (void)threads; }
 static void abandon_one(void) {}
 static void end(void) {}
-static void take(seat *s) { s->unused = 0; }
+static void take(seat *s) { (void)s; }
 static void give(seat *s) { (void)s; }
-static void enter(seat *s) { (void)s, pthread_mutex_lock(&lock); }
-static void leave(seat *s) { (void)s, pthread_mutex_unlock(&lock); }
-static void pause_on(seat *s, unsigned n) { (void)s, pthread_cond_wait(&conditions[n], &lock); }
+static void enter(seat *s) { acquire(&s->node); }
+static void leave(seat *s) { release(&s->node); }
+static void pause_on(seat *s, unsigned n) { (void)s, wait_on(n); }
 static void say(seat *s) { (void)s; }
 
 static void finish(seat *s, unsigned n) {
-    pthread_cond_signal(&conditions[n]);
+    signal_to(n);
     leave(s);
 }
 #else
@@ -102,10 +106,29 @@ static double now(void) {
     return (double)time.tv_sec + (double)time.tv_nsec / NS_A_SECOND;
 }
 
+/* Work that no compiler leaves out. */
+static void work(long turns) {
+    for (volatile long turn = 0; turn < turns; turn++) continue;
+}
+
+/* How many turns of work take that many nanoseconds: by the fastest of some tries. */
+static long turns_of(double nanoseconds) {
+    enum { TURNS = 100000, TRIES = 50 };
+    double best = NS_A_SECOND;
+    for (int i = 0; nanoseconds > 0 && i < TRIES; i++) {
+        double began = now();
+        work(TURNS);
+        double took = (now() - began) * NS_A_SECOND;
+        if (took < best) best = took;
+    }
+    return (long)(nanoseconds * TURNS / best);
+}
+
 static void visit(seat *s, long i) {
     (void)i;
     enter(s);
     count++;
+    work(work_inside);
     leave(s);
 }
 
@@ -197,27 +220,37 @@ static double least(unsigned monitors, unsigned abandoned, long chunks) {
     return best;
 }
 
-/* The nanoseconds of a visit, or the seconds of the buffer, by threads that meet. */
-static double contended(int is_buffer, const char *kind, unsigned threads) {
+/* The seconds for which all processors worked for this process. */
+static double worked(void) {
+    struct rusage used;
+    getrusage(RUSAGE_SELF, &used);
+    return (double)(used.ru_utime.tv_sec + used.ru_stime.tv_sec)
+        + (double)(used.ru_utime.tv_usec + used.ru_stime.tv_usec) / US_A_SECOND;
+}
+
+/* Prints the nanoseconds of a visit by threads that meet, by the clock and of all processors. */
+static void contended(int is_buffer, const char *kind, unsigned threads) {
     job jobs[MOST_THREADS];
     for (unsigned i = 0; i < threads; i++) jobs[i].round = !is_buffer ? visit : i % 2 ? get : put;
     make(kind, threads);
-    double took = timed(jobs, threads);
+    double before = worked(), took = timed(jobs, threads), visits = (double)rounds * threads;
+    printf("%.6g %.6g\n", took * NS_A_SECOND / visits, (worked() - before) * NS_A_SECOND / visits);
     end();
-    return is_buffer ? took : took * NS_A_SECOND / ((double)rounds * threads);
 }
 
 int main(int words, char **word) {
     if (words == 2 && !strcmp(word[1], "build")) return puts(build()) < 0;
-    if (words != 4) return 2;
+    if (words < 4 || words > 5) return 2;
     int is_visit = !strcmp(word[1], "visit"), is_abandoned = !strcmp(word[1], "abandoned"),
         is_buffer = !strcmp(word[1], "buffer");
     unsigned number = is_buffer ? 4 : (unsigned)atoi(word[2]), seats = is_abandoned ? number + 1 : number;
     if (seats < 1 || seats > MOST_THREADS) return 2;
     rounds = atol(word[3]);
-    double told = is_visit       ? least(number, 0, rounds)
-                  : is_abandoned ? least(1, number, rounds)
-                                 : contended(is_buffer, is_buffer ? word[2] : "PNB", number);
-    printf("%.6g\n", told);
+    if (is_visit) printf("%.6g\n", least(number, 0, rounds));
+    else if (is_abandoned) printf("%.6g\n", least(1, number, rounds));
+    else {
+        work_inside = words == 5 ? turns_of(atof(word[4])) : 0;
+        contended(is_buffer, is_buffer ? word[2] : "PNB", number);
+    }
     return 0;
 }

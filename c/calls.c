@@ -85,7 +85,7 @@ static int come_in_at(monk_seat *s, size_t word, bell *b, const struct timespec 
         if (answer != MONK_WAITING) return answer;
         if (is_sent_home(s)) return MONK_STOPPED;
         if (!in_time) return MONK_WAITING;
-        if (!rings_within(b, seen, looks_for(s->monitor, word))) in_time = sleep_at(b, seen, limit);
+        if (!rings_soon(s->monitor, word, seen)) in_time = sleep_at(b, seen, limit);
     }
 }
 

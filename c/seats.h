@@ -23,9 +23,13 @@ enum {
     LINE = 64,                  /* bytes that processors pass on together */
     LOOKS = 512,                /* how often a seat looks before it sleeps, for each visit that comes before its own:
                                    some 3 us, about as long as a thread takes to wake */
-    INNER_LOOKS = 1024,         /* how often a seat looks that waits inside, where nobody knows when its turn comes */
-    CROWD_LOOKS = 1024,         /* with more threads than processors: divided by the square of the number of seats */
-    A_TRY = 2,                  /* one grant of so many wakes ahead even if who was let in slept */
+    INNER_LOOKS = 1024,         /* how often a seat looks that waits inside, for each seat: nobody knows when its turn
+                                   comes, and each of the others may visit before, and come back */
+    MOST_LOOKS = 4096,          /* some 20 us: a few times what a sleep costs */
+    SHORT_LOOKS = 1024,         /* where looking doesn't pay: divided by the square of the number of seats */
+    MOST_VAIN = 4,              /* after so many looks in vain in a row looking doesn't pay */
+    WAITS_A_TRY = 16,           /* then one of so many waits tries whether it does again */
+    NOT_KNOWN = 0,              /* how many visits come before that of a seat inside */
     PATIENCE_MS = 1000,
     VISIT = 2,                  /* events that a visit needs: an enter and a leave */
     NOBODY = 0,                 /* the word that was granted if none was */
@@ -77,6 +81,12 @@ struct monk_seat {
 };
 _Static_assert(sizeof(struct monk_seat) == LINE, "a seat has a line of its own, and no more");
 
+/* How the last looks of waiting threads ended. */
+typedef struct tally {
+    _Atomic unsigned vain;              /* so many in a row were in vain, up to MOST_VAIN */
+    _Atomic unsigned slept;             /* threads that slept because looking didn't pay */
+} tally;
+
 struct monk_monitor {
     bell bells[BELLS];
     int kind;
@@ -85,6 +95,7 @@ struct monk_monitor {
     uint32_t broadcasts[MOST_CONDITIONS];       /* how many there were on each condition, touched as `bits` is */
     _Atomic int stopped, closed;
     unsigned processors;                        /* that it may use */
+    tally entry, inner;                         /* the looks of those whose turn to enter came next, and of those inside */
     _Atomic unsigned lent;                      /* how many seats are lent; changed under the lock */
     _Atomic uint32_t lock;                      /* for lending, and for abandoned seats that a release lets in */
     monk_seat *reader;                          /* the seat that closed it, through which the history is read */
@@ -110,21 +121,18 @@ static inline bell *bell_of(monk_monitor *m, size_t word) { return &m->bells[(wo
 
 /* Wakes at most that many threads that sleep there. A thread says that it is asleep, and then the system lets it sleep
  * if the bell hasn't rung since it looked. One that rings does that first, and then reads what the thread said. So it
- * finds a thread that falls asleep. Returns whether it found one. */
-static inline int wake(bell *b, int most) {
-    if (atomic_load(&b->waiter) != ASLEEP) return 0;
-    futex_wake(&b->rings, most);
-    return 1;
+ * finds a thread that falls asleep. */
+static inline void wake(bell *b, int most) {
+    if (atomic_load(&b->waiter) == ASLEEP) futex_wake(&b->rings, most);
 }
 
 /* Wakes at most that many threads that sleep there, and an event loop. (It doesn't use the C library's write, because
- * a thread could be cancelled in it.) Returns whether to wake ahead: nobody slept there, or it is to be tried. */
-static inline int ring_for(bell *b, int most) {
-    uint32_t rung = atomic_fetch_add(&b->rings, 1);
-    int slept = wake(b, most);
+ * a thread could be cancelled in it.) */
+static inline void ring_for(bell *b, int most) {
+    atomic_fetch_add(&b->rings, 1);
+    wake(b, most);
     int file = atomic_load(&b->file) - 1;
     if (file != NO_FILE) syscall(SYS_write, file, &(uint64_t){1}, sizeof(uint64_t));
-    return !slept || rung % A_TRY == 0;
 }
 
 /* The places of tickets are the odd words, in the order of their turns; after the last comes the first. */
@@ -143,12 +151,36 @@ static inline int is_crowded(monk_monitor *m) {
     return atomic_load_explicit(&m->lent, memory_order_relaxed) > m->processors;
 }
 
+/* ---- Whether looking pays. Only time rests on this, so a thread may read what another is about to change.
+
+   If a thread looks in vain for as long as a sleep costs, either visits take long, or somebody lost its processor.
+   After some such looks in a row threads sleep at once. Now and then one tries again. */
+
+static inline int pays(tally *t) {
+    return atomic_load_explicit(&t->vain, memory_order_relaxed) < MOST_VAIN;
+}
+
+/* Whether to try again, though looking doesn't pay. Then it does, until one more look is in vain. */
+static inline int tries_again(tally *t) {
+    if (atomic_fetch_add_explicit(&t->slept, 1, memory_order_relaxed) % WAITS_A_TRY) return 0;
+    atomic_store_explicit(&t->vain, MOST_VAIN - 1, memory_order_relaxed);
+    return 1;
+}
+
+/* Notes how a thread's looks ended. */
+static inline void note_look(tally *t, int was_let_in) {
+    unsigned vain = atomic_load_explicit(&t->vain, memory_order_relaxed);
+    unsigned then = was_let_in ? 0 : vain < MOST_VAIN ? vain + 1 : vain;
+    if (then != vain) atomic_store_explicit(&t->vain, then, memory_order_relaxed);
+}
+
 /* Wakes the thread that waits for that word. The kernel has granted it before. It also wakes the one whose turn to
- * enter comes next, so that it is awake by then: else each hand-over takes as long as a wake. If the first one slept,
- * a visit takes longer than the next one would look, and it is only tried now and then. */
+ * enter comes next, so that it is awake by then: else each hand-over takes as long as a wake. */
 static inline bell *ring(monk_monitor *m, size_t word) {
     bell *b = bell_of(m, word);
-    if (ring_for(b, 1) && is_for_entry(word) && !is_crowded(m)) wake(bell_of(m, word_after(m, word)), 1);
+    ring_for(b, 1);
+    if (is_for_entry(word) && !is_crowded(m) && (pays(&m->entry) || tries_again(&m->entry)))
+        wake(bell_of(m, word_after(m, word)), 1);
     return b;
 }
 
@@ -158,17 +190,24 @@ static inline void pause_processor(void) {
 #endif
 }
 
-/* How often a thread looks for the ring for that word before it sleeps: the oftener, the more visits come first. It
- * counts those that wait right before it, and may miss one. Only time rests on it. */
-static inline unsigned looks_for(monk_monitor *m, size_t word) {
-    if (is_crowded(m)) return CROWD_LOOKS / (m->seat_count * m->seat_count) + 1;
-    if (!is_for_entry(word)) return INNER_LOOKS;
+/* How many visits come before that of the seat that waits for that word, or NOT_KNOWN. It counts those that wait right
+ * before it, and may miss one. */
+static inline unsigned visits_before(monk_monitor *m, size_t word) {
+    if (!is_for_entry(word)) return NOT_KNOWN;
     unsigned visits = 1;
     for (size_t at = word_before(m, word); at != word; at = word_before(m, at)) {
         if (atomic_load_explicit(&bell_of(m, at)->waiter, memory_order_relaxed) == NONE) break;
         visits++;
     }
-    return visits * LOOKS;
+    return visits;
+}
+
+/* How often a thread looks before it sleeps, with so many visits before its own. */
+static inline unsigned looks_for(monk_monitor *m, unsigned visits) {
+    int is_worth_it = visits == NOT_KNOWN ? pays(&m->inner) || tries_again(&m->inner) : pays(&m->entry);
+    if (is_crowded(m) || !is_worth_it) return SHORT_LOOKS / (m->seat_count * m->seat_count) + 1;
+    unsigned looks = visits == NOT_KNOWN ? m->seat_count * INNER_LOOKS : visits * LOOKS;
+    return looks < MOST_LOOKS ? looks : MOST_LOOKS;
 }
 
 /* Whether the bell rings within so many looks. */
@@ -178,6 +217,14 @@ static inline int rings_within(bell *b, uint32_t seen, unsigned looks) {
         pause_processor();
     }
     return 0;
+}
+
+/* Whether the bell for that word rings before its thread does better to sleep. */
+static inline int rings_soon(monk_monitor *m, size_t word, uint32_t seen) {
+    unsigned visits = visits_before(m, word);
+    int rings = rings_within(bell_of(m, word), seen, looks_for(m, visits));
+    if (!is_crowded(m) && visits <= 1) note_look(visits == NOT_KNOWN ? &m->inner : &m->entry, rings);
+    return rings;
 }
 
 /* Sleeps until the bell rings, or until the limit. 0 if the time is over. */
