@@ -1,5 +1,5 @@
 //! How a hall ends.
-ghost use Rattle.std.specs.Prelude.{◌≡◌, None, true, false, IfOk, IfErr};
+ghost use Rattle.std.specs.Prelude.{◌≡◌, None, true, false, IfOk, IfErr, IfSome};
 ghost use Rattle.monk_hall.specs.Calls.{HasPeeked};
 ghost use Rattle.monk_hall.specs.Closing.{HasSomebody, IsUnqueued, IsEnded, IsBusy};
 
@@ -52,17 +52,20 @@ pub fn close<K: Kind, T: Guarded>(
 
 impl<K: Kind, T: Guarded> Active<K, T> {
     /// Looks at the ticket word, in the one step by which a hall ends.
-    fn peek_alone(&mut self, hall: &Hall<K, T>) -> Option<Alone>
+    fn peek_alone(&mut self, hall: &Hall<K, T>) -> Option<Alone<K, T>>
         requires { self.old.hall ≡ hall.now.id }
         ensures peeked { HasPeeked 1 self.old self.new }
         ensures known { result ≡ None → self.new.me.known ≡ true }
+        ensures hall { IfSome result (λ a. a.table ≡ self.new.hall) }
     {
         steps::peek_alone(&hall.words, &mut self.seat)
     }
 
-    /// Makes the last seat leave. Only a look that found nobody lets the floor go. Returns the object and the history.
-    fn end(self, alone: Alone) -> Closed<T>
-        requires { IsUnqueued K.rules T.meaning self.floor self.floor.seats }
+    /// Makes the last seat leave. Only a look at this hall's ticket word that found nobody lets the floor go. Returns
+    /// the object and the history.
+    fn end(self, alone: Alone<K, T>) -> Closed<T>
+        requires alone { alone.table ≡ self.hall }
+        requires unqueued { IsUnqueued K.rules T.meaning self.floor self.floor.seats }
         ensures { IsEnded K.rules T.meaning self result.history.items (T.state result.object) }
     {
         let Active {

@@ -22,6 +22,7 @@ pub mod laws;
 mod making;
 mod meeting;
 mod no_gaps;
+mod pace;
 mod parked;
 mod pass;
 mod places;
