@@ -1,6 +1,5 @@
 -- How a hall ends
 use Rattle.std.specs.Prelude.{◌≡◌, ℕ, ◌+◌, ◌*◌, length, ◌≤◌, ◌<◌, ◌⊎◌, true, false, List, [], ◌∷◌, ◌++◌}
-use Rattle.atomic_table.specs.Seated.{TableId}
 use Rattle.monk_kinds.specs.declared.mode.Rules.{Rules}
 use Rattle.monk_object.specs.Object.{Object}
 use Rattle.monk_history.specs.Meaning.Conditions.{condition}
@@ -51,8 +50,3 @@ pub record IsBusy (k : Rules) (o : Object) (a b : Holder) : Type 0 where
   pub peeks : ℕ
   pub few : peeks ≤ 1
   pub peeked : HasPeeked peeks a b
-
--- a look at the ticket word of a table that found nobody but the seat that looked
-pub record LookAlone : Type 0 where
-  pub table : TableId
-  pub unpassed : ℕ

@@ -7,6 +7,7 @@ use crate::active::Active;
 use crate::busy::Busy;
 use crate::closed::Closed;
 use crate::hall::Hall;
+use crate::rule::SharedTable;
 use crate::steps;
 use crate::steps::alone::Alone;
 use monk_floor::Floor;
@@ -52,19 +53,19 @@ pub fn close<K: Kind, T: Guarded>(
 
 impl<K: Kind, T: Guarded> Active<K, T> {
     /// Looks at the ticket word, in the one step by which a hall ends.
-    fn peek_alone(&mut self, hall: &Hall<K, T>) -> Option<Alone<K, T>>
+    fn peek_alone(&mut self, hall: &Hall<K, T>) -> Option<Alone<SharedTable<K, T>>>
         requires { self.old.hall ≡ hall.now.id }
         ensures peeked { HasPeeked 1 self.old self.new }
         ensures known { result ≡ None → self.new.me.known ≡ true }
-        ensures hall { IfSome result (λ a. a.table ≡ self.new.hall) }
+        ensures hall { IfSome result (λ a. a.of.value.table_id ≡ self.new.hall) }
     {
         steps::peek_alone(&hall.words, &mut self.seat)
     }
 
     /// Makes the last seat leave. Only a look at this hall's ticket word that found nobody lets the floor go. Returns
     /// the object and the history.
-    fn end(self, alone: Alone<K, T>) -> Closed<T>
-        requires alone { alone.table ≡ self.hall }
+    fn end(self, alone: Alone<SharedTable<K, T>>) -> Closed<T>
+        requires alone { alone.of.value.table_id ≡ self.hall }
         requires unqueued { IsUnqueued K.rules T.meaning self.floor self.floor.seats }
         ensures { IsEnded K.rules T.meaning self result.history.items (T.state result.object) }
     {

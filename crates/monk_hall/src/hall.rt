@@ -39,8 +39,8 @@ impl<K: Kind, T: Guarded> Model for Hall<K, T> {
 }
 
 impl<K: Kind, T: Guarded> Hall<K, T> {
-    /// Finds out on how many processors this process may run, and lets its threads wait accordingly. If that isn't known
-    /// it takes one, as if this were not called.
+    /// Finds out on how many processors this process may run, and lets its threads wait accordingly. If that isn't
+    /// known it takes one, as if this were not called.
     ///
     /// A hall with no more seats than processors lets a seat look for longer before its thread sleeps, and wakes a
     /// thread before its turn. No contract speaks of this: only time rests on it.

@@ -19,6 +19,7 @@ mod granted;
 mod hall;
 mod handing;
 pub mod laws;
+mod look_tally;
 mod making;
 mod meeting;
 mod no_gaps;

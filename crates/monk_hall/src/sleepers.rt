@@ -7,6 +7,7 @@ use std::sync::atomic::Ordering::SeqCst;
 
 /// A mark that says that no thread sleeps, and one that says that a thread may.
 const AWAKE: u64 = 0;
+
 const SLEEPS: u64 = 1;
 
 /// A word whose mark is set. It can't be dropped: the thread that has it sleeps, and then clears the mark. A thread

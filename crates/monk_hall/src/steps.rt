@@ -20,9 +20,6 @@ ghost use Rattle.monk_hall.specs.Tells.{TellsCompare};
 pub(crate) mod alone;
 mod grants;
 
-pub use grants::Granted;
-pub(crate) use grants::{seat_grant, ticket_grant};
-
 use crate::boxed_floor::BoxedFloor;
 use crate::places::TICKET;
 use crate::plays::{
@@ -35,6 +32,8 @@ use crate::setup::Setup;
 use crate::sleepers::{Marked, Sleepers};
 use crate::steps::alone::Alone;
 use atomic_table::{Play, Refused, Table};
+pub use grants::Granted;
+pub(crate) use grants::{seat_grant, ticket_grant};
 use monk_kinds::Kind;
 use monk_object::Guarded;
 use std::alloc::{AllocError, Global};
@@ -290,12 +289,12 @@ pub(crate) fn peek<K: Kind, T: Guarded>(words: &Words<K, T>, seat: &mut TableSea
 pub(crate) fn peek_alone<K: Kind, T: Guarded>(
     words: &Words<K, T>,
     seat: &mut TableSeat<K, T>,
-) -> Option<Alone<K, T>>
+) -> Option<Alone<SharedTable<K, T>>>
     requires table { IsOfTable seat.old words.now.table.shared.table_id words.now.table.shared.key.seats }
     requires active { IsOne seat.old.me.0 × (stage (the seat.old.me.0).place ≡ active_stage) }
     ensures table { IsSameSeat seat.old seat.new }
     ensures step { (found : ℕ) × TellsPeek seat.old.me found seat.new.me
-        × IfSome result (λ a. (a.unpassed ≡ unpassed found) × (a.table ≡ words.now.table.shared.table_id))
+        × IfSome result (λ a. (a.found ≡ found) × (a.of.value ≡ words.now.table.shared))
         × (result ≡ None → 2 ≤ unpassed found) }
 {
     let found = peek(words, seat);

@@ -116,8 +116,8 @@ impl<K: Kind, T: Guarded> Polled<K, T> {
 
 /// Whether the word is found changed by one of so many looks.
 ///
-/// The kit's `spin_loop` does nothing. So a look is followed by an atomic step on a word of the thread's own. That takes
-/// some 20 cycles however the program is compiled: as long as a processor's own instruction for this.
+/// The kit's `spin_loop` does nothing. So a look is followed by an atomic step on a word of the thread's own. That
+/// takes some 20 cycles however the program is compiled: as long as a processor's own instruction for this.
 fn changes_within<K: Kind, T: Guarded>(
     words: &Words<K, T>,
     word: usize,

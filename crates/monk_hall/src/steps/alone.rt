@@ -3,37 +3,21 @@ ghost use Rattle.std.specs.Prelude.{◌≡◌, ◌≤◌, None, IfSome};
 ghost use Rattle.monk_hall.specs.Layout.{unpassed};
 
 use crate::places::unpassed;
-use crate::rule::SharedTable;
-use monk_kinds::Kind;
-use monk_object::Guarded;
-use std::marker::Model;
 use std::snapshot::Snapshot;
 
-/// That the active seat of a call looked at the ticket word of this hall's table, and found no ticket but the one in
-/// use. Only the steps can make one, and `peek_alone` makes one of what its look finds. Without one no floor leaves its
-/// box.
-pub(crate) struct Alone<K: Kind, T: Guarded> {
+/// That the active seat of a call looked at the ticket word of this table, and found no ticket but the one in use. Only
+/// the steps can make one, and `peek_alone` makes one of what its look finds. Without one no floor leaves its box.
+pub(crate) struct Alone<S> {
     found: u64,
-    of: Snapshot<SharedTable<K, T>>,
+    of: Snapshot<S>,
+    ghost nobody: { unpassed found ≤ 1 },
 }
 
-impl<K: Kind, T: Guarded> Model for Alone<K, T> {
-    ghost use Rattle.std.specs.Prelude.{◌≤◌};
-    ghost use Rattle.monk_hall.specs.Closing.{LookAlone};
-    ghost use Rattle.monk_hall.specs.Layout.{unpassed};
-
-    ghost Value = { LookAlone };
-
-    ghost view = { λ a. record { table = a.of.value.table_id; unpassed = unpassed a.found } };
-
-    ghost invariant = { λ a. unpassed a.found ≤ 1 };
-}
-
-impl<K: Kind, T: Guarded> Alone<K, T> {
-    /// Returns what a hall's end needs, if this was found in the ticket word of that table and has no ticket but the one
-    /// in use.
-    pub(super) fn of(found: u64, table: &SharedTable<K, T>) -> Option<Alone<K, T>>
-        ensures some { IfSome result (λ a. (a.unpassed ≡ unpassed found) × (a.table ≡ table.now.table_id)) }
+impl<S> Alone<S> {
+    /// Returns what a hall's end needs, if this was found in the ticket word of that table and has no ticket but the
+    /// one in use.
+    pub(super) fn of(found: u64, table: &S) -> Option<Alone<S>>
+        ensures some { IfSome result (λ a. (a.found ≡ found) × (a.of.value ≡ table.now)) }
         ensures none { result ≡ None → 2 ≤ unpassed found }
     {
         if unpassed(found) >= 2 {
