@@ -32,7 +32,7 @@ esac
 exec {tool} "$@"
 """
 LINKER = """#!/bin/sh
-{tool} "$@" {module} {files} --threads=4 --lto-partitions=4 --lto-{level} --lto-CGO0 --disable-verify \
+{tool} "$@" {module} {files} --threads=4 --lto-partitions=4 --lto-{level} --lto-CGO2 --disable-verify \
   -mllvm -trap-unreachable -mllvm -inline-max-stacksize={frame} || exit
 /bin/cp program {program}
 {then}

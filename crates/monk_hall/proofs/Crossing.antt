@@ -33,6 +33,8 @@ use Rattle.monk_hall.specs.contracts.seat_numbers.SeatNumbers as SeatNumbers
 use Rattle.monk_hall.specs.contracts.setup.Setup as Setup
 use Rattle.monk_hall.specs.contracts.sleepers.Sleepers as Sleepers
 use Rattle.monk_hall.specs.contracts.steps.Words as Words
+use Rattle.monk_hall.specs.contracts.look_tally.LookTally as LookTally
+use Rattle.monk_hall.specs.contracts.pace.Pace as Pace
 use Rattle.monk_hall.specs.contracts.hall.Hall as Hall
 use Rattle.monk_hall.specs.contracts.hall.Hall.TheInside as HallInside
 use Rattle.monk_hall.specs.contracts.parked.Parked as Parked
@@ -108,12 +110,24 @@ words_sync K T k t sk st =
     ) in
     struct_sync (shape (Words.the_type K T k t)) all
 
+tally_sync : IsSync (LookTally.the_field).row
+tally_sync = struct_sync (shape LookTally.the_type) (search crosses depth 20, (search crosses depth 20, tt))
+
+tally_send : IsSend (LookTally.the_field).row
+tally_send = struct_send (shape LookTally.the_type) (search crosses depth 20, (search crosses depth 20, tt))
+
+pace_sync : IsSync (Pace.the_field).row
+pace_sync = struct_sync (shape Pace.the_type) (search sendable, (tally_sync, (tally_sync, tt)))
+
+pace_send : IsSend (Pace.the_field).row
+pace_send = struct_send (shape Pace.the_type) (search sendable, (tally_send, (tally_send, tt)))
+
 hall_inside : (K T : RattleType) (k : Kind.Ghosts K.Denot) (t : Guarded.Ghosts T.Denot) → IsSend K → IsSend T
     → IsSync (HallInside.the_row K T k t)
 hall_inside K T k t sk st =
     let all : AllSync (shape (HallInside.the_type K T k t)).fields = (
       words_sync K T k t sk st,
-      (search sendable, (search sendable, tt)),
+      (search sendable, (pace_sync, tt)),
     ) in
     recorded_sync _ _ _ ((HallInside.the_type K T k t).to_one) (struct_sync (shape (HallInside.the_type K T k t)) all)
 
@@ -214,7 +228,7 @@ pub hall_send : (K T : RattleType) (k : Kind.Ghosts K.Denot) (t : Guarded.Ghosts
 hall_send K T k t sk st =
     let all : AllSend (shape (HallInside.the_type K T k t)).fields = (
       words_send K T k t sk st,
-      (search sendable, (search sendable, tt)),
+      (search sendable, (pace_send, tt)),
     ) in
     view_send (HallInside.the_row K T k t) _ _ _ _
     (recorded_send _ _ _ ((HallInside.the_type K T k t).to_one) (struct_send (shape (HallInside.the_type K T k t)) all))

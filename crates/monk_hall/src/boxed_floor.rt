@@ -33,9 +33,10 @@ impl<K: Kind, T: Guarded> BoxedFloor<K, T> {
     }
 
     /// Returns the floor alone, when its hall ends: only a look that found nobody else lets it out of its box.
-    pub(crate) fn into_inner(self, _alone: Alone) -> Floor<K, T>
+    pub(crate) fn into_inner<S>(self, alone: Alone<S>) -> Floor<K, T>
         ensures { result ≡ self }
     {
+        alone.spend();
         Box::into_inner(self.floor)
     }
 }

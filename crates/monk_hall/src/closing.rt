@@ -1,5 +1,5 @@
 //! How a hall ends.
-ghost use Rattle.std.specs.Prelude.{◌≡◌, None, true, false, IfOk, IfErr};
+ghost use Rattle.std.specs.Prelude.{◌≡◌, None, true, false, IfOk, IfErr, IfSome};
 ghost use Rattle.monk_hall.specs.Calls.{HasPeeked};
 ghost use Rattle.monk_hall.specs.Closing.{HasSomebody, IsUnqueued, IsEnded, IsBusy};
 
@@ -7,6 +7,7 @@ use crate::active::Active;
 use crate::busy::Busy;
 use crate::closed::Closed;
 use crate::hall::Hall;
+use crate::rule::SharedTable;
 use crate::steps;
 use crate::steps::alone::Alone;
 use monk_floor::Floor;
@@ -52,17 +53,20 @@ pub fn close<K: Kind, T: Guarded>(
 
 impl<K: Kind, T: Guarded> Active<K, T> {
     /// Looks at the ticket word, in the one step by which a hall ends.
-    fn peek_alone(&mut self, hall: &Hall<K, T>) -> Option<Alone>
+    fn peek_alone(&mut self, hall: &Hall<K, T>) -> Option<Alone<SharedTable<K, T>>>
         requires { self.old.hall ≡ hall.now.id }
         ensures peeked { HasPeeked 1 self.old self.new }
         ensures known { result ≡ None → self.new.me.known ≡ true }
+        ensures hall { IfSome result (λ a. a.of.value.table_id ≡ self.new.hall) }
     {
         steps::peek_alone(&hall.words, &mut self.seat)
     }
 
-    /// Makes the last seat leave. Only a look that found nobody lets the floor go. Returns the object and the history.
-    fn end(self, alone: Alone) -> Closed<T>
-        requires { IsUnqueued K.rules T.meaning self.floor self.floor.seats }
+    /// Makes the last seat leave. Only a look at this hall's ticket word that found nobody lets the floor go. Returns
+    /// the object and the history.
+    fn end(self, alone: Alone<SharedTable<K, T>>) -> Closed<T>
+        requires alone { alone.of.value.table_id ≡ self.hall }
+        requires unqueued { IsUnqueued K.rules T.meaning self.floor self.floor.seats }
         ensures { IsEnded K.rules T.meaning self result.history.items (T.state result.object) }
     {
         let Active {

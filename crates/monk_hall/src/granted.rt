@@ -8,12 +8,12 @@ use monk_object::Guarded;
 
 impl<K: Kind, T: Guarded> Granted<K, T> {
     /// Wakes the thread that sleeps on the word, if there is one. If the word is the place of a ticket, and each seat
-    /// can have a processor of its own, it also wakes the thread that sleeps for the next ticket. It makes an atomic
+    /// can have a processor of its own, it may also wake the thread that sleeps for the next ticket. It makes an atomic
     /// load for each of the two, and a call of the system if its thread may sleep.
     pub fn wake(self, hall: &Hall<K, T>)
         requires { self.table ≡ hall.now.id }
     {
-        self.wake_in(&hall.words, hall.seats, hall.is_crowded());
+        self.wake_in(&hall.words, hall.seats, &hall.pace);
     }
 }
 

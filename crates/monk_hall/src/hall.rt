@@ -1,9 +1,11 @@
 ghost use Rattle.std.specs.Prelude.{◌≡◌};
 
+use crate::pace::Pace;
 use crate::steps::Words;
 use monk_kinds::Kind;
 use monk_object::Guarded;
 use std::marker::Model;
+use std::thread::{Threads, available_parallelism};
 
 /// A monitor of kind `K` over an object `T`, for as many threads as it has seats.
 ///
@@ -13,7 +15,7 @@ use std::marker::Model;
 pub struct Hall<K: Kind, T: Guarded> {
     pub(crate) words: Words<K, T>,
     pub(crate) seats: u8,
-    pub(crate) processors: usize,
+    pub(crate) pace: Pace,
 }
 
 impl<K: Kind, T: Guarded> Model for Hall<K, T> {
@@ -37,17 +39,25 @@ impl<K: Kind, T: Guarded> Model for Hall<K, T> {
 }
 
 impl<K: Kind, T: Guarded> Hall<K, T> {
-    /// Says on how many processors its threads may run: 1, until this is called. A hall with no more seats than that
-    /// lets a seat look for longer before its thread sleeps, and wakes a thread before its turn. No contract speaks of
-    /// this: only time rests on it.
+    /// Finds out on how many processors this process may run, and lets its threads wait accordingly. If that isn't
+    /// known it takes one, as if this were not called.
+    ///
+    /// A hall with no more seats than processors lets a seat look for longer before its thread sleeps, and wakes a
+    /// thread before its turn. No contract speaks of this: only time rests on it.
+    pub fn find_processors<R: Threads>(&mut self, rt: &R)
+        ensures { self.new ≡ self.old }
+    {
+        match available_parallelism(rt) {
+            Ok(count) => self.set_processors(count.get()),
+            Err(_) => self.set_processors(1),
+        }
+    }
+
+    /// Says on how many processors its threads may run, for a program that knows better than the system
+    /// (`find_processors`). 0 is taken as 1, and a number above that of the seats as enough.
     pub fn set_processors(&mut self, processors: usize)
         ensures { self.new ≡ self.old }
     {
-        self.processors = processors;
-    }
-
-    /// Whether there may be more threads than processors: one that looks would keep another from running.
-    pub(crate) fn is_crowded(&self) -> bool {
-        usize::from(self.seats) > self.processors
+        self.pace.set_processors(processors);
     }
 }

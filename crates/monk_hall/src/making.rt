@@ -9,6 +9,7 @@ ghost use Rattle.monk_hall.specs.Tokens.{tokens};
 
 use crate::boxed_floor::BoxedFloor;
 use crate::hall::Hall;
+use crate::pace::Pace;
 use crate::pass::Pass;
 use crate::rule::TableSeat;
 use crate::seat_numbers::SeatNumbers;
@@ -77,7 +78,7 @@ fn open<K: Kind, T: Guarded>(
         Hall {
             words: table,
             seats,
-            processors: 1,
+            pace: Pace::new(),
         },
         passes,
     ))

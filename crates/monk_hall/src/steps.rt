@@ -3,23 +3,22 @@
 //! the caller has to wake.
 ghost use Rattle.std.specs.Prelude.{◌≡◌, ℕ, ◌+◌, ◌<◌, ◌≤◌, [], ◌∷◌, Some, None, length, IfOk, IfSome};
 ghost use Rattle.atomic_table.specs.Table.{Allows, Joins, Splits, opening, step};
-ghost use Rattle.monk_history.specs.Meaning.Counts.{granted_of};
 ghost use Rattle.monk_world.specs.Places.{stage, ticket, ticketed_stage, due_stage, active_stage};
-ghost use Rattle.monk_world.specs.Places.{inside_stage, back_turn, due_to, passing_stage};
+ghost use Rattle.monk_world.specs.Places.{inside_stage};
 ghost use Rattle.monk_history.specs.declared.event.Next.{Next};
 ghost use Rattle.monk_world.specs.declared.place.Place.TheVariants.{Idle, Back};
-ghost use Rattle.monk_hall.specs.Changes.{record_after_floor_out, record_after_floor_in, record_after_grant, home_at};
+ghost use Rattle.monk_hall.specs.Changes.{record_after_floor_out, record_after_floor_in, home_at};
 ghost use Rattle.monk_hall.specs.Changes.{view_after_join};
-ghost use Rattle.monk_hall.specs.declared.deed.Deed.TheVariants as deed;
 ghost use Rattle.monk_hall.specs.Floors.{Finds};
 ghost use Rattle.monk_hall.specs.Layout.{unpassed, ticket_word, seat_word, word_count};
 ghost use Rattle.monk_hall.specs.Records.{IsOne, the, head, tail, first_view};
 ghost use Rattle.monk_hall.specs.Rule.{setting_of};
 ghost use Rattle.monk_hall.specs.Schedules.{IsReached};
 ghost use Rattle.monk_hall.specs.Tells.{TellsArrive, TellsTicketLook, TellsSeatLook, TellsPeek, TellsDrop, Returns, IsOfTable, IsSameSeat};
-ghost use Rattle.monk_hall.specs.Tells.{TellsTicketGrant, TellsCall, TellsCompare};
+ghost use Rattle.monk_hall.specs.Tells.{TellsCompare};
 
 pub(crate) mod alone;
+mod grants;
 
 use crate::boxed_floor::BoxedFloor;
 use crate::places::TICKET;
@@ -30,9 +29,11 @@ use crate::plays::{
 use crate::record::View;
 use crate::rule::{HallTable, SharedTable, TableSeat};
 use crate::setup::Setup;
-use crate::sleepers::Sleepers;
+use crate::sleepers::{Marked, Sleepers};
 use crate::steps::alone::Alone;
 use atomic_table::{Play, Refused, Table};
+pub use grants::Granted;
+pub(crate) use grants::{seat_grant, ticket_grant};
 use monk_kinds::Kind;
 use monk_object::Guarded;
 use std::alloc::{AllocError, Global};
@@ -160,14 +161,20 @@ impl<K: Kind, T: Guarded> Words<K, T> {
         self.table.shared.peek(word)
     }
 
-    /// Sleeps if the low 32 bits of the word are `expected`, until a wake. It may return earlier. The word's mark is
-    /// set before the system compares.
-    pub(crate) fn park<R: Wait>(&self, rt: &R, word: usize, expected: u32)
-        requires { word < self.now.table.shared.table_id.words }
+    /// Says that a thread is about to sleep on the word.
+    pub(crate) fn mark(&self, word: usize) -> Marked
+        ensures { result.word ≡ word }
     {
-        self.sleepers.mark(word, true);
-        self.table.shared.park(rt, word, expected);
-        self.sleepers.mark(word, false);
+        self.sleepers.mark(word)
+    }
+
+    /// Sleeps on the marked word if its low 32 bits are `expected`, until a wake. It may return earlier. Only a mark
+    /// that was set before lets a thread sleep.
+    pub(crate) fn park<R: Wait>(&self, rt: &R, marked: Marked, expected: u32)
+        requires { marked.word < self.now.table.shared.table_id.words }
+    {
+        self.table.shared.park(rt, marked.word(), expected);
+        self.sleepers.clear(marked);
     }
 
     /// Wakes the thread that sleeps on the word, if the word's mark says that one may.
@@ -282,15 +289,16 @@ pub(crate) fn peek<K: Kind, T: Guarded>(words: &Words<K, T>, seat: &mut TableSea
 pub(crate) fn peek_alone<K: Kind, T: Guarded>(
     words: &Words<K, T>,
     seat: &mut TableSeat<K, T>,
-) -> Option<Alone>
+) -> Option<Alone<SharedTable<K, T>>>
     requires table { IsOfTable seat.old words.now.table.shared.table_id words.now.table.shared.key.seats }
     requires active { IsOne seat.old.me.0 × (stage (the seat.old.me.0).place ≡ active_stage) }
     ensures table { IsSameSeat seat.old seat.new }
     ensures step { (found : ℕ) × TellsPeek seat.old.me found seat.new.me
-        × IfSome result (λ a. a ≡ unpassed found) × (result ≡ None → 2 ≤ unpassed found) }
+        × IfSome result (λ a. (a.found ≡ found) × (a.of.value ≡ words.now.table.shared))
+        × (result ≡ None → 2 ≤ unpassed found) }
 {
     let found = peek(words, seat);
-    Alone::of(found)
+    Alone::of(found, &words.table.shared)
 }
 
 /// Step 5, out: the floor comes to the seat that is due.
@@ -348,112 +356,4 @@ pub(crate) fn drop_ticket<K: Kind, T: Guarded>(
 {
     let words = &words.table.shared;
     words.fetch_sub::<DropStep>(seat, 0, 1)
-}
-
-/// Step 7: a seat grants the next ticket. No other module can name this type.
-struct TicketGrantStep;
-
-impl<K: Kind, T: Guarded> Play<Option<BoxedFloor<K, T>>, View> for TicketGrantStep {
-    ghost then = { λ step me found new. TellsTicketGrant me found new };
-}
-
-/// Step 8: a seat calls the seat that it chose. No other module can name this type.
-struct CallStep;
-
-impl<K: Kind, T: Guarded> Play<Option<BoxedFloor<K, T>>, View> for CallStep {
-    ghost then = { λ step me found new. TellsCall me found new };
-}
-
-/// A grant that was stored in a word of a hall's table, and whose sleeper is not yet woken. It can't be dropped, and
-/// only two calls spend it. `wake` wakes the thread that sleeps on the word. `into_word` returns the word to a
-/// program whose threads sleep elsewhere, and which has to wake the one that waits for it.
-pub struct Granted<K: Kind, T: Guarded> {
-    word: usize,
-    of: Snapshot<SharedTable<K, T>>,
-}
-
-impl<K: Kind, T: Guarded> Model for Granted<K, T> {
-    ghost use Rattle.std.specs.Prelude.{◌<◌};
-    ghost use Rattle.monk_hall.specs.Granting.{Grant};
-
-    ghost Value = { Grant };
-
-    ghost view = { λ g. record { table = g.of.value.table_id; word = g.word } };
-
-    ghost invariant = { λ g. g.word < g.of.value.table_id.words };
-}
-
-impl<K: Kind, T: Guarded> Granted<K, T> {
-    /// Wakes the thread that sleeps on the word, if there is one. Unless it is crowded, it also wakes the one that
-    /// sleeps for the ticket after the one that was granted.
-    pub(crate) fn wake_in(self, words: &Words<K, T>, seats: u8, is_crowded: bool)
-        requires table { self.table ≡ words.now.table.shared.table_id }
-        requires sized { (words.now.table.shared.table_id.words ≡ word_count seats) × (0 < seats) }
-    {
-        let Granted { word, of: _ } = self;
-        words.wake_sleeper(word);
-        if word % 2 == 1 && !is_crowded {
-            words.wake_sleeper(word_after(seats, word));
-        }
-    }
-
-    /// Returns the word that was granted, for a program whose threads sleep elsewhere. It wakes nobody: the caller
-    /// has to wake the thread that waits for this word (`Parked::word`), if one sleeps there.
-    pub fn into_word(self) -> usize
-        ensures { result ≡ self.word }
-    {
-        let Granted { word, of: _ } = self;
-        word
-    }
-}
-
-/// Step 7: grants the next ticket, in its place. Returns the grant.
-pub(crate) fn ticket_grant<K: Kind, T: Guarded>(
-    words: &Words<K, T>,
-    seat: &mut TableSeat<K, T>,
-    seats: u8,
-    number: u32,
-) -> Granted<K, T>
-    requires table { IsOfTable seat.old words.now.table.shared.table_id words.now.table.shared.key.seats }
-    requires seats { (seats ≡ words.now.table.shared.key.seats) × (0 < seats) }
-    requires passing { IsOne seat.old.me.0 × (stage (the seat.old.me.0).place ≡ passing_stage)
-        × (number ≡ ticket (the seat.old.me.0).place) }
-    ensures table { IsSameSeat seat.old seat.new }
-    ensures step { seat.new.me ≡
-        (record_after_grant (the seat.old.me.0) (deed.GrantTicket number) ∷ [], seat.old.me.1) }
-    ensures granted { (result.table ≡ words.now.table.shared.table_id) × (result.word ≡ ticket_word seats number) }
-{
-    let words = &words.table.shared;
-    let place = ticket_word(seats, number);
-    words.store::<TicketGrantStep>(seat, place, number as u64 + 1);
-    Granted {
-        word: place,
-        of: Snapshot::of(words),
-    }
-}
-
-/// Step 8: calls the seat that it chose, in that seat's place. `calls` is the new value there: how many events have
-/// chosen that seat from a queue.
-pub(crate) fn seat_grant<K: Kind, T: Guarded>(
-    words: &Words<K, T>,
-    seat: &mut TableSeat<K, T>,
-    called: u8,
-    calls: u32,
-) -> Granted<K, T>
-    requires table { IsOfTable seat.old words.now.table.shared.table_id words.now.table.shared.key.seats }
-    requires near { called < words.now.table.shared.key.seats }
-    requires back { IsOne seat.old.me.0 × (back_turn (the seat.old.me.0).place ≡ due_to called)
-        × (calls ≡ granted_of (the seat.old.me.0).seen called) }
-    ensures table { IsSameSeat seat.old seat.new }
-    ensures step { seat.new.me ≡
-        (record_after_grant (the seat.old.me.0) (deed.CallSeat called) ∷ [], seat.old.me.1) }
-    ensures granted { (result.table ≡ words.now.table.shared.table_id) × (result.word ≡ seat_word called) }
-{
-    let words = &words.table.shared;
-    let place = seat_word(called);
-    words.store::<CallStep>(seat, place, calls as u64);
-    Granted {
-        word: place,
-        of: Snapshot::of(words),
-    }
 }

@@ -8,7 +8,7 @@ use crate::active::Active;
 use crate::hall::Hall;
 use crate::parked::Parked;
 use crate::places::{tickets, unpassed};
-use crate::steps::{seat_word, ticket_word};
+use crate::steps::{Words, seat_word, ticket_word};
 use monk_history::MOST_SEATS;
 use monk_kinds::Kind;
 use monk_object::Guarded;
@@ -16,19 +16,6 @@ use monk_world::Place;
 use std::sync::Wait;
 use std::sync::atomic::AtomicU64;
 use std::sync::atomic::Ordering::SeqCst;
-
-// The kit's `spin_loop` does nothing. So a look is followed by an atomic step on a word of the thread's own. That takes
-// some 20 cycles however the program is compiled: as long as a processor's own instruction for this.
-
-/// How often a seat with a ticket looks before its thread sleeps, for each visit that comes before its own: some 3
-/// microseconds, about as long as a thread takes to wake.
-const LOOKS: u32 = 512;
-
-/// How often a seat looks that waits inside, where nobody knows when its turn comes.
-const INNER_LOOKS: u32 = 1024;
-
-/// How often a seat looks with more threads than processors, divided by the square of the number of seats.
-const CROWD_LOOKS: u32 = 1024;
 
 /// A waiting seat that has looked at its word and has not polled yet.
 pub(crate) struct Watched<K: Kind, T: Guarded> {
@@ -59,22 +46,19 @@ impl<K: Kind, T: Guarded> Parked<K, T> {
         }
     }
 
-    /// Returns how often its thread looks for the grant before it sleeps: the oftener, the more visits come first.
-    fn looks(&self, hall: &Hall<K, T>) -> u32
+    /// Returns how many visits come before that of a seat with a ticket, at least 1, at most as many as there can be
+    /// seats. For a seat inside nobody knows. It is a load of the ticket word, and tells nothing.
+    fn visits_before(&self, hall: &Hall<K, T>) -> Option<u8>
         requires { self.now.hall ≡ hall.now.id }
     {
-        if hall.is_crowded() {
-            let seats = u32::from(hall.seats);
-            return CROWD_LOOKS / (seats * seats).max(1);
-        }
         match self.place {
             Place::Ticket(ticket) => {
                 let found = hall.words.peek(0);
                 let first = tickets(found).wrapping_sub(unpassed(found));
                 let visits = ticket.wrapping_sub(first);
-                visits.clamp(1, u32::from(MOST_SEATS)) * LOOKS
+                Some(visits.clamp(1, u32::from(MOST_SEATS)) as u8)
             }
-            _ => INNER_LOOKS,
+            _ => None,
         }
     }
 
@@ -118,15 +102,36 @@ impl<K: Kind, T: Guarded> Polled<K, T> {
         ensures { result ≡ self.parked }
     {
         let Polled { parked, word, seen } = self;
-        let words = &hall.words;
-        let beat = AtomicU64::new(0);
-        for _ in 0..parked.looks(hall) {
-            if words.peek(word) != seen {
-                return parked;
-            }
-            beat.fetch_add(1, SeqCst);
+        let visits = parked.visits_before(hall);
+        let looks = hall.pace.looks_for(hall.seats, visits);
+        let changed = changes_within(&hall.words, word, seen, looks);
+        hall.pace.learn(hall.seats, visits, changed);
+        if !changed {
+            let marked = hall.words.mark(word);
+            hall.words.park(rt, marked, (seen % (1 << 32)) as u32);
         }
-        words.park(rt, word, (seen % (1 << 32)) as u32);
         parked
     }
+}
+
+/// Whether the word is found changed by one of so many looks.
+///
+/// The kit's `spin_loop` does nothing. So a look is followed by an atomic step on a word of the thread's own. That
+/// takes some 20 cycles however the program is compiled: as long as a processor's own instruction for this.
+fn changes_within<K: Kind, T: Guarded>(
+    words: &Words<K, T>,
+    word: usize,
+    seen: u64,
+    looks: u32,
+) -> bool
+    requires { word < words.now.table.shared.table_id.words }
+{
+    let beat = AtomicU64::new(0);
+    for _ in 0..looks {
+        if words.peek(word) != seen {
+            return true;
+        }
+        beat.fetch_add(1, SeqCst);
+    }
+    false
 }

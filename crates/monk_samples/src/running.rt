@@ -36,7 +36,7 @@ use monk_kinds::Kind;
 use monk_object::{Book, Buffer, Guarded, ObjectFault, Shop};
 use std::alloc::Global;
 use std::sync::Wait;
-use std::thread::{Threads, available_parallelism};
+use std::thread::Threads;
 
 /// Runs a sample under the kind K with 2 to 16 seats, and reads the totals from its history. Each seat works for 1 to
 /// 1000 rounds in its own thread.
@@ -277,25 +277,17 @@ fn run_over<K: Style, T: Guarded, R: Threads + Wait + Sync, G: Gate>(
     ensures fault { IfErr result (λ e. IsFaultOfRun K.rules (G.answers gate.now) rota.scenario rota.seats rota.rounds
         (run_fault_of e)) }
 {
-    let (hall, passes) = open::<K, T>(alloc, object, rota, processors(rt))?;
+    let (hall, passes) = open::<K, T, R>(rt, alloc, object, rota)?;
     let passes = work_all(rt, alloc, &hall, passes, gate, rota)?;
     close_by(rt, alloc, rota, hall, passes)
 }
 
-/// Returns on how many processors threads may run, or 1 if that isn't known.
-fn processors<R: Threads>(rt: &R) -> usize {
-    match available_parallelism(rt) {
-        Ok(count) => count.get(),
-        Err(_) => 1,
-    }
-}
-
 /// Makes a hall for the run, and returns it with all its passes.
-fn open<K: Kind, T: Guarded>(
+fn open<K: Kind, T: Guarded, R: Threads>(
+    rt: &R,
     alloc: Global,
     object: T,
     rota: Rota,
-    processors: usize,
 ) -> Result<(Hall<K, T>, Vec<Pass<K, T>>), CrewFault>
     ensures setting { IfOk result
         (λ r. r.0.setting ≡ setting_of (T.state object) rota.seats (conds_of K.rules)
@@ -307,7 +299,7 @@ fn open<K: Kind, T: Guarded>(
     let budget = 64 + rota.rounds * (40 + 32 * u32::from(rota.seats));
     match Hall::make(alloc, object, rota.seats, conds_of::<K>(), budget) {
         Ok((mut hall, passes)) => {
-            hall.set_processors(processors);
+            hall.find_processors(rt);
             Ok((hall, passes))
         }
         Err(MakeFault::Memory) => Err(CrewFault::Memory),

@@ -6,8 +6,8 @@ use Rattle.monk_hall.specs.Tokens.{Holder, House}
 use Rattle.monk_hall.proofs.ClosingLaws.{unqueued_all, ended_peeked, busy_unlooked}
 use Rattle.monk_hall.proofs.closing.close.Goals as goal
 
-pub end-requires-after_bounds : goal.end-requires-after_bounds
-end-requires-after_bounds g c κs within =
+pub end-requires-clause-unqueued : goal.end-requires-clause-unqueued
+end-requires-clause-unqueued g c κs within =
     let inv = c.active.invariant in
     let sized = inv.seated.sized in
     let hall_sized = c.hall.invariant.0.0 in

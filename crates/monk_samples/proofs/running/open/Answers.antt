@@ -7,6 +7,6 @@ use Rattle.monk_samples.proofs.running.open.Goals as goal
 
 pub returns-in-Ok-clause-ready : goal.returns-in-Ok-clause-ready
 returns-in-Ok-clause-ready g c =
-    subst (λ (h : House). AreReady g.K.Kind.rules h c.in-Ok.passes.items) (sym c.set_processors.ensures)
+    subst (λ (h : House). AreReady g.K.Kind.rules h c.in-Ok.passes.items) (sym c.find_processors.ensures)
     (passes_ready g.K.Kind.rules c.in-Ok.hall c.in-Ok.passes.items
     (ap (λ (s : Setting). s.conds) c.in-Ok.ensures.made.1 ∙ c.conds_of.ensures) c.in-Ok.ensures.made.2)

@@ -18,6 +18,7 @@ returns g c =
     c.leave.new.self c.close-object.result.1.items (g.T.Guarded.state c.close-object.result.0)
     (sym (ap (λ (a : Holder). a.floor) c.self.view_is) ∙ sym shows)
     (sym (ap (λ (a : Holder). a.me.seat) c.self.view_is) ∙ inv.seated.is_seat)
-    (subst (λ (a : Holder). events_of a.floor.history a.me.seat ≡ a.me.mine) c.self.view_is refl) legal c.requires
+    (subst (λ (a : Holder). events_of a.floor.history a.me.seat ≡ a.me.mine) c.self.view_is refl) legal
+    c.requires.unqueued
     c.leave.ensures.grown c.leave.ensures.choice c.close-object.ensures.history c.close-object.ensures.legal
     c.close-object.ensures.object c.close-object.ensures.few

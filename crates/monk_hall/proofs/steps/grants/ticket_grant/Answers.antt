@@ -9,7 +9,7 @@ use Rattle.monk_hall.specs.Schedules.{IsReached}
 use Rattle.monk_hall.specs.Tells.{TellsTicketGrant}
 use Rattle.monk_hall.specs.declared.deed.Deed.TheVariants.{GrantTicket}
 use Rattle.monk_hall.proofs.Reached.{grants_ticket}
-use Rattle.monk_hall.proofs.steps.ticket_grant.Goals as goal
+use Rattle.monk_hall.proofs.steps.grants.ticket_grant.Goals as goal
 
 pub store-requires : goal.store-requires
 store-requires g c =

@@ -7,7 +7,7 @@ use Rattle.monk_hall.specs.Schedules.{IsReached}
 use Rattle.monk_hall.specs.Tells.{TellsCall}
 use Rattle.monk_hall.specs.declared.deed.Deed.TheVariants.{CallSeat}
 use Rattle.monk_hall.proofs.Reached.{calls_seat}
-use Rattle.monk_hall.proofs.steps.seat_grant.Goals as goal
+use Rattle.monk_hall.proofs.steps.grants.seat_grant.Goals as goal
 
 pub store-requires : goal.store-requires
 store-requires g c =

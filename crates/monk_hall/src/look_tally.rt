@@ -1,0 +1,59 @@
+//! How the last looks of waiting threads ended. Only time rests on it, so a thread may read what another is about to
+//! change.
+use std::sync::atomic::AtomicU64;
+use std::sync::atomic::Ordering::SeqCst;
+
+/// After so many looks in vain in a row looking doesn't pay.
+const MOST_VAIN: u64 = 4;
+
+/// While looking doesn't pay, one of so many waits tries whether it does again.
+const WAITS_A_TRY: u64 = 16;
+
+/// If threads look in vain, for about as long as a sleep costs, either visits take long, or somebody lost its
+/// processor. After some such looks in a row threads sleep at once. Now and then one tries again.
+#[derive(Drop)]
+pub(crate) struct LookTally {
+    vain: AtomicU64,
+    slept: AtomicU64,
+}
+
+impl LookTally {
+    /// Returns the tally before any look: looking pays.
+    pub(crate) fn new() -> LookTally {
+        LookTally {
+            vain: AtomicU64::new(0),
+            slept: AtomicU64::new(0),
+        }
+    }
+
+    /// Whether a look is worth its time.
+    pub(crate) fn pays(&self) -> bool {
+        self.vain.load(SeqCst) < MOST_VAIN
+    }
+
+    /// Whether to try again, though looking doesn't pay. Then it does, until one more look is in vain.
+    pub(crate) fn tries_again(&self) -> bool {
+        if self.slept.fetch_add(1, SeqCst) % WAITS_A_TRY != 0 {
+            return false;
+        }
+        self.vain.store(MOST_VAIN - 1, SeqCst);
+        true
+    }
+
+    /// Notes how a thread's looks ended.
+    pub(crate) fn note(&self, was_let_in: bool) {
+        let vain = self.vain.load(SeqCst);
+        let then = vain_after(vain, was_let_in);
+        if then != vain {
+            self.vain.store(then, SeqCst);
+        }
+    }
+}
+
+/// How many looks in a row were in vain, after one more.
+fn vain_after(vain: u64, was_let_in: bool) -> u64 {
+    if was_let_in {
+        return 0;
+    }
+    if vain < MOST_VAIN { vain + 1 } else { vain }
+}
