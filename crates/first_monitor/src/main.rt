@@ -37,8 +37,9 @@ const BUDGET: u32 = 64;
 fn main(rt: HostRuntime) -> anyhow::Result<()> {
     let alloc = rt.alloc();
     let buffer = Buffer::make(alloc, SIZE)?;
-    let (mut hall, mut passes) =
-        Hall::<Pb, Buffer>::make(alloc, buffer, SEATS, CONDITIONS, BUDGET)?;
+    let (mut hall, mut passes) = Hall::<Pb, Buffer>::make(
+        alloc, buffer, SEATS, CONDITIONS, BUDGET,
+    )?;
     hall.find_processors(&rt);
     // There is a pass for each seat.
     let (Some(spare), Some(taker), Some(putter)) = (passes.pop(), passes.pop(), passes.pop()) else {
