@@ -8,6 +8,7 @@ pub mod Counting
 pub mod Least
 pub mod LeastLaw
 pub mod Sleepers
+pub mod Asking
 pub mod Totals
 pub mod Among
 pub mod Moments

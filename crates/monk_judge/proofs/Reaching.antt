@@ -1,5 +1,5 @@
 -- A run of the lines that a judge has taken
-use Rattle.std.proofs.Common.{◌≡◌, ℕ, ◌<◌, ◌≤◌, ◌+◌, List, [], ◌∷◌, ◌++◌, Some, None, length, get_or, take, drop, refl, sym, ap, subst, ◌∙◌}
+use Rattle.std.proofs.Common.{◌≡◌, ℕ, ◌<◌, ◌≤◌, ◌+◌, List, [], ◌∷◌, ◌++◌, Some, None, length, get_or, take, drop, arith, refl, sym, ap, subst, ◌∙◌}
 use Rattle.std.proofs.Math.ListN.{length-set}
 use Rattle.std.proofs.lemmas.List.{length-take-le, take_all}
 use Rattle.monk_object.specs.Object.{Object}
@@ -9,6 +9,7 @@ use Rattle.monk_judge.specs.declared.misfit.Misfit.{Misfit}
 use Rattle.monk_judge.specs.declared.told.Told.{Told}
 use Rattle.monk_judge.specs.declared.wait_end.WaitEnd.{WaitEnd}
 use Rattle.monk_judge.specs.declared.wait_end.WaitEnd.TheVariants.{Resumes}
+use Rattle.monk_judge.specs.Asked.{asked, asked_by}
 use Rattle.monk_judge.specs.Ends.{AreEnds, ends_after, runs_out}
 use Rattle.monk_judge.specs.Explains.{IsExplainable}
 use Rattle.monk_judge.specs.Judged.{CanStand, after_all}
@@ -17,6 +18,7 @@ use Rattle.monk_judge.specs.Reports.{IsRunOf}
 use Rattle.monk_judge.specs.Run.{Setting, State, IsRun, lines_of, opening, unasked}
 use Rattle.monk_judge.specs.declared.step.Step.{Step}
 use Rattle.monk_judge.specs.Shown.{Refuses, Shown, Takes, own_steps, setting_of, state_of, whom}
+use Rattle.monk_judge.proofs.Asking.{asked_all, asked_next}
 use Rattle.monk_judge.proofs.Covers.{CoversAt, covers_explains, covers_next, covers_opening, covers_stop, rest_is}
 use Rattle.monk_judge.proofs.Sleepers.{EndsAt, ends_next, goes_first, outside_not}
 use Rattle.monk_judge.proofs.Moments.{Meets, moments_many, moments_on}
@@ -30,6 +32,7 @@ pub record Reached (o : Object) (m : Setting) (d : List ℕ) (lines : List LogLi
   pub many : length v.ends ≡ length v.places
   pub covers : CoversAt m d lines i steps (state_of v)
   pub ends : EndsAt v i (drop i lines)
+  pub asks : asked steps ≡ asked_by i lines
 
 many_after : (ends : List WaitEnd) (l : LogLine) (e : WaitEnd) → length (ends_after ends l e) ≡ length ends
 many_after ends (Enter s) e = refl
@@ -49,6 +52,7 @@ reached_opening o m d lines v same many fresh = record {
   many = many;
   covers = covers_opening m d lines (state_of v) fresh;
   ends = λ j c h. absurd (outside_not c (sym (ap (λ (x : State). x.place j) fresh) ∙ h));
+  asks = refl;
 }
 
 pub stands_there : (o : Object) (m : Setting) (d : List ℕ) (lines : List LogLine) (i : ℕ) (v new : Shown)
@@ -80,6 +84,7 @@ reached_next o m d lines ends i v new steps what lt are was does =
           does.right
           (goes_first m v l (whom what) i rest seats acts stands does.right does.earliest ends_here) leads end.lapses;
       ends = ends_next m v new l (whom what) e i rest (seats ∙ sym was.many) acts stands ends_here end leads does.ends;
+      asks = asked_next m x lines i steps (whom what) (runs_out e) lt stands end.lapses was.asks;
     }
 
 -- ---- the end
@@ -100,6 +105,7 @@ run_all o m d lines i v steps all was =
       run = was.covers.run;
       told = was.covers.told ∙ is;
       least = λ others run told. least_of o m d lines i v steps was others run (told ∙ was.covers.told);
+      asks = asked_all lines i steps all was.asks;
     }
 
 pub run_stop : (o : Object) (m : Setting) (d : List ℕ) (lines : List LogLine) (i : ℕ) (v new : Shown)
@@ -120,6 +126,8 @@ run_stop o m d lines i v new steps f lt was refused at =
       run = was.covers.run;
       told = was.covers.told ∙ ap (λ k. take k lines) (sym at);
       least = λ others run told. least_of o m d lines i v steps was others run (told ∙ was.covers.told);
+      asks = was.asks ∙ ap (λ k. asked_by k lines)
+          (sym (length-take-le i lines (omega (arith, lt)))) ∙ ap (λ k. asked_by (length (take k lines)) lines) (sym at);
     }
 
 -- the moments after one more line

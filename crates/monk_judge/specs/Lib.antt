@@ -2,6 +2,7 @@ pub mod Run
 pub mod Explains
 pub mod Judged
 pub mod Ends
+pub mod Asked
 pub mod Followed
 pub mod Shown
 pub mod Counts

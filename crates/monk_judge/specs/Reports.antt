@@ -9,6 +9,7 @@ use Rattle.monk_judge.specs.declared.step.Step.TheVariants.{Tells}
 use Rattle.monk_judge.specs.declared.tally.Tally.{Tally}
 use Rattle.monk_judge.specs.declared.waits_for.WaitsFor.{WaitsFor}
 use Rattle.monk_judge.specs.Among.{NamesLast}
+use Rattle.monk_judge.specs.Asked.{asked, asked_by}
 use Rattle.monk_judge.specs.Counts.{finds_nobody, passes, sleepers, total, wakes, woken_ones}
 use Rattle.monk_judge.specs.Explains.{IsFirstNeed, IsLeast, IsMisfit}
 use Rattle.monk_judge.specs.Holding.{IsHolder}
@@ -25,13 +26,14 @@ fitting None lines = lines
 fitting (Some f) lines = take f.line lines
 
 -- `found` is the misfit, and the steps are a run of the lines before it; no run of them has fewer
--- wake-ups that nobody sent
+-- wake-ups that nobody sent. A wait runs out exactly behind its own line, and only if its thread's next line says so
 pub record IsRunOf (m : Setting) (d : List ℕ) (lines : List LogLine) (found : Option Misfit)
     (steps : List Step) : Type 0 where
   pub misfit : IsMisfit m d lines found
   pub run : IsRun m (opening d) steps
   pub told : lines_of steps ≡ fitting found lines
   pub least : IsLeast m d steps
+  pub asks : asked steps ≡ asked_by (length (fitting found lines)) lines
 
 -- it names the first line that needs a wake-up that nobody sent, unless none is needed
 abbrev pub NamesFirstNeed : Setting → List ℕ → List LogLine → Option ℕ → ℕ → Type 0

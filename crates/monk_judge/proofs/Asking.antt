@@ -1,0 +1,83 @@
+-- The judge's run is, but for the wake-ups that nobody sent, what its lines ask for
+use Rattle.std.proofs.Common.{◌≡◌, ℕ, zero, suc, ◌+◌, ◌<◌, ◌≤◌, Bool, true, false, List, [], ◌∷◌, ◌++◌, Option, None, length, get_or, take, drop, arith, refl, sym, ap, subst, ◌∙◌}
+use Rattle.std.proofs.lemmas.List.{append-nil, append_assoc}
+use Rattle.monk_logs.specs.Log.{line_seat}
+use Rattle.monk_logs.specs.declared.text.line.LogLine.{LogLine}
+use Rattle.monk_logs.specs.declared.text.line.LogLine.TheVariants.{Enter, Resume, Lapse, Leave, Wait, Signal, Broadcast, Until, Act}
+use Rattle.monk_judge.specs.Asked.{asked, asked_by, asked_of}
+use Rattle.monk_judge.specs.Ends.{lapses_next}
+use Rattle.monk_judge.specs.Judged.{CanStand, running_out, steps_at, waking}
+use Rattle.monk_judge.specs.Run.{Setting, State}
+use Rattle.monk_judge.specs.declared.place.Place.{Place}
+use Rattle.monk_judge.specs.declared.place.Place.TheVariants.{Outside, Active, Waiting, Woken, RanOut}
+use Rattle.monk_judge.specs.declared.step.Step.{Step}
+use Rattle.monk_judge.specs.declared.step.Step.TheVariants.{Tells, RunsOut, WakesUnasked}
+
+asked_on : (a b : List Step) → asked (a ++ b) ≡ asked a ++ asked b
+asked_on [] b = refl
+asked_on (Tells l w ∷ a) b = ap (λ k. Tells l None ∷ k) (asked_on a b)
+asked_on (RunsOut s ∷ a) b = ap (λ k. RunsOut s ∷ k) (asked_on a b)
+asked_on (WakesUnasked s ∷ a) b = asked_on a b
+
+asked_waking : (s : ℕ) (p : Place) → asked (waking s p ++ Tells (Resume s) None ∷ []) ≡ Tells (Resume s) None ∷ []
+asked_waking s Outside = refl
+asked_waking s Active = refl
+asked_waking s (Waiting c) = refl
+asked_waking s (Woken c) = refl
+asked_waking s (RanOut c) = refl
+
+asked_out : (s : ℕ) (b : Bool) → asked (running_out s b) ≡ running_out s b
+asked_out s true = refl
+asked_out s false = refl
+
+-- the steps of a line
+asked_line : (m : Setting) (x : State) (l : LogLine) (w : Option ℕ) (lapses : Bool) → CanStand m x l
+    → asked (steps_at x l w lapses) ≡ asked_of l lapses
+asked_line m x (Enter s) w lapses h = refl
+asked_line m x (Resume s) w lapses h = asked_waking s (x.place s)
+asked_line m x (Lapse s) w lapses h = refl
+asked_line m x (Leave s) w lapses h = refl
+asked_line m x (Wait s c) w lapses h = ap (λ k. Tells (Wait s c) None ∷ k) (asked_out s lapses)
+asked_line m x (Signal s c) w lapses h = refl
+asked_line m x (Broadcast s c) w lapses h = refl
+asked_line m x (Until s p) w lapses h = absurd h
+asked_line m x (Act s op r) w lapses h = refl
+
+-- what one more line asks for
+by_next : (lines : List LogLine) (i : ℕ) → i < length lines
+    → asked_by (suc i) lines
+    ≡ asked_by i lines ++ asked_of (get_or lines i (Enter 0)) (lapses_next (line_seat (get_or lines i (Enter 0)))
+    (drop (suc i) lines))
+by_next [] i lt = absurd (omega arith)
+by_next (l ∷ lines) zero lt = append-nil (asked_of l (lapses_next (line_seat l) lines))
+by_next (l ∷ lines) (suc i) lt =
+    ap (λ k. asked_of l (lapses_next (line_seat l) lines) ++ k) (by_next lines i (omega arith))
+    ∙ sym (append_assoc (asked_of l (lapses_next (line_seat l) lines)) (asked_by i lines) _)
+
+-- past the last line nothing is asked for
+by_all : (lines : List LogLine) (i : ℕ) → length lines ≤ i → asked_by i lines ≡ asked_by (length lines) lines
+by_all [] zero le = refl
+by_all [] (suc i) le = refl
+by_all (l ∷ lines) zero le = absurd (omega arith)
+by_all (l ∷ lines) (suc i) le =
+    ap (λ k. asked_of l (lapses_next (line_seat l) lines) ++ k) (by_all lines i (omega arith))
+
+pub asked_all : (lines : List LogLine) (i : ℕ) (steps : List Step) → length lines ≤ i
+    → asked steps ≡ asked_by i lines → asked steps ≡ asked_by (length lines) lines
+asked_all lines i steps le was = was ∙ by_all lines i le
+
+pub asked_next : (m : Setting) (x : State) (lines : List LogLine) (i : ℕ) (steps : List Step) (w : Option ℕ)
+    (lapses : Bool)
+    → i < length lines → CanStand m x (get_or lines i (Enter 0))
+    → lapses ≡ lapses_next (line_seat (get_or lines i (Enter 0))) (drop (i + 1) lines)
+    → asked steps ≡ asked_by i lines
+    → asked (steps ++ steps_at x (get_or lines i (Enter 0)) w lapses) ≡ asked_by (i + 1) lines
+asked_next m x lines i steps w lapses lt stands ends was =
+    let l = get_or lines i (Enter 0) in
+    let next : i + 1 ≡ suc i = omega arith in
+    asked_on steps (steps_at x l w lapses)
+    ∙ ap (λ k. asked steps ++ k) (asked_line m x l w lapses stands)
+    ∙ ap (λ k. k ++ asked_of l lapses) was
+    ∙ ap (λ b. asked_by i lines ++ asked_of l b) ends
+    ∙ subst (λ n. asked_by i lines ++ asked_of l (lapses_next (line_seat l) (drop n lines)) ≡ asked_by n lines)
+    (sym next) (sym (by_next lines i lt))
