@@ -10,6 +10,7 @@ use Rattle.monk_judge.specs.declared.told.Told.{Told}
 use Rattle.monk_judge.specs.declared.wait_end.WaitEnd.{WaitEnd}
 use Rattle.monk_judge.specs.declared.wait_end.WaitEnd.TheVariants.{Resumes}
 use Rattle.monk_judge.specs.Asked.{asked, asked_by}
+use Rattle.monk_judge.specs.Blamed.{IsBlamed}
 use Rattle.monk_judge.specs.Ends.{AreEnds, ends_after, runs_out}
 use Rattle.monk_judge.specs.Explains.{IsExplainable}
 use Rattle.monk_judge.specs.Judged.{CanStand, after_all}
@@ -106,11 +107,13 @@ run_all o m d lines i v steps all was =
       told = was.covers.told ∙ is;
       least = λ others run told. least_of o m d lines i v steps was others run (told ∙ was.covers.told);
       asks = asked_all lines i steps all was.asks;
+      blamed = tt;
     }
 
 pub run_stop : (o : Object) (m : Setting) (d : List ℕ) (lines : List LogLine) (i : ℕ) (v new : Shown)
     (steps : List Step) (f : Misfit)
-    → i < length lines → Reached o m d lines i v steps → Refuses o v new (get_or lines i (Enter 0)) → f.line ≡ i
+    → i < length lines → Reached o m d lines i v steps → Refuses o v new (get_or lines i (Enter 0)) f.why
+    → f.line ≡ i
     → IsRunOf m d lines (Some f) steps
 run_stop o m d lines i v new steps f lt was refused at =
     let no = λ (can : CanStand m (state_of v) (get_or lines i (Enter 0))).
@@ -128,6 +131,9 @@ run_stop o m d lines i v new steps f lt was refused at =
       least = λ others run told. least_of o m d lines i v steps was others run (told ∙ was.covers.told);
       asks = was.asks ∙ ap (λ k. asked_by k lines)
           (sym (length-take-le i lines (omega (arith, lt)))) ∙ ap (λ k. asked_by (length (take k lines)) lines) (sym at);
+      blamed = subst (λ k. IsBlamed m (after_all m (opening d) steps) (get_or lines k (Enter 0)) f.why) (sym at)
+          (subst (λ k. IsBlamed m k (get_or lines i (Enter 0)) f.why) was.covers.leads
+          (subst (λ k. IsBlamed k (state_of v) (get_or lines i (Enter 0)) f.why) was.same refused.blamed));
     }
 
 -- the moments after one more line

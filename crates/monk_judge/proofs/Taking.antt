@@ -209,7 +209,7 @@ taken_all o m d lines means i v t s seats h all was = record {
 
 pub taken_stop : (o : Object) (m : Setting) (d : List ℕ) (lines : List LogLine) (means : List WaitsFor) (i : ℕ)
     (v new : Shown) (t : Tally) (s : Missed) (seats : List (Option ℕ)) (h : Hints) (f : Misfit)
-    → i < length lines → Taken o m d lines means i v t s seats h → Refuses o v new (get_or lines i (Enter 0))
+    → i < length lines → Taken o m d lines means i v t s seats h → Refuses o v new (get_or lines i (Enter 0)) f.why
     → f.line ≡ i
     → IsTaken m d lines means (Some f) t s.line h new
 taken_stop o m d lines means i v new t s seats h f lt was refused at = record {

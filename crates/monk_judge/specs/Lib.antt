@@ -16,3 +16,4 @@ pub mod Hints
 pub mod Text
 pub mod Reports
 pub mod Blame
+pub mod Blamed

@@ -1,5 +1,5 @@
 -- The report on a log
-use Rattle.std.specs.Prelude.{◌≡◌, ℕ, List, Option, Some, None, MatchOption, length, take}
+use Rattle.std.specs.Prelude.{◌≡◌, ℕ, List, Option, Some, None, MatchOption, length, slice_index_or, take}
 use Rattle.monk_logs.specs.declared.text.line.LogLine.{LogLine}
 use Rattle.monk_judge.specs.declared.misfit.Misfit.{Misfit}
 use Rattle.monk_judge.specs.declared.overtaking.Hints.{Hints}
@@ -8,6 +8,8 @@ use Rattle.monk_judge.specs.declared.step.Step.{Step}
 use Rattle.monk_judge.specs.declared.step.Step.TheVariants.{Tells}
 use Rattle.monk_judge.specs.declared.tally.Tally.{Tally}
 use Rattle.monk_judge.specs.declared.waits_for.WaitsFor.{WaitsFor}
+use Rattle.monk_logs.specs.declared.text.line.LogLine.TheVariants.{Enter}
+use Rattle.monk_judge.specs.Blamed.{IsBlamed}
 use Rattle.monk_judge.specs.Among.{NamesLast}
 use Rattle.monk_judge.specs.Asked.{asked, asked_by}
 use Rattle.monk_judge.specs.Counts.{finds_nobody, passes, sleepers, total, wakes, woken_ones}
@@ -26,7 +28,8 @@ fitting None lines = lines
 fitting (Some f) lines = take f.line lines
 
 -- `found` is the misfit, and the steps are a run of the lines before it; no run of them has fewer
--- wake-ups that nobody sent. A wait runs out exactly behind its own line, and only if its thread's next line says so
+-- wake-ups that nobody sent. A wait runs out exactly behind its own line, and only if its thread's next line says so.
+-- After them the line of the misfit can't stand, for the reason that is named
 pub record IsRunOf (m : Setting) (d : List ℕ) (lines : List LogLine) (found : Option Misfit)
     (steps : List Step) : Type 0 where
   pub misfit : IsMisfit m d lines found
@@ -34,6 +37,8 @@ pub record IsRunOf (m : Setting) (d : List ℕ) (lines : List LogLine) (found : 
   pub told : lines_of steps ≡ fitting found lines
   pub least : IsLeast m d steps
   pub asks : asked steps ≡ asked_by (length (fitting found lines)) lines
+  pub blamed : MatchOption found (Unit {0})
+      (λ f. IsBlamed m (after_all m (opening d) steps) (slice_index_or lines f.line (Enter 0)) f.why)
 
 -- it names the first line that needs a wake-up that nobody sent, unless none is needed
 abbrev pub NamesFirstNeed : Setting → List ℕ → List LogLine → Option ℕ → ℕ → Type 0

@@ -1,9 +1,11 @@
 -- The state that a judge shows
-use Rattle.std.specs.Prelude.{◌≡◌, ℕ, ◌<◌, List, Option, Result, MatchResult, slice_index_or, length, Some, None}
+use Rattle.std.specs.Prelude.{◌≡◌, ◌⊎◌, ℕ, ◌<◌, List, Option, Result, MatchResult, slice_index_or, length, Some, None}
 use Rattle.monk_object.specs.Object.{Object}
 use Rattle.monk_logs.specs.declared.text.line.LogLine.{LogLine}
 use Rattle.monk_logs.specs.declared.text.line.LogLine.TheVariants.{Enter, Resume, Lapse, Leave, Wait, Signal, Broadcast, Until, Act}
 use Rattle.monk_judge.specs.declared.blame.Blame.{Blame}
+use Rattle.monk_judge.specs.declared.blame.Blame.TheVariants.{Reply}
+use Rattle.monk_judge.specs.Blamed.{IsBlamed}
 use Rattle.monk_judge.specs.declared.told.Told.{Told}
 use Rattle.monk_judge.specs.declared.told.Told.TheVariants as told
 use Rattle.monk_judge.specs.declared.place.Place.{Place}
@@ -87,12 +89,15 @@ pub record Takes (o : Object) (old new : Shown) (l : LogLine) (e : WaitEnd) (wha
   pub ends : new.ends ≡ ends_after old.ends l e
   pub names : Names (setting_of old o) (state_of old) (own_steps old l e what) what
 
--- or it can't follow, and nobody moves
-pub record Refuses (o : Object) (old new : Shown) (l : LogLine) : Type 0 where
+-- or it can't follow, for that reason, and nobody moves; only an operation that was tried may have changed the object
+pub record Refuses (o : Object) (old new : Shown) (l : LogLine) (why : Blame) : Type 0 where
   pub not_there : CanStand (setting_of old o) (state_of old) l → ⊥
+  pub blamed : IsBlamed (setting_of old o) (state_of old) l why
   pub lock : new.lock ≡ old.lock
   pub places : new.places ≡ old.places
+  pub ends : new.ends ≡ old.ends
+  pub object : (why ≡ Reply) ⊎ (new.data_now ≡ old.data_now)
 
 -- the one or the other
 abbrev pub Does : Object → Shown → Shown → LogLine → WaitEnd → Result Told Blame → Type 0
-Does o old new l e result = MatchResult result (λ what. Takes o old new l e what) (λ why. Refuses o old new l)
+Does o old new l e result = MatchResult result (λ what. Takes o old new l e what) (λ why. Refuses o old new l why)

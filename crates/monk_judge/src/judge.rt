@@ -3,6 +3,8 @@
 ghost use Rattle.std.specs.Prelude.{◌≡◌, ◌⊎◌, ◌<◌, ◌≤◌, ℕ, length, IfOk, MatchOption, MatchResult, Some, None, slice_index_or, slice_set};
 ghost use Rattle.monk_object.specs.Object.{Object};
 ghost use Rattle.monk_logs.specs.declared.text.line.LogLine.TheVariants as lines;
+ghost use Rattle.monk_judge.specs.Blamed.{IsBlamed};
+ghost use Rattle.monk_judge.specs.declared.blame.Blame.TheVariants.{Range, NoLock};
 ghost use Rattle.monk_judge.specs.Counts.{passing, sleepers, sleepers_on, woken_ones};
 ghost use Rattle.monk_judge.specs.Followed.{places_below};
 ghost use Rattle.monk_judge.specs.Run.{MaySignal, moved, opening, setting, woken};
@@ -145,7 +147,7 @@ impl<T: Guarded> Judge<T> {
     fn at(&self, seat: u8) -> Result<Place, Blame>
         ensures { MatchResult result (λ p. (seat < length self.now.places)
             × (p ≡ slice_index_or self.now.places seat Outside))
-            (λ e. length self.now.places ≤ seat) }
+            (λ e. (length self.now.places ≤ seat) × (e ≡ Range)) }
     {
         self.place(seat).ok_or(Blame::Range)
     }
@@ -251,7 +253,8 @@ impl<T: Guarded> Judge<T> {
     /// Tests whether the seat holds the lock.
     fn holds(&self, seat: u8) -> Result<(), Blame>
         ensures { MatchResult result (λ _. (seat < length self.now.places) × (self.now.lock ≡ Some seat))
-            (λ e. (seat < length self.now.places) × (self.now.lock ≡ Some seat) → ⊥) }
+            (λ e. ((e ≡ Range) × (length self.now.places ≤ seat))
+            ⊎ ((e ≡ NoLock) × (seat < length self.now.places) × (self.now.lock ≡ Some seat → ⊥))) }
     {
         let _place = self.at(seat)?;
         if self.lock == Some(seat) {
@@ -300,7 +303,8 @@ impl<T: Guarded> Judge<T> {
     /// Tests whether the seat may signal: it holds the lock, or it is outside.
     fn may_signal(&self, seat: u8, cond: u8) -> Result<(), Blame>
         ensures { MatchResult result (λ _. MaySignal (setting_of self.now T.meaning) (state_of self.now) seat cond)
-            (λ e. MaySignal (setting_of self.now T.meaning) (state_of self.now) seat cond → ⊥) }
+            (λ e. IsBlamed (setting_of self.now T.meaning) (state_of self.now) (lines.Signal seat cond) e
+            × (MaySignal (setting_of self.now T.meaning) (state_of self.now) seat cond → ⊥)) }
     {
         let place = self.at(seat)?;
         if cond >= self.conds {
