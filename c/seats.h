@@ -95,7 +95,7 @@ struct monk_monitor {
     uint32_t broadcasts[MOST_CONDITIONS];       /* how many there were on each condition, touched as `bits` is */
     _Atomic int stopped, closed;
     unsigned processors;                        /* that it may use */
-    tally entry, inner;                         /* the looks of those whose turn to enter came next, and of those inside */
+    tally entry, inner;                         /* looks: of those whose turn to enter came next, and inside */
     _Atomic unsigned lent;                      /* how many seats are lent; changed under the lock */
     _Atomic uint32_t lock;                      /* for lending, and for abandoned seats that a release lets in */
     monk_seat *reader;                          /* the seat that closed it, through which the history is read */

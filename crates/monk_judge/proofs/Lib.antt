@@ -9,6 +9,8 @@ pub mod Least
 pub mod LeastLaw
 pub mod Sleepers
 pub mod Asking
+pub mod WaitEnds
+pub mod Firsts
 pub mod Totals
 pub mod Among
 pub mod Moments

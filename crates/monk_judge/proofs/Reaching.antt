@@ -129,8 +129,8 @@ run_stop o m d lines i v new steps f lt was refused at =
       run = was.covers.run;
       told = was.covers.told ∙ ap (λ k. take k lines) (sym at);
       least = λ others run told. least_of o m d lines i v steps was others run (told ∙ was.covers.told);
-      asks = was.asks ∙ ap (λ k. asked_by k lines)
-          (sym (length-take-le i lines (omega (arith, lt)))) ∙ ap (λ k. asked_by (length (take k lines)) lines) (sym at);
+      asks = was.asks ∙ ap (λ k. asked_by k lines) (sym (length-take-le i lines (omega (arith, lt))))
+          ∙ ap (λ k. asked_by (length (take k lines)) lines) (sym at);
       blamed = subst (λ k. IsBlamed m (after_all m (opening d) steps) (get_or lines k (Enter 0)) f.why) (sym at)
           (subst (λ k. IsBlamed m k (get_or lines i (Enter 0)) f.why) was.covers.leads
           (subst (λ k. IsBlamed k (state_of v) (get_or lines i (Enter 0)) f.why) was.same refused.blamed));

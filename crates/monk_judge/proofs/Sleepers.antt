@@ -183,7 +183,7 @@ ends_next m v new l w e i rest many acts can ends end leads kept j c h =
 
 -- ---- whom a signal wakes
 
-sleeps_within : (places : List Place) (j c : ℕ) → get_or places j Outside ≡ Waiting c → j < length places
+pub sleeps_within : (places : List Place) (j c : ℕ) → get_or places j Outside ≡ Waiting c → j < length places
 sleeps_within [] j c h = absurd (outside_not c h)
 sleeps_within (p ∷ places) zero c h = omega arith
 sleeps_within (p ∷ places) (suc j) c h = let a = sleeps_within places j c h in omega arith
@@ -202,7 +202,7 @@ first_by m v s e k d i (Some j) rest many awake right early ends is goes =
     let others = end_of k is in (
       subst (λ n. j < n) (sym many) (sleeps_within v.places j e right),
       mine.within d
-          (early k is (i + 1 + d) (others.by d goes)),
+          ((early k is).0 (i + 1 + d) (others.by d goes)),
     )
 
 pub goes_first : (m : Setting) (v : Shown) (l : LogLine) (w : Option ℕ) (i : ℕ) (rest : List LogLine)

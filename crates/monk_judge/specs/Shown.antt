@@ -58,10 +58,18 @@ abbrev pub ResumesNoLater : Shown → ℕ → ℕ → Type 0
 ResumesNoLater v j i = (line : ℕ) → ResumesBy (slice_index_or v.ends i (Resumes 0)) line
     → ResumesBy (slice_index_or v.ends j (Resumes 0)) line
 
--- no thread that sleeps on the condition comes back before seat j
+-- of the threads with a lower seat than n that sleep on the condition it is the one that comes back first
+abbrev pub IsFirstBelow : ℕ → Shown → ℕ → Option ℕ → Type 0
+IsFirstBelow n v c None = (i : ℕ) → i < n → slice_index_or v.places i Outside ≡ Waiting c → ⊥
+IsFirstBelow n v c (Some j) = (j < n) × (slice_index_or v.places j Outside ≡ Waiting c)
+    × ((i : ℕ) → i < n → slice_index_or v.places i Outside ≡ Waiting c
+    → ResumesNoLater v j i × (i < j → ResumesNoLater v i j → ⊥))
+
+-- no thread that sleeps on the condition comes back before seat j, and none of a lower seat as early
 abbrev pub IsEarliest : Shown → ℕ → Option ℕ → Type 0
 IsEarliest v c None = Unit {0}
-IsEarliest v c (Some j) = (i : ℕ) → slice_index_or v.places i Outside ≡ Waiting c → ResumesNoLater v j i
+IsEarliest v c (Some j) = (i : ℕ) → slice_index_or v.places i Outside ≡ Waiting c
+    → ResumesNoLater v j i × (i < j → ResumesNoLater v i j → ⊥)
 
 -- a signal wakes the thread that comes back first
 abbrev pub WakesEarliest : Shown → LogLine → Option ℕ → Type 0

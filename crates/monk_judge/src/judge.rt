@@ -1,6 +1,6 @@
 //! A mutex and its condition variables, followed line by line.
 
-ghost use Rattle.std.specs.Prelude.{◌≡◌, ◌⊎◌, ◌<◌, ◌≤◌, ℕ, length, IfOk, MatchOption, MatchResult, Some, None, slice_index_or, slice_set};
+ghost use Rattle.std.specs.Prelude.{◌≡◌, ◌⊎◌, ◌+◌, ◌<◌, ◌≤◌, ℕ, length, IfOk, MatchOption, MatchResult, Some, None, slice_index_or, slice_set};
 ghost use Rattle.monk_object.specs.Object.{Object};
 ghost use Rattle.monk_logs.specs.declared.text.line.LogLine.TheVariants as lines;
 ghost use Rattle.monk_judge.specs.Blamed.{IsBlamed};
@@ -8,9 +8,10 @@ ghost use Rattle.monk_judge.specs.declared.blame.Blame.TheVariants.{Range, NoLoc
 ghost use Rattle.monk_judge.specs.Counts.{passing, sleepers, sleepers_on, woken_ones};
 ghost use Rattle.monk_judge.specs.Followed.{places_below};
 ghost use Rattle.monk_judge.specs.Run.{MaySignal, moved, opening, setting, woken};
-ghost use Rattle.monk_judge.specs.Shown.{Does, IsEarliest, ResumesNoLater, setting_of, shown, state_of};
+ghost use Rattle.monk_judge.specs.Shown.{Does, IsEarliest, IsFirstBelow, ResumesNoLater, setting_of, shown, state_of};
 ghost use Rattle.monk_judge.specs.declared.place.Place.TheVariants.{Outside, Active, Waiting};
 ghost use Rattle.monk_judge.specs.declared.wait_end.WaitEnd.{WaitEnd};
+ghost use Rattle.monk_judge.specs.declared.wait_end.WaitEnd.TheVariants.{Resumes};
 
 mod following;
 mod lacking;
@@ -317,20 +318,44 @@ impl<T: Guarded> Judge<T> {
         }
     }
 
-    /// Returns the one of two seats whose wait ends earlier by a `resume`.
+    /// Returns how the wait of the seat ends.
+    fn end_of(&self, seat: u8) -> WaitEnd
+        requires { seat < length self.now.places }
+        ensures { result ≡ slice_index_or self.now.ends seat (Resumes 0) }
+    {
+        self.ends[usize::from(seat)]
+    }
+
+    /// Returns the one of two seats whose wait ends earlier by a `resume`, the first if neither does.
     fn earlier(&self, one: u8, other: u8) -> u8
         requires { (one < length self.now.places) × (other < length self.now.places) }
         ensures one_of_them { (result ≡ one) ⊎ (result ≡ other) }
         ensures first { ResumesNoLater self.now result one × ResumesNoLater self.now result other }
+        ensures strict { (result ≡ one) ⊎ (ResumesNoLater self.now one result → ⊥) }
     {
-        if self.ends[usize::from(other)].is_before(self.ends[usize::from(one)]) {
+        if self.end_of(other).is_before(self.end_of(one)) {
             other
         } else {
             one
         }
     }
 
-    /// Returns a sleeper on the condition that comes back as early as any other.
+    /// Returns the one that comes back first, of `first`, the first below the seat, and the seat.
+    #[tactic(auto, using(crate::proofs::Firsts::first_alone, crate::proofs::Firsts::first_on))]
+    fn first_of(&self, cond: u8, first: Option<u8>, seat: u8) -> u8
+        requires sleeps { (seat < length self.now.places)
+            × (slice_index_or self.now.places seat Outside ≡ Waiting cond) }
+        requires below { IsFirstBelow seat self.now cond first }
+        ensures { IsFirstBelow (seat + 1) self.now cond (Some result) }
+    {
+        match first {
+            Some(one) => self.earlier(one, seat),
+            None => seat,
+        }
+    }
+
+    /// Returns the sleeper on the condition that comes back first, the one with the lowest seat if several do.
+    #[tactic(auto, using(crate::proofs::Firsts::first_skip, crate::proofs::Firsts::first_all))]
     fn first_back(&self, cond: u8) -> Option<u8>
         ensures sleeps { MatchOption result ((j : ℕ) → slice_index_or self.now.places j Outside ≡ Waiting cond → ⊥)
             (λ j. (j < length self.now.places) × (slice_index_or self.now.places j Outside ≡ Waiting cond)) }
@@ -339,11 +364,7 @@ impl<T: Guarded> Judge<T> {
         let mut first: Option<u8> = None;
         for (index, place) in self.places.iter().enumerate() {
             if place.waits_on(cond) {
-                let seat = index as u8;
-                first = match first {
-                    Some(one) => Some(self.earlier(one, seat)),
-                    None => Some(seat),
-                };
+                first = Some(self.first_of(cond, first, index as u8));
             }
         }
         first

@@ -40,6 +40,7 @@ impl WaitEnd {
     /// Whether this wait ends by a `resume`, and the other by a later one or by none.
     pub(crate) fn is_before(self, other: WaitEnd) -> bool
         ensures before { result ≡ true → (n : ℕ) → ResumesBy other n → ResumesBy self n }
+        ensures strictly { result ≡ true → ((n : ℕ) → ResumesBy self n → ResumesBy other n) → ⊥ }
         ensures not_before { result ≡ false → (n : ℕ) → ResumesBy self n → ResumesBy other n }
     {
         match self {
