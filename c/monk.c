@@ -2,6 +2,8 @@
  * and histories become files. In calls.c threads sleep and are woken. The kernel decides who goes on, and records it.
  * Nothing in these files is proved. docs/C.md argues why no wake-up is missed. */
 #include "seats.h"
+#include <fcntl.h>
+#include <limits.h>
 #include <sched.h>
 
 #ifndef MONK_BUILT
@@ -128,10 +130,26 @@ static void set_up(monk_monitor *m, const monk_shape *shape, uint32_t budget) {
     }
 }
 
-/* On how many processors this thread may run. */
+/* How many processors' time a container grants this process, by its control group: UINT_MAX if it sets no limit. */
+static unsigned quota(void) {
+    char text[64];
+    unsigned long granted, period;
+    int file = open("/sys/fs/cgroup/cpu.max", O_RDONLY | O_CLOEXEC);
+    if (file < 0) return UINT_MAX;
+    ssize_t length = read(file, text, sizeof text - 1);
+    close(file);
+    text[length > 0 ? length : 0] = 0;
+    if (sscanf(text, "%lu %lu", &granted, &period) != 2 || period == 0) return UINT_MAX;
+    return granted / period > 1 ? (unsigned)(granted / period) : 1;
+}
+
+/* On how many processors this thread may run; 1 if that isn't known. The quota is read once. */
 static unsigned processors(void) {
+    static _Atomic unsigned known;
     cpu_set_t set;
-    return sched_getaffinity(0, sizeof set, &set) == 0 ? (unsigned)CPU_COUNT(&set) : 1;
+    unsigned allowed = sched_getaffinity(0, sizeof set, &set) == 0 ? (unsigned)CPU_COUNT(&set) : 1;
+    if (!atomic_load(&known)) atomic_store(&known, quota());
+    return allowed < atomic_load(&known) ? allowed : atomic_load(&known);
 }
 
 int monk_make(monk_monitor **out, const monk_shape *shape) {
