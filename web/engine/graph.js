@@ -218,9 +218,8 @@ function look(stage, before) {
 /** What tells a situation from others.
  * @param {Stage} stage @param {Where} where @param {End | null} end */
 function keyOf(stage, where, end) {
-  const keeps = stage.actors.some((it) => it.keeps), seats = stage.actors;
   return JSON.stringify([stage.unasked, Object.entries(where).sort(), stage.data, stage.told, [...stage.tests.keys()],
-    seats.map((it) => [it.place, it.site, it.next && it.next.site, it.seen]), keeps && !end && stage.scene.identities(), end]);
+    stage.actors.map((it) => [it.place, it.site, it.next && it.next.site, it.seen]), end || [stage.scene.identities, stage.scene.older]]);
 }
 
 /** What a move made happen, with the rule behind it.

@@ -45,18 +45,23 @@ export class Scene {
      * @type {Set<string>} */
     this.mayWait = new Set();
     this.line = this.steps = 0;
+    /** The line of the last statement. */
+    this.last = 0;
     /** How many wait on a condition: the stage says it.
      * @type {(name: string) => number} */
     this.waiting = () => 0;
-    /** @type {WeakMap<object, number>} */
-    this.numbers = new WeakMap();
-    this.objects = 0;
+    /** The arrays and objects that the data had.
+     * @type {Map<object, number>} */
+    this.numbers = new Map();
+    /** Which arrays and objects the data are now, if a program keeps values. */
+    this.identities = '';
+    this.older = '';
   }
 
   /** The step of a program. It answers true, so that it can stand in a test.
    * @param {number} line */
   step(line) {
-    this.line = line;
+    this.line = this.last = line;
     this.steps += 1;
     if (this.steps > MOST_STEPS) throw new Error('goes round and round without a call of the monitor');
     return true;
@@ -99,25 +104,19 @@ export class Scene {
       const values = it();
       for (const name in values) found.push(`${name} = ${told(values[name], seen)}`);
     }
+    if (this.programs.some((it) => it.keeps)) this.identify(seen);
     return found;
   }
 
-  /** Which arrays and objects the variables hold now, by number: a program may still hold an older one.
-   * @returns {number[]} */
-  identities() {
-    /** @type {number[]} */
-    const found = [];
-    for (const it of this.data.flatMap((all) => Object.values(all()))) this.number(it, found);
-    return found;
-  }
-
-  /** @param {unknown} it @param {number[]} found */
-  number(it, found) {
-    if (typeof it !== 'object' || it === null) return;
-    if (!this.numbers.has(it)) this.numbers.set(it, (this.objects += 1));
-    found.push(/** @type {number} */ (this.numbers.get(it)));
-    const parts = it instanceof Map || it instanceof Set ? [...it] : Object.values(it);
-    parts.forEach((part) => this.number(part, found));
+  /** Notes which arrays and objects the data are. A program that keeps values may still hold one that the data had
+   * before, so the words of those belong to the situation, too.
+   * @param {Set<object>} now */
+  identify(now) {
+    for (const it of now) {
+      if (!this.numbers.has(it)) this.numbers.set(it, this.numbers.size);
+    }
+    this.identities = [...now].map((it) => this.numbers.get(it)).join(' ');
+    this.older = [...this.numbers.keys()].filter((it) => !now.has(it)).map((it) => told(it, new Set())).join(' ');
   }
 
   /** What the compiled text is given. */

@@ -68,7 +68,7 @@ export class Stage {
    * @param {Actor} actor @param {boolean} [isOut] */
   advance(actor, isOut = false) {
     const was = this.data;
-    if (actor.keeps) actor.seen.push(was.join());
+    if (actor.keeps) actor.seen.push(`${was.join()} ${this.scene.identities}`);
     const call = this.step(actor), isOutside = actor.place === 'outside' && !isOut;
     this.data = this.variables(actor);
     const names = isOutside ? this.data.filter((it, i) => it !== was[i]).map((it) => it.split(' ')[0]).join(', ') : '';
@@ -96,7 +96,7 @@ export class Stage {
     try {
       return this.scene.variables();
     } catch (fault) {
-      throw new Over('wrong', actor.name, `${inWords(fault)} (line ${this.scene.line})`);
+      throw new Over('wrong', actor.name, `${inWords(fault)} (line ${this.scene.last})`);
     }
   }
 

@@ -156,8 +156,7 @@ class Rewriter {
     if (!routine.isEntry) text.fail(i, `${it.text} is a function of the monitor: a thread may call its procedures only`);
     const given = text.tokens.slice(i + 2, text.at(i + 1).mate);
     const isComputed = given.some((t) => WORD.test(t.text) && !/^(me|true|false|null)$/.test(t.text));
-    const thread = text.threadOf(i);
-    if (!thread) return text.fail(i, `${it.text} is called outside a thread: write thread name { ${it.text}(); }`);
+    const thread = text.threadOf(i) || text.fail(i, `${it.text} is called outside a thread: put it into one`);
     if (!text.isAlone(i) || isComputed) thread.isKeeping = true;
     const place = `{line:${it.line},site:${i},last:${text.at(routine.end).line}}`;
     it.text = `(yield* $.visit(${place},$.of.${it.text},[`;
@@ -172,7 +171,7 @@ class Rewriter {
     const isBlock = it.text === '{' && (before === ')' || /^(else|do|try|finally|=>)$/.test(before) || it.isThread);
     const isEnd = it.text === ';' && it.up > -1 && text.at(it.up).text === '{' && it.up !== outline.open;
     const next = text.tokens[i + 1];
-    if (!(isBlock || isEnd) || !next || /^(else|while|case|default|catch|finally)$/.test(next.text)) return;
+    if (!(isBlock || isEnd) || !next || (isEnd && next.text === '}') || /^(else|while|case|default|catch|finally)$/.test(next.text)) return;
     it.post += `$(${next.line});`;
   }
 
