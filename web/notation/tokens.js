@@ -19,7 +19,7 @@ export class Fault extends Error {
 
 const TOKEN = new RegExp([/\/\/[^\n]*|\/\*[^]*?\*\//, /\s+/, /"(?:\\.|[^"\\\n])*"|'(?:\\.|[^'\\\n])*'/,
   /[A-Za-z_$][\w$]*/, /\d[\w.]*/, /=>|[^]/].map((it) => it.source).join('|'), 'g');
-const BLANK = /^(\s|\/\/|\/\*)/, STRANGE = /^["'`#@\\]$/, QUOTE = /^["']$/, CLOSING = /^[)\]}]$/;
+const BLANK = /^(\s|\/\/|\/\*)/, STRANGE = /^["'\x60#@\\]$/, QUOTE = /^["']$/, CLOSING = /^[)\]}]$/;
 /** @type {Record<string, string>} */
 const PAIRS = { '(': ')', '[': ']', '{': '}' };
 
