@@ -34,8 +34,9 @@ function close(it, found, open) {
   if (from === undefined) throw new Fault(it.line, `this ${it.text} closes nothing`);
   const was = found[from], wanted = PAIRS[was.text];
   if (wanted !== it.text) {
-    const where = `the ${was.text} of line ${was.line}`;
-    throw new Fault(it.line, `this ${it.text} would close ${where}: a ${wanted} is missing before it`);
+    const end = `the ${it.text} of line ${it.line}`, begin = `the ${was.text} of line ${was.line}`;
+    if (was.text !== '{') throw new Fault(was.line, `this ${was.text} is not closed: a ${wanted} is missing before ${end}`);
+    throw new Fault(it.line, `this ${it.text} would close ${begin}: a ${wanted} is missing before it`);
   }
   [was.mate, it.mate, it.up] = [found.length, from, was.up];
 }

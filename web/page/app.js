@@ -218,6 +218,7 @@ export class App {
       this.show();
     });
     this.riddle.begin(level.kinds.map((it) => this.played[it]));
+    this.show();
   }
 
   /** The level is done. */
@@ -318,9 +319,11 @@ export class App {
     this.showTable();
     const { play } = this, choose = (/** @type {number} */ way) => this.choose(way);
     byId('right').classList.toggle('old', !play);
+    byId('right').classList.toggle('asking', Boolean(this.riddle));
     ['undo', 'again'].forEach((id) => (byId(id).disabled = !play || !play.path.length));
     if (!play) this.editor.show([]);
     if (!play || this.riddle) return;
+    byId('asks').textContent = 'Who moves?';
     showBoard(play.kind, play.now, this.seats);
     this.editor.show(chipsOf(play, choose));
     showChoices(play, choose);

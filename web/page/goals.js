@@ -22,7 +22,7 @@ export function showGoal({ level, number, isMet, isBroken, isOwn, more, about, g
     return;
   }
   const name = isOwn ? `Your level: ${level.name}` : `${number ? `${number}. ` : ''}${level.name}`;
-  place.append(make('b', '', `${name}. `));
+  place.append(make('b', '', `${name.replace(/([^?!.])$/, '$1.')} `));
   if (!isMet) place.append(make('span', '', taskOf(level, isBroken)));
   if (level.first && isBroken && !isMet) place.append(make('span', 'good', ' Broken. '));
   if (more) place.append(make('span', 'bad', ` ${more}`));
@@ -68,10 +68,10 @@ export class Riddle {
     this.show(it);
     const name = this.seats[it.move.who], line = it.state.lines[it.move.who];
     const rows = this.seats.map((own, seat) => make('li', '', button(own, () => this.answer(seat))));
-    byId('say').replaceChildren(make('span', 'event', `${this.at + 1} of ${this.asked.length}, under ${it.kind}: now ` +
-      `${name}, at line ${line}, ${it.says}. Who is inside then?`));
+    byId('asks').textContent = `${this.at + 1} of ${this.asked.length}, under ${it.kind}: now ${name}, at line ${line}, ` +
+      `${it.says}. Who is inside then?`;
     byId('choices').replaceChildren(...rows);
-    byId('told').replaceChildren();
+    ['told', 'say', 'end'].forEach((id) => byId(id).replaceChildren());
   }
 
   /** @param {number} seat */
