@@ -1,13 +1,13 @@
-// node web/kernel/test_heap.js KERNEL.wasm: the heap of the kernel in a page. 10,000 monitors are made, used and closed,
+// node web/kernel/test_heap.js: the heap of the kernel in a page. 10,000 monitors are made, used and closed,
 // and no byte may be lost. Then memory is refused at each size of the heap, and at last by WebAssembly itself. The
 // kernel must answer that memory is missing, and nothing may be lost by it.
 // @ts-check
-import { readFileSync } from 'node:fs';
+import { kernelBytes } from '../tests/kernel.js';
 
 const SEATS = 32, ROUNDS = 10000, STEP = 1024, TEXT = 1 << 16, MEBIBYTE = 1 << 20, LIMIT = 64 * MEBIBYTE;
 const INSIDE = 3, MEMORY = -5, NPNB = 3, FIRST_AUTOMATIC = 8, LONG_BUDGET = 60000;
 /** @type {any} */
-const kernel = new WebAssembly.Instance(new WebAssembly.Module(readFileSync(process.argv[2])), {}).exports;
+const kernel = new WebAssembly.Instance(new WebAssembly.Module(kernelBytes()), {}).exports;
 const each = Number(kernel.monk_k_seat_size());
 const tokens = kernel.room(BigInt(8 * SEATS)), granted = kernel.room(8n);
 const seats = kernel.room(BigInt(each * SEATS)), text = kernel.room(BigInt(TEXT));

@@ -12,19 +12,21 @@ import { byId, listed, make } from './dom.js';
  * @param {Played} kind */
 export const isSaid = (kind) => !kind.states.some(({ end }) => end && end[0] === 'no such call');
 
-/** @param {Played | undefined} kind @param {boolean} isHidden @returns {[string, string]} its words and its class */
+/** What came of a kind: in short, what a small screen leaves out, and the class.
+ * @param {Played | undefined} kind @param {boolean} isHidden @returns {[string, string, string]} */
 function outcomeOf(kind, isHidden) {
-  if (!kind) return ['\u2026', ''];
-  if (!isSaid(kind)) return ['not said', 'missing'];
-  if (isHidden) return ['?', ''];
-  return kind.bad ? [`\u2717 ${kind.bad.toLocaleString('en')} of ${kind.runs.toLocaleString('en')}`, 'broken'] :
-    [`\u2713 ${kind.runs.toLocaleString('en')}`, 'safe'];
+  if (!kind) return ['\u2026', '', ''];
+  if (!isSaid(kind)) return ['not said', '', 'missing'];
+  if (isHidden) return ['?', '', ''];
+  const runs = kind.runs.toLocaleString('en');
+  return kind.bad ? [`\u2717 ${kind.bad.toLocaleString('en')}`, ` of ${runs}`, 'broken'] : [`\u2713 ${runs}`, '', 'safe'];
 }
 
 /** @param {Table} table */
 export function showKinds({ played, on, isHidden, take }) {
   byId('kinds').replaceChildren(...KINDS.map((name) => {
-    const [words, style] = outcomeOf(played[name], isHidden), element = make('button', style, make('b', '', name), make('span', '', words));
+    const [words, more, style] = outcomeOf(played[name], isHidden), said = make('span', '', words, make('span', 'wide', more));
+    const element = make('button', style, make('b', '', name), said);
     element.setAttribute('role', 'radio');
     element.setAttribute('aria-checked', String(name === on));
     element.tabIndex = name === on ? 0 : -1;

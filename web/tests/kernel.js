@@ -12,8 +12,11 @@ function stored() {
   return gunzipSync(Buffer.from(found[1], 'base64'));
 }
 
+/** @returns {Uint8Array} */
+export const kernelBytes = () => (process.env.KERNEL ? readFileSync(process.env.KERNEL) : stored());
+
 /** @returns {Promise<Kernel>} */
-export const kernelOf = () => Kernel.of(process.env.KERNEL ? readFileSync(process.env.KERNEL) : stored());
+export const kernelOf = () => Kernel.of(kernelBytes());
 
 /** The text of a file of this folder, or beside it. @param {string} name @returns {string} */
 export const textOf = (name) => readFileSync(new URL(name, import.meta.url), 'utf8');

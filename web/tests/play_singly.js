@@ -61,28 +61,28 @@ function advance(choices) {
   return choices.length - 1;
 }
 
-/** Each order of the scene under the kind. @param {Way} way @returns {Run[]} */
-export function playSingly(way) {
-  /** @type {string[]} */
-  const names = [];
-  for (;;) {
-    const known = names.length;
-    try {
-      return playAll(way, names);
-    } catch (fault) {
-      if (!(fault instanceof NewName) || names.length === known) throw fault;
-    }
+/** Plays on; a condition that was not known before makes that order begin again.
+ * @param {Way} way @param {string[]} names @param {Choice[]} choices @param {number} fresh @returns {Run | null} */
+function playOn(way, names, choices, fresh) {
+  try {
+    return playOne(way, names, choices, fresh);
+  } catch (fault) {
+    if (!(fault instanceof NewName)) throw fault;
+    return playOn(way, names, choices, Math.max(0, choices.length - 1));
   }
 }
 
-/** @param {Way} way @param {string[]} names @returns {Run[]} */
-function playAll(way, names) {
+/** Each order of the scene under the kind.
+ * @param {Way} way @returns {Run[]} */
+export function playSingly(way) {
+  /** @type {string[]} */
+  const names = [];
   /** @type {Run[]} */
   const runs = [];
   /** @type {Choice[]} */
   const choices = [];
   for (let fresh = 0; fresh >= 0; fresh = advance(choices)) {
-    const run = playOne(way, names, choices, fresh);
+    const run = playOn(way, names, choices, fresh);
     if (run) runs.push(run);
   }
   return runs;
