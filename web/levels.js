@@ -1,5 +1,5 @@
-// Levels. A level is a text in the notation with a head of comments: what to do, and what was learned. The monitor is the
-// player's, and the threads are the level's own. A teacher writes one, and sends it as a link.
+// Levels. A level is a text in the notation with a head of comments: what to do, and what was learned. The monitor is
+// the player's, and the threads are the level's own. A teacher writes one, and sends it as a link.
 // @ts-check
 import { KINDS } from './engine/kinds.js';
 import { Fault } from './notation/tokens.js';

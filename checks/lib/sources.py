@@ -9,7 +9,7 @@ import subprocess
 from typing import Iterator, List, Optional, Union
 
 PYTHON, SHELLS = b"#!/usr/bin/env python3\n", (b"#!/usr/bin/env bash\n", b"#!/bin/sh\n")
-ENDINGS = (".c", ".cc", ".cpp", ".go", ".h", ".hpp", ".java", ".rs")
+ENDINGS = (".c", ".cc", ".cpp", ".go", ".h", ".hpp", ".java", ".js", ".rs")
 WIDTH, FILE_LINES, LINES, DEEP, PARAMETERS = 120, 400, 40, 3, 6
 # What is quoted doesn't count for the width of a line.
 QUOTED = re.compile(r"""\"(?:[^"\\]|\\.)*\"|'(?:[^'\\]|\\.)*'""")

@@ -10,7 +10,8 @@ import { actorsOf } from './actor.js';
 /** @typedef {import('./rule.js').Where} Where */
 /** A way: whose seat, the wish that it needs, words, where it leads, and what it makes happen.
  * @typedef {{who: number, wish: string, says: string, to: number, told: Event[]}} Move */
-/** @typedef {{where: Where, lines: number[], data: string, orders: number, bad: number, end: End | null, ways: Move[]}} Situation */
+/** @typedef {{where: Where, lines: number[], data: string, orders: number, bad: number, end: End | null,
+ *   ways: Move[]}} Situation */
 /** A kind: all orders and the bad ones, and its situations, of which 0 is the first.
  * @typedef {{kind: string, mode: string, runs: number, bad: number, states: Situation[]}} Played */
 /** What to play.
@@ -40,7 +41,8 @@ function packed(graph) {
 }
 
 /** Plays each order of a text under each kind. `each` is told of each kind that is done.
- * @param {import('./kernel.js').Kernel} kernel @param {Asked} asked @param {(kind: Played, seats: string[]) => void} [each]
+ * @param {import('./kernel.js').Kernel} kernel @param {Asked} asked
+ * @param {(kind: Played, seats: string[]) => void} [each]
  * @returns {Game} */
 export function gameOf(kernel, { source, unasked = 0, kinds = KINDS, isKept = false }, each = () => {}) {
   const make = sceneOf(source), seats = actorsOf(make().programs).map((it) => it.name).concat(unasked ? ['nobody'] : []);

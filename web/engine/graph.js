@@ -218,8 +218,10 @@ function look(stage, before) {
 /** What tells a situation from others.
  * @param {Stage} stage @param {Where} where @param {End | null} end */
 function keyOf(stage, where, end) {
+  const { scene } = stage, objects = [scene.identities, scene.older];
+  const seats = stage.actors.map((it) => [it.place, it.site, it.next && it.next.site, it.seen]);
   return JSON.stringify([stage.unasked, Object.entries(where).sort(), stage.data, stage.told, [...stage.tests.keys()],
-    stage.actors.map((it) => [it.place, it.site, it.next && it.next.site, it.seen]), end || [stage.scene.identities, stage.scene.older]]);
+    seats, end || objects]);
 }
 
 /** What a move made happen, with the rule behind it.

@@ -18,7 +18,8 @@ function releaseOf(told) {
 }
 
 /** Who is at the head of each queue when somebody is chosen.
- * @param {Stage} stage @param {Before} before @param {string} served @param {number | undefined} goes @returns {Front[]} */
+ * @param {Stage} stage @param {Before} before @param {string} served @param {number | undefined} goes
+ * @returns {Front[]} */
 function frontsOf(stage, before, served, goes) {
   const { where } = before, fronts = ['entry', 'waiter', 'signaller'].map((queue) => (where[queue] || [])[0]);
   if (served && fronts[1] === undefined) fronts[1] = stage.actors.findIndex((it) => it.name === served);

@@ -16,7 +16,8 @@ import { compiled } from '../notation/compile.js';
 /** A program that makes so many steps without a call goes round and round. */
 const MOST_STEPS = 50000, MOST_THREADS = 30;
 
-/** A value in words, as JSON has it, but for what JSON would lose. Two situations with the same words are taken for one,
+/** A value in words, as JSON has it, but for what JSON would lose. Two situations with the same words are taken for
+ * one,
  * so what can't be told apart is refused.
  * @param {unknown} it @param {Set<object>} seen @returns {string} */
 function told(it, seen) {
@@ -123,7 +124,8 @@ export class Scene {
   maker() {
     return Object.assign((/** @type {number} */ line) => this.step(line), {
       of: {}, data: this.data, tests: this.tests, ends: this.ends,
-      many: (/** @type {string} */ name, /** @type {number} */ n) => Array.from({ length: n }, (_, i) => `${name}[${i}]`),
+      many: (/** @type {string} */ name, /** @type {number} */ n) =>
+        Array.from({ length: n }, (_, i) => `${name}[${i}]`),
       call: (/** @type {Call} */ call) => this.call(call),
       visit: (/** @type {Place} */ place, /** @type {any} */ routine, /** @type {any[]} */ given) =>
         this.visit(place, routine, given),

@@ -91,4 +91,4 @@ makeAndClose(used);
 const refused = refuse(used);
 exhaust();
 must(refused > 1000, `memory was refused ${refused} times only`);
-console.log(`heap: ${ROUNDS} monitors lost no byte; memory was refused ${refused} times, and in the end by WebAssembly`);
+console.log(`heap: ${ROUNDS} monitors lost no byte; memory was refused ${refused} times, and at last by WebAssembly`);

@@ -124,7 +124,8 @@ class Parts {
     text.drop(i, this.open - 1);
     for (let k = this.open + 1; k < this.end; k++) {
       const word = text.at(k).text;
-      if (/^(monitor|thread|daemon)$/.test(word)) text.fail(k, `${word} stands inside the monitor: a } is missing before it`);
+      const isTop = /^(monitor|thread|daemon)$/.test(word);
+      if (isTop) text.fail(k, `${word} stands inside the monitor: a } is missing before it`);
       if (!HEADS.test(word)) this.stray(k, 'a monitor has variables, conditions, procedures, functions and invariants');
       k = this.part(k);
     }
@@ -159,7 +160,8 @@ class Parts {
     const word = this.text.at(i).text;
     if (word === 'monitor') return this.monitor(i);
     if (word === 'thread' || word === 'daemon') return this.thread(i);
-    if (/^(procedure|function|condition|invariant|finally)$/.test(word)) this.stray(i, `${word} belongs into the monitor`);
+    const isInner = /^(procedure|function|condition|invariant|finally)$/.test(word);
+    if (isInner) this.stray(i, `${word} belongs into the monitor`);
     if (!HEADS.test(word)) this.stray(i, 'a scene has a monitor and threads');
     return this.variables(i);
   }

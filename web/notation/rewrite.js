@@ -88,7 +88,8 @@ class Rewriter {
   /** The condition that a call names.
    * @param {number} i */
   readCondition(i) {
-    const { text, outline } = this, call = text.at(i).text, it = text.at(i + 2).text, names = [...outline.conditions.keys()];
+    const { text, outline } = this, call = text.at(i).text, it = text.at(i + 2).text;
+    const names = [...outline.conditions.keys()];
     if (!outline.conditions.has(it)) {
       const help = names.length ? `this monitor has ${names.join(', ')}` : 'write condition NAME; at the head of the monitor';
       text.fail(i, `${call}(${it === ')' ? '' : it}) needs a condition: ${help}`);
@@ -153,7 +154,8 @@ class Rewriter {
       close.post += ')';
       return;
     }
-    if (!routine.isEntry) text.fail(i, `${it.text} is a function of the monitor: a thread may call its procedures only`);
+    const only = 'a thread may call its procedures only';
+    if (!routine.isEntry) text.fail(i, `${it.text} is a function of the monitor: ${only}`);
     const given = text.tokens.slice(i + 2, text.at(i + 1).mate);
     const isComputed = given.some((t) => WORD.test(t.text) && !/^(me|true|false|null)$/.test(t.text));
     const thread = text.threadOf(i) || text.fail(i, `${it.text} is called outside a thread: put it into one`);
@@ -171,13 +173,15 @@ class Rewriter {
     const isBlock = it.text === '{' && (before === ')' || /^(else|do|try|finally|=>)$/.test(before) || it.isThread);
     const isEnd = it.text === ';' && it.up > -1 && text.at(it.up).text === '{' && it.up !== outline.open;
     const next = text.tokens[i + 1];
-    if (!(isBlock || isEnd) || !next || (isEnd && next.text === '}') || /^(else|while|case|default|catch|finally)$/.test(next.text)) return;
+    if (!(isBlock || isEnd) || !next || (isEnd && next.text === '}')) return;
+    if (/^(else|while|case|default|catch|finally)$/.test(next.text)) return;
     it.post += `$(${next.line});`;
   }
 
   /** @param {number} i */
   rewriteToken(i) {
-    const { text, outline } = this, it = text.tokens[i], verb = VERBS.get(it.text), known = outline.routines.get(it.text);
+    const { text, outline } = this, it = text.tokens[i];
+    const verb = VERBS.get(it.text), known = outline.routines.get(it.text);
     if (TYPES.test(it.text) && WORD.test(text.at(i + 1).text)) it.text = 'let';
     this.findKeeping(i);
     this.refuseForeign(i);

@@ -35,7 +35,8 @@ function close(it, found, open) {
   const was = found[from], wanted = PAIRS[was.text];
   if (wanted !== it.text) {
     const end = `the ${it.text} of line ${it.line}`, begin = `the ${was.text} of line ${was.line}`;
-    if (was.text !== '{') throw new Fault(was.line, `this ${was.text} is not closed: a ${wanted} is missing before ${end}`);
+    const isOpen = `this ${was.text} is not closed: a ${wanted} is missing before ${end}`;
+    if (was.text !== '{') throw new Fault(was.line, isOpen);
     throw new Fault(it.line, `this ${it.text} would close ${begin}: a ${wanted} is missing before it`);
   }
   [was.mate, it.mate, it.up] = [found.length, from, was.up];

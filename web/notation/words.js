@@ -12,8 +12,8 @@ export const WORD = /^[A-Za-z_$]/;
 /** A word that keeps a value while its routine waits. */
 export const KEEPING = /^(let|const|for|try)$/;
 /** What a part begins with. */
-export const HEADS =
-  /^(monitor|thread|daemon|procedure|function|condition|invariant|finally|let|const|var|int|boolean|bool|double|float|String)$/;
+const PARTS = 'monitor|thread|daemon|procedure|function|condition|invariant|finally|let|const';
+export const HEADS = new RegExp(`^(${PARTS})$|${TYPES.source}`);
 /** The words of JavaScript that name no variable. */
 export const RESERVED = new Set(['let', 'const', 'var', 'if', 'else', 'while', 'for', 'do', 'return', 'break', 'continue',
   'new', 'typeof', 'in', 'of', 'instanceof', 'true', 'false', 'null', 'undefined', 'switch', 'case', 'default', 'try',

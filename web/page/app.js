@@ -283,7 +283,8 @@ export class App {
     if (!this.play || this.riddle) return;
     const { kind, runs, bad } = this.play.kind;
     if (bad) {
-      this.tell(`Not so: ${bad.toLocaleString('en')} of ${runs.toLocaleString('en')} orders go wrong under ${kind}. Find one.`, 'bad');
+      const wrong = `${bad.toLocaleString('en')} of ${runs.toLocaleString('en')} orders go wrong`;
+      this.tell(`Not so: ${wrong} under ${kind}. Find one.`, 'bad');
       return;
     }
     this.tell(`So it is: all ${runs.toLocaleString('en')} orders are right under ${kind}.`, 'good');
@@ -368,7 +369,8 @@ export class App {
   place() {
     const { level, number, scene, play, editor, isEdited } = this, unasked = byId('unasked').checked;
     const game = { kind: this.kind, moves: play ? play.path : [], unasked, isEdited };
-    if (number && level) return { ...game, level: number, ...(editor.own === level.monitor ? {} : { text: editor.own }) };
+    const changed = level && editor.own !== level.monitor ? { text: editor.own } : {};
+    if (number && level) return { ...game, level: number, ...changed };
     const isStored = scene && editor.text === `${this.given.scenes[scene].replace(/\s*$/, '')}\n`;
     if (isStored) return { ...game, scene };
     return { ...game, text: level && !isEdited ? `${headOf(level)}${editor.text}` : editor.text };
@@ -379,7 +381,8 @@ export class App {
  * @param {Level} level @returns {string} */
 function headOf(level) {
   const goal = level.kind || (level.kinds.length === KINDS.length ? '' : level.kinds.join(', '));
-  const lines = [`level: ${level.name}`, `goal: ${level.goal} ${goal}`.trim(), ...(level.first ? [`first: break ${level.first}`] : []),
+  const first = level.first ? [`first: break ${level.first}`] : [];
+  const lines = [`level: ${level.name}`, `goal: ${level.goal} ${goal}`.trim(), ...first,
     ...(level.unasked ? ['unasked: 1'] : []), ...(level.without.length ? [`without: ${level.without.join(', ')}`] : []),
     ...(level.learned ? [`learned: ${level.learned}`] : []), ...(level.read ? [`read: ${level.read}`] : [])];
   return lines.map((it) => `// ${it}\n`).join('');

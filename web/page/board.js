@@ -21,7 +21,8 @@ const conditionsOf = (kind) => [...new Set(kind.states.flatMap(({ where }) => Ob
 export function showBoard(kind, state, seats) {
   const box = (/** @type {string} */ title, /** @type {string} */ queue) => boxOf(title, queue, state, seats);
   const isAutomatic = kind.mode === 'automatic', gives = /^(quasi-)?blocking$/.test(kind.mode);
-  const conditions = conditionsOf(kind).map((queue) => box(isAutomatic ? `waits until ${queue.slice(3)}` : queue, queue));
+  const titleOf = (/** @type {string} */ queue) => (isAutomatic ? `waits until ${queue.slice(3)}` : queue);
+  const conditions = conditionsOf(kind).map((queue) => box(titleOf(queue), queue));
   const inner = [box(`inside (${kind.kind}, ${kind.mode})`, 'inside'), ...conditions];
   if (!isAutomatic) inner.push(box('waiter queue', 'waiter'));
   if (gives) inner.push(box('signaller queue', 'signaller'));

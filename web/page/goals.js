@@ -43,7 +43,8 @@ function learned(level) {
 
 /** A row of questions on who goes on. */
 export class Riddle {
-  /** @param {string[]} seats @param {(question: Question) => void} show @param {(atOnce: number, of: number) => void} done */
+  /** @param {string[]} seats @param {(question: Question) => void} show
+   * @param {(atOnce: number, of: number) => void} done */
   constructor(seats, show, done) {
     this.seats = seats;
     this.show = show;

@@ -51,7 +51,8 @@ async function share(app) {
 function wire(app) {
   /** @type {Record<string, () => void>} */
   const does = { undo: () => app.undo(), again: () => app.restart(), hint: () => app.hint(), claim: () => app.claim(),
-    shortest: () => app.shortest(), theme: () => toggleTheme(app), link: () => share(app), keys: () => byId('help').showModal() };
+    shortest: () => app.shortest(), theme: () => toggleTheme(app), link: () => share(app),
+    keys: () => byId('help').showModal() };
   for (const id in does) byId(id).addEventListener('click', does[id]);
   byId('unasked').addEventListener('change', () => app.run());
   byId('levels').append(...app.given.levels.map((_, i) => button(String(i + 1), () => app.open({ level: i + 1 }))));
@@ -103,7 +104,8 @@ function follow(app) {
 async function begin() {
   const lacks = lacking();
   if (lacks) {
-    byId('fault').textContent = `This browser has no ${lacks}, which the page needs: take Firefox 113, Chromium 80, Safari 16.4 or a later one.`;
+    byId('fault').textContent = `This browser has no ${lacks}, which the page needs: take Firefox 113, Chromium 103, ` +
+      'Safari 16.4 or a later one.';
     return;
   }
   /** @type {Stored} */

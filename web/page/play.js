@@ -57,24 +57,32 @@ export class Play {
   /** Each event so far, with the number of the move that made it.
    * @returns {{event: Event, move: number}[]} */
   events() {
-    return this.path.flatMap((way, i) => this.kind.states[this.at[i]].ways[way].told.map((event) => ({ event, move: i })));
+    const told = (/** @type {number} */ way, /** @type {number} */ i) => this.kind.states[this.at[i]].ways[way].told;
+    return this.path.flatMap((way, i) => told(way, i).map((event) => ({ event, move: i })));
   }
 
   /** Who came in between the signal and the seat that it woke; for a run that is stuck, the signals that found nobody.
    * @returns {string} */
   between() {
-    const { end } = this.now, all = this.events().map(({ event }) => event), name = (/** @type {number} */ i) => this.seats[i];
-    if (end && end[0] === 'stuck') {
-      const lost = all.filter(([, words]) => /^signals .*nobody waits/.test(words));
-      return [...new Set(lost.map(([seat, words]) => `${name(seat)} ${words}.`))].join(' ');
-    }
-    const who = this.seats.indexOf(end ? end[1] : ''), goes = (/** @type {Event} */ it) => /^(comes in|goes on)$/.test(it[1]);
+    const { end } = this.now, all = this.events().map(({ event }) => event);
+    if (end && end[0] === 'stuck') return this.lost(all);
+    const name = (/** @type {number} */ i) => this.seats[i];
+    const who = this.seats.indexOf(end ? end[1] : '');
+    const goes = (/** @type {Event} */ it) => /^(comes in|goes on)$/.test(it[1]);
     const on = all.map(([seat, words]) => seat === who && words === 'goes on').lastIndexOf(true);
     const served = (/** @type {string} */ words) => (words.match(/^signals .*?: (.*?)(;|$)/) || ['', ''])[1].split(', ');
     const by = all.slice(0, on + 1).map(([, words]) => served(words).includes(name(who))).lastIndexOf(true);
     if (on < 0 || by < 0) return '';
-    const came = [...new Set(all.slice(by + 1, on).filter(goes).map(([seat]) => name(seat)))], signaller = name(all[by][0]);
+    const came = [...new Set(all.slice(by + 1, on).filter(goes).map(([seat]) => name(seat)))];
+    const signaller = name(all[by][0]);
     const then = came.length ? `${came.join(' and ')} came in between` : `${signaller} itself went on`;
     return `${signaller} signalled, ${then}, and ${name(who)} went on.`;
+  }
+
+  /** The signals that found nobody.
+   * @param {Event[]} all @returns {string} */
+  lost(all) {
+    const lost = all.filter(([, words]) => /^signals .*nobody waits/.test(words));
+    return [...new Set(lost.map(([seat, words]) => `${this.seats[seat]} ${words}.`))].join(' ');
   }
 }

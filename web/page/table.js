@@ -41,7 +41,8 @@ export function showKinds({ played, on, isHidden, take }) {
  * @param {Played[]} all @returns {string} */
 export function verdictOf(all) {
   const bad = all.filter((it) => it.bad && isSaid(it)), unsaid = all.filter((it) => !isSaid(it));
-  const right = all.filter((it) => !it.bad), names = (/** @type {Played[]} */ some) => listed(some.map((it) => it.kind));
+  const right = all.filter((it) => !it.bad);
+  const names = (/** @type {Played[]} */ some) => listed(some.map((it) => it.kind));
   const parts = [];
   if (bad.length) {
     const [outcome, who, why] = worstOf(bad[0]) || ['', '', ''];

@@ -1,5 +1,5 @@
-// The page's side of the worker: it plays one text at a time. A text that is asked for while another is played ends that
-// one, and what takes too long is ended by the page.
+// The page's side of the worker: it plays one text at a time. A text that is asked for while another is played ends
+// that one, and what takes too long is ended by the page.
 // @ts-check
 
 /** @typedef {import('../engine/game.js').Played} Played */
@@ -36,8 +36,9 @@ export class Work {
     this.id += 1;
     this.count = 0;
     this.isBusy = true;
-    const words = () => `No end after ${PATIENCE / 1000} seconds, at kind ${this.count + 1} of ${order.kinds.length}: there ` +
-      'are too many orders, or a loop without an end. Take fewer threads or rounds.';
+    const at = () => `at kind ${this.count + 1} of ${order.kinds.length}`;
+    const words = () => `No end after ${PATIENCE / 1000} seconds, ${at()}: ` +
+      'there are too many orders, or a loop without an end. Take fewer threads or rounds.';
     this.timer = setTimeout(() => this.end(words()), PATIENCE);
     /** @type {Worker} */ (this.worker).postMessage({ ...order, id: this.id });
   }

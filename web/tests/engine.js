@@ -1,5 +1,5 @@
-// node web/tests/engine.js: the merged search against each order played singly, as many, and as many that go wrong. Some
-// scenes are also played with wake-ups that nobody asked for.
+// node web/tests/engine.js: the merged search against each order played singly, as many, and as many that go wrong.
+// Some scenes are also played with wake-ups that nobody asked for.
 // @ts-check
 import { Graph } from '../engine/graph.js';
 import { KINDS } from '../engine/kinds.js';

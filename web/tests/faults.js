@@ -5,7 +5,8 @@ import { gameOf, worstOf } from '../engine/game.js';
 import { kernelOf, textOf } from './kernel.js';
 
 const LEAST = 60;
-/** A file of texts: a line `--- LINE WORDS` before each (`--- right` where there is no fault). `BODY` in the first line of
+/** A file of texts: a line `--- LINE WORDS` before each (`--- right` where there is no fault). `BODY` in the first
+ * line of
  * a text is put into the monitor below, whose body is line 5. */
 const FRAME = ['monitor M {', '  let items = [];', '  condition item;', '  procedure f() {', '    BODY', '  }', '}', 'THREADS', ''];
 const THREADS = 'thread a { f(); }';
@@ -41,5 +42,6 @@ for (const it of texts) {
   console.error(`faults: wanted ${head}, and it says ${said || 'nothing'}\n${rest.join('\n')}`);
 }
 if (refused < LEAST) console.error(`faults: there are only ${refused} texts with a fault`);
-console.log(`faults: ${texts.length - wrong} of ${texts.length} texts are answered as they should be, ${refused} of them refused`);
+const right = texts.length - wrong;
+console.log(`faults: ${right} of ${texts.length} texts are answered as they should be, ${refused} of them refused`);
 process.exit(wrong || refused < LEAST ? 1 : 0);

@@ -1,5 +1,5 @@
-// node web/tests/histories.js SCENE..: each order of these scenes (web/tests/shared) under each kind, by the kernel of the
-// page. Prints one object of JSON: for each scene and kind the outcome and the history of each order.
+// node web/tests/histories.js SCENE..: each order of these scenes (web/tests/shared) under each kind, by the kernel of
+// the page. Prints one object of JSON: for each scene and kind the outcome and the history of each order.
 // @ts-check
 import { KINDS } from '../engine/kinds.js';
 import { sceneOf } from '../engine/scene.js';

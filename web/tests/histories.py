@@ -3,8 +3,8 @@
 
 Each order of five scenes is played under ten kinds, by the page's engine over the kernel in WebAssembly, and by Python
 over libmonk. The same orders must be possible, with the same outcomes and histories. --audit also gives some of the
-histories to `monk audit`, chosen by dice: all must be legal. The library is the one that MONK_LIBRARY names, else that of
-`make -C c`."""
+histories to `monk audit`, chosen by dice: all must be legal. The library is the one that MONK_LIBRARY names, else that
+of `make -C c`."""
 from __future__ import annotations
 
 import importlib

@@ -1,5 +1,5 @@
-// node web/tests/levels.js: each level as given goes wrong where it should, and its stored answer passes. A level with a
-// faulty head is refused in words.
+// node web/tests/levels.js: each level as given goes wrong where it should, and its stored answer passes. A level with
+// a faulty head is refused in words.
 // @ts-check
 import { existsSync, readFileSync, readdirSync } from 'node:fs';
 import { gameOf } from '../engine/game.js';
@@ -9,7 +9,7 @@ import { questionsOf } from '../page/questions.js';
 import { kernelOf } from './kernel.js';
 
 /** @typedef {import('../levels.js').Level} Level */
-const FOLDER = new URL('../levels/', import.meta.url), MANY = 10;
+const FOLDER = new URL('../levels/', import.meta.url), MANY = 10, ASKED = 3;
 /** Faulty heads: what is changed in the first level, and what must be said. */
 const FAULTS = [['goal: predict PB, NPNB', 'goal: predict PB, XY', 'Line 2: there is no kind XY'],
   ['goal: predict PB, NPNB', 'goal: guess', 'Line 2: write // goal:'], ['goal: predict PB, NPNB', 'goal: break', 'Line 2: break needs one kind'],
@@ -34,7 +34,8 @@ function check(file, level) {
   if (goal === 'break') must(begun[level.kind].bad > 0, `${name} can't be broken under ${level.kind}`);
   if (goal === 'claim') must(begun[level.kind].bad === 0, `${name} can be broken under ${level.kind}`);
   if (goal === 'predict') {
-    for (const kind of level.kinds) must(questionsOf(begun[kind]).length === 3, `${name} asks too little under ${kind}`);
+    const asks = level.kinds.every((kind) => questionsOf(begun[kind]).length === ASKED);
+    must(asks, `${name} asks too little`);
   }
   if (goal !== 'repair') return;
   must(lacks(level, level.monitor, begun) !== '', `${name} is right as given`);

@@ -1,11 +1,11 @@
 #!/usr/bin/env python3
-"""Tries the stored page in Chromium, as a student does: web/tests/page.py [--shots FOLDER] [--slow]
+"""Tries the stored page in Chromium, as a student does: web/tests/page.py [--shots FOLDER] [--times]
 
-The page is opened from its file. Levels 1 to 4 are solved, by keyboard alone; a text with a fault and one without an end
-get their words; a scene, a level and moves go through a link; what was done is kept. On 1280x720 the game is seen
-without a scroll, and on 390x844 each choice stands at its thread's line, too. In light and dark each text has a contrast
-of 4.5 or more, and each control a name and a size. A scene that calls elsewhere reaches nobody. --slow also measures the
-first answer by a processor four times slower, which the gate doesn't. Pictures go to the folder of --shots."""
+The page is opened from its file. Levels 1 to 4 are solved, by keyboard alone; a text with a fault and one without an
+end get their words; a scene, a level and moves go through a link; what was done is kept. On 1280x720 the game is seen
+without a scroll, and on 390x844 each choice stands at its thread's line, too. In light and dark each text has a
+contrast of 4.5 or more, and each control a name and a size. A scene that calls elsewhere reaches nobody. --times also
+prints how long the answers of each scene take, which the gate doesn't. Pictures go to the folder of --shots."""
 from __future__ import annotations
 
 import argparse
@@ -34,14 +34,16 @@ LOOK = """(() => {
   const part = (v) => (v <= .03928 ? v / 12.92 : ((v + .055) / 1.055) ** 2.4);
   const light = ([r, g, b]) => .2126 * part(r / 255) + .7152 * part(g / 255) + .0722 * part(b / 255);
   const ground = (el) => { for (let it = el; it; it = it.parentElement) {
-    const c = rgb(getComputedStyle(it).backgroundColor); if (c.length === 3 || c[3] > .5) return c; } return [255, 255, 255]; };
+    const c = rgb(getComputedStyle(it).backgroundColor);
+    if (c.length === 3 || c[3] > .5) return c; } return [255, 255, 255]; };
   const found = [];
   for (const el of document.querySelectorAll('body *')) {
     const isText = [...el.childNodes].some((n) => n.nodeType === 3 && n.textContent.trim()) || el.tagName === 'TEXTAREA';
     if (!isText || !el.getClientRects().length || /SCRIPT|STYLE|OPTION/.test(el.tagName) || el.closest(':disabled')) continue;
     const a = light(rgb(getComputedStyle(el).color)), b = light(ground(el));
     const ratio = (Math.max(a, b) + .05) / (Math.min(a, b) + .05);
-    if (ratio < 4.5) found.push(`contrast ${ratio.toFixed(2)} of ${el.tagName} ${el.id} ${el.className}: ${el.textContent.slice(0, 20)}`);
+    const name = `${el.tagName} ${el.id} ${el.className}: ${el.textContent.slice(0, 20)}`;
+    if (ratio < 4.5) found.push(`contrast ${ratio.toFixed(2)} of ${name}`);
   }
   for (const el of document.querySelectorAll('button, select, textarea, input')) {
     const box = el.getBoundingClientRect();
@@ -57,7 +59,20 @@ BESIDE = """(() => { const choices = document.querySelectorAll('#choices button'
     return box.width > 20 && box.right <= innerWidth && box.top >= 0 && box.bottom <= innerHeight; });
   return choices > 0 && beside.length === choices; })()"""
 SEEN = """(() => ['code', 'monitor', 'choices', 'kinds', 'goal', 'say'].filter((id) => {
-  const box = document.getElementById(id).getBoundingClientRect(); return box.bottom > innerHeight || box.right > innerWidth; }))()"""
+  const box = document.getElementById(id).getBoundingClientRect();
+  return box.bottom > innerHeight || box.right > innerWidth; }))()"""
+TIMED = """new Promise((done) => {
+  const { work } = playground, begun = performance.now(), tell = work.tell;
+  let first = 0;
+  work.tell = (said) => {
+    tell(said);
+    first = first || performance.now() - begun;
+    if (!said.isDone) return;
+    work.tell = tell;
+    done([first, performance.now() - begun]);
+  };
+  playground.run();
+})"""
 CALLS = ["fetch(A)", "new XMLHttpRequest().open('GET', A), 0", "importScripts(A)", "import(A)", "new WebSocket(A.replace('http', 'ws'))",
          "new EventSource(A)", "navigator.sendBeacon(A)", "new Worker(A)"]
 FAULTY = "monitor M {\n  let items = [];\n  procedure f() { items.push(\"tea); }\n}\nthread t { f(); }"
@@ -287,26 +302,23 @@ def alone(it: Student) -> None:
     server.close()
 
 
-def slow(it: Student) -> None:
-    """The first answer by a processor that is four times slower, of each scene. (Workers aren't slowed down by Chromium.)"""
+def times(it: Student) -> None:
+    """Prints how long the first kind and all ten take, in each scene."""
     for scene in it.run("Object.keys(playground.given.scenes)"):
         it.open(f"#scene={scene}")
-        first = it.run("""new Promise((done) => { const { work } = playground, begun = performance.now(), tell = work.tell;
-          work.tell = (said) => { tell(said); if (said.played) { work.tell = tell; done(performance.now() - begun); } };
-          playground.run(); })""")
-        it.wait(READY, scene)
-        whole = it.run("performance.now() - playground.begun")
-        print(f"{scene}: the first kind after {first:.0f} ms, all ten before {whole:.0f} ms")
+        first, whole = it.run(TIMED)
+        print(f"{scene}: the first kind after {first:.0f} ms, all ten after {whole:.0f} ms")
 
 
 def main() -> int:
     asked = argparse.ArgumentParser()
     asked.add_argument("--shots", metavar="FOLDER", default="")
-    asked.add_argument("--slow", action="store_true")
+    asked.add_argument("--times", action="store_true")
     words = asked.parse_args()
     with Browser() as browser:
         it = Student(browser, words.shots)
-        for part in (riddle, thief, repair, claim, break_first, texts, links, looks, speed, alone, *[slow] * words.slow):
+        parts = [riddle, thief, repair, claim, break_first, texts, links, looks, speed, alone]
+        for part in [*parts, times] if words.times else parts:
             part(it)
     print("\n".join([*it.wrong, f"page: {it.tried - len(it.wrong)} of {it.tried} things are as they should be"]))
     return 1 if it.wrong else 0

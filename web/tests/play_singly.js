@@ -1,5 +1,5 @@
-// Plays each order of a scene singly: no situation is merged with another. Of the wishes of one release, those that come
-// to the same are one order.
+// Plays each order of a scene singly: no situation is merged with another. Of the wishes of one release, those that
+// come to the same are one order.
 // @ts-check
 import { NewName, Over } from '../engine/over.js';
 import { Stage } from '../engine/stage.js';

@@ -1,5 +1,6 @@
-// node web/tests/scenes.js [--write]: each scene under each kind must come to what its table says. A scene of web/scenes
-// must be right under all ten kinds, and its mistake (NAME_wrong) wrong under one or more. --write writes the tables.
+// node web/tests/scenes.js [--write]: each scene under each kind must come to what its table says. A scene of
+// web/scenes must be right under all ten kinds, and its mistake (NAME_wrong) wrong under one or more. --write writes
+// the tables.
 // @ts-check
 import { existsSync, readFileSync, readdirSync, writeFileSync } from 'node:fs';
 import { gameOf, worstOf } from '../engine/game.js';
@@ -16,7 +17,8 @@ function tableOf(text) {
   return Object.values(game.kinds).map((kind) => {
     const end = worstOf(kind), [outcome, who, why] = end || ['right', '', ''];
     orders += kind.runs;
-    return `${kind.kind.padEnd(5)} ${outcome.padEnd(12)} ${kind.bad} of ${kind.runs}${why ? `  ${who ? `${who}: ` : ''}${why}` : ''}\n`;
+    const said = why ? `  ${who ? `${who}: ` : ''}${why}` : '';
+    return `${kind.kind.padEnd(5)} ${outcome.padEnd(12)} ${kind.bad} of ${kind.runs}${said}\n`;
   }).join('');
 }
 
@@ -42,5 +44,6 @@ for (const folder of FOLDERS) {
     check(new URL(name, folder), name.replace('.txt', ''));
   }
 }
-console.log(`scenes: ${scenes - wrong} of ${scenes} come to what their tables say, in ${orders.toLocaleString('en')} orders`);
+const many = orders.toLocaleString('en');
+console.log(`scenes: ${scenes - wrong} of ${scenes} come to what their tables say, in ${many} orders`);
 process.exit(wrong ? 1 : 0);
