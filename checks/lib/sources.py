@@ -1,5 +1,5 @@
-"""What is refused in the files of C, C++, Java, Go, Rust, shell and Python that git tracks: lines that are too wide,
-files that are too long; and in Python also what has no type, and functions that are too big."""
+"""What is refused in the files of C, C++, Java, Go, JavaScript, Rust, shell and Python that git tracks: lines that are
+too wide, files that are too long; and in Python also what has no type, and functions that are too big."""
 from __future__ import annotations
 
 import ast
