@@ -138,7 +138,7 @@ export class App {
     editor.lay();
     byId('fault').textContent = '';
     if (!this.readLevel()) return;
-    const first = this.kind || (level ? level.first || level.kind || level.kinds[0] : '') || DEFAULT_KIND;
+    const first = this.kind || (level ? firstOf(level) : DEFAULT_KIND);
     this.kind = first;
     const kinds = [first, ...KINDS.filter((it) => it !== first)];
     this.work.ask({ source: editor.text, unasked: Number(byId('unasked').checked), kinds });
@@ -175,7 +175,8 @@ export class App {
   fail(words, line) {
     byId('fault').textContent = words;
     this.editor.mark(line);
-    this.play = null;
+    // a kind that was played before another was too large stays playable
+    if (!Object.keys(this.played).length) this.play = null;
     this.show();
   }
 
@@ -375,6 +376,12 @@ export class App {
     if (isStored) return { ...game, scene };
     return { ...game, text: level && !isEdited ? `${headOf(level)}${editor.text}` : editor.text };
   }
+}
+
+/** The kind that a level begins with.
+ * @param {Level} level @returns {string} */
+function firstOf({ first, kind, goal, kinds }) {
+  return first || kind || (goal === 'repair' && kinds.includes(DEFAULT_KIND) ? DEFAULT_KIND : kinds[0]);
 }
 
 /** The head of a level that came by a link.

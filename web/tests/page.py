@@ -77,6 +77,8 @@ CALLS = ["fetch(A)", "new XMLHttpRequest().open('GET', A), 0", "importScripts(A)
          "new EventSource(A)", "navigator.sendBeacon(A)", "new Worker(A)"]
 FAULTY = "monitor M {\n  let items = [];\n  procedure f() { items.push(\"tea); }\n}\nthread t { f(); }"
 ENDLESS = "monitor M {\n  procedure f() { for (;;); }\n}\nthread t { f(); }"
+MANY = ("monitor M {\n  let n = 0;\n  condition c;\n  procedure f() { n += 1; if (n < 3) wait(c); signal(c); n -= 1; }\n}\n"
+        "thread t[9] { f(); f(); f(); }")
 OWN = ("// level: Tea\n// goal: break NPNB\n// learned: a word\nmonitor M {\n  let n = 0;\n  condition c;\n  procedure f() "
        "{ if (n == 0) wait(c); assert(n > 0); n -= 1; }\n  procedure g() { n += 1; signal(c); }\n}\n"
        "thread a[2] { f(); }\ndaemon thread b { g(); }\n")
@@ -221,6 +223,8 @@ def texts(it: Student) -> None:
     it.write("monitor M {\n  procedure f() { }\n}\nthread t { f(); }")
     it.wait(READY, "the page goes on after an endless text")
     it.must("right says only that no thread is stuck" in it.text("verdict"), it.text("verdict"))
+    it.write(MANY)
+    it.wait("document.getElementById('fault').textContent.startsWith('Too large: NPNB has more than')", "a large scene")
     it.quiet("texts")
 
 
