@@ -194,9 +194,15 @@ class Rewriter {
 
   /** @returns {Text} */
   rewrite() {
-    const { text, outline } = this, end = text.tokens[outline.end];
     this.findWaits();
-    for (let i = 0; i < text.length; i++) this.rewriteToken(i);
+    for (let i = 0; i < this.text.length; i++) this.rewriteToken(i);
+    this.rewriteHeads();
+    return this.text;
+  }
+
+  /** The heads of routines and threads, and what the monitor hands out at its end. */
+  rewriteHeads() {
+    const { text, outline } = this, end = text.tokens[outline.end];
     for (const [name, it] of outline.routines) {
       text.tokens[it.head].text = it.waits ? 'function*' : 'function';
       if (it.isEntry) end.pre += `$.of.${name}=${name};`;
@@ -205,7 +211,6 @@ class Rewriter {
       if (it.isThread) it.pre = it.pre.replace('KEEPS', String(this.keeps || it.isKeeping));
     }
     end.pre += `$.data.push(()=>({${outline.data.join()}}));`;
-    return text;
   }
 }
 

@@ -347,13 +347,14 @@ export class App {
   /** What right means, if nothing is required. */
   warning() {
     const bare = this.editor.text.replace(/\/\/[^\n]*/g, '');
-    return /\b(assert|invariant|finally)\b/.test(bare) ? '' :
+    return /\b(assert|invariant|finally)\b/.test(bare) || !KINDS.some((it) => !this.played[it].bad) ? '' :
       ' There is no assert, invariant or finally: right says only that no thread is stuck.';
   }
 
   showGoal() {
     const { level, number, isMet, isBroken, more } = this, next = this.given.levels[number];
-    const [line] = this.editor.text.split('\n'), about = /^\/\/ /.test(line) && !level ? line.slice(3) : 'A scene of your own.';
+    const [head] = this.editor.text.match(/^(\/\/.*\n)+/) || [''];
+    const about = head.replace(/^\/\/ ?/gm, '').replace(/\n/g, ' ').trim() || 'A scene of your own.';
     showGoal({ level, number, isMet: isMet && !this.isEdited, isBroken, isOwn: this.isEdited, more, about,
       goes: number && next ? () => this.open({ level: number + 1 }) : null });
     byId('levels').querySelectorAll('button').forEach((/** @type {HTMLElement} */ it, /** @type {number} */ i) => {

@@ -25,7 +25,7 @@ export function showChoices(play, choose) {
   });
   seats.forEach((name, seat) => {
     const place = placeOf(play, seat);
-    if (FREE.test(place)) return;
+    if (FREE.test(place) || now.end) return;
     const at = now.where[place].indexOf(seat), what = place.startsWith('on ') ? place : `in the ${place} queue`;
     rows.push(make('li', 'cannot', `${name} can\u2019t move: waits ${what} (${NTH[at] || at + 1})`));
   });

@@ -8,6 +8,9 @@ import { byId, listed, make } from './dom.js';
 /** What is shown of the kinds: what was played, which one is on, whether outcomes are hidden, and what is called done.
  * @typedef {{played: Record<string, Played>, on: string, isHidden: boolean, take: (kind: string) => void}} Table */
 
+/** From here on a number is rounded, as in 1.5M. */
+const SHORT = 100000, COMPACT = /** @type {const} */ ({ notation: 'compact', maximumFractionDigits: 1 });
+
 /** Whether the scene can be said under the kind.
  * @param {Played} kind */
 export const isSaid = (kind) => !kind.states.some(({ end }) => end && end[0] === 'no such call');
@@ -18,8 +21,8 @@ function outcomeOf(kind, isHidden) {
   if (!kind) return ['\u2026', '', ''];
   if (!isSaid(kind)) return ['not said', '', 'missing'];
   if (isHidden) return ['?', '', ''];
-  const runs = kind.runs.toLocaleString('en');
-  return kind.bad ? [`\u2717 ${kind.bad.toLocaleString('en')}`, ` of ${runs}`, 'broken'] : [`\u2713 ${runs}`, '', 'safe'];
+  const [runs, bad] = [kind.runs, kind.bad].map((n) => n.toLocaleString('en', n < SHORT ? {} : COMPACT));
+  return kind.bad ? [`\u2717 ${bad}`, ` of ${runs}`, 'broken'] : [`\u2713 ${runs}`, '', 'safe'];
 }
 
 /** @param {Table} table */
