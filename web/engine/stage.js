@@ -338,7 +338,7 @@ export class Stage {
   testEnd() {
     const waits = this.actors.filter((it) => it.waits() && !this.scene.mayWait.has(it.name));
     if (waits.length) {
-      const where = waits.map((it) => `${it.name} waits on ${it.on || it.place}`).join(', ');
+      const where = waits.map((it) => `${it.name} waits on ${it.call().name || it.place}`).join(', ');
       throw new Over('stuck', '', `nobody can go on: ${where}`);
     }
     for (const { line, test } of this.scene.ends) this.test(test, `at the end line ${line}`, '');
@@ -361,6 +361,6 @@ export class Stage {
 /** The name of what an automatic kind waits for.
  * @param {Actor} actor @param {Call} call @returns {string} */
 function testOf(actor, call) {
-  const place = call.isMany || call.isOwn ? `${call.name}, line ${call.line}` : call.name;
-  return call.isOwn ? `${place}, ${actor.name}` : place;
+  const place = call.isMany ? `${call.name}, line ${call.line}` : call.name;
+  return call.isOwn ? `${place}, for ${actor.name}` : place;
 }

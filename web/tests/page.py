@@ -127,9 +127,10 @@ class Student:
     def write(self, text: str) -> None:
         """Puts a text in place of the one in the editor, by keys."""
         self.browser.press("e")
-        self.run("document.getElementById('source').select(), 1")
+        begun = self.run("document.getElementById('source').select(), playground.begun")
         self.browser.call("Input.insertText", text=text)
         self.browser.press("Escape")
+        self.wait(f"playground.begun !== {begun}", "a text that was written is played")
 
     def shoot(self, name: str) -> None:
         if self.shots:
