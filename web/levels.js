@@ -13,6 +13,8 @@ import { Fault } from './notation/tokens.js';
 /** @typedef {import('./engine/game.js').Played} Played */
 
 const HEAD = /^\/\/ (\w+): *(.*)$/, FIRST_LINE = /^\/\/ level: /, GOALS = ['break', 'claim', 'predict', 'repair'];
+/** The kind that most students know: POSIX, Java. */
+const MESA = 'NPNB';
 const FIELDS = ['level', 'goal', 'first', 'unasked', 'without', 'learned', 'read'];
 const THREADS = /^(daemon +)?thread\b/m, LINK = /^[A-Z]+\.md#[a-z0-9-]+$/;
 
@@ -83,4 +85,21 @@ export function lacks(level, monitor, played) {
   if (bad) return `${bad}: ${played[bad].bad} of ${played[bad].runs} orders go wrong.`;
   const missing = level.kinds.find((kind) => !played[kind]);
   return missing ? `${missing} is not played yet.` : '';
+}
+
+/** The kind that a level begins with.
+ * @param {Level} level @returns {string} */
+export function firstOf({ first, kind, goal, kinds }) {
+  return first || kind || (goal === 'repair' && kinds.includes(MESA) ? MESA : kinds[0]);
+}
+
+/** The head of a level that came by a link.
+ * @param {Level} level @returns {string} */
+export function headerOf(level) {
+  const goal = level.kind || (level.kinds.length === KINDS.length ? '' : level.kinds.join(', '));
+  const first = level.first ? [`first: break ${level.first}`] : [];
+  const lines = [`level: ${level.name}`, `goal: ${level.goal} ${goal}`.trim(), ...first,
+    ...(level.unasked ? ['unasked: 1'] : []), ...(level.without.length ? [`without: ${level.without.join(', ')}`] : []),
+    ...(level.learned ? [`learned: ${level.learned}`] : []), ...(level.read ? [`read: ${level.read}`] : [])];
+  return lines.map((it) => `// ${it}\n`).join('');
 }

@@ -1,7 +1,7 @@
 // The page: a text, what came of it under each kind, and the game in one of them.
 // @ts-check
 import { KINDS } from '../engine/kinds.js';
-import { isLevel, lacks, levelOf } from '../levels.js';
+import { firstOf, headerOf, isLevel, lacks, levelOf } from '../levels.js';
 import { showBoard } from './board.js';
 import { byId } from './dom.js';
 import { Editor } from './editor.js';
@@ -355,8 +355,9 @@ export class App {
     const { level, number, isMet, isBroken, more } = this, next = this.given.levels[number];
     const [head] = this.editor.text.match(/^(\/\/.*\n)+/) || [''];
     const about = head.replace(/^\/\/ ?/gm, '').replace(/\n/g, ' ').trim() || 'A scene of your own.';
+    const isChanged = level && !this.isEdited && this.editor.own !== level.monitor;
     showGoal({ level, number, isMet: isMet && !this.isEdited, isBroken, isOwn: this.isEdited, more, about,
-      goes: number && next ? () => this.open({ level: number + 1 }) : null });
+      resets: isChanged ? () => this.reset(level) : null, goes: number && next ? () => this.open({ level: number + 1 }) : null });
     byId('levels').querySelectorAll('button').forEach((/** @type {HTMLElement} */ it, /** @type {number} */ i) => {
       const { name, goal } = this.given.levels[i], isDone = this.kept.met.includes(`${name} ${goal}`);
       it.className = isDone ? 'met' : '';
@@ -364,6 +365,15 @@ export class App {
       it.setAttribute('aria-label', `Level ${i + 1}: ${name}${isDone ? ', done' : ''}`);
     });
     byId('scenes').value = this.scene;
+  }
+
+  /** Takes back what was changed in a level's text.
+   * @param {Level} level */
+  reset(level) {
+    delete this.kept.texts[this.key];
+    keep(this.kept);
+    this.openLevel(level);
+    this.run();
   }
 
   /** What a link to this holds.
@@ -375,23 +385,6 @@ export class App {
     if (number && level) return { ...game, level: number, ...changed };
     const isStored = scene && editor.text === `${this.given.scenes[scene].replace(/\s*$/, '')}\n`;
     if (isStored) return { ...game, scene };
-    return { ...game, text: level && !isEdited ? `${headOf(level)}${editor.text}` : editor.text };
+    return { ...game, text: level && !isEdited ? `${headerOf(level)}${editor.text}` : editor.text };
   }
-}
-
-/** The kind that a level begins with.
- * @param {Level} level @returns {string} */
-function firstOf({ first, kind, goal, kinds }) {
-  return first || kind || (goal === 'repair' && kinds.includes(DEFAULT_KIND) ? DEFAULT_KIND : kinds[0]);
-}
-
-/** The head of a level that came by a link.
- * @param {Level} level @returns {string} */
-function headOf(level) {
-  const goal = level.kind || (level.kinds.length === KINDS.length ? '' : level.kinds.join(', '));
-  const first = level.first ? [`first: break ${level.first}`] : [];
-  const lines = [`level: ${level.name}`, `goal: ${level.goal} ${goal}`.trim(), ...first,
-    ...(level.unasked ? ['unasked: 1'] : []), ...(level.without.length ? [`without: ${level.without.join(', ')}`] : []),
-    ...(level.learned ? [`learned: ${level.learned}`] : []), ...(level.read ? [`read: ${level.read}`] : [])];
-  return lines.map((it) => `// ${it}\n`).join('');
 }

@@ -8,12 +8,12 @@ import { questionsOf } from './questions.js';
 /** @typedef {import('../engine/game.js').Played} Played */
 /** @typedef {import('./questions.js').Question} Question */
 
-/** What is shown above the code. `goes` leads to the next level.
+/** What is shown above the code. `goes` leads to the next level, `resets` takes back what was changed.
  * @typedef {{level: Level | null, number: number, isMet: boolean, isBroken: boolean, isOwn: boolean, more: string,
- *   about: string, goes: (() => void) | null}} Goal */
+ *   about: string, goes: (() => void) | null, resets: (() => void) | null}} Goal */
 
 /** @param {Goal} goal */
-export function showGoal({ level, number, isMet, isBroken, isOwn, more, about, goes }) {
+export function showGoal({ level, number, isMet, isBroken, isOwn, more, about, goes, resets }) {
   const place = byId('goal');
   place.className = isMet ? 'card met' : 'card';
   place.replaceChildren();
@@ -26,6 +26,7 @@ export function showGoal({ level, number, isMet, isBroken, isOwn, more, about, g
   if (!isMet) place.append(make('span', '', taskOf(level, isBroken)));
   if (level.first && isBroken && !isMet) place.append(make('span', 'good', ' Broken. '));
   if (more) place.append(make('span', 'bad', ` ${more}`));
+  if (resets) place.append(' ', button('Its own text again', resets));
   if (isMet) place.append(learned(level), ...(goes ? [button('Next level', goes, 'next')] : []));
 }
 
