@@ -11,8 +11,8 @@ const tsc = realpathSync(execFileSync('sh', ['-c', 'command -v tsc'], { encoding
 const ts = createRequire(import.meta.url)(join(dirname(tsc), '..', 'lib', 'typescript.js'));
 const { SyntaxKind: Kind } = ts;
 const WEB = new URL('.', import.meta.url), FOLDERS = ['./', 'notation/', 'engine/', 'page/', 'tests/', 'kernel/'];
-const FUNCTIONS = new Set([Kind.FunctionDeclaration, Kind.MethodDeclaration, Kind.ArrowFunction, Kind.FunctionExpression,
-  Kind.Constructor, Kind.GetAccessor]);
+const FUNCTIONS = new Set([Kind.FunctionDeclaration, Kind.MethodDeclaration, Kind.ArrowFunction,
+  Kind.FunctionExpression, Kind.Constructor, Kind.GetAccessor]);
 const LOOPING = new Set([Kind.ForStatement, Kind.ForOfStatement, Kind.ForInStatement, Kind.WhileStatement,
   Kind.DoStatement]);
 const NESTING = new Set([...LOOPING, Kind.IfStatement, Kind.TryStatement, Kind.SwitchStatement]);
@@ -25,7 +25,8 @@ function inside(node) {
   return found;
 }
 
-/** How deep it nests. An `else if` is as deep as its `if`. @param {any} node @param {boolean} isElse @returns {number} */
+/** How deep it nests. An `else if` is as deep as its `if`.
+ * @param {any} node @param {boolean} isElse @returns {number} */
 function depth(node, isElse = false) {
   const below = inside(node).map((it) => depth(it, it.kind === Kind.IfStatement && node.elseStatement === it));
   return Math.max(0, ...below) + Number(NESTING.has(node.kind) && !isElse);
@@ -39,9 +40,9 @@ function faultsOf(node, file) {
   const line = (/** @type {number} */ at) => file.getLineAndCharacterOfPosition(at).line + 1;
   const sizes = [[line(node.end) - line(node.getStart()) + 1, LINES, 'lines'], [depth(node), DEEP, 'deep'],
     [node.parameters.length, PARAMETERS, 'parameters'], [loops(node), LOOPS, 'loops']];
-  const name = node.name ? node.name.getText() : 'a function';
+  const name = node.name ? node.name.getText() : 'a function', where = `${file.fileName}:${line(node.getStart())}`;
   return sizes.filter(([is, most]) => is > most)
-    .map(([is, most, what]) => `${file.fileName}:${line(node.getStart())}: ${name}: ${is} ${what}, and ${most} are the most`);
+    .map(([is, most, what]) => `${where}: ${name}: ${is} ${what}, and ${most} are the most`);
 }
 
 let count = 0;
@@ -58,7 +59,8 @@ function visit(node, file) {
 
 for (const name of FOLDERS.flatMap((it) => readdirSync(new URL(it, WEB)).map((file) => it + file))) {
   if (!name.endsWith('.js')) continue;
-  const file = ts.createSourceFile(`web/${name}`, readFileSync(new URL(name, WEB), 'utf8'), ts.ScriptTarget.ES2022, true);
+  const text = readFileSync(new URL(name, WEB), 'utf8');
+  const file = ts.createSourceFile(`web/${name}`, text, ts.ScriptTarget.ES2022, true);
   visit(file, file);
 }
 console.log([...wrong, `sizes: ${count} functions, ${wrong.length} too big`].join('\n'));

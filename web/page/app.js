@@ -357,7 +357,8 @@ export class App {
     const about = head.replace(/^\/\/ ?/gm, '').replace(/\n/g, ' ').trim() || 'A scene of your own.';
     const isChanged = level && !this.isEdited && this.editor.own !== level.monitor;
     showGoal({ level, number, isMet: isMet && !this.isEdited, isBroken, isOwn: this.isEdited, more, about,
-      resets: isChanged ? () => this.reset(level) : null, goes: number && next ? () => this.open({ level: number + 1 }) : null });
+      resets: isChanged ? () => this.reset(level) : null,
+      goes: number && next ? () => this.open({ level: number + 1 }) : null });
     byId('levels').querySelectorAll('button').forEach((/** @type {HTMLElement} */ it, /** @type {number} */ i) => {
       const { name, goal } = this.given.levels[i], isDone = this.kept.met.includes(`${name} ${goal}`);
       it.className = isDone ? 'met' : '';
