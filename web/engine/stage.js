@@ -25,7 +25,7 @@ export class Stage {
     this.scene = make();
     this.actors = actorsOf(this.scene.programs);
     /** @type {Record<string, Actor[]>} */
-    this.queues = Object.fromEntries(names.map((name) => [name, []]));
+    this.queues = Object.assign(Object.create(null), Object.fromEntries(names.map((name) => [name, []])));
     /** What the automatic kinds wait for.
      * @type {Map<string, () => unknown>} */
     this.tests = new Map();

@@ -61,6 +61,7 @@ class Rewriter {
   /** @param {number} i */
   refuseForeign(i) {
     const { text, outline } = this, it = text.at(i).text, instead = ELSEWHERE.get(it);
+    if (it === 'random' && text.at(i - 2).text === 'Math') text.fail(i, 'each run has to be the same again: take no random');
     if (instead && text.at(i - 1).text !== '.') text.fail(i, `${it} is not of this notation: write ${instead}`);
     if (text.at(i - 1).text === '.' && outline.conditions.has(text.at(i - 2).text)) {
       text.fail(i, `write ${VERBS.get(it) || 'wait'}(${text.at(i - 2).text})`);

@@ -20,8 +20,7 @@ export class Fault extends Error {
 const TOKEN = new RegExp([/\/\/[^\n]*|\/\*[^]*?\*\//, /\s+/, /"(?:\\.|[^"\\\n])*"|'(?:\\.|[^'\\\n])*'/,
   /[A-Za-z_$][\w$]*/, /\d[\w.]*/, /=>|[^]/].map((it) => it.source).join('|'), 'g');
 const BLANK = /^(\s|\/\/|\/\*)/, STRANGE = /^["'\x60#@\\]$/, QUOTE = /^["']$/, CLOSING = /^[)\]}]$/;
-/** @type {Record<string, string>} */
-const PAIRS = { '(': ')', '[': ']', '{': '}' };
+const PAIRS = new Map([['(', ')'], ['[', ']'], ['{', '}']]);
 
 /** @param {string} text @param {number} line @param {string} blank @param {number[]} open @returns {Token} */
 const tokenOf = (text, line, blank, open) => ({ text, line, blank, pre: '', post: '', mate: -1,
@@ -32,7 +31,7 @@ const tokenOf = (text, line, blank, open) => ({ text, line, blank, pre: '', post
 function close(it, found, open) {
   const from = open.pop();
   if (from === undefined) throw new Fault(it.line, `this ${it.text} closes nothing`);
-  const was = found[from], wanted = PAIRS[was.text];
+  const was = found[from], wanted = PAIRS.get(was.text);
   if (wanted !== it.text) {
     const end = `the ${it.text} of line ${it.line}`, begin = `the ${was.text} of line ${was.line}`;
     const isOpen = `this ${was.text} is not closed: a ${wanted} is missing before ${end}`;
@@ -65,7 +64,7 @@ export function tokensOf(source) {
     refuseStrange(text, at);
     const it = tokenOf(text, at, blank, open);
     if (CLOSING.test(text)) close(it, found, open);
-    else if (PAIRS[text]) open.push(found.length);
+    else if (PAIRS.has(text)) open.push(found.length);
     found.push(it);
     blank = '';
   }

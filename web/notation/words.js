@@ -30,4 +30,4 @@ export const ELSEWHERE = new Map([['and', '&&'], ['or', '||'], ['not', '!'], ['T
   ['pthread_cond_wait', 'wait(condition)'], ['pthread_cond_signal', 'signal(condition)'],
   ['pthread_cond_broadcast', 'signal_all(condition)'], ['pthread_mutex_lock', 'nothing: a procedure has the monitor'],
   ['pthread_mutex_unlock', 'nothing: a procedure has the monitor'],
-  ['Date', 'nothing: each run has to be the same again'], ['setTimeout', 'nothing: there is no time']]);
+  ['Date', 'nothing: each run has to be the same again'], ['$', 'another name'], ['setTimeout', 'nothing: there is no time']]);

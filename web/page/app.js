@@ -80,7 +80,7 @@ export class App {
     this.kind = place.kind && KINDS.includes(place.kind) ? place.kind : '';
     const level = this.given.levels[(place.level || 0) - 1];
     if (place.text !== undefined && !level) this.openText(place.text, Boolean(place.isEdited));
-    else if (place.scene && this.given.scenes[place.scene]) this.openScene(place.scene);
+    else if (place.scene && Object.hasOwn(this.given.scenes, place.scene)) this.openScene(place.scene);
     else this.openLevel(level || this.given.levels[0], place.text);
     byId('unasked').checked = Boolean(place.unasked || (this.level && this.level.unasked));
     this.run();
