@@ -30,7 +30,7 @@ install: writable all
 	$(PUT) $(SHARE)/man/man1 dist/monk.1 && gzip -9nf $(SHARE)/man/man1/monk.1
 	install -D -m 644 dist/monk.bash $(SHARE)/bash-completion/completions/monk
 	$(PUT) $(DOC) $(OUT)/BUILD-INFO README.md $(wildcard LICENSE)
-	$(PUT) $(DOC)/docs docs/*.md
+	$(PUT) $(DOC)/docs docs/*.md docs/playground.html
 	$(PUT) $(DOC)/docs/pictures docs/pictures/*.svg docs/pictures/*.html
 	$(PUT) $(DOC)/recorders recorders/README.md
 	tar --exclude=out --exclude=__pycache__ -cf - examples lab | tar --no-same-owner -C $(DOC) -xf -

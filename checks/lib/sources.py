@@ -1,5 +1,5 @@
-"""What is refused in the files of C, C++, Java, Go, Rust, shell and Python that git tracks: lines that are too wide,
-files that are too long; and in Python also what has no type, and functions that are too big."""
+"""What is refused in the files of C, C++, Java, Go, JavaScript, Rust, shell and Python that git tracks: lines that are
+too wide, files that are too long; and in Python also what has no type, and functions that are too big."""
 from __future__ import annotations
 
 import ast
@@ -9,7 +9,7 @@ import subprocess
 from typing import Iterator, List, Optional, Union
 
 PYTHON, SHELLS = b"#!/usr/bin/env python3\n", (b"#!/usr/bin/env bash\n", b"#!/bin/sh\n")
-ENDINGS = (".c", ".cc", ".cpp", ".go", ".h", ".hpp", ".java", ".rs")
+ENDINGS = (".c", ".cc", ".cpp", ".go", ".h", ".hpp", ".java", ".js", ".rs")
 WIDTH, FILE_LINES, LINES, DEEP, PARAMETERS = 120, 400, 40, 3, 6
 # What is quoted doesn't count for the width of a line.
 QUOTED = re.compile(r"""\"(?:[^"\\]|\\.)*\"|'(?:[^'\\]|\\.)*'""")
