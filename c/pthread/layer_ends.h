@@ -9,6 +9,8 @@
 #include <sys/wait.h>
 
 enum { TICK_NS = 50000000, QUIET_TICKS = 8, MOST_WAKES = 20, WRITING_MS = 2000 };
+/* In such a time nothing moves if no step is made, and less than one part in so many of processor time is used. */
+enum { IDLE_SECONDS = 2, LITTLE = 20 };
 
 static _Atomic int is_ending, is_written;
 static _Atomic int is_watched, has_watcher; /* whether a watcher was wanted, and whether there is one */
@@ -68,17 +70,21 @@ static void refuse(const char *format, ...) {
 /* ---- Whether the program hangs: no step was made for a while, and each of its threads sleeps in a futex without a
    limit */
 
+static int has_child(void) {
+    siginfo_t child;
+    return waitid(P_ALL, 0, &child, WEXITED | WNOHANG | WNOWAIT) == 0;
+}
+
 /* A timer or a child may wake somebody, and so may a signal at a mutex that is left alone. */
 static int may_be_woken(void) {
     struct itimerval alarm;
-    siginfo_t child;
     char first;
     int timers = open("/proc/self/timers", O_RDONLY | O_CLOEXEC);
     int has_timer = timers != NONE && read(timers, &first, 1) > 0;
     if (timers != NONE) close(timers);
     if (has_timer || waits_left_alone) return 1;
     if (!getitimer(ITIMER_REAL, &alarm) && (alarm.it_value.tv_sec || alarm.it_value.tv_usec)) return 1;
-    return waitid(P_ALL, 0, &child, WEXITED | WNOHANG | WNOWAIT) == 0;
+    return has_child();
 }
 
 /* Whether another process may write there. */
@@ -175,15 +181,44 @@ static int count_quiet(int quiet, unsigned long *seen, pid_t watcher) {
     return is_quiet ? quiet + 1 : 0;
 }
 
+/* What was seen when something moved last. */
+struct activity {
+    struct timespec at;
+    unsigned long steps;
+    double used;
+};
+
+static double processor_seconds(void) {
+    struct timespec used = time_of(CLOCK_PROCESS_CPUTIME_ID);
+    return (double)used.tv_sec + (double)used.tv_nsec / NS_A_SECOND;
+}
+
+static void look_at_activity(struct activity *last) {
+    unsigned long steps = count_steps();
+    double used = processor_seconds(), since = seconds_since(last->at);
+    if (steps == last->steps && used - last->used < since / LITTLE) return;
+    *last = (struct activity){time_of(CLOCK_MONOTONIC), steps, used};
+}
+
+/* Ends the program once its time is over. It hangs if nothing has moved for a while and all threads sleep; else it is
+   late. A child comes to its own limit first, and says which of them it is. */
+static void end_if_over(struct timespec begin, const struct activity *last, pid_t watcher) {
+    double idle = asked.seconds / 2 < IDLE_SECONDS ? asked.seconds / 2 : IDLE_SECONDS;
+    if (seconds_since(begin) < asked.seconds + has_child()) return;
+    end_by_watcher(seconds_since(last->at) < idle || has_child() || !all_sleep(watcher) ? "late" : "hung");
+}
+
 static void *watch(void *unused) {
     const struct timespec tick = {0, TICK_NS}, begin = time_of(CLOCK_MONOTONIC);
     pid_t watcher = (pid_t)syscall(SYS_gettid);
     unsigned long seen = 0;
+    struct activity last = {.at = begin};
     let(&watcher_lock);
     for (int quiet = 0, wakes = 0;; nanosleep(&tick, NULL)) {
         if (ending_signal) finish("signal", IS_LAST);
         if (asked.seconds == 0) continue;
-        if (seconds_since(begin) > asked.seconds) end_by_watcher("late");
+        look_at_activity(&last);
+        end_if_over(begin, &last, watcher);
         take(&watcher_lock);
         quiet = count_quiet(quiet, &seen, watcher);
         let(&watcher_lock);
@@ -200,7 +235,7 @@ static void start_watcher(void) {
     sigfillset(&all);
     pthread_sigmask(SIG_SETMASK, &all, &before);
     take(&watcher_lock);
-    has_watcher = !pthread_create(&thread, NULL, watch, NULL);
+    has_watcher = !real.create(&thread, NULL, watch, NULL);
     if (!has_watcher) let(&watcher_lock);
     pthread_sigmask(SIG_SETMASK, &before, NULL);
 }

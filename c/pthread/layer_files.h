@@ -2,7 +2,7 @@
 #ifndef LAYER_FILES_H
 #define LAYER_FILES_H
 
-#include "layer_queues.h"
+#include "layer_remarks.h"
 #include <fcntl.h>
 
 static const char *const standings[] = {

@@ -35,6 +35,7 @@ struct thread {
     _Atomic int is_cancelled, has_ended;
     _Atomic int sleeps;       /* in a wait that has no limit: it wakes at times to look whether it is cancelled */
     const void *_Atomic from; /* where its last wait was called */
+    const void *not_there;    /* a place of waits that isn't the one that was asked for */
     uint64_t dice;
 };
 
@@ -80,6 +81,7 @@ struct monitor {
     _Atomic int64_t pending[CONDITIONS]; /* signals by threads that were outside, and above them broadcasts */
     const void *_Atomic conditions[CONDITIONS];
     int serial, depth;
+    const void *first_wait; /* where the first wait with it was called; null: none was */
     int transit;  /* seats that were served or signalled, and aren't back inside */
     int deferred; /* the condition that an immediate-return kind signals as it goes out, or NONE */
     int wants_renewal;
@@ -143,7 +145,9 @@ __attribute__((noreturn, format(printf, 2, 3))) static void refuse_of(struct mon
     va_start(words, format);
     vsnprintf(line, sizeof line, format, words);
     va_end(words);
-    refuse("the mutex %s: %s", name_of(m->known.address).text, line);
+    struct name mutex = name_of(m->known.address), wait = name_of(m->first_wait);
+    if (m->first_wait) refuse("the mutex %s, whose first wait is at %s: %s", mutex.text, wait.text, line);
+    refuse("the mutex %s: %s", mutex.text, line);
 }
 
 /* ---- The layer's own locks, and memory that is never given back */
@@ -271,7 +275,7 @@ __attribute__((noinline, cold)) static struct thread *first_call(void) {
     t->id = (pid_t)syscall(SYS_gettid), t->self = pthread_self();
     t->dice = asked.seed * 0x9e3779b97f4a7c15u + (t->index + 1) * 0xbf58476d1ce4e5b9u + 1;
     t->is_cancelled = t->sleeps = t->has_ended = 0;
-    t->from = NULL;
+    t->from = t->not_there = NULL;
     t->numbers = 0;
     t->uses = LIVE;
     me = t;
@@ -301,31 +305,6 @@ static void thread_ends(void *it) {
     t->has_ended = 1;
     me = NULL;
     change_uses(t, t->numbers - LIVE);
-}
-
-/* Marsaglia's xorshift. */
-static unsigned roll(struct thread *t) {
-    t->dice ^= t->dice << 13, t->dice ^= t->dice >> 7, t->dice ^= t->dice << 17;
-    return (unsigned)(t->dice >> 33);
-}
-
-/* How often in 16 a thread sleeps before a call, and how often it lets others go first; how long it sleeps at most. */
-enum { NAPS = 2, YIELDS = 4, SIDES = 16, NAP_NS = 250000 };
-
-__attribute__((noinline, cold)) static void shake_now(void) {
-    unsigned dice = roll(self());
-    int error = errno;
-    struct timespec nap = {0, (long)(dice / SIDES % NAP_NS)};
-    if (dice % SIDES < NAPS)
-        nanosleep(&nap, NULL);
-    else if (dice % SIDES < NAPS + YIELDS)
-        sched_yield();
-    errno = error;
-}
-
-/* Before a call, which another thread's call may then precede. */
-static inline void shake(void) {
-    if (__builtin_expect(asked.shakes, 0)) shake_now();
 }
 
 /* ---- Numbers: the seats of a monitor by which threads come */

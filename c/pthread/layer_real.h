@@ -21,6 +21,8 @@ static struct {
     int (*mtx_init)(mtx_t *, int), (*cnd_init)(cnd_t *);
     void (*mtx_destroy)(mtx_t *), (*cnd_destroy)(cnd_t *);
     int (*cancel)(pthread_t);
+    int (*create)(pthread_t *, const pthread_attr_t *, void *(*)(void *), void *);
+    int (*thrd_create)(thrd_t *, thrd_start_t, void *);
     int (*sigaction)(int, const struct sigaction *, struct sigaction *);
     void (*(*set_signal)(int, void (*)(int)))(int);
     void (*end)(int);
@@ -57,6 +59,8 @@ static void find_functions(void) {
     FIND(cnd_init, "cnd_init");
     FIND(cnd_destroy, "cnd_destroy");
     FIND(cancel, "pthread_cancel");
+    FIND(create, "pthread_create");
+    FIND(thrd_create, "thrd_create");
     FIND(sigaction, "sigaction");
     FIND(set_signal, "signal");
     FIND(end, "_exit");

@@ -68,7 +68,7 @@ static void tell_end(int file, const char *why) {
 static void save_all(const char *why, int is_last) {
     int looks = LOOKS_IN_ALL;
     int file = asked.report ? open(asked.report, O_WRONLY | O_CREAT | O_TRUNC | O_CLOEXEC, 0644) : NONE;
-    if (file != NONE) tell_end(file, why);
+    if (file != NONE) tell_end(file, why), tell_remarks(file), tell_woken(file);
     for (struct monitor *m = every_monitor; m; m = m->next) {
         if (m->is_dead) continue;
         if (file != NONE) tell_monitor(file, m);

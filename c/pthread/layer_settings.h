@@ -17,6 +17,7 @@ enum {
     STATUS_CANT = 125,
     LONGEST_LINE = 600,
     LONGEST_PATH = 500,
+    A_THOUSAND = 1000,
     MOST_BUDGET = 1 << 20
 };
 
@@ -26,13 +27,15 @@ enum { AS_IT_IS, BROADCASTS, WAKES_SLEEPERS };
 
 static struct {
     int kind, mode, wish;
-    int shakes; /* threads let others go first at random */
-    int eager;  /* this number of mutexes are monitors from their first lock on */
+    int shakes;              /* threads let others go first at random */
+    int spurious;            /* so many of a thousand waits wake unasked */
+    const char *spurious_at; /* only those that are called there */
+    int eager; /* this number of mutexes are monitors from their first lock on */
     int mend;
     uint32_t budget; /* events of a seat in a volume; 0: each volume has twice as many as the one before */
     uint64_t seed;
     double seconds;         /* the time after which the program is ended; 0: never */
-    const char *left_alone; /* mutexes that stay what they are */
+    const char *left_alone; /* mutexes that stay what they are, and places of waits with such */
     const char *history, *report;
 } asked = {.kind = MONK_NPNB, .wish = MONK_WAITER, .seed = 1};
 
@@ -139,9 +142,11 @@ static void read_settings(void) {
     read_number("MONK_SHAKE", 0, UINT64_MAX, &asked.seed);
     asked.shakes = getenv("MONK_SHAKE") != NULL;
     asked.budget = (uint32_t)number_of_setting("MONK_BUDGET", 64, MOST_BUDGET);
+    asked.spurious = number_of_setting("MONK_SPURIOUS", 0, A_THOUSAND);
     asked.eager = number_of_setting("MONK_EAGER", 0, INT32_MAX);
     asked.mend = number_of_setting("MONK_MEND", AS_IT_IS, WAKES_SLEEPERS);
     asked.left_alone = getenv("MONK_LEAVE");
+    asked.spurious_at = getenv("MONK_SPURIOUS_AT");
     if (asked.eager && has_own_allocator()) asked.eager = 0;
     if (history && mkdir(history, 0755) && errno != EEXIST) refuse_setting("MONK_HISTORY", history, strerror(errno));
     name_files(history, getenv("MONK_REPORT"));

@@ -76,9 +76,9 @@ enum { TYPE_BITS = 3, ROBUST = 16, INHERITS = 32, PROTECTS = 64, SHARED = 128 };
 
 static int type_of(const pthread_mutex_t *mutex) { return mutex->__data.__kind & TYPE_BITS; }
 
-/* Whether it is in the list of those to be left alone, which has blanks between them. */
-static int is_named(const pthread_mutex_t *mutex) {
-    struct name name = name_of(mutex);
+/* Whether it is in the list of places to be left alone, which has blanks between them. */
+static int is_named(const void *address) {
+    struct name name = name_of(address);
     size_t length = strlen(name.text);
     const char *at = asked.left_alone;
     for (; (at = strstr(at, name.text)); at += length) {
@@ -120,6 +120,7 @@ static void set_up(struct monitor *m, const void *mutex, struct hall *h, int ser
     m->serial = serial;
     m->deferred = m->inside = NONE;
     m->owner = NULL;
+    m->first_wait = NULL;
     m->free = (1u << NUMBERS) - 1;
     m->due = m->transit = m->has_pending = m->wants_renewal = 0;
     m->volumes = m->timeouts = m->passed_on = m->taken_over = m->outside = m->late_renewals = 0;
@@ -155,10 +156,16 @@ static struct monitor *promote(pthread_mutex_t *mutex, struct thread *t) {
     return m;
 }
 
+/* Whether a wait may be named that is to leave the mutex alone: one on the heap or on a stack has no name. */
+static int may_be_left(const pthread_mutex_t *mutex) {
+    Dl_info in;
+    return asked.left_alone && !(dladdr(mutex, &in) && in.dli_fname);
+}
+
 /* Promotes a mutex at its first lock, if fewer than asked for were. What locks meanwhile isn't the program. */
 __attribute__((noinline, cold)) static void promote_early(pthread_mutex_t *mutex) {
     static __thread __attribute__((tls_model("initial-exec"))) int is_busy;
-    if (is_busy || serials >= asked.eager) return;
+    if (is_busy || serials >= asked.eager || may_be_left(mutex)) return;
     is_busy = 1;
     promote(mutex, self());
     is_busy = 0;

@@ -6,6 +6,7 @@
 #ifndef LAYER_WAITS_H
 #define LAYER_WAITS_H
 
+#include "layer_shakes.h"
 #include "layer_visits.h"
 
 enum { MS_A_SECOND = 1000, NS_A_SECOND = 1000000000, SLICE_NS = 200000000 };
@@ -93,6 +94,7 @@ static void use_number(struct monitor *m, int k, struct condition *c) {
 static int number_of(struct monitor *m, const void *address) {
     struct condition *c = make_condition(address);
     if (c->of == m && m->conditions[c->number] == address) return c->number;
+    look_at_mutexes(c, m);
     int k = spare_number(m, address);
     if (k == NONE) refuse_of(m, "threads wait on more than %d of its conditions at once", CONDITIONS);
     use_number(m, k, c);
@@ -227,6 +229,19 @@ static int wait_with(struct monitor *m, const void *condition, clockid_t clock, 
     if (!is_served) return end_given_up(&w);
     end_served(&w);
     return 0;
+}
+
+/* ---- Waits that wake unasked */
+
+/* A wait that nobody has to end, by the thread that is inside, as POSIX allows. It comes back at once, or others may
+   come in between. A mutex that is left alone (null) isn't given up. */
+static void wake_unasked(struct monitor *m, struct thread *t) {
+    pthread_testcancel();
+    if (!m || roll(t) % 2) return;
+    int depth = m->depth;
+    go_out(m);
+    sched_yield();
+    enter(m, t, NULL, depth);
 }
 
 #endif

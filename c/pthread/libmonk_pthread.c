@@ -5,9 +5,10 @@
    a condition with it; until then it is what it was. None of this is proved: the monitors below it are (monk.h).
 
    The parts: layer_real.h, the system's functions; layer_settings.h, what is asked; layer_known.h, threads, monitors
-   and conditions; layer_queues.h, who waits where; layer_files.h, histories and the report; layer_halls.h, volumes of
-   a monitor; layer_signals.h; layer_ghosts.h, seats without a thread; layer_visits.h, entering, leaving, and how a
-   mutex becomes a monitor; layer_waits.h; layer_report.h and layer_ends.h, the ends of a run. */
+   and conditions; layer_shakes.h, what the dice do; layer_queues.h, who waits where; layer_remarks.h, uses that can't
+   be meant; layer_files.h, histories and the report; layer_halls.h, volumes of a monitor; layer_signals.h;
+   layer_ghosts.h, seats without a thread; layer_visits.h, entering, leaving, and how a mutex becomes a monitor;
+   layer_waits.h; layer_report.h and layer_ends.h, the ends of a run. */
 #define _GNU_SOURCE
 #include "layer_ends.h"
 
@@ -50,6 +51,8 @@ __attribute__((constructor)) static void begin(void) {
     at_quick_exit(ended);
     watch_process();
 }
+
+#define CALLER __builtin_return_address(0)
 
 /* ---- Mutexes */
 
@@ -131,23 +134,25 @@ int pthread_mutex_clocklock(pthread_mutex_t *mutex, clockid_t clock, const struc
     return lock_by((struct locking){mutex, CLOCK, clock, until});
 }
 
-static int unlock_monitor(struct monitor *m, const pthread_mutex_t *mutex) {
+static int unlock_monitor(struct monitor *m, const pthread_mutex_t *mutex, const void *from) {
     int type = type_of(mutex);
     if (m->owner != self() && (type == PTHREAD_MUTEX_RECURSIVE || type == PTHREAD_MUTEX_ERRORCHECK)) return EPERM;
-    if (m->inside != NONE && --m->depth <= 0) go_out(m);
+    if (m->inside == NONE) return 0;
+    look_at_owner(m, from);
+    if (--m->depth <= 0) go_out(m);
     return 0;
 }
 
-static int unlock_by(pthread_mutex_t *mutex) {
+static int unlock_by(pthread_mutex_t *mutex, const void *from) {
     init();
     shake();
     struct monitor *m = monitor_of(mutex);
-    return m ? unlock_monitor(m, mutex) : real.unlock(mutex);
+    return m ? unlock_monitor(m, mutex, from) : real.unlock(mutex);
 }
 
 int pthread_mutex_unlock(pthread_mutex_t *mutex) {
     int is = attention;
-    return is == ALL || (is == MONITORS && monitor_of(mutex)) ? unlock_by(mutex) : real.unlock(mutex);
+    return is == ALL || (is == MONITORS && monitor_of(mutex)) ? unlock_by(mutex, CALLER) : real.unlock(mutex);
 }
 
 int pthread_mutex_init(pthread_mutex_t *mutex, const pthread_mutexattr_t *attributes) {
@@ -189,14 +194,14 @@ static int wait_by(struct locking it, pthread_cond_t *condition, const void *fro
     if (m && m->owner != t) return EPERM;
     if (attention == NOTHING) attention = MONITORS;
     if (!is_watched) watch_process();
-    if (!m) m = promote(it.mutex, t);
-    if (!m) return wait_really(it, condition);
+    if (!m && !(asked.left_alone && is_named(from))) m = promote(it.mutex, t);
     if (it.how == TIMED) it.clock = condition->__data.__wrefs & IS_MONOTONIC ? CLOCK_MONOTONIC : CLOCK_REALTIME;
     if (it.until && (!is_clock(it.clock) || !is_time(it.until))) return EINVAL;
-    return wait_with(m, condition, it.clock, it.until);
+    if (it.until) look_at_clock(it.clock, it.until, from);
+    if (m && !m->first_wait) m->first_wait = from;
+    if (is_unasked(t)) return wake_unasked(m, t), 0;
+    return m ? wait_with(m, condition, it.clock, it.until) : wait_really(it, condition);
 }
-
-#define CALLER __builtin_return_address(0)
 
 int pthread_cond_wait(pthread_cond_t *condition, pthread_mutex_t *mutex) {
     return wait_by((struct locking){.mutex = mutex, .how = LOCK}, condition, CALLER);
@@ -293,7 +298,7 @@ int mtx_timedlock(mtx_t *restrict mutex, const struct timespec *restrict until) 
     return in_c11(lock_by((struct locking){mutex_of(mutex), TIMED, CLOCK_REALTIME, until}));
 }
 
-int mtx_unlock(mtx_t *mutex) { return in_c11(unlock_by(mutex_of(mutex))); }
+int mtx_unlock(mtx_t *mutex) { return in_c11(unlock_by(mutex_of(mutex), CALLER)); }
 
 int cnd_wait(cnd_t *condition, mtx_t *mutex) {
     return in_c11(wait_by((struct locking){.mutex = mutex_of(mutex), .how = LOCK}, cond_of(condition), CALLER));
@@ -316,6 +321,22 @@ int cnd_init(cnd_t *condition) {
 void cnd_destroy(cnd_t *condition) {
     init();
     if (!forget_condition(condition)) real.cnd_destroy(condition);
+}
+
+/* ---- Threads */
+
+int pthread_create(pthread_t *thread, const pthread_attr_t *attributes, void *(*work)(void *), void *word) {
+    init();
+    int answer = real.create(thread, attributes, work, word);
+    if (!answer) shake_after_birth();
+    return answer;
+}
+
+int thrd_create(thrd_t *thread, thrd_start_t work, void *word) {
+    init();
+    int answer = real.thrd_create(thread, work, word);
+    if (answer == thrd_success) shake_after_birth();
+    return answer;
 }
 
 /* ---- Ends and signals of the process */

@@ -1,8 +1,8 @@
 """What a program relies on, by the kinds under which it was right and wrong. Part of monk-try."""
 from collections import Counter
-from typing import Counter as Counts, Dict, List, NamedTuple, Optional
+from typing import Counter as Counts, Dict, List, NamedTuple, Optional, Sequence
 
-from monk_runs import CANT, HUNG, OK, WRONG, Result
+from monk_runs import CANT, HUNG, LATE, OK, WRONG, Result
 
 KINDS = ["PB", "NPB", "PNB", "NPNB", "PQB", "NPQB", "PIR", "NPIR"]
 # The kinds under which a signal gives the monitor up.
@@ -15,6 +15,7 @@ class Cell(NamedTuple):
     kind: str
     wish: str
     results: List[Result]
+    is_unasked: bool = False     # some waits wake unasked
 
     def count(self, what: str) -> int:
         return sum(result.what == what for result in self.results)
@@ -22,8 +23,19 @@ class Cell(NamedTuple):
     def is_bad(self) -> bool:
         return self.count(WRONG) + self.count(HUNG) > 0
 
+    def with_hung(self) -> "Cell":
+        """The cell whose late runs are known to hang."""
+        return self._replace(results=[it._replace(what=HUNG, why="it runs for ever") if it.what == LATE else it
+                                      for it in self.results])
+
     def first(self, *whats: str) -> Optional[Result]:
         return next((result for result in self.results if result.what in whats), None)
+
+
+class Unasked(NamedTuple):
+    """Runs under Mesa's rule whose waits wake unasked, and the waits at which that makes the program go wrong."""
+    cells: Sequence[Cell] = ()
+    places: Sequence[str] = ()
 
 
 class Lesson(NamedTuple):
@@ -35,8 +47,9 @@ class Facts:
     """What was seen in all runs."""
 
     def __init__(self, cells: List[Cell], plain: Counts[str], mended: Dict[int, bool], unlocks: List[str],
-                 has_waits: bool) -> None:
-        self.cells, self.plain, self.mended, self.has_waits = cells, plain, mended, has_waits
+                 has_waits: bool, unasked: Unasked = Unasked()) -> None:
+        self.cells, self.plain, self.mended = cells, plain, mended
+        self.has_waits, self.unasked = has_waits, unasked
         self.forgotten_unlocks = unlocks        # who ended inside, in a sentence each
         self.by_kind: Dict[str, Counts[str]] = {}
         for cell in cells:
@@ -50,13 +63,32 @@ class Facts:
         return self.having(WRONG, HUNG)
 
     def fine(self) -> List[str]:
-        return [kind for kind in self.having(OK) if kind not in self.bad()]
+        return [kind for kind in self.having(OK) if kind not in self.having(WRONG, HUNG, LATE)]
 
 
 def untried(facts: Facts) -> Optional[Lesson]:
     if facts.having(OK, WRONG, HUNG):
         return None
-    return Lesson("not run", "It can't be run under any of these kinds.")
+    return None if facts.having(LATE) else Lesson("not run", "It can't be run under any of these kinds.")
+
+
+def unasked(facts: Facts) -> Optional[Lesson]:
+    """A wait without a loop, which only an unasked wake-up shows."""
+    bad = sum(cell.count(WRONG) + cell.count(HUNG) for cell in facts.unasked.cells)
+    if not bad or "NPNB" in facts.bad():
+        return None
+    places = f" at {', '.join(facts.unasked.places)}" if facts.unasked.places else ""
+    count = sum(len(cell.results) for cell in facts.unasked.cells)
+    return Lesson("unasked", f"Wrong in {bad} of {count} runs in which waits wake unasked, as POSIX and C++ allow, right"
+                  f" under NPNB else: the wait{places} isn't in a loop that tests again. Write `while` for `if`.")
+
+
+def late(facts: Facts) -> Optional[Lesson]:
+    if facts.bad() or not facts.having(LATE):
+        return None
+    return Lesson("late", f"Under {' '.join(facts.having(LATE))} it still ran at the limit, also alone and with a longer"
+                  " one. It is slow there (give more --seconds), or it looks again and again for what doesn't come"
+                  " true, as with waits that have a time limit.")
 
 
 def right(facts: Facts) -> Optional[Lesson]:
@@ -65,6 +97,8 @@ def right(facts: Facts) -> Optional[Lesson]:
     relies = ": in these runs it relied neither on who goes on at a signal nor on who comes in first."
     if facts.plain[OK] < sum(facts.plain.values()):
         relies = ", though plain runs go wrong: the fault isn't one of waiting and signalling."
+    if facts.unasked.cells:
+        relies += " It is right too where waits wake unasked."
     if not facts.has_waits:
         relies += " But no thread waited in a monitor, so nothing was tried."
     return Lesson("right", f"Right under {' '.join(facts.fine())}{relies}")
@@ -145,11 +179,14 @@ def elsewhere(facts: Facts) -> Optional[Lesson]:
                   " or the fault isn't one of waiting.")
 
 
-FINDERS = (untried, right, unlock, mesa, hand_over, broadcast, forgotten, deadlock, hoare, elsewhere)
+FINDERS = (untried, unasked, late, right, unlock, mesa, hand_over, broadcast, forgotten, deadlock, hoare, elsewhere)
 
 
 def lesson(facts: Facts) -> Lesson:
     name, text = next(filter(None, (find(facts) for find in FINDERS)))
-    cant = facts.having(CANT)
-    signals = " (Not run to its end under {}: the program does what these kinds don't have.)"
-    return Lesson(name, text + (signals.format(" ".join(cant)) if cant and name != "not run" else ""))
+    cant, slow = facts.having(CANT), facts.having(LATE)
+    if cant and name != "not run":
+        text += f" (Not run to its end under {' '.join(cant)}: the program does what these kinds don't have.)"
+    if slow and name != "late":
+        text += f" (Late under {' '.join(slow)}: some runs still ran at the limit; --seconds raises it.)"
+    return Lesson(name, text)

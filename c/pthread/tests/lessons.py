@@ -3,8 +3,8 @@ import re
 from collections import Counter
 from typing import Dict, List, NamedTuple
 
-from monk_lessons import BROADCASTS, WAKES_SLEEPERS, Cell, Facts, Lesson, lesson
-from monk_runs import CANT, HUNG, OK, WRONG, Result
+from monk_lessons import BROADCASTS, WAKES_SLEEPERS, Cell, Facts, Lesson, Unasked, lesson
+from monk_runs import CANT, HUNG, LATE, OK, WRONG, Result
 
 
 class Case(NamedTuple):
@@ -12,6 +12,7 @@ class Case(NamedTuple):
     ends: Dict[str, str]
     mended: List[bool]
     name: str
+    unasked: str = ""        # how runs ended whose waits wake unasked, if there were any
 
 
 CASES = (Case({"PB": OK, "NPNB": OK}, [], "right"),
@@ -25,13 +26,19 @@ CASES = (Case({"PB": OK, "NPNB": OK}, [], "right"),
          Case({"PB": WRONG, "NPNB": WRONG}, [False, False], "hoare"),
          Case({"NPNB": WRONG}, [False, False], "order"),
          Case({"NPNB": OK, "PIR": HUNG}, [], "order"),
-         Case({"PIR": CANT}, [], "not run"))
+         Case({"PIR": CANT}, [], "not run"),
+         Case({"NPNB": OK, "PB": HUNG}, [], "unasked", WRONG),
+         Case({"NPNB": OK, "PB": HUNG}, [], "hand-over", OK),
+         Case({"PB": OK, "PNB": OK, "NPNB": WRONG}, [False, False], "if", WRONG),
+         Case({"NPNB": LATE, "PB": LATE}, [False, False], "late"),
+         Case({"NPNB": OK, "PB": LATE}, [], "late", OK))
 
 
 def told_of(case: Case) -> Lesson:
     cells = [Cell(kind, "any", [Result(what, "", "")]) for kind, what in case.ends.items()]
     mended = dict(zip((BROADCASTS, WAKES_SLEEPERS), case.mended))
-    return lesson(Facts(cells, Counter({OK: 1}), mended, [], True))
+    unasked = [Cell("NPNB", "any", [Result(case.unasked, "", "")], True)] if case.unasked else []
+    return lesson(Facts(cells, Counter({OK: 1}), mended, [], True, Unasked(unasked)))
 
 
 def first_wrong_lesson() -> str:

@@ -1,0 +1,74 @@
+/* layer_shakes.h - what POSIX may do at any time, by dice: others come first, and waits wake unasked. Part of
+   libmonk_pthread.c. */
+#ifndef LAYER_SHAKES_H
+#define LAYER_SHAKES_H
+
+#include "layer_known.h"
+
+/* Marsaglia's xorshift. */
+static unsigned roll(struct thread *t) {
+    t->dice ^= t->dice << 13, t->dice ^= t->dice >> 7, t->dice ^= t->dice << 17;
+    return (unsigned)(t->dice >> 33);
+}
+
+/* How often in 16 a thread sleeps before a call, and how often it lets others go first; how long it sleeps at most. */
+enum { NAPS = 2, YIELDS = 4, SIDES = 16, NAP_NS = 250000, BIRTH_NAP_NS = 300000 };
+
+__attribute__((noinline, cold)) static void shake_now(void) {
+    unsigned dice = roll(self());
+    int error = errno;
+    struct timespec nap = {0, (long)(dice / SIDES % NAP_NS)};
+    if (dice % SIDES < NAPS)
+        nanosleep(&nap, NULL);
+    else if (dice % SIDES < NAPS + YIELDS)
+        sched_yield();
+    errno = error;
+}
+
+/* Before a call, which another thread's call may then precede. */
+static inline void shake(void) {
+    if (__builtin_expect(asked.shakes, 0)) shake_now();
+}
+
+/* A thread that was made may come first, or the one that made it. */
+static void shake_after_birth(void) {
+    struct timespec nap = {0, BIRTH_NAP_NS};
+    if (asked.shakes && roll(self()) % 2) nanosleep(&nap, NULL);
+    shake();
+}
+
+/* ---- Waits that wake unasked, and their places */
+
+enum { PLACES = 64 };
+
+static const void *_Atomic woken[PLACES];
+
+static void note_woken(const void *from) {
+    for (int i = 0; i < PLACES; i++) {
+        const void *is = NULL;
+        if (woken[i] == from || atomic_compare_exchange_strong(&woken[i], &is, from) || is == from) return;
+    }
+}
+
+static void tell_woken(int file) {
+    for (int i = 0; i < PLACES && woken[i]; i++) write_line(file, "woken %s\n", name_of(woken[i]).text);
+}
+
+static int is_there(struct thread *t) {
+    const void *from = t->from;
+    if (!asked.spurious_at) return 1;
+    if (from == t->not_there) return 0;
+    int is = strcmp(name_of(from).text, asked.spurious_at) == 0;
+    if (!is) t->not_there = from;
+    return is;
+}
+
+/* Whether this wait wakes unasked. */
+static int is_unasked(struct thread *t) {
+    if (__builtin_expect(!asked.spurious, 1) || !is_there(t)) return 0;
+    if (roll(t) % A_THOUSAND >= (unsigned)asked.spurious) return 0;
+    note_woken(t->from);
+    return 1;
+}
+
+#endif
