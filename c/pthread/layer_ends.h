@@ -11,6 +11,7 @@
 enum { TICK_NS = 50000000, QUIET_TICKS = 8, MOST_WAKES = 20, WRITING_MS = 2000 };
 /* In such a time nothing moves if no step is made, and less than one part in so many of processor time is used. */
 enum { IDLE_SECONDS = 2, LITTLE = 20 };
+enum { DOTS = 2 }; /* a folder has these links beside its entries */
 
 static _Atomic int is_ending, is_written;
 static _Atomic int is_watched, has_watcher; /* whether a watcher was wanted, and whether there is one */
@@ -23,6 +24,7 @@ enum { GOES_ON, IS_LAST };
 static void finish(const char *why, int is_last) {
     if (is_in_parent() || atomic_exchange(&is_ending, 1)) return;
     save_all(why, is_last);
+    are_written();
     is_written = 1;
 }
 
@@ -208,6 +210,19 @@ static void end_if_over(struct timespec begin, const struct activity *last, pid_
     end_by_watcher(seconds_since(last->at) < idle || has_child() || !all_sleep(watcher) ? "late" : "hung");
 }
 
+/* Whether the program's last thread has ended, and its first one before. The first stays until the process ends. */
+static int is_alone(void) {
+    char path[64], text[128] = "";
+    snprintf(path, sizeof path, "/proc/self/task/%d/stat", (int)getpid());
+    int file = open(path, O_RDONLY | O_CLOEXEC);
+    ssize_t length = file == NONE ? NONE : read(file, text, sizeof text - 1);
+    if (file != NONE) close(file);
+    const char *state = length > 0 ? strrchr(text, ')') : NULL;
+    if (!state || strncmp(state, ") Z", 3)) return 0;
+    struct stat threads;
+    return !stat("/proc/self/task", &threads) && threads.st_nlink == DOTS + 2;
+}
+
 static void *watch(void *unused) {
     const struct timespec tick = {0, TICK_NS}, begin = time_of(CLOCK_MONOTONIC);
     pid_t watcher = (pid_t)syscall(SYS_gettid);
@@ -216,6 +231,7 @@ static void *watch(void *unused) {
     let(&watcher_lock);
     for (int quiet = 0, wakes = 0;; nanosleep(&tick, NULL)) {
         if (ending_signal) finish("signal", IS_LAST);
+        if (is_alone()) exit(0); /* as the C library does for the last thread: this one doesn't count */
         if (asked.seconds == 0) continue;
         look_at_activity(&last);
         end_if_over(begin, &last, watcher);

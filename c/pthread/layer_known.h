@@ -2,7 +2,7 @@
 #ifndef LAYER_KNOWN_H
 #define LAYER_KNOWN_H
 
-#include "layer_settings.h"
+#include "layer_outputs.h"
 #include <linux/futex.h>
 #include <sched.h>
 #include <stdatomic.h>
@@ -82,6 +82,7 @@ struct monitor {
     const void *_Atomic conditions[CONDITIONS];
     int serial, depth;
     const void *first_wait; /* where the first wait with it was called; null: none was */
+    int has_names;          /* whether this process began the file of its names */
     int transit;  /* seats that were served or signalled, and aren't back inside */
     int deferred; /* the condition that an immediate-return kind signals as it goes out, or NONE */
     int wants_renewal;

@@ -1,5 +1,6 @@
-/* layer_remarks.h - uses of mutexes and conditions that POSIX leaves undefined, or that can't be meant. Each is remarked
-   once in a process; the report has the remarks, and the program doesn't see them. Part of libmonk_pthread.c. */
+/* layer_remarks.h - uses of mutexes and conditions that POSIX leaves undefined, or that can't be meant. Each is
+   remarked once in a process; the report has the remarks, and the program doesn't see them. Part of
+   libmonk_pthread.c. */
 #ifndef LAYER_REMARKS_H
 #define LAYER_REMARKS_H
 
@@ -21,9 +22,9 @@ __attribute__((format(printf, 2, 3))) static void remark(enum misuse what, const
     remarks[what].is_whole = 1;
 }
 
-static void tell_remarks(int file) {
+static void tell_remarks(struct output *file) {
     for (int what = 0; what < MISUSES; what++)
-        if (remarks[what].is_whole) write_line(file, "remark %s\n", remarks[what].text);
+        if (remarks[what].is_whole) put_line(file, "remark %s\n", remarks[what].text);
 }
 
 /* Of a condition on which a thread is about to wait with m, and was known to be of another monitor. A signal that is

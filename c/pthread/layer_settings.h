@@ -15,6 +15,7 @@
 enum {
     STATUS_LATE = 124 /* as of timeout(1) */,
     STATUS_CANT = 125,
+    STATUS_LOADED = 3, /* what a process ends with that is started to see whether the layer is there */
     LONGEST_LINE = 600,
     LONGEST_PATH = 500,
     A_THOUSAND = 1000,
@@ -135,6 +136,7 @@ static int has_own_allocator(void) {
 
 static void read_settings(void) {
     const char *history = getenv("MONK_HISTORY");
+    if (getenv("MONK_LOADED")) end_now(STATUS_LOADED);
     read_kind();
     read_wish();
     read_seconds();

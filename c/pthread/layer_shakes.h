@@ -50,8 +50,8 @@ static void note_woken(const void *from) {
     }
 }
 
-static void tell_woken(int file) {
-    for (int i = 0; i < PLACES && woken[i]; i++) write_line(file, "woken %s\n", name_of(woken[i]).text);
+static void tell_woken(struct output *file) {
+    for (int i = 0; i < PLACES && woken[i]; i++) put_line(file, "woken %s\n", name_of(woken[i]).text);
 }
 
 static int is_there(struct thread *t) {

@@ -43,7 +43,13 @@ static inline void init(void) {
     if (__builtin_expect(!atomic_load_explicit(&is_ready, memory_order_acquire), 0)) start();
 }
 
-__attribute__((destructor)) static void ended(void) { finish("exit", GOES_ON); }
+/* The status says that histories are missing; what the program printed is not lost. */
+__attribute__((destructor)) static void ended(void) {
+    finish("exit", GOES_ON);
+    if (is_in_parent() || are_written()) return;
+    fflush(NULL);
+    end_now(STATUS_CANT);
+}
 
 __attribute__((constructor)) static void begin(void) {
     init();
@@ -354,7 +360,7 @@ int pthread_cancel(pthread_t thread) {
 void _exit(int status) {
     init();
     finish("exit", IS_LAST);
-    end_now(status);
+    end_now(is_in_parent() || are_written() ? status : STATUS_CANT);
 }
 
 void _Exit(int status) { _exit(status); }

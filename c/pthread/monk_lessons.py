@@ -7,6 +7,8 @@ from monk_runs import CANT, HUNG, LATE, OK, WRONG, Result
 KINDS = ["PB", "NPB", "PNB", "NPNB", "PQB", "NPQB", "PIR", "NPIR"]
 # The kinds under which a signal gives the monitor up.
 GIVE_UP = ["PB", "NPB", "PQB", "NPQB"]
+# A row of runs under Mesa's rule that has a name of its own.
+UNASKED = "unasked"
 # How monk-run mends a program (--mend).
 BROADCASTS, WAKES_SLEEPERS = 1, 2
 
@@ -15,7 +17,7 @@ class Cell(NamedTuple):
     kind: str
     wish: str
     results: List[Result]
-    is_unasked: bool = False     # some waits wake unasked
+    row: str = ""                # UNASKED: some waits wake unasked
 
     def count(self, what: str) -> int:
         return sum(result.what == what for result in self.results)
@@ -38,6 +40,18 @@ class Unasked(NamedTuple):
     places: Sequence[str] = ()
 
 
+class Repeats(NamedTuple):
+    """A cell with wrong runs, repeated: as it was, and as often with each mend."""
+    kind: str = ""               # nothing: no run went wrong
+    runs: int = 0
+    bad: int = 0                 # of those that were as before
+    mended: Dict[int, bool] = {} # for each mend that was tried, whether all runs were right
+
+    def is_seldom(self) -> bool:
+        """Whether too few went wrong again to learn from what is right."""
+        return 2 * self.bad < self.runs
+
+
 class Lesson(NamedTuple):
     name: str
     text: str
@@ -46,9 +60,9 @@ class Lesson(NamedTuple):
 class Facts:
     """What was seen in all runs."""
 
-    def __init__(self, cells: List[Cell], plain: Counts[str], mended: Dict[int, bool], unlocks: List[str],
+    def __init__(self, cells: List[Cell], plain: Counts[str], repeats: Repeats, unlocks: List[str],
                  has_waits: bool, unasked: Unasked = Unasked()) -> None:
-        self.cells, self.plain, self.mended = cells, plain, mended
+        self.cells, self.plain, self.repeats, self.mended = cells, plain, repeats, repeats.mended
         self.has_waits, self.unasked = has_waits, unasked
         self.forgotten_unlocks = unlocks        # who ended inside, in a sentence each
         self.by_kind: Dict[str, Counts[str]] = {}
@@ -91,6 +105,13 @@ def late(facts: Facts) -> Optional[Lesson]:
                   " true, as with waits that have a time limit.")
 
 
+def nothing(facts: Facts) -> Optional[Lesson]:
+    if facts.bad() or facts.has_waits or facts.having(LATE):
+        return None
+    return Lesson("nothing", f"Right under {' '.join(facts.fine())}. But no thread waited in a monitor, so nothing was"
+                  " tried.")
+
+
 def right(facts: Facts) -> Optional[Lesson]:
     if facts.bad():
         return None
@@ -99,8 +120,6 @@ def right(facts: Facts) -> Optional[Lesson]:
         relies = ", though plain runs go wrong: the fault isn't one of waiting and signalling."
     if facts.unasked.cells:
         relies += " It is right too where waits wake unasked."
-    if not facts.has_waits:
-        relies += " But no thread waited in a monitor, so nothing was tried."
     return Lesson("right", f"Right under {' '.join(facts.fine())}{relies}")
 
 
@@ -108,6 +127,17 @@ def unlock(facts: Facts) -> Optional[Lesson]:
     if not facts.forgotten_unlocks:
         return None
     return Lesson("unlock", f"{facts.forgotten_unlocks[0]}: a return without an unlock.")
+
+
+def seldom(facts: Facts) -> Optional[Lesson]:
+    """Runs that went wrong, and then were right as often: a mend would have seemed to help."""
+    again = facts.repeats
+    if not again.kind or not again.is_seldom():
+        return None
+    bad, runs = sum(facts.by_kind[again.kind][what] for what in (WRONG, HUNG)), sum(facts.by_kind[again.kind].values())
+    return Lesson("seldom", f"Wrong in {bad} of {runs} runs under {again.kind}, and in {again.bad} of {again.runs} when"
+                  " these were repeated: too seldom to say why. Repeat it with a greater -n, or give --check if right"
+                  " outputs differ.")
 
 
 USE_BROADCAST = ("It is right when each signal is made a broadcast: a signal wakes a thread that can't use it."
@@ -179,7 +209,8 @@ def elsewhere(facts: Facts) -> Optional[Lesson]:
                   " or the fault isn't one of waiting.")
 
 
-FINDERS = (untried, unasked, late, right, unlock, mesa, hand_over, broadcast, forgotten, deadlock, hoare, elsewhere)
+FINDERS = (untried, unasked, late, nothing, right, unlock, seldom, mesa, hand_over, broadcast, forgotten, deadlock,
+           hoare, elsewhere)
 
 
 def lesson(facts: Facts) -> Lesson:

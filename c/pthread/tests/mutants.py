@@ -1,13 +1,14 @@
 """Mutants of the layer: wrong changes of a line, each of which the tests have to find."""
 import os
 import shutil
-from typing import Dict, NamedTuple
+from typing import Dict, NamedTuple, Tuple
 
 
 class Mutant(NamedTuple):
     file: str
     old: str
     new: str
+    tests: Tuple[str, ...] = ()      # those that have to find it; nothing: the sound programs
 
 
 MUTANTS: Dict[str, Mutant] = {
@@ -67,6 +68,61 @@ MUTANTS: Dict[str, Mutant] = {
         "layer_ends.h",
         "lock_for_child(m);",
         "(void)lock_for_child;"),
+    "no wait wakes unasked": Mutant(
+        "layer_shakes.h",
+        "    note_woken(t->from);\n    return 1;\n",
+        "    note_woken(t->from);\n    return 0;\n",
+        ("unasked",)),
+    "doesn't say which waits woke unasked": Mutant(
+        "layer_shakes.h",
+        "    note_woken(t->from);\n",
+        "    (void)note_woken;\n",
+        ("unasked",)),
+    "doesn't remark two mutexes": Mutant(
+        "layer_waits.h",
+        "    look_at_mutexes(c, m);\n",
+        "    (void)look_at_mutexes;\n",
+        ("remarked",)),
+    "remarks each unlock": Mutant(
+        "layer_remarks.h",
+        "    if (!owner || owner == t || owner->id == t->id) return;\n",
+        "    if (!owner || !t) return;\n",
+        ("remarked",)),
+    "looks at the wrong clock": Mutant(
+        "layer_remarks.h",
+        "clock == CLOCK_MONOTONIC ? CLOCK_REALTIME : CLOCK_MONOTONIC;",
+        "clock == CLOCK_MONOTONIC ? CLOCK_MONOTONIC : CLOCK_REALTIME;",
+        ("remarked",)),
+    "doesn't leave the mutex of a wait alone": Mutant(
+        "libmonk_pthread.c",
+        "    if (!m && !(asked.left_alone && is_named(from)))",
+        "    if (!m)",
+        ("left_alone",)),
+    "makes what may be left alone a monitor": Mutant(
+        "layer_visits.h",
+        "serials >= asked.eager || may_be_left(mutex)) return;",
+        "serials >= asked.eager || (0 && may_be_left(mutex))) return;",
+        ("left_alone",)),
+    "the watcher keeps the process": Mutant(
+        "layer_ends.h",
+        "        if (is_alone()) exit(0);",
+        "        if (0 && is_alone()) exit(0);",
+        ("first_ends",)),
+    "writes over what stands there": Mutant(
+        "layer_files.h",
+        "    open_history(&file, m, volume, O_EXCL);\n",
+        "    open_history(&file, m, volume, O_TRUNC);\n",
+        ("outputs",)),
+    "a file's limit ends the program": Mutant(
+        "layer_outputs.h",
+        "    pthread_sigmask(SIG_BLOCK, &limit, &before);\n",
+        "    pthread_sigmask(SIG_BLOCK, NULL, &before);\n",
+        ("outputs",)),
+    "lost files don't change the status": Mutant(
+        "libmonk_pthread.c",
+        "    if (is_in_parent() || are_written()) return;\n",
+        "    if (is_in_parent() || are_written() || 1) return;\n",
+        ("outputs",)),
 }
 
 

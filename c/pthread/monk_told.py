@@ -1,0 +1,74 @@
+"""What monk-try prints: the table, the lesson and the first wrong run, as text or as JSON. Part of monk-try."""
+import argparse
+import json
+import os
+from typing import Any, Counter as Counts, Dict, List, Optional
+
+from monk_lessons import UNASKED, Cell, Facts, Lesson
+from monk_runs import CANT, HUNG, LATE, OK, WRONG, Expected, status_words
+from monk_wrong import Wrong
+
+WHATS = (OK, WRONG, HUNG, LATE, CANT)
+
+
+def counted(cell: Cell) -> str:
+    return ", ".join(f"{cell.count(what)} {what}" for what in WHATS if cell.count(what))
+
+
+def print_expected(asked: argparse.Namespace, expected: Expected, plain: Counts[str]) -> None:
+    runs = ", ".join(f"{count} {what}" for what, count in plain.items())
+    line = f"plain: {runs}; expected: {status_words(expected.status)}"
+    if expected.check:
+        line += " and what the check says"
+    elif expected.output is not None:
+        line += f" and an output of {len(expected.output)} bytes"
+    else:
+        why = "right runs differ in theirs" if plain[OK] else "no plain run was right"
+        line += f"; outputs aren't compared, since {why}: give --expect or --check"
+    print(f"monk-try: {' '.join(asked.words)}\n{line}\nkind    " + "".join(f"{wish:>22}" for wish in asked.wishes))
+
+
+def print_row(cells: List[Cell]) -> None:
+    name = cells[0].row or cells[0].kind
+    print(f"{name:<8}" + "".join(f"{counted(cell):>22}" for cell in cells), flush=True)
+
+
+def print_history(it: Dict[str, Any]) -> None:
+    path = it["path"]
+    print(f"History: {path}")
+    if "step" in it:
+        print(f"  see step {it['step']}: seat {it['seat']} comes back from its wait, though seat {it['between']} has"
+              f" been in since its signal, and goes on (the first of {it['steps']} such steps)")
+    print(f"  monk explain <{path}; monk page <{path} >{os.path.basename(path)}.html")
+
+
+def print_end(cells: List[Cell], found: Lesson, remarks: List[str], wrong: Optional[Wrong]) -> None:
+    print(f"\n{found.text}", *(f"Remark: {line}." for line in remarks), sep="\n")
+    if wrong:
+        rule = f"{wrong.cell.kind}{', with unasked wake-ups' if wrong.cell.row == UNASKED else ''}"
+        print(f"The first wrong run: {rule}, wish {wrong.cell.wish}, seed {wrong.seed}: {wrong.result.why}.")
+        print(*(f"  {line}" for line in wrong.waits), sep="\n", end="\n" * bool(wrong.waits))
+        for it in wrong.histories:
+            print_history(it)
+        print(f"Again: {wrong.again}")
+    cant = next((cell for cell in cells if cell.count(CANT)), None)
+    result = cant.first(CANT) if cant else None
+    if cant and result:
+        print(f"Not under {cant.kind}: {result.why}.")
+
+
+def cell_as_json(cell: Cell) -> Dict[str, Any]:
+    return {"kind": cell.kind, "wish": cell.wish, **{what: cell.count(what) for what in WHATS}}
+
+
+def wrong_as_json(wrong: Wrong) -> Dict[str, Any]:
+    return {"kind": wrong.cell.kind, "wish": wrong.cell.wish, "seed": int(wrong.seed), "why": wrong.result.why,
+            "waits": wrong.waits, "histories": wrong.histories, "again": wrong.again}
+
+
+def as_json(words: List[str], facts: Facts, found: Lesson, remarks: List[str], wrong: Optional[Wrong]) -> str:
+    told: Dict[str, Any] = {"program": words, "plain": dict(facts.plain), "lesson": found._asdict()}
+    told["cells"], told["unasked"] = ([cell_as_json(cell) for cell in cells] for cells in (facts.cells, facts.unasked.cells))
+    told["remarks"] = remarks
+    told["first_wrong"] = wrong_as_json(wrong) if wrong else None
+    return json.dumps(told)

@@ -1,0 +1,135 @@
+"""The runs of a try: under each kind, with waits that wake unasked, and mended. Part of monk-try."""
+import argparse
+import os
+import shutil
+from collections import Counter
+from concurrent.futures import ThreadPoolExecutor
+from typing import Counter as Counts, Dict, List, NamedTuple, Optional, Sequence
+
+from monk_lessons import BROADCASTS, UNASKED, WAKES_SLEEPERS, Cell, Facts, Repeats, Unasked
+from monk_places import line_of, remarks_in, who_waits, woken_in
+from monk_runs import HUNG, LATE, OK, WRONG, Job, Result, has_waits, run_under
+
+# A wrong run is repeated so often, and as often with each mend.
+REPEATED = 6
+# How many of a thousand waits wake unasked, in turn: often for a program that waits seldom, and seldom for one that
+# waits often. How many runs with each at least; and how many with each place, if some go wrong.
+RATES, LEAST_UNASKED, RUNS_AT, MOST_PLACES = ("500", "50"), 2, 4, 16
+# A run that is late is repeated with a longer limit, but only so many are.
+PATIENCE, MOST_PATIENT = 3, 4
+
+
+class Run(NamedTuple):
+    """What a run is asked for."""
+    kind: str
+    wish: str
+    seed: int
+    unasked: str = ""    # so many of a thousand waits wake unasked; nothing: none
+    mend: int = 0
+    place: str = ""      # only waits of this place wake unasked
+    again: int = 0       # 1: a run that was made before is repeated
+
+    def name(self) -> str:
+        return "_".join(map(str, self)).replace("/", ".")
+
+
+def worst(cells: List[Cell]) -> Optional[Cell]:
+    """The first cell that is wrong, or only late under Mesa's rule, which comes first."""
+    mesa = [cell for cell in cells if cell.kind == "NPNB" and (cell.is_bad() or cell.count(LATE))]
+    return next(iter([*mesa, *(cell for cell in cells if cell.is_bad())]), None)
+
+
+class Try:
+    """A program under the kinds that are asked for."""
+
+    def __init__(self, asked: argparse.Namespace, room: str, job: Job) -> None:
+        self.asked, self.room, self.job, self.has_waits, self.patient = asked, room, job, False, MOST_PATIENT
+        self.remarks: Dict[str, int] = {}       # and in how many runs each was made
+
+    def options(self, it: Run) -> List[str]:
+        words = ["--kind", it.kind, "--wish", it.wish, "--seed", str(it.seed), "--eager", str(self.asked.eager)]
+        words += ["--seconds", f"{self.job.seconds:g}"]
+        words += [word for place in self.asked.leave for word in ("--leave", place)]
+        words += ["--shake", str(it.seed)] if it.seed % 2 == 1 and not self.asked.steady else []
+        words += ["--spurious", it.unasked] if it.unasked else []
+        words += ["--spurious-at", it.place] if it.place else []
+        return [*words, "--mend", str(it.mend)] if it.mend else words
+
+    def run(self, it: Run) -> Result:
+        result = run_under(self.job, os.path.join(self.room, f"{it.name()}.{it.seed}"), self.options(it))
+        self.has_waits = self.has_waits or has_waits(result.folder)
+        for remark in remarks_in(result.folder):
+            self.remarks[remark] = self.remarks.get(remark, 0) + 1
+        if result.what == OK:
+            shutil.rmtree(result.folder)
+        return result
+
+    def not_late(self, it: Run, result: Result) -> Result:
+        """A run that was late is repeated while nothing else runs, with a longer limit, unless one was late again."""
+        if result.what != LATE or self.patient < 1:
+            return result
+        self.patient -= 1
+        shutil.rmtree(result.folder)
+        job, self.job = self.job, self.job._replace(seconds=PATIENCE * self.job.seconds)
+        result, self.job = self.run(it), job
+        self.patient = 0 if result.what == LATE else self.patient
+        return result
+
+    def cells(self, kind: str, unasked: Sequence[str], pool: ThreadPoolExecutor) -> List[Cell]:
+        """A row of the table. The rates of unasked wake-ups take turns."""
+        seeds = range(1, max(self.asked.runs, len(unasked) * LEAST_UNASKED) + 1)
+        asked = [[Run(kind, wish, seed, unasked[seed % len(unasked)] if unasked else "") for seed in seeds]
+                 for wish in self.asked.wishes]
+        begun = [[pool.submit(self.run, it) for it in row] for row in asked]
+        ended = [[run.result() for run in row] for row in begun]
+        name = UNASKED if unasked else ""
+        return [Cell(kind, row[0].wish, [self.not_late(it, result) for it, result in zip(row, results)], name)
+                for row, results in zip(asked, ended)]
+
+    def count_repeated(self, cell: Cell, mend: int, pool: ThreadPoolExecutor) -> Counts[str]:
+        """How the runs of a cell end if they are repeated, as they were (0) or mended by the layer."""
+        asked = [Run(cell.kind, cell.wish, seed, mend=mend, again=1) for seed in range(1, REPEATED + 1)]
+        runs = [pool.submit(self.run, it) for it in asked]
+        return Counter(run.result().what for run in runs)
+
+    def repeats(self, cells: List[Cell], pool: ThreadPoolExecutor) -> Repeats:
+        """The first wrong cell, repeated; under Mesa's rule also mended. A cell that is only late isn't repeated as it
+        was, since that takes long: it counts if it is right once mended."""
+        cell = worst(cells)
+        if not cell:
+            return Repeats()
+        mends = (BROADCASTS, WAKES_SLEEPERS) if cell.kind == "NPNB" else ()
+        if not cell.is_bad():
+            bad = REPEATED
+        else:
+            bad = REPEATED - self.count_repeated(cell, 0, pool)[OK]
+        is_right = {mend: self.count_repeated(cell, mend, pool)[OK] == REPEATED for mend in mends}
+        return Repeats(cell.kind, REPEATED, bad, is_right)
+
+    def unasked(self, cells: List[Cell], pool: ThreadPoolExecutor) -> List[Cell]:
+        """The row of runs under Mesa's rule whose waits wake unasked, if the program is right without this."""
+        is_right = any(cell.count(OK) for cell in cells) and not any(cell.is_bad() for cell in cells)
+        return self.cells("NPNB", RATES, pool) if is_right and self.has_waits else []
+
+    def wrong_at(self, place: str, pool: ThreadPoolExecutor) -> int:
+        """How many runs go wrong if only the waits of this place wake unasked."""
+        runs = [pool.submit(self.run, Run("NPNB", "any", seed, RATES[0], place=place)) for seed in range(1, RUNS_AT + 1)]
+        return sum([run.result().what in (WRONG, HUNG) for run in runs])
+
+    def woken(self, cells: List[Cell], pool: ThreadPoolExecutor) -> List[str]:
+        """The places of waits whose unasked ends alone make the program go wrong, in half of the runs or more: of
+        those the ones that do so most often."""
+        bad = [result.folder for cell in cells for result in cell.results if result.what in (WRONG, HUNG)]
+        places = list(dict.fromkeys(place for folder in bad for place in woken_in(folder)))[:MOST_PLACES]
+        wrong = {place: self.wrong_at(place, pool) for place in places}
+        most = max(wrong.values(), default=0)
+        return [line_of(place) for place in places if 2 * wrong[place] >= max(RUNS_AT, most + 1)]
+
+    def facts(self, cells: List[Cell], plain: Counts[str], unasked: List[Cell], pool: ThreadPoolExecutor) -> Facts:
+        repeats = self.repeats(cells, pool)
+        if any(repeats.mended.values()):
+            cells = [cell.with_hung() for cell in cells]
+        bad = [cell for cell in cells if cell.is_bad()]
+        hung = [result.folder for cell in bad for result in cell.results if result.what == HUNG]
+        unlocks = [line for folder in hung for line in who_waits(folder) if "inside" in line and "has ended" in line]
+        return Facts(cells, plain, repeats, unlocks, self.has_waits, Unasked(unasked, self.woken(unasked, pool)))

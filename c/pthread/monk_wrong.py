@@ -1,0 +1,48 @@
+"""The first wrong run of a try, which is kept and shown. Part of monk-try."""
+import shlex
+import shutil
+from typing import Any, Dict, List, NamedTuple, Optional
+
+from monk_lessons import UNASKED, Cell
+from monk_places import suspect, who_waits, worth_reading
+from monk_runs import HUNG, LATE, WRONG, Result
+from monk_trials import RATES, Run, Try
+
+# The kinds whose first wrong run is shown first: Mesa's rule rather than Hoare's.
+SHOWN_FIRST = {"NPNB": 0, "PNB": 1, "PB": 2}
+
+
+class Wrong(NamedTuple):
+    cell: Cell
+    result: Result
+    seed: str
+    waits: List[str]
+    histories: List[Dict[str, Any]]
+    again: str           # the command that runs the program so
+
+
+def history_of(path: str, kind: str) -> Dict[str, Any]:
+    step = suspect(path) if kind in ("PNB", "NPNB") else None
+    return {"path": path, **(step._asdict() if step else {})}
+
+
+def asked_of(cell: Cell, result: Result) -> Run:
+    """What the run was asked for, by the name of its folder."""
+    seed = int(result.folder.rpartition(".")[2])
+    return Run(cell.kind, cell.wish, seed, RATES[seed % len(RATES)] if cell.row == UNASKED else "")
+
+
+def first_wrong(it: Try, cells: List[Cell]) -> Optional[Wrong]:
+    """The run that is shown; it is kept in the folder that the user named."""
+    bad = [cell for cell in cells if cell.is_bad()] or [cell for cell in cells if cell.count(LATE)]
+    bad.sort(key=lambda cell: SHOWN_FIRST.get(cell.kind, len(SHOWN_FIRST)))
+    result = bad[0].first(WRONG, HUNG) or bad[0].first(LATE) if bad else None
+    if not result:
+        return None
+    keep, asked = it.asked.keep, asked_of(bad[0], result)
+    shutil.rmtree(keep, ignore_errors=True)
+    shutil.copytree(result.folder, keep)
+    waits = who_waits(keep) if result.what in (HUNG, LATE) else []
+    histories = [history_of(path, bad[0].kind) for path in worth_reading(keep)]
+    again = shlex.join(["monk-run", *it.options(asked), "--", *it.asked.words])
+    return Wrong(bad[0], result, str(asked.seed), waits, histories, again)
