@@ -23,6 +23,7 @@ enum { GOES_ON, IS_LAST };
 
 static void finish(const char *why, int is_last) {
     if (is_in_parent() || atomic_exchange(&is_ending, 1)) return;
+    turns.ahead = 0; /* the library's limits go by the system's clock */
     save_all(why, is_last);
     are_written();
     is_written = 1;
@@ -137,7 +138,7 @@ static int all_sleep(pid_t watcher) {
 }
 
 static unsigned long count_steps(void) {
-    unsigned long steps = 0;
+    unsigned long steps = turns.steps;
     for (struct monitor *m = every_monitor; m; m = m->next) steps += m->steps;
     return steps;
 }
@@ -152,7 +153,7 @@ static void broadcast_all(struct monitor *m) {
 static int wake_sleepers(void) {
     int woken = 0;
     for (struct monitor *m = every_monitor; m; m = m->next) {
-        struct timespec limit = time_of(CLOCK_MONOTONIC);
+        struct timespec limit = time_of_limits();
         limit.tv_sec++;
         if (m->is_dead || asked.mode != MONK_NON_BLOCKING || !enter(m, self(), &limit, 1)) continue;
         woken += count_standing(m, WAITS);
@@ -165,7 +166,7 @@ static int wake_sleepers(void) {
 /* ---- The watcher: a thread of the layer that takes no signal */
 
 static double seconds_since(struct timespec begin) {
-    struct timespec now = time_of(CLOCK_MONOTONIC);
+    struct timespec now = time_of_limits();
     return (double)(now.tv_sec - begin.tv_sec) + (double)(now.tv_nsec - begin.tv_nsec) / NS_A_SECOND;
 }
 
@@ -199,7 +200,7 @@ static void look_at_activity(struct activity *last) {
     unsigned long steps = count_steps();
     double used = processor_seconds(), since = seconds_since(last->at);
     if (steps == last->steps && used - last->used < since / LITTLE) return;
-    *last = (struct activity){time_of(CLOCK_MONOTONIC), steps, used};
+    *last = (struct activity){time_of_limits(), steps, used};
 }
 
 /* Ends the program once its time is over. It hangs if nothing has moved for a while and all threads sleep; else it is
@@ -223,13 +224,23 @@ static int is_alone(void) {
     return !stat("/proc/self/task", &threads) && threads.st_nlink == DOTS + 2;
 }
 
+/* Between two looks of the watcher. Turns are looked at more often. */
+static void tick(void) {
+    const struct timespec all = {0, TICK_NS}, part = {0, TURN_TICK_NS};
+    if (!asked.turns) real.nanosleep(&all, NULL);
+    for (int ns = 0; asked.turns && ns < TICK_NS; ns += TURN_TICK_NS) {
+        real.nanosleep(&part, NULL);
+        look_at_turns();
+    }
+}
+
 static void *watch(void *unused) {
-    const struct timespec tick = {0, TICK_NS}, begin = time_of(CLOCK_MONOTONIC);
+    const struct timespec begin = time_of_limits();
     pid_t watcher = (pid_t)syscall(SYS_gettid);
     unsigned long seen = 0;
     struct activity last = {.at = begin};
     let(&watcher_lock);
-    for (int quiet = 0, wakes = 0;; nanosleep(&tick, NULL)) {
+    for (int quiet = 0, wakes = 0;; tick()) {
         if (ending_signal) finish("signal", IS_LAST);
         if (is_alone()) exit(0); /* as the C library does for the last thread: this one doesn't count */
         if (asked.seconds == 0) continue;
@@ -273,7 +284,7 @@ static void end_by_signal(int number) {
     struct sigaction plain = {.sa_handler = SIG_DFL};
     int waits = has_watcher && !is_in_parent();
     if (waits) ending_signal = number;
-    for (int ms = 0; waits && !is_written && ms < WRITING_MS; ms++) nanosleep(&while_writing, NULL);
+    for (int ms = 0; waits && !is_written && ms < WRITING_MS; ms++) real.nanosleep(&while_writing, NULL);
     real.sigaction(number, &plain, NULL);
     raise(number);
 }
@@ -291,7 +302,7 @@ static void watch_signals(void) {
 
 /* Starts to watch, once in a process, if there is anything to watch for. */
 static void watch_process(void) {
-    if ((asked.seconds == 0 && !asked.history && !asked.report) || atomic_exchange(&is_watched, 1)) return;
+    if ((asked.seconds == 0 && !asked.history && !asked.report && !asked.turns) || atomic_exchange(&is_watched, 1)) return;
     start_watcher();
     watch_signals();
 }
@@ -335,6 +346,7 @@ static void in_child(void) {
     serials = 0;
     for (struct thread *t = every_thread; t; t = t->next) t->has_ended = t != me;
     if (me) me->id = (pid_t)syscall(SYS_gettid);
+    begin_turns_in_child(me);
     name_files(getenv("MONK_HISTORY"), getenv("MONK_REPORT"));
 }
 

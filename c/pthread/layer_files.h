@@ -30,6 +30,15 @@ static void tell_names(struct output *file, struct monitor *m) {
         if (m->conditions[k]) put_line(file, "condition %d %d %s\n", m->serial, k, name_of(m->conditions[k]).text);
 }
 
+/* What threads do that wait for no monitor. By turns each has a last call. */
+static void tell_places(struct output *file) {
+    for (struct thread *t = every_thread; t; t = t->next) {
+        const char *does = t->does;
+        if (!does || t->has_ended || (is_by_turns(t) && t->turn.state != BLOCKS)) continue;
+        put_line(file, "does %u %s %s\n", t->index, name_of(t->at).text, does);
+    }
+}
+
 static void tell_monitor(struct output *file, struct monitor *m) {
     tell_names(file, m);
     for (int n = 0; n < SEATS; n++) tell_seat(file, m, n);

@@ -47,7 +47,7 @@ enum { A_DAY = 86400, TEN_YEARS = 3650 * A_DAY };
 
 static int64_t seconds_until(clockid_t clock, const struct timespec *until) {
     struct timespec now;
-    clock_gettime(clock, &now);
+    time_by_turns(clock, &now);
     return (int64_t)until->tv_sec - now.tv_sec;
 }
 

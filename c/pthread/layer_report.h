@@ -2,12 +2,12 @@
 #ifndef LAYER_REPORT_H
 #define LAYER_REPORT_H
 
-#include "layer_waits.h"
+#include "layer_elsewhere.h"
 
 enum { LOOK_MS = 300, LOOKS_IN_ALL = 10 };
 
 static struct timespec look_limit(int looks) {
-    struct timespec limit = time_of(CLOCK_MONOTONIC);
+    struct timespec limit = time_of_limits();
     if (looks > 0) limit.tv_nsec += LOOK_MS * (NS_A_SECOND / MS_A_SECOND);
     if (limit.tv_nsec >= NS_A_SECOND) limit.tv_sec++, limit.tv_nsec -= NS_A_SECOND;
     return limit;
@@ -71,7 +71,8 @@ static void save_report(const char *why) {
     if (!asked.report) return;
     strcpy(file.path, asked.report);
     open_output(&file, O_TRUNC);
-    tell_end(&file, why), tell_remarks(&file), tell_woken(&file);
+    tell_end(&file, why), tell_remarks(&file), tell_woken(&file), tell_turns(&file), tell_elsewhere(&file);
+    tell_places(&file);
     for (struct monitor *m = every_monitor; m; m = m->next)
         if (!m->is_dead) tell_monitor(&file, m);
     close_output(&file);
@@ -80,6 +81,7 @@ static void save_report(const char *why) {
 static void save_all(const char *why, int is_last) {
     int looks = LOOKS_IN_ALL;
     save_report(why);
+    save_schedule();
     for (struct monitor *m = every_monitor; m && asked.history; m = m->next) {
         if (m->is_dead) continue;
         save_names(m);

@@ -26,8 +26,13 @@ enum {
    wait are woken when all sleep for ever. */
 enum { AS_IT_IS, BROADCASTS, WAKES_SLEEPERS };
 
+/* How the turn goes from thread to thread, if only one runs at a time. */
+enum { FREE, BY_WALK, BY_PRIORITIES, BY_SCHEDULE };
+
 static struct {
     int kind, mode, wish;
+    int turns;
+    const char *play, *schedule; /* the file that says whose turn is next; the one that is written */
     int shakes;              /* threads let others go first at random */
     int spurious;            /* so many of a thousand waits wake unasked */
     const char *spurious_at; /* only those that are called there */
@@ -105,6 +110,14 @@ static void read_wish(void) {
     if (asked.wish > MONK_ANY) refuse_setting("MONK_WISH", text, "none of entry waiter signaller any");
 }
 
+static void read_turns(void) {
+    const char *text = getenv("MONK_TURNS");
+    asked.play = getenv("MONK_PLAY"), asked.schedule = getenv("MONK_SCHEDULE");
+    if (text) asked.turns = !strcmp(text, "walk") ? BY_WALK : !strcmp(text, "priorities") ? BY_PRIORITIES : FREE;
+    if (text && !asked.turns) refuse_setting("MONK_TURNS", text, "none of walk priorities");
+    if (asked.play) asked.turns = BY_SCHEDULE;
+}
+
 static void read_seconds(void) {
     const char *text = getenv("MONK_SECONDS");
     char *end;
@@ -140,6 +153,7 @@ static void read_settings(void) {
     read_kind();
     read_wish();
     read_seconds();
+    read_turns();
     read_number("MONK_SEED", 0, UINT64_MAX, &asked.seed);
     read_number("MONK_SHAKE", 0, UINT64_MAX, &asked.seed);
     asked.shakes = getenv("MONK_SHAKE") != NULL;

@@ -19,9 +19,9 @@ __attribute__((noinline, cold)) static void shake_now(void) {
     int error = errno;
     struct timespec nap = {0, (long)(dice / SIDES % NAP_NS)};
     if (dice % SIDES < NAPS)
-        nanosleep(&nap, NULL);
+        real.nanosleep(&nap, NULL);
     else if (dice % SIDES < NAPS + YIELDS)
-        sched_yield();
+        real.yield();
     errno = error;
 }
 
@@ -33,7 +33,7 @@ static inline void shake(void) {
 /* A thread that was made may come first, or the one that made it. */
 static void shake_after_birth(void) {
     struct timespec nap = {0, BIRTH_NAP_NS};
-    if (asked.shakes && roll(self()) % 2) nanosleep(&nap, NULL);
+    if (asked.shakes && roll(self()) % 2) real.nanosleep(&nap, NULL);
     shake();
 }
 

@@ -19,9 +19,9 @@ static void go_out(struct monitor *m) {
 /* MONK_WAITING if the limit is over (a time of CLOCK_MONOTONIC; null if there is none). MONK_STOPPED: another hall
    took this one's place. */
 static int arrive_at(struct monitor *m, struct hall *h, int n, const struct timespec *limit) {
-    if (!limit) return monk_enter(h->seats[n]);
-    sure(m, monk_arrive(h->seats[n]), "arrive");
-    return monk_await_until(h->seats[n], limit);
+    if (!limit && !is_by_turns(me)) return monk_enter(h->seats[n]);
+    if (sure(m, monk_arrive(h->seats[n]), "arrive") == MONK_INSIDE) return MONK_INSIDE;
+    return limit == &no_time ? monk_await_until(h->seats[n], limit) : await_seat(h->seats[n], limit);
 }
 
 /* The thread goes away, and its seat waits on as a ghost, unless the hall in which it waits has been left meanwhile. */
@@ -66,8 +66,6 @@ static int enter(struct monitor *m, struct thread *t, const struct timespec *lim
         go_out(m);
     }
 }
-
-static const struct timespec no_time; /* a limit that is over */
 
 /* ---- Promotion. The thread that has a mutex makes it a monitor, while it has it. A thread that slept at the mutex
    looks again once it has it. So a thread that has the mutex, and finds no monitor, is inside. */

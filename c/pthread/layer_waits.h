@@ -27,13 +27,13 @@ static int is_before(struct timespec a, struct timespec b) {
 
 static struct timespec time_of(clockid_t clock) {
     struct timespec now;
-    clock_gettime(clock, &now);
+    time_by_turns(clock, &now);
     return now;
 }
 
-/* The same time by CLOCK_MONOTONIC, as the clocks are now; the present time if it is over. */
+/* The same time by the clock of limits, as the clocks are now; the present time if it is over. */
 static struct timespec monotonic(clockid_t clock, const struct timespec *until) {
-    struct timespec now = time_of(CLOCK_MONOTONIC), here = time_of(clock);
+    struct timespec now = time_of_limits(), here = time_of(clock);
     if (!is_before(here, *until)) return now;
     now.tv_sec += until->tv_sec - here.tv_sec;
     now.tv_nsec += until->tv_nsec - here.tv_nsec;
@@ -44,7 +44,7 @@ static struct timespec monotonic(clockid_t clock, const struct timespec *until) 
 
 /* When a wait wakes to look at its clock, which may have been set, and whether its thread was cancelled. */
 static struct timespec next_look(clockid_t clock, const struct timespec *until) {
-    struct timespec look = time_of(CLOCK_MONOTONIC), limit = until ? monotonic(clock, until) : look;
+    struct timespec look = time_of_limits(), limit = until ? monotonic(clock, until) : look;
     look.tv_nsec += SLICE_NS;
     if (look.tv_nsec >= NS_A_SECOND) look.tv_sec++, look.tv_nsec -= NS_A_SECOND;
     return until && is_before(limit, look) ? limit : look;
@@ -179,14 +179,24 @@ static int is_given_up(struct wait *w, struct place *p) {
     return atomic_compare_exchange_strong(&p->standing, &is, GHOST_WAITS);
 }
 
+/* Until it is called, or it is time to look again: by turns that is only when its time is over. */
+static int sleep_a_while(struct wait *w, struct place *p, monk_seat *seat) {
+    const struct timespec *until = p->standing == SERVED ? NULL : w->until;
+    if (is_by_turns(w->thread)) {
+        int answer = await_by_turns(w->thread, seat, until ? limit_by_turns(w->clock, until) : NEVER);
+        if (answer != MONK_WAITING || !turns.is_over) return answer;
+    }
+    struct timespec look = next_look(w->clock, until);
+    return monk_await_until(seat, &look);
+}
+
 /* Whether a signal served the seat; else it was given up. */
 static int sleep_through(struct wait *w) {
     struct monitor *m = w->monitor;
     struct place *p = &m->places[w->number];
     for (;;) {
         struct hall *h = use(p, &p->home);
-        struct timespec look = next_look(w->clock, p->standing == SERVED ? NULL : w->until);
-        int answer = monk_await_until(h->seats[w->number], &look);
+        int answer = sleep_a_while(w, p, h->seats[w->number]);
         if (answer == MONK_INSIDE) return 1;
         if (answer == MONK_STOPPED) continue;
         sure(m, answer, "wait");
@@ -240,7 +250,10 @@ static void wake_unasked(struct monitor *m, struct thread *t) {
     if (!m || roll(t) % 2) return;
     int depth = m->depth;
     go_out(m);
-    sched_yield();
+    if (is_by_turns(t))
+        pass(t);
+    else
+        real.yield();
     enter(m, t, NULL, depth);
 }
 

@@ -10,38 +10,10 @@
    layer_ghosts.h, seats without a thread; layer_visits.h, entering, leaving, and how a mutex becomes a monitor;
    layer_waits.h; layer_report.h and layer_ends.h, the ends of a run. */
 #define _GNU_SOURCE
+#include "layer_elsewhere_calls.h"
 #include "layer_ends.h"
 
 /* ---- The beginning */
-
-static _Atomic int is_ready;
-
-/* How much a call on a mutex has to look at. It is all while the start isn't over, if threads are shaken, or if
-   mutexes are monitors from their first lock on. Else it is whether the mutex is a monitor, once there is one. */
-enum attention { NOTHING, MONITORS, ALL };
-static _Atomic int attention = ALL;
-
-/* An allocator that the start calls may come back here: then the functions of mutexes are known already. */
-__attribute__((noinline, cold)) static void start(void) {
-    static _Atomic int lock;
-    static __thread __attribute__((tls_model("initial-exec"))) int is_starting;
-    if (is_starting) return;
-    is_starting = 1;
-    take(&lock);
-    if (!is_ready) {
-        find_functions();
-        read_settings();
-        pthread_key_create(&thread_key, thread_ends);
-        is_ready = 1;
-        attention = asked.shakes || asked.eager ? ALL : NOTHING;
-    }
-    let(&lock);
-    is_starting = 0;
-}
-
-static inline void init(void) {
-    if (__builtin_expect(!atomic_load_explicit(&is_ready, memory_order_acquire), 0)) start();
-}
 
 /* The status says that histories are missing; what the program printed is not lost. */
 __attribute__((destructor)) static void ended(void) {
@@ -53,12 +25,11 @@ __attribute__((destructor)) static void ended(void) {
 
 __attribute__((constructor)) static void begin(void) {
     init();
+    begin_turns();
     pthread_atfork(before_fork, let_tables, in_child);
     at_quick_exit(ended);
     watch_process();
 }
-
-#define CALLER __builtin_return_address(0)
 
 /* ---- Mutexes */
 
@@ -70,9 +41,43 @@ struct locking {
     enum how how;
     clockid_t clock;
     const struct timespec *until;
+    const void *from;
 };
 
+static int is_free(struct thread *t) {
+    return !(((const pthread_mutex_t *)t->turn.what)->__data.__lock & FUTEX_TID_MASK);
+}
+
+/* Whether the thread has it already, and is told so. */
+static int is_told_own(const pthread_mutex_t *mutex) {
+    int type = type_of(mutex), is_told = type == PTHREAD_MUTEX_RECURSIVE || type == PTHREAD_MUTEX_ERRORCHECK;
+    return is_told && mutex->__data.__owner == self()->id;
+}
+
+/* EBUSY if turns are over. */
+static int lock_by_turns(const struct locking *it) {
+    int answer = EBUSY;
+    clockid_t clock = it->how == CLOCK ? it->clock : CLOCK_REALTIME;
+    int64_t until = it->until && is_clock(clock) && is_time(it->until) ? limit_by_turns(clock, it->until) : NEVER;
+    while (is_by_turns(me) && (answer = real.trylock(it->mutex)) == EBUSY)
+        if (sleep_by_turns(me, is_free, it->mutex, until) == LATE) return ETIMEDOUT;
+    return answer;
+}
+
+/* For ever, if need be. */
+static int lock_noted(const struct locking *it) {
+    if (is_told_own(it->mutex)) return real.lock(it->mutex);
+    int answer = real.trylock(it->mutex);
+    if (answer != EBUSY) return answer;
+    note_call("locks", it->from);
+    return after_call(real.lock(it->mutex));
+}
+
 static inline int lock_really(const struct locking *it) {
+    if (is_by_turns(me) && it->how != TRY && !is_told_own(it->mutex)) {
+        int answer = lock_by_turns(it);
+        if (answer != EBUSY) return answer;
+    }
     switch (it->how) {
     case TRY:
         return real.trylock(it->mutex);
@@ -81,7 +86,7 @@ static inline int lock_really(const struct locking *it) {
     case CLOCK:
         return real.clocklock(it->mutex, it->clock, it->until);
     default:
-        return real.lock(it->mutex);
+        return lock_noted(it);
     }
 }
 
@@ -115,7 +120,7 @@ static int look_again(const struct locking *it, int answer) {
 
 static int lock_by(struct locking it) {
     init();
-    shake();
+    begin_call("locks", it.from);
     struct monitor *m = monitor_of(it.mutex);
     return m ? lock_monitor(m, &it) : look_again(&it, lock_really(&it));
 }
@@ -124,20 +129,20 @@ static int lock_by(struct locking it) {
 int pthread_mutex_lock(pthread_mutex_t *mutex) {
     int is = attention;
     if (is == ALL || (is == MONITORS && monitor_of(mutex)))
-        return lock_by((struct locking){.mutex = mutex, .how = LOCK});
+        return lock_by((struct locking){.mutex = mutex, .how = LOCK, .from = CALLER});
     int answer = real.lock(mutex);
     if (attention == NOTHING || !monitor_of(mutex)) return answer;
-    return look_again(&(struct locking){.mutex = mutex, .how = LOCK}, answer);
+    return look_again(&(struct locking){.mutex = mutex, .how = LOCK, .from = CALLER}, answer);
 }
 
-int pthread_mutex_trylock(pthread_mutex_t *mutex) { return lock_by((struct locking){.mutex = mutex, .how = TRY}); }
+int pthread_mutex_trylock(pthread_mutex_t *mutex) { return lock_by((struct locking){.mutex = mutex, .how = TRY, .from = CALLER}); }
 
 int pthread_mutex_timedlock(pthread_mutex_t *mutex, const struct timespec *until) {
-    return lock_by((struct locking){mutex, TIMED, CLOCK_REALTIME, until});
+    return lock_by((struct locking){mutex, TIMED, CLOCK_REALTIME, until, CALLER});
 }
 
 int pthread_mutex_clocklock(pthread_mutex_t *mutex, clockid_t clock, const struct timespec *until) {
-    return lock_by((struct locking){mutex, CLOCK, clock, until});
+    return lock_by((struct locking){mutex, CLOCK, clock, until, CALLER});
 }
 
 static int unlock_monitor(struct monitor *m, const pthread_mutex_t *mutex, const void *from) {
@@ -149,11 +154,14 @@ static int unlock_monitor(struct monitor *m, const pthread_mutex_t *mutex, const
     return 0;
 }
 
+/* By turns others may come after it: before it they would sleep at once. */
 static int unlock_by(pthread_mutex_t *mutex, const void *from) {
     init();
-    shake();
+    if (!is_by_turns(me)) shake();
     struct monitor *m = monitor_of(mutex);
-    return m ? unlock_monitor(m, mutex, from) : real.unlock(mutex);
+    int answer = m ? unlock_monitor(m, mutex, from) : real.unlock(mutex);
+    if (is_by_turns(me)) begin_call("unlocked", from);
+    return answer;
 }
 
 int pthread_mutex_unlock(pthread_mutex_t *mutex) {
@@ -193,7 +201,7 @@ enum { IS_MONOTONIC = 2 }; /* the bit of a condition that was made for this cloc
 
 static int wait_by(struct locking it, pthread_cond_t *condition, const void *from) {
     init();
-    shake();
+    begin_call("waits", from);
     struct thread *t = self();
     struct monitor *m = monitor_of(it.mutex);
     t->from = from;
@@ -210,16 +218,16 @@ static int wait_by(struct locking it, pthread_cond_t *condition, const void *fro
 }
 
 int pthread_cond_wait(pthread_cond_t *condition, pthread_mutex_t *mutex) {
-    return wait_by((struct locking){.mutex = mutex, .how = LOCK}, condition, CALLER);
+    return wait_by((struct locking){.mutex = mutex, .how = LOCK, .from = CALLER}, condition, CALLER);
 }
 
 int pthread_cond_timedwait(pthread_cond_t *condition, pthread_mutex_t *mutex, const struct timespec *until) {
-    return wait_by((struct locking){mutex, TIMED, CLOCK_REALTIME, until}, condition, CALLER);
+    return wait_by((struct locking){mutex, TIMED, CLOCK_REALTIME, until, CALLER}, condition, CALLER);
 }
 
 int pthread_cond_clockwait(pthread_cond_t *condition, pthread_mutex_t *mutex, clockid_t clock,
                            const struct timespec *until) {
-    return wait_by((struct locking){mutex, CLOCK, clock, until}, condition, CALLER);
+    return wait_by((struct locking){mutex, CLOCK, clock, until, CALLER}, condition, CALLER);
 }
 
 /* By a thread outside: the seat that is inside sends it. If nobody waits, there is nobody to serve. */
@@ -232,9 +240,9 @@ static void signal_from_outside(struct monitor *m, int k, int is_broadcast) {
 }
 
 /* Whether the condition is one of a monitor. */
-static int is_signalled(const void *condition, int is_broadcast) {
+static int is_signalled(const void *condition, int is_broadcast, const void *from) {
     init();
-    shake();
+    begin_call(is_broadcast ? "broadcasts" : "signals", from);
     struct condition *c = condition_of(condition);
     struct monitor *m = c ? c->of : NULL;
     if (!m) return 0;
@@ -246,11 +254,17 @@ static int is_signalled(const void *condition, int is_broadcast) {
     return 1;
 }
 
-int pthread_cond_signal(pthread_cond_t *condition) { return is_signalled(condition, 0) ? 0 : real.signal(condition); }
-
-int pthread_cond_broadcast(pthread_cond_t *condition) {
-    return is_signalled(condition, 1) ? 0 : real.broadcast(condition);
+static int signal_at(pthread_cond_t *condition, const void *from) {
+    return is_signalled(condition, 0, from) ? 0 : real.signal(condition);
 }
+
+static int broadcast_at(pthread_cond_t *condition, const void *from) {
+    return is_signalled(condition, 1, from) ? 0 : real.broadcast(condition);
+}
+
+int pthread_cond_signal(pthread_cond_t *condition) { return signal_at(condition, CALLER); }
+
+int pthread_cond_broadcast(pthread_cond_t *condition) { return broadcast_at(condition, CALLER); }
 
 int pthread_cond_init(pthread_cond_t *condition, const pthread_condattr_t *attributes) {
     init();
@@ -296,27 +310,27 @@ void mtx_destroy(mtx_t *mutex) {
     real.mtx_destroy(mutex);
 }
 
-int mtx_lock(mtx_t *mutex) { return in_c11(lock_by((struct locking){.mutex = mutex_of(mutex), .how = LOCK})); }
+int mtx_lock(mtx_t *mutex) { return in_c11(lock_by((struct locking){.mutex = mutex_of(mutex), .how = LOCK, .from = CALLER})); }
 
-int mtx_trylock(mtx_t *mutex) { return in_c11(lock_by((struct locking){.mutex = mutex_of(mutex), .how = TRY})); }
+int mtx_trylock(mtx_t *mutex) { return in_c11(lock_by((struct locking){.mutex = mutex_of(mutex), .how = TRY, .from = CALLER})); }
 
 int mtx_timedlock(mtx_t *restrict mutex, const struct timespec *restrict until) {
-    return in_c11(lock_by((struct locking){mutex_of(mutex), TIMED, CLOCK_REALTIME, until}));
+    return in_c11(lock_by((struct locking){mutex_of(mutex), TIMED, CLOCK_REALTIME, until, CALLER}));
 }
 
 int mtx_unlock(mtx_t *mutex) { return in_c11(unlock_by(mutex_of(mutex), CALLER)); }
 
 int cnd_wait(cnd_t *condition, mtx_t *mutex) {
-    return in_c11(wait_by((struct locking){.mutex = mutex_of(mutex), .how = LOCK}, cond_of(condition), CALLER));
+    return in_c11(wait_by((struct locking){.mutex = mutex_of(mutex), .how = LOCK, .from = CALLER}, cond_of(condition), CALLER));
 }
 
 int cnd_timedwait(cnd_t *restrict condition, mtx_t *restrict mutex, const struct timespec *restrict until) {
-    return in_c11(wait_by((struct locking){mutex_of(mutex), TIMED, CLOCK_REALTIME, until}, cond_of(condition), CALLER));
+    return in_c11(wait_by((struct locking){mutex_of(mutex), TIMED, CLOCK_REALTIME, until, CALLER}, cond_of(condition), CALLER));
 }
 
-int cnd_signal(cnd_t *condition) { return in_c11(pthread_cond_signal(cond_of(condition))); }
+int cnd_signal(cnd_t *condition) { return in_c11(signal_at(cond_of(condition), CALLER)); }
 
-int cnd_broadcast(cnd_t *condition) { return in_c11(pthread_cond_broadcast(cond_of(condition))); }
+int cnd_broadcast(cnd_t *condition) { return in_c11(broadcast_at(cond_of(condition), CALLER)); }
 
 int cnd_init(cnd_t *condition) {
     init();
@@ -331,17 +345,51 @@ void cnd_destroy(cnd_t *condition) {
 
 /* ---- Threads */
 
+static void *begin_by_turns(void *it) {
+    struct thread *t = it;
+    be(t);
+    await_turn(t);
+    return t->work(t->word);
+}
+
+static int begin_c11_by_turns(void *it) { return (int)(intptr_t)begin_by_turns(it); }
+
+/* The thread that is about to be made, if it runs by turns. Its maker may lose its turn after that, or the child comes
+   later. */
+static struct thread *expect_member(void *(*work)(void *), void *word, const void *at) {
+    if (!is_by_turns(self())) return NULL;
+    give_turn(me, "makes a thread", at);
+    struct thread *t = expect_thread();
+    t->work = work, t->word = word;
+    become_member(t);
+    return t;
+}
+
+static void made(struct thread *t, const pthread_t *handle, int is_made) {
+    if (!t) {
+        if (is_made) shake_after_birth();
+        return;
+    }
+    if (is_made)
+        t->self = *handle;
+    else
+        leave_turns(t);
+    if (is_by_turns(me)) give_turn(me, "made a thread", me->at);
+}
+
 int pthread_create(pthread_t *thread, const pthread_attr_t *attributes, void *(*work)(void *), void *word) {
     init();
-    int answer = real.create(thread, attributes, work, word);
-    if (!answer) shake_after_birth();
+    struct thread *t = expect_member(work, word, CALLER);
+    int answer = t ? real.create(thread, attributes, begin_by_turns, t) : real.create(thread, attributes, work, word);
+    made(t, thread, !answer);
     return answer;
 }
 
 int thrd_create(thrd_t *thread, thrd_start_t work, void *word) {
     init();
-    int answer = real.thrd_create(thread, work, word);
-    if (answer == thrd_success) shake_after_birth();
+    struct thread *t = expect_member((void *(*)(void *))(uintptr_t)work, word, CALLER);
+    int answer = t ? real.thrd_create(thread, begin_c11_by_turns, t) : real.thrd_create(thread, work, word);
+    made(t, thread, answer == thrd_success);
     return answer;
 }
 
