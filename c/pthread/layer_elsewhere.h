@@ -55,7 +55,8 @@ static int is_posted(struct thread *t) {
 /* Whether it was taken by turns; else its time is over (LATE), or the thread has to wait freely. */
 static enum waited take_by_turns(sem_t *semaphore, int64_t until) {
     while (is_by_turns(me)) {
-        if (sleep_by_turns(me, is_posted, semaphore, until) == LATE) return LATE;
+        if (sleep_or_end(me, is_posted, semaphore, until) == LATE) return LATE;
+        pthread_testcancel();
         if (!real.sem_trywait(semaphore)) return MAY_GO_ON;
     }
     return FREELY;
@@ -146,7 +147,9 @@ static int sleeps_by_turns(const struct timespec *time, const void *at) {
     give_turn(me, "sleeps", at);
     if (!is_by_turns(me) || time->tv_sec > INT32_MAX) return 0;
     int64_t until = turns.now + time->tv_sec * (int64_t)NS_A_SECOND + time->tv_nsec;
-    return sleep_by_turns(me, NULL, NULL, until) != FREELY;
+    if (sleep_or_end(me, NULL, NULL, until) == FREELY) return 0;
+    pthread_testcancel();
+    return 1;
 }
 
 /* ---- Pipes and sockets */

@@ -8,7 +8,7 @@
 #include <sys/time.h>
 #include <sys/wait.h>
 
-enum { TICK_NS = 50000000, QUIET_TICKS = 8, MOST_WAKES = 20, WRITING_MS = 2000 };
+enum { TICK_NS = 50000000, QUIET_TICKS = 8, STUCK_TICKS = 2, MOST_WAKES = 20, WRITING_MS = 2000 };
 /* In such a time nothing moves if no step is made, and less than one part in so many of processor time is used. */
 enum { IDLE_SECONDS = 2, LITTLE = 20 };
 enum { DOTS = 2 }; /* a folder has these links beside its entries */
@@ -249,7 +249,7 @@ static void *watch(void *unused) {
         take(&watcher_lock);
         quiet = count_quiet(quiet, &seen, watcher);
         let(&watcher_lock);
-        if (quiet < QUIET_TICKS) continue;
+        if (quiet < (are_stuck() ? STUCK_TICKS : QUIET_TICKS)) continue;
         if (asked.mend != WAKES_SLEEPERS || wakes++ >= MOST_WAKES || !wake_sleepers()) end_by_watcher("hung");
         quiet = 0;
     }
@@ -302,7 +302,8 @@ static void watch_signals(void) {
 
 /* Starts to watch, once in a process, if there is anything to watch for. */
 static void watch_process(void) {
-    if ((asked.seconds == 0 && !asked.history && !asked.report && !asked.turns) || atomic_exchange(&is_watched, 1)) return;
+    int is_for_nothing = asked.seconds == 0 && !asked.history && !asked.report && !asked.turns;
+    if (is_for_nothing || atomic_exchange(&is_watched, 1)) return;
     start_watcher();
     watch_signals();
 }

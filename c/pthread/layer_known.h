@@ -38,6 +38,7 @@ struct turn {
     const void *what;
     int is_of_others; /* what it waits for may come from another process */
     int64_t until;    /* when its time is over */
+    int may_end; /* a cancelled thread may end where it sleeps */
     int is_late, is_joined, answer, ends;
     long priority;
     unsigned points; /* at which it might have lost the turn */

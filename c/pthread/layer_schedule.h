@@ -6,7 +6,9 @@
 
 #include "layer_shakes.h"
 
-enum { MOST_MEMBERS = 512, MOST_KNOWN = 4096, MOST_CHANGES = 1 << 18, FULL_STEPS = 20000, CHANGE_IN = 40, FIRST_PRIORITIES = 1 << 30 };
+enum { MOST_MEMBERS = 512, MOST_KNOWN = 4096, MOST_CHANGES = 1 << 18, FULL_STEPS = 20000 };
+/* One of so many turns lowers the priority of the thread that has it. */
+enum { CHANGE_IN = 40, FIRST_PRIORITIES = 1 << 30 };
 
 /* At the point of a thread (its calls, and wherever it sleeps) the turn goes to another. */
 struct change {
@@ -110,7 +112,7 @@ static void ask_for(struct change change) {
 static void read_schedule(void) {
     char line[LONGEST_LINE];
     struct change it = {0};
-    if (asked.turns != BY_SCHEDULE) return;
+    if (!asked.play) return;
     FILE *file = fopen(asked.play, "re");
     if (!file) refuse_setting("MONK_PLAY", asked.play, strerror(errno));
     if (!fgets(line, sizeof line, file) || strcmp(line, "monk schedule 1\n"))

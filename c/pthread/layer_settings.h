@@ -112,10 +112,9 @@ static void read_wish(void) {
 
 static void read_turns(void) {
     const char *text = getenv("MONK_TURNS");
-    asked.play = getenv("MONK_PLAY"), asked.schedule = getenv("MONK_SCHEDULE");
     if (text) asked.turns = !strcmp(text, "walk") ? BY_WALK : !strcmp(text, "priorities") ? BY_PRIORITIES : FREE;
     if (text && !asked.turns) refuse_setting("MONK_TURNS", text, "none of walk priorities");
-    if (asked.play) asked.turns = BY_SCHEDULE;
+    if (getenv("MONK_PLAY")) asked.turns = BY_SCHEDULE;
 }
 
 static void read_seconds(void) {
@@ -128,7 +127,7 @@ static void read_seconds(void) {
 }
 
 /* The process that monk-run became writes into DIR and FILE; each other process, started or forked, writes into
-   DIR/PID and FILE.PID. */
+   DIR/PID and FILE.PID. A schedule is of the first alone. */
 static void name_files(const char *history, const char *report) {
     const char *owner = getenv("MONK_OWNER");
     process = getpid();
@@ -137,6 +136,8 @@ static void name_files(const char *history, const char *report) {
     snprintf(report_of_process, LONGEST_PATH, is_owner ? "%s" : "%s.%d", report ? report : "", (int)process);
     asked.history = history ? history_of_process : NULL;
     asked.report = report ? report_of_process : NULL;
+    asked.schedule = is_owner ? getenv("MONK_SCHEDULE") : NULL;
+    asked.play = is_owner ? getenv("MONK_PLAY") : NULL;
 }
 
 /* An allocator other than the C library's may have mutexes. A hall takes memory, so none can be made while such a

@@ -1,8 +1,8 @@
 /* layer_turns.h - runs that repeat. Only the thread that has the turn runs between calls. At each call, and wherever a
    thread would sleep, the turn goes on, and layer_schedule.h chooses to whom. Time passes by turns too: it jumps to the
-   next limit once nobody else can go on. A thread that sleeps where the layer doesn't see it, or runs on without a call,
-   loses its turn after a while: then the run doesn't repeat, and if it happens often, all threads run freely. Part of
-   libmonk_pthread.c. */
+   next limit once nobody else can go on. A thread that sleeps where the layer doesn't see it, or runs on without a
+   call, loses its turn after a while: then the run doesn't repeat, and if it happens often, all threads run freely.
+   Part of libmonk_pthread.c. */
 #ifndef LAYER_TURNS_H
 #define LAYER_TURNS_H
 
@@ -48,7 +48,8 @@ static void end_turns(void) {
 /* Whether the thread may have the turn. What it waits for is asked until it holds, and then not again. Under the lock,
    as all that follows. */
 static int is_able(struct thread *t) {
-    if (t->turn.state == BLOCKS && t->turn.may_go_on && t->turn.may_go_on(t)) t->turn.state = RUNS;
+    int is_ending = t->turn.may_end && t->is_cancelled;
+    if (t->turn.state == BLOCKS && (is_ending || (t->turn.may_go_on && t->turn.may_go_on(t)))) t->turn.state = RUNS;
     return t->turn.state == RUNS;
 }
 
@@ -84,10 +85,10 @@ static struct thread *next_holder(struct thread *self) {
 
 /* The turn goes on; to the thread itself, if it is chosen. */
 static void hand_on(struct thread *self) {
-    turns.steps++;
     turns.now += STEP_NS;
     if (self) self->turn.points++;
     struct thread *next = next_holder(self);
+    turns.steps += next != NULL;
     turns.holder = next;
     if (self) self->turn.has = next == self;
     if (next && next != self) wake_by_turn(next);
@@ -119,15 +120,24 @@ static void give_turn(struct thread *t, const char *does, const void *at) {
 
 enum waited { LATE, MAY_GO_ON, FREELY };
 
-/* Gives the turn up until the thread may go on (null: it can't before its time), or its time is over. FREELY: turns are
-   over, and the thread has to wait as if there were none. */
-static enum waited sleep_by_turns(struct thread *t, int (*may_go_on)(struct thread *), const void *what, int64_t until) {
+/* Gives the turn up until the thread may go on (null: it can't before its time), or its time is over. FREELY: turns
+   are over, and the thread has to wait as if there were none. */
+static enum waited sleep_by_turns(struct thread *t, int (*may_go_on)(struct thread *), const void *what,
+                                  int64_t until) {
     t->turn.may_go_on = may_go_on, t->turn.what = what, t->turn.until = until;
     t->turn.is_late = 0;
     t->turn.state = BLOCKS;
     pass(t);
     if (turns.is_over) return FREELY;
     return t->turn.is_late ? LATE : MAY_GO_ON;
+}
+
+/* The same at a point where a thread that was cancelled may end. */
+static enum waited sleep_or_end(struct thread *t, int (*may_go_on)(struct thread *), const void *what, int64_t until) {
+    t->turn.may_end = 1;
+    enum waited how = sleep_by_turns(t, may_go_on, what, until);
+    t->turn.may_end = 0;
+    return how;
 }
 
 /* A thread that is made, by its maker who has the turn; or the first one. */
@@ -209,6 +219,18 @@ static void lose_turn(struct thread *t, int is_asleep) {
 }
 
 enum { TURN_TICK_NS = 2000000, SLEEPING_TICKS = 10, SPINNING_TICKS = 250 };
+
+/* Whether nobody has the turn, and no thread outside, no limit and no other process gives it to anybody. */
+static int are_stuck(void) {
+    int is_stuck = asked.turns && !turns.is_over && turns.count;
+    take(&turns.lock);
+    for (int i = 0; i < turns.count; i++) {
+        const struct thread *t = turns.members[i];
+        is_stuck &= t->turn.state == BLOCKS && t->turn.until == NEVER && !is_outside(t);
+    }
+    let(&turns.lock);
+    return is_stuck;
+}
 
 static void pass_time(void) {
     turns.now += TURN_TICK_NS;

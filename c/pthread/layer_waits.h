@@ -183,7 +183,9 @@ static int is_given_up(struct wait *w, struct place *p) {
 static int sleep_a_while(struct wait *w, struct place *p, monk_seat *seat) {
     const struct timespec *until = p->standing == SERVED ? NULL : w->until;
     if (is_by_turns(w->thread)) {
+        w->thread->turn.may_end = 1;
         int answer = await_by_turns(w->thread, seat, until ? limit_by_turns(w->clock, until) : NEVER);
+        w->thread->turn.may_end = 0;
         if (answer != MONK_WAITING || !turns.is_over) return answer;
     }
     struct timespec look = next_look(w->clock, until);

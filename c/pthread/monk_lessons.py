@@ -7,8 +7,8 @@ from monk_runs import CANT, HUNG, LATE, OK, WRONG, Result
 KINDS = ["PB", "NPB", "PNB", "NPNB", "PQB", "NPQB", "PIR", "NPIR"]
 # The kinds under which a signal gives the monitor up.
 GIVE_UP = ["PB", "NPB", "PQB", "NPQB"]
-# A row of runs under Mesa's rule that has a name of its own.
-UNASKED = "unasked"
+# Rows of runs under Mesa's rule that have names of their own.
+UNASKED, TURNS = "unasked", "turns"
 # How monk-run mends a program (--mend).
 BROADCASTS, WAKES_SLEEPERS = 1, 2
 
@@ -17,7 +17,7 @@ class Cell(NamedTuple):
     kind: str
     wish: str
     results: List[Result]
-    row: str = ""                # UNASKED: some waits wake unasked
+    row: str = ""                # UNASKED: some waits wake unasked; TURNS: one thread runs at a time, and it repeats
 
     def count(self, what: str) -> int:
         return sum(result.what == what for result in self.results)
@@ -67,7 +67,8 @@ class Facts:
         self.forgotten_unlocks = unlocks        # who ended inside, in a sentence each
         self.by_kind: Dict[str, Counts[str]] = {}
         for cell in cells:
-            self.by_kind.setdefault(cell.kind, Counter()).update(result.what for result in cell.results)
+            ends = [result.what for result in cell.results if cell.row != TURNS or result.what in (OK, WRONG, HUNG)]
+            self.by_kind.setdefault(cell.kind, Counter()).update(ends)
 
     def having(self, *whats: str) -> List[str]:
         """The kinds under which some run ended in one of these ways, in the order of KINDS."""

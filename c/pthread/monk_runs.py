@@ -108,7 +108,7 @@ def judged(ended: Ended, folder: str, expected: Expected) -> Result:
     ends = {rows[0][1] for rows in reports(folder).values() if rows}    # also of a child, whose status a pipe hides
     if refusal and (ended.status == STATUS_CANT or "cant" in ends):
         return Result(CANT, refusal[1], folder)
-    if not ends and ended.status != STATUS_LATE:
+    if folder and not ends and ended.status != STATUS_LATE:
         return Result(CANT, "the layer wasn't loaded into the program, or couldn't write its report", folder)
     if "hung" in ends:
         return Result(HUNG, "it hangs", folder)

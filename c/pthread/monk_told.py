@@ -4,7 +4,7 @@ import json
 import os
 from typing import Any, Counter as Counts, Dict, List, Optional
 
-from monk_lessons import UNASKED, Cell, Facts, Lesson
+from monk_lessons import TURNS, UNASKED, Cell, Facts, Lesson
 from monk_runs import CANT, HUNG, LATE, OK, WRONG, Expected, status_words
 from monk_wrong import Wrong
 
@@ -45,25 +45,24 @@ def print_history(it: Dict[str, Any]) -> None:
 def print_end(cells: List[Cell], found: Lesson, remarks: List[str], wrong: Optional[Wrong]) -> None:
     print(f"\n{found.text}", *(f"Remark: {line}." for line in remarks), sep="\n")
     if wrong:
-        rule = f"{wrong.cell.kind}{', with unasked wake-ups' if wrong.cell.row == UNASKED else ''}"
+        rule = wrong.cell.kind + {UNASKED: ", with unasked wake-ups", TURNS: ", by turns"}.get(wrong.cell.row, "")
         print(f"The first wrong run: {rule}, wish {wrong.cell.wish}, seed {wrong.seed}: {wrong.result.why}.")
-        print(*(f"  {line}" for line in wrong.waits), sep="\n", end="\n" * bool(wrong.waits))
+        print(*(f"  {line}" for line in [*wrong.waits, *wrong.turns]), sep="\n", end="\n" * bool(wrong.waits + wrong.turns))
         for it in wrong.histories:
             print_history(it)
         print(f"Again: {wrong.again}")
-    cant = next((cell for cell in cells if cell.count(CANT)), None)
-    result = cant.first(CANT) if cant else None
-    if cant and result:
-        print(f"Not under {cant.kind}: {result.why}.")
+    for cant in {cell.row == TURNS: cell for cell in reversed(cells) if cell.count(CANT)}.values():
+        result = cant.first(CANT) or cant.results[0]
+        print(f"{'Not repeatable' if cant.row == TURNS else 'Not under ' + cant.kind}: {result.why}.")
 
 
 def cell_as_json(cell: Cell) -> Dict[str, Any]:
-    return {"kind": cell.kind, "wish": cell.wish, **{what: cell.count(what) for what in WHATS}}
+    return {"kind": cell.kind, "row": cell.row, "wish": cell.wish, **{what: cell.count(what) for what in WHATS}}
 
 
 def wrong_as_json(wrong: Wrong) -> Dict[str, Any]:
     return {"kind": wrong.cell.kind, "wish": wrong.cell.wish, "seed": int(wrong.seed), "why": wrong.result.why,
-            "waits": wrong.waits, "histories": wrong.histories, "again": wrong.again}
+            "waits": wrong.waits, "turns": wrong.turns, "histories": wrong.histories, "again": wrong.again}
 
 
 def as_json(words: List[str], facts: Facts, found: Lesson, remarks: List[str], wrong: Optional[Wrong]) -> str:

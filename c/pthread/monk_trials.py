@@ -6,9 +6,10 @@ from collections import Counter
 from concurrent.futures import ThreadPoolExecutor
 from typing import Counter as Counts, Dict, List, NamedTuple, Optional, Sequence
 
-from monk_lessons import BROADCASTS, UNASKED, WAKES_SLEEPERS, Cell, Facts, Repeats, Unasked
+from monk_lessons import BROADCASTS, TURNS, UNASKED, WAKES_SLEEPERS, Cell, Facts, Repeats, Unasked
 from monk_places import line_of, remarks_in, who_waits, woken_in
-from monk_runs import HUNG, LATE, OK, WRONG, Job, Result, has_waits, run_under
+from monk_runs import CANT, HUNG, LATE, OK, WRONG, Job, Result, has_waits, run_under
+from monk_schedules import lost_in, lost_words
 
 # A wrong run is repeated so often, and as often with each mend.
 REPEATED = 6
@@ -17,6 +18,8 @@ REPEATED = 6
 RATES, LEAST_UNASKED, RUNS_AT, MOST_PLACES = ("500", "50"), 2, 4, 16
 # A run that is late is repeated with a longer limit, but only so many are.
 PATIENCE, MOST_PATIENT = 3, 4
+# How runs by turns choose who is next, by their seeds.
+CHOICES = ("priorities", "walk", "walk", "walk")
 
 
 class Run(NamedTuple):
@@ -27,16 +30,24 @@ class Run(NamedTuple):
     unasked: str = ""    # so many of a thousand waits wake unasked; nothing: none
     mend: int = 0
     place: str = ""      # only waits of this place wake unasked
+    turns: str = ""      # only one thread runs at a time: how the next is chosen
     again: int = 0       # 1: a run that was made before is repeated
 
     def name(self) -> str:
         return "_".join(map(str, self)).replace("/", ".")
 
 
+def seed_of(result: Result) -> int:
+    """By the name of the run's folder."""
+    return int(result.folder.rpartition(".")[2])
+
+
 def worst(cells: List[Cell]) -> Optional[Cell]:
     """The first cell that is wrong, or only late under Mesa's rule, which comes first."""
-    mesa = [cell for cell in cells if cell.kind == "NPNB" and (cell.is_bad() or cell.count(LATE))]
-    return next(iter([*mesa, *(cell for cell in cells if cell.is_bad())]), None)
+    bad = [cell for cell in cells if cell.is_bad()]
+    late = [cell for cell in cells if cell.kind == "NPNB" and cell.count(LATE)]
+    bad.sort(key=lambda cell: (cell.kind != "NPNB", cell.row != TURNS))
+    return next(iter([*bad, *late]), None) if bad and bad[0].kind == "NPNB" else next(iter([*late, *bad]), None)
 
 
 class Try:
@@ -50,13 +61,16 @@ class Try:
         words = ["--kind", it.kind, "--wish", it.wish, "--seed", str(it.seed), "--eager", str(self.asked.eager)]
         words += ["--seconds", f"{self.job.seconds:g}"]
         words += [word for place in self.asked.leave for word in ("--leave", place)]
-        words += ["--shake", str(it.seed)] if it.seed % 2 == 1 and not self.asked.steady else []
+        words += ["--shake", str(it.seed)] if it.seed % 2 == 1 and not self.asked.steady and not it.turns else []
+        words += ["--turns", it.turns] if it.turns else []
         words += ["--spurious", it.unasked] if it.unasked else []
         words += ["--spurious-at", it.place] if it.place else []
         return [*words, "--mend", str(it.mend)] if it.mend else words
 
     def run(self, it: Run) -> Result:
-        result = run_under(self.job, os.path.join(self.room, f"{it.name()}.{it.seed}"), self.options(it))
+        folder = os.path.join(self.room, f"{it.name()}.{it.seed}")
+        schedule = ["--schedule", f"{folder}.turns"] if it.turns else []
+        result = run_under(self.job, folder, [*self.options(it), *schedule])
         self.has_waits = self.has_waits or has_waits(result.folder)
         for remark in remarks_in(result.folder):
             self.remarks[remark] = self.remarks.get(remark, 0) + 1
@@ -86,10 +100,42 @@ class Try:
         return [Cell(kind, row[0].wish, [self.not_late(it, result) for it, result in zip(row, results)], name)
                 for row, results in zip(asked, ended)]
 
+    def run_by_turns(self, it: Run) -> Result:
+        """A run that repeats. It counts only if it does: a wrong one is repeated, and has to end in the same way."""
+        result = self.run(it)
+        lost = lost_in(result.folder)
+        if not lost and result.what in (WRONG, HUNG) and not it.again:
+            again = self.run(it._replace(again=1))
+            if (again.what, again.why) != (result.what, result.why):
+                return result._replace(what=CANT, why="a run by turns ended otherwise when it was repeated")
+        if lost or result.what == LATE:
+            return result._replace(what=CANT, why=f"{lost_words(lost)}" if lost else "it is too slow")
+        return result
+
+    def by_turns(self, pool: ThreadPoolExecutor) -> List[Cell]:
+        """The row of runs that repeat, under Mesa's rule. If the first doesn't, the others are left out."""
+        asked = [[Run("NPNB", wish, seed, turns=CHOICES[seed % len(CHOICES)])
+                  for seed in range(1, max(self.asked.runs, len(CHOICES)) + 1)] for wish in self.asked.wishes]
+        first = self.run_by_turns(asked[0][0])
+        if first.what == CANT:
+            return [Cell("NPNB", self.asked.wishes[0], [first], TURNS)]
+        begun = [[pool.submit(self.run_by_turns, it) for it in row if it is not asked[0][0]] for row in asked]
+        ended = [[run.result() for run in row] for row in begun]
+        ended[0].insert(0, first)
+        return [Cell("NPNB", wish, results, TURNS) for wish, results in zip(self.asked.wishes, ended)]
+
+    def asked_again(self, cell: Cell, mend: int) -> List[Run]:
+        """Six runs of a cell. Those by turns are the ones that went wrong: others end as they did."""
+        if cell.row != TURNS:
+            return [Run(cell.kind, cell.wish, seed, mend=mend, again=1) for seed in range(1, REPEATED + 1)]
+        bad = [seed_of(result) for result in cell.results if result.what in (WRONG, HUNG)]
+        seeds = [bad[number % len(bad)] for number in range(REPEATED)]
+        return [Run(cell.kind, cell.wish, seed, mend=mend, turns=CHOICES[seed % len(CHOICES)], again=2 + number)
+                for number, seed in enumerate(seeds)]
+
     def count_repeated(self, cell: Cell, mend: int, pool: ThreadPoolExecutor) -> Counts[str]:
         """How the runs of a cell end if they are repeated, as they were (0) or mended by the layer."""
-        asked = [Run(cell.kind, cell.wish, seed, mend=mend, again=1) for seed in range(1, REPEATED + 1)]
-        runs = [pool.submit(self.run, it) for it in asked]
+        runs = [pool.submit(self.run, it) for it in self.asked_again(cell, mend)]
         return Counter(run.result().what for run in runs)
 
     def repeats(self, cells: List[Cell], pool: ThreadPoolExecutor) -> Repeats:

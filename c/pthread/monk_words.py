@@ -43,6 +43,8 @@ def parsed(description: str) -> argparse.Namespace:
                        help="runs at the same time (as many as processors)")
     words.add_argument("--keep", metavar="DIR", default="monk-try.out",
                        help="where the first wrong run is kept (monk-try.out)")
+    words.add_argument("--again", metavar="FILE",
+                       help="plays a schedule that was kept (DIR/schedule), and says how the run ends now")
     words.add_argument("--json", action="store_true", help="prints one line of JSON in place of the table")
     words.add_argument("words", nargs=argparse.REMAINDER, metavar="PROGRAM ..")
     asked = words.parse_args()
@@ -59,7 +61,7 @@ def may_be_kept(folder: str) -> bool:
         refuse(f"{folder}: {'it is a link' if os.path.islink(folder) else 'no folder can be made there'}; name another"
                " with --keep")
     names = os.listdir(folder) if os.path.isdir(folder) else [] if not os.path.exists(folder) else [folder]
-    return all(name == "history" or name.startswith("report") for name in names)
+    return all(name in ("history", "schedule") or name.startswith("report") for name in names)
 
 
 def refuse_bad(asked: argparse.Namespace) -> None:
@@ -71,6 +73,8 @@ def refuse_bad(asked: argparse.Namespace) -> None:
             refuse(f"{wish}: none of {' '.join(ALL_WISHES)}")
     if asked.runs < 1 or asked.jobs < 1 or not 0 < (asked.seconds or 1) < TOO_LONG or asked.eager < 0:
         refuse("a number of runs, jobs or seconds is out of range")
+    if asked.again:
+        return
     if not asked.words:
         refuse("which program? monk-try PROGRAM")
     if not shutil.which(asked.words[0]):

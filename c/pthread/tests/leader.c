@@ -1,4 +1,5 @@
-/* The first thread ends before the others, by pthread_exit or (leader c11) by thrd_exit. What was printed isn't lost. */
+/* The first thread ends before the others, by pthread_exit or (leader c11) by thrd_exit. What is printed isn't
+   lost. */
 #include <pthread.h>
 #include <stdio.h>
 #include <threads.h>

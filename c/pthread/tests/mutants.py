@@ -13,7 +13,7 @@ class Mutant(NamedTuple):
 
 MUTANTS: Dict[str, Mutant] = {
     "doesn't look again once it has the mutex": Mutant(
-        "libmonk_pthread.c",
+        "layer_calls.h",
         "    if (m) return real.unlock(it->mutex), lock_monitor(m, it);\n",
         "    (void)m;\n"),
     "a ghost swallows a signal": Mutant(
@@ -94,7 +94,7 @@ MUTANTS: Dict[str, Mutant] = {
         "clock == CLOCK_MONOTONIC ? CLOCK_MONOTONIC : CLOCK_REALTIME;",
         ("remarked",)),
     "doesn't leave the mutex of a wait alone": Mutant(
-        "libmonk_pthread.c",
+        "layer_calls.h",
         "    if (!m && !(asked.left_alone && is_named(from)))",
         "    if (!m)",
         ("left_alone",)),

@@ -1,4 +1,5 @@
 """Tests of what monk-try says of programs that POSIX may treat otherwise than they expect."""
+import concurrent.futures
 import re
 import sys
 from typing import Any
@@ -24,8 +25,11 @@ def unasked(tests: Any) -> str:
 
 def remarked(tests: Any) -> str:
     """Uses that POSIX leaves undefined, and none where there is none."""
+    tests.built("misuse")
+    with concurrent.futures.ThreadPoolExecutor(len(REMARKS)) as pool:
+        tries = {fault: pool.submit(tests.verdict, [tests.built("misuse"), fault], *FEW, "NPNB") for fault in REMARKS}
     for fault, words in REMARKS.items():
-        told = tests.verdict(tests.words(("misuse", fault)), *FEW, "NPNB")["remarks"]
+        told = tries[fault].result()["remarks"]
         if len(told) != bool(words) or not all(words in line for line in told):
             fail(f"misuse {fault}: {told}")
     return f"{len(REMARKS) - 1} uses"
