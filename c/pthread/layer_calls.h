@@ -17,10 +17,6 @@ struct locking {
     const void *from;
 };
 
-static int is_free(struct thread *t) {
-    return !(((const pthread_mutex_t *)t->turn.what)->__data.__lock & FUTEX_TID_MASK);
-}
-
 /* Whether the thread has it already, and is told so. */
 static int is_told_own(const pthread_mutex_t *mutex) {
     int type = type_of(mutex), is_told = type == PTHREAD_MUTEX_RECURSIVE || type == PTHREAD_MUTEX_ERRORCHECK;
@@ -71,15 +67,25 @@ static int lock_again(struct monitor *m, const struct locking *it) {
     return EBUSY;
 }
 
+static int look_again(const struct locking *it, int answer);
+
+/* By how long it may take. */
+static int enter_for(struct monitor *m, const struct locking *it) {
+    static const int answers[] = {[TOO_LATE] = ETIMEDOUT, [ENTERED] = 0};
+    struct timespec limit;
+    if (it->how == TRY && m->owner) return EBUSY;
+    if (it->until) limit = monotonic(it->clock, it->until);
+    enum entered how = enter(m, self(), it->how == TRY ? &no_time : it->until ? &limit : NULL, 1);
+    if (how == STEPPED_DOWN) return look_again(it, lock_really(it));
+    return it->how == TRY && how == TOO_LATE ? EBUSY : answers[how];
+}
+
 static int lock_monitor(struct monitor *m, const struct locking *it) {
     struct thread *t = self();
     int answer = m->owner == t ? lock_again(m, it) : 0, is_own = m->owner == t;
     if (is_own && (answer != EBUSY || it->how == TRY)) return answer;
-    if (it->how == TRY) return !m->owner && enter(m, t, &no_time, 1) ? 0 : EBUSY;
-    if (it->how == LOCK) return enter(m, t, NULL, 1), 0;
-    if (!is_clock(it->clock) || !is_time(it->until)) return EINVAL;
-    struct timespec limit = monotonic(it->clock, it->until);
-    return enter(m, t, &limit, 1) ? 0 : ETIMEDOUT;
+    if (it->until && (!is_clock(it->clock) || !is_time(it->until))) return EINVAL;
+    return enter_for(m, it);
 }
 
 /* Looks again once it has the mutex: it may have become a monitor while the thread slept there. */
@@ -174,12 +180,20 @@ static int wait_really(struct locking it, pthread_cond_t *condition) {
 
 enum { IS_MONOTONIC = 2 }; /* the bit of a condition that was made for this clock */
 
+/* Where the program waits: what C++'s library calls is called for it. */
+static const void *wait_place(struct thread *t, const void *from) {
+    if (t->wait_of_cpp) from = t->wait_of_cpp;
+    t->wait_of_cpp = NULL;
+    t->from = from;
+    return from;
+}
+
 static int wait_by(struct locking it, pthread_cond_t *condition, const void *from) {
     init();
-    begin_call("waits", from);
     struct thread *t = self();
+    from = wait_place(t, from);
+    begin_call("waits", from);
     struct monitor *m = monitor_of(it.mutex);
-    t->from = from;
     if (m && m->owner != t) return EPERM;
     if (attention == NOTHING) attention = MONITORS;
     if (!is_watched) watch_process();
@@ -189,11 +203,20 @@ static int wait_by(struct locking it, pthread_cond_t *condition, const void *fro
     if (it.until) look_at_clock(it.clock, it.until, from);
     if (m && !m->first_wait) m->first_wait = from;
     if (is_unasked(t)) return wake_unasked(m, t), 0;
-    return m ? wait_with(m, condition, it.clock, it.until) : wait_really(it, condition);
+    int answer = m ? wait_with(m, condition, it.clock, it.until) : NOT_HERE;
+    return answer == NOT_HERE ? wait_really(it, condition) : answer;
 }
 
 int pthread_cond_wait(pthread_cond_t *condition, pthread_mutex_t *mutex) {
     return wait_by((struct locking){.mutex = mutex, .how = LOCK, .from = CALLER}, condition, CALLER);
+}
+
+/* std::condition_variable::wait(std::unique_lock<std::mutex>&) */
+void _ZNSt18condition_variable4waitERSt11unique_lockISt5mutexE(void *condition, void *lock) {
+    init();
+    self()->wait_of_cpp = CALLER;
+    if (!real.wait_of_cpp) *(void **)&real.wait_of_cpp = dlsym(RTLD_NEXT, __func__);
+    real.wait_of_cpp(condition, lock);
 }
 
 int pthread_cond_timedwait(pthread_cond_t *condition, pthread_mutex_t *mutex, const struct timespec *until) {

@@ -8,7 +8,7 @@
 #include <poll.h>
 
 /* What is counted: calls that might have waited, and those that did. The waits have no order that is tried. */
-enum elsewhere { SEMAPHORES, RWLOCKS, BARRIERS, ELSEWHERE };
+enum elsewhere { SEMAPHORES, RWLOCKS, BARRIERS, FUTEXES, ELSEWHERE };
 
 static struct {
     _Atomic long calls, waits;
@@ -20,7 +20,7 @@ static void count_elsewhere(enum elsewhere what, int waits) {
 }
 
 static void tell_elsewhere(struct output *file) {
-    static const char *const names[] = {"semaphores", "rwlocks", "barriers"};
+    static const char *const names[] = {"semaphores", "rwlocks", "barriers", "futexes"};
     for (int what = 0; what < ELSEWHERE; what++)
         if (elsewhere[what].calls)
             put_line(file, "elsewhere %s %ld %ld\n", names[what], elsewhere[what].calls, elsewhere[what].waits);
@@ -136,6 +136,16 @@ static int meet(pthread_barrier_t *barrier) {
     me->turn.answer = 0;
     sleep_by_turns(me, is_through, barrier, NEVER);
     return me->turn.answer ? 0 : real.barrier_wait(barrier);
+}
+
+/* ---- Waits at a futex, as those of C++20's atomics: they sleep in the system */
+
+extern const char __ehdr_start, _end; /* of this library, which has futexes of its own */
+
+static int is_wait_at_futex(long number, long operation, const char *from) {
+    if (number != SYS_futex || (from >= &__ehdr_start && from < &_end)) return 0;
+    int command = (int)operation & FUTEX_CMD_MASK;
+    return command == FUTEX_WAIT || command == FUTEX_WAIT_BITSET;
 }
 
 /* ---- Sleeps */

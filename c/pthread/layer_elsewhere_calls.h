@@ -128,6 +128,18 @@ ssize_t send(int file, const void *bytes, size_t size, int flags) {
     return real.send(file, bytes, size, flags);
 }
 
+/* (A system call has six words at most.) */
+long syscall(long number, ...) {
+    long words[6];
+    va_list list;
+    va_start(list, number);
+    for (int i = 0; i < 6; i++) words[i] = va_arg(list, long);
+    va_end(list);
+    init();
+    if (is_wait_at_futex(number, words[1], CALLER)) count_elsewhere(FUTEXES, 1);
+    return real.syscall(number, words[0], words[1], words[2], words[3], words[4], words[5]);
+}
+
 /* ---- Time, which stands still while nobody has a turn */
 
 int clock_gettime(clockid_t clock, struct timespec *now) {

@@ -8,7 +8,7 @@
 #include <sys/time.h>
 #include <sys/wait.h>
 
-enum { TICK_NS = 50000000, QUIET_TICKS = 8, STUCK_TICKS = 2, MOST_WAKES = 20, WRITING_MS = 2000 };
+enum { TICK_NS = 50000000, QUIET_TICKS = 8, STUCK_TICKS = 2, MOST_WAKES = 100, WRITING_MS = 2000 };
 /* In such a time nothing moves if no step is made, and less than one part in so many of processor time is used. */
 enum { IDLE_SECONDS = 2, LITTLE = 20 };
 enum { DOTS = 2 }; /* a folder has these links beside its entries */
@@ -155,7 +155,7 @@ static int wake_sleepers(void) {
     for (struct monitor *m = every_monitor; m; m = m->next) {
         struct timespec limit = time_of_limits();
         limit.tv_sec++;
-        if (m->is_dead || asked.mode != MONK_NON_BLOCKING || !enter(m, self(), &limit, 1)) continue;
+        if (m->is_dead || asked.mode != MONK_NON_BLOCKING || enter(m, self(), &limit, 1) != ENTERED) continue;
         woken += count_standing(m, WAITS);
         broadcast_all(m);
         go_out(m);

@@ -26,6 +26,7 @@ static void tell_names(struct output *file, struct monitor *m) {
              "monitor %d %s volumes %ld timeouts %ld passed_on %ld taken_over %ld outside %ld late_renewals %ld\n",
              m->serial, name_of(m->known.address).text, m->volumes + 1, m->timeouts, m->passed_on, m->taken_over,
              m->outside, m->late_renewals);
+    if (m->first_wait) put_line(file, "first %d %s\n", m->serial, name_of(m->first_wait).text);
     for (int k = 0; k < CONDITIONS; k++)
         if (m->conditions[k]) put_line(file, "condition %d %d %s\n", m->serial, k, name_of(m->conditions[k]).text);
 }

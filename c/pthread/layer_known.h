@@ -59,6 +59,7 @@ struct thread {
     _Atomic int is_cancelled, has_ended;
     _Atomic int sleeps;       /* in a wait that has no limit: it wakes at times to look whether it is cancelled */
     const void *_Atomic from; /* where its last wait was called */
+    const void *wait_of_cpp;  /* where std::condition_variable was asked to wait, which calls from its own library */
     const void *not_there;    /* a place of waits that isn't the one that was asked for */
     uint64_t dice;
 };
@@ -107,6 +108,7 @@ struct monitor {
     int serial, depth;
     const void *first_wait; /* where the first wait with it was called; null: none was */
     int has_names;          /* whether this process began the file of its names */
+    _Atomic int has_stepped_down; /* its mutex is what it was: nobody uses it again */
     int transit;  /* seats that were served or signalled, and aren't back inside */
     int deferred; /* the condition that an immediate-return kind signals as it goes out, or NONE */
     int wants_renewal;
@@ -300,7 +302,7 @@ static struct thread *expect_thread(void) {
     t->index = atomic_fetch_add(&thread_count, 1);
     t->dice = asked.seed * 0x9e3779b97f4a7c15u + (t->index + 1) * 0xbf58476d1ce4e5b9u + 1;
     t->is_cancelled = t->sleeps = t->has_ended = 0;
-    t->from = t->not_there = NULL;
+    t->from = t->not_there = t->wait_of_cpp = NULL;
     t->numbers = 0;
     t->uses = LIVE;
     t->turn = (struct turn){0};

@@ -23,7 +23,10 @@ static int free_number(struct monitor *m, const struct thread *t) {
 
 enum { NUMBER_NS = 20000000 };
 
-static int has_number(struct thread *t) { return ((const struct monitor *)t->turn.what)->free != 0; }
+static int has_number(struct thread *t) {
+    const struct monitor *m = t->turn.what;
+    return m->free != 0 || m->has_stepped_down;
+}
 
 /* Sleeps until a number is given back, for a short while at most: a ghost may give its number back unheard. */
 static void await_number(struct monitor *m) {
@@ -34,8 +37,7 @@ static void await_number(struct monitor *m) {
     atomic_fetch_sub(&m->wanting, 1);
 }
 
-/* Looks for a number before the refusal that there are too many threads: by then some that were served may have gone
-   on. */
+/* Looks for a number before there are too many threads: by then some that were served may have gone on. */
 enum { PATIENT_LOOKS = 20 };
 
 /* Lends the number to the thread that calls. */
@@ -48,13 +50,14 @@ static int lend(struct monitor *m, int n, struct thread *t) {
 
 static int is_steward_free(struct monitor *m) { return !atomic_exchange(&m->has_steward, 1); }
 
+/* NONE: the monitor has stepped down, or has to, because all numbers wait. */
 static int take_number(struct monitor *m, struct thread *t) {
     for (int looks = 0;; looks++) {
+        if (m->has_stepped_down) return NONE;
         int n = free_number(m, t);
         if (n == NONE && count_standing(m, GHOST_WAITS) && is_steward_free(m)) n = STEWARD;
         if (n != NONE) return lend(m, n, t);
-        if (looks > PATIENT_LOOKS && count_standing(m, WAITS) == NUMBERS)
-            refuse_of(m, "31 threads wait on its conditions, and more come: monitors have 32 seats");
+        if (looks > PATIENT_LOOKS && count_standing(m, WAITS) == NUMBERS) return NONE;
         await_number(m);
     }
 }

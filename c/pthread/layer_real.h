@@ -38,6 +38,8 @@ static struct {
     int (*nanosleep)(const struct timespec *, struct timespec *), (*usleep)(useconds_t), (*yield)(void);
     int (*clock_nanosleep)(clockid_t, int, const struct timespec *, struct timespec *);
     unsigned (*sleep)(unsigned);
+    void (*wait_of_cpp)(void *, void *);
+    long (*syscall)(long, ...);
     ssize_t (*read)(int, void *, size_t), (*write)(int, const void *, size_t);
     ssize_t (*recv)(int, void *, size_t, int), (*send)(int, const void *, size_t, int);
     int (*sigaction)(int, const struct sigaction *, struct sigaction *);
@@ -57,6 +59,7 @@ static void *condition_function(const char *name) {
 
 /* Functions of mutexes come first: an allocator may lock a mutex of its own while the others are looked for. */
 static void find_functions(void) {
+    FIND(syscall, "syscall");
     FIND(lock, "pthread_mutex_lock");
     FIND(unlock, "pthread_mutex_unlock");
     FIND(trylock, "pthread_mutex_trylock");
@@ -99,6 +102,7 @@ static void find_functions(void) {
     FIND(usleep, "usleep");
     FIND(sleep, "sleep");
     FIND(yield, "sched_yield");
+    FIND(wait_of_cpp, "_ZNSt18condition_variable4waitERSt11unique_lockISt5mutexE");
     FIND(read, "read");
     FIND(write, "write");
     FIND(recv, "recv");

@@ -23,7 +23,7 @@ static void save_by_ended(struct monitor *m) {
    Whether it came. */
 static int save_by_visit(struct monitor *m, int looks) {
     struct timespec limit = look_limit(looks);
-    if (!come_in_by(m, STEWARD, &limit)) return save_by_ended(m), 0;
+    if (come_in_by(m, STEWARD, &limit) != ENTERED) return save_by_ended(m), 0;
     save_volume(m, m->hall, STEWARD);
     monk_leave(seat_in(m, STEWARD));
     released(m);
@@ -73,6 +73,7 @@ static void save_report(const char *why) {
     open_output(&file, O_TRUNC);
     tell_end(&file, why), tell_remarks(&file), tell_woken(&file), tell_turns(&file), tell_elsewhere(&file);
     tell_places(&file);
+    tell_descents(&file);
     for (struct monitor *m = every_monitor; m; m = m->next)
         if (!m->is_dead) tell_monitor(&file, m);
     close_output(&file);

@@ -16,7 +16,7 @@ enum {
     STATUS_LATE = 124 /* as of timeout(1) */,
     STATUS_CANT = 125,
     STATUS_LOADED = 3, /* what a process ends with that is started to see whether the layer is there */
-    LONGEST_LINE = 600,
+    LONGEST_LINE = 1200,
     LONGEST_PATH = 500,
     A_THOUSAND = 1000,
     MOST_BUDGET = 1 << 20

@@ -42,6 +42,9 @@ static int await_seat(monk_seat *seat, const struct timespec *limit) {
 /* Lets ghosts come in if it is their turn. It follows each release. */
 static void released(struct monitor *m);
 
+/* Locks the mutex of a monitor that has stepped down. */
+static void lock_below(struct monitor *m, int times);
+
 static const int64_t a_broadcast = (int64_t)1 << 32; /* among pending signals; a signal is 1 */
 
 static monk_seat *seat_in(struct monitor *m, int n) {
@@ -72,13 +75,19 @@ static void note_outside(struct monitor *m) {
 /* The thread gives the monitor up to the one that it signalled, and sleeps until it has it back. */
 static void signal_and_return(struct monitor *m, int n, int condition, struct thread *t) {
     monk_seat *seat = seat_in(m, n);
-    int depth = m->depth;
+    int depth = m->depth, answer = MONK_INSIDE;
     m->places[n].standing = SIGNALS;
     note_outside(m);
     if (sure(m, monk_start_signal(seat, (unsigned)condition), "signal") == MONK_WAITING) {
         released(m);
-        sure(m, await_seat(seat, NULL), "signal");
+        answer = await_seat(seat, NULL);
     }
+    if (answer == MONK_STOPPED && m->has_stepped_down) {
+        give_number(m, n);
+        lock_below(m, depth);
+        return;
+    }
+    sure(m, answer, "signal");
     note_inside(m, n, t, depth);
     m->transit--;
 }

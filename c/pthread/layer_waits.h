@@ -91,13 +91,13 @@ static void use_number(struct monitor *m, int k, struct condition *c) {
     atomic_store(&c->of, m);
 }
 
+/* NONE: eight others have waiters. */
 static int number_of(struct monitor *m, const void *address) {
     struct condition *c = make_condition(address);
     if (c->of == m && m->conditions[c->number] == address) return c->number;
     look_at_mutexes(c, m);
     int k = spare_number(m, address);
-    if (k == NONE) refuse_of(m, "threads wait on more than %d of its conditions at once", CONDITIONS);
-    use_number(m, k, c);
+    if (k != NONE) use_number(m, k, c);
     return k;
 }
 
@@ -192,17 +192,20 @@ static int sleep_a_while(struct wait *w, struct place *p, monk_seat *seat) {
     return monk_await_until(seat, &look);
 }
 
-/* Whether a signal served the seat; else it was given up. */
-static int sleep_through(struct wait *w) {
+enum slept { GIVEN_UP, WAS_SERVED, WAS_LEFT };
+
+/* Whether a signal served the seat, or it was given up, or its monitor has stepped down. */
+static enum slept sleep_through(struct wait *w) {
     struct monitor *m = w->monitor;
     struct place *p = &m->places[w->number];
     for (;;) {
         struct hall *h = use(p, &p->home);
         int answer = sleep_a_while(w, p, h->seats[w->number]);
-        if (answer == MONK_INSIDE) return 1;
+        if (answer == MONK_INSIDE) return WAS_SERVED;
+        if (answer == MONK_STOPPED && m->has_stepped_down) return WAS_LEFT;
         if (answer == MONK_STOPPED) continue;
         sure(m, answer, "wait");
-        if (is_given_up(w, p)) return 0;
+        if (is_given_up(w, p)) return GIVEN_UP;
     }
 }
 
@@ -221,24 +224,41 @@ static int end_given_up(struct wait *w) {
     int is_late = is_over(w->clock, w->until);
     m->places[w->number].used = NULL;
     m->timeouts++;
-    enter(m, w->thread, NULL, w->depth);
+    if (enter(m, w->thread, NULL, w->depth) == STEPPED_DOWN) lock_below(m, w->depth);
     if (is_late) return ETIMEDOUT;
     pthread_testcancel();
     w->thread->is_cancelled = 0; /* the mark was for another of the same name */
     return 0;
 }
 
-/* The wait of pthread_cond_wait and the like by the thread that is inside: 0 or ETIMEDOUT. */
+/* The thread woke unasked, because its monitor has stepped down. */
+static int end_left(struct wait *w) {
+    give_number(w->monitor, w->number);
+    lock_below(w->monitor, w->depth);
+    pthread_testcancel();
+    return is_over(w->clock, w->until) ? ETIMEDOUT : 0;
+}
+
+enum { NOT_HERE = -1 };
+
+/* The wait of pthread_cond_wait and the like by the thread that is inside: 0 or ETIMEDOUT. NOT_HERE: the monitor has
+   stepped down, and the thread has the mutex to wait with. */
 static int wait_with(struct monitor *m, const void *condition, clockid_t clock, const struct timespec *until) {
     struct wait w = {
         .monitor = m, .thread = self(), .number = m->inside, .depth = m->depth, .until = until, .clock = clock};
     pthread_testcancel();
     w.condition = number_of(m, condition);
+    if (w.condition == NONE) {
+        step_down(m, w.number, w.depth, "has more than 8 conditions with waiters");
+        give_number(m, w.number);
+        return NOT_HERE;
+    }
     begin_wait(&w);
     w.thread->sleeps = !until;
-    int is_served = sleep_through(&w);
+    enum slept how = sleep_through(&w);
     w.thread->sleeps = 0;
-    if (!is_served) return end_given_up(&w);
+    if (how == WAS_LEFT) return end_left(&w);
+    if (how == GIVEN_UP) return end_given_up(&w);
     end_served(&w);
     return 0;
 }
@@ -256,7 +276,7 @@ static void wake_unasked(struct monitor *m, struct thread *t) {
         pass(t);
     else
         real.yield();
-    enter(m, t, NULL, depth);
+    if (enter(m, t, NULL, depth) == STEPPED_DOWN) lock_below(m, depth);
 }
 
 #endif

@@ -53,6 +53,17 @@ def line_of(place: str) -> str:
     return os.path.basename(lines[0]) if lines else place
 
 
+_functions: Dict[str, str] = {}
+
+
+def functions_at(place: str) -> str:
+    """The functions at the call before PATH+0xOFFSET, with those into which they are inlined."""
+    path, plus, offset = place.rpartition("+0x")
+    if plus and place not in _functions:
+        _functions[place] = said(["addr2line", "-f", "-C", "-i", "-e", path, hex(int(offset, 16) - 1)])
+    return _functions.get(place, "")
+
+
 class Names(NamedTuple):
     mutexes: Dict[str, str]
     conditions: Dict[Tuple[str, str], str]
@@ -88,6 +99,9 @@ def who_waits(folder: str) -> List[str]:
     for rows in reports(folder).values():
         names = names_in(rows)
         told += [sentence(row, names) for row in rows if row[0] == "seat" and row[5] != "ghost"]
+        seated = {row[4] for row in rows if row[0] == "seat" and row[5] != "ghost"}
+        told += [f"thread {row[1]} {' '.join(row[3:])} at {line_of(row[2])}" for row in rows
+                 if row[0] == "does" and row[1] not in seated]
     return told
 
 

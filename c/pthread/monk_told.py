@@ -2,10 +2,10 @@
 import argparse
 import json
 import os
-from typing import Any, Counter as Counts, Dict, List, Optional
+from typing import Any, Counter as Counts, Dict, List, NamedTuple, Optional
 
 from monk_lessons import TURNS, UNASKED, Cell, Facts, Lesson
-from monk_runs import CANT, HUNG, LATE, OK, WRONG, Expected, status_words
+from monk_runs import CANT, HUNG, LATE, OK, STATUS_CANT, WRONG, Expected, status_words
 from monk_wrong import Wrong
 
 WHATS = (OK, WRONG, HUNG, LATE, CANT)
@@ -42,8 +42,24 @@ def print_history(it: Dict[str, Any]) -> None:
     print(f"  monk explain <{path}; monk page <{path} >{os.path.basename(path)}.html")
 
 
-def print_end(cells: List[Cell], found: Lesson, remarks: List[str], wrong: Optional[Wrong]) -> None:
-    print(f"\n{found.text}", *(f"Remark: {line}." for line in remarks), sep="\n")
+class Told(NamedTuple):
+    """What a try found."""
+    facts: Facts
+    lesson: Lesson
+    remarks: List[str]
+    untried: List[str]
+    wrong: Optional[Wrong]
+
+    def status(self) -> int:
+        if self.lesson.name in ("not run", "nothing"):
+            return STATUS_CANT
+        return 0 if self.lesson.name == "right" and not self.wrong else 1
+
+
+def print_end(cells: List[Cell], told: Told) -> None:
+    lines = [*(f"Remark: {line}." for line in told.remarks), *(f"Not tried: {line}." for line in told.untried)]
+    print(f"\n{told.lesson.text}", *lines, sep="\n")
+    wrong = told.wrong
     if wrong:
         rule = wrong.cell.kind + {UNASKED: ", with unasked wake-ups", TURNS: ", by turns"}.get(wrong.cell.row, "")
         print(f"The first wrong run: {rule}, wish {wrong.cell.wish}, seed {wrong.seed}: {wrong.result.why}.")
@@ -65,9 +81,10 @@ def wrong_as_json(wrong: Wrong) -> Dict[str, Any]:
             "waits": wrong.waits, "turns": wrong.turns, "histories": wrong.histories, "again": wrong.again}
 
 
-def as_json(words: List[str], facts: Facts, found: Lesson, remarks: List[str], wrong: Optional[Wrong]) -> str:
-    told: Dict[str, Any] = {"program": words, "plain": dict(facts.plain), "lesson": found._asdict()}
-    told["cells"], told["unasked"] = ([cell_as_json(cell) for cell in cells] for cells in (facts.cells, facts.unasked.cells))
-    told["remarks"] = remarks
-    told["first_wrong"] = wrong_as_json(wrong) if wrong else None
-    return json.dumps(told)
+def as_json(words: List[str], told: Told) -> str:
+    facts = told.facts
+    it: Dict[str, Any] = {"program": words, "plain": dict(facts.plain), "lesson": told.lesson._asdict()}
+    it["cells"], it["unasked"] = ([cell_as_json(cell) for cell in cells] for cells in (facts.cells, facts.unasked.cells))
+    it["remarks"], it["untried"] = told.remarks, told.untried
+    it["first_wrong"] = wrong_as_json(told.wrong) if told.wrong else None
+    return json.dumps(it)

@@ -10,6 +10,7 @@ from monk_lessons import BROADCASTS, TURNS, UNASKED, WAKES_SLEEPERS, Cell, Facts
 from monk_places import line_of, remarks_in, who_waits, woken_in
 from monk_runs import CANT, HUNG, LATE, OK, WRONG, Job, Result, has_waits, run_under
 from monk_schedules import lost_in, lost_words
+from monk_untried import untried_in
 
 # A wrong run is repeated so often, and as often with each mend.
 REPEATED = 6
@@ -56,6 +57,7 @@ class Try:
     def __init__(self, asked: argparse.Namespace, room: str, job: Job) -> None:
         self.asked, self.room, self.job, self.has_waits, self.patient = asked, room, job, False, MOST_PATIENT
         self.remarks: Dict[str, int] = {}       # and in how many runs each was made
+        self.untried: Dict[str, None] = {}      # sentences
 
     def options(self, it: Run) -> List[str]:
         words = ["--kind", it.kind, "--wish", it.wish, "--seed", str(it.seed), "--eager", str(self.asked.eager)]
@@ -74,6 +76,7 @@ class Try:
         self.has_waits = self.has_waits or has_waits(result.folder)
         for remark in remarks_in(result.folder):
             self.remarks[remark] = self.remarks.get(remark, 0) + 1
+        self.untried.update(untried_in(result.folder))
         if result.what == OK:
             shutil.rmtree(result.folder)
         return result

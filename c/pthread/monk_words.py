@@ -45,6 +45,7 @@ def parsed(description: str) -> argparse.Namespace:
                        help="where the first wrong run is kept (monk-try.out)")
     words.add_argument("--again", metavar="FILE",
                        help="plays a schedule that was kept (DIR/schedule), and says how the run ends now")
+    words.add_argument("--junit", metavar="FILE", help="writes the table as JUnit's XML, a test case for each cell")
     words.add_argument("--json", action="store_true", help="prints one line of JSON in place of the table")
     words.add_argument("words", nargs=argparse.REMAINDER, metavar="PROGRAM ..")
     asked = words.parse_args()

@@ -1,12 +1,13 @@
 """Tests of the layer where the system refuses: no room for files, a library that can't be loaded; and of a process whose
 first thread ends first."""
+import itertools
 import os
 import shutil
 from typing import Any, Tuple
 
 from unasked import FEW, fail
 
-CANT = 125
+CANT, TURN = 125, "by turns"
 
 
 def first_ends(tests: Any) -> str:
@@ -57,3 +58,20 @@ def unloaded(tests: Any) -> str:
         if tried.returncode != CANT or words not in tried.stdout:
             fail(f"unloaded: monk-try: status {tried.returncode}: {tried.stdout}{tried.stderr}")
     return f"{len(cases)} libraries"
+
+
+def descents(tests: Any) -> str:
+    """More waiters than seats, or conditions than the library has: the monitor steps down, and nobody is lost."""
+    folder, report = (os.path.join(tests.room, name) for name in ("descents", "descents.report"))
+    cases = [(*words, *turns) for words in (("9", "9"), ("31", "1"), ("64", "64"), ("40", "3")) for turns in ((), (TURN,))]
+    kinds = ("NPNB", "PB", "NPQB", "PIR") if tests.is_long else ("NPNB", "PB")
+    for kind, case in itertools.product(kinds, cases):
+        shutil.rmtree(folder, ignore_errors=True)
+        more = ["--turns", "walk"] if TURN in case else []
+        done = tests.run(kind, "any", [tests.built("crowd"), *case[:2]], "--history", folder, "--report", report,
+                         "--eager", "16", *more)
+        with open(report) as file:
+            told = [line for line in file if line.startswith("descents 1 ")]
+        if done.returncode or done.stdout != "crowd: all went\n" or len(told) != 1 or not tests.audited(folder)[0]:
+            fail(f"descents: {kind} {case}: status {done.returncode}: {done.stdout}{done.stderr}{told}")
+    return f"{len(kinds) * len(cases)} runs in which a monitor stepped down"

@@ -123,6 +123,51 @@ MUTANTS: Dict[str, Mutant] = {
         "    if (is_in_parent() || are_written()) return;\n",
         "    if (is_in_parent() || are_written() || 1) return;\n",
         ("outputs",)),
+    "a thread goes on without its turn": Mutant(
+        "layer_turns.h",
+        "    while (!t->turn.has && !turns.is_over) syscall(",
+        "    while (0 && !t->turn.has && !turns.is_over) syscall(",
+        ("repeated",)),
+    "a walk isn't by the seed": Mutant(
+        "layer_schedule.h",
+        "    if (!*dice) *dice = asked.seed * 0x9e3779b97f4a7c15u",
+        "    if (!*dice) *dice = (uint64_t)getpid() * 0x9e3779b97f4a7c15u",
+        ("repeated",)),
+    "keeps the turn as it joins": Mutant(
+        "layer_elsewhere.h",
+        "    if (other->turn.state != OVER) sleep_by_turns(me, has_left, other, NEVER);\n",
+        "    (void)has_left;\n",
+        ("met",)),
+    "keeps the turn at a barrier": Mutant(
+        "layer_elsewhere.h",
+        "    if (!is_by_turns(me)) return real.barrier_wait(barrier);\n",
+        "    if (!is_by_turns(me) || 1) return real.barrier_wait(barrier);\n",
+        ("met",)),
+    "doesn't count locks of read-write locks": Mutant(
+        "layer_elsewhere.h",
+        "    count_elsewhere(RWLOCKS, answer == EBUSY);\n",
+        "",
+        ("met",)),
+    "doesn't take a turn away": Mutant(
+        "layer_turns.h",
+        "    if (!has_others(t)) return;\n",
+        "    if (!has_others(t) || 1) return;\n",
+        ("lost",)),
+    "plays no schedule": Mutant(
+        "layer_schedule.h",
+        "    if (asked.turns == BY_SCHEDULE && self) next = by_schedule(self, able, count);\n",
+        "    (void)by_schedule;\n",
+        ("played",)),
+    "sleepers stay as a monitor steps down": Mutant(
+        "layer_descents.h",
+        "    monk_stop(h->monitor);\n",
+        "    (void)h;\n",
+        ("descents",)),
+    "a mutex that stepped down steps down again": Mutant(
+        "layer_visits.h",
+        "    return is_lowered(mutex) || (asked.left_alone",
+        "    return (0 && is_lowered(mutex)) || (asked.left_alone",
+        ("descents",)),
 }
 
 

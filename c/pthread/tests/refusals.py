@@ -23,9 +23,9 @@ BY_RUN: Cases = (
     (["--kind", "PB", "SCRIPT"], "SCRIPT: it can't be executed: it is neither a program nor a script that begins with #!"),
     (["--kind", "PB", "ORPHAN"], "ORPHAN: it can't be executed: there is no /no/such/shell"),
     (["--kind", "PB", "--history", "ROOM", "ls"], "files stand there; name a fresh folder for histories"),
-    (["--kind", "PB", "CROWD", "31"],
-     "31 threads wait on its conditions, and more come: monitors have 32 seats"),
-    (["--kind", "PB", "CROWD", "9", "9"], "threads wait on more than 8 of its conditions at once"),
+    (["--kind", "PB", "--turns", "luck", "ls"], "MONK_TURNS=luck: none of walk priorities"),
+    (["--kind", "PB", "--play", "SCRIPT", "ls"], "it is no schedule of monk-try"),
+    (["--kind", "PB", "--play", "/no/such/file", "ls"], "/no/such/file: No such file or directory"),
     (["--kind", "PIR", "CROWD", "2"],
      "a broadcast to more than one, which a monitor of immediate return can't do"),
 )
@@ -39,6 +39,8 @@ BY_TRY: Cases = (
     (["--keep", "/dev/null/x", "false"], "/dev/null/x: no folder can be made there; name another with --keep"),
     (["--keep", "LINK", "false"], "LINK: it is a link; name another with --keep"),
     ([], "which program? monk-try PROGRAM"),
+    (["--again", "/no/such/file"], "/no/such/file: No such file or directory"),
+    (["--again", "SCRIPT"], "SCRIPT: it is no schedule of monk-try"),
     (["no_such_program"], "no_such_program: no such program"),
     (["SCRIPT"], "SCRIPT: Exec format error"),
 )
