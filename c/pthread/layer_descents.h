@@ -1,5 +1,5 @@
-/* layer_descents.h - a monitor steps down in the middle of a run: it has more waiters than seats, or more conditions with
-   waiters than the library has. From then on its mutex and its conditions are what they were. All who wait wake
+/* layer_descents.h - a monitor steps down in the middle of a run: it has more waiters than seats, or more conditions
+   with waiters than the library has. From then on its mutex and its conditions are what they were. All who wait wake
    unasked, as POSIX allows, and lock the mutex; whoever wants to enter locks it instead. Part of libmonk_pthread.c. */
 #ifndef LAYER_DESCENTS_H
 #define LAYER_DESCENTS_H

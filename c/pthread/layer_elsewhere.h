@@ -38,9 +38,9 @@ static struct thread *member_of(pthread_t handle) {
 static int has_left(struct thread *t) { return ((const struct thread *)t->turn.what)->turn.state == OVER; }
 
 static void await_end(pthread_t handle, const void *at) {
-    struct thread *other = member_of(handle);
     begin_call("joins", at);
-    if (!other || !is_by_turns(me)) return;
+    struct thread *other = is_by_turns(me) ? member_of(handle) : NULL;
+    if (!other || other == me) return;
     other->turn.is_joined = 1;
     if (other->turn.state != OVER) sleep_by_turns(me, has_left, other, NEVER);
 }

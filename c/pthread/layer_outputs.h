@@ -44,7 +44,7 @@ static ssize_t write_quietly(int file, const char *text, size_t length) {
     sigset_t limit, before;
     sigemptyset(&limit), sigaddset(&limit, SIGXFSZ);
     pthread_sigmask(SIG_BLOCK, &limit, &before);
-    ssize_t wrote = write(file, text, length);
+    ssize_t wrote = real.write(file, text, length);
     int error = errno;
     if (wrote < 0 && error == EFBIG && !sigismember(&before, SIGXFSZ)) sigtimedwait(&limit, NULL, &no_time);
     pthread_sigmask(SIG_SETMASK, &before, NULL);

@@ -61,7 +61,7 @@ __attribute__((format(printf, 2, 3))) static void write_line(int file, const cha
     va_end(words);
     if (length < 0) return;
     size_t size = (size_t)length < sizeof line ? (size_t)length : sizeof line - 1;
-    if (write(file, line, size) < 0) return;
+    if (real.write(file, line, size) < 0) return;
 }
 
 __attribute__((noreturn)) static void end_now(int status) {

@@ -41,13 +41,17 @@ static void shake_after_birth(void) {
 
 enum { PLACES = 64 };
 
-static const void *_Atomic woken[PLACES];
+static const void *_Atomic waited[PLACES], *_Atomic woken[PLACES];
 
-static void note_woken(const void *from) {
+/* Whether the place is new there. */
+static int note_place(const void *_Atomic *places, const void *from) {
     for (int i = 0; i < PLACES; i++) {
         const void *is = NULL;
-        if (woken[i] == from || atomic_compare_exchange_strong(&woken[i], &is, from) || is == from) return;
+        if (places[i] == from) return 0;
+        if (atomic_compare_exchange_strong(&places[i], &is, from)) return 1;
+        if (is == from) return 0;
     }
+    return 0;
 }
 
 static void tell_woken(struct output *file) {
@@ -63,11 +67,14 @@ static int is_there(struct thread *t) {
     return is;
 }
 
-/* Whether this wait wakes unasked. */
+/* Whether this wait wakes unasked. The first wait of a place, which may be for a beginning, does in half of all runs.
+   (The dice are the same if only one place is asked for.) */
 static int is_unasked(struct thread *t) {
-    if (__builtin_expect(!asked.spurious, 1) || !is_there(t)) return 0;
-    if (roll(t) % A_THOUSAND >= (unsigned)asked.spurious) return 0;
-    note_woken(t->from);
+    if (__builtin_expect(!asked.spurious, 1)) return 0;
+    unsigned most = note_place(waited, t->from) ? A_THOUSAND / 2 : 0;
+    if (most < (unsigned)asked.spurious) most = (unsigned)asked.spurious;
+    if (roll(t) % A_THOUSAND >= most || !is_there(t)) return 0;
+    note_place(woken, t->from);
     return 1;
 }
 

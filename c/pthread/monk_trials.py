@@ -43,6 +43,13 @@ def seed_of(result: Result) -> int:
     return int(result.folder.rpartition(".")[2])
 
 
+def asked_of(cell: Cell, result: Result) -> Run:
+    """What the run was asked for, by the name of its folder."""
+    seed = seed_of(result)
+    unasked = RATES[seed % len(RATES)] if cell.row == UNASKED else ""
+    return Run(cell.kind, cell.wish, seed, unasked, turns=CHOICES[seed % len(CHOICES)] if cell.row == TURNS else "")
+
+
 def worst(cells: List[Cell]) -> Optional[Cell]:
     """The first cell that is wrong, or only late under Mesa's rule, which comes first."""
     bad = [cell for cell in cells if cell.is_bad()]
@@ -93,10 +100,11 @@ class Try:
         return result
 
     def cells(self, kind: str, unasked: Sequence[str], pool: ThreadPoolExecutor) -> List[Cell]:
-        """A row of the table. The rates of unasked wake-ups take turns."""
-        seeds = range(1, max(self.asked.runs, len(unasked) * LEAST_UNASKED) + 1)
-        asked = [[Run(kind, wish, seed, unasked[seed % len(unasked)] if unasked else "") for seed in seeds]
-                 for wish in self.asked.wishes]
+        """A row of the table. Where waits wake unasked, the rates take turns, and each run has a seed of its own."""
+        count = max(self.asked.runs, len(unasked) * LEAST_UNASKED)
+        first = {wish: 1 + (count * number if unasked else 0) for number, wish in enumerate(self.asked.wishes)}
+        asked = [[Run(kind, wish, seed, unasked[seed % len(unasked)] if unasked else "")
+                  for seed in range(first[wish], first[wish] + count)] for wish in self.asked.wishes]
         begun = [[pool.submit(self.run, it) for it in row] for row in asked]
         ended = [[run.result() for run in row] for row in begun]
         name = UNASKED if unasked else ""
@@ -160,17 +168,18 @@ class Try:
         is_right = any(cell.count(OK) for cell in cells) and not any(cell.is_bad() for cell in cells)
         return self.cells("NPNB", RATES, pool) if is_right and self.has_waits else []
 
-    def wrong_at(self, place: str, pool: ThreadPoolExecutor) -> int:
-        """How many runs go wrong if only the waits of this place wake unasked."""
-        runs = [pool.submit(self.run, Run("NPNB", "any", seed, RATES[0], place=place)) for seed in range(1, RUNS_AT + 1)]
+    def wrong_at(self, place: str, bad: List[Run], pool: ThreadPoolExecutor) -> int:
+        """How many of these runs go wrong if only the waits of this place wake unasked."""
+        runs = [pool.submit(self.run, it._replace(place=place)) for it in bad]
         return sum([run.result().what in (WRONG, HUNG) for run in runs])
 
     def woken(self, cells: List[Cell], pool: ThreadPoolExecutor) -> List[str]:
         """The places of waits whose unasked ends alone make the program go wrong, in half of the runs or more: of
         those the ones that do so most often."""
-        bad = [result.folder for cell in cells for result in cell.results if result.what in (WRONG, HUNG)]
-        places = list(dict.fromkeys(place for folder in bad for place in woken_in(folder)))[:MOST_PLACES]
-        wrong = {place: self.wrong_at(place, pool) for place in places}
+        bad = [(cell, result) for cell in cells for result in cell.results if result.what in (WRONG, HUNG)]
+        places = list(dict.fromkeys(place for _, result in bad for place in woken_in(result.folder)))[:MOST_PLACES]
+        again = [asked_of(*bad[number % len(bad)])._replace(again=number) for number in range(RUNS_AT)] if bad else []
+        wrong = {place: self.wrong_at(place, again, pool) for place in places}
         most = max(wrong.values(), default=0)
         return [line_of(place) for place in places if 2 * wrong[place] >= max(RUNS_AT, most + 1)]
 

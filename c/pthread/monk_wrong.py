@@ -4,11 +4,11 @@ import shlex
 import shutil
 from typing import Any, Dict, List, NamedTuple, Optional
 
-from monk_lessons import TURNS, UNASKED, Cell
+from monk_lessons import TURNS, Cell
 from monk_places import suspect, who_waits, worth_reading
 from monk_runs import HUNG, LATE, WRONG, Result
 from monk_schedules import Player, Schedule, repeated, told, turns_in, write_schedule
-from monk_trials import CHOICES, RATES, Run, Try, seed_of
+from monk_trials import Run, Try, asked_of
 
 # The kinds whose first wrong run is shown first: Mesa's rule rather than Hoare's.
 SHOWN_FIRST = {"NPNB": 0, "PNB": 1, "PB": 2}
@@ -27,13 +27,6 @@ class Wrong(NamedTuple):
 def history_of(path: str, kind: str) -> Dict[str, Any]:
     step = suspect(path) if kind in ("PNB", "NPNB") else None
     return {"path": path, **(step._asdict() if step else {})}
-
-
-def asked_of(cell: Cell, result: Result) -> Run:
-    """What the run was asked for, by the name of its folder."""
-    seed = seed_of(result)
-    unasked = RATES[seed % len(RATES)] if cell.row == UNASKED else ""
-    return Run(cell.kind, cell.wish, seed, unasked, turns=CHOICES[seed % len(CHOICES)] if cell.row == TURNS else "")
 
 
 def kept_schedule(it: Try, asked: Run, result: Result) -> Optional[List[str]]:

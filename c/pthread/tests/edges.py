@@ -3,6 +3,7 @@ first thread ends first."""
 import itertools
 import os
 import shutil
+import sys
 from typing import Any, Tuple
 
 from unasked import FEW, fail
@@ -75,3 +76,24 @@ def descents(tests: Any) -> str:
         if done.returncode or done.stdout != "crowd: all went\n" or len(told) != 1 or not tests.audited(folder)[0]:
             fail(f"descents: {kind} {case}: status {done.returncode}: {done.stdout}{done.stderr}{told}")
     return f"{len(kinds) * len(cases)} runs in which a monitor stepped down"
+
+
+def integrated(tests: Any) -> str:
+    """The examples for ctest, if there is cmake, and for pytest: the right buffer passes, and the one with a fault
+    fails, with its lesson."""
+    room, source = os.path.join(tests.room, "ctest"), os.path.join(tests.pthread, "examples")
+    path = {"PATH": f"{tests.pthread}:{os.environ['PATH']}"}
+    if shutil.which("cmake"):
+        tests.said(["cmake", "-S", source, "-B", room], "cmake")
+        tests.said(["cmake", "--build", room], "cmake")
+        done = tests.ended(["ctest", "--test-dir", room, "--output-on-failure"], path)
+        if done.returncode != 8 or "1 tests failed" not in done.stdout or "buffer_if (Failed)" not in done.stdout:
+            fail(f"ctest: {done.returncode}: {done.stdout}{done.stderr}")
+    run = [sys.executable, "-c", "import test_buffer; test_buffer.test_buffer()"]
+    for fault, status in (("right", 0), ("if", 1)):
+        words = {"BUFFER": " ".join(tests.words(("buffer", fault))), "PYTHONPATH": source, **path}
+        os.makedirs(os.path.join(tests.room, f"pytest.{fault}"))
+        done = tests.ended(["env", "-C", os.path.join(tests.room, f"pytest.{fault}"), *run], words)
+        if done.returncode != status or ("AssertionError" in done.stderr) != (status == 1):
+            fail(f"pytest: {fault}: {done.returncode}: {done.stdout}{done.stderr}")
+    return "for ctest and pytest" if shutil.which("cmake") else "for pytest"

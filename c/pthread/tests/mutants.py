@@ -70,13 +70,13 @@ MUTANTS: Dict[str, Mutant] = {
         "(void)lock_for_child;"),
     "no wait wakes unasked": Mutant(
         "layer_shakes.h",
-        "    note_woken(t->from);\n    return 1;\n",
-        "    note_woken(t->from);\n    return 0;\n",
+        "    note_place(woken, t->from);\n    return 1;\n",
+        "    note_place(woken, t->from);\n    return 0;\n",
         ("unasked",)),
     "doesn't say which waits woke unasked": Mutant(
         "layer_shakes.h",
-        "    note_woken(t->from);\n",
-        "    (void)note_woken;\n",
+        "    note_place(woken, t->from);\n",
+        "    (void)woken;\n",
         ("unasked",)),
     "doesn't remark two mutexes": Mutant(
         "layer_waits.h",

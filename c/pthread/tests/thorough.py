@@ -55,8 +55,9 @@ def raced_program(tests: Any, name: str) -> str:
     return built
 
 
-# What each raced run has: nothing more, naps, or waits that wake unasked as well.
-FREEDOMS: List[Dict[str, str]] = [{}, {"MONK_SHAKE": "1"}, {"MONK_SHAKE": "1", "MONK_SPURIOUS": "300"}]
+# What each raced run has: nothing more, naps, waits that wake unasked as well, or turns.
+FREEDOMS: List[Dict[str, str]] = [{}, {"MONK_SHAKE": "1"}, {"MONK_SHAKE": "1", "MONK_SPURIOUS": "300"},
+                                  {"MONK_TURNS": "walk"}]
 
 
 def raced(tests: Any) -> str:
