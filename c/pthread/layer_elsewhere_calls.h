@@ -100,7 +100,7 @@ int thrd_sleep(const struct timespec *time, struct timespec *rest) {
 static int yield_by(const void *at) {
     init();
     if (!is_by_turns(me)) return real.yield();
-    if (asked.turns == BY_PRIORITIES) me->turn.priority = --schedule.lowest;
+    yield_turn(me);
     return give_turn(me, "yields", at), 0;
 }
 

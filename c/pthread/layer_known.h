@@ -52,7 +52,7 @@ struct thread {
     void *(*work)(void *); /* of a thread that is made by turns */
     void *word;
     pthread_t self;
-    pid_t id;
+    _Atomic pid_t id;
     unsigned index;   /* in the order in which threads made their first call */
     int numbers;      /* those that it has, and didn't give back itself; touched by the thread alone */
     _Atomic int uses; /* LIVE, less what others gave back for it; after its end the numbers that it still has */
@@ -311,15 +311,16 @@ static struct thread *expect_thread(void) {
     return t;
 }
 
-/* By the thread itself. */
+/* By the thread itself. (One that runs by turns has its name from its maker.) */
 static void be(struct thread *t) {
-    t->id = (pid_t)syscall(SYS_gettid), t->self = pthread_self();
+    t->id = (pid_t)syscall(SYS_gettid);
     me = t;
     pthread_setspecific(thread_key, t);
 }
 
 __attribute__((noinline, cold)) static struct thread *first_call(void) {
     struct thread *t = expect_thread();
+    t->self = pthread_self();
     be(t);
     return t;
 }

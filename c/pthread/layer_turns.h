@@ -48,8 +48,9 @@ static void end_turns(void) {
 /* Whether the thread may have the turn. What it waits for is asked until it holds, and then not again. Under the lock,
    as all that follows. */
 static int is_able(struct thread *t) {
+    if (t->turn.state != BLOCKS) return t->turn.state == RUNS;
     int is_ending = t->turn.may_end && t->is_cancelled;
-    if (t->turn.state == BLOCKS && (is_ending || (t->turn.may_go_on && t->turn.may_go_on(t)))) t->turn.state = RUNS;
+    if (is_ending || (t->turn.may_go_on && t->turn.may_go_on(t))) t->turn.state = RUNS;
     return t->turn.state == RUNS;
 }
 
@@ -100,21 +101,27 @@ static void await_turn(struct thread *t) {
     while (!t->turn.has && !turns.is_over) syscall(SYS_futex, &t->turn.has, FUTEX_WAIT_PRIVATE, 0, NULL, NULL, 0);
 }
 
-/* The thread's state says whether it can go on. A thread that lost its turn queues for it again. */
-static void pass(struct thread *t) {
+/* The thread's state says whether it can go on. A thread that lost its turn queues for it again. Under the lock, which
+   is given back. */
+static void hand_on_and_wait(struct thread *t) {
     int error = errno;
-    take(&turns.lock);
     if (turns.holder == t || !turns.holder) hand_on(t);
     let(&turns.lock);
     await_turn(t);
     errno = error;
 }
 
+/* Others may go first. */
+static void pass(struct thread *t) {
+    take(&turns.lock);
+    t->turn.state = RUNS;
+    hand_on_and_wait(t);
+}
+
 /* Before a call, which another thread's call may then precede. */
 static void give_turn(struct thread *t, const char *does, const void *at) {
     t->does = does;
     t->at = at;
-    t->turn.state = RUNS;
     pass(t);
 }
 
@@ -124,10 +131,11 @@ enum waited { LATE, MAY_GO_ON, FREELY };
    are over, and the thread has to wait as if there were none. */
 static enum waited sleep_by_turns(struct thread *t, int (*may_go_on)(struct thread *), const void *what,
                                   int64_t until) {
+    take(&turns.lock);
     t->turn.may_go_on = may_go_on, t->turn.what = what, t->turn.until = until;
     t->turn.is_late = 0;
     t->turn.state = BLOCKS;
-    pass(t);
+    hand_on_and_wait(t);
     if (turns.is_over) return FREELY;
     return t->turn.is_late ? LATE : MAY_GO_ON;
 }
@@ -138,6 +146,13 @@ static enum waited sleep_or_end(struct thread *t, int (*may_go_on)(struct thread
     enum waited how = sleep_by_turns(t, may_go_on, what, until);
     t->turn.may_end = 0;
     return how;
+}
+
+/* Those with lower priorities come first. */
+static void yield_turn(struct thread *t) {
+    take(&turns.lock);
+    if (asked.turns == BY_PRIORITIES) t->turn.priority = --schedule.lowest;
+    let(&turns.lock);
 }
 
 /* A thread that is made, by its maker who has the turn; or the first one. */
@@ -222,8 +237,9 @@ enum { TURN_TICK_NS = 2000000, SLEEPING_TICKS = 10, SPINNING_TICKS = 250 };
 
 /* Whether nobody has the turn, and no thread outside, no limit and no other process gives it to anybody. */
 static int are_stuck(void) {
-    int is_stuck = asked.turns && !turns.is_over && turns.count;
+    if (!asked.turns || turns.is_over) return 0;
     take(&turns.lock);
+    int is_stuck = turns.count > 0;
     for (int i = 0; i < turns.count; i++) {
         const struct thread *t = turns.members[i];
         is_stuck &= t->turn.state == BLOCKS && t->turn.until == NEVER && !is_outside(t);

@@ -25,12 +25,13 @@ def print_expected(asked: argparse.Namespace, expected: Expected, plain: Counts[
     else:
         why = "right runs differ in theirs" if plain[OK] else "no plain run was right"
         line += f"; outputs aren't compared, since {why}: give --expect or --check"
-    print(f"monk-try: {' '.join(asked.words)}\n{line}\nkind    " + "".join(f"{wish:>22}" for wish in asked.wishes))
+    print(f"monk-try: {' '.join(asked.words)}\n{line}\nkind      " + "".join(f"{wish:>22}" for wish in asked.wishes))
 
 
 def print_row(cells: List[Cell]) -> None:
-    name = cells[0].row or cells[0].kind
-    print(f"{name:<8}" + "".join(f"{counted(cell):>22}" for cell in cells), flush=True)
+    kind, row = cells[0].kind, cells[0].row
+    name = f"{kind} {row}" if row and kind != "NPNB" else row or kind
+    print(f"{name:<10}" + "".join(f"{counted(cell):>22}" for cell in cells), flush=True)
 
 
 def print_history(it: Dict[str, Any]) -> None:

@@ -123,17 +123,17 @@ class Try:
             return result._replace(what=CANT, why=f"{lost_words(lost)}" if lost else "it is too slow")
         return result
 
-    def by_turns(self, pool: ThreadPoolExecutor) -> List[Cell]:
-        """The row of runs that repeat, under Mesa's rule. If the first doesn't, the others are left out."""
-        asked = [[Run("NPNB", wish, seed, turns=CHOICES[seed % len(CHOICES)])
+    def by_turns(self, kind: str, pool: ThreadPoolExecutor) -> List[Cell]:
+        """The row of runs that repeat. If the first doesn't, the others are left out."""
+        asked = [[Run(kind, wish, seed, turns=CHOICES[seed % len(CHOICES)])
                   for seed in range(1, max(self.asked.runs, len(CHOICES)) + 1)] for wish in self.asked.wishes]
         first = self.run_by_turns(asked[0][0])
         if first.what == CANT:
-            return [Cell("NPNB", self.asked.wishes[0], [first], TURNS)]
+            return [Cell(kind, self.asked.wishes[0], [first], TURNS)]
         begun = [[pool.submit(self.run_by_turns, it) for it in row if it is not asked[0][0]] for row in asked]
         ended = [[run.result() for run in row] for row in begun]
         ended[0].insert(0, first)
-        return [Cell("NPNB", wish, results, TURNS) for wish, results in zip(self.asked.wishes, ended)]
+        return [Cell(kind, wish, results, TURNS) for wish, results in zip(self.asked.wishes, ended)]
 
     def asked_again(self, cell: Cell, mend: int) -> List[Run]:
         """Six runs of a cell. Those by turns are the ones that went wrong: others end as they did."""
