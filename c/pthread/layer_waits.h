@@ -172,6 +172,14 @@ static int is_to_end(struct thread *t) {
     return state == PTHREAD_CANCEL_ENABLE;
 }
 
+extern void __asan_handle_no_return(void) __attribute__((weak)); /* AddressSanitizer's */
+
+/* The frames of a thread that ends here are left without a return, which AddressSanitizer doesn't see by itself. */
+static void end_if_cancelled(struct thread *t) {
+    if (t->is_cancelled && __asan_handle_no_return) __asan_handle_no_return();
+    pthread_testcancel();
+}
+
 /* Whether the seat is given up: its time is over or its thread is to end, and no signal has served it. */
 static int is_given_up(struct wait *w, struct place *p) {
     int is = WAITS;
@@ -226,7 +234,7 @@ static int end_given_up(struct wait *w) {
     m->timeouts++;
     if (enter(m, w->thread, NULL, w->depth) == STEPPED_DOWN) lock_below(m, w->depth);
     if (is_late) return ETIMEDOUT;
-    pthread_testcancel();
+    end_if_cancelled(w->thread);
     w->thread->is_cancelled = 0; /* the mark was for another of the same name */
     return 0;
 }
@@ -235,7 +243,7 @@ static int end_given_up(struct wait *w) {
 static int end_left(struct wait *w) {
     give_number(w->monitor, w->number);
     lock_below(w->monitor, w->depth);
-    pthread_testcancel();
+    end_if_cancelled(w->thread);
     return is_over(w->clock, w->until) ? ETIMEDOUT : 0;
 }
 
@@ -246,7 +254,7 @@ enum { NOT_HERE = -1 };
 static int wait_with(struct monitor *m, const void *condition, clockid_t clock, const struct timespec *until) {
     struct wait w = {
         .monitor = m, .thread = self(), .number = m->inside, .depth = m->depth, .until = until, .clock = clock};
-    pthread_testcancel();
+    end_if_cancelled(w.thread);
     w.condition = number_of(m, condition);
     if (w.condition == NONE) {
         step_down(m, w.number, w.depth, "has more than 8 conditions with waiters");
@@ -268,7 +276,7 @@ static int wait_with(struct monitor *m, const void *condition, clockid_t clock, 
 /* A wait that nobody has to end, by the thread that is inside, as POSIX allows. It comes back at once, or others may
    come in between. A mutex that is left alone (null) isn't given up. */
 static void wake_unasked(struct monitor *m, struct thread *t) {
-    pthread_testcancel();
+    end_if_cancelled(t);
     if (!m || roll(t) % 2) return;
     int depth = m->depth;
     go_out(m);
