@@ -126,18 +126,23 @@ static void read_seconds(void) {
         refuse_setting("MONK_SECONDS", text, "no number of seconds");
 }
 
+/* Whether this is the process that monk-run became. */
+static int is_owner(void) {
+    const char *owner = getenv("MONK_OWNER");
+    return !owner || atol(owner) == process;
+}
+
 /* The process that monk-run became writes into DIR and FILE; each other process, started or forked, writes into
    DIR/PID and FILE.PID. A schedule is of the first alone. */
 static void name_files(const char *history, const char *report) {
-    const char *owner = getenv("MONK_OWNER");
     process = getpid();
-    int is_owner = !owner || atol(owner) == process;
-    snprintf(history_of_process, LONGEST_PATH, is_owner ? "%s" : "%s/%d", history ? history : "", (int)process);
-    snprintf(report_of_process, LONGEST_PATH, is_owner ? "%s" : "%s.%d", report ? report : "", (int)process);
+    int is_first = is_owner();
+    snprintf(history_of_process, LONGEST_PATH, is_first ? "%s" : "%s/%d", history ? history : "", (int)process);
+    snprintf(report_of_process, LONGEST_PATH, is_first ? "%s" : "%s.%d", report ? report : "", (int)process);
     asked.history = history ? history_of_process : NULL;
     asked.report = report ? report_of_process : NULL;
-    asked.schedule = is_owner ? getenv("MONK_SCHEDULE") : NULL;
-    asked.play = is_owner ? getenv("MONK_PLAY") : NULL;
+    asked.schedule = is_first ? getenv("MONK_SCHEDULE") : NULL;
+    asked.play = is_first ? getenv("MONK_PLAY") : NULL;
 }
 
 /* An allocator other than the C library's may have mutexes. A hall takes memory, so none can be made while such a

@@ -4,6 +4,7 @@
 #define LAYER_SHAKES_H
 
 #include "layer_known.h"
+#include <sys/resource.h>
 
 /* Marsaglia's xorshift. */
 static unsigned roll(struct thread *t) {
@@ -58,13 +59,33 @@ static void tell_woken(struct output *file) {
     for (int i = 0; i < PLACES && woken[i]; i++) put_line(file, "woken %s\n", name_of(woken[i]).text);
 }
 
+static _Atomic int was_there; /* whether a wait was called at the place that was asked for */
+
 static int is_there(struct thread *t) {
     const void *from = t->from;
     if (!asked.spurious_at) return 1;
     if (from == t->not_there) return 0;
     int is = strcmp(name_of(from).text, asked.spurious_at) == 0;
+    if (is) was_there = 1;
     if (!is) t->not_there = from;
     return is;
+}
+
+/* What children that have ended used. It is kept as a process becomes another program. */
+static long used_by_children(void) {
+    struct rusage used;
+    return getrusage(RUSAGE_CHILDREN, &used) ? 0 : used.ru_minflt;
+}
+
+static long used_before;
+
+/* Whether that place has a wait. Else says so, by the process that was asked, unless it may be a place of a child. */
+static int has_place(void) {
+    static _Atomic int is_told;
+    if (!asked.spurious_at || was_there || !is_owner() || used_by_children() > used_before) return 1;
+    if (!atomic_exchange(&is_told, 1))
+        write_line(STDERR_FILENO, "monk: %s: no wait was called there\n", asked.spurious_at);
+    return 0;
 }
 
 /* Whether this wait wakes unasked. The first wait of a place, which may be for a beginning, does in half of all runs.
@@ -73,7 +94,8 @@ static int is_unasked(struct thread *t) {
     if (__builtin_expect(!asked.spurious, 1)) return 0;
     unsigned most = note_place(waited, t->from) ? A_THOUSAND / 2 : 0;
     if (most < (unsigned)asked.spurious) most = (unsigned)asked.spurious;
-    if (roll(t) % A_THOUSAND >= most || !is_there(t)) return 0;
+    int is_here = is_there(t);
+    if (roll(t) % A_THOUSAND >= most || !is_here) return 0;
     note_place(woken, t->from);
     return 1;
 }

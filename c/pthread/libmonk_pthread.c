@@ -20,16 +20,23 @@
 
 /* ---- The beginning */
 
-/* The status says that histories are missing; what the program printed is not lost. */
+/* Whether files are missing, or a place that was asked for. Else the status is the program's. */
+static int has_all(void) {
+    int are_all = are_written();
+    return has_place() && are_all;
+}
+
+/* The status says so; what the program printed is not lost. */
 __attribute__((destructor)) static void ended(void) {
     finish("exit", GOES_ON);
-    if (is_in_parent() || are_written()) return;
+    if (is_in_parent() || has_all()) return;
     fflush(NULL);
     end_now(STATUS_CANT);
 }
 
 __attribute__((constructor)) static void begin(void) {
     init();
+    used_before = used_by_children();
     begin_turns();
     pthread_atfork(before_fork, let_tables, in_child);
     at_quick_exit(ended);
@@ -51,7 +58,7 @@ int pthread_cancel(pthread_t thread) {
 void _exit(int status) {
     init();
     finish("exit", IS_LAST);
-    end_now(is_in_parent() || are_written() ? status : STATUS_CANT);
+    end_now(is_in_parent() || has_all() ? status : STATUS_CANT);
 }
 
 void _Exit(int status) { _exit(status); }

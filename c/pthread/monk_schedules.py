@@ -162,10 +162,10 @@ def play_again(path: str, words: List[str], room: str, refuse: Callable[[str], N
     missed = player.missed(result)
     if 2 * missed > len(it.turns):
         refuse(f"{path}: {missed} of its {len(it.turns)} turns don't fit: the program isn't the one that was tried")
+    lost = lost_in(result.folder)
+    if lost:
+        refuse(f"{path}: the run doesn't repeat: {lost_words(lost)}")
     print(*told(it.turns), sep="\n")
     now = f"{result.what}{': ' + result.why if result.why else ''}"
     print(f"Then it was {it.ended[0]}: {it.ended[1]}. Now it is {now}.")
-    lost = lost_in(result.folder)
-    if lost:
-        print(f"Not repeatable: {lost_words(lost)}.")
     return STATUS_CANT if result.what == LATE else 0 if result.what == "ok" else 1

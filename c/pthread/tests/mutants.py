@@ -120,8 +120,8 @@ MUTANTS: Dict[str, Mutant] = {
         ("outputs",)),
     "lost files don't change the status": Mutant(
         "libmonk_pthread.c",
-        "    if (is_in_parent() || are_written()) return;\n",
-        "    if (is_in_parent() || are_written() || 1) return;\n",
+        "    if (is_in_parent() || has_all()) return;\n",
+        "    if (is_in_parent() || has_all() || 1) return;\n",
         ("outputs",)),
     "a thread goes on without its turn": Mutant(
         "layer_turns.h",

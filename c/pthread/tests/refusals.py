@@ -10,6 +10,7 @@ BY_RUN: Cases = (
     (["--kind", "PB", "--wish", "luck", "ls"], "MONK_WISH=luck: none of entry waiter signaller any"),
     (["--kind", "PB", "--seed", "x", "ls"], "MONK_SEED=x: no number, or out of range"),
     (["--kind", "PB", "--spurious", "1001", "ls"], "MONK_SPURIOUS=1001: no number, or out of range"),
+    (["--kind", "PB", "--spurious", "9", "--spurious-at", "x+0x1", "true"], "x+0x1: no wait was called there"),
     (["--kind", "PB", "--budget", "3", "ls"], "MONK_BUDGET=3: no number, or out of range"),
     (["--kind", "PB", "--seconds", "soon", "ls"], "MONK_SECONDS=soon: no number of seconds"),
     (["--kind", "PB"], "which program? monk-run --kind KIND PROGRAM"),
