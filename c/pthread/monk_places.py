@@ -42,15 +42,18 @@ def name_of(place: str) -> str:
 
 
 def line_of(place: str) -> str:
-    """File and line of the call before PATH+0xOFFSET, or of its caller, if the call is in a header of the system; the
-    place itself if the program doesn't say."""
+    """File and line of the call before PATH+0xOFFSET, or of its caller, if the call is in a header of the system; file
+    and function of a program without lines; the place itself if the program doesn't say."""
     path, plus, offset = place.rpartition("+0x")
     if not plus:
         return place
     rows = said(["addr2line", "-i", "-e", path, hex(int(offset, 16) - 1)]).splitlines()
     lines = [row.split(" ")[0] for row in rows if row and not row.startswith("?")]
     lines.sort(key=lambda line: line.startswith("/usr/include/"))
-    return os.path.basename(lines[0]) if lines else place
+    if not lines:
+        return place
+    file, _, number = os.path.basename(lines[0]).rpartition(":")
+    return f"{file}:{number}" if number != "?" else f"{file}, in {functions_at(place).partition(chr(10))[0]}"
 
 
 _functions: Dict[str, str] = {}
