@@ -8,7 +8,10 @@
 #include <sys/time.h>
 #include <sys/wait.h>
 
-enum { TICK_NS = 50000000, QUIET_TICKS = 8, MOST_WAKES = 20, WRITING_MS = 2000 };
+enum { TICK_NS = 50000000, QUIET_TICKS = 8, STUCK_TICKS = 2, MOST_WAKES = 100, WRITING_MS = 2000 };
+/* In such a time nothing moves if no step is made, and less than one part in so many of processor time is used. */
+enum { IDLE_SECONDS = 2, LITTLE = 20 };
+enum { DOTS = 2 }; /* a folder has these links beside its entries */
 
 static _Atomic int is_ending, is_written;
 static _Atomic int is_watched, has_watcher; /* whether a watcher was wanted, and whether there is one */
@@ -20,7 +23,9 @@ enum { GOES_ON, IS_LAST };
 
 static void finish(const char *why, int is_last) {
     if (is_in_parent() || atomic_exchange(&is_ending, 1)) return;
+    turns.ahead = 0; /* the library's limits go by the system's clock */
     save_all(why, is_last);
+    are_written();
     is_written = 1;
 }
 
@@ -68,17 +73,21 @@ static void refuse(const char *format, ...) {
 /* ---- Whether the program hangs: no step was made for a while, and each of its threads sleeps in a futex without a
    limit */
 
+static int has_child(void) {
+    siginfo_t child;
+    return waitid(P_ALL, 0, &child, WEXITED | WNOHANG | WNOWAIT) == 0;
+}
+
 /* A timer or a child may wake somebody, and so may a signal at a mutex that is left alone. */
 static int may_be_woken(void) {
     struct itimerval alarm;
-    siginfo_t child;
     char first;
     int timers = open("/proc/self/timers", O_RDONLY | O_CLOEXEC);
     int has_timer = timers != NONE && read(timers, &first, 1) > 0;
     if (timers != NONE) close(timers);
     if (has_timer || waits_left_alone) return 1;
     if (!getitimer(ITIMER_REAL, &alarm) && (alarm.it_value.tv_sec || alarm.it_value.tv_usec)) return 1;
-    return waitid(P_ALL, 0, &child, WEXITED | WNOHANG | WNOWAIT) == 0;
+    return has_child();
 }
 
 /* Whether another process may write there. */
@@ -129,7 +138,7 @@ static int all_sleep(pid_t watcher) {
 }
 
 static unsigned long count_steps(void) {
-    unsigned long steps = 0;
+    unsigned long steps = turns.steps;
     for (struct monitor *m = every_monitor; m; m = m->next) steps += m->steps;
     return steps;
 }
@@ -144,9 +153,9 @@ static void broadcast_all(struct monitor *m) {
 static int wake_sleepers(void) {
     int woken = 0;
     for (struct monitor *m = every_monitor; m; m = m->next) {
-        struct timespec limit = time_of(CLOCK_MONOTONIC);
+        struct timespec limit = time_of_limits();
         limit.tv_sec++;
-        if (m->is_dead || asked.mode != MONK_NON_BLOCKING || !enter(m, self(), &limit, 1)) continue;
+        if (m->is_dead || asked.mode != MONK_NON_BLOCKING || enter(m, self(), &limit, 1) != ENTERED) continue;
         woken += count_standing(m, WAITS);
         broadcast_all(m);
         go_out(m);
@@ -157,7 +166,7 @@ static int wake_sleepers(void) {
 /* ---- The watcher: a thread of the layer that takes no signal */
 
 static double seconds_since(struct timespec begin) {
-    struct timespec now = time_of(CLOCK_MONOTONIC);
+    struct timespec now = time_of_limits();
     return (double)(now.tv_sec - begin.tv_sec) + (double)(now.tv_nsec - begin.tv_nsec) / NS_A_SECOND;
 }
 
@@ -175,19 +184,72 @@ static int count_quiet(int quiet, unsigned long *seen, pid_t watcher) {
     return is_quiet ? quiet + 1 : 0;
 }
 
+/* What was seen when something moved last. */
+struct activity {
+    struct timespec at;
+    unsigned long steps;
+    double used;
+};
+
+static double processor_seconds(void) {
+    struct timespec used = time_of(CLOCK_PROCESS_CPUTIME_ID);
+    return (double)used.tv_sec + (double)used.tv_nsec / NS_A_SECOND;
+}
+
+static void look_at_activity(struct activity *last) {
+    unsigned long steps = count_steps();
+    double used = processor_seconds(), since = seconds_since(last->at);
+    if (steps == last->steps && used - last->used < since / LITTLE) return;
+    *last = (struct activity){time_of_limits(), steps, used};
+}
+
+/* Ends the program once its time is over. It hangs if nothing has moved for a while and all threads sleep; else it is
+   late. A child comes to its own limit first, and says which of them it is. */
+static void end_if_over(struct timespec begin, const struct activity *last, pid_t watcher) {
+    double idle = asked.seconds / 2 < IDLE_SECONDS ? asked.seconds / 2 : IDLE_SECONDS;
+    if (seconds_since(begin) < asked.seconds + has_child()) return;
+    end_by_watcher(seconds_since(last->at) < idle || has_child() || !all_sleep(watcher) ? "late" : "hung");
+}
+
+/* Whether the program's last thread has ended, and its first one before. The first stays until the process ends. */
+static int is_alone(void) {
+    char path[64], text[128] = "";
+    snprintf(path, sizeof path, "/proc/self/task/%d/stat", (int)getpid());
+    int file = open(path, O_RDONLY | O_CLOEXEC);
+    ssize_t length = file == NONE ? NONE : read(file, text, sizeof text - 1);
+    if (file != NONE) close(file);
+    const char *state = length > 0 ? strrchr(text, ')') : NULL;
+    if (!state || strncmp(state, ") Z", 3)) return 0;
+    struct stat threads;
+    return !stat("/proc/self/task", &threads) && threads.st_nlink == DOTS + 2;
+}
+
+/* Between two looks of the watcher. Turns are looked at more often. */
+static void tick(void) {
+    const struct timespec all = {0, TICK_NS}, part = {0, TURN_TICK_NS};
+    if (!asked.turns) real.nanosleep(&all, NULL);
+    for (int ns = 0; asked.turns && ns < TICK_NS; ns += TURN_TICK_NS) {
+        real.nanosleep(&part, NULL);
+        look_at_turns();
+    }
+}
+
 static void *watch(void *unused) {
-    const struct timespec tick = {0, TICK_NS}, begin = time_of(CLOCK_MONOTONIC);
+    const struct timespec begin = time_of_limits();
     pid_t watcher = (pid_t)syscall(SYS_gettid);
     unsigned long seen = 0;
+    struct activity last = {.at = begin};
     let(&watcher_lock);
-    for (int quiet = 0, wakes = 0;; nanosleep(&tick, NULL)) {
+    for (int quiet = 0, wakes = 0;; tick()) {
         if (ending_signal) finish("signal", IS_LAST);
+        if (is_alone()) exit(0); /* as the C library does for the last thread: this one doesn't count */
         if (asked.seconds == 0) continue;
-        if (seconds_since(begin) > asked.seconds) end_by_watcher("late");
+        look_at_activity(&last);
+        end_if_over(begin, &last, watcher);
         take(&watcher_lock);
         quiet = count_quiet(quiet, &seen, watcher);
         let(&watcher_lock);
-        if (quiet < QUIET_TICKS) continue;
+        if (quiet < (are_stuck() ? STUCK_TICKS : QUIET_TICKS)) continue;
         if (asked.mend != WAKES_SLEEPERS || wakes++ >= MOST_WAKES || !wake_sleepers()) end_by_watcher("hung");
         quiet = 0;
     }
@@ -200,7 +262,7 @@ static void start_watcher(void) {
     sigfillset(&all);
     pthread_sigmask(SIG_SETMASK, &all, &before);
     take(&watcher_lock);
-    has_watcher = !pthread_create(&thread, NULL, watch, NULL);
+    has_watcher = !real.create(&thread, NULL, watch, NULL);
     if (!has_watcher) let(&watcher_lock);
     pthread_sigmask(SIG_SETMASK, &before, NULL);
 }
@@ -222,7 +284,7 @@ static void end_by_signal(int number) {
     struct sigaction plain = {.sa_handler = SIG_DFL};
     int waits = has_watcher && !is_in_parent();
     if (waits) ending_signal = number;
-    for (int ms = 0; waits && !is_written && ms < WRITING_MS; ms++) nanosleep(&while_writing, NULL);
+    for (int ms = 0; waits && !is_written && ms < WRITING_MS; ms++) real.nanosleep(&while_writing, NULL);
     real.sigaction(number, &plain, NULL);
     raise(number);
 }
@@ -240,7 +302,8 @@ static void watch_signals(void) {
 
 /* Starts to watch, once in a process, if there is anything to watch for. */
 static void watch_process(void) {
-    if ((asked.seconds == 0 && !asked.history && !asked.report) || atomic_exchange(&is_watched, 1)) return;
+    int is_for_nothing = asked.seconds == 0 && !asked.history && !asked.report && !asked.turns;
+    if (is_for_nothing || atomic_exchange(&is_watched, 1)) return;
     start_watcher();
     watch_signals();
 }
@@ -284,6 +347,7 @@ static void in_child(void) {
     serials = 0;
     for (struct thread *t = every_thread; t; t = t->next) t->has_ended = t != me;
     if (me) me->id = (pid_t)syscall(SYS_gettid);
+    begin_turns_in_child(me);
     name_files(getenv("MONK_HISTORY"), getenv("MONK_REPORT"));
 }
 

@@ -2,8 +2,7 @@
 #ifndef LAYER_FILES_H
 #define LAYER_FILES_H
 
-#include "layer_queues.h"
-#include <fcntl.h>
+#include "layer_remarks.h"
 
 static const char *const standings[] = {
     "away",  "at the entry", "inside", "waits", "signalled, comes in", "signaller, comes back in",
@@ -11,38 +10,53 @@ static const char *const standings[] = {
 
 static long ended_volumes, ended_timeouts, ended_outside; /* of monitors whose mutex was destroyed */
 
-static void tell_seat(int file, struct monitor *m, int n) {
+static void tell_seat(struct output *file, struct monitor *m, int n) {
     struct place *p = &m->places[n];
     struct thread *t = p->who;
     int standing = p->standing;
     if (standing == AWAY) return;
     const char *end = t && t->has_ended ? " (the thread has ended)" : "";
-    write_line(file, "seat %d %d thread %d %s%s\n", m->serial, n, t ? (int)t->index : NONE, standings[standing], end);
+    put_line(file, "seat %d %d thread %d %s%s\n", m->serial, n, t ? (int)t->index : NONE, standings[standing], end);
     if (standing != WAITS && standing != GHOST_WAITS) return;
-    write_line(file, "on %d %d %d %s\n", m->serial, n, p->condition, name_of(t ? t->from : NULL).text);
+    put_line(file, "on %d %d %d %s\n", m->serial, n, p->condition, name_of(t ? t->from : NULL).text);
 }
 
-static void tell_names(int file, struct monitor *m) {
-    write_line(file,
-               "monitor %d %s volumes %ld timeouts %ld passed_on %ld taken_over %ld outside %ld late_renewals %ld\n",
-               m->serial, name_of(m->known.address).text, m->volumes + 1, m->timeouts, m->passed_on, m->taken_over,
-               m->outside, m->late_renewals);
+static void tell_names(struct output *file, struct monitor *m) {
+    put_line(file,
+             "monitor %d %s volumes %ld timeouts %ld passed_on %ld taken_over %ld outside %ld late_renewals %ld\n",
+             m->serial, name_of(m->known.address).text, m->volumes + 1, m->timeouts, m->passed_on, m->taken_over,
+             m->outside, m->late_renewals);
+    if (m->first_wait) put_line(file, "first %d %s\n", m->serial, name_of(m->first_wait).text);
     for (int k = 0; k < CONDITIONS; k++)
-        if (m->conditions[k]) write_line(file, "condition %d %d %s\n", m->serial, k, name_of(m->conditions[k]).text);
+        if (m->conditions[k]) put_line(file, "condition %d %d %s\n", m->serial, k, name_of(m->conditions[k]).text);
 }
 
-static void tell_monitor(int file, struct monitor *m) {
+/* What threads do that wait for no monitor. By turns each has a last call. */
+static void tell_places(struct output *file) {
+    for (struct thread *t = every_thread; t; t = t->next) {
+        const char *does = t->does;
+        if (!does || t->has_ended || (is_by_turns(t) && t->turn.state != BLOCKS)) continue;
+        put_line(file, "does %u %s %s\n", t->index, name_of(t->at).text, does);
+    }
+}
+
+static void tell_monitor(struct output *file, struct monitor *m) {
     tell_names(file, m);
     for (int n = 0; n < SEATS; n++) tell_seat(file, m, n);
 }
 
 /* ---- Histories: DIR/MONITOR.VOLUME, and beside them DIR/MONITOR.names */
 
-static FILE *open_history(struct monitor *m, const char *ending, const char *how) {
-    char path[LONGEST_PATH + 32];
+static void open_history(struct output *it, struct monitor *m, const char *ending, int how) {
     mkdir(asked.history, 0755);
-    snprintf(path, sizeof path, "%s/%d.%s", asked.history, m->serial, ending);
-    return fopen(path, how);
+    snprintf(it->path, sizeof it->path, "%s/%d.%s", asked.history, m->serial, ending);
+    open_output(it, how);
+}
+
+/* The names are written in parts. */
+static void open_names(struct output *it, struct monitor *m) {
+    open_history(it, m, "names", m->has_names ? O_APPEND : O_EXCL);
+    m->has_names |= it->file != NO_FILE;
 }
 
 /* How many seats and conditions were used, so that pictures have no empty lanes. One event of the steward may be the
@@ -68,39 +82,52 @@ static size_t without_last_event(const char *text, size_t length) {
     return length;
 }
 
+struct text {
+    const char *first;
+    size_t length;
+};
+
+/* The history of a hall, whose events are given. Its first line says what was used. */
+static void write_volume(struct monitor *m, struct hall *h, int is_look, struct text events) {
+    struct output file;
+    char volume[16];
+    snprintf(volume, sizeof volume, "%u", h->volume);
+    open_history(&file, m, volume, O_EXCL);
+    put_line(&file, "monk 3 %s %d %d flags 1", monk_kind_name(asked.kind), count_used_seats(h, is_look),
+             count_used_conditions(m));
+    put(&file, events.first, events.length);
+    close_output(&file);
+}
+
 /* Writes the history of a hall, by a seat that is inside. Not if the seat is in a call. */
 static int save_volume(struct monitor *m, struct hall *h, int n) {
-    char *text, volume[16];
+    char *text;
     size_t length;
     if (!asked.history || monk_history(h->monitor, h->seats[n], &text, &length)) return 0;
-    snprintf(volume, sizeof volume, "%u", h->volume);
     int is_look = n == STEWARD && m->inside != STEWARD;
     if (is_look) length = without_last_event(text, length);
     const char *events = memchr(text, '\n', length);
-    FILE *file = events ? open_history(m, volume, "we") : NULL;
-    if (file) {
-        fprintf(file, "monk 3 %s %d %d flags 1", monk_kind_name(asked.kind), count_used_seats(h, is_look),
-                count_used_conditions(m));
-        fwrite(events, 1, length - (size_t)(events - text), file);
-        fclose(file);
-    }
+    if (events) write_volume(m, h, is_look, (struct text){events, length - (size_t)(events - text)});
     free(text);
     return 1;
 }
 
 /* The seats whose waits were given up before this volume ended: the next one begins without them. */
 static void save_ghosts(struct monitor *m, uint32_t ghosts) {
-    FILE *file = asked.history && ghosts ? open_history(m, "names", "ae") : NULL;
-    for (int n = 0; file && n < SEATS; n++)
-        if (ghosts >> n & 1) fprintf(file, "ghost %d %ld %d\n", m->serial, m->volumes + 1, n);
-    if (file) fclose(file);
+    struct output file;
+    if (!asked.history || !ghosts) return;
+    open_names(&file, m);
+    for (int n = 0; n < SEATS; n++)
+        if (ghosts >> n & 1) put_line(&file, "ghost %d %ld %d\n", m->serial, m->volumes + 1, n);
+    close_output(&file);
 }
 
 static void save_names(struct monitor *m) {
-    FILE *file = asked.history ? open_history(m, "names", "ae") : NULL;
-    if (!file) return;
-    tell_monitor(fileno(file), m);
-    fclose(file);
+    struct output file;
+    if (!asked.history) return;
+    open_names(&file, m);
+    tell_monitor(&file, m);
+    close_output(&file);
 }
 
 #endif

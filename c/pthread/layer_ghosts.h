@@ -69,7 +69,10 @@ static int visiting_number(struct monitor *m, struct thread *t, const struct pla
         if (n != NONE) return lend(m, n, t);
         if (!atomic_load(&m->has_pending) || atomic_load(&m->owner) || (own && own->standing == SERVED)) return NONE;
         look_after_ghosts(m);
-        sched_yield();
+        if (is_by_turns(me))
+            pass(me);
+        else
+            real.yield();
     }
 }
 

@@ -2,7 +2,8 @@
 #ifndef LAYER_KNOWN_H
 #define LAYER_KNOWN_H
 
-#include "layer_settings.h"
+#include "layer_outputs.h"
+#include <limits.h>
 #include <linux/futex.h>
 #include <sched.h>
 #include <stdatomic.h>
@@ -25,16 +26,41 @@ enum {
 /* Where a seat is, by its number, which it keeps from hall to hall. A ghost is a seat without a thread. */
 enum standing { AWAY, AT_THE_ENTRY, INSIDE, WAITS, SERVED, SIGNALS, GHOST_WAITS, GHOST_SERVED, GHOST_LATE };
 
+/* Of a thread in a run by turns (layer_turns.h). A thread OUTSIDE has lost its turn, and one that is OVER has ended. */
+enum turn_state { RUNS, BLOCKS, OUTSIDE, OVER };
+
+struct thread;
+
+struct turn {
+    _Atomic uint32_t has; /* it has the turn; until then it sleeps on this word */
+    int is_member, state;
+    int (*may_go_on)(struct thread *); /* whether what it waits for is there */
+    const void *what;
+    int is_of_others; /* what it waits for may come from another process */
+    int64_t until;    /* when its time is over */
+    int may_end; /* a cancelled thread may end where it sleeps */
+    int is_late, is_joined, answer, ends;
+    long priority;
+    unsigned points; /* at which it might have lost the turn */
+};
+
 struct thread {
     struct thread *next, *next_idle;
+    struct turn turn;
+    const char *_Atomic does; /* its last call that might sleep, and where that was */
+    const void *_Atomic at;
+    void *(*work)(void *); /* of a thread that is made by turns */
+    void *word;
     pthread_t self;
-    pid_t id;
+    _Atomic pid_t id;
     unsigned index;   /* in the order in which threads made their first call */
     int numbers;      /* those that it has, and didn't give back itself; touched by the thread alone */
     _Atomic int uses; /* LIVE, less what others gave back for it; after its end the numbers that it still has */
     _Atomic int is_cancelled, has_ended;
     _Atomic int sleeps;       /* in a wait that has no limit: it wakes at times to look whether it is cancelled */
     const void *_Atomic from; /* where its last wait was called */
+    const void *wait_of_cpp;  /* where std::condition_variable was asked to wait, which calls from its own library */
+    const void *not_there;    /* a place of waits that isn't the one that was asked for */
     uint64_t dice;
 };
 
@@ -80,6 +106,9 @@ struct monitor {
     _Atomic int64_t pending[CONDITIONS]; /* signals by threads that were outside, and above them broadcasts */
     const void *_Atomic conditions[CONDITIONS];
     int serial, depth;
+    const void *first_wait; /* where the first wait with it was called; null: none was */
+    int has_names;          /* whether this process began the file of its names */
+    _Atomic int has_stepped_down; /* its mutex is what it was: nobody uses it again */
     int transit;  /* seats that were served or signalled, and aren't back inside */
     int deferred; /* the condition that an immediate-return kind signals as it goes out, or NONE */
     int wants_renewal;
@@ -143,13 +172,15 @@ __attribute__((noreturn, format(printf, 2, 3))) static void refuse_of(struct mon
     va_start(words, format);
     vsnprintf(line, sizeof line, format, words);
     va_end(words);
-    refuse("the mutex %s: %s", name_of(m->known.address).text, line);
+    struct name mutex = name_of(m->known.address), wait = name_of(m->first_wait);
+    if (m->first_wait) refuse("the mutex %s, whose first wait is at %s: %s", mutex.text, wait.text, line);
+    refuse("the mutex %s: %s", mutex.text, line);
 }
 
 /* ---- The layer's own locks, and memory that is never given back */
 
 static inline void take(_Atomic int *lock) {
-    while (atomic_exchange_explicit(lock, 1, memory_order_acquire)) sched_yield();
+    while (atomic_exchange_explicit(lock, 1, memory_order_acquire)) real.yield();
 }
 
 static inline void let(_Atomic int *lock) { atomic_store_explicit(lock, 0, memory_order_release); }
@@ -265,17 +296,32 @@ static struct thread *new_thread(void) {
     return t;
 }
 
-__attribute__((noinline, cold)) static struct thread *first_call(void) {
+/* A thread that will call the layer. */
+static struct thread *expect_thread(void) {
     struct thread *t = new_thread();
     t->index = atomic_fetch_add(&thread_count, 1);
-    t->id = (pid_t)syscall(SYS_gettid), t->self = pthread_self();
     t->dice = asked.seed * 0x9e3779b97f4a7c15u + (t->index + 1) * 0xbf58476d1ce4e5b9u + 1;
     t->is_cancelled = t->sleeps = t->has_ended = 0;
-    t->from = NULL;
+    t->from = t->not_there = t->wait_of_cpp = NULL;
     t->numbers = 0;
     t->uses = LIVE;
+    t->turn = (struct turn){0};
+    t->does = NULL;
+    t->at = NULL;
+    return t;
+}
+
+/* By the thread itself. (One that runs by turns has its name from its maker.) */
+static void be(struct thread *t) {
+    t->id = (pid_t)syscall(SYS_gettid);
     me = t;
     pthread_setspecific(thread_key, t);
+}
+
+__attribute__((noinline, cold)) static struct thread *first_call(void) {
+    struct thread *t = expect_thread();
+    t->self = pthread_self();
+    be(t);
     return t;
 }
 
@@ -296,103 +342,19 @@ static void drop_number(struct thread *t) {
         change_uses(t, -1);
 }
 
+static void leave_turns(struct thread *t);
+
+/* A thread that runs by turns ends after what others have to do at its end. */
 static void thread_ends(void *it) {
     struct thread *t = it;
+    if (t->turn.is_member && t->turn.ends++ < PTHREAD_DESTRUCTOR_ITERATIONS - 2) {
+        pthread_setspecific(thread_key, t);
+        return;
+    }
+    if (t->turn.is_member) leave_turns(t);
     t->has_ended = 1;
     me = NULL;
     change_uses(t, t->numbers - LIVE);
-}
-
-/* Marsaglia's xorshift. */
-static unsigned roll(struct thread *t) {
-    t->dice ^= t->dice << 13, t->dice ^= t->dice >> 7, t->dice ^= t->dice << 17;
-    return (unsigned)(t->dice >> 33);
-}
-
-/* How often in 16 a thread sleeps before a call, and how often it lets others go first; how long it sleeps at most. */
-enum { NAPS = 2, YIELDS = 4, SIDES = 16, NAP_NS = 250000 };
-
-__attribute__((noinline, cold)) static void shake_now(void) {
-    unsigned dice = roll(self());
-    int error = errno;
-    struct timespec nap = {0, (long)(dice / SIDES % NAP_NS)};
-    if (dice % SIDES < NAPS)
-        nanosleep(&nap, NULL);
-    else if (dice % SIDES < NAPS + YIELDS)
-        sched_yield();
-    errno = error;
-}
-
-/* Before a call, which another thread's call may then precede. */
-static inline void shake(void) {
-    if (__builtin_expect(asked.shakes, 0)) shake_now();
-}
-
-/* ---- Numbers: the seats of a monitor by which threads come */
-
-static int count_standing(struct monitor *m, int standing) {
-    int count = 0;
-    for (int n = 0; n < NUMBERS; n++) count += m->places[n].standing == standing;
-    return count;
-}
-
-/* A number that nobody has: the thread's own if it is free, so that in most histories a seat is a thread. */
-static int free_number(struct monitor *m, const struct thread *t) {
-    uint32_t is = atomic_load(&m->free);
-    while (is) {
-        unsigned n = t->index % NUMBERS;
-        if (!(is & 1u << n)) n = (unsigned)__builtin_ctz(is);
-        if (atomic_compare_exchange_weak(&m->free, &is, is & ~(1u << n))) return (int)n;
-    }
-    return NONE;
-}
-
-/* Sleeps until a number is given back, for a short while at most: a ghost may give its number back unheard. */
-static void await_number(struct monitor *m) {
-    struct timespec while_none = {0, 20000000};
-    atomic_fetch_add(&m->wanting, 1);
-    if (!m->free) syscall(SYS_futex, &m->free, FUTEX_WAIT_PRIVATE, 0, &while_none, NULL, 0);
-    atomic_fetch_sub(&m->wanting, 1);
-}
-
-/* Looks for a number before the refusal that there are too many threads: by then some that were served may have gone
-   on. */
-enum { PATIENT_LOOKS = 20 };
-
-/* Lends the number to the thread that calls. */
-static int lend(struct monitor *m, int n, struct thread *t) {
-    t->numbers++;
-    m->places[n].is_signaller = 0;
-    store(m->places[n].who, t);
-    return n;
-}
-
-static int is_steward_free(struct monitor *m) { return !atomic_exchange(&m->has_steward, 1); }
-
-static int take_number(struct monitor *m, struct thread *t) {
-    for (int looks = 0;; looks++) {
-        int n = free_number(m, t);
-        if (n == NONE && count_standing(m, GHOST_WAITS) && is_steward_free(m)) n = STEWARD;
-        if (n != NONE) return lend(m, n, t);
-        if (looks > PATIENT_LOOKS && count_standing(m, WAITS) == NUMBERS)
-            refuse_of(m, "31 threads wait on its conditions, and more come: monitors have 32 seats");
-        await_number(m);
-    }
-}
-
-static void give_number(struct monitor *m, int n) {
-    struct place *p = &m->places[n];
-    struct thread *t = p->who;
-    store(p->who, NULL);
-    store(p->used, NULL);
-    store(p->home, NULL);
-    store(p->standing, AWAY);
-    if (n == STEWARD)
-        let(&m->has_steward);
-    else
-        atomic_fetch_or(&m->free, 1u << n);
-    if (m->wanting) syscall(SYS_futex, &m->free, FUTEX_WAKE_PRIVATE, INT32_MAX, NULL, NULL, 0);
-    if (t) drop_number(t);
 }
 
 #endif

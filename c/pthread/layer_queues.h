@@ -3,7 +3,7 @@
 #ifndef LAYER_QUEUES_H
 #define LAYER_QUEUES_H
 
-#include "layer_known.h"
+#include "layer_numbers.h"
 
 static int is_queued(const struct place *p, int condition) {
     int standing = p->standing;

@@ -2,12 +2,12 @@
 #ifndef LAYER_REPORT_H
 #define LAYER_REPORT_H
 
-#include "layer_waits.h"
+#include "layer_elsewhere.h"
 
 enum { LOOK_MS = 300, LOOKS_IN_ALL = 10 };
 
 static struct timespec look_limit(int looks) {
-    struct timespec limit = time_of(CLOCK_MONOTONIC);
+    struct timespec limit = time_of_limits();
     if (looks > 0) limit.tv_nsec += LOOK_MS * (NS_A_SECOND / MS_A_SECOND);
     if (limit.tv_nsec >= NS_A_SECOND) limit.tv_sec++, limit.tv_nsec -= NS_A_SECOND;
     return limit;
@@ -23,7 +23,7 @@ static void save_by_ended(struct monitor *m) {
    Whether it came. */
 static int save_by_visit(struct monitor *m, int looks) {
     struct timespec limit = look_limit(looks);
-    if (!come_in_by(m, STEWARD, &limit)) return save_by_ended(m), 0;
+    if (come_in_by(m, STEWARD, &limit) != ENTERED) return save_by_ended(m), 0;
     save_volume(m, m->hall, STEWARD);
     monk_leave(seat_in(m, STEWARD));
     released(m);
@@ -57,25 +57,37 @@ static void save_last_volume(struct monitor *m, int is_last, int *looks) {
     if (is_last) save_by_another(m);
 }
 
-static void tell_end(int file, const char *why) {
+static void tell_end(struct output *file, const char *why) {
     long volumes = ended_volumes, timeouts = ended_timeouts, outside = ended_outside;
     for (struct monitor *m = every_monitor; m; m = m->next)
         if (!m->is_dead) volumes += m->volumes + 1, timeouts += m->timeouts, outside += m->outside;
-    write_line(file, "end %s kind %s threads %u monitors %d volumes %ld timeouts %ld outside %ld alone %d\n", why,
-               monk_kind_name(asked.kind), thread_count, serials, volumes, timeouts, outside, waits_left_alone);
+    put_line(file, "end %s kind %s threads %u monitors %d volumes %ld timeouts %ld outside %ld alone %d\n", why,
+             monk_kind_name(asked.kind), thread_count, serials, volumes, timeouts, outside, waits_left_alone);
+}
+
+/* The user named this file, so it may be there. */
+static void save_report(const char *why) {
+    struct output file;
+    if (!asked.report) return;
+    strcpy(file.path, asked.report);
+    open_output(&file, O_TRUNC);
+    tell_end(&file, why), tell_remarks(&file), tell_woken(&file), tell_turns(&file), tell_elsewhere(&file);
+    tell_places(&file);
+    tell_descents(&file);
+    for (struct monitor *m = every_monitor; m; m = m->next)
+        if (!m->is_dead) tell_monitor(&file, m);
+    close_output(&file);
 }
 
 static void save_all(const char *why, int is_last) {
     int looks = LOOKS_IN_ALL;
-    int file = asked.report ? open(asked.report, O_WRONLY | O_CREAT | O_TRUNC | O_CLOEXEC, 0644) : NONE;
-    if (file != NONE) tell_end(file, why);
-    for (struct monitor *m = every_monitor; m; m = m->next) {
+    save_report(why);
+    save_schedule();
+    for (struct monitor *m = every_monitor; m && asked.history; m = m->next) {
         if (m->is_dead) continue;
-        if (file != NONE) tell_monitor(file, m);
         save_names(m);
-        if (asked.history) save_last_volume(m, is_last, &looks);
+        save_last_volume(m, is_last, &looks);
     }
-    if (file != NONE) close(file);
 }
 
 #endif

@@ -15,8 +15,10 @@
 enum {
     STATUS_LATE = 124 /* as of timeout(1) */,
     STATUS_CANT = 125,
-    LONGEST_LINE = 600,
+    STATUS_LOADED = 3, /* what a process ends with that is started to see whether the layer is there */
+    LONGEST_LINE = 1200,
     LONGEST_PATH = 500,
+    A_THOUSAND = 1000,
     MOST_BUDGET = 1 << 20
 };
 
@@ -24,15 +26,22 @@ enum {
    wait are woken when all sleep for ever. */
 enum { AS_IT_IS, BROADCASTS, WAKES_SLEEPERS };
 
+/* How the turn goes from thread to thread, if only one runs at a time. */
+enum { FREE, BY_WALK, BY_PRIORITIES, BY_SCHEDULE };
+
 static struct {
     int kind, mode, wish;
-    int shakes; /* threads let others go first at random */
-    int eager;  /* this number of mutexes are monitors from their first lock on */
+    int turns;
+    const char *play, *schedule; /* the file that says whose turn is next; the one that is written */
+    int shakes;              /* threads let others go first at random */
+    int spurious;            /* so many of a thousand waits wake unasked */
+    const char *spurious_at; /* only those that are called there */
+    int eager; /* this number of mutexes are monitors from their first lock on */
     int mend;
     uint32_t budget; /* events of a seat in a volume; 0: each volume has twice as many as the one before */
     uint64_t seed;
     double seconds;         /* the time after which the program is ended; 0: never */
-    const char *left_alone; /* mutexes that stay what they are */
+    const char *left_alone; /* mutexes that stay what they are, and places of waits with such */
     const char *history, *report;
 } asked = {.kind = MONK_NPNB, .wish = MONK_WAITER, .seed = 1};
 
@@ -52,7 +61,7 @@ __attribute__((format(printf, 2, 3))) static void write_line(int file, const cha
     va_end(words);
     if (length < 0) return;
     size_t size = (size_t)length < sizeof line ? (size_t)length : sizeof line - 1;
-    if (write(file, line, size) < 0) return;
+    if (real.write(file, line, size) < 0) return;
 }
 
 __attribute__((noreturn)) static void end_now(int status) {
@@ -101,6 +110,13 @@ static void read_wish(void) {
     if (asked.wish > MONK_ANY) refuse_setting("MONK_WISH", text, "none of entry waiter signaller any");
 }
 
+static void read_turns(void) {
+    const char *text = getenv("MONK_TURNS");
+    if (text) asked.turns = !strcmp(text, "walk") ? BY_WALK : !strcmp(text, "priorities") ? BY_PRIORITIES : FREE;
+    if (text && !asked.turns) refuse_setting("MONK_TURNS", text, "none of walk priorities");
+    if (getenv("MONK_PLAY")) asked.turns = BY_SCHEDULE;
+}
+
 static void read_seconds(void) {
     const char *text = getenv("MONK_SECONDS");
     char *end;
@@ -110,16 +126,23 @@ static void read_seconds(void) {
         refuse_setting("MONK_SECONDS", text, "no number of seconds");
 }
 
-/* The process that monk-run became writes into DIR and FILE; each other process, started or forked, writes into
-   DIR/PID and FILE.PID. */
-static void name_files(const char *history, const char *report) {
+/* Whether this is the process that monk-run became. */
+static int is_owner(void) {
     const char *owner = getenv("MONK_OWNER");
+    return !owner || atol(owner) == process;
+}
+
+/* The process that monk-run became writes into DIR and FILE; each other process, started or forked, writes into
+   DIR/PID and FILE.PID. A schedule is of the first alone. */
+static void name_files(const char *history, const char *report) {
     process = getpid();
-    int is_owner = !owner || atol(owner) == process;
-    snprintf(history_of_process, LONGEST_PATH, is_owner ? "%s" : "%s/%d", history ? history : "", (int)process);
-    snprintf(report_of_process, LONGEST_PATH, is_owner ? "%s" : "%s.%d", report ? report : "", (int)process);
+    int is_first = is_owner();
+    snprintf(history_of_process, LONGEST_PATH, is_first ? "%s" : "%s/%d", history ? history : "", (int)process);
+    snprintf(report_of_process, LONGEST_PATH, is_first ? "%s" : "%s.%d", report ? report : "", (int)process);
     asked.history = history ? history_of_process : NULL;
     asked.report = report ? report_of_process : NULL;
+    asked.schedule = is_first ? getenv("MONK_SCHEDULE") : NULL;
+    asked.play = is_first ? getenv("MONK_PLAY") : NULL;
 }
 
 /* An allocator other than the C library's may have mutexes. A hall takes memory, so none can be made while such a
@@ -132,16 +155,20 @@ static int has_own_allocator(void) {
 
 static void read_settings(void) {
     const char *history = getenv("MONK_HISTORY");
+    if (getenv("MONK_LOADED")) end_now(STATUS_LOADED);
     read_kind();
     read_wish();
     read_seconds();
+    read_turns();
     read_number("MONK_SEED", 0, UINT64_MAX, &asked.seed);
     read_number("MONK_SHAKE", 0, UINT64_MAX, &asked.seed);
     asked.shakes = getenv("MONK_SHAKE") != NULL;
     asked.budget = (uint32_t)number_of_setting("MONK_BUDGET", 64, MOST_BUDGET);
+    asked.spurious = number_of_setting("MONK_SPURIOUS", 0, A_THOUSAND);
     asked.eager = number_of_setting("MONK_EAGER", 0, INT32_MAX);
     asked.mend = number_of_setting("MONK_MEND", AS_IT_IS, WAKES_SLEEPERS);
     asked.left_alone = getenv("MONK_LEAVE");
+    asked.spurious_at = getenv("MONK_SPURIOUS_AT");
     if (asked.eager && has_own_allocator()) asked.eager = 0;
     if (history && mkdir(history, 0755) && errno != EEXIST) refuse_setting("MONK_HISTORY", history, strerror(errno));
     name_files(history, getenv("MONK_REPORT"));

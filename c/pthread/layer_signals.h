@@ -8,8 +8,42 @@
 
 #include "layer_halls.h"
 
+/* ---- Sleeping until a seat is called */
+
+static const struct timespec no_time; /* a limit that is over */
+
+/* Whether its turn at the monitor has come, or its hall was left. */
+static int is_called(struct thread *t) {
+    t->turn.answer = monk_await_until((monk_seat *)(uintptr_t)t->turn.what, &no_time);
+    return t->turn.answer != MONK_WAITING;
+}
+
+/* By turns, as monk_await_until. MONK_WAITING also if turns are over. A thread that is cancelled looks too. */
+static int await_by_turns(struct thread *t, monk_seat *seat, int64_t until) {
+    int answer = monk_await_until(seat, &no_time);
+    if (answer != MONK_WAITING) return answer;
+    t->turn.answer = MONK_WAITING;
+    sleep_by_turns(t, is_called, seat, until);
+    return t->turn.answer;
+}
+
+/* As monk_await_until; null: no limit. */
+static int await_seat(monk_seat *seat, const struct timespec *limit) {
+    int answer = MONK_WAITING;
+    if (is_by_turns(me)) {
+        answer = await_by_turns(me, seat, limit ? limit_by_turns(CLOCK_MONOTONIC, limit) : NEVER);
+        if (answer != MONK_WAITING || !turns.is_over) return answer;
+    }
+    return limit ? monk_await_until(seat, limit) : monk_await(seat, -1);
+}
+
+/* ---- Releases and signals */
+
 /* Lets ghosts come in if it is their turn. It follows each release. */
 static void released(struct monitor *m);
+
+/* Locks the mutex of a monitor that has stepped down. */
+static void lock_below(struct monitor *m, int times);
 
 static const int64_t a_broadcast = (int64_t)1 << 32; /* among pending signals; a signal is 1 */
 
@@ -41,13 +75,19 @@ static void note_outside(struct monitor *m) {
 /* The thread gives the monitor up to the one that it signalled, and sleeps until it has it back. */
 static void signal_and_return(struct monitor *m, int n, int condition, struct thread *t) {
     monk_seat *seat = seat_in(m, n);
-    int depth = m->depth;
+    int depth = m->depth, answer = MONK_INSIDE;
     m->places[n].standing = SIGNALS;
     note_outside(m);
     if (sure(m, monk_start_signal(seat, (unsigned)condition), "signal") == MONK_WAITING) {
         released(m);
-        sure(m, monk_await(seat, -1), "signal");
+        answer = await_seat(seat, NULL);
     }
+    if (answer == MONK_STOPPED && m->has_stepped_down) {
+        give_number(m, n);
+        lock_below(m, depth);
+        return;
+    }
+    sure(m, answer, "signal");
     note_inside(m, n, t, depth);
     m->transit--;
 }

@@ -3,7 +3,7 @@
 #ifndef LAYER_VISITS_H
 #define LAYER_VISITS_H
 
-#include "layer_ghosts.h"
+#include "layer_descents.h"
 
 static void go_out(struct monitor *m) {
     int n = m->inside;
@@ -19,9 +19,9 @@ static void go_out(struct monitor *m) {
 /* MONK_WAITING if the limit is over (a time of CLOCK_MONOTONIC; null if there is none). MONK_STOPPED: another hall
    took this one's place. */
 static int arrive_at(struct monitor *m, struct hall *h, int n, const struct timespec *limit) {
-    if (!limit) return monk_enter(h->seats[n]);
-    sure(m, monk_arrive(h->seats[n]), "arrive");
-    return monk_await_until(h->seats[n], limit);
+    if (!limit && !is_by_turns(me)) return monk_enter(h->seats[n]);
+    if (sure(m, monk_arrive(h->seats[n]), "arrive") == MONK_INSIDE) return MONK_INSIDE;
+    return limit == &no_time ? monk_await_until(h->seats[n], limit) : await_seat(h->seats[n], limit);
 }
 
 /* The thread goes away, and its seat waits on as a ghost, unless the hall in which it waits has been left meanwhile. */
@@ -38,8 +38,10 @@ static void stay_as_ghost(struct monitor *m, int n) {
     look_after_ghosts(m);
 }
 
+enum entered { TOO_LATE, ENTERED, STEPPED_DOWN };
+
 /* Whether it came in by this number before the limit was over. */
-static int come_in_by(struct monitor *m, int n, const struct timespec *limit) {
+static enum entered come_in_by(struct monitor *m, int n, const struct timespec *limit) {
     struct place *p = &m->places[n];
     int answer = MONK_STOPPED;
     store(p->standing, AT_THE_ENTRY);
@@ -47,27 +49,40 @@ static int come_in_by(struct monitor *m, int n, const struct timespec *limit) {
         struct hall *h = use(p, &m->hall);
         store(p->home, h);
         answer = arrive_at(m, h, n, limit);
+        if (answer == MONK_STOPPED && m->has_stepped_down) return give_number(m, n), STEPPED_DOWN;
     }
-    if (sure(m, answer, "enter") != MONK_WAITING) return 1;
+    if (sure(m, answer, "enter") != MONK_WAITING) return ENTERED;
     stay_as_ghost(m, n);
-    return 0;
+    return TOO_LATE;
+}
+
+/* All numbers wait. The steward comes in, and the monitor steps down, unless it has meanwhile. */
+static void step_down_as_steward(struct monitor *m, struct thread *t) {
+    while (!m->has_stepped_down && !is_steward_free(m)) real.yield();
+    if (m->has_stepped_down) return;
+    lend(m, STEWARD, t);
+    if (come_in_by(m, STEWARD, NULL) != ENTERED) return;
+    note_inside(m, STEWARD, t, 1);
+    step_down(m, STEWARD, 1, "has more than 31 waiters");
+    give_number(m, STEWARD);
+    real.unlock(mutex_below(m));
 }
 
 /* Whether the thread came in before the limit was over. The steward is lent if ghosts have all numbers: it leaves
    them behind in a new hall, and then the thread comes in by another number. */
-static int enter(struct monitor *m, struct thread *t, const struct timespec *limit, int depth) {
+static enum entered enter(struct monitor *m, struct thread *t, const struct timespec *limit, int depth) {
     for (;;) {
         int n = take_number(m, t);
-        if (!come_in_by(m, n, limit)) return 0;
+        if (n == NONE) return step_down_as_steward(m, t), STEPPED_DOWN;
+        enum entered how = come_in_by(m, n, limit);
+        if (how != ENTERED) return how;
         note_inside(m, n, t, depth);
         renew_if_due(m, n);
-        if (n != STEWARD) return 1;
+        if (n != STEWARD) return ENTERED;
         if (may_renew(m)) renew(m, n);
         go_out(m);
     }
 }
-
-static const struct timespec no_time; /* a limit that is over */
 
 /* ---- Promotion. The thread that has a mutex makes it a monitor, while it has it. A thread that slept at the mutex
    looks again once it has it. So a thread that has the mutex, and finds no monitor, is inside. */
@@ -76,9 +91,9 @@ enum { TYPE_BITS = 3, ROBUST = 16, INHERITS = 32, PROTECTS = 64, SHARED = 128 };
 
 static int type_of(const pthread_mutex_t *mutex) { return mutex->__data.__kind & TYPE_BITS; }
 
-/* Whether it is in the list of those to be left alone, which has blanks between them. */
-static int is_named(const pthread_mutex_t *mutex) {
-    struct name name = name_of(mutex);
+/* Whether it is in the list of places to be left alone, which has blanks between them. */
+static int is_named(const void *address) {
+    struct name name = name_of(address);
     size_t length = strlen(name.text);
     const char *at = asked.left_alone;
     for (; (at = strstr(at, name.text)); at += length) {
@@ -91,12 +106,12 @@ static int is_named(const pthread_mutex_t *mutex) {
 /* Whether it is between processes, robust or with priorities; or named by the user; or locked by nobody we know. */
 static int is_left_alone(const pthread_mutex_t *mutex, const struct thread *t) {
     if (mutex->__data.__kind & (ROBUST | INHERITS | PROTECTS | SHARED) || mutex->__data.__owner != t->id) return 1;
-    return asked.left_alone && is_named(mutex);
+    return is_lowered(mutex) || (asked.left_alone && is_named(mutex));
 }
 
 /* Whether nothing for its last mutex is under way any more. */
 static int is_unused(struct monitor *m) {
-    if (!m->is_dead || m->free != (1u << NUMBERS) - 1 || m->has_steward) return 0;
+    if (!m->is_dead || m->has_stepped_down || m->free != (1u << NUMBERS) - 1 || m->has_steward) return 0;
     take(&m->lock);
     free_retired(m);
     let(&m->lock);
@@ -120,6 +135,8 @@ static void set_up(struct monitor *m, const void *mutex, struct hall *h, int ser
     m->serial = serial;
     m->deferred = m->inside = NONE;
     m->owner = NULL;
+    m->first_wait = NULL;
+    m->has_names = 0;
     m->free = (1u << NUMBERS) - 1;
     m->due = m->transit = m->has_pending = m->wants_renewal = 0;
     m->volumes = m->timeouts = m->passed_on = m->taken_over = m->outside = m->late_renewals = 0;
@@ -155,23 +172,22 @@ static struct monitor *promote(pthread_mutex_t *mutex, struct thread *t) {
     return m;
 }
 
+/* Whether a wait may be named that is to leave the mutex alone: one on the heap or on a stack has no name. */
+static int may_be_left(const pthread_mutex_t *mutex) {
+    Dl_info in;
+    return asked.left_alone && !(dladdr(mutex, &in) && in.dli_fname);
+}
+
 /* Promotes a mutex at its first lock, if fewer than asked for were. What locks meanwhile isn't the program. */
 __attribute__((noinline, cold)) static void promote_early(pthread_mutex_t *mutex) {
     static __thread __attribute__((tls_model("initial-exec"))) int is_busy;
-    if (is_busy || serials >= asked.eager) return;
+    if (is_busy || serials >= asked.eager || may_be_left(mutex)) return;
     is_busy = 1;
     promote(mutex, self());
     is_busy = 0;
 }
 
 /* ---- The end of a mutex */
-
-static void count_ended(struct monitor *m) {
-    static _Atomic int lock;
-    take(&lock);
-    ended_volumes += m->volumes + 1, ended_timeouts += m->timeouts, ended_outside += m->outside;
-    let(&lock);
-}
 
 /* All ghosts go. Under the monitor's lock. */
 static void give_ghosts_back(struct monitor *m) {
@@ -183,16 +199,13 @@ static void give_ghosts_back(struct monitor *m) {
    of the program. */
 static void forget_mutex(const void *mutex) {
     struct monitor *m = monitor_of(mutex);
-    if (!m || m->owner || count_standing(m, WAITS) || !enter(m, self(), &no_time, 1)) return;
+    forget_lowered(mutex);
+    if (!m || m->owner || count_standing(m, WAITS) || enter(m, self(), &no_time, 1) != ENTERED) return;
     int n = m->inside;
     save_volume(m, m->hall, n);
     save_names(m);
     count_ended(m);
-    for (int k = 0; k < CONDITIONS; k++) {
-        const void *address = m->conditions[k];
-        struct condition *c = address ? condition_of(address) : NULL;
-        if (c && c->of == m) forget_condition(address);
-    }
+    forget_conditions(m);
     take(&monitors.lock);
     take_out(&monitors, &m->known);
     let(&monitors.lock);

@@ -6,6 +6,7 @@
 #ifndef LAYER_WAITS_H
 #define LAYER_WAITS_H
 
+#include "layer_shakes.h"
 #include "layer_visits.h"
 
 enum { MS_A_SECOND = 1000, NS_A_SECOND = 1000000000, SLICE_NS = 200000000 };
@@ -26,13 +27,13 @@ static int is_before(struct timespec a, struct timespec b) {
 
 static struct timespec time_of(clockid_t clock) {
     struct timespec now;
-    clock_gettime(clock, &now);
+    time_by_turns(clock, &now);
     return now;
 }
 
-/* The same time by CLOCK_MONOTONIC, as the clocks are now; the present time if it is over. */
+/* The same time by the clock of limits, as the clocks are now; the present time if it is over. */
 static struct timespec monotonic(clockid_t clock, const struct timespec *until) {
-    struct timespec now = time_of(CLOCK_MONOTONIC), here = time_of(clock);
+    struct timespec now = time_of_limits(), here = time_of(clock);
     if (!is_before(here, *until)) return now;
     now.tv_sec += until->tv_sec - here.tv_sec;
     now.tv_nsec += until->tv_nsec - here.tv_nsec;
@@ -43,7 +44,7 @@ static struct timespec monotonic(clockid_t clock, const struct timespec *until) 
 
 /* When a wait wakes to look at its clock, which may have been set, and whether its thread was cancelled. */
 static struct timespec next_look(clockid_t clock, const struct timespec *until) {
-    struct timespec look = time_of(CLOCK_MONOTONIC), limit = until ? monotonic(clock, until) : look;
+    struct timespec look = time_of_limits(), limit = until ? monotonic(clock, until) : look;
     look.tv_nsec += SLICE_NS;
     if (look.tv_nsec >= NS_A_SECOND) look.tv_sec++, look.tv_nsec -= NS_A_SECOND;
     return until && is_before(limit, look) ? limit : look;
@@ -90,12 +91,13 @@ static void use_number(struct monitor *m, int k, struct condition *c) {
     atomic_store(&c->of, m);
 }
 
+/* NONE: eight others have waiters. */
 static int number_of(struct monitor *m, const void *address) {
     struct condition *c = make_condition(address);
     if (c->of == m && m->conditions[c->number] == address) return c->number;
+    look_at_mutexes(c, m);
     int k = spare_number(m, address);
-    if (k == NONE) refuse_of(m, "threads wait on more than %d of its conditions at once", CONDITIONS);
-    use_number(m, k, c);
+    if (k != NONE) use_number(m, k, c);
     return k;
 }
 
@@ -170,6 +172,14 @@ static int is_to_end(struct thread *t) {
     return state == PTHREAD_CANCEL_ENABLE;
 }
 
+extern void __asan_handle_no_return(void) __attribute__((weak)); /* AddressSanitizer's */
+
+/* The frames of a thread that ends here are left without a return, which AddressSanitizer doesn't see by itself. */
+static void end_if_cancelled(struct thread *t) {
+    if (t->is_cancelled && __asan_handle_no_return) __asan_handle_no_return();
+    pthread_testcancel();
+}
+
 /* Whether the seat is given up: its time is over or its thread is to end, and no signal has served it. */
 static int is_given_up(struct wait *w, struct place *p) {
     int is = WAITS;
@@ -177,18 +187,33 @@ static int is_given_up(struct wait *w, struct place *p) {
     return atomic_compare_exchange_strong(&p->standing, &is, GHOST_WAITS);
 }
 
-/* Whether a signal served the seat; else it was given up. */
-static int sleep_through(struct wait *w) {
+/* Until it is called, or it is time to look again: by turns that is only when its time is over. */
+static int sleep_a_while(struct wait *w, struct place *p, monk_seat *seat) {
+    const struct timespec *until = p->standing == SERVED ? NULL : w->until;
+    if (is_by_turns(w->thread)) {
+        w->thread->turn.may_end = 1;
+        int answer = await_by_turns(w->thread, seat, until ? limit_by_turns(w->clock, until) : NEVER);
+        w->thread->turn.may_end = 0;
+        if (answer != MONK_WAITING || !turns.is_over) return answer;
+    }
+    struct timespec look = next_look(w->clock, until);
+    return monk_await_until(seat, &look);
+}
+
+enum slept { GIVEN_UP, WAS_SERVED, WAS_LEFT };
+
+/* Whether a signal served the seat, or it was given up, or its monitor has stepped down. */
+static enum slept sleep_through(struct wait *w) {
     struct monitor *m = w->monitor;
     struct place *p = &m->places[w->number];
     for (;;) {
         struct hall *h = use(p, &p->home);
-        struct timespec look = next_look(w->clock, p->standing == SERVED ? NULL : w->until);
-        int answer = monk_await_until(h->seats[w->number], &look);
-        if (answer == MONK_INSIDE) return 1;
+        int answer = sleep_a_while(w, p, h->seats[w->number]);
+        if (answer == MONK_INSIDE) return WAS_SERVED;
+        if (answer == MONK_STOPPED && m->has_stepped_down) return WAS_LEFT;
         if (answer == MONK_STOPPED) continue;
         sure(m, answer, "wait");
-        if (is_given_up(w, p)) return 0;
+        if (is_given_up(w, p)) return GIVEN_UP;
     }
 }
 
@@ -207,26 +232,59 @@ static int end_given_up(struct wait *w) {
     int is_late = is_over(w->clock, w->until);
     m->places[w->number].used = NULL;
     m->timeouts++;
-    enter(m, w->thread, NULL, w->depth);
+    if (enter(m, w->thread, NULL, w->depth) == STEPPED_DOWN) lock_below(m, w->depth);
     if (is_late) return ETIMEDOUT;
-    pthread_testcancel();
+    end_if_cancelled(w->thread);
     w->thread->is_cancelled = 0; /* the mark was for another of the same name */
     return 0;
 }
 
-/* The wait of pthread_cond_wait and the like by the thread that is inside: 0 or ETIMEDOUT. */
+/* The thread woke unasked, because its monitor has stepped down. */
+static int end_left(struct wait *w) {
+    give_number(w->monitor, w->number);
+    lock_below(w->monitor, w->depth);
+    end_if_cancelled(w->thread);
+    return is_over(w->clock, w->until) ? ETIMEDOUT : 0;
+}
+
+enum { NOT_HERE = -1 };
+
+/* The wait of pthread_cond_wait and the like by the thread that is inside: 0 or ETIMEDOUT. NOT_HERE: the monitor has
+   stepped down, and the thread has the mutex to wait with. */
 static int wait_with(struct monitor *m, const void *condition, clockid_t clock, const struct timespec *until) {
     struct wait w = {
         .monitor = m, .thread = self(), .number = m->inside, .depth = m->depth, .until = until, .clock = clock};
-    pthread_testcancel();
+    end_if_cancelled(w.thread);
     w.condition = number_of(m, condition);
+    if (w.condition == NONE) {
+        step_down(m, w.number, w.depth, "has more than 8 conditions with waiters");
+        give_number(m, w.number);
+        return NOT_HERE;
+    }
     begin_wait(&w);
     w.thread->sleeps = !until;
-    int is_served = sleep_through(&w);
+    enum slept how = sleep_through(&w);
     w.thread->sleeps = 0;
-    if (!is_served) return end_given_up(&w);
+    if (how == WAS_LEFT) return end_left(&w);
+    if (how == GIVEN_UP) return end_given_up(&w);
     end_served(&w);
     return 0;
+}
+
+/* ---- Waits that wake unasked */
+
+/* A wait that nobody has to end, by the thread that is inside, as POSIX allows. It comes back at once, or others may
+   come in between. A mutex that is left alone (null) isn't given up. */
+static void wake_unasked(struct monitor *m, struct thread *t) {
+    end_if_cancelled(t);
+    if (!m || roll(t) % 2) return;
+    int depth = m->depth;
+    go_out(m);
+    if (is_by_turns(t))
+        pass(t);
+    else
+        real.yield();
+    if (enter(m, t, NULL, depth) == STEPPED_DOWN) lock_below(m, depth);
 }
 
 #endif

@@ -4,318 +4,43 @@
    monk-run has its options, docs/TRY.md says what it reports. A mutex becomes a monitor when a thread first waits on
    a condition with it; until then it is what it was. None of this is proved: the monitors below it are (monk.h).
 
-   The parts: layer_real.h, the system's functions; layer_settings.h, what is asked; layer_known.h, threads, monitors
-   and conditions; layer_queues.h, who waits where; layer_files.h, histories and the report; layer_halls.h, volumes of
-   a monitor; layer_signals.h; layer_ghosts.h, seats without a thread; layer_visits.h, entering, leaving, and how a
-   mutex becomes a monitor; layer_waits.h; layer_report.h and layer_ends.h, the ends of a run. */
+   The parts: layer_real.h, the system's functions; layer_settings.h, what is asked; layer_outputs.h, files that are
+   written; layer_known.h, threads, monitors and conditions; layer_shakes.h, what the dice do; layer_turns.h and
+   layer_schedule.h, runs that repeat; layer_start.h, what calls begin with; layer_numbers.h, seats; layer_queues.h, who
+   waits where; layer_remarks.h, uses that can't be meant; layer_files.h, histories and the report; layer_halls.h,
+   volumes of a monitor; layer_signals.h; layer_ghosts.h, seats without a thread; layer_visits.h, entering, leaving, and
+   how a mutex becomes a monitor; layer_waits.h; layer_elsewhere.h, where threads meet outside monitors; layer_report.h
+   and layer_ends.h, the ends of a run; layer_calls.h, layer_c11.h, layer_births.h and layer_elsewhere_calls.h, the
+   calls that programs make. */
 #define _GNU_SOURCE
+#include "layer_births.h"
+#include "layer_c11.h"
+#include "layer_elsewhere_calls.h"
 #include "layer_ends.h"
 
 /* ---- The beginning */
 
-static _Atomic int is_ready;
-
-/* How much a call on a mutex has to look at. It is all while the start isn't over, if threads are shaken, or if
-   mutexes are monitors from their first lock on. Else it is whether the mutex is a monitor, once there is one. */
-enum attention { NOTHING, MONITORS, ALL };
-static _Atomic int attention = ALL;
-
-/* An allocator that the start calls may come back here: then the functions of mutexes are known already. */
-__attribute__((noinline, cold)) static void start(void) {
-    static _Atomic int lock;
-    static __thread __attribute__((tls_model("initial-exec"))) int is_starting;
-    if (is_starting) return;
-    is_starting = 1;
-    take(&lock);
-    if (!is_ready) {
-        find_functions();
-        read_settings();
-        pthread_key_create(&thread_key, thread_ends);
-        is_ready = 1;
-        attention = asked.shakes || asked.eager ? ALL : NOTHING;
-    }
-    let(&lock);
-    is_starting = 0;
+/* Whether files are missing, or a place that was asked for. Else the status is the program's. */
+static int has_all(void) {
+    int are_all = are_written();
+    return has_place() && are_all;
 }
 
-static inline void init(void) {
-    if (__builtin_expect(!atomic_load_explicit(&is_ready, memory_order_acquire), 0)) start();
+/* The status says so; what the program printed is not lost. */
+__attribute__((destructor)) static void ended(void) {
+    finish("exit", GOES_ON);
+    if (is_in_parent() || has_all()) return;
+    fflush(NULL);
+    end_now(STATUS_CANT);
 }
-
-__attribute__((destructor)) static void ended(void) { finish("exit", GOES_ON); }
 
 __attribute__((constructor)) static void begin(void) {
     init();
+    used_before = used_by_children();
+    begin_turns();
     pthread_atfork(before_fork, let_tables, in_child);
     at_quick_exit(ended);
     watch_process();
-}
-
-/* ---- Mutexes */
-
-enum how { LOCK, TRY, TIMED, CLOCK };
-
-/* A call that locks a mutex. */
-struct locking {
-    pthread_mutex_t *mutex;
-    enum how how;
-    clockid_t clock;
-    const struct timespec *until;
-};
-
-static inline int lock_really(const struct locking *it) {
-    switch (it->how) {
-    case TRY:
-        return real.trylock(it->mutex);
-    case TIMED:
-        return real.timedlock(it->mutex, it->until);
-    case CLOCK:
-        return real.clocklock(it->mutex, it->clock, it->until);
-    default:
-        return real.lock(it->mutex);
-    }
-}
-
-/* The thread has it already. For a plain mutex that is a deadlock: the thread waits for itself. */
-static int lock_again(struct monitor *m, const struct locking *it) {
-    int type = type_of(it->mutex);
-    if (type == PTHREAD_MUTEX_RECURSIVE) return m->depth++, 0;
-    if (type == PTHREAD_MUTEX_ERRORCHECK && it->how != TRY) return EDEADLK;
-    return EBUSY;
-}
-
-static int lock_monitor(struct monitor *m, const struct locking *it) {
-    struct thread *t = self();
-    int answer = m->owner == t ? lock_again(m, it) : 0, is_own = m->owner == t;
-    if (is_own && (answer != EBUSY || it->how == TRY)) return answer;
-    if (it->how == TRY) return !m->owner && enter(m, t, &no_time, 1) ? 0 : EBUSY;
-    if (it->how == LOCK) return enter(m, t, NULL, 1), 0;
-    if (!is_clock(it->clock) || !is_time(it->until)) return EINVAL;
-    struct timespec limit = monotonic(it->clock, it->until);
-    return enter(m, t, &limit, 1) ? 0 : ETIMEDOUT;
-}
-
-/* Looks again once it has the mutex: it may have become a monitor while the thread slept there. */
-static int look_again(const struct locking *it, int answer) {
-    if (answer && answer != EOWNERDEAD) return answer;
-    struct monitor *m = monitor_of(it->mutex);
-    if (m) return real.unlock(it->mutex), lock_monitor(m, it);
-    if (asked.eager > serials) promote_early(it->mutex);
-    return answer;
-}
-
-static int lock_by(struct locking it) {
-    init();
-    shake();
-    struct monitor *m = monitor_of(it.mutex);
-    return m ? lock_monitor(m, &it) : look_again(&it, lock_really(&it));
-}
-
-/* For an ordinary mutex the way is short. */
-int pthread_mutex_lock(pthread_mutex_t *mutex) {
-    int is = attention;
-    if (is == ALL || (is == MONITORS && monitor_of(mutex)))
-        return lock_by((struct locking){.mutex = mutex, .how = LOCK});
-    int answer = real.lock(mutex);
-    if (attention == NOTHING || !monitor_of(mutex)) return answer;
-    return look_again(&(struct locking){.mutex = mutex, .how = LOCK}, answer);
-}
-
-int pthread_mutex_trylock(pthread_mutex_t *mutex) { return lock_by((struct locking){.mutex = mutex, .how = TRY}); }
-
-int pthread_mutex_timedlock(pthread_mutex_t *mutex, const struct timespec *until) {
-    return lock_by((struct locking){mutex, TIMED, CLOCK_REALTIME, until});
-}
-
-int pthread_mutex_clocklock(pthread_mutex_t *mutex, clockid_t clock, const struct timespec *until) {
-    return lock_by((struct locking){mutex, CLOCK, clock, until});
-}
-
-static int unlock_monitor(struct monitor *m, const pthread_mutex_t *mutex) {
-    int type = type_of(mutex);
-    if (m->owner != self() && (type == PTHREAD_MUTEX_RECURSIVE || type == PTHREAD_MUTEX_ERRORCHECK)) return EPERM;
-    if (m->inside != NONE && --m->depth <= 0) go_out(m);
-    return 0;
-}
-
-static int unlock_by(pthread_mutex_t *mutex) {
-    init();
-    shake();
-    struct monitor *m = monitor_of(mutex);
-    return m ? unlock_monitor(m, mutex) : real.unlock(mutex);
-}
-
-int pthread_mutex_unlock(pthread_mutex_t *mutex) {
-    int is = attention;
-    return is == ALL || (is == MONITORS && monitor_of(mutex)) ? unlock_by(mutex) : real.unlock(mutex);
-}
-
-int pthread_mutex_init(pthread_mutex_t *mutex, const pthread_mutexattr_t *attributes) {
-    init();
-    forget_mutex(mutex);
-    return real.init(mutex, attributes);
-}
-
-int pthread_mutex_destroy(pthread_mutex_t *mutex) {
-    init();
-    struct monitor *m = monitor_of(mutex);
-    if (m && m->owner) return EBUSY;
-    forget_mutex(mutex);
-    return real.destroy(mutex);
-}
-
-/* ---- Conditions */
-
-static int wait_really(struct locking it, pthread_cond_t *condition) {
-    waits_left_alone++;
-    switch (it.how) {
-    case TIMED:
-        return real.timedwait(condition, it.mutex, it.until);
-    case CLOCK:
-        return real.clockwait(condition, it.mutex, it.clock, it.until);
-    default:
-        return real.wait(condition, it.mutex);
-    }
-}
-
-enum { IS_MONOTONIC = 2 }; /* the bit of a condition that was made for this clock */
-
-static int wait_by(struct locking it, pthread_cond_t *condition, const void *from) {
-    init();
-    shake();
-    struct thread *t = self();
-    struct monitor *m = monitor_of(it.mutex);
-    t->from = from;
-    if (m && m->owner != t) return EPERM;
-    if (attention == NOTHING) attention = MONITORS;
-    if (!is_watched) watch_process();
-    if (!m) m = promote(it.mutex, t);
-    if (!m) return wait_really(it, condition);
-    if (it.how == TIMED) it.clock = condition->__data.__wrefs & IS_MONOTONIC ? CLOCK_MONOTONIC : CLOCK_REALTIME;
-    if (it.until && (!is_clock(it.clock) || !is_time(it.until))) return EINVAL;
-    return wait_with(m, condition, it.clock, it.until);
-}
-
-#define CALLER __builtin_return_address(0)
-
-int pthread_cond_wait(pthread_cond_t *condition, pthread_mutex_t *mutex) {
-    return wait_by((struct locking){.mutex = mutex, .how = LOCK}, condition, CALLER);
-}
-
-int pthread_cond_timedwait(pthread_cond_t *condition, pthread_mutex_t *mutex, const struct timespec *until) {
-    return wait_by((struct locking){mutex, TIMED, CLOCK_REALTIME, until}, condition, CALLER);
-}
-
-int pthread_cond_clockwait(pthread_cond_t *condition, pthread_mutex_t *mutex, clockid_t clock,
-                           const struct timespec *until) {
-    return wait_by((struct locking){mutex, CLOCK, clock, until}, condition, CALLER);
-}
-
-/* By a thread outside: the seat that is inside sends it. If nobody waits, there is nobody to serve. */
-static void signal_from_outside(struct monitor *m, int k, int is_broadcast) {
-    if (!count_queued(m, k)) return;
-    m->outside++;
-    atomic_fetch_add(&m->pending[k], is_broadcast ? a_broadcast : 1);
-    atomic_store(&m->has_pending, 1);
-    visit_if_pending(m, NULL);
-}
-
-/* Whether the condition is one of a monitor. */
-static int is_signalled(const void *condition, int is_broadcast) {
-    init();
-    shake();
-    struct condition *c = condition_of(condition);
-    struct monitor *m = c ? c->of : NULL;
-    if (!m) return 0;
-    struct thread *t = self();
-    if (m->owner == t)
-        signal_by(m, m->inside, c->number, is_broadcast, t);
-    else
-        signal_from_outside(m, c->number, is_broadcast);
-    return 1;
-}
-
-int pthread_cond_signal(pthread_cond_t *condition) { return is_signalled(condition, 0) ? 0 : real.signal(condition); }
-
-int pthread_cond_broadcast(pthread_cond_t *condition) {
-    return is_signalled(condition, 1) ? 0 : real.broadcast(condition);
-}
-
-int pthread_cond_init(pthread_cond_t *condition, const pthread_condattr_t *attributes) {
-    init();
-    forget_condition(condition);
-    return real.cond_init(condition, attributes);
-}
-
-int pthread_cond_destroy(pthread_cond_t *condition) {
-    init();
-    return forget_condition(condition) ? 0 : real.cond_destroy(condition);
-}
-
-/* ---- C11: in the C library a mtx_t is a pthread_mutex_t, and a cnd_t a pthread_cond_t */
-
-static pthread_mutex_t *mutex_of(mtx_t *mutex) { return (pthread_mutex_t *)mutex; }
-
-static pthread_cond_t *cond_of(cnd_t *condition) { return (pthread_cond_t *)condition; }
-
-static int in_c11(int answer) {
-    switch (answer) {
-    case 0:
-        return thrd_success;
-    case ETIMEDOUT:
-        return thrd_timedout;
-    case EBUSY:
-        return thrd_busy;
-    case ENOMEM:
-        return thrd_nomem;
-    default:
-        return thrd_error;
-    }
-}
-
-int mtx_init(mtx_t *mutex, int type) {
-    init();
-    forget_mutex(mutex);
-    return real.mtx_init(mutex, type);
-}
-
-void mtx_destroy(mtx_t *mutex) {
-    init();
-    forget_mutex(mutex);
-    real.mtx_destroy(mutex);
-}
-
-int mtx_lock(mtx_t *mutex) { return in_c11(lock_by((struct locking){.mutex = mutex_of(mutex), .how = LOCK})); }
-
-int mtx_trylock(mtx_t *mutex) { return in_c11(lock_by((struct locking){.mutex = mutex_of(mutex), .how = TRY})); }
-
-int mtx_timedlock(mtx_t *restrict mutex, const struct timespec *restrict until) {
-    return in_c11(lock_by((struct locking){mutex_of(mutex), TIMED, CLOCK_REALTIME, until}));
-}
-
-int mtx_unlock(mtx_t *mutex) { return in_c11(unlock_by(mutex_of(mutex))); }
-
-int cnd_wait(cnd_t *condition, mtx_t *mutex) {
-    return in_c11(wait_by((struct locking){.mutex = mutex_of(mutex), .how = LOCK}, cond_of(condition), CALLER));
-}
-
-int cnd_timedwait(cnd_t *restrict condition, mtx_t *restrict mutex, const struct timespec *restrict until) {
-    return in_c11(wait_by((struct locking){mutex_of(mutex), TIMED, CLOCK_REALTIME, until}, cond_of(condition), CALLER));
-}
-
-int cnd_signal(cnd_t *condition) { return in_c11(pthread_cond_signal(cond_of(condition))); }
-
-int cnd_broadcast(cnd_t *condition) { return in_c11(pthread_cond_broadcast(cond_of(condition))); }
-
-int cnd_init(cnd_t *condition) {
-    init();
-    forget_condition(condition);
-    return real.cnd_init(condition);
-}
-
-void cnd_destroy(cnd_t *condition) {
-    init();
-    if (!forget_condition(condition)) real.cnd_destroy(condition);
 }
 
 /* ---- Ends and signals of the process */
@@ -333,7 +58,7 @@ int pthread_cancel(pthread_t thread) {
 void _exit(int status) {
     init();
     finish("exit", IS_LAST);
-    end_now(status);
+    end_now(is_in_parent() || has_all() ? status : STATUS_CANT);
 }
 
 void _Exit(int status) { _exit(status); }

@@ -1,12 +1,14 @@
 """What a program relies on, by the kinds under which it was right and wrong. Part of monk-try."""
 from collections import Counter
-from typing import Counter as Counts, Dict, List, NamedTuple, Optional
+from typing import Counter as Counts, Dict, List, NamedTuple, Optional, Sequence
 
-from monk_runs import CANT, HUNG, OK, WRONG, Result
+from monk_runs import CANT, HUNG, LATE, OK, WRONG, Result
 
 KINDS = ["PB", "NPB", "PNB", "NPNB", "PQB", "NPQB", "PIR", "NPIR"]
 # The kinds under which a signal gives the monitor up.
 GIVE_UP = ["PB", "NPB", "PQB", "NPQB"]
+# Rows of runs under Mesa's rule that have names of their own.
+UNASKED, TURNS = "unasked", "turns"
 # How monk-run mends a program (--mend).
 BROADCASTS, WAKES_SLEEPERS = 1, 2
 
@@ -15,6 +17,7 @@ class Cell(NamedTuple):
     kind: str
     wish: str
     results: List[Result]
+    row: str = ""                # UNASKED: some waits wake unasked; TURNS: one thread runs at a time, and it repeats
 
     def count(self, what: str) -> int:
         return sum(result.what == what for result in self.results)
@@ -22,8 +25,31 @@ class Cell(NamedTuple):
     def is_bad(self) -> bool:
         return self.count(WRONG) + self.count(HUNG) > 0
 
+    def with_hung(self) -> "Cell":
+        """The cell whose late runs are known to hang."""
+        return self._replace(results=[it._replace(what=HUNG, why="it runs for ever") if it.what == LATE else it
+                                      for it in self.results])
+
     def first(self, *whats: str) -> Optional[Result]:
         return next((result for result in self.results if result.what in whats), None)
+
+
+class Unasked(NamedTuple):
+    """Runs under Mesa's rule whose waits wake unasked, and the waits at which that makes the program go wrong."""
+    cells: Sequence[Cell] = ()
+    places: Sequence[str] = ()
+
+
+class Repeats(NamedTuple):
+    """A cell with wrong runs, repeated: as it was, and as often with each mend."""
+    kind: str = ""               # nothing: no run went wrong
+    runs: int = 0
+    bad: int = 0                 # of those that were as before
+    mended: Dict[int, bool] = {} # for each mend that was tried, whether all runs were right
+
+    def is_seldom(self) -> bool:
+        """Whether too few went wrong again to learn from what is right."""
+        return 2 * self.bad < self.runs
 
 
 class Lesson(NamedTuple):
@@ -34,13 +60,15 @@ class Lesson(NamedTuple):
 class Facts:
     """What was seen in all runs."""
 
-    def __init__(self, cells: List[Cell], plain: Counts[str], mended: Dict[int, bool], unlocks: List[str],
-                 has_waits: bool) -> None:
-        self.cells, self.plain, self.mended, self.has_waits = cells, plain, mended, has_waits
+    def __init__(self, cells: List[Cell], plain: Counts[str], repeats: Repeats, unlocks: List[str],
+                 has_waits: bool, unasked: Unasked = Unasked()) -> None:
+        self.cells, self.plain, self.repeats, self.mended = cells, plain, repeats, repeats.mended
+        self.has_waits, self.unasked = has_waits, unasked
         self.forgotten_unlocks = unlocks        # who ended inside, in a sentence each
         self.by_kind: Dict[str, Counts[str]] = {}
         for cell in cells:
-            self.by_kind.setdefault(cell.kind, Counter()).update(result.what for result in cell.results)
+            ends = [result.what for result in cell.results if cell.row != TURNS or result.what in (OK, WRONG, HUNG)]
+            self.by_kind.setdefault(cell.kind, Counter()).update(ends)
 
     def having(self, *whats: str) -> List[str]:
         """The kinds under which some run ended in one of these ways, in the order of KINDS."""
@@ -50,13 +78,39 @@ class Facts:
         return self.having(WRONG, HUNG)
 
     def fine(self) -> List[str]:
-        return [kind for kind in self.having(OK) if kind not in self.bad()]
+        return [kind for kind in self.having(OK) if kind not in self.having(WRONG, HUNG, LATE)]
 
 
 def untried(facts: Facts) -> Optional[Lesson]:
     if facts.having(OK, WRONG, HUNG):
         return None
-    return Lesson("not run", "It can't be run under any of these kinds.")
+    return None if facts.having(LATE) else Lesson("not run", "It can't be run under any of these kinds.")
+
+
+def unasked(facts: Facts) -> Optional[Lesson]:
+    """A wait without a loop, which only an unasked wake-up shows."""
+    bad = sum(cell.count(WRONG) + cell.count(HUNG) for cell in facts.unasked.cells)
+    if not bad or "NPNB" in facts.bad():
+        return None
+    places = f" at {', '.join(facts.unasked.places)}" if facts.unasked.places else ""
+    count = sum(len(cell.results) for cell in facts.unasked.cells)
+    return Lesson("unasked", f"Wrong in {bad} of {count} runs in which waits wake unasked, as POSIX and C++ allow, right"
+                  f" under NPNB else: the wait{places} isn't in a loop that tests again. Write `while` for `if`.")
+
+
+def late(facts: Facts) -> Optional[Lesson]:
+    if facts.bad() or not facts.having(LATE):
+        return None
+    return Lesson("late", f"Under {' '.join(facts.having(LATE))} it still ran at the limit, also alone and with a longer"
+                  " one. It is slow there (give more --seconds), or it looks again and again for what doesn't come"
+                  " true, as with waits that have a time limit.")
+
+
+def nothing(facts: Facts) -> Optional[Lesson]:
+    if facts.bad() or facts.has_waits or facts.having(LATE):
+        return None
+    return Lesson("nothing", f"Right under {' '.join(facts.fine())}. But no thread waited in a monitor, so nothing was"
+                  " tried.")
 
 
 def right(facts: Facts) -> Optional[Lesson]:
@@ -65,8 +119,8 @@ def right(facts: Facts) -> Optional[Lesson]:
     relies = ": in these runs it relied neither on who goes on at a signal nor on who comes in first."
     if facts.plain[OK] < sum(facts.plain.values()):
         relies = ", though plain runs go wrong: the fault isn't one of waiting and signalling."
-    if not facts.has_waits:
-        relies += " But no thread waited in a monitor, so nothing was tried."
+    if facts.unasked.cells:
+        relies += " It is right too where waits wake unasked."
     return Lesson("right", f"Right under {' '.join(facts.fine())}{relies}")
 
 
@@ -74,6 +128,17 @@ def unlock(facts: Facts) -> Optional[Lesson]:
     if not facts.forgotten_unlocks:
         return None
     return Lesson("unlock", f"{facts.forgotten_unlocks[0]}: a return without an unlock.")
+
+
+def seldom(facts: Facts) -> Optional[Lesson]:
+    """Runs that went wrong, and then were right as often: a mend would have seemed to help."""
+    again = facts.repeats
+    if not again.kind or not again.is_seldom():
+        return None
+    bad, runs = sum(facts.by_kind[again.kind][what] for what in (WRONG, HUNG)), sum(facts.by_kind[again.kind].values())
+    return Lesson("seldom", f"Wrong in {bad} of {runs} runs under {again.kind}, and in {again.bad} of {again.runs} when"
+                  " these were repeated: too seldom to say why. Repeat it with a greater -n, or give --check if right"
+                  " outputs differ.")
 
 
 USE_BROADCAST = ("It is right when each signal is made a broadcast: a signal wakes a thread that can't use it."
@@ -145,11 +210,15 @@ def elsewhere(facts: Facts) -> Optional[Lesson]:
                   " or the fault isn't one of waiting.")
 
 
-FINDERS = (untried, right, unlock, mesa, hand_over, broadcast, forgotten, deadlock, hoare, elsewhere)
+FINDERS = (untried, unasked, late, nothing, right, unlock, seldom, mesa, hand_over, broadcast, forgotten, deadlock,
+           hoare, elsewhere)
 
 
 def lesson(facts: Facts) -> Lesson:
     name, text = next(filter(None, (find(facts) for find in FINDERS)))
-    cant = facts.having(CANT)
-    signals = " (Not run to its end under {}: the program does what these kinds don't have.)"
-    return Lesson(name, text + (signals.format(" ".join(cant)) if cant and name != "not run" else ""))
+    cant, slow = facts.having(CANT), facts.having(LATE)
+    if cant and name != "not run":
+        text += f" (Not run to its end under {' '.join(cant)}: the program does what these kinds don't have.)"
+    if slow and name != "late":
+        text += f" (Late under {' '.join(slow)}: some runs still ran at the limit; --seconds raises it.)"
+    return Lesson(name, text)

@@ -2,7 +2,7 @@
 woken thread may rely on too much. Part of monk-try."""
 import os
 import subprocess
-from typing import Dict, List, NamedTuple, Optional, Tuple
+from typing import Dict, List, NamedTuple, Optional, Set, Tuple
 
 from monk_runs import reports
 
@@ -42,15 +42,29 @@ def name_of(place: str) -> str:
 
 
 def line_of(place: str) -> str:
-    """File and line of the call before PATH+0xOFFSET, or of its caller, if the call is in a header of the system; the
-    place itself if the program doesn't say."""
+    """File and line of the call before PATH+0xOFFSET, or of its caller, if the call is in a header of the system; file
+    and function of a program without lines; the place itself if the program doesn't say."""
     path, plus, offset = place.rpartition("+0x")
     if not plus:
         return place
     rows = said(["addr2line", "-i", "-e", path, hex(int(offset, 16) - 1)]).splitlines()
     lines = [row.split(" ")[0] for row in rows if row and not row.startswith("?")]
     lines.sort(key=lambda line: line.startswith("/usr/include/"))
-    return os.path.basename(lines[0]) if lines else place
+    if not lines:
+        return place
+    file, _, number = os.path.basename(lines[0]).rpartition(":")
+    return f"{file}:{number}" if number != "?" else f"{file}, in {functions_at(place).partition(chr(10))[0]}"
+
+
+_functions: Dict[str, str] = {}
+
+
+def functions_at(place: str) -> str:
+    """The functions at the call before PATH+0xOFFSET, with those into which they are inlined."""
+    path, plus, offset = place.rpartition("+0x")
+    if plus and place not in _functions:
+        _functions[place] = said(["addr2line", "-f", "-C", "-i", "-e", path, hex(int(offset, 16) - 1)])
+    return _functions.get(place, "")
 
 
 class Names(NamedTuple):
@@ -88,7 +102,35 @@ def who_waits(folder: str) -> List[str]:
     for rows in reports(folder).values():
         names = names_in(rows)
         told += [sentence(row, names) for row in rows if row[0] == "seat" and row[5] != "ghost"]
+        seated = {row[4] for row in rows if row[0] == "seat" and row[5] != "ghost"}
+        told += [f"thread {row[1]} {' '.join(row[3:])} at {line_of(row[2])}" for row in rows
+                 if row[0] == "does" and row[1] not in seated]
     return told
+
+
+CLOCKS = {"CLOCK_REALTIME": "CLOCK_MONOTONIC", "CLOCK_MONOTONIC": "CLOCK_REALTIME"}
+
+
+def remark_of(words: List[str]) -> str:
+    """The sentence for what follows `remark` in a report."""
+    if words[0] == "mutexes":
+        condition, first, second = name_of(words[1]), *sorted(map(name_of, words[2:4]))
+        return f"threads wait on {condition} with {first} and with {second} at once, which POSIX leaves undefined"
+    if words[0] == "unlock":
+        return (f"{name_of(words[1])} is unlocked at {line_of(words[2])} by a thread that hasn't locked it, while another"
+                " has, which POSIX leaves undefined")
+    return (f"the wait at {line_of(words[1])} goes by {CLOCKS[words[2]]}, but its limit was read from {words[2]}: it"
+            f" runs out {' '.join(words[3:])}")
+
+
+def remarks_in(folder: str) -> List[str]:
+    """What the layer remarked, each as its words."""
+    return [" ".join(row[1:]) for rows in reports(folder).values() for row in rows if row[0] == "remark"]
+
+
+def woken_in(folder: str) -> List[str]:
+    """The places of waits that woke unasked."""
+    return [row[1] for rows in reports(folder).values() for row in rows if row[0] == "woken"]
 
 
 def last_volumes(folder: str) -> Dict[int, int]:
@@ -120,42 +162,76 @@ class Suspect(NamedTuple):
     steps: int           # how many such steps there are
 
 
+def waits_on(row: List[str]) -> str:
+    """The condition of a `wait` or `signal_wait`."""
+    return row[-1] if row[0] == "signal_wait" else row[2]
+
+
 class Waits:
     """While a history is read: who waits on what, and since when those who were signalled may come in."""
 
     def __init__(self) -> None:
         self.queues: Dict[str, List[str]] = {}
-        self.served: Dict[str, int] = {}
+        self.served: Dict[str, Tuple[int, str]] = {}     # the step of the signal, and the condition
 
     def read(self, step: int, row: List[str]) -> None:
         verb = row[0]
         if verb in ("signal", "signal_leave", "signal_wait") and self.queues.get(row[2]):
-            self.served[self.queues[row[2]].pop(0)] = step
+            self.served[self.queues[row[2]].pop(0)] = (step, row[2])
         elif verb == "broadcast":
-            self.served.update({seat: step for seat in self.queues.pop(row[2], [])})
+            self.served.update({seat: (step, row[2]) for seat in self.queues.pop(row[2], [])})
         if verb in ("wait", "signal_wait"):
-            self.queues.setdefault(row[-1] if verb == "signal_wait" else row[2], []).append(row[1])
+            self.queues.setdefault(waits_on(row), []).append(row[1])
+
+
+def waiters_of(rows: List[List[str]]) -> Dict[str, Set[str]]:
+    """For each condition the seats that wait on it somewhere."""
+    found: Dict[str, Set[str]] = {}
+    for row in rows:
+        if row[0] in ("wait", "signal_wait"):
+            found.setdefault(waits_on(row), set()).add(row[1])
+    return found
 
 
 def came_between(rows: List[List[str]], since: int, step: int, seat: str) -> List[str]:
     return [row[1] for row in rows[since + 1:step] if row[0] == "enter" and row[1] != seat]
 
 
-def goes_on(rows: List[List[str]], step: int, seat: str) -> bool:
-    return next((row[0] for row in rows[step + 1:] if row[1] == seat), "wait") != "wait"
+def next_of(rows: List[List[str]], step: int, seat: str) -> List[str]:
+    return next((row for row in rows[step + 1:] if row[1] == seat), ["wait", seat, ""])
 
 
-def suspect(path: str) -> Optional[Suspect]:
-    """The first step at which a thread comes back from a wait though another came in after its signal, and goes on
-    without waiting again. A hint: right programs have such steps too."""
-    with open(path) as file:
-        rows = [line.split() for line in file.read().splitlines()[1:]]
-    waits, found = Waits(), []
+class Return(NamedTuple):
+    """A seat that comes back from its wait on a condition, though others came in after its signal."""
+    suspect: Suspect
+    condition: str
+    waits_again: bool
+    has_rival: bool      # one of those also waits on this condition somewhere, and so may take the same
+
+
+def overtaken(rows: List[List[str]]) -> List[Return]:
+    waits, rivals, found = Waits(), waiters_of(rows), []
     for step, row in enumerate(rows):
         waits.read(step, row)
         if row[0] != "resume" or row[1] not in waits.served:
             continue
-        came = came_between(rows, waits.served.pop(row[1]), step, row[1])
-        if came and goes_on(rows, step, row[1]):
-            found.append((step + 1, int(row[1]), int(came[-1])))
-    return Suspect(*found[0], steps=len(found)) if found else None
+        since, condition = waits.served.pop(row[1])
+        came = came_between(rows, since, step, row[1])
+        if came:
+            place = Suspect(step + 1, int(row[1]), int(came[-1]), 1)
+            is_again = next_of(rows, step, row[1])[0] == "wait"
+            found.append(Return(place, condition, is_again, bool(set(came) & rivals[condition])))
+    return found
+
+
+def suspect(path: str) -> Optional[Suspect]:
+    """The first step at which a thread comes back from a wait though another came in after its signal, and goes on
+    without waiting again, on a condition where nobody ever waits again: there the wait may have no loop. If some were
+    overtaken by a rival, only those count. A hint: right programs may have such steps too."""
+    with open(path) as file:
+        rows = [line.split() for line in file.read().splitlines()[1:]]
+    found = overtaken(rows)
+    with_loop = {it.condition for it in found if it.waits_again}
+    found = [it for it in found if it.condition not in with_loop]
+    found = [it for it in found if it.has_rival] or found
+    return found[0].suspect._replace(steps=len(found)) if found else None

@@ -4,21 +4,26 @@ import re
 import signal
 import subprocess
 import threading
+import time
 from collections import Counter
 from concurrent.futures import ThreadPoolExecutor
 from typing import Counter as Counts, Dict, List, NamedTuple, Optional, Set, Tuple
 
 HERE = os.path.dirname(os.path.realpath(__file__))
-OK, WRONG, HUNG, CANT = "ok", "wrong", "hung", "n/a"
-STATUS_HUNG, STATUS_CANT = 124, 125
+OK, WRONG, HUNG, LATE, CANT = "ok", "wrong", "hung", "late", "n/a"
+STATUS_CANT = 125
+# Of a run that was ended here. No program ends with it.
+STATUS_LATE = 1000
 # The seconds that a run may take beyond its time limit, for its histories.
 TO_WRITE = 10
 FEWEST_PLAIN, LONGEST_PLAIN_SECONDS = 3, 5
+# The limit of a plain run that is repeated alone.
+PATIENT_PLAIN_SECONDS = 60
 BUDGET = "65536"
 
 
 class Result(NamedTuple):
-    what: str            # OK, WRONG, HUNG, CANT
+    what: str            # OK, WRONG, HUNG, LATE, CANT
     why: str
     folder: str          # with `history/`, and `report` of each process
 
@@ -40,6 +45,7 @@ class Ended(NamedTuple):
     status: int
     output: bytes
     errors: str
+    seconds: float
 
 
 def monk_run() -> str:
@@ -58,9 +64,10 @@ _is_over = threading.Event()
 
 
 def run(words: List[str], seconds: float) -> Ended:
-    """Runs it in a session of its own, and leaves no process of it. The status is STATUS_HUNG if the time is over."""
+    """Runs it in a session of its own, and leaves no process of it. The status is STATUS_LATE if the time is over."""
     if _is_over.is_set():
-        return Ended(STATUS_HUNG, b"", "")
+        return Ended(STATUS_LATE, b"", "", 0)
+    began = time.monotonic()
     process = subprocess.Popen(words, stdin=subprocess.DEVNULL, stdout=subprocess.PIPE, stderr=subprocess.PIPE,
                                start_new_session=True)
     _sessions.add(process.pid)
@@ -70,10 +77,10 @@ def run(words: List[str], seconds: float) -> Ended:
     except subprocess.TimeoutExpired:
         end_session(process.pid)
         output, errors = process.communicate()
-        status = STATUS_HUNG
+        status = STATUS_LATE
     end_session(process.pid)
     _sessions.discard(process.pid)
-    return Ended(status, output, errors.decode(errors="replace"))
+    return Ended(status, output, errors.decode(errors="replace"), time.monotonic() - began)
 
 
 def end_session(leader: int) -> None:
@@ -101,8 +108,12 @@ def judged(ended: Ended, folder: str, expected: Expected) -> Result:
     ends = {rows[0][1] for rows in reports(folder).values() if rows}    # also of a child, whose status a pipe hides
     if refusal and (ended.status == STATUS_CANT or "cant" in ends):
         return Result(CANT, refusal[1], folder)
-    if ended.status == STATUS_HUNG or ends & {"hung", "late"}:
+    if folder and not ends and ended.status != STATUS_LATE:
+        return Result(CANT, "the layer wasn't loaded into the program, or couldn't write its report", folder)
+    if "hung" in ends:
         return Result(HUNG, "it hangs", folder)
+    if "late" in ends or ended.status == STATUS_LATE:
+        return Result(LATE, "it still ran at the limit", folder)
     if expected.check is not None:
         what = OK if is_right_by(expected.check, ended) else WRONG
         return Result(what, "the check says so", folder)
@@ -144,10 +155,6 @@ def has_waits(folder: str) -> bool:
     return False
 
 
-def usual(runs: List[Ended]) -> Ended:
-    return Counter(runs).most_common(1)[0][0] if runs else Ended(0, b"", "")
-
-
 def expected_of(runs: List[Ended], status: int, expect: Optional[str], check: Optional[str]) -> Expected:
     """The output that right runs have in common, unless a file says it."""
     if expect:
@@ -157,10 +164,17 @@ def expected_of(runs: List[Ended], status: int, expect: Optional[str], check: Op
     return Expected(status, outputs.pop() if len(outputs) == 1 else None, check)
 
 
-def try_plain(words: List[str], runs: int, seconds: float, jobs: int) -> List[Ended]:
-    limit = min(seconds, LONGEST_PLAIN_SECONDS)
+def try_plain(words: List[str], runs: int, seconds: Optional[float], jobs: int) -> List[Ended]:
+    """Plain runs. Those that are late are repeated alone, with a longer limit, until one is late again."""
+    patient = seconds or PATIENT_PLAIN_SECONDS
+    limit = min(patient, LONGEST_PLAIN_SECONDS)
     with ThreadPoolExecutor(jobs) as pool:
-        return list(pool.map(lambda _: run(words, limit), range(max(FEWEST_PLAIN, runs))))
+        ended = list(pool.map(lambda _: run(words, limit), range(max(FEWEST_PLAIN, runs))))
+    for number, it in enumerate(ended):
+        if it.status == STATUS_LATE and limit < patient:
+            ended[number] = run(words, patient)
+            patient = limit if ended[number].status == STATUS_LATE else patient
+    return ended
 
 
 def count_plain(runs: List[Ended], expected: Expected) -> Counts[str]:

@@ -1,18 +1,19 @@
 """Mutants of the layer: wrong changes of a line, each of which the tests have to find."""
 import os
 import shutil
-from typing import Dict, NamedTuple
+from typing import Dict, NamedTuple, Tuple
 
 
 class Mutant(NamedTuple):
     file: str
     old: str
     new: str
+    tests: Tuple[str, ...] = ()      # those that have to find it; nothing: the sound programs
 
 
 MUTANTS: Dict[str, Mutant] = {
     "doesn't look again once it has the mutex": Mutant(
-        "libmonk_pthread.c",
+        "layer_calls.h",
         "    if (m) return real.unlock(it->mutex), lock_monitor(m, it);\n",
         "    (void)m;\n"),
     "a ghost swallows a signal": Mutant(
@@ -67,6 +68,106 @@ MUTANTS: Dict[str, Mutant] = {
         "layer_ends.h",
         "lock_for_child(m);",
         "(void)lock_for_child;"),
+    "no wait wakes unasked": Mutant(
+        "layer_shakes.h",
+        "    note_place(woken, t->from);\n    return 1;\n",
+        "    note_place(woken, t->from);\n    return 0;\n",
+        ("unasked",)),
+    "doesn't say which waits woke unasked": Mutant(
+        "layer_shakes.h",
+        "    note_place(woken, t->from);\n",
+        "    (void)woken;\n",
+        ("unasked",)),
+    "doesn't remark two mutexes": Mutant(
+        "layer_waits.h",
+        "    look_at_mutexes(c, m);\n",
+        "    (void)look_at_mutexes;\n",
+        ("remarked",)),
+    "remarks each unlock": Mutant(
+        "layer_remarks.h",
+        "    if (!owner || owner == t || owner->id == t->id) return;\n",
+        "    if (!owner || !t) return;\n",
+        ("remarked",)),
+    "looks at the wrong clock": Mutant(
+        "layer_remarks.h",
+        "clock == CLOCK_MONOTONIC ? CLOCK_REALTIME : CLOCK_MONOTONIC;",
+        "clock == CLOCK_MONOTONIC ? CLOCK_MONOTONIC : CLOCK_REALTIME;",
+        ("remarked",)),
+    "doesn't leave the mutex of a wait alone": Mutant(
+        "layer_calls.h",
+        "    if (!m && !(asked.left_alone && is_named(from)))",
+        "    if (!m)",
+        ("left_alone",)),
+    "makes what may be left alone a monitor": Mutant(
+        "layer_visits.h",
+        "serials >= asked.eager || may_be_left(mutex)) return;",
+        "serials >= asked.eager || (0 && may_be_left(mutex))) return;",
+        ("left_alone",)),
+    "the watcher keeps the process": Mutant(
+        "layer_ends.h",
+        "        if (is_alone()) exit(0);",
+        "        if (0 && is_alone()) exit(0);",
+        ("first_ends",)),
+    "writes over what stands there": Mutant(
+        "layer_files.h",
+        "    open_history(&file, m, volume, O_EXCL);\n",
+        "    open_history(&file, m, volume, O_TRUNC);\n",
+        ("outputs",)),
+    "a file's limit ends the program": Mutant(
+        "layer_outputs.h",
+        "    pthread_sigmask(SIG_BLOCK, &limit, &before);\n",
+        "    pthread_sigmask(SIG_BLOCK, NULL, &before);\n",
+        ("outputs",)),
+    "lost files don't change the status": Mutant(
+        "libmonk_pthread.c",
+        "    if (is_in_parent() || has_all()) return;\n",
+        "    if (is_in_parent() || has_all() || 1) return;\n",
+        ("outputs",)),
+    "a thread goes on without its turn": Mutant(
+        "layer_turns.h",
+        "    while (!t->turn.has && !turns.is_over) syscall(",
+        "    while (0 && !t->turn.has && !turns.is_over) syscall(",
+        ("repeated",)),
+    "a walk isn't by the seed": Mutant(
+        "layer_schedule.h",
+        "    if (!*dice) *dice = asked.seed * 0x9e3779b97f4a7c15u",
+        "    if (!*dice) *dice = (uint64_t)getpid() * 0x9e3779b97f4a7c15u",
+        ("repeated",)),
+    "keeps the turn as it joins": Mutant(
+        "layer_elsewhere.h",
+        "    if (other->turn.state != OVER) sleep_by_turns(me, has_left, other, NEVER);\n",
+        "    (void)has_left;\n",
+        ("met",)),
+    "keeps the turn at a barrier": Mutant(
+        "layer_elsewhere.h",
+        "    if (!is_by_turns(me)) return real.barrier_wait(barrier);\n",
+        "    if (!is_by_turns(me) || 1) return real.barrier_wait(barrier);\n",
+        ("met",)),
+    "doesn't count locks of read-write locks": Mutant(
+        "layer_elsewhere.h",
+        "    count_elsewhere(RWLOCKS, answer == EBUSY);\n",
+        "",
+        ("met",)),
+    "doesn't take a turn away": Mutant(
+        "layer_turns.h",
+        "    if (!has_others(t)) return;\n",
+        "    if (!has_others(t) || 1) return;\n",
+        ("lost",)),
+    "plays no schedule": Mutant(
+        "layer_schedule.h",
+        "    if (asked.turns == BY_SCHEDULE && self) next = by_schedule(self, able, count);\n",
+        "    (void)by_schedule;\n",
+        ("played",)),
+    "sleepers stay as a monitor steps down": Mutant(
+        "layer_descents.h",
+        "    monk_stop(h->monitor);\n",
+        "    (void)h;\n",
+        ("descents",)),
+    "a mutex that stepped down steps down again": Mutant(
+        "layer_visits.h",
+        "    return is_lowered(mutex) || (asked.left_alone",
+        "    return (0 && is_lowered(mutex)) || (asked.left_alone",
+        ("descents",)),
 }
 
 
