@@ -91,6 +91,23 @@ class Scenes(unittest.TestCase):
         self.assertEqual(play(staged, "NPNB", run.schedule), run)
         self.assertEqual(run.data, {"plainbuffer.items": "[]"})
 
+    def test_a_second_staged_monitor(self) -> None:
+        """A scene has one monitor, and a second one is refused by the line that comes to it."""
+        def scene() -> List[Any]:
+            first, second = monk.Staged(), monk.Staged()
+            item = second.condition("item", lambda: True)
+            def both() -> None:
+                with first, second:
+                    pass
+            def notifier() -> None:
+                with first:
+                    item.notify()
+            return [both, notifier]
+        line = scene.__code__.co_firstlineno
+        second = r"this is a second Staged\(\), and a scene has one monitor"
+        self.refused(rf"^both, line {line + 4}: {second}", lambda: compare(scene))
+        self.refused(rf"^notifier, line {line + 8}: {second}", lambda: play(scene, "PB", "notifier notifier"))
+
     def test_plain_functions_that_call_generators(self) -> None:
         def scene() -> List[Any]:
             def both(call: Any) -> Any:

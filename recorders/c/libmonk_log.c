@@ -19,6 +19,9 @@
 #define _GNU_SOURCE
 #include "monk_ends.h"
 
+/* The types of a mutex, below what else its kind says. */
+enum { EVERY_TYPE = 128 };
+
 /* ---- who holds what */
 
 static inline void hold(struct monitor *m, struct thread *thread, int times) {
@@ -47,6 +50,15 @@ static inline int holds(struct thread *thread, struct monitor *m) {
     return thread && m && atomic_load_explicit(&m->owner, memory_order_relaxed) == thread;
 }
 
+/* A thread ended while it held a robust mutex, which another has now. (Nobody looks at what the dead one holds.) */
+SELDOM static void leave_for_dead(struct monitor *m, unsigned site) {
+    struct thread *dead = atomic_load_explicit(&m->owner, memory_order_relaxed);
+    if (!dead)
+        return;
+    put(present_log(m), dead, LEAVE, 0, site);
+    atomic_store_explicit(&m->owner, 0, memory_order_relaxed);
+}
+
 /* A mutex that its thread has locked already is entered only once. */
 static inline int entered(const void *mutex, int result, unsigned site) {
     if (result && result != EOWNERDEAD)
@@ -55,6 +67,8 @@ static inline int entered(const void *mutex, int result, unsigned site) {
     struct thread *thread = self();
     if (!m || !thread)
         return result;
+    if (result)
+        leave_for_dead(m, site);
     if (holds(thread, m)) {
         m->times++;
         return result;
@@ -68,13 +82,35 @@ static inline int entered(const void *mutex, int result, unsigned site) {
     return result;
 }
 
+/* Whether the system lets any thread unlock it. */
+static int is_plain(const pthread_mutex_t *mutex) {
+    int type = mutex->__data.__kind % EVERY_TYPE;
+    return type == PTHREAD_MUTEX_TIMED_NP || type == PTHREAD_MUTEX_ADAPTIVE_NP;
+}
+
+/* The mutex is another thread's, so this one's line is noted as a signal from outside is: the owner may write a line
+   meanwhile. From now on nobody holds it. */
+SELDOM static void leave_of_another(struct monitor *m, const void *mutex, unsigned site) {
+    struct thread *thread = self();
+    if (!m || !thread || !atomic_load(&m->owner) || !is_plain(mutex))
+        return;
+    struct log *log = log_beside(m);
+    if (log)
+        note_leave(log, thread, site);
+    atomic_store(&m->owner, 0);
+}
+
 /* Mostly it is the mutex that was locked last, which needn't be looked for. */
 static inline void leave(const void *mutex, unsigned site) {
     struct thread *thread = me;
     struct monitor *m = thread && thread->depth ? thread->held[thread->depth - 1] : 0;
     if (!holds(thread, m) || m->known.address != mutex)
         m = monitor_of(mutex, site);
-    if (!holds(thread, m) || --m->times > 0)
+    if (!holds(thread, m)) {
+        leave_of_another(m, mutex, site);
+        return;
+    }
+    if (--m->times > 0)
         return;
     put(present_log(m), thread, LEAVE, 0, site);
     let_go(m, thread);
@@ -260,6 +296,8 @@ static int wait_by(struct wait it) {
     pthread_cleanup_pop(0);
     int is_c11 = it.form == OF_C11 || it.form == TIMED_OF_C11;
     int is_late = is_c11 ? result == thrd_timedout : result == ETIMEDOUT;
+    if (result == EOWNERDEAD && it.condition)
+        leave_for_dead(it.monitor, it.site);
     end_wait(&it, is_late ? LAPSE : RESUME, result && !is_late && (is_c11 || result != EOWNERDEAD));
     return result;
 }

@@ -17,7 +17,8 @@ MOST_UNSIGNED, MOST_LONG = 2**32 - 1, 2 ** (8 * ctypes.sizeof(ctypes.c_long) - 1
 SYSTEMS_LIBRARY = "libmonk.so.1"
 # Calls with a pointer, and those with a pointer and the number of a condition or a flag.
 OF_A_POINTER = ("stop", "close", "free", "abandon", "place", "arrive", "poll", "leave")
-OF_A_NUMBER = ("start_wait", "start_signal", "start_wait_until", "broadcast", "signal_leave", "waiting")
+OF_A_NUMBER = ("start_wait", "start_signal", "start_wait_until", "broadcast", "signal_leave", "waiting",
+               "finish")
 
 
 class Shape(ctypes.Structure):

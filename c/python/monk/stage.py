@@ -63,6 +63,8 @@ class Stage:
         self.tests: Dict[str, Test] = {}
         # For each condition the last signal that found nobody: whose, and at which event.
         self.lost: Dict[str, Tuple[str, int]] = {}
+        # The monitor of plain functions.
+        self.staged: Optional[object] = None
         self.run, self.shared = Run(way.kind, seats, conditions=names), Shared(scene.programs)
         self.make: Dict[str, Callable[[Actor, Call], None]] = {
             "enter": self._enter, "leave": self._leave, "wait": self._wait, "signal": self._signal,
@@ -126,6 +128,7 @@ class Stage:
     def _move(self, actor: Actor, wish: str) -> None:
         call = actor.next
         assert call is not None
+        self._look_at_monitor(actor)
         self.run.moves.append(actor.name + (f"/{wish}" if wish else ""))
         if wish:
             actor.seat.wish(wish)
@@ -141,6 +144,14 @@ class Stage:
         except MonkError as fault:
             raise Over(WRONG, actor.name, str(fault)) from None
         self._go_on()
+
+    def _look_at_monitor(self, actor: Actor) -> None:
+        """A scene has one monitor: its programs don't name it, unless they are plain functions."""
+        monitor = getattr(actor.steps, "monitor", None)
+        self.staged = self.staged or monitor
+        if monitor is not self.staged and monitor is not None:
+            raise OutOfRange(f"{actor.name}, line {actor.steps.line}: this is a second Staged(), and a scene has one "
+                             "monitor: give the same to all objects")
 
     def _go_on(self) -> None:
         """The seat that has the turn comes in."""
