@@ -296,7 +296,7 @@ class Endings(unittest.TestCase):
             monitor.give()
             other = monitor.seat()
             monitor.acquire()
-            self.assertEqual((monitor.here.number, other.number), (1, 0))
+            self.assertEqual((monitor.here.number, other.number), (0, 1))      # the one that has left has fewer events
         self.assertEqual(monitor.here.place, "outside")
 
     def test_a_stack_of_exits(self) -> None:

@@ -37,11 +37,6 @@ def _is_left(answer: int, _: object, words: Tuple[Any, ...]) -> None:
         words[0].not_left(answer)
 
 
-def _held(number: int) -> int:
-    """The number, if C can hold it; else one that is out of range too."""
-    return number if 0 <= number <= MOST_UNSIGNED else MOST_UNSIGNED
-
-
 leave_visit = leave_before(_is_left)
 # At the end of its `with` a seat is given back, also if it has left before.
 _leave_seat = leave_before(lambda _answer, _call, words: words[0].give())
@@ -85,7 +80,7 @@ class Seat(ctypes.c_void_p):
         """The library's answer to a call about conditions or flags. The library knows which there are, but C can't
         hold every number."""
         at = self._pointer()
-        answer = ask(at, *map(_held, numbers))
+        answer = ask(at, *numbers) if all(0 <= number <= MOST_UNSIGNED for number in numbers) else RANGE
         if answer == RANGE:
             wrong = next((number for number in numbers if not 0 <= number < among.count), numbers[0])
             raise has_none_such(f"{call}({wrong})", among.what + "s", among.count)
@@ -199,7 +194,7 @@ class Seat(ctypes.c_void_p):
 
     def signal(self, condition: int) -> None:
         """Serves the first who waits there. Under a blocking kind that seat goes on first."""
-        place: int = _start_signal(self, _held(condition))
+        place: int = _start_signal(self, condition) if 0 <= condition <= MOST_UNSIGNED else RANGE
         if place != INSIDE:
             self._go_on_signalling(place, condition)
 
