@@ -1,8 +1,8 @@
-/* Signals by threads that don't hold the mutex, and unlocks. Part of libmonk_log.c. Such a signal has to come after the
-   `wait` of a thread that it serves and before its `resume`. So the condition's order is held while the signal is noted and
-   sent, and while these lines are written. The signal is no line yet, because other threads write lines meanwhile
-   without any lock. It is noted with its place, and gets its seat when the log is written. So a thread that is never
-   inside takes no seat from another. */
+/* Signals by threads that don't hold the mutex, and unlocks. Part of libmonk_log.c. Such a signal has to come after
+   the `wait` of a thread that it serves and before its `resume`. So the condition's order is held while the signal is
+   noted and sent, and while these lines are written. The signal is no line yet, because other threads write lines
+   meanwhile without any lock. It is noted with its place, and gets its seat when the log is written. So a thread that
+   is never inside takes no seat from another. */
 #ifndef MONK_OUTSIDE_H
 #define MONK_OUTSIDE_H
 
