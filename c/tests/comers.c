@@ -1,7 +1,7 @@
 /* 10,001 threads come one after the other to a monitor of 8 seats, under each kind. Each makes two visits, but the
- * first and the last make one. They use up the whole budget of all seats, and none is refused before: it gets the seat with
- * most events left. (By the lowest seat that has events for one visit, a second visit is refused while other seats are
- * fresh.) */
+ * first and the last make one. They use up the whole budget of all seats, and none is refused before: it gets the seat
+ * with most events left. (By the lowest seat that has events for one visit, a second visit is refused while other
+ * seats are fresh.) */
 #include "common.h"
 #include <pthread.h>
 
