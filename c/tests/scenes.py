@@ -194,12 +194,14 @@ class Scenes(unittest.TestCase):
             (alone(enter()), "PB", r"one: ends inside: there is no leave \(line \d+: its beginning\)"),
             (alone(enter(), 7), "PB",
              r"one: yields 7 in line \d+, which is no call: write `yield enter\(\)` and the like"),
-            (alone(leave()), "PB", r"one: leave by seat 0 \(one\): the seat is outside: it never came in, or has left"),
+            (alone(leave()), "PB", r"one: line \d+: `leave` outside: `yield enter\(\)` comes first$"),
+            (alone(wait("gate")), "PB", r"one: line \d+: `wait` outside: `yield enter\(\)` comes first$"),
+            (alone(enter(), enter()), "PB", r"one: line \d+: `enter` inside: `yield leave\(\)` comes first$"),
             (alone(enter(), signal_all("gate"), leave()), "PB", r"one: PB has no signal_all \(gate\)"),
             (alone(enter(), wait("gate"), leave()), "PIS",
              r"one: PIS has no signals: write wait\('gate', lambda: ..\) in line \d+"),
             (alone(enter(), signal("a"), signal("a")), "PIR",
-             "one: signal_leave.a. by seat 0 .one.: the seat is outside, since its signal"),
+             r"one: line \d+: `signal` outside: its signal was the way out under PIR$"),
         ):
             with self.subTest(words):
                 self.assertRegex(play(scene, kind).fault, f"^{words}")

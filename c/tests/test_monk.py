@@ -1,6 +1,6 @@
 """The library for Python: every kind, seats that come back, exceptions inside a visit, a run that hangs, many threads,
 threads that end inside, numbers out of range, the child of a fork, looks at a run (looks.py), what it says
-(telling.py), misuse (misuse.py), interrupts (interrupts.py) and scenes (scenes.py).
+(telling.py), misuse (misuse.py), interrupts (interrupts.py) scenes (scenes.py, slips.py).
 
 MONK_LIBRARY names the library that is tested, and MONK the program that audits."""
 
@@ -24,9 +24,10 @@ from interrupts import Interrupts  # noqa: E402
 from looks import Looks, Programs  # noqa: E402
 from misuse import Misuse  # noqa: E402
 from scenes import Scenes  # noqa: E402
+from slips import Slips  # noqa: E402
 from telling import Telling  # noqa: E402
 
-__all__ = ["Interrupts", "Looks", "Misuse", "Programs", "Scenes", "Telling"]
+__all__ = ["Interrupts", "Looks", "Misuse", "Programs", "Scenes", "Slips", "Telling"]
 AUTOMATIC = ("PIS", "NPIS")
 IMMEDIATE = ("PIR", "NPIR")
 NON_BLOCKING = ("PNB", "NPNB")
