@@ -1,4 +1,4 @@
-# make, make install [DESTDIR=..] [PREFIX=..], make uninstall, make dist, make deb: what is built is put where others find it. ./build
+# make, make install [DESTDIR=..] [PREFIX=..], make uninstall, make dist, make lab, make deb: what is built is put where others find it. ./build
 # proves and builds the program, and `make -C c proved` the library. Where that hasn't been done both are built of the
 # same sources unproved, and the file BUILD-INFO says so.
 PREFIX ?= /usr/local
@@ -72,7 +72,10 @@ $(OUT)/BUILD-INFO: library FORCE | $(OUT)
 
 dist: program | $(OUT)
 	dist/pack tar $(OUT)/monk-$(VERSION)-x86_64-linux '$(MAKE) -s install PROGRAM=$(PROGRAM)'
+# The lab of two hours for students: it runs by its own page, and has no answers.
+lab: program | $(OUT)
+	dist/pack lab $(OUT)/monk-lab-$(VERSION) '$(MAKE) -s install PROGRAM=$(PROGRAM)'
 deb: program | $(OUT)
 	dist/pack deb $(OUT)/monk_$(VERSION)_amd64.deb '$(MAKE) -s install PROGRAM=$(PROGRAM)' $(VERSION)
 FORCE:
-.PHONY: all asked install laid_out uninstall program library writable dist deb FORCE
+.PHONY: all asked install laid_out uninstall program library writable dist lab deb FORCE
