@@ -25,13 +25,16 @@ OTHERS = (os.path.dirname(os.path.abspath(__file__)) + os.sep, sysconfig.get_pat
 class Over(Exception):
     """The run is over: its outcome, whose fault that is, and why."""
 
-    def __init__(self, outcome: str, who: str, why: str, is_misuse: bool = False) -> None:
+    def __init__(self, outcome: str, who: str, why: str, is_misuse: bool = False, is_endless: bool = False) -> None:
         super().__init__(why)
         self.outcome, self.who, self.why, self.is_misuse = outcome, who, why, is_misuse
+        # No other order has to be tried.
+        self.is_endless = is_endless
 
 
 class Steps:
     """The calls of a generator."""
+    first = {"outside": "`yield enter()` comes first", "inside": "`yield leave()` comes first"}
 
     def __init__(self, program: Program) -> None:
         self.generator: Any = program()
@@ -91,6 +94,9 @@ class Actor:
             return self._end()
         except MemoryError:
             raise                               # each other order would fill the memory again
+        except Over as over:                    # of a program in another language
+            over.who = self.name
+            raise
         except Exception as fault:
             self.unyielded += calls.made
             forgotten = self.forgotten()
@@ -115,12 +121,16 @@ class Actor:
             raise Over(WRONG, self.name, self.forgotten(), is_misuse=True)
         if self.place == "inside":
             line = line_of(self.program)
-            raise Over(WRONG, self.name, f"ends inside: there is no leave (line {line}: its beginning)")
+            place = f"line {line}: its beginning" if line else f"its last call: line {self.steps.line}"
+            raise Over(WRONG, self.name, f"ends inside: there is no leave ({place})")
         self.next, self.place = None, "done"
 
 
-def _steps(program: Program) -> Union[Steps, Threaded]:
-    """The calls of a program. OutOfRange, with its name and line, if it needs arguments."""
+def _steps(program: Any) -> Any:
+    """The calls of a program: `next`, its line, `close`, and what comes before a call that can't be made yet.
+    OutOfRange, with its name and line, if it needs arguments."""
+    if hasattr(program, "steps"):
+        return program.steps()
     if not inspect.isgeneratorfunction(program):
         return Threaded(program)
     try:

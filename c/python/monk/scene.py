@@ -29,6 +29,8 @@ class Scene:
     end: Optional[Test] = None
     may_wait: Sequence[str] = ()
     guarded: Optional[Sequence[object]] = None
+    # What the programs share, if they aren't Python's: its `words()`, as those of shared.Shared.
+    shared: Any = None
 
 
 # A function that makes fresh data, and returns its programs. It is called anew for each run.

@@ -16,14 +16,10 @@ from .monitor import Monitor
 from .run import NO_SUCH_CALL, STUCK, WRONG, Run
 from .scene import Scene, name_of, titles
 from .shared import Shared, words_of
-from .staged import Threaded
 
 # The events of a seat. A program that spends them goes on and on.
 BUDGET = 1024
 MOST_CONDITIONS = SHAPES["conditions"][1]
-# A call that can't be made where its seat is, and what comes first.
-FIRST = {"outside": "`yield enter()` comes first", "inside": "`yield leave()` comes first"}
-FIRST_OF_PLAIN = {"outside": "`with monitor:` comes first", "inside": "it is inside a `with monitor:` already"}
 # What the story says of a seat that has the turn: from the entry, and from elsewhere.
 ARRIVALS = ("comes in", "goes on")
 # At most one of the seats at these places has the turn.
@@ -67,7 +63,7 @@ class Stage:
         # The monitor of plain functions; and what is to be said of seats that went on though their test was false.
         self.staged: Optional[object] = None
         self.stale: Dict[str, str] = {}
-        self.run, self.shared = Run(way.kind, seats, conditions=names), Shared(scene.programs, seats)
+        self.run, self.shared = Run(way.kind, seats, conditions=names), scene.shared or Shared(scene.programs, seats)
         self.make: Dict[str, Callable[[Actor, Call], None]] = {
             "enter": self._enter, "leave": self._leave, "wait": self._wait, "signal": self._signal,
             "signal_all": self._signal_all}
@@ -79,7 +75,7 @@ class Stage:
             self._play(choose)
         except Over as over:
             run.outcome, run.who, run.why, run.at = over.outcome, over.who, over.why, len(run.story)
-            run.is_misuse = over.is_misuse
+            run.is_misuse, run.is_endless = over.is_misuse, run.is_endless or over.is_endless
             self._blame()
         if self.way.is_kept:
             run.data = self.shared.words()
@@ -165,7 +161,7 @@ class Stage:
                              "monitor: give the same to all objects")
 
     def _out_of_place(self, actor: Actor, call: Call) -> str:
-        first = (FIRST_OF_PLAIN if isinstance(actor.steps, Threaded) else FIRST).get(actor.place, "")
+        first = actor.steps.first.get(actor.place, "")
         if actor.seat.has_signalled_out:
             first = f"its signal was the way out under {self.way.kind}"
         return f"line {actor.steps.line}: `{call.verb}` {actor.place}: {first}"
