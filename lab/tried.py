@@ -25,6 +25,7 @@ class Tried:
     seconds: int = 120
     # The whole text, in place of the right answer's.
     text: str = field(default=ANY)
+    ending: str = ".py"
 
 
 def _line(exercise: str, name: str, old: str, new: str, *says: str) -> Tried:
@@ -199,6 +200,53 @@ HOSTILE: List[Tried] = [
     Tried("1_buffer", "procedures is missing", [("def procedures", "def procedure")], says=["has no attribute 'procedures'"]),
     _hostile("text that isn't UTF-8", "# \udcff\n", "codec can't decode", status=NOT_LOADED),
 ]
-TRIED = RIGHT + WRONG + HOSTILE
+
+
+# ---- the same in C
+
+def _in_c(exercise: str, name: str, changes: Sequence[Tuple[str, str]], *says: str, status: int = NOT_MET) -> Tried:
+    return Tried(exercise, f"C, {name}", changes, says=says, status=status, ending=".c")
+
+
+TAKEN = [("    int taken = item;\n", "    {}\n    int taken = item;\n")]
+
+
+def _taking(name: str, line: str, *says: str) -> Tried:
+    """A line of the procedure that takes."""
+    return _in_c("1_buffer", name, [(old, new.format(line)) for old, new in TAKEN], *says)
+
+
+C: List[Tried] = [
+    _in_c("1_buffer", "if", [("while (count", "if (count")], r"NPNB, \d+ of \d+ orders: taker\d: the invariant doesn't hold", "^3 of 5$"),
+    _in_c("1_buffer", "a signal forgotten", [('    lab_signal("room");\n', "")], "nobody can go on: .* waits on room"),
+    _in_c("1_buffer", "leave forgotten", [('    lab_signal("room");\n    lab_leave();\n', '    lab_signal("room");\n')],
+          r"ends inside: there is no leave \(its last call: line 23 of answer.c\)"),
+    _in_c("1_buffer", "the item put outside", [('    count++;\n    lab_signal("item");\n    lab_leave();\n', '    lab_signal("item");\n    lab_leave();\n    count++;\n')],
+          "changes count outside the monitor, (before line|after its last call)"),
+    _in_c("1_buffer", "wait outside", [('    lab_enter();\n    while (count > 0) lab_wait("room", has_room);\n', '    while (count > 0) lab_wait("room", has_room);\n    lab_enter();\n')],
+          "line 10 of answer.c: `wait` outside: an enter comes first"),
+    _in_c("1_buffer", "a condition misspelt", [('lab_signal("item")', 'lab_signal("items")')], "nobody ever waits on `items`; there is `item`"),
+    _in_c("1_buffer", "a signal before the change", [('    item = new_item;\n    count++;\n    lab_signal("item");\n', '    lab_signal("item");\n    item = new_item;\n    count++;\n')],
+          r"taker's test was false when it went on \(line 20 of answer.c\)"),
+    _in_c("1_buffer", "an error of the language", [("count++;", "cuont++;")], "it can't be compiled:\n.*cuont", status=NOT_LOADED),
+    _in_c("1_buffer", "a main of its own", [("int count, item;", "int count, item;\nint main(void) { return 0; }")], "it can't be compiled:", status=NOT_LOADED),
+    _in_c("2_readers", "if", [("while (is_written || readers)", "if (is_written || readers)")], r"NPNB, \d+ of \d+ orders: "),
+    _in_c("2_readers", "no chain", [('    readers++;\n    lab_signal("read");\n', "    readers++;\n")], "nobody can go on: reader2 waits on read"),
+    _in_c("3_bridge", "no chain", [("    lab_signal(sides[side]);\n", "")], "nobody can go on: west2 waits on west"),
+    _in_c("3_bridge", "counted outside", [("    cars[side]++;\n    lab_signal(sides[side]);\n    lab_leave();\n", "    lab_signal(sides[side]);\n    lab_leave();\n    cars[side]++;\n")],
+          r"changes cars\[\d\] outside the monitor"),
+    _in_c("4_wakeups", "one signal for two", [('    lab_signal("gate");\n    lab_leave();\n}\n\nvoid porter', "    lab_leave();\n}\n\nvoid porter")],
+          "nobody can go on: guest2 waits on gate"),
+    _in_c("4_wakeups", "nobody waits", [("while (!is_open) lab_wait(\"gate\", opened);", "is_open = 1;")], "in no order does guest wait"),
+    _taking("exit", "extern void exit(int); exit(0);", r"ends the whole process \(status 0\)"),
+    _taking("abort", "extern void abort(void); abort();", "Aborted after line"),
+    _taking("a null pointer", "*(volatile int *)0 = 1;", "Segmentation fault after line"),
+    _taking("loops", "for (volatile int n = 0;; n++) { }", "makes no call for"),
+    _taking("sleeps", "extern unsigned sleep(unsigned); sleep(1000);", "makes no call for"),
+    _taking("prints without an end", "extern int puts(const char *); for (;;) puts(\"5 of 5\");", "makes no call for|File size limit exceeded"),
+    _taking("kills the process of the lab", "extern int getppid(void), kill(int, int); kill(getppid(), 9);", r"ends the whole process \(status -9\)|makes no call"),
+    _taking("leaves a process", "extern int fork(void), execlp(const char *, const char *, ...); if (!fork()) execlp(\"sleep\", \"sleep\", \"1007\", (char *)0); for (;;) { }", "makes no call for"),
+]
+TRIED = RIGHT + WRONG + HOSTILE + C
 assert len({(it.exercise, it.name) for it in TRIED}) == len(TRIED), "names are different"
 NUMBERED = re.compile(r"^\d+ of \d+$", re.M)

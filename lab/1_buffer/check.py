@@ -2,6 +2,7 @@
 
 from __future__ import annotations
 
+import functools
 import types
 from typing import Any, Callable, List
 
@@ -37,15 +38,25 @@ def scene(answer: Any, putters: int = 1, takers: int = 1, items: int = 1) -> Cal
     return made
 
 
-def checks(answer: Any) -> List[Check]:
+def checks_of(of: Callable[..., Callable[[], Scene]], wrong_with_if: List[str]) -> List[Check]:
     return [
-        holds("one puts and one takes, under Hoare's rules (PB)", scene(answer), ["PB"]),
-        holds("two of each, under Hoare's rules (PB)", scene(answer, 2, 2), ["PB"]),
-        holds("two of each, under Mesa's rules (NPNB)", scene(answer, 2, 2), ["NPNB"]),
-        holds("one puts two, and two take, under every kind", scene(answer, 1, 2, 2)),
-        knows("you found the kinds under which an `if` goes wrong", answer.WRONG_WITH_IF, WRONG_WITH_IF,
+        holds("one puts and one takes, under Hoare's rules (PB)", of(), ["PB"]),
+        holds("two of each, under Hoare's rules (PB)", of(2, 2), ["PB"]),
+        holds("two of each, under Mesa's rules (NPNB)", of(2, 2), ["NPNB"]),
+        holds("one puts two, and two take, under every kind", of(1, 2, 2)),
+        knows("you found the kinds under which an `if` goes wrong", wrong_with_if, WRONG_WITH_IF,
               "WRONG_WITH_IF isn't what this check finds: write `if`, and look at the fourth line"),
     ]
 
 
-main("Exercise 1: a buffer of one place", checks)
+def checks(answer: Any) -> List[Check]:
+    return checks_of(functools.partial(scene, answer), answer.WRONG_WITH_IF)
+
+
+def checks_in_c(answer: Any) -> List[Check]:
+    def of(putters: int = 1, takers: int = 1, items: int = 1) -> Callable[[], Scene]:
+        return answer.scene("buffer", putters, takers, items)
+    return checks_of(of, answer.kinds("wrong_with_if"))
+
+
+main("Exercise 1: a buffer of one place", checks, checks_in_c)

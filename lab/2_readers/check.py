@@ -6,7 +6,7 @@ import types
 from typing import Any, Callable, List
 
 from monk import Scene
-from monk.lab import Check, happens, holds, main
+from monk.lab import Check, happens, holds, main, some_order_breaks
 
 # Random orders of a kind, if all would be too many.
 DICE = 100
@@ -62,4 +62,18 @@ def checks(answer: Any) -> List[Check]:
     ]
 
 
-main("Exercise 2: readers and writers", checks)
+def checks_in_c(answer: Any) -> List[Check]:
+    def of(readers: int, writers: int, what: str = "book") -> Callable[[], Scene]:
+        return answer.scene(what, readers, writers)
+    return [
+        holds("one reads and one writes, under PNB and NPNB", of(1, 1), ["PNB", "NPNB"]),
+        holds("two read and one writes, under PNB and NPNB", of(2, 1), ["PNB", "NPNB"]),
+        holds("one reads and two write, under PNB and NPNB", of(1, 2), ["PNB", "NPNB"], DICE),
+        some_order_breaks("two readers may read at once", of(2, 1, "together"), ["PNB", "NPNB"],
+                          "in no order under PNB and NPNB"),
+        holds("two read and one writes, under every kind", of(2, 1), orders=DICE),
+        holds("one reads and two write, under every kind", of(1, 2), orders=DICE),
+    ]
+
+
+main("Exercise 2: readers and writers", checks, checks_in_c)

@@ -6,7 +6,7 @@ import types
 from typing import Any, Callable, List
 
 from monk import Scene
-from monk.lab import Check, happens, holds, main
+from monk.lab import Check, happens, holds, main, some_order_breaks
 
 # Random orders of a kind, if all would be too many.
 DICE = 100
@@ -54,4 +54,14 @@ def checks(answer: Any) -> List[Check]:
     ]
 
 
-main("Exercise 3: a bridge of one lane", checks)
+def checks_in_c(answer: Any) -> List[Check]:
+    return [
+        holds("one car from each side, under every kind", answer.scene("bridge", 0, 1)),
+        holds("one east and two west, under PNB and NPNB", answer.scene("bridge", 0, 1, 1), ["PNB", "NPNB"]),
+        some_order_breaks("two cars of one side may be on the bridge together", answer.scene("alone", 0, 1, 1),
+                          ["PNB", "NPNB"], "in no order under PNB and NPNB"),
+        holds("one east and two west, under every kind", answer.scene("bridge", 0, 1, 1), orders=DICE),
+    ]
+
+
+main("Exercise 3: a bridge of one lane", checks, checks_in_c)

@@ -23,6 +23,7 @@ struct program {
     lab_work work;
     int number, line;
     lab_test until;
+    void (*then)(void);
     char *stack;
     ucontext_t context;
     char fault[LINE];
@@ -101,7 +102,8 @@ static void full_if(bool is_full, const char *what) {
 
 void lab_program(const char *name, lab_work work, int number) {
     full_if(lab->count == MOST, "programs");
-    lab->programs[lab->count++] = (struct program){.name = name, .work = work, .number = number, .verb = "", .file = ""};
+    struct program made = {.name = name, .work = work, .number = number, .verb = "", .file = ""};
+    lab->programs[lab->count++] = made;
 }
 
 void lab_int(const char *name, const int *guarded) {
@@ -116,6 +118,8 @@ void lab_may_wait(const char *name) {
     full_if(lab->may_count == MOST, "names");
     lab->may_wait[lab->may_count++] = name;
 }
+
+void lab_once_inside(void (*then)(void)) { lab->programs[lab->here].then = then; }
 
 const char *lab_name(const void *condition, const char *words) {
     for (int i = 0; i < lab->names_count; i++)
@@ -151,6 +155,10 @@ void lab_call(const char *verb, const char *on, lab_test until, const char *file
     me->verb = verb, me->on = on, me->until = until, me->file = file, me->line = line;
     if (until) note_test(on, until);
     back(me);
+    void (*then)(void) = me->then;
+    if (!then || strcmp(verb, "enter")) return;
+    me->then = 0;
+    then();
 }
 
 /* In place of the C library's: an assertion that fails is the program's fault, and not the end of the process. */

@@ -24,6 +24,8 @@ void lab_int(const char *name, const int *guarded);
 void lab_invariant(lab_test test);
 void lab_end(lab_test test);
 void lab_may_wait(const char *name);
+/* What this program does as soon as it is inside next, after its next call to enter. */
+void lab_once_inside(void (*then)(void));
 
 void lab_call(const char *verb, const char *on, lab_test until, const char *file, int line);
 /* The name of the condition at that address: the words by which it was first called. */

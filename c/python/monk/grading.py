@@ -148,7 +148,8 @@ def _read(read: int, seconds: float) -> bytes:
 def _words_of(status: int) -> str:
     if os.WIFSIGNALED(status):
         number = os.WTERMSIG(status)
-        words = {signal.SIGXCPU: "takes too long", signal.SIGKILL: "was killed: perhaps it took too long or too much memory"}
+        words = {signal.SIGXCPU: "takes too long",
+                 signal.SIGKILL: "was killed: perhaps it took too long or too much memory"}
         return words.get(number, f"ends the check by signal {signal.Signals(number).name}")
     return "ends the check before there is a verdict"
 

@@ -13,13 +13,14 @@ import json
 import os
 import signal
 import sys
+import tempfile
 import textwrap
 import time
 import types
 from dataclasses import asdict, dataclass
-from typing import Any, Callable, Dict, List, NamedTuple, Sequence
+from typing import Any, Callable, Dict, List, NamedTuple, Optional, Sequence
 
-from . import grading, lint
+from . import grading, in_c, lint
 from .actor import where
 from .grading import TooLong
 from .kinds import KINDS
@@ -47,6 +48,9 @@ class Check:
     """Something that has to hold of the student's work."""
     title: str
     look: Callable[[], Verdict]
+
+
+Checks = Callable[[Any], List[Check]]
 
 
 @dataclass
@@ -97,6 +101,13 @@ def happens(title: str, made: Made, kinds: Sequence[str], has_happened: Callable
     def look() -> Verdict:
         compare(made, kinds)
         return Verdict(True, "yes") if has_happened() else Verdict(False, hint)
+    return Check(title, look)
+
+
+def some_order_breaks(title: str, made: Made, kinds: Sequence[str], hint: str) -> Check:
+    """In some order under these kinds the scene goes wrong, because something happens that its invariant forbids."""
+    def look() -> Verdict:
+        return Verdict(True, "yes") if compare(made, kinds).breaks else Verdict(False, hint)
     return Check(title, look)
 
 
@@ -183,15 +194,23 @@ def _looked(check: Check, judges: lint.Judges) -> Verdict:
 class Exercise:
     """An exercise, and the file that is checked."""
 
-    def __init__(self, path: str, checks_of: Callable[[Any], List[Check]], seconds: float) -> None:
-        self.path, self.checks_of = os.path.abspath(path), checks_of
+    def __init__(self, path: str, checks_of: Checks, in_c: Optional[Checks], seconds: float) -> None:
+        self.path, self.checks_of, self.in_c = os.path.abspath(path), checks_of, in_c
         self.most, self.end = seconds * MOST_OF_ONE, time.monotonic() + seconds
+        self.room = tempfile.TemporaryDirectory()
+
+    def _checks(self) -> List[Check]:
+        if self.path.endswith(".c") and self.in_c:
+            return self.in_c(in_c.Answer(self.path, self.room.name))
+        return self.checks_of(_load(self.path))
 
     def loaded(self) -> Dict[str, Any]:
-        """In a child: the titles of the checks, or why the file can't be loaded."""
+        """In a child: the titles of the checks, or why the file can't be loaded. A file of C is built."""
         judges = lint.Judges()
         try:
-            checks = self.checks_of(_load(self.path))
+            checks = self._checks()
+        except in_c.NotBuilt as fault:
+            return {"fault": str(fault)}
         except BaseException as fault:
             return {"fault": _in_words(fault)}
         changed = judges.changed()
@@ -201,7 +220,7 @@ class Exercise:
     def looked(self, number: int) -> Dict[str, Any]:
         """In a child: the verdict of a check."""
         judges = lint.Judges()
-        verdict = _looked(self.checks_of(_load(self.path))[number], judges)
+        verdict = _looked(self._checks()[number], judges)
         return {"is_met": bool(verdict.is_met), "words": str(verdict.words)}
 
     def left(self) -> float:
@@ -273,7 +292,7 @@ def _forgotten(name: str, words: List[str], is_json: bool) -> int:
 def _told(exercise: Exercise, name: str, path: str, is_json: bool) -> int:
     try:
         with open(path, encoding="utf-8") as file:
-            forgotten = lint.unyielded(file.read())
+            forgotten = [] if path.endswith(".c") else lint.unyielded(file.read())
         return _forgotten(name, forgotten, is_json) if forgotten else _grade(name, exercise, is_json)
     except (OSError, ValueError) as fault:
         words = f"{path}: {fault.strerror if isinstance(fault, OSError) else fault}"
@@ -291,12 +310,14 @@ def _words() -> argparse.Namespace:
     return asked.parse_args()
 
 
-def main(name: str, checks_of: Callable[[Any], List[Check]]) -> None:
+def main(name: str, checks_of: Checks, checks_in_c: Optional[Checks] = None) -> None:
     """The check of the file that the command line names. Status 0 if all is met, 1 if not, 2 if the file can't be
-    loaded. --json: one line for programs. --seconds: how long all checks may take, 27 if it isn't given."""
+    loaded. --json: one line for programs. --seconds: how long all checks may take, 27 if it isn't given.
+    checks_in_c: the checks of a file of C, given its in_c.Answer."""
     # (a reader that has seen enough, as `head`, ends the check)
     signal.signal(signal.SIGPIPE, signal.SIG_DFL)
     words, status = _words(), 1
     with contextlib.suppress(KeyboardInterrupt):
-        status = _told(Exercise(words.file, checks_of, words.seconds), name, words.file, words.json)
+        exercise = Exercise(words.file, checks_of, checks_in_c, words.seconds)
+        status = _told(exercise, name, words.file, words.json)
     sys.exit(status)
