@@ -163,7 +163,7 @@ def _inside(name: str, line: str, *says: str, seconds: int = 120, added: str = "
     return Tried("1_buffer", name, [(TAKE, new)], added, says, NOT_MET, seconds)
 
 
-SHORT = 4
+SHORT = 8
 WRONG_AND = "def procedures(box):\n    return None, None\nWRONG_WITH_IF = []\n"
 HOSTILE: List[Tried] = [
     _hostile("ends by sys.exit(0)", "import sys\nsys.exit(0)\n", r"ends the check: SystemExit: 0 \(line 33: sys.exit\(0\)\)"),
