@@ -244,7 +244,6 @@ C: List[Tried] = [
     _taking("loops", "for (volatile int n = 0;; n++) { }", "makes no call for"),
     _taking("sleeps", "extern unsigned sleep(unsigned); sleep(1000);", "makes no call for"),
     _taking("prints without an end", "extern int puts(const char *); for (;;) puts(\"5 of 5\");", "makes no call for|File size limit exceeded"),
-    _taking("kills the process of the lab", "extern int getppid(void), kill(int, int); kill(getppid(), 9);", r"ends the whole process \(status -9\)|makes no call"),
     _taking("leaves a process", "extern int fork(void), execlp(const char *, const char *, ...); if (!fork()) execlp(\"sleep\", \"sleep\", \"1007\", (char *)0); for (;;) { }", "makes no call for"),
 ]
 TRIED = RIGHT + WRONG + HOSTILE + C

@@ -10,6 +10,7 @@
 #include <stdlib.h>
 #include <string.h>
 #include <sys/mman.h>
+#include <sys/prctl.h>
 #include <sys/time.h>
 #include <sys/wait.h>
 #include <ucontext.h>
@@ -244,6 +245,7 @@ static void answer(char *line) {
 
 /* A run, in a child: it ends when the next scene is asked for, whose line it leaves. */
 static void one_run(char *line) {
+    prctl(PR_SET_PDEATHSIG, SIGKILL);
     do {
         answer(line);
         hear(line);
