@@ -23,7 +23,7 @@ static int arrive_and_poll(monk_seat *s) {
 
 static int go_out(monk_seat *s) {
     size_t word = NOBODY;
-    show(s->monitor);
+    show_from_inside(s);
     int answer = monk_k_leave(s->token, wish_of(s), &word);
     return handed_on(s, answer, word);
 }
@@ -42,14 +42,14 @@ static int waits_on(monk_seat *s, unsigned condition, uint32_t broadcasts, int a
 static int wait_on(monk_seat *s, unsigned condition) {
     size_t word = NOBODY;
     uint32_t broadcasts = broadcasts_on(s, condition);
-    show(s->monitor);
+    show_from_inside(s);
     int answer = monk_k_start_wait(s->token, byte_of(condition), wish_of(s), &word);
     return waits_on(s, condition, broadcasts, answer, word);
 }
 
 static int signal_on(monk_seat *s, unsigned condition) {
     size_t word = NOBODY;
-    show(s->monitor);
+    show_from_inside(s);
     int answer = monk_k_start_signal(s->token, byte_of(condition), wish_of(s), &word);
     return handed_on(s, answer, word);
 }
@@ -57,14 +57,14 @@ static int signal_on(monk_seat *s, unsigned condition) {
 static int signal_and_wait(monk_seat *s, unsigned condition, unsigned wait_condition) {
     size_t word = NOBODY;
     uint32_t broadcasts = broadcasts_on(s, wait_condition);
-    show(s->monitor);
+    show_from_inside(s);
     int answer = monk_k_start_signal_wait(s->token, byte_of(condition), byte_of(wait_condition), wish_of(s), &word);
     return waits_on(s, wait_condition, broadcasts, answer, word);
 }
 
 static int wait_for_flag(monk_seat *s, unsigned flag) {
     size_t word = NOBODY;
-    show(s->monitor);
+    show_from_inside(s);
     int answer = monk_k_start_wait_until(s->token, byte_of(flag), wish_of(s), &word);
     return handed_on(s, answer, word);
 }
@@ -147,7 +147,7 @@ int monk_signal_leave(monk_seat *s, unsigned condition) {
     size_t word = NOBODY;
     int r = begin(&s);
     if (r) return r;
-    show(s->monitor);
+    show_from_inside(s);
     r = monk_k_signal_leave(s->token, byte_of(condition), wish_of(s), &word);
     return done(end(s, handed_on(s, r, word)));
 }
@@ -236,10 +236,12 @@ int monk_wait_fd(monk_seat *s, int *file) {
     int r = begin(&s);
     if (r) return r;
     if (place_of(s) == MONK_INSIDE) return end(s, MONK_INSIDE);
-    r = place_of(s) == MONK_WAITING ? watch(s) : MONK_NOT_NOW;
-    if (r) return end(s, r);
+    if (place_of(s) != MONK_WAITING) return end(s, MONK_NOT_NOW);
+    int watched = watch(s);
     r = come_in_within(s, 0);
-    if (r == MONK_WAITING) *file = s->file;
+    if (r != MONK_WAITING) return end(s, r);
+    if (watched) return end(s, watched);
+    *file = s->file;
     return end(s, r);
 }
 
@@ -280,10 +282,18 @@ int monk_pause(monk_seat *s, unsigned n) {
     return monk_mode_of(seat_of(s)->monitor->kind) == MONK_AUTOMATIC ? monk_wait_until(s, n) : monk_wait(s, n);
 }
 
+/* The way out of an automatic kind, which needs no signal: the kernel isn't told of the flag. */
+static int leave_for(monk_seat *s, unsigned flag) {
+    int r = begin(&s);
+    if (r) return r;
+    return done(end(s, flag < s->monitor->flag_count ? go_out(s) : MONK_RANGE));
+}
+
 int monk_finish(monk_seat *s, unsigned n) {
     if (!s) return MONK_RANGE;
     int mode = monk_mode_of(seat_of(s)->monitor->kind);
     if (mode == MONK_IMMEDIATE_RETURN) return monk_signal_leave(s, n);
-    int r = mode == MONK_AUTOMATIC ? MONK_OK : monk_signal(s, n);
+    if (mode == MONK_AUTOMATIC) return leave_for(s, n);
+    int r = monk_signal(s, n);
     return r ? r : monk_leave(s);
 }

@@ -12,16 +12,25 @@
 
 /* ---- Seats */
 
-/* The first free seat with enough events for a visit, from the lowest on or from the highest. Under the lock. */
-static monk_seat *spare_seat(monk_monitor *m, int from_highest, int *answer) {
-    *answer = MONK_NO_SEAT;
+/* Which of the free seats that have enough events for a visit. */
+typedef enum choice { LOWEST, HIGHEST, MOST_LEFT } choice;
+
+/* Why there is no such seat. Under the lock. */
+static int refused_a_seat(monk_monitor *m) {
+    for (unsigned i = 0; i < m->seat_count; i++)
+        if (lent_of(&m->seats[i]) == FREE) return MONK_SPENT;
+    return MONK_NO_SEAT;
+}
+
+static monk_seat *spare_seat(monk_monitor *m, choice of) {
+    monk_seat *found = NULL;
     for (unsigned i = 0; i < m->seat_count; i++) {
-        monk_seat *s = &m->seats[from_highest ? m->seat_count - 1 - i : i];
-        if (lent_of(s) != FREE) continue;
-        if (atomic_load(&s->left) >= VISIT) return *answer = MONK_OK, s;
-        *answer = MONK_SPENT;
+        monk_seat *s = &m->seats[i];
+        if (lent_of(s) != FREE || atomic_load(&s->left) < VISIT) continue;
+        int has_more = found && atomic_load(&s->left) > atomic_load(&found->left);
+        if (!found || of == HIGHEST || (of == MOST_LEFT && has_more)) found = s;
     }
-    return NULL;
+    return found;
 }
 
 /* The seat of an earlier look whose turn didn't come in time. It still waits, and can't be taken out of its queue. So
@@ -37,14 +46,15 @@ static monk_seat *visitor_that_waits(monk_monitor *m) {
     return NULL;
 }
 
-/* Lends the lowest seat to a thread, and the highest to a visitor. */
+/* Lends the seat with most events left to a thread, so that threads which come and go use up all seats alike; and the
+ * highest to a visitor. */
 static int lend(monk_monitor *m, int is_visitor, monk_seat **seat) {
     int answer = MONK_CLOSED;
     lock(m);
     if (!atomic_load(&m->closed)) {
         monk_seat *s = is_visitor ? visitor_that_waits(m) : NULL;
-        if (s) answer = MONK_OK;
-        else s = spare_seat(m, is_visitor, &answer);
+        if (!s) s = spare_seat(m, is_visitor ? HIGHEST : MOST_LEFT);
+        answer = s ? MONK_OK : refused_a_seat(m);
         if (s) {
             s->wish = MONK_WAITER, s->is_visitor = (uint8_t)is_visitor;
             *seat = lent_anew(s);
@@ -79,7 +89,7 @@ int monk_abandon(monk_seat *s) {
         set_lent(s, ABANDONED);
         mind(s);
     } else {
-        show(m);
+        show_from_inside(s);
         noted(s, monk_k_leave(s->token, wish_of(s), &word), 1);     /* refused if the seat is outside */
         if (word != NOBODY) ring(m, word);
         set_free(s);
@@ -158,7 +168,8 @@ int monk_make(monk_monitor **out, const monk_shape *shape) {
     monk_monitor *m = aligned_alloc(LINE, sizeof *m);
     void *room = aligned_alloc(LINE, each * shape->seats);
     if (!m || !room) return free(m), free(room), MONK_MEMORY;
-    *m = (monk_monitor){.kind = shape->kind, .seat_count = shape->seats, .room = room, .processors = processors()};
+    *m = (monk_monitor){.kind = shape->kind, .seat_count = shape->seats, .flag_count = shape->flags, .room = room,
+        .processors = processors()};
     for (size_t at = 0; at < each * shape->seats; at++) ((char *)room)[at] = 0;
     for (unsigned i = 0; i < shape->seats; i++) m->tokens[i].at = (char *)room + each * i;
     uint32_t budget = shape->budget ? shape->budget : USUAL_BUDGET;
@@ -260,9 +271,9 @@ int monk_close(monk_monitor *m) {
     if (!m) return MONK_RANGE;
     lock(m);
     if (!atomic_load(&m->closed)) {
-        monk_seat *s = spare_seat(m, 0, &answer);
+        monk_seat *s = spare_seat(m, LOWEST);
         if (has_lent(m, 1)) answer = MONK_BUSY;
-        else if (s) answer = close_by(m, s);
+        else answer = s ? close_by(m, s) : MONK_SPENT;
         if (!answer) atomic_store(&m->closed, 1);
     }
     unlock(m);

@@ -20,7 +20,9 @@
  *
  * ANSWERS. A call that waits returns MONK_OK (0) once the seat is where the call leads. A call that doesn't wait, but
  * may leave the seat waiting, returns the seat's place, above 0. An error is below 0. After it NOTHING HAS CHANGED and
- * nothing was recorded: the seat and the monitor are as they were. (Only MONK_STOPPED comes after the call was taken.)
+ * nothing was recorded: the seat and the monitor are as they were. There are three exceptions. MONK_STOPPED comes
+ * after the call was taken. A look at the history (below) that answers MONK_BUSY has a seat that waits on; and one that
+ * answers MONK_IO or MONK_MEMORY has made its visit, which the history keeps.
  * If several errors apply, the call returns the first in this order: IN_USE, CLOSED, NOT_OF_KIND, RANGE, NOT_NOW,
  * SPENT. But a null pointer is RANGE before all these, and a seat that was given back is NOT_NOW right after CLOSED.
  *
@@ -39,9 +41,11 @@
  * NOT OFFERED. No call is safe in a signal handler. A signal that arrives while a call waits doesn't end the call
  * (none returns EINTR). pthread_cancel doesn't either: a thread that is cancelled while it waits comes in when its
  * turn comes, and ends at its next cancellation point. It may be inside then, so it needs a clean-up handler that
- * calls monk_abandon. monk_save writes to a stream, and is such a point. After fork() the child must not call the
- * library for monitors that were made before. A monitor lives in one process. To be sure that you won't deadlock,
- * make no call while the thread has a seat inside another monitor: a wait gives up only its own monitor.
+ * calls monk_abandon. monk_save writes to a stream, and is such a point. A thread must not leave a call by asynchronous
+ * cancellation or siglongjmp: its seat would be MONK_IN_USE, and monk_free MONK_BUSY, for ever. After fork() the child
+ * must not call the library for monitors that were made before. A monitor lives in one process. To be sure that you
+ * won't deadlock, make no call while the thread has a seat inside another monitor: a wait gives up only its own
+ * monitor.
  */
 #ifndef MONK_H
 #define MONK_H
@@ -135,8 +139,8 @@ int monk_kind_of(const monk_monitor *m);
 
 /* ---- Seats ------------------------------------------------------------------------------------------------------- */
 
-/* Takes the lowest seat that nobody has and that has two events left. MONK_NO_SEAT if none is free; MONK_SPENT if no
- * free seat has two events left. */
+/* Takes, of the seats that nobody has, the one with most events left, and of several such the lowest. So threads that
+ * come and go use up all seats alike. MONK_NO_SEAT if none is free; MONK_SPENT if no free seat has two events left. */
 int monk_take_seat(monk_monitor *m, monk_seat **s);
 
 /* Gives back a seat that is outside. Its events stay counted. The pointer is no seat any more: every call by it
@@ -228,7 +232,8 @@ int monk_await_until(monk_seat *s, const struct timespec *time);
 /* As monk_await with 0 milliseconds. If the answer is MONK_WAITING, *file is a descriptor that becomes readable when
  * this wait ends, by the seat's turn or a stop. It may become readable earlier. So call this again then, and at each
  * new wait. It is only for poll, epoll and the like: don't read it. Each seat has one, which stays open until
- * monk_free, so take it out of your set before you give the seat back. MONK_IO if the system has no file left. */
+ * monk_free, so take it out of your set before you give the seat back. MONK_IO if the wait goes on and the system has
+ * no file left: the seat waits on. */
 int monk_wait_fd(monk_seat *s, int *file);
 
 /* monk_arrive and monk_await as one call.                                             outside   inside, or waiting */

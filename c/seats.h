@@ -90,7 +90,7 @@ typedef struct tally {
 struct monk_monitor {
     bell bells[BELLS];
     int kind;
-    unsigned seat_count;
+    unsigned seat_count, flag_count;
     uint32_t bits;                              /* a copy of the flags, touched by the seat that is inside */
     uint32_t broadcasts[MOST_CONDITIONS];       /* how many there were on each condition, touched as `bits` is */
     _Atomic int stopped, closed;
@@ -324,6 +324,11 @@ static inline int noted(monk_seat *s, int answer, uint32_t recorded) {
 }
 
 static inline int place_of(const monk_seat *s) { return atomic_load_explicit(&s->place, memory_order_relaxed); }
+
+/* Before a release. A seat that isn't inside hands nothing on, because its call is refused. */
+static inline void show_from_inside(const monk_seat *s) {
+    if (place_of(s) == MONK_INSIDE) show(s->monitor);
+}
 
 /* For a call that doesn't return the seat's place: the place becomes MONK_OK. */
 static inline int done(int answer) { return answer > 0 ? MONK_OK : answer; }

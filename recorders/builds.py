@@ -12,6 +12,8 @@ HERE = os.path.dirname(os.path.abspath(__file__))
 # signals one is dropped.
 LONG, LONG_IF_HANGING, LONG_IF_SHAKEN, EVERY = "20", "0.3", "0.6", "7"
 HANGING, STATUS_LATE = ("if", "forgotten", "drop", "single", "early", "returns", "deadlock"), 124
+# Mutexes that another thread unlocks.
+OWNERS = ("astray", "robust")
 # The faults that need a rare order: each run is shaken by a seed of its own.
 SHAKEN, SMALL = ("early", "unlocked", "deadlock"), ("pair", "drop", "single", "early")
 TOOLS = {"c": ("gcc",), "c++": ("gcc", "g++"), "python": ("python3",), "java": ("javac", "java"), "go": ("go",),
@@ -45,7 +47,7 @@ def build_library(folder: str) -> None:
 def build_c(folder: str) -> None:
     build_library(folder)
     make("gcc", "-O2", "-shared", "-fPIC", "-o", "libdrop.so", demo("drop.c"), "-ldl", folder=folder)
-    for name in ("buffer", "hoare"):
+    for name in ("buffer", "hoare", "owners"):
         make("gcc", "-g", "-O2", "-o", name, demo(f"{name}.c"), "-lpthread", folder=folder)
 
 
@@ -100,7 +102,8 @@ def seconds_of(style: str) -> str:
 
 def run_recorded(folder: str, style: str, prefix: str, seed: int) -> str:
     """Runs a program with the recorder loaded; returns what it says on standard error."""
-    drops, program = style == "drop", os.path.join(folder, style if style == "unoptimized" else "buffer")
+    name = "owners" if style in OWNERS else style if style == "unoptimized" else "buffer"
+    drops, program = style == "drop", os.path.join(folder, name)
     words = [*UNMODIFIED[style], input_of(folder)] if style in UNMODIFIED else [program, "pair" if drops else style]
     env = {
         **os.environ,

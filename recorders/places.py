@@ -23,13 +23,16 @@ CALLS = {
     "go": {"enter": "monitor.Lock", "leave": "monitor.Unlock", "wait": "cond.Wait", "signal": "cond.Signal",
            "act": "monitor.Act"},
     "rust": {"enter": "buffer.enter", "wait": "inside.wait", "signal": "notify_one", "act": "inside.act"},
+    # demos/owners.c, where nothing is jumped to; who finds that the owner has ended leaves for it.
+    "owners": {"enter": "pthread_mutex_lock", "leave": "pthread_mutex_|pthread_cond_wait", "wait": "pthread_cond_wait",
+               "signal": "pthread_cond_signal"},
 }
 # A line of a log as `monk explain` names it: its number, its words and its place. And the line since which a seat is
 # where it is.
 NAMED = re.compile(r"line (\d+): (.*?)(?: \((\S+:\d+)\))?: ")
 SINCE = re.compile(r"seat \d+: .* since line (\d+)(?: \((\S+:\d+)\))?(?:;.*)?")
 SOURCES = {"c": "buffer.c", "c++": "buffer.cc", "python": "buffer.py", "java": "Buffer.java", "go": "buffer.go",
-           "rust": "buffer.rs"}
+           "rust": "buffer.rs", "owners": "owners.c"}
 
 
 def places_of(path: str) -> list[str]:
@@ -87,7 +90,7 @@ def misexplained(path: str, explained: list[str]) -> str:
 
 def first_misplaced(language: str, paths: list[str]) -> str:
     """The same for some logs. In C and C++ the tool first writes their places."""
-    if language in ("c", "c++"):
+    if language in ("c", "c++", "owners"):
         tool = os.path.join(builds.HERE, "c", "sites")
         subprocess.run([sys.executable, tool, *(f"{path}.names" for path in paths)], check=True)
     return next(filter(None, (miscounted(path) or misplaced(language, path) for path in paths)), "")

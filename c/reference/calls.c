@@ -190,12 +190,12 @@ int monk_wait_fd(monk_seat *s, int *file) {
     if (r) return r;
     if (s->place == MONK_INSIDE) return end(s, MONK_INSIDE);
     if ((r = refusal(s, MONK_WAITING, 0))) return end(s, r);
+    if (s->due) return come_in(s->monitor, s), end(s, s->place);
+    if (is_stopped(s)) return end(s, MONK_STOPPED);
     if (s->file == NO_FILE) s->file = eventfd(0, EFD_CLOEXEC | EFD_NONBLOCK);
     if (s->file == NO_FILE) return end(s, MONK_IO);
     syscall(SYS_read, s->file, &(uint64_t){0}, sizeof(uint64_t));
-    if (s->due) come_in(s->monitor, s);
-    if (s->place == MONK_WAITING && is_stopped(s)) return end(s, MONK_STOPPED);
-    if (s->place == MONK_WAITING) *file = s->file;
+    *file = s->file;
     return end(s, s->place);
 }
 
@@ -221,10 +221,21 @@ int monk_pause(monk_seat *s, unsigned n) {
     return mode_of(s) == MONK_AUTOMATIC ? monk_wait_until(s, n) : monk_wait(s, n);
 }
 
+/* The way out of an automatic kind: the flag is only looked at. */
+static int leave_for(monk_seat *s, unsigned flag) {
+    int r = begin(s);
+    if (r) return r;
+    if (flag >= s->monitor->flag_count) return end(s, MONK_RANGE);
+    if ((r = refusal(s, MONK_INSIDE, 1))) return end(s, r);
+    release(s->monitor, s, (event){.verb = LEAVE}, MONK_OUTSIDE);
+    return taken(end(s, s->place));
+}
+
 int monk_finish(monk_seat *s, unsigned n) {
     if (!s) return MONK_RANGE;
     if (mode_of(s) == MONK_IMMEDIATE_RETURN) return monk_signal_leave(s, n);
-    int r = is_explicit(s) ? monk_signal(s, n) : MONK_OK;
+    if (mode_of(s) == MONK_AUTOMATIC) return leave_for(s, n);
+    int r = monk_signal(s, n);
     return r ? r : monk_leave(s);
 }
 

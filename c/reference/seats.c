@@ -18,22 +18,26 @@ static int is_kind(int kind) { return kind >= 0 && kind < 10; }
 
 /* ---- Seats */
 
-static monk_seat *spare_seat(monk_monitor *m, int *answer) {
+/* A free seat that has the events for a visit: the lowest, or the one with most events left. */
+static monk_seat *spare_seat(monk_monitor *m, int with_most, int *answer) {
+    monk_seat *found = NULL;
     *answer = MONK_NO_SEAT;
     for (unsigned i = 0; i < m->seat_count; i++) {
         monk_seat *s = &m->seats[i];
         if (s->taken) continue;
-        if (s->left >= 2) return *answer = MONK_OK, s;
-        *answer = MONK_SPENT;
+        if (*answer) *answer = MONK_SPENT;
+        if (s->left < 2) continue;
+        *answer = MONK_OK;
+        if (!found || (with_most && s->left > found->left)) found = s;
     }
-    return NULL;
+    return found;
 }
 
 int monk_take_seat(monk_monitor *m, monk_seat **seat) {
     int answer;
     if (!m || !seat) return MONK_RANGE;
     pthread_mutex_lock(&m->lock);
-    monk_seat *s = spare_seat(m, &answer);
+    monk_seat *s = spare_seat(m, 1, &answer);
     if (m->closed) answer = MONK_CLOSED;
     else if (s) s->taken = 1, s->is_visitor = 0, s->wish = MONK_WAITER, *seat = s;
     pthread_mutex_unlock(&m->lock);
@@ -163,7 +167,7 @@ int monk_close(monk_monitor *m) {
     if (!m) return MONK_RANGE;
     pthread_mutex_lock(&m->lock);
     if (!m->closed) {
-        monk_seat *s = spare_seat(m, &answer);
+        monk_seat *s = spare_seat(m, 0, &answer);
         if (has_taken(m)) answer = MONK_BUSY;
         else if (s) {
             make_due(m, s->number, FREE);

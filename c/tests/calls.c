@@ -150,7 +150,7 @@ static void abandoned(void) {
     OK(monk_enter(d));
     ENDS(d, "enter 1 free\nsignal 1 0 waiter 0\nresume 0 waiter\nleave 0 signaller 1\nresume 1 signaller\n"
         "leave 1 entry\nenter 2 handed\nleave 2 entry\nenter 3 free\n");
-    OK(monk_take_seat(m, &a)); IS((int)monk_seat_number(a), 0);
+    OK(monk_take_seat(m, &a)); IS((int)monk_seat_number(a), 2);     /* it has most events left */
     end();
 }
 

@@ -91,6 +91,23 @@ class Scenes(unittest.TestCase):
         self.assertEqual(play(staged, "NPNB", run.schedule), run)
         self.assertEqual(run.data, {"plainbuffer.items": "[]"})
 
+    def test_a_second_staged_monitor(self) -> None:
+        """A scene has one monitor, and a second one is refused by the line that comes to it."""
+        def scene() -> List[Any]:
+            first, second = monk.Staged(), monk.Staged()
+            item = second.condition("item", lambda: True)
+            def both() -> None:
+                with first, second:
+                    pass
+            def notifier() -> None:
+                with first:
+                    item.notify()
+            return [both, notifier]
+        line = scene.__code__.co_firstlineno
+        second = r"this is a second Staged\(\), and a scene has one monitor"
+        self.refused(rf"^both, line {line + 4}: {second}", lambda: compare(scene))
+        self.refused(rf"^notifier, line {line + 8}: {second}", lambda: play(scene, "PB", "notifier notifier"))
+
     def test_plain_functions_that_call_generators(self) -> None:
         def scene() -> List[Any]:
             def both(call: Any) -> Any:
@@ -177,12 +194,14 @@ class Scenes(unittest.TestCase):
             (alone(enter()), "PB", r"one: ends inside: there is no leave \(line \d+: its beginning\)"),
             (alone(enter(), 7), "PB",
              r"one: yields 7 in line \d+, which is no call: write `yield enter\(\)` and the like"),
-            (alone(leave()), "PB", r"one: leave by seat 0 \(one\): the seat is outside: it never came in, or has left"),
+            (alone(leave()), "PB", r"one: line \d+: `leave` outside: `yield enter\(\)` comes first$"),
+            (alone(wait("gate")), "PB", r"one: line \d+: `wait` outside: `yield enter\(\)` comes first$"),
+            (alone(enter(), enter()), "PB", r"one: line \d+: `enter` inside: `yield leave\(\)` comes first$"),
             (alone(enter(), signal_all("gate"), leave()), "PB", r"one: PB has no signal_all \(gate\)"),
             (alone(enter(), wait("gate"), leave()), "PIS",
              r"one: PIS has no signals: write wait\('gate', lambda: ..\) in line \d+"),
             (alone(enter(), signal("a"), signal("a")), "PIR",
-             "one: signal_leave.a. by seat 0 .one.: the seat is outside, since its signal"),
+             r"one: line \d+: `signal` outside: its signal was the way out under PIR$"),
         ):
             with self.subTest(words):
                 self.assertRegex(play(scene, kind).fault, f"^{words}")

@@ -135,6 +135,32 @@ class Telling(unittest.TestCase):
 
         run(guest, host)
 
+    def test_who_has_waited(self) -> None:
+        """A thread that has come in isn't told as one that waits; and with patience it isn't counted as one, so that
+        another, which waits until it leaves, isn't sent home."""
+        monitor, told, ends = monk.Monitor("PNB", seats=3, patience=PATIENCE), io.StringIO(), []
+        tea, has_begun, is_long = monitor.condition("tea"), threading.Event(), threading.Event()
+
+        def guest() -> None:
+            with monitor:
+                has_begun.set()
+                tea.wait()
+                ends.append(monitor.who().splitlines()[0])
+                is_long.set()
+                time.sleep(4 * PATIENCE)
+
+        def host() -> None:
+            has_begun.wait()
+            with monitor:
+                tea.notify()
+            is_long.wait()
+            with monitor:
+                ends.append("host")
+
+        with contextlib.redirect_stderr(told):
+            run(guest, host)
+        self.assertEqual(ends, ["  seat 0 (guest): inside", "host"])
+
     def test_a_run_in_which_nobody_can_go_on(self) -> None:
         """Once all have waited that long, who waits where is printed, and all waiting is ended."""
         monitor, stopped, told = monk.Monitor("PB", seats=3, patience=PATIENCE), [], io.StringIO()

@@ -126,7 +126,7 @@ void a_thread_that_ends_keeps_nothing() {
     monk::seat seat(monitor);
     monk::visit in(seat);
     in.notify_one(monk::condition(0));
-    HOLDS(in.history(monitor).find("resume 0 waiter\nleave 0 signaller 1\n") != std::string::npos);
+    HOLDS(in.history(monitor).find("resume 1 waiter\nleave 1 signaller 2\n") != std::string::npos);
 }
 
 void a_run_that_hangs_is_looked_at() {

@@ -1,6 +1,6 @@
 """The library for Python: every kind, seats that come back, exceptions inside a visit, a run that hangs, many threads,
 threads that end inside, numbers out of range, the child of a fork, looks at a run (looks.py), what it says
-(telling.py), interrupts (interrupts.py) and scenes (scenes.py).
+(telling.py), misuse (misuse.py), interrupts (interrupts.py) scenes (scenes.py, slips.py).
 
 MONK_LIBRARY names the library that is tested, and MONK the program that audits."""
 
@@ -22,10 +22,12 @@ sys.path.insert(0, os.path.join(os.path.dirname(HERE), "python"))
 import monk  # noqa: E402  (the folder is named first)
 from interrupts import Interrupts  # noqa: E402
 from looks import Looks, Programs  # noqa: E402
+from misuse import Misuse  # noqa: E402
 from scenes import Scenes  # noqa: E402
+from slips import Slips  # noqa: E402
 from telling import Telling  # noqa: E402
 
-__all__ = ["Interrupts", "Looks", "Programs", "Scenes", "Telling"]
+__all__ = ["Interrupts", "Looks", "Misuse", "Programs", "Scenes", "Slips", "Telling"]
 AUTOMATIC = ("PIS", "NPIS")
 IMMEDIATE = ("PIR", "NPIR")
 NON_BLOCKING = ("PNB", "NPNB")
@@ -295,7 +297,7 @@ class Endings(unittest.TestCase):
             monitor.give()
             other = monitor.seat()
             monitor.acquire()
-            self.assertEqual((monitor.here.number, other.number), (1, 0))
+            self.assertEqual((monitor.here.number, other.number), (0, 1))      # the one that has left has fewer events
         self.assertEqual(monitor.here.place, "outside")
 
     def test_a_stack_of_exits(self) -> None:

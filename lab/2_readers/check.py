@@ -6,7 +6,7 @@ import types
 from typing import Any, Callable, List
 
 from monk import Scene
-from monk.lab import Check, holds, is_so, main
+from monk.lab import Check, happens, holds, main, some_order_breaks
 
 # Random orders of a kind, if all would be too many.
 DICE = 100
@@ -45,7 +45,7 @@ def scene(answer: Any, readers: int, writers: int, seen: Readers) -> Callable[[]
             yield from visit("write", start_write, end_write)
 
         programs = [*(reader for _ in range(readers)), *(writer for _ in range(writers))]
-        return Scene(programs, lambda: not (book.readers and book.is_written))
+        return Scene(programs, lambda: not (book.readers and book.is_written), guarded=[book])
     return made
 
 
@@ -53,12 +53,27 @@ def checks(answer: Any) -> List[Check]:
     seen, nobody = Readers(), Readers()
     return [
         holds("one reads and one writes, under PNB and NPNB", scene(answer, 1, 1, nobody), ["PNB", "NPNB"]),
-        holds("two read and one writes, under PNB and NPNB", scene(answer, 2, 1, seen), ["PNB", "NPNB"]),
+        holds("two read and one writes, under PNB and NPNB", scene(answer, 2, 1, nobody), ["PNB", "NPNB"]),
         holds("one reads and two write, under PNB and NPNB", scene(answer, 1, 2, nobody), ["PNB", "NPNB"], DICE),
-        is_so("two readers may read at once", lambda: seen.most > 1, "in no order under PNB and NPNB"),
+        happens("two readers may read at once", scene(answer, 2, 1, seen), ["PNB", "NPNB"], lambda: seen.most > 1,
+                "in no order under PNB and NPNB"),
         holds("two read and one writes, under every kind", scene(answer, 2, 1, nobody), orders=DICE),
         holds("one reads and two write, under every kind", scene(answer, 1, 2, nobody), orders=DICE),
     ]
 
 
-main("Exercise 2: readers and writers", checks)
+def checks_in_c(answer: Any) -> List[Check]:
+    def of(readers: int, writers: int, what: str = "book") -> Callable[[], Scene]:
+        return answer.scene(what, readers, writers)
+    return [
+        holds("one reads and one writes, under PNB and NPNB", of(1, 1), ["PNB", "NPNB"]),
+        holds("two read and one writes, under PNB and NPNB", of(2, 1), ["PNB", "NPNB"]),
+        holds("one reads and two write, under PNB and NPNB", of(1, 2), ["PNB", "NPNB"], DICE),
+        some_order_breaks("two readers may read at once", of(2, 1, "together"), ["PNB", "NPNB"],
+                          "in no order under PNB and NPNB"),
+        holds("two read and one writes, under every kind", of(2, 1), orders=DICE),
+        holds("one reads and two write, under every kind", of(1, 2), orders=DICE),
+    ]
+
+
+main("Exercise 2: readers and writers", checks, checks_in_c)

@@ -6,7 +6,7 @@ import types
 from typing import Any, Callable, List
 
 from monk import Scene
-from monk.lab import Check, holds, is_so, main
+from monk.lab import Check, happens, holds, main, some_order_breaks
 
 # Random orders of a kind, if all would be too many.
 DICE = 100
@@ -38,7 +38,8 @@ def scene(answer: Any, sides: List[int], seen: Cars) -> Callable[[], Scene]:
             car.__name__ = answer.SIDES[side]
             return car
 
-        return Scene([car_of(side) for side in sides], lambda: not all(bridge.cars), lambda: bridge.cars == [0, 0])
+        return Scene([car_of(side) for side in sides], lambda: not all(bridge.cars), lambda: bridge.cars == [0, 0],
+                     guarded=[bridge])
     return made
 
 
@@ -46,11 +47,21 @@ def checks(answer: Any) -> List[Check]:
     seen, nobody = Cars(), Cars()
     return [
         holds("one car from each side, under every kind", scene(answer, [0, 1], nobody)),
-        holds("one east and two west, under PNB and NPNB", scene(answer, [0, 1, 1], seen), ["PNB", "NPNB"]),
-        is_so("two cars of one side may be on the bridge together", lambda: seen.most > 1,
-              "in no order under PNB and NPNB"),
+        holds("one east and two west, under PNB and NPNB", scene(answer, [0, 1, 1], nobody), ["PNB", "NPNB"]),
+        happens("two cars of one side may be on the bridge together", scene(answer, [0, 1, 1], seen),
+                ["PNB", "NPNB"], lambda: seen.most > 1, "in no order under PNB and NPNB"),
         holds("one east and two west, under every kind", scene(answer, [0, 1, 1], nobody), orders=DICE),
     ]
 
 
-main("Exercise 3: a bridge of one lane", checks)
+def checks_in_c(answer: Any) -> List[Check]:
+    return [
+        holds("one car from each side, under every kind", answer.scene("bridge", 0, 1)),
+        holds("one east and two west, under PNB and NPNB", answer.scene("bridge", 0, 1, 1), ["PNB", "NPNB"]),
+        some_order_breaks("two cars of one side may be on the bridge together", answer.scene("alone", 0, 1, 1),
+                          ["PNB", "NPNB"], "in no order under PNB and NPNB"),
+        holds("one east and two west, under every kind", answer.scene("bridge", 0, 1, 1), orders=DICE),
+    ]
+
+
+main("Exercise 3: a bridge of one lane", checks, checks_in_c)

@@ -13,72 +13,12 @@
    MONK_SHAKE=SEED threads let others go first at random.
 
    The parts: monk_order.h, locks; monk_memory.h, what is known of an address; monk_sites.h, where in the program a
-   call is; monk_known.h, threads, mutexes and conditions; monk_lines.h, the lines; monk_outside.h, signals by threads
-   that don't hold the mutex; monk_files.h and monk_ends.h, how all are written at the end; monk_real.h, the system's
-   functions; monk_shake.h. recorders/README.md says what the recorder can't see. */
+   call is; monk_known.h, threads, mutexes and conditions; monk_lines.h, the lines; monk_holds.h, who holds
+   what; monk_outside.h, signals by threads that don't hold the mutex; monk_files.h and monk_ends.h, how all are
+   written at the end; monk_real.h, the system's functions; monk_shake.h. recorders/README.md says what the recorder can't see. */
 #define _GNU_SOURCE
 #include "monk_ends.h"
-
-/* ---- who holds what */
-
-static inline void hold(struct monitor *m, struct thread *thread, int times) {
-    m->times = times;
-    atomic_store_explicit(&m->owner, thread, memory_order_relaxed);
-    if (thread->depth < HELD)
-        thread->held[thread->depth++] = m;
-}
-
-static inline void let_go(struct monitor *m, struct thread *thread) {
-    int at = thread->depth - 1;
-    atomic_store_explicit(&m->owner, 0, memory_order_relaxed);
-    if (at >= 0 && thread->held[at] == m) {
-        thread->depth = at;
-        return;
-    }
-    while (at >= 0 && thread->held[at] != m)
-        at--;
-    if (at < 0)
-        return;
-    for (thread->depth--; at < thread->depth; at++)
-        thread->held[at] = thread->held[at + 1];
-}
-
-static inline int holds(struct thread *thread, struct monitor *m) {
-    return thread && m && atomic_load_explicit(&m->owner, memory_order_relaxed) == thread;
-}
-
-/* A mutex that its thread has locked already is entered only once. */
-static inline int entered(const void *mutex, int result, unsigned site) {
-    if (result && result != EOWNERDEAD)
-        return result;
-    struct monitor *m = monitor_of(mutex, site);
-    struct thread *thread = self();
-    if (!m || !thread)
-        return result;
-    if (holds(thread, m)) {
-        m->times++;
-        return result;
-    }
-    refresh(m);
-    if (atomic_load_explicit(&m->lost_one, memory_order_relaxed))
-        renew(m);
-    hold(m, thread, 1);
-    m->entered_at = site;
-    put(present_log(m), thread, ENTER, 0, site);
-    return result;
-}
-
-/* Mostly it is the mutex that was locked last, which needn't be looked for. */
-static inline void leave(const void *mutex, unsigned site) {
-    struct thread *thread = me;
-    struct monitor *m = thread && thread->depth ? thread->held[thread->depth - 1] : 0;
-    if (!holds(thread, m) || m->known.address != mutex)
-        m = monitor_of(mutex, site);
-    if (!holds(thread, m) || --m->times > 0)
-        return;
-    put(present_log(m), thread, LEAVE, 0, site);
-    let_go(m, thread);
-}
+#include "monk_holds.h"
 
 /* ---- acts, which the program reports (monk_log.h) */
 
@@ -260,6 +200,8 @@ static int wait_by(struct wait it) {
     pthread_cleanup_pop(0);
     int is_c11 = it.form == OF_C11 || it.form == TIMED_OF_C11;
     int is_late = is_c11 ? result == thrd_timedout : result == ETIMEDOUT;
+    if (result == EOWNERDEAD && it.condition)
+        leave_for_dead(it.monitor, it.site);
     end_wait(&it, is_late ? LAPSE : RESUME, result && !is_late && (is_c11 || result != EOWNERDEAD));
     return result;
 }

@@ -54,6 +54,8 @@ static void say_last(const char *prefix, int waits) {
         add(line, "; signals without the mutex: %d", told.noted + told.left_out);
     if (told.left_out)
         add(line, ", left out: %d", told.left_out);
+    if (told.unlocks)
+        add(line, "; unlocks by a thread that did not hold the mutex: %d", told.unlocks);
     if (seen.stray_acts)
         add(line, "; acts without the mutex, left out: %d", seen.stray_acts);
     if (seen.without_memory)
@@ -86,7 +88,9 @@ static void write_in_order(struct log *log, const char *prefix) {
     seat_outsiders(log);
     if (prefix && log->waits && log->length)
         write_log(log, prefix);
-    told.noted += (int)log->noted;
+    int unlocks = count_unlocks(log);
+    told.unlocks += unlocks;
+    told.noted += (int)log->noted - unlocks;
     told.left_out += log->left_out;
     told.cut_by_threads += log->stopped == MORE_THREADS;
     told.cut_by_conds += log->stopped == MORE_CONDS;

@@ -148,6 +148,7 @@ static const char *how_it_ended = "by itself";
 static struct {
     int number, first, written, taken; /* of files; how many names there were already */
     int cut_by_threads, cut_by_conds, noted, left_out; /* signals from outside that are in logs, and that aren't */
+    int unlocks;                                       /* of mutexes that other threads held */
     int error;
 } told;
 

@@ -50,7 +50,7 @@ struct condition {
     atomic_int order;
 };
 
-/* A signal by a thread that doesn't hold the mutex: it comes before the word of the log at its place. */
+/* A signal or an unlock by a thread that doesn't hold the mutex: it comes before the word of the log at its place. */
 struct outside {
     struct thread *thread;
     uint32_t place;

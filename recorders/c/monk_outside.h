@@ -1,8 +1,8 @@
-/* Signals by threads that don't hold the mutex. Part of libmonk_log.c. Such a signal has to come after the `wait` of
-   a thread that it serves and before its `resume`. So the condition's order is held while the signal is noted and
-   sent, and while these lines are written. The signal is no line yet, because other threads write lines meanwhile
-   without any lock. It is noted with its place, and gets its seat when the log is written. So a thread that is never
-   inside takes no seat from another. */
+/* Signals by threads that don't hold the mutex, and unlocks. Part of libmonk_log.c. Such a signal has to come after
+   the `wait` of a thread that it serves and before its `resume`. So the condition's order is held while the signal is
+   noted and sent, and while these lines are written. The signal is no line yet, because other threads write lines
+   meanwhile without any lock. It is noted with its place, and gets its seat when the log is written. So a thread that
+   is never inside takes no seat from another. */
 #ifndef MONK_OUTSIDE_H
 #define MONK_OUTSIDE_H
 
@@ -56,6 +56,19 @@ static void note_in(struct log *log, struct monitor *m, struct condition *c, str
     *noted = (struct outside){thread, (uint32_t)length_of(log), (uint8_t)it.verb, (uint8_t)number, (uint16_t)it.site};
 }
 
+/* A thread unlocks a mutex that another holds. */
+static void note_leave(struct log *log, struct thread *thread, unsigned site) {
+    if (!take_order(&log->order)) {
+        stop(log, NO_ORDER);
+        return;
+    }
+    if (!is_stopped(log) && has_outside_room(log)) {
+        struct outside *noted = &log->outside[log->noted++];
+        *noted = (struct outside){thread, (uint32_t)length_of(log), LEAVE, 0, (uint16_t)site};
+    }
+    end_order(&log->order);
+}
+
 /* The log of a mutex that isn't held, or null. (What a mutex has from before a fork isn't this process's.) */
 static struct log *log_beside(struct monitor *m) {
     return m && atomic_load(&m->process) == process ? atomic_load(&m->log) : 0;
@@ -98,6 +111,14 @@ SELDOM static void take_back(struct log *log, size_t before) {
 }
 
 /* ---- when the log is written */
+
+/* How many of what is noted are unlocks. */
+static int count_unlocks(const struct log *log) {
+    int unlocks = 0;
+    for (size_t i = 0; i < log->noted; i++)
+        unlocks += log->outside[i].verb == LEAVE;
+    return unlocks;
+}
 
 static int seat_at_the_end(struct log *log, const struct thread *thread) {
     for (int i = 0; i < log->nseats; i++)

@@ -20,7 +20,7 @@ the thread ends. `monitor.history()` is the text that `monk audit`, `monk explai
 `monk.compare` runs a scene without threads, in every order, under each kind (`scenes`); `Buffer(monk.Staged())` is
 such a scene of this very class.
 
-The library below is libmonk (docs/C.md): the file that MONK_LIBRARY names, else libmonk.so in this folder, else the
+The library below is libmonk (docs/C.md): the file that MONK_LIBRARY names, else the one beside this package, else the
 system's libmonk.so.1. A refused call raises an error named after the answer, and then nothing has changed."""
 
 from .calls import Call, Calls, condition, enter, leave, signal, signal_all, wait

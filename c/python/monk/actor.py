@@ -8,8 +8,9 @@ import os
 import sysconfig
 import traceback
 from dataclasses import dataclass
-from typing import Any, Optional, Tuple, Union
+from typing import Any, List, Optional, Tuple, Union
 
+from . import calls
 from .calls import Call
 from .errors import OutOfRange
 from .run import WRONG
@@ -24,13 +25,16 @@ OTHERS = (os.path.dirname(os.path.abspath(__file__)) + os.sep, sysconfig.get_pat
 class Over(Exception):
     """The run is over: its outcome, whose fault that is, and why."""
 
-    def __init__(self, outcome: str, who: str, why: str) -> None:
+    def __init__(self, outcome: str, who: str, why: str, is_misuse: bool = False, is_endless: bool = False) -> None:
         super().__init__(why)
-        self.outcome, self.who, self.why = outcome, who, why
+        self.outcome, self.who, self.why, self.is_misuse = outcome, who, why, is_misuse
+        # No other order has to be tried.
+        self.is_endless = is_endless
 
 
 class Steps:
     """The calls of a generator."""
+    first = {"outside": "`yield enter()` comes first", "inside": "`yield leave()` comes first"}
 
     def __init__(self, program: Program) -> None:
         self.generator: Any = program()
@@ -69,6 +73,8 @@ class Actor:
         self.steps = _steps(program)
         self.next: Optional[Call] = None
         self.place, self.served = "outside", Served()
+        # Calls that it made and didn't yield yet, with their lines.
+        self.unyielded: List[Tuple[Call, int]] = []
         seat.name = name
 
     @property
@@ -81,26 +87,50 @@ class Actor:
 
     def advance(self) -> None:
         """Runs the program up to its next call."""
+        calls.made.clear()
         try:
             call = next(self.steps)
         except StopIteration:
             return self._end()
+        except MemoryError:
+            raise                               # each other order would fill the memory again
+        except Over as over:                    # of a program in another language
+            over.who = self.name
+            raise
         except Exception as fault:
-            raise Over(WRONG, self.name, where(fault)) from None
+            self.unyielded += calls.made
+            forgotten = self.forgotten()
+            raise Over(WRONG, self.name, forgotten or where(fault), bool(forgotten)) from None
         if not isinstance(call, Call):
             why = f"yields {call!r} in line {self.steps.line}, which is no call: write `yield enter()` and the like"
             raise Over(WRONG, self.name, why)
         self.next = call
+        if self.unyielded or len(calls.made) > 1:
+            self.unyielded = [it for it in self.unyielded + calls.made if it[0] is not call]
+
+    def forgotten(self) -> str:
+        """Says which call it made and didn't yield, if there is one."""
+        if not self.unyielded:
+            return ""
+        call, line = self.unyielded[0]
+        return f"calls {calls.told(call)} in line {line}, and doesn't yield it: write `yield {call.verb}(..)`"
 
     def _end(self) -> None:
+        self.unyielded += calls.made
+        if self.unyielded:
+            raise Over(WRONG, self.name, self.forgotten(), is_misuse=True)
         if self.place == "inside":
             line = line_of(self.program)
-            raise Over(WRONG, self.name, f"ends inside: there is no leave (line {line}: its beginning)")
+            place = f"line {line}: its beginning" if line else f"its last call: line {self.steps.line}"
+            raise Over(WRONG, self.name, f"ends inside: there is no leave ({place})")
         self.next, self.place = None, "done"
 
 
-def _steps(program: Program) -> Union[Steps, Threaded]:
-    """The calls of a program. OutOfRange, with its name and line, if it needs arguments."""
+def _steps(program: Any) -> Any:
+    """The calls of a program: `next`, its line, `close`, and what comes before a call that can't be made yet.
+    OutOfRange, with its name and line, if it needs arguments."""
+    if hasattr(program, "steps"):
+        return program.steps()
     if not inspect.isgeneratorfunction(program):
         return Threaded(program)
     try:
@@ -114,7 +144,14 @@ def where(fault: BaseException) -> str:
     frames = traceback.extract_tb(fault.__traceback__)
     own = [frame for frame in frames if not frame.filename.startswith(OTHERS)]
     place = f" (line {own[-1].lineno}: {own[-1].line})" if own else ""
-    return f"{type(fault).__name__}: {fault}{place}"
+    return f"{type(fault).__name__}: {_said(fault)}{place}"
+
+
+def _said(fault: BaseException) -> str:
+    try:
+        return str(fault)
+    except Exception:
+        return "(its text can't be made)"
 
 
 Option = Tuple[Actor, str]

@@ -9,6 +9,10 @@ from .errors import OutOfRange
 KINDS = ("PB", "NPB", "PNB", "NPNB", "PQB", "NPQB", "PIR", "NPIR", "PIS", "NPIS")
 MODES = ("blocking", "non-blocking", "quasi-blocking", "immediate return", "automatic")
 KINDS_OF_A_MODE = 2
+# A kind's priorities. Where several fronts have the greatest one, the kind leaves open who comes next.
+RANKS = {kind: dict(zip(("entry", "waiter", "signaller"), ranks)) for kind, ranks in (
+    ("PB", (1, 3, 2)), ("NPB", (1, 2, 1)), ("PNB", (1, 2, 3)), ("NPNB", (1, 1, 2)), ("PQB", (1, 2, 2)),
+    ("NPQB", (1, 1, 1)), ("PIR", (1, 2, 1)), ("NPIR", (1, 1, 1)), ("PIS", (1, 2, 1)), ("NPIS", (1, 1, 1)))}
 WISHES = ("entry", "waiter", "signaller", "any")
 
 

@@ -1,26 +1,40 @@
 """Exercises that are graded: which of a student's scenes hold under which kinds, in every order.
 
-The check.py of an exercise makes its scenes around the student's procedures, and ends by `main`."""
+The check.py of an exercise makes its scenes around the student's procedures, and ends by `main`. Each check has a
+process of its own (grading.py), so whatever the student's file does, there is a verdict."""
 
 from __future__ import annotations
 
+import argparse
+import contextlib
+import hashlib
 import importlib.util
+import json
+import os
 import signal
 import sys
+import tempfile
 import textwrap
+import time
 import types
-from dataclasses import dataclass
-from typing import Any, Callable, List, NamedTuple, Sequence
+from dataclasses import asdict, dataclass
+from typing import Any, Callable, Dict, List, NamedTuple, Optional, Sequence
 
+from . import grading, in_c, lint
 from .actor import where
+from .grading import TooLong
 from .kinds import KINDS
-from .orders import Comparison, Orders, compare
+from .orders import Comparison, Finding, Orders, compare
+from .run import Run
 from .scene import Made
 
 WIDTH = 92
-# The limit of a check, in seconds of the processor. A check that is met takes one or two.
-MOST_SECONDS = 20
+# The limit of all checks, in seconds, and how much of it one may take. A check that is met takes one or two.
+MOST_SECONDS, MOST_OF_ONE = 27.0, 0.75
 INDENT = " " * 9
+# How much of a run is shown, and of what one check says.
+LAST_STEPS, MOST_LINES = 20, 28
+USAGE = "usage: python3 check.py [--json] [--seconds N] FILE"
 
 
 class Verdict(NamedTuple):
@@ -36,18 +50,38 @@ class Check:
     look: Callable[[], Verdict]
 
 
-class TooLong(BaseException):
-    """A check doesn't end: some program goes on without a call."""
+Checks = Callable[[Any], List[Check]]
 
 
-def holds(title: str, made: Made, kinds: Sequence[str] = KINDS, orders: Orders = "all") -> Check:
-    """The scene goes right under all these kinds, in the orders that `compare` takes."""
+@dataclass
+class Result:
+    """What became of a check."""
+    title: str
+    is_met: bool
+    words: str
+    printed: str = ""
+
+
+def holds(title: str, made: Made, kinds: Sequence[str] = KINDS, orders: Orders = "all",
+          waits: Sequence[str] = ()) -> Check:
+    """The scene goes right under all these kinds, in the orders that `compare` takes. waits: programs that have to
+    wait in some order, by the names of their functions: without them an answer in which nobody waits is right."""
     def look() -> Verdict:
         found = compare(made, kinds, orders)
-        runs = sum(finding.runs for finding in found.findings.values())
-        is_whole = all(finding.is_whole for finding in found.findings.values())
-        words = f"in all {runs} orders" if is_whole else f"in {runs} random orders"
-        return Verdict(False, _broken(found)) if found.breaks else Verdict(True, words)
+        if found.breaks:
+            return Verdict(False, _broken(found))
+        lacks = _never_wait(found, waits)
+        return Verdict(not lacks, lacks or _in_orders(found))
+    return Check(title, look)
+
+
+def must_wait(title: str, made: Made, names: Sequence[str], kinds: Sequence[str] = KINDS,
+              orders: Orders = "all") -> Check:
+    """Each program of these names waits in some order."""
+    def look() -> Verdict:
+        found = compare(made, kinds, orders)
+        lacks = _never_wait(found, names)
+        return Verdict(not lacks, lacks or "each does")
     return Check(title, look)
 
 
@@ -61,11 +95,48 @@ def breaks(title: str, made: Made, kinds: Sequence[str], orders: Orders = "all")
     return Check(title, look)
 
 
+def happens(title: str, made: Made, kinds: Sequence[str], has_happened: Callable[[], bool], hint: str) -> Check:
+    """In some order under these kinds something happens, which the scene notes. The hint says what is wrong if it
+    doesn't."""
+    def look() -> Verdict:
+        compare(made, kinds)
+        return Verdict(True, "yes") if has_happened() else Verdict(False, hint)
+    return Check(title, look)
+
+
+def some_order_breaks(title: str, made: Made, kinds: Sequence[str], hint: str) -> Check:
+    """In some order under these kinds the scene goes wrong, because something happens that its invariant forbids."""
+    def look() -> Verdict:
+        return Verdict(True, "yes") if compare(made, kinds).breaks else Verdict(False, hint)
+    return Check(title, look)
+
+
 def is_so(title: str, is_met: Callable[[], bool], hint: str) -> Check:
     """A check that needs no run of its own. The hint says what is wrong if it isn't so."""
     def look() -> Verdict:
         return Verdict(True, "yes") if is_met() else Verdict(False, hint)
     return Check(title, look)
+
+
+def knows(title: str, kinds: Sequence[str], digest: str, hint: str) -> Check:
+    """The student found these kinds. digest: that of their names, in order of the alphabet, by SHA-256, so that the
+    answer isn't in the check."""
+    def look() -> Verdict:
+        given = " ".join(sorted(map(str, kinds))).encode()
+        return Verdict(True, "yes") if hashlib.sha256(given).hexdigest() == digest else Verdict(False, hint)
+    return Check(title, look)
+
+
+def _in_orders(found: Comparison) -> str:
+    runs = sum(finding.runs for finding in found.findings.values())
+    is_whole = all(finding.is_whole for finding in found.findings.values())
+    return f"in all {runs} orders" if is_whole else f"in {runs} random orders"
+
+
+def _never_wait(found: Comparison, names: Sequence[str]) -> str:
+    waited = set().union(*(finding.waited for finding in found.findings.values()))
+    lacks = [name for name in names if name not in waited]
+    return f"right, but in no order does {' or '.join(lacks)} wait: it has to, while it can't go on" if lacks else ""
 
 
 def _broken(found: Comparison) -> str:
@@ -74,41 +145,25 @@ def _broken(found: Comparison) -> str:
     run = finding.example
     bad = sum(finding.bad.values())
     lines = [f"{finding.kind}, {bad} of {finding.runs} orders: {run.fault}, after event {run.at}", run.between,
-             run.picture(WIDTH) if run.story else "", f"The moves: {run.schedule}" if run.moves else "",
+             _misspelt(finding), run.picture(WIDTH, last=LAST_STEPS) if run.story else "", _moves(run),
              f"So it is under {', '.join(found.breaks[1:])}, too." if found.breaks[1:] else ""]
     return "\n".join(line for line in lines if line)
 
 
-def _looked(check: Check) -> Verdict:
-    """What the check finds. An error in the student's file doesn't end the other checks."""
-    try:
-        signal.setitimer(signal.ITIMER_PROF, MOST_SECONDS)
-        return check.look()
-    except TooLong as fault:
-        return Verdict(False, f"doesn't end within {MOST_SECONDS} seconds: {where(fault)}")
-    except Exception as fault:
-        return Verdict(False, where(fault))
-    finally:
-        signal.setitimer(signal.ITIMER_PROF, 0)
+def _moves(run: Run) -> str:
+    return f"The moves: {run.schedule}" if 0 < len(run.moves) <= 2 * LAST_STEPS else ""
 
 
-def grade(name: str, checks: Sequence[Check]) -> int:
-    """Prints what each check found. Returns 0 if all are met, else 1."""
-    def stop(*_: Any) -> None:
-        raise TooLong("some program goes on without a call")
-    signal.signal(signal.SIGPROF, stop)
-    print(name)
-    met = 0
-    for number, check in enumerate(checks, 1):
-        verdict = _looked(check)
-        met += verdict.is_met
-        if verdict.is_met:
-            print(f"  {number} yes  {check.title}: {verdict.words}")
-        else:
-            print(f"  {number} NO   {check.title}\n{textwrap.indent(verdict.words, INDENT)}")
-    print(f"{met} of {len(checks)}")
-    return 0 if met == len(checks) else 1
+def _misspelt(finding: Finding) -> str:
+    """A condition that is signalled in vain, if another is waited on in vain."""
+    for name in finding.signalled_on - finding.waited_on:
+        others = ", ".join(f"`{it}`" for it in sorted(finding.waited_on - finding.signalled_on))
+        if others:
+            return f"nobody ever waits on `{name}`; there is {others}"
+    return ""
 
+
+# ---- one check, in its child
 
 def _load(path: str) -> types.ModuleType:
     spec = importlib.util.spec_from_file_location("answer", path)
@@ -119,17 +174,150 @@ def _load(path: str) -> types.ModuleType:
     return module
 
 
-def main(name: str, checks_of: Callable[[Any], List[Check]]) -> None:
+def _in_words(fault: BaseException) -> str:
+    if isinstance(fault, TooLong):
+        return f"doesn't end in time: {where(fault).partition(': ')[2]}"
+    if isinstance(fault, SystemExit):
+        return f"ends the check: {where(fault)}: take that out"
+    return where(fault)
+
+
+def _looked(check: Check, judges: lint.Judges) -> Verdict:
+    try:
+        verdict = check.look()
+    except BaseException as fault:
+        return Verdict(False, _in_words(fault))
+    changed = judges.changed()
+    return Verdict(False, f"the file changes {changed}, by which it is judged") if changed else verdict
+
+
+class Exercise:
+    """An exercise, and the file that is checked."""
+
+    def __init__(self, path: str, checks_of: Checks, in_c: Optional[Checks], seconds: float) -> None:
+        self.path, self.checks_of, self.in_c = os.path.abspath(path), checks_of, in_c
+        self.most, self.end = seconds * MOST_OF_ONE, time.monotonic() + seconds
+        self.room = tempfile.TemporaryDirectory()
+
+    def _checks(self) -> List[Check]:
+        if self.path.endswith(".c") and self.in_c:
+            return self.in_c(in_c.Answer(self.path, self.room.name))
+        return self.checks_of(_load(self.path))
+
+    def loaded(self) -> Dict[str, Any]:
+        """In a child: the titles of the checks, or why the file can't be loaded. A file of C is built."""
+        judges = lint.Judges()
+        try:
+            checks = self._checks()
+        except in_c.NotBuilt as fault:
+            return {"fault": str(fault)}
+        except BaseException as fault:
+            return {"fault": _in_words(fault)}
+        changed = judges.changed()
+        return {"fault": f"the file changes {changed}, by which it is judged"} if changed else {
+            "titles": [check.title for check in checks]}
+
+    def looked(self, number: int) -> Dict[str, Any]:
+        """In a child: the verdict of a check."""
+        judges = lint.Judges()
+        verdict = _looked(self._checks()[number], judges)
+        return {"is_met": bool(verdict.is_met), "words": str(verdict.words)}
+
+    def left(self) -> float:
+        return min(self.most, self.end - time.monotonic())
+
+    def titles(self) -> List[str]:
+        answer = grading.asked(self.loaded, self.left(), self.path)
+        fault = answer.said.get("fault") if answer.said else _ended(answer)
+        if fault is not None:
+            raise ValueError("\n".join([str(fault), *_printed(answer.printed)]))
+        assert answer.said is not None
+        return list(map(str, answer.said["titles"]))
+
+    def result(self, number: int, title: str) -> Result:
+        if self.left() < 1:
+            return Result(title, False, "not tried: the checks before took all the time")
+        answer = grading.asked(lambda: self.looked(number), self.left(), self.path)
+        if answer.said is None:
+            return Result(title, False, _ended(answer), answer.printed)
+        is_met = answer.said.get("is_met") is True
+        return Result(title, is_met, str(answer.said.get("words")), "" if is_met else answer.printed)
+
+
+def _ended(answer: grading.Answer) -> str:
+    return answer.why + (f" (line {answer.line})" if answer.line else "")
+
+
+# ---- what is printed
+
+def _printed(text: str) -> List[str]:
+    return [f"It printed: {line}" for line in text.splitlines()]
+
+
+def _lines(number: int, result: Result) -> str:
+    if result.is_met:
+        return f"  {number} yes  {result.title}: {result.words}"
+    lines = result.words.splitlines()
+    lines = lines[:MOST_LINES] + ["and so on"] * (len(lines) > MOST_LINES)
+    lines += _printed(result.printed)
+    return f"  {number} NO   {result.title}\n{textwrap.indent(chr(10).join(lines), INDENT)}"
+
+
+def _grade(name: str, exercise: Exercise, is_json: bool) -> int:
+    titles = exercise.titles()
+    if not is_json:
+        print(name)
+    results: List[Result] = []
+    for number, title in enumerate(titles):
+        results.append(exercise.result(number, title))
+        if not is_json:
+            print(_lines(number + 1, results[-1]), flush=True)
+    met = sum(result.is_met for result in results)
+    if is_json:
+        print(json.dumps({"exercise": name, "met": met, "of": len(results), "checks": list(map(asdict, results))}))
+    else:
+        print(f"{met} of {len(results)}")
+    return 0 if met == len(results) else 1
+
+
+def _forgotten(name: str, words: List[str], is_json: bool) -> int:
+    """Each call that isn't yielded is named, and nothing is run: it would go wrong somewhere else."""
+    if is_json:
+        print(json.dumps({"exercise": name, "met": 0, "faults": words}))
+    else:
+        print("\n".join([name, *(f"  NO   {line}" for line in words), "none is tried before that is mended"]))
+    return 1
+
+
+def _told(exercise: Exercise, name: str, path: str, is_json: bool) -> int:
+    try:
+        with open(path, encoding="utf-8") as file:
+            forgotten = [] if path.endswith(".c") else lint.unyielded(file.read())
+        return _forgotten(name, forgotten, is_json) if forgotten else _grade(name, exercise, is_json)
+    except (OSError, ValueError) as fault:
+        words = f"{path}: {fault.strerror if isinstance(fault, OSError) else fault}"
+        if is_json:
+            print(json.dumps({"exercise": name, "error": words}))
+        print(words, file=sys.stderr)
+        return 2
+
+
+def _words() -> argparse.Namespace:
+    asked = argparse.ArgumentParser(usage=USAGE[len("usage: "):], add_help=False)
+    asked.add_argument("--json", action="store_true")
+    asked.add_argument("--seconds", type=float, default=MOST_SECONDS)
+    asked.add_argument("file")
+    return asked.parse_args()
+
+
+def main(name: str, checks_of: Checks, checks_in_c: Optional[Checks] = None) -> None:
     """The check of the file that the command line names. Status 0 if all is met, 1 if not, 2 if the file can't be
-    loaded."""
+    loaded. --json: one line for programs. --seconds: how long all checks may take, 27 if it isn't given.
+    checks_in_c: the checks of a file of C, given its in_c.Answer."""
     # (a reader that has seen enough, as `head`, ends the check)
     signal.signal(signal.SIGPIPE, signal.SIG_DFL)
-    if len(sys.argv) != 2:
-        print("usage: python3 check.py FILE", file=sys.stderr)
-        sys.exit(2)
-    try:
-        checks = checks_of(_load(sys.argv[1]))
-    except Exception as fault:
-        print(f"{sys.argv[1]}: {where(fault)}", file=sys.stderr)
-        sys.exit(2)
-    sys.exit(grade(name, checks))
+    words, status = _words(), 1
+    with contextlib.suppress(KeyboardInterrupt):
+        exercise = Exercise(words.file, checks_of, checks_in_c, words.seconds)
+        status = _told(exercise, name, words.file, words.json)
+    sys.exit(status)

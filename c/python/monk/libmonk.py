@@ -17,7 +17,8 @@ MOST_UNSIGNED, MOST_LONG = 2**32 - 1, 2 ** (8 * ctypes.sizeof(ctypes.c_long) - 1
 SYSTEMS_LIBRARY = "libmonk.so.1"
 # Calls with a pointer, and those with a pointer and the number of a condition or a flag.
 OF_A_POINTER = ("stop", "close", "free", "abandon", "place", "arrive", "poll", "leave")
-OF_A_NUMBER = ("start_wait", "start_signal", "start_wait_until", "broadcast", "signal_leave", "waiting")
+OF_A_NUMBER = ("start_wait", "start_signal", "start_wait_until", "broadcast", "signal_leave", "waiting",
+               "finish")
 
 
 class Shape(ctypes.Structure):
@@ -26,14 +27,22 @@ class Shape(ctypes.Structure):
                 ("flags", ctypes.c_uint), ("budget", ctypes.c_uint32), ("seed", ctypes.c_uint64)]
 
 
+def _beside() -> List[str]:
+    """Where the library may be beside this package: in its folder, in the sources, or where both were installed."""
+    folder = os.path.dirname(os.path.abspath(__file__))
+    places = [("libmonk.so",), ("..", "..", "out", "libmonk.so"), ("..", "..", SYSTEMS_LIBRARY),
+              ("..", "..", "..", SYSTEMS_LIBRARY)]
+    return [os.path.normpath(os.path.join(folder, *place)) for place in places]
+
+
 def _opened(way: Type[ctypes.CDLL]) -> ctypes.CDLL:
-    named = os.environ.get("MONK_LIBRARY")
-    beside = os.path.join(os.path.dirname(os.path.abspath(__file__)), "libmonk.so")
-    path = named or (beside if os.path.exists(beside) else SYSTEMS_LIBRARY)
+    named, beside = os.environ.get("MONK_LIBRARY"), _beside()
+    path = named or next((it for it in beside if os.path.exists(it)), SYSTEMS_LIBRARY)
     try:
         return way(path)
     except OSError as fault:
-        looked = f"MONK_LIBRARY ({named or 'not set'}); {beside}; {SYSTEMS_LIBRARY} where the system's loader looks"
+        looked = (f"MONK_LIBRARY ({named or 'not set'}); {', '.join(beside)}; {SYSTEMS_LIBRARY} where the system's "
+                  "loader looks")
         words = f"libmonk can't be loaded: {fault}. Looked for: {looked}. docs/C.md says how it is built."
         raise ImportError(words) from fault
 

@@ -5,7 +5,7 @@ from __future__ import annotations
 import functools
 import random
 from dataclasses import dataclass, field
-from typing import Callable, Dict, Iterator, List, Optional, Sequence, Tuple, Union
+from typing import Callable, Dict, Iterator, List, Optional, Sequence, Set, Tuple, Union
 
 from .actor import Option
 from .errors import OutOfRange
@@ -34,10 +34,14 @@ class Finding:
     # Whether every order of moves and every wish was tried.
     is_whole: bool = False
     worst: Optional[Run] = None
+    # Of all runs: the functions of programs that waited, and the conditions on which somebody waited, or signalled.
+    waited: Set[str] = field(default_factory=set)
+    waited_on: Set[str] = field(default_factory=set)
+    signalled_on: Set[str] = field(default_factory=set)
 
     @property
     def example(self) -> Run:
-        """The shortest run that went wrong, else the first; with its history."""
+        """The shortest run that went wrong, one with a misuse before others; else the first. With its history."""
         assert self.worst is not None, "at least one run is made"
         return self.worst
 
@@ -53,14 +57,18 @@ class Finding:
 
     def add(self, run: Run) -> None:
         self.runs += 1
+        self.waited |= run.waited
+        self.waited_on |= run.waited_on
+        self.signalled_on |= run.signalled_on
         if run.outcome != RIGHT:
             self.bad[run.outcome] = self.bad.get(run.outcome, 0) + 1
         if self.worst is None or _badness(run) < _badness(self.worst):
             self.worst = run
 
 
-def _badness(run: Run) -> Tuple[int, int]:
-    return ORDER.index(run.outcome), len(run.story)
+def _badness(run: Run) -> Tuple[int, bool, int]:
+    """A run with a misuse says best what is wrong, and then the shortest one."""
+    return ORDER.index(run.outcome), not run.is_misuse, len(run.story)
 
 
 @dataclass

@@ -4,7 +4,7 @@ from __future__ import annotations
 
 import html
 from dataclasses import dataclass, field
-from typing import Any, Dict, List, Tuple
+from typing import Any, Dict, List, Set, Tuple
 
 from .shared import in_words
 from .told import WIDTH_IN_A_NOTEBOOK, Told
@@ -27,6 +27,12 @@ class Run(Told):
     between: str = ""
     # Whether a program went on until its events were spent.
     is_endless: bool = False
+    # A call was made where it can't be, or wasn't yielded; or data were changed outside.
+    is_misuse: bool = False
+    # The functions of programs that waited; and the conditions on which somebody waited, or signalled.
+    waited: Set[str] = field(default_factory=set)
+    waited_on: Set[str] = field(default_factory=set)
+    signalled_on: Set[str] = field(default_factory=set)
     moves: List[str] = field(default_factory=list)
     # For each event: who made it, and what it was in words.
     story: List[Tuple[str, str]] = field(default_factory=list)

@@ -22,11 +22,15 @@ Program = Callable[[], Union[Iterator[Call], object]]
 class Scene:
     """Programs; a test that has to hold whenever the monitor is given up; and one that has to hold at the end of a
     run. A test fails if it returns a false value other than None, or raises an error. may_wait: the names of programs
-    that may rightly wait for ever."""
+    that may rightly wait for ever. guarded: the data that no program may change while it is outside; without it all
+    that the programs share, and () for none."""
     programs: Sequence[Program]
     invariant: Optional[Test] = None
     end: Optional[Test] = None
     may_wait: Sequence[str] = ()
+    guarded: Optional[Sequence[object]] = None
+    # What the programs share, if they aren't Python's: its `words()`, as those of shared.Shared.
+    shared: Any = None
 
 
 # A function that makes fresh data, and returns its programs. It is called anew for each run.

@@ -129,8 +129,14 @@ class Seat(ctypes.c_void_p):
         if timeout is not None and limit > MOST_LONG:
             raise OutOfRange(f"await_({timeout}): seconds are 0 to {MOST_LONG // MS_A_SECOND}")
         if self.handle.patience is not None or threading.current_thread() is threading.main_thread():
-            return self._await_in_slices(limit)
-        return self._tested(libmonk.library.monk_await(self._pointer(), limit), "await_") == INSIDE
+            return self._is_in(self._await_in_slices(limit))
+        return self._is_in(self._tested(libmonk.library.monk_await(self._pointer(), limit), "await_") == INSIDE)
+
+    def _is_in(self, is_in: bool) -> bool:
+        """Returns that. Who has come in waits for nothing."""
+        if is_in:
+            self.waits = ""
+        return is_in
 
     def _await_in_slices(self, limit: int) -> bool:
         """Waits for `limit` milliseconds. After each slice of them it looks for an interrupt, and at what else
@@ -161,7 +167,7 @@ class Seat(ctypes.c_void_p):
 
     def poll(self) -> bool:
         """Comes in, or goes on, if its turn has come."""
-        return self._tested(libmonk.library.monk_poll(self._pointer()), "poll") == INSIDE
+        return self._is_in(self._tested(libmonk.library.monk_poll(self._pointer()), "poll") == INSIDE)
 
     def enter(self) -> None:
         """Comes in. If an interrupt ends the call, the seat isn't inside; if it ends the wait, the seat is given up."""
@@ -273,9 +279,11 @@ class Seat(ctypes.c_void_p):
         if self.handle.mode == "immediate return":
             self.signal_leave(number)
             return
-        if self.handle.mode != "automatic":
+        if self.handle.mode == "automatic":
+            self._asked("finish", libmonk.library.monk_finish, self.handle.flags, number)
+        else:
             self.signal(number)
-        self.leave()
+            self.leave()
         self.has_signalled_out = True
 
     def history(self) -> str:

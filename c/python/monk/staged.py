@@ -76,10 +76,13 @@ os.register_at_fork(after_in_child=_idle.clear)
 
 class Threaded:
     """The calls of a plain function, which runs in a thread of its own until its next call."""
+    first = {"outside": "`with monitor:` comes first", "inside": "it is inside a `with monitor:` already"}
 
     def __init__(self, work: Callable[[], object]) -> None:
         self.work, self.is_gone, self.line = work, False, 0
         self.call: Optional[object] = None
+        # The monitor of its call.
+        self.monitor: Optional[_StagedLock] = None
         self.fault: Optional[BaseException] = None
         self.worker: Optional[_Worker] = None
         self.has_ended = self.is_running = False
@@ -115,11 +118,11 @@ class Threaded:
             raise StopIteration
         return self.call
 
-    def make(self, call: object) -> None:
+    def make(self, call: object, monitor: Optional[_StagedLock] = None) -> None:
         """Called by the program to make its call. Returns when the driver has made it."""
         if self.is_gone:
             raise _Gone
-        self.call, self.line = call, _line()
+        self.call, self.monitor, self.line = call, monitor, _line()
         self.back.release()
         self.turn.acquire()
         if self.is_gone:
@@ -144,56 +147,65 @@ def _line() -> int:
     return int(frame.f_lineno)
 
 
-def _make(call: Call) -> None:
-    if _here.program is None:
-        raise NotNow("a staged monitor is for the programs of a scene: monk.compare(scene), or monk.play(scene, kind)")
-    _here.program.make(call)
-
-
 class _StagedLock:
     """The part of a lock that a staged monitor and its conditions have."""
     # It isn't part of the data that a run reports.
     is_staged = True
 
+    @property
+    def of(self) -> _StagedLock:
+        """The monitor."""
+        return self
+
+    def _make(self, call: Call) -> None:
+        if _here.program is None:
+            raise NotNow("a staged monitor is for the programs of a scene: monk.compare(scene), or "
+                         "monk.play(scene, kind)")
+        _here.program.make(call, self.of)
+
     def acquire(self) -> bool:
-        _make(enter())
+        self._make(enter())
         return True
 
     def release(self) -> None:
-        _make(leave())
+        self._make(leave())
 
     def __enter__(self: S) -> S:
-        _make(enter())
+        self._make(enter())
         return self
 
     def __exit__(self, kind: Optional[type], *_: object) -> None:
         if kind is None:                            # an exception goes to the driver from where it was raised
-            _make(leave())
+            self._make(leave())
 
 
 class StagedCondition(_StagedLock):
     """Like monk.Condition, in a scene."""
 
-    def __init__(self, named: Named) -> None:
-        self.named = named
+    def __init__(self, named: Named, monitor: _StagedLock) -> None:
+        self.named, self.monitor = named, monitor
+
+    @property
+    def of(self) -> _StagedLock:
+        return self.monitor
 
     def wait(self) -> bool:
-        _make(wait(self.named))
+        self._make(wait(self.named))
         return True
 
     def wait_for(self, predicate: Callable[[], T]) -> T:
         result = predicate()
         while not result:
-            _make(wait(self.named.name, self.named.until or predicate))
+            self._make(wait(self.named.name, self.named.until or predicate))
             result = predicate()
         return result
 
     def notify(self, n: int = 1) -> None:
         for _ in range(n):
-            _make(signal(self.named))
+            self._make(signal(self.named))
 
     def notify_all(self) -> None:
-        _make(signal_all(self.named))
+        self._make(signal_all(self.named))
 
 
 class Staged(_StagedLock):
@@ -201,4 +213,4 @@ class Staged(_StagedLock):
 
     def condition(self, name: str, until: Optional[Test] = None) -> StagedCondition:
         """A condition. The test is for the automatic kinds, which have no signals."""
-        return StagedCondition(condition(name, until))
+        return StagedCondition(condition(name, until), self)

@@ -71,10 +71,10 @@ class Told:
         """What a page shows in addition to the history: names of seats and conditions."""
         return {"seats": _usual(self._names(), "seat"), "conditions": _usual(self._condition_names(), "condition")}
 
-    def picture(self, width: Optional[int] = None, is_plain: bool = False) -> str:
+    def picture(self, width: Optional[int] = None, is_plain: bool = False, last: Optional[int] = None) -> str:
         """The history as a picture of text, in strips as wide as the terminal, or `width` columns wide. If it is
-        plain, it is ASCII."""
-        return picture(self._text(), self._names(), self._condition_names(), width, is_plain)
+        plain, it is ASCII. last: only so many events, the last ones."""
+        return picture(self._text(), self._names(), self._condition_names(), width, is_plain, last)
 
     def _repr_html_(self) -> str:
         """In a notebook: the picture, as an SVG if there is a program `monk`."""
