@@ -28,7 +28,7 @@ enum {
     MOST_LOOKS = 4096,          /* some 20 us: a few times what a sleep costs */
     SHORT_LOOKS = 1024,         /* where looking doesn't pay: divided by the square of the number of seats */
     MOST_VAIN = 4,              /* after so many looks in vain in a row looking doesn't pay */
-    WAITS_A_TRY = 16,           /* then one of so many waits tries whether it does again */
+    WAITS_A_TRY = 64,           /* then one of so many waits tries whether it does again */
     NOT_KNOWN = 0,              /* how many visits come before that of a seat inside */
     PATIENCE_MS = 1000,
     VISIT = 2,                  /* events that a visit needs: an enter and a leave */
@@ -167,11 +167,10 @@ static inline int tries_again(tally *t) {
     return 1;
 }
 
-/* Notes how a thread's looks ended. */
+/* Notes how a thread's looks ended. While looking doesn't pay it looks briefly, which tells nothing. */
 static inline void note_look(tally *t, int was_let_in) {
-    unsigned vain = atomic_load_explicit(&t->vain, memory_order_relaxed);
-    unsigned then = was_let_in ? 0 : vain < MOST_VAIN ? vain + 1 : vain;
-    if (then != vain) atomic_store_explicit(&t->vain, then, memory_order_relaxed);
+    unsigned vain = atomic_load_explicit(&t->vain, memory_order_relaxed), then = was_let_in ? 0 : vain + 1;
+    if (vain < MOST_VAIN && then != vain) atomic_store_explicit(&t->vain, then, memory_order_relaxed);
 }
 
 /* Wakes the thread that waits for that word. The kernel has granted it before. It also wakes the one whose turn to
