@@ -28,7 +28,7 @@ enum {
     MOST_LOOKS = 4096,          /* some 20 us: a few times what a sleep costs */
     SHORT_LOOKS = 1024,         /* where looking doesn't pay: divided by the square of the number of seats */
     MOST_VAIN = 4,              /* after so many looks in vain in a row looking doesn't pay */
-    WAITS_A_TRY = 64,           /* then one of so many waits tries whether it does again */
+    WAITS_A_TRY = 1024,         /* then one of so many waits tries whether it does again */
     NOT_KNOWN = 0,              /* how many visits come before that of a seat inside */
     PATIENCE_MS = 1000,
     VISIT = 2,                  /* events that a visit needs: an enter and a leave */

@@ -71,7 +71,7 @@ export function taskOf(level, isBroken) {
   if (level.goal === 'predict') return `Say who goes on, before it is shown, under ${level.kinds.join(' and ')}.`;
   const kinds = level.kinds.length === KINDS.length ? 'all ten kinds' : level.kinds.join(', ');
   const without = level.without.length ? `, without ${level.without.join(' or ')}` : '';
-  return `Change the monitor: make it right in every order under ${kinds}${without}.${asked}`;
+  return `Change the monitor (click its text): make it right in every order under ${kinds}${without}.${asked}`;
 }
 
 /** What a repair lacks: '' if nothing.
@@ -85,6 +85,16 @@ export function lacks(level, monitor, played) {
   if (bad) return `${bad}: ${played[bad].bad} of ${played[bad].runs} orders go wrong.`;
   const missing = level.kinds.find((kind) => !played[kind]);
   return missing ? `${missing} is not played yet.` : '';
+}
+
+/** Why nobody could do a level as it is given, for the teacher who writes it: '' if nothing is in the way.
+ * @param {Level} level @param {Record<string, Played>} played @returns {string} */
+export function unfit(level, played) {
+  const { goal, kind, first, monitor } = level, broken = goal === 'break' ? kind : first;
+  const bad = (/** @type {string} */ it) => (played[it] ? played[it].bad : 0);
+  if (played[broken] && !bad(broken)) return `No order goes wrong under ${broken}: nobody can find one.`;
+  if (goal === 'claim' && bad(kind)) return `An order goes wrong under ${kind}: nobody can claim that none does.`;
+  return goal === 'repair' && !lacks(level, monitor, played) ? 'It is right already: there is nothing to repair.' : '';
 }
 
 /** The kind that a level begins with.

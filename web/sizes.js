@@ -17,7 +17,8 @@ const LOOPING = new Set([Kind.ForStatement, Kind.ForOfStatement, Kind.ForInState
   Kind.DoStatement]);
 const NESTING = new Set([...LOOPING, Kind.IfStatement, Kind.TryStatement, Kind.SwitchStatement]);
 
-/** What is in a node, but for other functions. @param {any} node @returns {any[]} */
+/** What is in a node, but for other functions.
+ * @param {any} node @returns {any[]} */
 function inside(node) {
   /** @type {any[]} */
   const found = [];
@@ -35,7 +36,8 @@ function depth(node, isElse = false) {
 /** @param {any} node @returns {number} */
 const loops = (node) => inside(node).reduce((sum, it) => sum + loops(it), Number(LOOPING.has(node.kind)));
 
-/** What is wrong with a function. @param {any} node @param {any} file @returns {string[]} */
+/** What is wrong with a function.
+ * @param {any} node @param {any} file @returns {string[]} */
 function faultsOf(node, file) {
   const line = (/** @type {number} */ at) => file.getLineAndCharacterOfPosition(at).line + 1;
   const sizes = [[line(node.end) - line(node.getStart()) + 1, LINES, 'lines'], [depth(node), DEEP, 'deep'],

@@ -121,7 +121,8 @@ class Interrupts(unittest.TestCase):
 
     def test_at_any_moment_while_another_visits(self) -> None:
         """The other thread goes on, whenever this one is interrupted in a visit or while it waits for entry."""
-        monitor, ends = monk.Monitor("NPNB", seats=3, budget=1 << 20), threading.Event()
+        # Seats that were given up at the entry are taken again once their turn has come.
+        monitor, ends = monk.Monitor("NPNB", seats=8, budget=1 << 20), threading.Event()
 
         def visit() -> None:
             with monitor:

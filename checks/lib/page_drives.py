@@ -75,7 +75,7 @@ class Drive:
                     right += self.answer(it, number, step, said)
                 elif step <= it.last and it.choice(step):
                     may = (it.choice(step) or {})["may"]
-                    self.must(f"step {step}", [] if "entry" in may else ["nothing is asked"])
+                    self.must(f"step {step}", [] if may == ["entry"] else ["nothing is asked"])
             self.compare(step, "answer")
         score = self.browser.run("document.getElementById('score').textContent")
         self.must("score", [] if score == (f"{right}/{asked}" if asked else "") else [f"{score}, not {right}/{asked}"])
@@ -83,19 +83,19 @@ class Drive:
     def answer(self, it: Shown, number: int, step: int, said: Told) -> bool:
         """Answers an open question, whose page mustn't show the answer before. Returns whether it was right."""
         event, may = it.event(step), (it.choice(step) or {})["may"]
-        took = seat_of(" ".join(event[RELEASES[event[0]] :]), event[1])
-        allowed = [seat_of(next_, event[1]) for next_ in may]
+        allowed = {seat_of(next_, event[1]) for next_ in may}
         guesses = [guess[1:].replace("seat ", "").replace("whoever enters next", "entry") for guess in said["guesses"]]
         found = differences({**said, "entry": []}, it.boxes(step - 1))
         found += [] if said["hidden"] == it.marks_behind(step) else [f"hidden are {said['hidden']}"]
         found += ["what stands below tells it"] if said["line"] or said["choices"] or said["verdict"] else []
-        found += [f"{allowed} may, and asked are {guesses}"] if not {*allowed} <= {*guesses} else []
-        index = step % len(guesses)
-        self.browser.press(str(index + 1))
-        is_right, told = guesses[index] in allowed, self.said(number)["answer"]
-        found += [] if told.startswith("Right" if is_right else "Not ") else [f"{told} of {guesses[index]}"]
-        is_told_right = (told == "Right.") == (is_right and guesses[index] == took)
-        found += [] if is_told_right else [f"{told} of {guesses[index]}, and it was {took}"]
+        found += [f"{allowed} may, and asked are {guesses}"] if not allowed <= {*guesses} else []
+        # who is ticked: all who may, the first alone, or all
+        ticked = {0: [it for it in guesses if it in allowed], 1: guesses[:1], 2: guesses}[step % 3]
+        for guess in ticked:
+            self.browser.press(str(guesses.index(guess) + 1))
+        self.browser.press("ArrowRight" if step % 2 and len(self.histories) == 1 else "Enter")
+        told, is_right = self.said(number)["answer"], {*ticked} == allowed
+        found += [] if told == judged(guesses, ticked, allowed, it.data["kind"]) else [f"{told} of {ticked}"]
         self.must(f"history {number}, question at {step}", found)
         return is_right
 
@@ -160,6 +160,17 @@ class Drive:
 def seat_of(next_: str, caller: str) -> str:
     """Whom a choice lets go on."""
     return caller if next_ == "stay" else next_.split()[-1]
+
+
+def judged(guesses: list[str], ticked: list[str], allowed: set[str], kind: str) -> str:
+    """What must be said of who is ticked."""
+    def names(some: list[str]) -> str:
+        words = ["whoever enters next" if it == "entry" else f"seat {it}" for it in some]
+        return " and ".join([", ".join(words[:-1]), words[-1]] if words[1:] else words)
+    wrong, missing = [it for it in ticked if it not in allowed], [it for it in guesses if it in allowed - {*ticked}]
+    if wrong or missing:
+        return " ".join([f"Not {names(wrong)}."] * bool(wrong) + [f"Also {names(missing)}."] * bool(missing))
+    return f"Right: {kind} leaves it open." if len(allowed) > 1 else "Right."
 
 
 def is_refused(event: list[str]) -> bool:

@@ -43,6 +43,18 @@ class Answer(NamedTuple):
     holder: tuple[int, int] | None
 
 
+class Ending(NamedTuple):
+    """How many sleep and are woken at the end, how many were served, how often a woken one was passed, how many signals
+    found nobody, and in which line of the file the last of these."""
+
+    asleep: int
+    woken: int
+    served: int = 0
+    passed: int = 0
+    unheard: int = 0
+    last_unheard: int | None = None
+
+
 def opening(setting: Setting) -> State:
     return State(None, (OUTSIDE,) * setting.seats, tuple(Thing.opening(setting.object, setting.size)))
 
@@ -112,6 +124,47 @@ def judged(setting: Setting, log: list[Step]) -> Answer:
         first = number if first is None and min(runs.values()) > 0 else first
     lock = next(iter(runs)).lock
     return Answer(misfit, min(runs.values()), first, None if lock is None else (lock, since))
+
+
+def lapses_next(seat: int, lines: list[Step]) -> bool:
+    """Whether the next line of that seat says that its wait ran out."""
+    return next((line.verb == "lapse" for line in lines if line.seat == seat), False)
+
+
+def tallied(so_far: Ending, x: State, y: State, line: Step, number: int) -> Ending:
+    """What is counted after the line with that number, which leads from x to y."""
+    woken = [sum(place[0] == "woken" for place in z.places) for z in (x, y)]
+    found = so_far._replace(asleep=sum(place[0] == "waiting" for place in y.places), woken=woken[1])
+    if line.verb in ("enter", "lapse"):
+        return found._replace(passed=so_far.passed + (woken[0] > 0))
+    if line.verb not in ("signal", "broadcast"):
+        return found
+    if ("waiting", line.numbers[0]) not in x.places:
+        return found._replace(unheard=so_far.unheard + 1, last_unheard=number)
+    return found._replace(served=so_far.served + woken[1] - woken[0])
+
+
+def told_by(setting: Setting, x: State, line: Step, runs_out: bool) -> list[State]:
+    """The states after the line, and after its wait has run out, if it does."""
+    found = [y for y in (after(setting, x, line, whom) for whom in (None, *range(setting.seats))) if y is not None]
+    return [z for z in (after(setting, y, Step("out", line.seat)) if runs_out else y for y in found) if z is not None]
+
+
+def endings(setting: Setting, log: list[Step], fitting: int) -> set[Ending]:
+    """How the runs of so many lines of the log end that have the fewest wake-ups that nobody sent. In each a wait runs
+    out just behind its own line, if its thread's next line says so, and who wakes unasked comes back at once."""
+    runs = {(opening(setting), Ending(0, 0)): 0}
+    for number, line in enumerate(log[:fitting], 2):
+        then: dict[tuple[State, Ending], int] = {}
+        runs_out = line.verb == "wait" and lapses_next(line.seat, log[number - 1:])
+        for (x, so_far), cost in runs.items():
+            woken = after(setting, x, Step("wake", line.seat)) if line.verb == "resume" else None
+            x, cost = (x, cost) if woken is None else (woken, cost + 1)
+            for y in told_by(setting, x, line, runs_out):
+                told = (y, tallied(so_far, x, y, line, number))
+                then[told] = min(cost, then.get(told, cost))
+        runs = then
+    return {told for (_, told), cost in runs.items() if cost == min(runs.values())}
 
 
 def wrong_with(text: str, setting: Setting, log: list[Step], unasked: int) -> str | None:

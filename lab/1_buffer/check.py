@@ -53,10 +53,10 @@ def checks(answer: Any) -> List[Check]:
     return checks_of(functools.partial(scene, answer), answer.WRONG_WITH_IF)
 
 
-def checks_in_c(answer: Any) -> List[Check]:
+def checks_of_compiled(answer: Any) -> List[Check]:
     def of(putters: int = 1, takers: int = 1, items: int = 1) -> Callable[[], Scene]:
         return answer.scene("buffer", putters, takers, items)
     return checks_of(of, answer.kinds("wrong_with_if"))
 
 
-main("Exercise 1: a buffer of one place", checks, checks_in_c)
+main("Exercise 1: a buffer of one place", checks, checks_of_compiled)

@@ -62,7 +62,7 @@ def checks(answer: Any) -> List[Check]:
     ]
 
 
-def checks_in_c(answer: Any) -> List[Check]:
+def checks_of_compiled(answer: Any) -> List[Check]:
     def of(readers: int, writers: int, what: str = "book") -> Callable[[], Scene]:
         return answer.scene(what, readers, writers)
     return [
@@ -76,4 +76,4 @@ def checks_in_c(answer: Any) -> List[Check]:
     ]
 
 
-main("Exercise 2: readers and writers", checks, checks_in_c)
+main("Exercise 2: readers and writers", checks, checks_of_compiled)

@@ -54,7 +54,7 @@ def checks(answer: Any) -> List[Check]:
     ]
 
 
-def checks_in_c(answer: Any) -> List[Check]:
+def checks_of_compiled(answer: Any) -> List[Check]:
     return [
         holds("one car from each side, under every kind", answer.scene("bridge", 0, 1)),
         holds("one east and two west, under PNB and NPNB", answer.scene("bridge", 0, 1, 1), ["PNB", "NPNB"]),
@@ -64,4 +64,4 @@ def checks_in_c(answer: Any) -> List[Check]:
     ]
 
 
-main("Exercise 3: a bridge of one lane", checks, checks_in_c)
+main("Exercise 3: a bridge of one lane", checks, checks_of_compiled)

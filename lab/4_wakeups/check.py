@@ -55,11 +55,11 @@ def checks(answer: Any) -> List[Check]:
     return wrong + [mended(answer, name, made) for name, made in scenes]
 
 
-def checks_in_c(answer: Any) -> List[Check]:
+def checks_of_compiled(answer: Any) -> List[Check]:
     wrong = [breaks(f"{name}: where it goes wrong", answer.scene("given", name), answer.kinds(f"wrong_{name}"))
              for name in SCENES]
     return wrong + [holds(f"{name}: mended, under every kind", answer.scene("mended", name), waits=WAITERS[name])
                     for name in SCENES]
 
 
-main("Exercise 4: lost wake-ups", checks, checks_in_c)
+main("Exercise 4: lost wake-ups", checks, checks_of_compiled)

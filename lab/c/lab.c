@@ -1,6 +1,7 @@
-/* lab.c - the process of a lab (c/python/monk/foreign.py). A line on standard input is `new WORDS`, which makes a fresh
- * scene; `go N`, which runs program N up to its next call; or `end`. Each is answered by a line of JSON. A program is a
- * context with a stack of its own. Each run has a child of its own, so its data are fresh, and a crash ends one run. */
+/* lab.c - the process of a lab (c/python/monk/foreign.py). A line on standard input is `new WORD WORDS`, which makes a
+ * fresh scene; `go NUMBERS`, which runs these programs one after the other, each up to its next call; or `end`. Each
+ * is answered by that first word and a line of JSON. A program is a context with a stack of its own. Each run has a
+ * child of its own, so its data are fresh, and a crash ends one run. */
 #define _GNU_SOURCE
 #include "lab.h"
 
@@ -17,7 +18,7 @@
 #include <unistd.h>
 
 enum { MOST = 32, MOST_WORDS = 8, LINE = 256, ANSWER = 1 << 16, STACK = 1 << 18, PAGE = 4096, AGAIN = 77, TOLD = 78,
-    USUAL_MS = 2000, A_SECOND_MS = 1000, A_MS_US = 1000 };
+    NEW = 4, GO = 3, USUAL_MS = 2000, A_SECOND_MS = 1000, A_MS_US = 1000 };
 
 struct program {
     const char *name, *verb, *on, *file;
@@ -46,7 +47,7 @@ static struct lab {
     lab_test invariant, end;
     ucontext_t driver;
     long limit_ms;
-    char answer[ANSWER];
+    char word[LINE], answer[ANSWER];
 } *lab;
 
 /* ---- answers */
@@ -71,7 +72,14 @@ static const char *between(int i) { return i ? "," : ""; }
 
 static const char *truth(lab_test test) { return !test ? "null" : test() ? "true" : "false"; }
 
+static void limit(long ms) {
+    struct itimerval it = {.it_value = {ms / A_SECOND_MS, ms % A_SECOND_MS * A_MS_US}};
+    setitimer(ITIMER_REAL, &it, 0);
+}
+
+/* What holds now, and the data. The tests are a student's, too. */
 static void say_state(void) {
+    limit(lab->limit_ms);
     say(",\"invariant\":%s,\"tests\":{", truth(lab->invariant));
     for (int i = 0; i < lab->tests_count; i++) {
         struct named_test it = lab->tests[i];
@@ -81,11 +89,18 @@ static void say_state(void) {
     for (int i = 0; i < lab->data_count; i++)
         say("%s\"%s\":\"%d\"", between(i), lab->data[i].name, *lab->data[i].value);
     say("}");
+    limit(0);
 }
 
 static void say_place(const struct program *program) {
     const char *file = strrchr(program->file, '/');
     say(",\"file\":\"%s\",\"line\":%d", file ? file + 1 : program->file, program->line);
+}
+
+/* Begins an answer. */
+static void begin_answer(void) {
+    lab->used = 0;
+    say("%s {", lab->word);
 }
 
 static void send(void) {
@@ -132,11 +147,6 @@ const char *lab_name(const void *condition, const char *words) {
 
 /* ---- a program, up to its next call */
 
-static void limit(long ms) {
-    struct itimerval it = {.it_value = {ms / A_SECOND_MS, ms % A_SECOND_MS * A_MS_US}};
-    setitimer(ITIMER_REAL, &it, 0);
-}
-
 static void back(struct program *me) {
     limit(0);
     swapcontext(&me->context, &lab->driver);
@@ -180,8 +190,8 @@ static void run(void) {
 
 static void too_long(int number) {
     (void)number;
-    lab->used = 0;
-    say("{\"endless\":%ld", lab->limit_ms);
+    begin_answer();
+    say("\"endless\":%ld", lab->limit_ms);
     send();
     _exit(TOLD);
 }
@@ -197,11 +207,16 @@ static void begin(struct program *program) {
     makecontext(&program->context, run, 0);
 }
 
-static void go(int number) {
-    struct program *program = &lab->programs[lab->here = number];
-    if (!program->has_begun) begin(program);
-    limit(lab->limit_ms);
-    swapcontext(&lab->driver, &program->context);
+/* Runs these programs one after the other, each up to its next call, and tells where the last one came to. */
+static void go(char *numbers) {
+    struct program *program = 0;
+    for (char *word = strtok(numbers, " "); word; word = strtok(0, " ")) {
+        program = &lab->programs[lab->here = atoi(word)];
+        if (!program->has_begun) begin(program);
+        limit(lab->limit_ms);
+        swapcontext(&lab->driver, &program->context);
+    }
+    if (!program) _exit(1);
     if (program->fault[0]) say("\"fault\":"), say_words(program->fault);
     else if (program->has_ended) say("\"ended\":true");
     else {
@@ -217,7 +232,8 @@ static void go(int number) {
 static void make(char *line) {
     char *words[MOST_WORDS];
     int count = 0;
-    for (char *word = strtok(line + 4, " "); word && count < MOST_WORDS; word = strtok(0, " ")) words[count++] = word;
+    strtok(line + NEW, " ");
+    for (char *word = strtok(0, " "); word && count < MOST_WORDS; word = strtok(0, " ")) words[count++] = word;
     lab_scene(count, words);
     say("\"programs\":[");
     for (int i = 0; i < lab->count; i++) say("%s\"%s\"", between(i), lab->programs[i].name);
@@ -235,10 +251,9 @@ static void hear(char *line) {
 }
 
 static void answer(char *line) {
-    lab->used = 0;
-    say("{");
+    begin_answer();
     if (line[0] == 'n') make(line);
-    else if (line[0] == 'g') go(atoi(line + 3));
+    else if (line[0] == 'g') go(line + GO);
     else say("\"end\":%s", truth(lab->end));
     send();
 }
@@ -249,16 +264,16 @@ static void one_run(char *line) {
     do {
         answer(line);
         hear(line);
-    } while (strncmp(line, "new ", 4));
+    } while (strncmp(line, "new ", NEW));
     _exit(AGAIN);
 }
 
 /* Tells of a run that ended before it was to, and said nothing. */
 static void tell_of(int status) {
-    lab->used = 0;
     if (WIFEXITED(status) && WEXITSTATUS(status) == TOLD) return;
-    if (WIFEXITED(status)) say("{\"fault\":\"ends the whole process (status %d)\"", WEXITSTATUS(status));
-    else say("{\"fault\":\"%s\"", strsignal(WTERMSIG(status)));
+    begin_answer();
+    if (WIFEXITED(status)) say("\"fault\":\"ends the whole process (status %d)\"", WEXITSTATUS(status));
+    else say("\"fault\":\"%s\"", strsignal(WTERMSIG(status)));
     send();
 }
 
@@ -278,6 +293,7 @@ int main(void) {
     signal(SIGALRM, too_long);
     for (hear(line);;) {
         int status;
+        snprintf(lab->word, LINE, "%.*s", (int)strcspn(line + NEW, " "), line + NEW);
         pid_t child = fork();
         if (child < 0) return 1;
         if (!child) one_run(line);

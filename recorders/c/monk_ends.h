@@ -5,8 +5,14 @@
 #include "monk_files.h"
 #include "monk_real.h"
 #include "monk_shake.h"
+#include <fcntl.h>
+#include <sys/stat.h>
 
-enum { STATUS_LATE = 124 /* as of timeout(1) */ };
+enum {
+    STATUS_LATE = 124, /* as of timeout(1) */
+    TICK = 20000000,   /* nanoseconds between two looks at the time */
+    DOTS = 2,          /* `.` and `..`, which count as links of a folder */
+};
 
 static pid_t this_process;
 static int is_child;
@@ -208,10 +214,34 @@ pid_t setsid(void) {
     return real.setsid();
 }
 
-/* Sleeps again if it is woken early, as setgid wakes all threads. */
+/* Whether the program's last thread has ended, and its first one before. The first stays until the process ends. */
+static int is_alone(void) {
+    char path[64], text[128] = "";
+    snprintf(path, sizeof path, "/proc/self/task/%d/stat", (int)getpid());
+    int file = open(path, O_RDONLY | O_CLOEXEC);
+    ssize_t length = file < 0 ? file : read(file, text, sizeof text - 1);
+    if (file >= 0)
+        close(file);
+    const char *state = length > 0 ? strrchr(text, ')') : 0;
+    struct stat threads;
+    return state && !strncmp(state, ") Z", 3) && !stat("/proc/self/task", &threads) && threads.st_nlink == DOTS + 2;
+}
+
+static int is_before(struct timespec one, struct timespec other) {
+    return one.tv_sec < other.tv_sec || (one.tv_sec == other.tv_sec && one.tv_nsec < other.tv_nsec);
+}
+
+/* Sleeps a little again and again. If no thread of the program is left, it ends as the C library does for the last one:
+   this thread doesn't count. */
 static void *watch_time(void *end) {
-    while (clock_nanosleep(CLOCK_MONOTONIC, TIMER_ABSTIME, end, 0) == EINTR)
-        ;
+    const struct timespec *last = end, tick = {0, TICK};
+    struct timespec time;
+    do {
+        nanosleep(&tick, 0);
+        if (is_alone())
+            exit(0);
+        clock_gettime(CLOCK_MONOTONIC, &time);
+    } while (is_before(time, *last));
     how_it_ended = "after MONK_SECONDS";
     _exit(STATUS_LATE);
 }

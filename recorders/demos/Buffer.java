@@ -22,7 +22,7 @@ public final class Buffer {
     private static final int PUTTERS = 3;
     private static final int TAKERS = 3;
     private static final int SIZE = 2;
-    private static final int ITEMS = 20;
+    private static final int ITEMS = 60;
     private static final int PUT = 0;
     private static final int TAKE = 1;
     private static final long SHORT_MICROSECONDS = 20;

@@ -25,7 +25,7 @@
 #include "../c/monk_log.h"
 
 /* as many putters as takers */
-enum { PUTTERS = 3, SIZE = 2, ITEMS = 20, ITEMS_IF_EARLY = 1000, PUT = 0, TAKE = 1, SHORT = 20000,
+enum { PUTTERS = 3, SIZE = 2, ITEMS = 60, ITEMS_IF_EARLY = 1000, PUT = 0, TAKE = 1, SHORT = 20000,
     SECOND = 1000000000 };
 
 static pthread_mutex_t lock = PTHREAD_MUTEX_INITIALIZER;

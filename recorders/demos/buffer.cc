@@ -17,7 +17,7 @@
 
 namespace {
 
-constexpr unsigned putters = 3, takers = 3, size = 2, items = 20, put_code = 0, take_code = 1;
+constexpr unsigned putters = 3, takers = 3, size = 2, items = 60, put_code = 0, take_code = 1;
 
 class Buffer {
 public:

@@ -25,7 +25,7 @@ const (
 	putters = 3
 	takers  = 3
 	size    = 2
-	items   = 60 // (more than in the other languages, because goroutines overtake each other less)
+	items   = 180 // (more than in the other languages, because goroutines overtake each other less)
 	put     = 0
 	take    = 1
 	pause   = 20 * time.Microsecond

@@ -29,7 +29,7 @@ sys.path.insert(0, os.path.join(os.path.dirname(os.path.abspath(__file__)), "../
 import monk_log
 
 # As many putters as takers; a pair has less room, so that no later notify makes up for one that was lost.
-PUTTERS, SIZE, SIZE_IF_SMALL, ITEMS, ITEMS_OF_TWO, ITEMS_IF_UNLOCKED = 3, 2, 1, 12, 20, 200
+PUTTERS, SIZE, SIZE_IF_SMALL, ITEMS, ITEMS_OF_TWO, ITEMS_IF_UNLOCKED = 3, 2, 1, 40, 20, 200
 PUT, TAKE = 0, 1
 # How long a timed wait lasts, when threads take turns, and how long a run may last, in seconds; the runs that may hang.
 SHORT, SWITCH, LONG, LONG_IF_HANGING, LONG_IF_SHAKEN, LONG_OF_TWO = 0.0002, 0.00002, 20, 0.4, 0.8, 2

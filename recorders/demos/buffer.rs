@@ -21,7 +21,7 @@ mod monk_log;
 const PUTTERS: usize = 3;
 const TAKERS: usize = 3;
 const SIZE: usize = 2;
-const ITEMS: u32 = 20;
+const ITEMS: u32 = 60;
 const PUT: u8 = 0;
 const TAKE: u8 = 1;
 const NOT_FULL: usize = 0;

@@ -58,10 +58,23 @@ export function gameOf(kernel, { source, unasked = 0, kinds = KINDS, isKept = fa
   return game;
 }
 
-/** The end that a kind shows first: what it can't say, what goes wrong, what is stuck.
- * @param {Played} kind
- * @returns {End | null} */
-export function worstOf(kind) {
+/** Remembers what is said of a kind, since each move asks for it, and its situations are many.
+ * @template T @param {(kind: Played) => T} say @returns {(kind: Played) => T} */
+export function remembered(say) {
+  /** @type {WeakMap<Played, {said: T}>} */
+  const known = new WeakMap();
+  return (kind) => {
+    const found = known.get(kind) || { said: say(kind) };
+    known.set(kind, found);
+    return found.said;
+  };
+}
+
+/** The end that a kind shows first: what it can't say, what goes wrong, what is stuck. */
+export const worstOf = remembered(worstNow);
+
+/** @param {Played} kind @returns {End | null} */
+function worstNow(kind) {
   const ends = kind.states.map((it) => it.end), of = (/** @type {string} */ outcome) =>
     ends.find((end) => end && end[0] === outcome);
   return of('no such call') || of('wrong') || of('stuck') || null;

@@ -12,16 +12,18 @@ import { Stage } from './stage.js';
 /** An event: whose seat, words, and the rule behind it.
  * @typedef {[number, string, string?]} Event */
 /**
- * A situation. `ways` are the moves from it: whose seat, the wish, words; `to` and `told` say where each leads, and
- * what it makes happen; `from` is how it was found first. In a forced one the only move gives nothing up.
+ * A situation. `ways` are the moves from it: whose seat, the wish, words; `options` are how the stage makes them; `to`
+ * and `told` say where each leads, and what it makes happen; `from` is how it was found first. In a forced one the only
+ * move gives nothing up.
  * @typedef {{where: Where, lines: number[], data: string, ways: [number, string, string][], to: number[],
- *   told: Event[][], end: End | null, from: [number, number], isForced: boolean}} State
+ *   options: [number, string][], told: Event[][], end: End | null, from: [number, number], isForced: boolean}} State
  */
 /** Where a run was before a move, and the move.
  * @typedef {{at: number, way: number, option: import('./stage.js').Option, where: Where, who: number, count: number}} Before
  */
 
-const MOST_STATES = 20000, UNKNOWN = -1;
+/** How many situations are looked through for one from which a run goes on. */
+const MOST_STATES = 20000, UNKNOWN = -1, NEAR = 32;
 
 /** What a way does, in words.
  * @param {Stage} stage @param {Actor} actor @param {string} wish @returns {string} */
@@ -104,37 +106,61 @@ export class Graph {
 
   /** @param {Stage} stage @param {number[]} path */
   play(stage, path) {
-    let end = attempt(() => stage.begin()), before = this.follow(stage, path);
+    stage.isKnown = path.length > 0;
+    let end = attempt(() => stage.begin()), before = path.length ? this.follow(stage, 0, path) : null;
     for (;;) {
       if (before) end = attempt(() => stage.move(.../** @type {Before} */ (before).option));
       const found = end ? [] : stage.options();
       if (!found.length && !end) end = attempt(() => stage.testEnd()) || ['right', '', ''];
       const where = look(stage, before), at = this.state(stage, where, found, before, end);
       this.link(stage, before, where, at);
-      // what follows a situation that is known is played by other runs, unless each history is wanted
-      if (end || !(this.isKept || this.states[at].to.includes(UNKNOWN))) break;
-      before = this.beforeOf(stage, at, Math.max(0, this.states[at].to.indexOf(UNKNOWN)));
+      const more = end ? [] : this.onward(at);
+      if (!more.length) break;
+      before = this.follow(stage, at, more);
     }
     if (this.isKept && end) this.histories.push([end[0], stage.history()]);
   }
 
-  /** Makes all moves of the path but the last one.
-   * @param {Stage} stage @param {number[]} path @returns {Before | null} */
-  follow(stage, path) {
-    /** @type {Before | null} */
-    let before = null;
-    let at = 0;
-    for (const way of path) {
-      if (before) stage.move(...before.option);
-      before = this.beforeOf(stage, at, way);
+  /** The ways to the nearest one that isn't known, if it is near: so the run goes on, where another would begin anew.
+   * If each history is wanted, it goes on anyhow.
+   * @param {number} from @returns {number[]} */
+  onward(from) {
+    /** @type {{at: number, path: number[]}[]} */
+    const near = [{ at: from, path: [] }], seen = new Set([from]);
+    if (this.isKept) return [Math.max(0, this.states[from].to.indexOf(UNKNOWN))];
+    for (const { at, path } of near) {
+      const { to } = this.states[at], way = to.indexOf(UNKNOWN);
+      if (way >= 0) return [...path, way];
+      to.forEach((next, i) => near.length < NEAR && !seen.has(next) && seen.add(next) &&
+        near.push({ at: next, path: [...path, i] }));
+    }
+    return [];
+  }
+
+  /** Makes all moves of the path but the last one. They were made before, so nothing is tested again.
+   * @param {Stage} stage @param {number} from @param {number[]} path @returns {Before} */
+  follow(stage, from, path) {
+    const last = path.length - 1;
+    let at = from;
+    stage.isKnown ||= last > 0;
+    for (const way of path.slice(0, last)) {
+      stage.move(...this.option(stage, at, way));
       at = this.states[at].to[way];
     }
-    return before;
+    if (stage.isKnown) stage.data = stage.variables(stage.actors[0]);
+    stage.isKnown = false;
+    return this.beforeOf(stage, at, path[last]);
+  }
+
+  /** @param {Stage} stage @param {number} at @param {number} way @returns {import('./stage.js').Option} */
+  option(stage, at, way) {
+    const [who, wish] = this.states[at].options[way];
+    return [stage.seat(who), wish];
   }
 
   /** @param {Stage} stage @param {number} at @param {number} way @returns {Before} */
   beforeOf(stage, at, way) {
-    const option = stage.options()[way];
+    const option = this.option(stage, at, way);
     return { at, way, option, where: this.states[at].where, who: option[0].i, count: stage.story.length };
   }
 
@@ -158,6 +184,7 @@ export class Graph {
     this.states.push({ where, lines: stage.actors.map((it) => (it.next ? it.next.line : 0)),
       data: stage.data.join(', '), to: found.map(() => UNKNOWN), told: found.map(() => []), end,
       ways: found.map(([it, wish]) => [it.i, it === stage.nobody ? '' : wish, wordsOf(stage, it, wish)]),
+      options: found.map(([it, wish]) => [it.i, wish]),
       from: before ? [before.at, before.way] : [0, 0],
       isForced: found.length === 1 && only[0].place === 'inside' });
     return at;
@@ -166,8 +193,10 @@ export class Graph {
   /** The ways that differ: wishes that come to the same are one.
    * @param {State} state @returns {number[]} */
   apart(state) {
-    const keys = state.ways.map(([who], way) => JSON.stringify([who, state.to[way], state.told[way]]));
-    return state.ways.map((_, way) => way).filter((way) => keys.indexOf(keys[way]) === way);
+    const { ways, to, told } = state, isSame = (/** @type {number} */ one, /** @type {number} */ other) =>
+      to[one] === to[other] && ways[one][0] === ways[other][0] && isSameTold(told[one], told[other]);
+    const numbers = ways.map((_, way) => way);
+    return numbers.filter((way) => numbers.findIndex((other) => isSame(other, way)) === way);
   }
 
   /** How many orders each situation has, and how many of them go wrong.
@@ -189,6 +218,10 @@ export class Graph {
   }
 }
 
+/** @param {Event[]} one @param {Event[]} other */
+const isSameTold = (one, other) => one.length === other.length &&
+  one.every((it, i) => it.length === other[i].length && it.every((part, k) => part === other[i][k]));
+
 /** The end of a run, if the step ends it.
  * @param {() => void} step @returns {End | null} */
 function attempt(step) {
@@ -206,12 +239,12 @@ function attempt(step) {
  * @returns {Where} */
 function look(stage, before) {
   const now = stage.actors.map((it) => (it.place === 'condition' ? `on ${it.on}` : it.place));
-  const was = before ? Object.entries(before.where).flatMap(([queue, seats]) => seats.map((i) => ({ queue, i }))) :
-    stage.actors.map(({ i }) => ({ queue: '', i }));
-  const stay = was.filter(({ queue, i }) => now[i] === queue), come = was.filter(({ queue, i }) => now[i] !== queue);
+  const was = before ? before.where : /** @type {Where} */ ({ '': stage.actors.map((it) => it.i) });
   /** @type {Where} */
   const where = {};
-  for (const { i } of [...stay, ...come]) (where[now[i]] ||= []).push(i);
+  const put = (/** @type {number} */ i) => (where[now[i]] ||= []).push(i);
+  for (const queue in was) was[queue].filter((i) => now[i] === queue).forEach(put);
+  for (const queue in was) was[queue].filter((i) => now[i] !== queue).forEach(put);
   return where;
 }
 
@@ -219,9 +252,11 @@ function look(stage, before) {
  * @param {Stage} stage @param {Where} where @param {End | null} end */
 function keyOf(stage, where, end) {
   const { scene } = stage, objects = [scene.identities, scene.older];
-  const seats = stage.actors.map((it) => [it.place, it.site, it.next && it.next.site, it.seen]);
-  return JSON.stringify([stage.unasked, Object.entries(where).sort(), stage.data, stage.told, [...stage.tests.keys()],
-    seats, end || objects]);
+  const seats = stage.actors.map((it) => `${it.place} ${it.site} ${it.next && it.next.site}`).join();
+  const queues = Object.keys(where).sort().map((queue) => `${queue}: ${where[queue].join()}`);
+  const seen = scene.isKept ? stage.actors.map((it) => it.seen) : [];
+  const tests = [...stage.tests.keys()];
+  return JSON.stringify([stage.unasked, seats, queues, stage.data, stage.told, tests, seen, end || objects]);
 }
 
 /** What a move made happen, with the rule behind it.

@@ -7,7 +7,7 @@ export const KINDS = ['PB', 'NPB', 'PNB', 'NPNB', 'PQB', 'NPQB', 'PIR', 'NPIR', 
 const MODES = ['blocking', 'non-blocking', 'quasi-blocking', 'immediate return', 'automatic'];
 /** Who knows the kind by another name.
  * @type {Record<string, string>} */
-export const KNOWN_AS = { PB: 'Hoare', NPNB: 'Mesa: POSIX, Java, Go', PNB: 'Mesa, waiters first', PIR: 'Concurrent Pascal',
+const KNOWN_AS = { PB: 'Hoare', NPNB: 'Mesa: POSIX, Java, Go', PNB: 'Mesa, waiters first', PIR: 'Concurrent Pascal',
   PIS: 'automatic', NPIS: 'automatic, level' };
 /** The priorities of callers, waiters and signallers, for the sentence that says why.
  * @type {Record<string, number[]>} */
@@ -27,7 +27,7 @@ const SERVED_FIRST = 'The one who is served goes on at once, before anybody else
 const NO_SIGNALS = 'There are no signals: at each release the tests are looked at anew. ';
 /** What each kind promises.
  * @type {Record<string, string>} */
-export const PROMISE = {
+const PROMISE = {
   PB: SERVED_FIRST,
   NPB: SERVED_FIRST,
   PNB: 'The signaller goes on, but then who was served comes before every caller.',
@@ -39,3 +39,7 @@ export const PROMISE = {
   PIS: `${NO_SIGNALS}Who waits for one that holds comes before every caller.`,
   NPIS: `${NO_SIGNALS}Who waits comes in only while its test holds.`,
 };
+
+/** The kind, who knows it by another name, and what it promises.
+ * @param {string} kind @returns {string} */
+export const promiseOf = (kind) => `${kind}${KNOWN_AS[kind] ? ` (${KNOWN_AS[kind]})` : ''}: ${PROMISE[kind]}`;

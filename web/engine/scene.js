@@ -46,6 +46,8 @@ export class Scene {
      * @type {Set<string>} */
     this.mayWait = new Set();
     this.line = this.steps = 0;
+    /** Whether a program keeps values. */
+    this.isKept = false;
     /** The line of the last statement. */
     this.last = 0;
     /** How many wait on a condition: the stage says it.
@@ -88,6 +90,7 @@ export class Scene {
 
   /** @param {{name: string, count: number, isDaemon: boolean, keeps: boolean, body: (me: number) => any}} of */
   thread({ name, count, isDaemon, keeps, body }) {
+    this.isKept ||= keeps;
     for (let me = 0; me < (count || 1); me++) {
       const own = count ? `${name}${me}` : name;
       this.programs.push({ name: own, begin: () => body(me), keeps });
@@ -105,7 +108,7 @@ export class Scene {
       const values = it();
       for (const name in values) found.push(`${name} = ${told(values[name], seen)}`);
     }
-    if (this.programs.some((it) => it.keeps)) this.identify(seen);
+    if (this.isKept) this.identify(seen);
     return found;
   }
 

@@ -1,7 +1,7 @@
 // The page: a text, what came of it under each kind, and the game in one of them.
 // @ts-check
 import { KINDS } from '../engine/kinds.js';
-import { firstOf, headerOf, isLevel, lacks, levelOf } from '../levels.js';
+import { firstOf, headerOf, isLevel, lacks, levelOf, unfit } from '../levels.js';
 import { showBoard } from './board.js';
 import { byId } from './dom.js';
 import { Editor } from './editor.js';
@@ -120,7 +120,7 @@ export class App {
   /** The text has changed: what was played is not of it. */
   touch() {
     if (!this.level && this.scene !== OWN_LEVEL) this.scene = '';
-    if (this.level) this.kept.texts[this.key] = this.editor.own;
+    if (this.level && !this.isEdited) this.kept.texts[this.key] = this.editor.own;
     keep(this.kept);
     this.play = null;
     this.editor.mark(0);
@@ -135,6 +135,7 @@ export class App {
     this.play = this.riddle = null;
     this.more = '';
     this.begun = performance.now();
+    this.tell('', '');
     editor.lay();
     byId('fault').textContent = '';
     if (!this.readLevel()) return;
@@ -200,6 +201,7 @@ export class App {
       if (!left) this.meet();
       else this.more = this.editor.own === level.monitor ? '' : left;
     }
+    if (level && this.isEdited) this.more = unfit(level, this.played);
     if (level && level.goal === 'predict' && !this.isMet && !this.isEdited) this.ask(level);
     this.showGoal();
   }
@@ -214,9 +216,9 @@ export class App {
       this.showTable();
     }, (atOnce, of) => {
       this.riddle = null;
-      byId('told').textContent = `${atOnce} of ${of} at once.`;
       this.meet();
-      this.show();
+      this.begin(this.played[this.kind]);
+      this.tell(`${atOnce} of ${of} at once.`, 'good');
     });
     this.riddle.begin(level.kinds.map((it) => this.played[it]));
     this.show();

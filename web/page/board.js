@@ -1,5 +1,6 @@
 // The monitor with its queues, as it is in a situation.
 // @ts-check
+import { remembered } from '../engine/game.js';
 import { byId, make, styleOf } from './dom.js';
 
 /** @typedef {import('../engine/game.js').Played} Played */
@@ -12,10 +13,9 @@ function boxOf(title, queue, state, seats) {
   return box;
 }
 
-/** The conditions on which somebody waits in some situation.
- * @param {Played} kind @returns {string[]} */
-const conditionsOf = (kind) => [...new Set(kind.states.flatMap(({ where }) => Object.keys(where)))]
-  .filter((queue) => queue.startsWith('on ')).sort();
+/** The conditions on which somebody waits in some situation. */
+const conditionsOf = remembered((kind) => [...new Set(kind.states.flatMap(({ where }) => Object.keys(where)))]
+  .filter((queue) => queue.startsWith('on ')).sort());
 
 /** @param {Played} kind @param {Situation} state @param {string[]} seats */
 export function showBoard(kind, state, seats) {

@@ -1,5 +1,6 @@
 // The level that is played: what is to be done, what is done, and the riddle whose answers are shown afterwards.
 // @ts-check
+import { promiseOf } from '../engine/kinds.js';
 import { taskOf } from '../levels.js';
 import { button, byId, make } from './dom.js';
 import { questionsOf } from './questions.js';
@@ -27,7 +28,7 @@ export function showGoal({ level, number, isMet, isBroken, isOwn, more, about, g
   if (level.first && isBroken && !isMet) place.append(make('span', 'good', ' Broken. '));
   if (more) place.append(make('span', 'bad', ` ${more}`));
   if (resets) place.append(' ', button('Its own text again', resets));
-  if (isMet) place.append(learned(level), ...(goes ? [button('Next level', goes, 'next')] : []));
+  if (isMet) place.append(' ', learned(level), ...(goes ? [button('Next level', goes, 'next')] : []));
 }
 
 /** @param {Level} level */
@@ -82,7 +83,7 @@ export class Riddle {
     this.tries += 1;
     if (seat !== it.answer) {
       told.className = 'bad';
-      told.textContent = `Not ${this.seats[seat]}. Look at the queues, and at what ${it.kind} promises.`;
+      told.textContent = `Not ${this.seats[seat]}. ${promiseOf(it.kind)}`;
       return;
     }
     this.atOnce += Number(this.tries === 1);

@@ -1,6 +1,6 @@
 // The choices of a game, what happened so far with the rule that decided each step, and how it ended.
 // @ts-check
-import { PROMISE } from '../engine/kinds.js';
+import { promiseOf } from '../engine/kinds.js';
 import { button, byId, make, many, styleOf } from './dom.js';
 
 /** @typedef {import('./play.js').Play} Play */
@@ -54,7 +54,8 @@ export function showStory(play) {
     [make('span', 'event', `${seats[seat]} ${words}.`), ...(rule ? [make('span', 'rule', rule)] : [])]);
   const start = 'You are the scheduler: who is outside may arrive, who is inside goes on, and where a kind leaves it open ' +
     'you say who comes next.';
-  byId('say').replaceChildren(...(play.path.length ? said : [make('span', 'rule', start)]));
+  const begun = [start, promiseOf(play.kind.kind)].map((it) => make('span', 'rule', it));
+  byId('say').replaceChildren(...(play.path.length ? said : begun));
   byId('log').replaceChildren(...all.map(({ event: [seat, words] }) => make('li', '', `${seats[seat]} ${words}`)));
   byId('log').scrollTop = byId('log').scrollHeight;
   showEnd(play);
@@ -73,7 +74,7 @@ function showEnd(play) {
     const what = `${outcome === 'stuck' ? 'Stuck: ' : who ? `${who}: ` : ''}${why}.`;
     place.append(make('b', '', `You broke ${kind}, in ${many(play.path.length, 'move')}. `), make('span', '', what),
       make('p', '', play.between()),
-      make('p', 'rule', `${bad.toLocaleString('en')} of ${many(runs, 'order')} ${bad === 1 ? 'goes' : 'go'} wrong. ${PROMISE[kind]}`));
+      make('p', 'rule', `${bad.toLocaleString('en')} of ${many(runs, 'order')} ${bad === 1 ? 'goes' : 'go'} wrong. ${promiseOf(kind)}`));
   }
 }
 

@@ -1,7 +1,7 @@
 // The ten kinds: which one is played, and what came of each.
 // @ts-check
-import { worstOf } from '../engine/game.js';
-import { KINDS, KNOWN_AS, PROMISE } from '../engine/kinds.js';
+import { remembered, worstOf } from '../engine/game.js';
+import { KINDS, promiseOf } from '../engine/kinds.js';
 import { byId, listed, make } from './dom.js';
 
 /** @typedef {import('../engine/game.js').Played} Played */
@@ -11,9 +11,8 @@ import { byId, listed, make } from './dom.js';
 /** From here on a number is rounded, as in 1.5M. */
 const SHORT = 100000, COMPACT = /** @type {const} */ ({ notation: 'compact', maximumFractionDigits: 1 });
 
-/** Whether the scene can be said under the kind.
- * @param {Played} kind */
-export const isSaid = (kind) => !kind.states.some(({ end }) => end && end[0] === 'no such call');
+/** Whether the scene can be said under the kind. */
+export const isSaid = remembered((kind) => !kind.states.some(({ end }) => end && end[0] === 'no such call'));
 
 /** What came of a kind: in short, what a small screen leaves out, and the class.
  * @param {Played | undefined} kind @param {boolean} isHidden @returns {[string, string, string]} */
@@ -33,7 +32,7 @@ export function showKinds({ played, on, isHidden, take }) {
     element.setAttribute('role', 'radio');
     element.setAttribute('aria-checked', String(name === on));
     element.tabIndex = name === on ? 0 : -1;
-    element.title = `${KNOWN_AS[name] ? `${KNOWN_AS[name]}. ` : ''}${PROMISE[name]}`;
+    element.title = promiseOf(name);
     element.disabled = !played[name] || !isSaid(played[name]);
     element.addEventListener('click', () => take(name));
     return element;

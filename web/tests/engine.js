@@ -8,7 +8,8 @@ import { kernelOf, textOf } from './kernel.js';
 import { playSingly } from './play_singly.js';
 
 const LEAST = 29000;
-/** Each scene, and how many wake-ups nobody asked for. @type {[string, number][]} */
+/** Each scene, and how many wake-ups nobody asked for.
+ * @type {[string, number][]} */
 const SCENES = [['shared/buffer', 0], ['shared/buffer', 1], ['shared/signal_first', 1], ['shared/one_signal', 1],
   ['shared/bridge', 0], ['shared/readers', 0], ['../scenes/h2o', 0], ['../scenes/h2o_wrong', 1],
   ['../scenes/barrier', 0], ['locals', 0], ['locals', 1], ['handed', 1], ['twice', 0], ['older', 0], ['own_test', 0]];

@@ -6,8 +6,7 @@ import { kernelOf, textOf } from './kernel.js';
 
 const LEAST = 60;
 /** A file of texts: a line `--- LINE WORDS` before each (`--- right` where there is no fault). `BODY` in the first
- * line of
- * a text is put into the monitor below, whose body is line 5. */
+ * line of a text is put into the monitor below, whose body is line 5. */
 const FRAME = ['monitor M {', '  let items = [];', '  condition item;', '  procedure f() {', '    BODY', '  }', '}', 'THREADS', ''];
 const THREADS = 'thread a { f(); }';
 
@@ -20,7 +19,8 @@ function whole(text) {
 
 const kernel = await kernelOf();
 
-/** What is said of the text: the fault, or how it goes wrong. @param {string} source @returns {string} */
+/** What is said of the text: the fault, or how it goes wrong.
+ * @param {string} source @returns {string} */
 function saidOf(source) {
   try {
     const end = worstOf(gameOf(kernel, { source, kinds: ['NPNB'] }).kinds.NPNB);

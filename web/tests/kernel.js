@@ -18,5 +18,6 @@ export const kernelBytes = () => (process.env.KERNEL ? readFileSync(process.env.
 /** @returns {Promise<Kernel>} */
 export const kernelOf = () => Kernel.of(kernelBytes());
 
-/** The text of a file of this folder, or beside it. @param {string} name @returns {string} */
+/** The text of a file of this folder, or beside it.
+ * @param {string} name @returns {string} */
 export const textOf = (name) => readFileSync(new URL(name, import.meta.url), 'utf8');

@@ -4,7 +4,7 @@
 import { existsSync, readFileSync, readdirSync } from 'node:fs';
 import { gameOf } from '../engine/game.js';
 import { KINDS } from '../engine/kinds.js';
-import { lacks, levelOf, taskOf } from '../levels.js';
+import { lacks, levelOf, taskOf, unfit } from '../levels.js';
 import { questionsOf } from '../page/questions.js';
 import { kernelOf } from './kernel.js';
 
@@ -31,6 +31,7 @@ const play = (level, monitor) => gameOf(kernel, { source: monitor + level.thread
 function check(file, level) {
   const { name, goal } = level, begun = play(level, level.monitor), answer = new URL(`answers/${file}`, FOLDER);
   must(Boolean(level.learned && level.read), `${name} says nothing that was learned, or has no link`);
+  must(unfit(level, begun) === '', `${name} can't be done: ${unfit(level, begun)}`);
   if (goal === 'break') must(begun[level.kind].bad > 0, `${name} can't be broken under ${level.kind}`);
   if (goal === 'claim') must(begun[level.kind].bad === 0, `${name} can be broken under ${level.kind}`);
   if (goal === 'predict') {
@@ -54,6 +55,13 @@ must(levels.filter((it) => it.first).length === 3, 'three levels ask for the bre
 must(taskOf(levels[4], false).startsWith('First break it'), 'the break first is not asked for');
 must(lacks(levels[5], `${levels[5].monitor} signal_all(gate);`, {}).includes('without signal_all'), 'signal_all passes');
 must(lacks(levels[2], levels[2].monitor, {}).includes('is not played'), 'a repair passes without its kinds');
+const { monitor, threads } = levels[2], broken = play(levels[2], monitor);
+const mended = play(levels[2], monitor.replace('if (', 'while ('));
+for (const [goal, outcomes, words] of /** @type {[string, Record<string, any>, string][]} */ ([
+  ['repair NPNB', mended, 'nothing to repair'], ['break NPNB', mended, 'nobody can find one'], ['claim NPNB', broken, 'can claim']])) {
+  const said = unfit(levelOf(`// level: A\n// goal: ${goal}\n${monitor}${threads}`), outcomes);
+  must(said.includes(words), `${goal} is unfit: ${said}`);
+}
 must(KINDS.every((kind) => levels[2].kinds.includes(kind)), 'a repair without kinds is one of all ten');
 for (const [old, anew, words] of FAULTS) {
   let said = '';

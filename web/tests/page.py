@@ -5,7 +5,8 @@ The page is opened from its file. Levels 1 to 4 are solved, by keyboard alone; a
 end get their words; a scene, a level and moves go through a link; what was done is kept. On 1280x720 the game is seen
 without a scroll, and on 390x844 each choice stands at its thread's line, too. In light and dark each text has a
 contrast of 4.5 or more, and each control a name and a size. A scene that calls elsewhere reaches nobody. --times also
-prints how long the answers of each scene take, which the gate doesn't. Pictures go to the folder of --shots."""
+prints how long the answers of each scene take, here and on a phone that is slower, which the gate doesn't. Pictures go
+to the folder of --shots."""
 from __future__ import annotations
 
 import argparse
@@ -73,6 +74,18 @@ TIMED = """new Promise((done) => {
   };
   playground.run();
 })"""
+# How much slower a phone is. Chromium slows no worker, so the engine is played on the page's own thread, cold.
+SLOWER = 4
+ON_PAGE = """(async () => {
+  const code = `${document.getElementById('engine').textContent}; return [$game.gameOf, $kernel.Kernel];`;
+  const [play, Kernel] = new Function(code)(), kernel = await Kernel.of(playground.given.wasm.slice());
+  const begun = performance.now();
+  let first = 0;
+  play(kernel, { source: playground.editor.text, kinds: Object.keys(playground.played) }, () => {
+    first = first || performance.now() - begun;
+  });
+  return [first, performance.now() - begun];
+})()"""
 CALLS = ["fetch(A)", "new XMLHttpRequest().open('GET', A), 0", "importScripts(A)", "import(A)", "new WebSocket(A.replace('http', 'ws'))",
          "new EventSource(A)", "navigator.sendBeacon(A)", "new Worker(A)"]
 FAULTY = "monitor M {\n  let items = [];\n  procedure f() { items.push(\"tea); }\n}\nthread t { f(); }"
@@ -152,11 +165,14 @@ def riddle(it: Student) -> None:
     for number, answer in enumerate(asked):
         if number == 0:
             it.press(str((answer + 1) % 3 + 1))
-            it.must(it.text("told").startswith("Not "), "a wrong answer is not refused")
+            it.must(it.text("told").startswith("Not ") and "PB (Hoare): " in it.text("told"), "a wrong answer says no rule")
         it.press(str(answer + 1))
         it.must(it.text("told").startswith("Yes: "), f"answer {number + 1} is refused: {it.text('told')}")
         it.enter()
     it.must("Done" in it.text("goal") and "Learned" in it.text("goal"), "level 1 is not done")
+    it.must(f"inside ({it.run('playground.kind')}, " in it.text("box"), "the monitor is of another kind than the one that is on")
+    it.press("n")
+    it.must(it.text("told") == "", "what level 1 told stands in another kind")
     it.quiet("level 1")
 
 
@@ -250,6 +266,10 @@ def links(it: Student) -> None:
     it.open("#scene=your own level")
     it.write(OWN)
     it.wait(f"document.getElementById('goal').innerText.includes('Your level: Tea') && {READY}", "a level is read")
+    it.write(OWN.replace("a[2]", "a"))
+    it.wait("document.getElementById('goal').innerText.includes('nobody can find one')", "a level that can't be done")
+    it.write(OWN)
+    it.wait(f"!document.getElementById('goal').innerText.includes('nobody') && {READY}", "a level that can be done")
     it.press("l")
     it.wait("document.getElementById('address').value.includes('#')", "the link is shown")
     address = it.run("document.getElementById('address').value")
@@ -311,11 +331,16 @@ def alone(it: Student) -> None:
 
 
 def times(it: Student) -> None:
-    """Prints how long the first kind and all ten take, in each scene."""
+    """Prints how long the first kind and all ten take, in each scene, here and on a slower phone."""
     for scene in it.run("Object.keys(playground.given.scenes)"):
         it.open(f"#scene={scene}")
-        first, whole = it.run(TIMED)
-        print(f"{scene}: the first kind after {first:.0f} ms, all ten after {whole:.0f} ms")
+        here = it.run(TIMED)
+        it.browser.call("Emulation.setCPUThrottlingRate", rate=SLOWER)
+        phone = it.run(ON_PAGE)
+        it.browser.call("Emulation.setCPUThrottlingRate", rate=1)
+        said = [f"the first kind after {first:.0f} ms, all ten after {whole:.0f} ms" for first, whole in (here, phone)]
+        load = os.getloadavg()[0]
+        print(f"{scene}: {said[0]}; {SLOWER} times slower: {said[1]} (load {load:.1f})", flush=True)
 
 
 def main() -> int:

@@ -19,7 +19,8 @@ from .seat import Seat
 from .staged import Threaded
 
 # Frames of these files aren't part of what a user wrote.
-OTHERS = (os.path.dirname(os.path.abspath(__file__)) + os.sep, sysconfig.get_paths()["stdlib"] + os.sep, "<frozen")
+OTHERS = (os.path.dirname(os.path.abspath(__file__)) + os.sep, sysconfig.get_paths()["stdlib"] + os.sep, "<frozen",
+          "<string>")
 
 
 class Over(Exception):
@@ -35,6 +36,7 @@ class Over(Exception):
 class Steps:
     """The calls of a generator."""
     first = {"outside": "`yield enter()` comes first", "inside": "`yield leave()` comes first"}
+    untested = "write wait({name!r}, lambda: ..) in line {line}"
 
     def __init__(self, program: Program) -> None:
         self.generator: Any = program()

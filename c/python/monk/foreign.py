@@ -1,110 +1,109 @@
 """Scenes in other languages: a process has the programs, and the driver says who moves next.
 
-The driver writes `new SCENE WORDS`, `go PROGRAM` or `end`, and the process answers each by a line of JSON. One of its
-programs runs at a time, up to its next call. Nothing changes between two answers: each has the data, and what the
-invariant and the tests say."""
+The driver writes `new WORD SCENE WORDS`, `go PROGRAMS` or `end`, and the process answers each by that first word and a
+line of JSON. One of its programs runs at a time, up to its next call. Nothing changes between two answers: each has the
+data, and what the invariant and the tests say.
+
+What programs do after the same moves is the same, under each kind. So each move is asked for once, and the answer is
+kept. A run leaves what is known at its first move that is new: there the process makes the moves before it again."""
 
 from __future__ import annotations
 
-import contextlib
-import json
 import linecache
 import os
-import select
-import signal
-import subprocess
-from typing import Any, Callable, Dict, Optional, Sequence
+from typing import Any, Callable, Dict, List, Sequence
 
 from .actor import Over
 from .calls import Call
 from .errors import MonkError
+from .pipe import MS_A_SECOND, Answer, Pipe
 from .run import STUCK, WRONG
 from .scene import Scene
 from .shared import in_words
 
-# How many seconds the process may take to answer. It has a shorter limit itself, and then says the line.
-LIMIT = 10
-# The milliseconds that a program may take to its next call; and once one took longer.
-USUAL_MS, SHORT_MS = 2000, 200
-MS_A_SECOND, MOST_LINE = 1000, 1 << 16
-Answer = Dict[str, Any]
+# The most moves that are made by one question.
+MOST_MOVES = 64
+END = -1
+CHANCE = ("the same moves don't do the same once more: make all data anew in each run, and leave nothing to chance or to "
+          "a thread of your own;")
+
+
+class Known:
+    """What is answered after some moves, and after one more."""
+    __slots__ = ("answer", "then")
+
+    def __init__(self, answer: Answer) -> None:
+        self.answer = answer
+        self.then: Dict[int, Known] = {}
 
 
 class Process:
-    """The process, begun when it is first asked, and anew after a program of it didn't end."""
+    """A process of scenes, in one run at a time."""
 
     def __init__(self, command: Sequence[str], folder: str = ".") -> None:
-        self.command, self.folder, self.limit = list(command), folder, USUAL_MS
-        self.process: Optional[subprocess.Popen[bytes]] = None
+        self.pipe, self.folder = Pipe(command), folder
+        # By the question that makes a scene: what is known of it.
+        self.scenes: Dict[str, Known] = {}
+        # This run: its scene, its moves, and what is known there; and whether the process has made them.
+        self.question = ""
+        self.moves: List[int] = []
+        self.known = Known({})
+        self.is_there = False
+        # The last answer that has the data.
         self.now: Answer = {}
 
-    def _begun(self) -> subprocess.Popen[bytes]:
-        if self.process is None:
-            setting = {**os.environ, "LAB_MS": str(self.limit)}
-            self.process = subprocess.Popen(self.command, stdin=subprocess.PIPE, stdout=subprocess.PIPE, bufsize=0,
-                                            start_new_session=True, env=setting)
-        return self.process
+    def begin(self, question: str) -> Answer:
+        """Begins a run of that scene."""
+        self.is_there = question not in self.scenes
+        if self.is_there:
+            self.scenes[question] = Known(self.pipe.ask(question))
+        self.question, self.known, self.moves = question, self.scenes[question], []
+        self.now = self.known.answer
+        return self.known.answer
 
-    def ask(self, words: str) -> Answer:
-        """The answer to that question. If an interrupt comes before it, the process is ended."""
-        process, line = self._begun(), b""
-        assert process.stdin and process.stdout
-        try:
-            with contextlib.suppress(BrokenPipeError):
-                process.stdin.write(f"{words}\n".encode())
-            while not line.endswith(b"\n"):
-                is_ready = bool(select.select([process.stdout], [], [], LIMIT)[0])
-                more = os.read(process.stdout.fileno(), MOST_LINE) if is_ready else b""
-                if not more:
-                    return self._without(is_ready)
-                line += more
-        except BaseException:
-            self.close()
-            raise
-        answer: Answer = json.loads(line)
-        self.now = answer if "data" in answer else self.now
-        return answer
+    def go(self, number: int) -> Answer:
+        """The program moves up to its next call. END in place of a program: what the test of the end says."""
+        if number not in self.known.then:
+            self.known.then[number] = Known(self._asked(number))
+        self.known = self.known.then[number]
+        self.moves.append(number)
+        self.now = self.known.answer if "data" in self.known.answer else self.now
+        return self.known.answer
 
-    def _without(self, has_ended: bool) -> Answer:
-        """What is said of a process that gave no answer."""
-        status = self.close()
-        told = {"fault": f"ends the whole process (status {status})", "status": status}
-        return told if has_ended else {"endless": LIMIT * MS_A_SECOND}
+    def _asked(self, number: int) -> Answer:
+        """What the process answers to a move that is new. First it makes those of this run once more, if it has to."""
+        for question in [] if self.is_there else [self.question, *self._questions()]:
+            answer = self.pipe.ask(question)
+            if "endless" in answer:                 # a program of the last run doesn't let itself be ended
+                return answer
+            self.is_there = answer == self.known.answer
+        if not self.is_there:
+            return {"fault": CHANCE, "is_last": True}
+        return self.pipe.ask("end" if number == END else f"go {number}")
 
-    def close(self) -> int:
-        """Ends the process, and returns its status. The next question begins it anew."""
-        process, self.process = self.process, None
-        if process is None:
-            return 0
-        assert process.stdin and process.stdout
-        process.stdin.close()
-        with contextlib.suppress(subprocess.TimeoutExpired):
-            process.wait(SHORT_MS / MS_A_SECOND)
-        with contextlib.suppress(OSError):
-            os.killpg(process.pid, signal.SIGKILL)
-        process.stdout.close()
-        return process.wait()
-
-    def __del__(self) -> None:
-        self.close()
+    def _questions(self) -> List[str]:
+        """The moves of this run, many in a question."""
+        parts = [self.moves[begin:begin + MOST_MOVES] for begin in range(0, len(self.moves), MOST_MOVES)]
+        return [f"go {' '.join(map(str, part))}" for part in parts]
 
     def scene(self, name: str, *words: object) -> Callable[[], Scene]:
         """A function that makes that scene of the process anew."""
-        first: Answer = {}
-        question = " ".join(map(str, ["new", name, *words]))
+        question = " ".join(map(str, ["new", self.pipe.word, name, *words]))
 
         def made() -> Scene:
-            answer = self.ask(question)
+            answer = self.begin(question)
             if "programs" not in answer:
-                raise MonkError(f"{name}: {answer.get('fault', 'makes no scene')}{self.place(answer)}")
-            if first.setdefault("data", answer["data"]) != answer["data"]:
-                begun = in_words(first["data"])
-                raise MonkError(f"{name} begins with {self}, and its first run with {begun}: make all data anew")
+                fault = answer.get("fault") or f"isn't made in {answer['endless'] / MS_A_SECOND:g} s"
+                raise MonkError(f"{name}: {fault}{self.place(answer)}")
             programs = [Program(self, number, title) for number, title in enumerate(answer["programs"])]
-            end = (lambda: _told(self.ask("end")["end"])) if answer["has_end"] else None
+            end = self._end if answer["has_end"] else None
             return Scene(programs, lambda: _told(self.now["invariant"]), end, answer["may_wait"], shared=self)
         made.__name__ = name
         return made
+
+    def _end(self) -> Any:
+        answer = self.go(END)
+        return _told(answer.get("end", answer.get("fault", "it doesn't answer")))
 
     def words(self) -> Dict[str, str]:
         """The data that are guarded, as they are now."""
@@ -120,6 +119,9 @@ class Process:
         text = linecache.getline(os.path.join(self.folder, answer["file"]), answer["line"]).strip()
         return f" ({answer['file']}:{answer['line']}{': ' * bool(text)}{text})"
 
+    def close(self) -> None:
+        self.pipe.close()
+
 
 def _told(answer: Any) -> Any:
     """The answer of a test. An error of the test is a string."""
@@ -131,6 +133,7 @@ def _told(answer: Any) -> Any:
 class Program:
     """A program of the process, and its calls. The process ends it when it makes the next scene."""
     first = {"outside": "an enter comes first", "inside": "a leave comes first"}
+    untested = "give the wait on {name} in line {line} a test"
 
     def __init__(self, process: Process, number: int, title: str) -> None:
         self.process, self.number, self.__name__, self.line = process, number, title, "0"
@@ -142,7 +145,7 @@ class Program:
 
     def __next__(self) -> Call:
         last = self.line
-        answer = self.process.ask(f"go {self.number}")
+        answer = self.process.go(self.number)
         self.line = f"{answer['line']} of {answer['file']}" if answer.get("file") else last
         if "endless" in answer or "fault" in answer:
             raise self._over(answer, self.process.place(answer) or f" after line {last}")
@@ -152,10 +155,9 @@ class Program:
         test = (lambda: _told(self.process.now["tests"][key])) if answer["test"] else None
         return Call(answer["call"], answer["on"], test)
 
-    def _over(self, answer: Answer, where: str) -> Over:
+    @staticmethod
+    def _over(answer: Answer, where: str) -> Over:
         if "fault" in answer:
-            return Over(WRONG, "", answer["fault"] + where, is_endless="status" in answer)
-        self.process.close()
-        self.process.limit = SHORT_MS
+            return Over(WRONG, "", answer["fault"] + where, is_endless="is_last" in answer)
         seconds = answer["endless"] / MS_A_SECOND
         return Over(STUCK, "", f"makes no call for {seconds:g} s{where}", is_endless=True)

@@ -7,6 +7,7 @@ from __future__ import annotations
 
 import argparse
 import contextlib
+import difflib
 import hashlib
 import importlib.util
 import json
@@ -20,7 +21,7 @@ import types
 from dataclasses import asdict, dataclass
 from typing import Any, Callable, Dict, List, NamedTuple, Optional, Sequence
 
-from . import grading, in_c, lint
+from . import compiled, grading, in_c, in_java, lint
 from .actor import where
 from .grading import TooLong
 from .kinds import KINDS
@@ -32,9 +33,11 @@ WIDTH = 92
 # The limit of all checks, in seconds, and how much of it one may take. A check that is met takes one or two.
 MOST_SECONDS, MOST_OF_ONE = 27.0, 0.75
 INDENT = " " * 9
+# Where one order suffices, it is looked for by dice first.
+SOME_THEN_ALL: Sequence[Orders] = (50, "all")
 # How much of a run is shown, and of what one check says.
 LAST_STEPS, MOST_LINES = 20, 28
-USAGE = "usage: python3 check.py [--json] [--seconds N] FILE"
+USAGE = "usage: python3 check.py [--json] [--only N] [--seconds N] FILE"
 
 
 class Verdict(NamedTuple):
@@ -51,6 +54,8 @@ class Check:
 
 
 Checks = Callable[[Any], List[Check]]
+# Languages that are compiled, by the ending of a file.
+COMPILED: Dict[str, Callable[[str, str], compiled.Answer]] = {".c": in_c.answer, ".java": in_java.answer}
 
 
 @dataclass
@@ -98,17 +103,17 @@ def breaks(title: str, made: Made, kinds: Sequence[str], orders: Orders = "all")
 def happens(title: str, made: Made, kinds: Sequence[str], has_happened: Callable[[], bool], hint: str) -> Check:
     """In some order under these kinds something happens, which the scene notes. The hint says what is wrong if it
     doesn't."""
-    def look() -> Verdict:
-        compare(made, kinds)
-        return Verdict(True, "yes") if has_happened() else Verdict(False, hint)
-    return Check(title, look)
+    def happens_in(orders: Orders, kind: str) -> bool:
+        compare(made, [kind], orders)
+        return has_happened()
+    return is_so(title, lambda: any(happens_in(orders, kind) for orders in SOME_THEN_ALL for kind in kinds), hint)
 
 
 def some_order_breaks(title: str, made: Made, kinds: Sequence[str], hint: str) -> Check:
-    """In some order under these kinds the scene goes wrong, because something happens that its invariant forbids."""
-    def look() -> Verdict:
-        return Verdict(True, "yes") if compare(made, kinds).breaks else Verdict(False, hint)
-    return Check(title, look)
+    """In some order under these kinds something happens that the scene's invariant forbids."""
+    def happens_in(orders: Orders, kind: str) -> bool:
+        return compare(made, [kind], orders)[kind].example.why.startswith("the invariant")
+    return is_so(title, lambda: any(happens_in(orders, kind) for orders in SOME_THEN_ALL for kind in kinds), hint)
 
 
 def is_so(title: str, is_met: Callable[[], bool], hint: str) -> Check:
@@ -155,11 +160,13 @@ def _moves(run: Run) -> str:
 
 
 def _misspelt(finding: Finding) -> str:
-    """A condition that is signalled in vain, if another is waited on in vain."""
-    for name in finding.signalled_on - finding.waited_on:
-        others = ", ".join(f"`{it}`" for it in sorted(finding.waited_on - finding.signalled_on))
+    """A condition that is signalled in vain, if there is one of almost the same name; or another is waited on in
+    vain."""
+    vain, missed = sorted(finding.signalled_on - finding.waited_on), finding.waited_on - finding.signalled_on
+    alike = [(name, difflib.get_close_matches(name, finding.waited_on, 1)) for name in vain]
+    for name, others in [*(it for it in alike if it[1]), *((name, sorted(missed)) for name in vain)]:
         if others:
-            return f"nobody ever waits on `{name}`; there is {others}"
+            return f"nobody ever waits on `{name}`; there is {', '.join(f'`{it}`' for it in others)}"
     return ""
 
 
@@ -172,6 +179,10 @@ def _load(path: str) -> types.ModuleType:
     module = importlib.util.module_from_spec(spec)
     spec.loader.exec_module(module)
     return module
+
+
+def _ending(path: str) -> str:
+    return os.path.splitext(path)[1]
 
 
 def _in_words(fault: BaseException) -> str:
@@ -194,22 +205,25 @@ def _looked(check: Check, judges: lint.Judges) -> Verdict:
 class Exercise:
     """An exercise, and the file that is checked."""
 
-    def __init__(self, path: str, checks_of: Checks, in_c: Optional[Checks], seconds: float) -> None:
-        self.path, self.checks_of, self.in_c = os.path.abspath(path), checks_of, in_c
+    def __init__(self, path: str, checks_of: Optional[Checks], checks_of_compiled: Optional[Checks],
+                 seconds: float) -> None:
+        self.path, self.checks_of, self.checks_of_compiled = os.path.abspath(path), checks_of, checks_of_compiled
         self.most, self.end = seconds * MOST_OF_ONE, time.monotonic() + seconds
         self.room = tempfile.TemporaryDirectory()
 
     def _checks(self) -> List[Check]:
-        if self.path.endswith(".c") and self.in_c:
-            return self.in_c(in_c.Answer(self.path, self.room.name))
-        return self.checks_of(_load(self.path))
+        of = COMPILED.get(_ending(self.path))
+        checks = self.checks_of if of is None else self.checks_of_compiled
+        if checks is None:
+            raise compiled.NotBuilt("this exercise isn't in the language of that file")
+        return checks(_load(self.path) if of is None else of(self.path, self.room.name))
 
     def loaded(self) -> Dict[str, Any]:
-        """In a child: the titles of the checks, or why the file can't be loaded. A file of C is built."""
+        """In a child: the titles of the checks, or why the file can't be loaded. A file of C or Java is built."""
         judges = lint.Judges()
         try:
             checks = self._checks()
-        except in_c.NotBuilt as fault:
+        except compiled.NotBuilt as fault:
             return {"fault": str(fault)}
         except BaseException as fault:
             return {"fault": _in_words(fault)}
@@ -263,13 +277,23 @@ def _lines(number: int, result: Result) -> str:
     return f"  {number} NO   {result.title}\n{textwrap.indent(chr(10).join(lines), INDENT)}"
 
 
-def _grade(name: str, exercise: Exercise, is_json: bool) -> int:
+def _asked(titles: List[str], only: Optional[int]) -> List[int]:
+    """The numbers of the checks that are to be tried."""
+    if only is None:
+        return list(range(len(titles)))
+    if not 1 <= only <= len(titles):
+        raise ValueError(f"--only {only}: its checks are 1 to {len(titles)}")
+    return [only - 1]
+
+
+def _grade(name: str, exercise: Exercise, only: Optional[int], is_json: bool) -> int:
     titles = exercise.titles()
+    asked = _asked(titles, only)
     if not is_json:
         print(name)
     results: List[Result] = []
-    for number, title in enumerate(titles):
-        results.append(exercise.result(number, title))
+    for number in asked:
+        results.append(exercise.result(number, titles[number]))
         if not is_json:
             print(_lines(number + 1, results[-1]), flush=True)
     met = sum(result.is_met for result in results)
@@ -289,35 +313,38 @@ def _forgotten(name: str, words: List[str], is_json: bool) -> int:
     return 1
 
 
-def _told(exercise: Exercise, name: str, path: str, is_json: bool) -> int:
+def _told(exercise: Exercise, name: str, words: argparse.Namespace) -> int:
+    path, is_json = words.file, words.json
     try:
         with open(path, encoding="utf-8") as file:
-            forgotten = [] if path.endswith(".c") else lint.unyielded(file.read())
-        return _forgotten(name, forgotten, is_json) if forgotten else _grade(name, exercise, is_json)
+            forgotten = [] if _ending(path) in COMPILED else lint.unyielded(file.read())
+        return _forgotten(name, forgotten, is_json) if forgotten else _grade(name, exercise, words.only, is_json)
     except (OSError, ValueError) as fault:
-        words = f"{path}: {fault.strerror if isinstance(fault, OSError) else fault}"
+        said = f"{path}: {fault.strerror if isinstance(fault, OSError) else fault}"
         if is_json:
-            print(json.dumps({"exercise": name, "error": words}))
-        print(words, file=sys.stderr)
+            print(json.dumps({"exercise": name, "error": said}))
+        print(said, file=sys.stderr)
         return 2
 
 
 def _words() -> argparse.Namespace:
     asked = argparse.ArgumentParser(usage=USAGE[len("usage: "):], add_help=False)
     asked.add_argument("--json", action="store_true")
+    asked.add_argument("--only", type=int)
     asked.add_argument("--seconds", type=float, default=MOST_SECONDS)
     asked.add_argument("file")
     return asked.parse_args()
 
 
-def main(name: str, checks_of: Checks, checks_in_c: Optional[Checks] = None) -> None:
+def main(name: str, checks_of: Optional[Checks], checks_of_compiled: Optional[Checks] = None) -> None:
     """The check of the file that the command line names. Status 0 if all is met, 1 if not, 2 if the file can't be
-    loaded. --json: one line for programs. --seconds: how long all checks may take, 27 if it isn't given.
-    checks_in_c: the checks of a file of C, given its in_c.Answer."""
+    loaded. --json: one line for programs. --only: this check alone. --seconds: how long all may take, else 27.
+    checks_of: the checks of a file in Python, given its module; None if there are none. checks_of_compiled: those of a
+    file in C or Java, given its compiled.Answer."""
     # (a reader that has seen enough, as `head`, ends the check)
     signal.signal(signal.SIGPIPE, signal.SIG_DFL)
     words, status = _words(), 1
     with contextlib.suppress(KeyboardInterrupt):
-        exercise = Exercise(words.file, checks_of, checks_in_c, words.seconds)
-        status = _told(exercise, name, words.file, words.json)
+        exercise = Exercise(words.file, checks_of, checks_of_compiled, words.seconds)
+        status = _told(exercise, name, words)
     sys.exit(status)

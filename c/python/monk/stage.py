@@ -303,8 +303,8 @@ class Stage:
         if call.until is not None:
             self.tests[call.name] = call.until
         if call.verb == "wait" and call.name not in self.tests:
-            why = f"{self.way.kind} has no signals: write wait({call.name!r}, lambda: ..) in line {actor.steps.line}"
-            raise Over(NO_SUCH_CALL, actor.name, why)
+            remedy = actor.steps.untested.format(name=call.name, line=actor.steps.line)
+            raise Over(NO_SUCH_CALL, actor.name, f"{self.way.kind} has no signals: {remedy}")
         held = [name for name in self.names if name in self.tests and self._holds(name, actor, call)]
         bits = sum(1 << self.names.index(name) for name in held)
         if bits != actor.seat.flags:

@@ -77,6 +77,7 @@ os.register_at_fork(after_in_child=_idle.clear)
 class Threaded:
     """The calls of a plain function, which runs in a thread of its own until its next call."""
     first = {"outside": "`with monitor:` comes first", "inside": "it is inside a `with monitor:` already"}
+    untested = "write condition({name!r}, lambda: ..) for the wait in line {line}"
 
     def __init__(self, work: Callable[[], object]) -> None:
         self.work, self.is_gone, self.line = work, False, 0

@@ -1,11 +1,15 @@
 //! What the file beside a history says.
 
+use crate::shown::Shown;
 use crate::{UNREADABLE, failed_file};
 use monk_commands::StreamFault;
 use monk_page::{ToldFault, ToldNames, check_told, told_names};
 use std::alloc::{AllocError, AllocFailed};
 use std::rt::Files;
 use std::{fs, io};
+
+/// The most bytes of a file beside a history. What it tells takes some twenty times its size.
+const MOST_TOLD: u64 = 1 << 22;
 
 /// Why nothing is made.
 #[derive(Drop)]
@@ -47,14 +51,29 @@ fn unfit(rt: &impl Eprint, file: &str, fault: ToldFault) -> Unmade {
     match fault {
         ToldFault::Memory => Unmade::Fault(StreamFault::Memory),
         ToldFault::At(..) => {
-            let _ = eprintln!(rt; "monk: {file}, {fault}");
+            let shown = Shown(file);
+            let _ = eprintln!(rt; "monk: {shown}, {fault}");
             Unmade::Told(UNREADABLE)
         }
     }
 }
 
+/// Says that the file of that name is too long, and returns why nothing is made.
+fn too_long(rt: &impl Eprint, file: &str) -> Unmade {
+    let shown = Shown(file);
+    let _ = eprintln!(rt;
+        "monk: {shown} has more than {MOST_TOLD} bytes: leave out what the window doesn't show"
+    );
+    Unmade::Told(UNREADABLE)
+}
+
 /// Reads the text of the file of that name, if there is one.
 fn read<R: Files + Eprint + AllocGlobal>(rt: &R, file: &str) -> Result<Option<String>, Unmade> {
+    if let Ok(found) = fs::metadata(rt, file) {
+        if found.len() > MOST_TOLD {
+            return Err(too_long(rt, file));
+        }
+    }
     match fs::read_to_string(rt, file) {
         Ok(text) => Ok(Some(text)),
         Err(error) if error.kind() == io::ErrorKind::NotFound => Ok(None),

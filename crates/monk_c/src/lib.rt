@@ -4,8 +4,8 @@
 //! refused. After a refusal the handle is as it was, and no grant is given. The first reason that applies is
 //! answered: -10, the handle has no seat; -3, the kind has no such call; -4, a condition, a flag or bits are out of
 //! range; -1, the seat is elsewhere; -2, the seat has too few events left of its budget (`Call::wants`). No call
-//! waits or wakes. A release gives the word that it granted, and C wakes the thread whose seat waits there
-//! (`monk_k_word`). A word is 1 or more.
+//! waits or wakes. A release sets `granted` to the word that it granted, 1 or more, and C wakes the thread whose seat
+//! waits there (`monk_k_word`). It sets 0 if it let nobody in, or was refused.
 #![tactic(auto)]
 
 ghost use Rattle.std.specs.Prelude.{◌≡◌};

@@ -13,7 +13,7 @@ use Rattle.monk_audit.specs.declared.verdict.Verdict.{Verdict}
 use Rattle.monk_commands.specs.Answer.{IsOf, IsReading, IsSized, LineAnswer, verdict_answer}
 use Rattle.monk_commands.specs.LogAnswered.{IsAnswerToLog}
 use Rattle.monk_commands.specs.declared.fit_form.FitForm.{FitForm}
-use Rattle.monk_commands.specs.declared.fit_form.FitForm.TheVariants.{Words, Json}
+use Rattle.monk_commands.specs.declared.fit_form.FitForm.TheVariants.{Words, Named, Json}
 use Rattle.monk_commands.specs.declared.logs.view.LogView.TheVariants as view
 use Rattle.monk_commands.specs.declared.question.Question.{Question}
 
@@ -72,4 +72,5 @@ IsHistoryFit (Some k) name input status text = IsNamed (IsFitText (k ∷ []) inp
 -- the answer to a log: one line, after its name or in JSON
 abbrev pub IsLogFit : FitForm → Question → List ℕ → ℕ → List ℕ → Type 0
 IsLogFit Words q input status text = IsNamed (IsAnswerToLog view.Line q input) q.name.now status text
+IsLogFit Named q input status text = IsNamed (IsAnswerToLog view.Line q input) q.name.now status text
 IsLogFit Json q input status text = IsAnswerToLog view.Json q input status text

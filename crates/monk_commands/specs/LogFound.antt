@@ -3,7 +3,6 @@ use Rattle.std.specs.Prelude.{◌≡◌, ℕ, ◌+◌, ◌==◌, ◌&&◌, ◌||
 use Rattle.std.specs.Prelude.{Option, Some, None, is_some, nat_lt, nat_le, option_map, min, ◌^◌, ◌-◌}
 use Rattle.std.specs.Fmt.{decimal}
 use Rattle.monk_object.specs.Names.{meaning_named, opening_named}
-use Rattle.monk_logs.specs.Crossed.{crossed_of}
 use Rattle.monk_logs.specs.Log.{line_seat}
 use Rattle.monk_logs.specs.Log.{LogHeading}
 use Rattle.monk_logs.specs.declared.crossed.Crossed.{Crossed}
@@ -40,7 +39,6 @@ IsReportOf means h lines r =
 pub record IsFinding (means : List WaitsFor) (ended : Bool) (h : LogHeading) (lines : List LogLine)
     (f : Finding) : Type 0 where
   pub report : IsReportOf means h lines f.report
-  pub crossed : f.crossed ≡ crossed_of lines
   pub seats : f.seats ≡ h.seats
   pub wrong : f.wrong_seat ≡ wrong_seat f.report.misfit lines
   pub is_ended : f.has_ended ≡ ended
@@ -151,7 +149,7 @@ crossed_words (Some c) =
 
 -- how many threads must be overtaken before something is said about it
 abbrev pub enough_overtaken : ℕ
-enough_overtaken = 8
+enough_overtaken = 24
 
 -- whether enough threads were overtaken, and none of them waited again
 abbrev pub never_again : ℕ → ℕ → Bool
@@ -181,5 +179,5 @@ tally_words t =
 abbrev pub finding_line : Finding → List ℕ
 finding_line f =
     verdict_words f.report.misfit f ++ (tally_words f.report.tally
-    ++ (placed (codes "; missed at ") f.report.missed ++ (crossed_words f.crossed
+    ++ (placed (codes "; missed at ") f.report.missed ++ (crossed_words f.report.crossed
     ++ (never_words f.report.tally f.report.tally.first_not_again ++ codes "\n"))))

@@ -23,7 +23,7 @@ use Rattle.monk_samples.specs.declared.sample.Sample.{Sample}
 use Rattle.monk_samples.specs.declared.sample.Sample.TheVariants.{Buffer, Book, Shop}
 use Rattle.monk_commands.specs.declared.commands.CommandWords.{CommandWords}
 use Rattle.monk_commands.specs.declared.fit_form.FitForm.{FitForm}
-use Rattle.monk_commands.specs.declared.fit_form.FitForm.TheVariants.{Words, Json}
+use Rattle.monk_commands.specs.declared.fit_form.FitForm.TheVariants.{Words, Named, Json}
 use Rattle.monk_commands.specs.declared.request.Judging.{Judging}
 use Rattle.monk_commands.specs.declared.request.Line.{Line}
 use Rattle.monk_commands.specs.declared.request.Line.TheVariants.{Classify, Audit, Play, Upgrade, Fit, Trace, Explain}
@@ -233,6 +233,7 @@ pub record IsNoLayout (rows : List Row) : Type 0 where
 -- whether findings are written as JSON
 abbrev pub is_json : FitForm → Bool
 is_json Words = false
+is_json Named = false
 is_json Json = true
 
 -- a word COND=PRED says what threads wait for: two numbers, with the sign `=` between them

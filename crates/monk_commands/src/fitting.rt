@@ -9,6 +9,7 @@ use crate::answer::{LineAnswer, too_big, unreadable, verdict_answer};
 use crate::fit_form::FitForm;
 use crate::fitting_history::FittingHistory;
 use crate::logs::answering::answer_to_log;
+use crate::logs::finding_json::fault_json;
 use crate::logs::view::LogView;
 use crate::question::Question;
 use monk_audit::{AuditFault, Verdict, audit, under};
@@ -126,6 +127,44 @@ pub fn fit_history(
     }
 }
 
+/// Returns the answer with the name and `: ` before each of its lines.
+fn each_named(alloc: Global, name: &str, answer: LineAnswer) -> Result<LineAnswer, AllocError>
+    ensures { IfOk result (λ a. a.status ≡ answer.status) }
+{
+    let mut text = String::new(alloc);
+    for line in answer.text.as_str().lines() {
+        let named = format!(in alloc; "{name}: {line}\n")?;
+        text.push_str(named.as_str())?;
+    }
+    Ok(LineAnswer {
+        status: answer.status,
+        text,
+    })
+}
+
+/// Answers a text that isn't a log in that form. See [`Task::Fit`](crate::Task::Fit). It fails only for want of memory.
+pub(crate) fn fit_other(
+    alloc: Global,
+    form: FitForm,
+    question: Question<'_>,
+    bytes: &[u8],
+) -> Result<LineAnswer, AllocError> {
+    match (form, question.kind) {
+        (FitForm::Json, _) => no_log(alloc, question.name),
+        (FitForm::Named, None) => {
+            let answer = fit_history(alloc, question, bytes)?;
+            each_named(alloc, question.name, answer)
+        }
+        (FitForm::Words | FitForm::Named, _) => fit_history(alloc, question, bytes),
+    }
+}
+
+/// Returns the line of JSON that says that the text isn't a log.
+fn no_log(alloc: Global, name: &str) -> Result<LineAnswer, AllocError> {
+    let text = fault_json(alloc, name, "no log: its first word isn't `log`")?;
+    Ok(LineAnswer { status: 2, text })
+}
+
 /// Says how the text of a log is judged, or why it isn't. See [`Task::Fit`](crate::Task::Fit). It fails only for want
 /// of memory.
 pub fn fit_log(
@@ -138,7 +177,7 @@ pub fn fit_log(
         (λ a. answered.IsLogFit form question.entry bytes.items a.status (string_bytes a.text)) }
 {
     match form {
-        FitForm::Words => {
+        FitForm::Words | FitForm::Named => {
             let answer = answer_to_log(alloc, LogView::Line, question, bytes)?;
             named(alloc, question.name, answer)
         }

@@ -22,6 +22,8 @@ use std::io::{Read, Write};
 /// If the reader has no play, the line `unreadable LINE NUMBER WORD` is written with status 2. If the size is above
 /// the object's greatest, `object` is written with status 2.
 ///
+/// No call of the reader or the writer has failed yet: a device that has failed is of no more use.
+///
 /// # Errors
 ///
 /// The errors of [`audit_stream`](crate::audit_stream).

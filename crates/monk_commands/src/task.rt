@@ -34,14 +34,15 @@ pub enum Task<'a> {
     ///
     /// For a log, whose first word is `log`, one line is written after `NAME: `, or one line of JSON. It says whether
     /// the log fits, how its program ends, and what else is counted and found ([`judge_log`](monk_judge::judge_log)).
-    /// The status is 1 if the log misfits, misses a signal, or ends busy and its program didn't end by itself; else
-    /// 0. A log with another kind than NPNB, or with meanings but without acts, is refused by a line with status 2.
+    /// Of another text the line of JSON says with status 2 that it is no log. The status is 1 if the log
+    /// misfits, misses a signal, or ends busy and its program didn't end by itself; else 0. A log with
+    /// another kind than NPNB, or with meanings but without acts, is refused by a line with status 2.
     ///
     /// For a history ten lines are written, in the order of [`KindName::ALL`]: `KIND legal N` or `KIND forbidden STEP
-    /// REASON WORD`. With a kind only its line is written, after `NAME: `. The status is 0 if a line says `legal`,
-    /// else 1.
+    /// REASON WORD`. With a kind only its line is written, after `NAME: `; so is each line if the text is one of
+    /// several. The status is 0 if a line says `legal`, else 1.
     ///
-    /// A log takes one pass over its text, three over its lines, and one over the last visit of each thread that
+    /// A log takes one pass over its text, four over its lines, and one over the last visit of each thread that
     /// waits at its end. It takes 24 bytes of memory a line and the text, or 32 bytes a line, whichever is more. A
     /// history takes a pass over the text, and one over the events for each kind.
     Fit(FitForm, Question<'a>),

@@ -8,7 +8,7 @@ use crate::answer::{LineAnswer, put};
 use crate::explaining::{explain_history, explain_log};
 use crate::fault::StreamFault;
 use crate::fit_form::FitForm;
-use crate::fitting::{fit_history, fit_log};
+use crate::fitting::{fit_log, fit_other};
 use crate::input::read_all;
 use crate::logs::answering::is_log;
 use crate::logs::completing::run_answer;
@@ -35,7 +35,7 @@ impl TextTask<'_> {
         let is_log = is_log(&bytes);
         match self {
             TextTask::Fit(form, question) if is_log => fit_log(alloc, form, question, bytes),
-            TextTask::Fit(_, question) => fit_history(alloc, question, &bytes),
+            TextTask::Fit(form, question) => fit_other(alloc, form, question, &bytes),
             TextTask::Explain(question) if is_log => explain_log(alloc, question, bytes),
             TextTask::Explain(question) => explain_history(alloc, question.kind, &bytes),
             TextTask::Show(show, window) if is_log => show_log(alloc, show, window, &bytes),

@@ -43,6 +43,8 @@ fn upgrade_text<W: Write>(
 ///
 /// If the reader has no text of a history, the line `unreadable LINE NUMBER WORD` is written with status 2.
 ///
+/// No call of the reader or the writer has failed yet: a device that has failed is of no more use.
+///
 /// # Errors
 ///
 /// The errors of [`audit_stream`](crate::audit_stream).

@@ -62,7 +62,8 @@ impl<K: Kind, T: Guarded> Active<K, T> {
         self.floor.history()
     }
 
-    /// Whether a predicate holds for the data.
+    /// Whether a predicate of the object holds for the data now. `pred` is below the object's `PREDICATES`: 2 for a
+    /// buffer and a book, 3 for a shop, 32 for flags. It changes nothing.
     pub fn holds(&self, pred: u8) -> bool
         requires { pred < T.PREDICATES }
         ensures { result ≡ T.meaning.holds

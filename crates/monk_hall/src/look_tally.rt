@@ -40,20 +40,15 @@ impl LookTally {
         true
     }
 
-    /// Notes how a thread's looks ended.
+    /// Notes how a thread's looks ended. While looking doesn't pay it is brief, and tells nothing.
     pub(crate) fn note(&self, was_let_in: bool) {
         let vain = self.vain.load(SeqCst);
-        let then = vain_after(vain, was_let_in);
+        if vain >= MOST_VAIN {
+            return;
+        }
+        let then = if was_let_in { 0 } else { vain + 1 };
         if then != vain {
             self.vain.store(then, SeqCst);
         }
     }
-}
-
-/// How many looks in a row were in vain, after one more.
-fn vain_after(vain: u64, was_let_in: bool) -> u64 {
-    if was_let_in {
-        return 0;
-    }
-    if vain < MOST_VAIN { vain + 1 } else { vain }
 }

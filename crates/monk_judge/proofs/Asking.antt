@@ -1,10 +1,11 @@
--- The judge's run is, but for the wake-ups that nobody sent, what its lines ask for
+-- The judge's run is, but for the wake-ups that nobody sent, what its lines ask for. These come just before their
+-- threads come back
 use Rattle.std.proofs.Common.{◌≡◌, ℕ, zero, suc, ◌+◌, ◌<◌, ◌≤◌, Bool, true, false, List, [], ◌∷◌, ◌++◌, Option, None, length, get_or, drop, arith, refl, sym, ap, subst, ◌∙◌}
 use Rattle.std.proofs.lemmas.List.{append-nil, append_assoc}
 use Rattle.monk_logs.specs.Log.{line_seat}
 use Rattle.monk_logs.specs.declared.text.line.LogLine.{LogLine}
 use Rattle.monk_logs.specs.declared.text.line.LogLine.TheVariants.{Enter, Resume, Lapse, Leave, Wait, Signal, Broadcast, Until, Act}
-use Rattle.monk_judge.specs.Asked.{asked, asked_by, asked_of}
+use Rattle.monk_judge.specs.Asked.{ComeBackAtOnce, TellsFirst, asked, asked_by, asked_of}
 use Rattle.monk_judge.specs.Ends.{lapses_next}
 use Rattle.monk_judge.specs.Judged.{CanStand, running_out, steps_at, waking}
 use Rattle.monk_judge.specs.Run.{Setting, State}
@@ -81,3 +82,44 @@ asked_next m x lines i steps w lapses lt stands ends was =
     ∙ ap (λ b. asked_by i lines ++ asked_of l b) ends
     ∙ subst (λ n. asked_by i lines ++ asked_of l (lapses_next (line_seat l) (drop n lines)) ≡ asked_by n lines)
     (sym next) (sym (by_next lines i lt))
+
+-- ---- who wakes unasked comes back at once
+
+first_on : (l : LogLine) (a b : List Step) → TellsFirst l a → TellsFirst l (a ++ b)
+first_on l [] b h = absurd h
+first_on l (Tells k w ∷ a) b h = h
+first_on l (RunsOut s ∷ a) b h = absurd h
+first_on l (WakesUnasked s ∷ a) b h = absurd h
+
+back_on : (a b : List Step) → ComeBackAtOnce a → ComeBackAtOnce b → ComeBackAtOnce (a ++ b)
+back_on [] b h k = k
+back_on (Tells l w ∷ a) b h k = back_on a b h k
+back_on (RunsOut s ∷ a) b h k = back_on a b h k
+back_on (WakesUnasked s ∷ a) b h k = (first_on (Resume s) a b h.0, back_on a b h.1 k)
+
+back_waking : (s : ℕ) (p : Place) → ComeBackAtOnce (waking s p ++ Tells (Resume s) None ∷ [])
+back_waking s Outside = tt
+back_waking s Active = tt
+back_waking s (Waiting c) = (refl, tt)
+back_waking s (Woken c) = tt
+back_waking s (RanOut c) = tt
+
+back_out : (s : ℕ) (b : Bool) → ComeBackAtOnce (running_out s b)
+back_out s true = tt
+back_out s false = tt
+
+back_line : (m : Setting) (x : State) (l : LogLine) (w : Option ℕ) (lapses : Bool) → CanStand m x l
+    → ComeBackAtOnce (steps_at x l w lapses)
+back_line m x (Enter s) w lapses h = tt
+back_line m x (Resume s) w lapses h = back_waking s (x.place s)
+back_line m x (Lapse s) w lapses h = tt
+back_line m x (Leave s) w lapses h = tt
+back_line m x (Wait s c) w lapses h = back_out s lapses
+back_line m x (Signal s c) w lapses h = tt
+back_line m x (Broadcast s c) w lapses h = tt
+back_line m x (Until s p) w lapses h = absurd h
+back_line m x (Act s op r) w lapses h = tt
+
+pub back_next : (m : Setting) (x : State) (l : LogLine) (steps : List Step) (w : Option ℕ) (lapses : Bool)
+    → CanStand m x l → ComeBackAtOnce steps → ComeBackAtOnce (steps ++ steps_at x l w lapses)
+back_next m x l steps w lapses stands was = back_on steps (steps_at x l w lapses) was (back_line m x l w lapses stands)

@@ -10,13 +10,16 @@ pub mod LeastLaw
 pub mod Sleepers
 pub mod Asking
 pub mod WaitEnds
+pub mod Waiting
 pub mod Firsts
 pub mod Totals
 pub mod Among
 pub mod Moments
 pub mod Missing
 pub mod Moves
+pub mod Visits
 pub mod Passing
+pub mod Rivals
 pub mod Many
 pub mod Nexts
 pub mod Returning
@@ -27,3 +30,4 @@ pub mod Tallies
 pub mod Taking
 pub mod Naming
 pub mod PublicLaws
+mod Sleeper

@@ -1,6 +1,7 @@
 -- How a line that the judge takes changes the lock and woken threads
-use Rattle.std.proofs.Common.{◌≡◌, ℕ, Bool, true, false, ◌∷◌, [], ◌++◌, Option, Some, None, refl, sym, ap, subst, ◌∙◌}
+use Rattle.std.proofs.Common.{◌≡◌, ℕ, ◌⊎◌, inl, inr, Bool, true, false, ◌∷◌, [], ◌++◌, Option, Some, None, refl, sym, ap, subst, ◌∙◌}
 use Rattle.std.proofs.lemmas.Bool.{false≢true}
+use Rattle.monk_object.specs.declared.op.Op.{Op}
 use Rattle.monk_logs.specs.Log.{line_seat}
 use Rattle.monk_logs.specs.declared.text.line.LogLine.{LogLine}
 use Rattle.monk_logs.specs.declared.text.line.LogLine.TheVariants.{Enter, Resume, Lapse, Leave, Wait, Signal, Broadcast, Until, Act}
@@ -9,9 +10,10 @@ use Rattle.monk_judge.specs.declared.place.Place.TheVariants.{Outside, Active, W
 use Rattle.monk_judge.specs.declared.step.Step.TheVariants.{Tells, WakesUnasked}
 use Rattle.monk_judge.specs.Ends.{is_resume}
 use Rattle.monk_judge.specs.Holding.{takes_lock}
+use Rattle.monk_judge.specs.Overtaken.{is_refused}
 use Rattle.monk_judge.specs.Judged.{CanStand, IsRight, after_all, running_out, steps_at, waking}
 use Rattle.monk_judge.specs.Run.{HasRunOut, Setting, State, after, takes, WakesRightly, run_out, signalled, with_place, woken, woken_unasked}
-use Rattle.monk_judge.proofs.Least.{elsewhere}
+use Rattle.monk_judge.proofs.Least.{elsewhere, here}
 use Rattle.monk_judge.proofs.Sleepers.{HoldersAct}
 
 pub record Moves (x : State) (l : LogLine) (y : State) : Type 0 where
@@ -20,6 +22,10 @@ pub record Moves (x : State) (l : LogLine) (y : State) : Type 0 where
   pub held : takes_lock l ≡ false → (s : ℕ) → x.lock ≡ Some s → (line_seat l ≡ s → ⊥) → y.lock ≡ Some s
   pub still : (j c : ℕ) → x.place j ≡ Woken c → (takes_lock l ≡ true → j ≡ line_seat l → ⊥) → y.place j ≡ Woken c
   pub back : takes_lock l ≡ true → (c : ℕ) → x.place (line_seat l) ≡ Woken c → is_resume l ≡ true
+  pub acts : takes_lock l ≡ true → y.place (line_seat l) ≡ Active
+  pub keeps : takes_lock l ≡ false → (y.lock ≡ x.lock) ⊎ (y.lock ≡ None)
+  pub refused : is_refused l ≡ true → y.lock ≡ x.lock
+  pub leaves : (s : ℕ) → l ≡ Leave s → x.lock ≡ Some s
 
 pub outside_woken : (c : ℕ) (A : Type 0) (p : Place) → p ≡ Outside → p ≡ Woken c → A
 outside_woken c A p e h = cc
@@ -33,6 +39,17 @@ waiting_woken d c A p e h = cc
 some_same : (o : Option ℕ) (s j : ℕ) → o ≡ Some s → o ≡ Some j → s ≡ j
 some_same o s j e h = cc
 
+refused_free : (l : LogLine) → is_refused l ≡ true → takes_lock l ≡ false
+refused_free (Enter s) h = absurd (false≢true h)
+refused_free (Resume s) h = absurd (false≢true h)
+refused_free (Lapse s) h = absurd (false≢true h)
+refused_free (Leave s) h = refl
+refused_free (Wait s c) h = refl
+refused_free (Signal s c) h = refl
+refused_free (Broadcast s c) h = refl
+refused_free (Until s p) h = refl
+refused_free (Act s op r) h = refl
+
 -- a line with which a thread takes the lock, and any other
 took : (x : State) (l : LogLine) → takes_lock l ≡ true → x.lock ≡ None
     → ((c : ℕ) → x.place (line_seat l) ≡ Woken c → is_resume l ≡ true) → Moves x l (takes (line_seat l) x)
@@ -42,17 +59,27 @@ took x l is free back = record {
   held = λ h. absurd (false≢true (sym h ∙ is));
   still = λ j c h other. elsewhere (line_seat l) Active x.place j (other is) ∙ h;
   back = λ h. back;
+  acts = λ h. here (line_seat l) Active x.place;
+  keeps = λ h. absurd (false≢true (sym h ∙ is));
+  refused = λ h. absurd (false≢true (sym (refused_free l h) ∙ is));
+  leaves = λ s e. absurd (false≢true (sym (ap takes_lock e) ∙ is));
 }
 
 stayed : (x : State) (l : LogLine) (y : State) → takes_lock l ≡ false
     → ((s : ℕ) → x.lock ≡ Some s → (line_seat l ≡ s → ⊥) → y.lock ≡ Some s)
-    → ((j c : ℕ) → x.place j ≡ Woken c → y.place j ≡ Woken c) → Moves x l y
-stayed x l y is held still = record {
+    → ((j c : ℕ) → x.place j ≡ Woken c → y.place j ≡ Woken c)
+    → ((y.lock ≡ x.lock) ⊎ (y.lock ≡ None)) → (is_refused l ≡ true → y.lock ≡ x.lock)
+    → ((s : ℕ) → l ≡ Leave s → x.lock ≡ Some s) → Moves x l y
+stayed x l y is held still keeps refused leaves = record {
   free = λ h. absurd (false≢true (sym is ∙ h));
   taken = λ h. absurd (false≢true (sym is ∙ h));
   held = λ h. held;
   still = λ j c h other. still j c h;
   back = λ h. absurd (false≢true (sym is ∙ h));
+  acts = λ h. absurd (false≢true (sym is ∙ h));
+  keeps = λ h. keeps;
+  refused = refused;
+  leaves = leaves;
 }
 
 comes_back : (m : Setting) (x : State) (s : ℕ) (p : Place) → x.lock ≡ None
@@ -69,26 +96,31 @@ comes_back m x s (Waiting d) free =
       still = λ j c h other. then.still j c
           (elsewhere s (woken_unasked (x.place s)) x.place j (other refl) ∙ h) other;
       back = λ h c e. refl;
+      acts = then.acts;
+      keeps = then.keeps;
+      refused = then.refused;
+      leaves = then.leaves;
     }
 comes_back m x s (Woken d) free = took x (Resume s) refl free (λ c h. refl)
 comes_back m x s (RanOut d) free = took x (Resume s) refl free (λ c h. refl)
 
 -- a line of the holder of the lock, by which it lets it go
-let_go : (x y : State) (l : LogLine) → takes_lock l ≡ false → x.lock ≡ Some (line_seat l)
-    → ((j c : ℕ) → x.place j ≡ Woken c → y.place j ≡ Woken c) → Moves x l y
-let_go x y l is lock still =
+let_go : (x y : State) (l : LogLine) → takes_lock l ≡ false → is_refused l ≡ false → y.lock ≡ None
+    → x.lock ≡ Some (line_seat l) → ((j c : ℕ) → x.place j ≡ Woken c → y.place j ≡ Woken c) → Moves x l y
+let_go x y l is accepted free lock still =
     stayed x l y is (λ s had other. absurd (other (some_same x.lock (line_seat l) s lock had))) still
+    (inr free) (λ h. absurd (false≢true (sym accepted ∙ h))) (λ s e. lock ∙ ap (λ k. Some (line_seat k)) e)
 
 apart : (x : State) (s j c : ℕ) → x.place s ≡ Active → x.place j ≡ Woken c → j ≡ s → ⊥
 apart x s j c acts h same = active_woken c ⊥ (x.place j) (ap x.place same ∙ acts) h
 
 waits : (m : Setting) (x : State) (s e : ℕ) (b : Bool) → x.lock ≡ Some s → x.place s ≡ Active
     → Moves x (Wait s e) (after_all m x (Tells (Wait s e) None ∷ running_out s b))
-waits m x s e false lock acts = let_go x _ (Wait s e) refl lock
+waits m x s e false lock acts = let_go x _ (Wait s e) refl refl refl lock
     (λ j c h. elsewhere s (Waiting e) x.place j (apart x s j c acts h) ∙ h)
 waits m x s e true lock acts =
     let first = with_place s (Waiting e) x.place in
-    let_go x _ (Wait s e) refl lock
+    let_go x _ (Wait s e) refl refl refl lock
     (λ j c h. elsewhere s (run_out (first s)) first j (apart x s j c acts h)
     ∙ elsewhere s (Waiting e) x.place j (apart x s j c acts h) ∙ h)
 
@@ -98,6 +130,15 @@ signal_still x e j c None right h = h
 signal_still x e j c (Some k) right h = elsewhere k (Woken e) x.place j
     (λ same. waiting_woken e c _ (x.place j) (ap x.place same ∙ right) h) ∙ h
 
+left_by_signal : (s e j : ℕ) → {A : Type 0} → Signal s e ≡ Leave j → A
+left_by_signal s e j h = cc
+
+left_by_broadcast : (s e j : ℕ) → {A : Type 0} → Broadcast s e ≡ Leave j → A
+left_by_broadcast s e j h = cc
+
+left_by_act : (s : ℕ) (op : Op) (r j : ℕ) → {A : Type 0} → Act s op r ≡ Leave j → A
+left_by_act s op r j h = cc
+
 pub line_moves : (m : Setting) (x : State) (l : LogLine) (w : Option ℕ) (b : Bool) → HoldersAct x → CanStand m x l
     → IsRight x l w → Moves x l (after_all m x (steps_at x l w b))
 line_moves m x (Enter s) w b acts can right =
@@ -105,13 +146,16 @@ line_moves m x (Enter s) w b acts can right =
 line_moves m x (Resume s) w b acts can right = comes_back m x s (x.place s) can.1
 line_moves m x (Lapse s) w b acts can right =
     took x (Lapse s) refl can.1 (λ c e. absurd (subst HasRunOut e can.2))
-line_moves m x (Leave s) w b acts can right = let_go x _ (Leave s) refl can.1
+line_moves m x (Leave s) w b acts can right = let_go x _ (Leave s) refl refl refl can.1
     (λ j c h. elsewhere s Outside x.place j (apart x s j c (acts s can.1) h) ∙ h)
 line_moves m x (Wait s e) w b acts can right = waits m x s e b can.2 (acts s can.2)
 line_moves m x (Signal s e) w b acts can right =
-    stayed x (Signal s e) _ refl (λ j had other. had) (λ j c h. signal_still x e j c w right h)
+    stayed x (Signal s e) _ refl (λ j had other. had) (λ j c h. signal_still x e j c w right h) (inl refl) (λ h. refl)
+    (λ j h. left_by_signal s e j h)
 line_moves m x (Broadcast s e) w b acts can right =
-    stayed x (Broadcast s e) _ refl (λ j had other. had) (λ j c h. ap (woken e) h)
+    stayed x (Broadcast s e) _ refl (λ j had other. had) (λ j c h. ap (woken e) h) (inl refl) (λ h. refl)
+    (λ j h. left_by_broadcast s e j h)
 line_moves m x (Until s p) w b acts can right = absurd can
 line_moves m x (Act s op r) w b acts can right =
-    stayed x (Act s op r) _ refl (λ j had other. had) (λ j c h. h)
+    stayed x (Act s op r) _ refl (λ j had other. had) (λ j c h. h) (inl refl) (λ h. refl)
+    (λ j h. left_by_act s op r j h)

@@ -3,53 +3,64 @@ use Rattle.std.proofs.Common.{◌≡◌, ℕ, ◌-◌, ◌<◌, inl, inr, List, 
 use Rattle.monk_logs.specs.Log.{line_seat}
 use Rattle.monk_logs.specs.declared.text.line.LogLine.{LogLine}
 use Rattle.monk_logs.specs.declared.text.line.LogLine.TheVariants.{Wait}
-use Rattle.monk_judge.specs.declared.place.Place.TheVariants.{Woken}
 use Rattle.monk_judge.specs.Ends.{is_resume}
 use Rattle.monk_judge.specs.Moments.{Moment, moment}
-use Rattle.monk_judge.specs.Overtaken.{IsNext, IsOvertaken, IsOvertakenOn, IsPassed, WaitsAgain, seat_at}
+use Rattle.monk_judge.specs.Overtaken.{GoesOnBy, IsNext, IsOvertaken, IsOvertakenOn, IsPassed, WaitsAgain, is_refused, seat_at}
 use Rattle.monk_judge.proofs.Among.{SameBelow, here_or_below}
 use Rattle.monk_judge.proofs.Missing.{more_many}
 use Rattle.monk_judge.proofs.Moments.{moment_kept, moment_last}
-use Rattle.monk_judge.proofs.Passing.{passed_kept}
+use Rattle.monk_judge.proofs.Passing.{woken_same}
+use Rattle.monk_judge.proofs.Visits.{passed_kept, seat_kept}
 
 -- ---- the lines before, after one more line
 
-pub seat_kept : (all : List Moment) (t : Moment) (k : ℕ) → k < length all → seat_at (all ++ t ∷ []) k ≡ seat_at all k
-seat_kept all t k lt = ap (λ z. line_seat z.line) (moment_kept all t k lt)
-
-pub on_kept : (all : List Moment) (t : Moment) (c k : ℕ) → k < length all
-    → (IsOvertakenOn all c k → IsOvertakenOn (all ++ t ∷ []) c k)
-    × (IsOvertakenOn (all ++ t ∷ []) c k → IsOvertakenOn all c k)
-on_kept all t c k lt = (
+pub on_kept : (log : List LogLine) (all : List Moment) (t : Moment) (c k : ℕ) → k < length all
+    → (IsOvertakenOn log all c k → IsOvertakenOn log (all ++ t ∷ []) c k)
+    × (IsOvertakenOn log (all ++ t ∷ []) c k → IsOvertakenOn log all c k)
+on_kept log all t c k lt = (
   λ h. record {
     back = ap (λ z. is_resume z.line) (moment_kept all t k lt) ∙ h.back;
-    passed = (passed_kept all t k (seat_at (all ++ t ∷ []) k) c (omega arith)).0
-        (subst (λ s. IsPassed all k s c) (sym (seat_kept all t k lt)) h.passed);
+    passed = (passed_kept log all t k (seat_at (all ++ t ∷ []) k) c (omega arith)).0
+        (subst (λ s. IsPassed log all k s c) (sym (seat_kept all t k lt)) h.passed);
   },
   λ h. record {
     back = sym (ap (λ z. is_resume z.line) (moment_kept all t k lt)) ∙ h.back;
-    passed = subst (λ s. IsPassed all k s c) (seat_kept all t k lt)
-        ((passed_kept all t k (seat_at (all ++ t ∷ []) k) c (omega arith)).1 h.passed);
+    passed = subst (λ s. IsPassed log all k s c) (seat_kept all t k lt)
+        ((passed_kept log all t k (seat_at (all ++ t ∷ []) k) c (omega arith)).1 h.passed);
   },
 )
 
-pub overtaken_kept : (all : List Moment) (t : Moment) → SameBelow (λ k. IsOvertaken all k)
-    (λ k. IsOvertaken (all ++ t ∷ []) k) (length all)
-overtaken_kept all t k lt = (
-  λ h. record { cond = h.cond; on = (on_kept all t h.cond k lt).0 h.on },
-  λ h. record { cond = h.cond; on = (on_kept all t h.cond k lt).1 h.on },
+pub overtaken_kept : (log : List LogLine) (all : List Moment) (t : Moment) → SameBelow (λ k. IsOvertaken log all k)
+    (λ k. IsOvertaken log (all ++ t ∷ []) k) (length all)
+overtaken_kept log all t k lt = (
+  λ h. record { cond = h.cond; on = (on_kept log all t h.cond k lt).0 h.on },
+  λ h. record { cond = h.cond; on = (on_kept log all t h.cond k lt).1 h.on },
 )
 
-woken_same : (c d : ℕ) → Woken c ≡ Woken d → c ≡ d
-woken_same c d e = cc
+pub goes_by : (l m : LogLine) (s r : ℕ) → l ≡ m → s ≡ r → GoesOnBy l s → GoesOnBy m r
+goes_by l m s r line seat h = (sym (ap line_seat line) ∙ h.0 ∙ seat, sym (ap is_refused line) ∙ h.1)
+
+pub goes_kept : (all : List Moment) (t : Moment) (i k : ℕ) → i < length all → k < length all
+    → (GoesOnBy (moment all i).line (seat_at all k) → GoesOnBy (moment (all ++ t ∷ []) i).line
+    (seat_at (all ++ t ∷ []) k))
+    × (GoesOnBy (moment (all ++ t ∷ []) i).line (seat_at (all ++ t ∷ []) k)
+    → GoesOnBy (moment all i).line (seat_at all k))
+goes_kept all t i k near lt =
+    let at = moment_kept all t i near in
+    let seat = seat_kept all t k lt in (
+      λ h. (ap (λ z. line_seat z.line) at ∙ h.0 ∙ sym seat, ap (λ z. is_refused z.line) at ∙ h.1),
+      λ h. (sym (ap (λ z. line_seat z.line) at) ∙ h.0 ∙ seat, sym (ap (λ z. is_refused z.line) at) ∙ h.1),
+    )
 
 -- it was woken on one condition
-pub cond_same : (all : List Moment) (k c d : ℕ) → IsOvertakenOn all c k → IsOvertakenOn all d k → c ≡ d
-cond_same all k c d h g =
+pub cond_same : (log : List LogLine) (all : List Moment) (k c d : ℕ) → IsOvertakenOn log all c k
+    → IsOvertakenOn log all d k → c ≡ d
+cond_same log all k c d h g =
     let i = k - 1 in
     let lt : i < k = omega (arith, h.passed.before) in
-    woken_same c d (sym (h.passed.woken i (omega (arith, h.passed.before)) lt)
-    ∙ g.passed.woken i (omega (arith, g.passed.before)) lt)
+    woken_same c d
+    (sym (h.passed.woken i (omega (arith, h.passed.before, h.passed.rival.visit.before)) lt)
+    ∙ g.passed.woken i (omega (arith, g.passed.before, g.passed.rival.visit.before)) lt)
 
 pub next_kept : (all : List Moment) (t : Moment) (k j : ℕ) → IsNext all k j → IsNext (all ++ t ∷ []) k j
 next_kept all t k j h =
@@ -57,10 +68,10 @@ next_kept all t k j h =
     record {
       behind = h.behind;
       within = let a = h.within in let b = more_many all t in omega arith;
-      same = seat_kept all t j h.within ∙ h.same ∙ sym (seat_kept all t k lt);
+      same = (goes_kept all t j k h.within lt).0 h.same;
       none = λ i from less same.
           let near : i < length all = let b = h.within in omega arith in
-          h.none i from less (sym (seat_kept all t i near) ∙ same ∙ seat_kept all t k lt);
+          h.none i from less ((goes_kept all t i k near lt).1 same);
     }
 
 next_back : (all : List Moment) (t : Moment) (k j : ℕ) → j < length all → IsNext (all ++ t ∷ []) k j → IsNext all k j
@@ -69,48 +80,48 @@ next_back all t k j within h =
     record {
       behind = h.behind;
       within = within;
-      same = sym (seat_kept all t j within) ∙ h.same ∙ seat_kept all t k lt;
+      same = (goes_kept all t j k within lt).1 h.same;
       none = λ i from less same.
           let near : i < length all = omega arith in
-          h.none i from less (seat_kept all t i near ∙ same ∙ sym (seat_kept all t k lt));
+          h.none i from less ((goes_kept all t i k near lt).0 same);
     }
 
-pub again_more : (all : List Moment) (t : Moment) (k : ℕ) → k < length all → WaitsAgain all k
-    → WaitsAgain (all ++ t ∷ []) k
-again_more all t k lt h = record {
+pub again_more : (log : List LogLine) (all : List Moment) (t : Moment) (k : ℕ) → k < length all → WaitsAgain log all k
+    → WaitsAgain log (all ++ t ∷ []) k
+again_more log all t k lt h = record {
   cond = h.cond;
-  on = (on_kept all t h.cond k lt).0 h.on;
+  on = (on_kept log all t h.cond k lt).0 h.on;
   at = h.at;
   next = next_kept all t k h.at h.next;
   waits = ap (λ z. z.line) (moment_kept all t h.at h.next.within) ∙ h.waits
       ∙ ap (λ s. Wait s h.cond) (sym (seat_kept all t k lt));
 }
 
-pub again_back : (all : List Moment) (t : Moment) (k : ℕ) → k < length all → (again : WaitsAgain (all ++ t ∷ []) k)
-    → again.at < length all → WaitsAgain all k
-again_back all t k lt h within = record {
+pub again_back : (log : List LogLine) (all : List Moment) (t : Moment) (k : ℕ) → k < length all
+    → (again : WaitsAgain log (all ++ t ∷ []) k) → again.at < length all → WaitsAgain log all k
+again_back log all t k lt h within = record {
   cond = h.cond;
-  on = (on_kept all t h.cond k lt).1 h.on;
+  on = (on_kept log all t h.cond k lt).1 h.on;
   at = h.at;
   next = next_back all t k h.at within h.next;
   waits = sym (ap (λ z. z.line) (moment_kept all t h.at within)) ∙ h.waits
       ∙ ap (λ s. Wait s h.cond) (seat_kept all t k lt);
 }
 
--- the thread has written a line since
+-- the thread has gone on since
 pub record HasNext (all : List Moment) (k : ℕ) : Type 0 where
   pub at : ℕ
   pub next : IsNext all k at
 
 -- if so, one more line changes nothing
-pub again_if_next : (all : List Moment) (t : Moment) (k : ℕ) → k < length all → HasNext all k
-    → (again : WaitsAgain (all ++ t ∷ []) k) → again.at < length all
-again_if_next all t k lt has h =
+pub again_if_next : (log : List LogLine) (all : List Moment) (t : Moment) (k : ℕ) → k < length all → HasNext all k
+    → (again : WaitsAgain log (all ++ t ∷ []) k) → again.at < length all
+again_if_next log all t k lt has h =
     elim (here_or_below h.at (length all) (subst (λ n. h.at < n) (more_many all t) h.next.within)) as
     (λ z. h.at < length all) [
       | inl last ↦ absurd (h.next.none has.at has.next.behind
           (let a = has.next.within in omega arith)
-          (seat_kept all t has.at has.next.within ∙ has.next.same ∙ sym (seat_kept all t k lt)))
+          ((goes_kept all t has.at k has.next.within lt).0 has.next.same))
       | inr less ↦ less
     ]
 

@@ -9,7 +9,7 @@ use Rattle.monk_judge.specs.declared.misfit.Misfit.{Misfit}
 use Rattle.monk_judge.specs.declared.told.Told.{Told}
 use Rattle.monk_judge.specs.declared.wait_end.WaitEnd.{WaitEnd}
 use Rattle.monk_judge.specs.declared.wait_end.WaitEnd.TheVariants.{Resumes}
-use Rattle.monk_judge.specs.Asked.{asked, asked_by}
+use Rattle.monk_judge.specs.Asked.{ComeBackAtOnce, asked, asked_by}
 use Rattle.monk_judge.specs.Blamed.{IsBlamed}
 use Rattle.monk_judge.specs.Ends.{AreEnds, ends_after, runs_out}
 use Rattle.monk_judge.specs.Explains.{IsExplainable}
@@ -19,7 +19,7 @@ use Rattle.monk_judge.specs.Reports.{IsRunOf}
 use Rattle.monk_judge.specs.Run.{Setting, State, IsRun, lines_of, opening, unasked}
 use Rattle.monk_judge.specs.declared.step.Step.{Step}
 use Rattle.monk_judge.specs.Shown.{Refuses, Shown, Takes, own_steps, setting_of, state_of, whom}
-use Rattle.monk_judge.proofs.Asking.{asked_all, asked_next}
+use Rattle.monk_judge.proofs.Asking.{asked_all, asked_next, back_next}
 use Rattle.monk_judge.proofs.Covers.{CoversAt, covers_explains, covers_next, covers_opening, covers_stop, rest_is}
 use Rattle.monk_judge.proofs.Sleepers.{EndsAt, ends_next, goes_first, outside_not}
 use Rattle.monk_judge.proofs.Moments.{Meets, moments_many, moments_on}
@@ -34,6 +34,7 @@ pub record Reached (o : Object) (m : Setting) (d : List ℕ) (lines : List LogLi
   pub covers : CoversAt m d lines i steps (state_of v)
   pub ends : EndsAt v i (drop i lines)
   pub asks : asked steps ≡ asked_by i lines
+  pub back : ComeBackAtOnce steps
 
 many_after : (ends : List WaitEnd) (l : LogLine) (e : WaitEnd) → length (ends_after ends l e) ≡ length ends
 many_after ends (Enter s) e = refl
@@ -54,6 +55,7 @@ reached_opening o m d lines v same many fresh = record {
   covers = covers_opening m d lines (state_of v) fresh;
   ends = λ j c h. absurd (outside_not c (sym (ap (λ (x : State). x.place j) fresh) ∙ h));
   asks = refl;
+  back = tt;
 }
 
 pub stands_there : (o : Object) (m : Setting) (d : List ℕ) (lines : List LogLine) (i : ℕ) (v new : Shown)
@@ -86,6 +88,7 @@ reached_next o m d lines ends i v new steps what lt are was does =
           (goes_first m v l (whom what) i rest seats acts stands does.right does.earliest ends_here) leads end.lapses;
       ends = ends_next m v new l (whom what) e i rest (seats ∙ sym was.many) acts stands ends_here end leads does.ends;
       asks = asked_next m x lines i steps (whom what) (runs_out e) lt stands end.lapses was.asks;
+      back = back_next m x l steps (whom what) (runs_out e) stands was.back;
     }
 
 -- ---- the end
@@ -107,6 +110,7 @@ run_all o m d lines i v steps all was =
       told = was.covers.told ∙ is;
       least = λ others run told. least_of o m d lines i v steps was others run (told ∙ was.covers.told);
       asks = asked_all lines i steps all was.asks;
+      back = was.back;
       blamed = tt;
     }
 
@@ -131,6 +135,7 @@ run_stop o m d lines i v new steps f lt was refused at =
       least = λ others run told. least_of o m d lines i v steps was others run (told ∙ was.covers.told);
       asks = was.asks ∙ ap (λ k. asked_by k lines) (sym (length-take-le i lines (omega (arith, lt))))
           ∙ ap (λ k. asked_by (length (take k lines)) lines) (sym at);
+      back = was.back;
       blamed = subst (λ k. IsBlamed m (after_all m (opening d) steps) (get_or lines k (Enter 0)) f.why) (sym at)
           (subst (λ k. IsBlamed m k (get_or lines i (Enter 0)) f.why) was.covers.leads
           (subst (λ k. IsBlamed k (state_of v) (get_or lines i (Enter 0)) f.why) was.same refused.blamed));

@@ -1,7 +1,9 @@
 -- What holds while a judge takes the lines of a log
 use Rattle.std.proofs.Common.{◌≡◌, Bool, false, ℕ, ◌<◌, ◌≤◌, ◌+◌, ◌*◌, List, [], ◌++◌, Option, Some, None, length, get_or, refl, sym, ap, subst, arith, ◌∙◌}
 use Rattle.monk_object.specs.Object.{Object}
+use Rattle.monk_logs.specs.Crossed.{crossed_of}
 use Rattle.monk_logs.specs.Log.{line_seat}
+use Rattle.monk_logs.specs.declared.crossed.Crossed.{Crossed}
 use Rattle.monk_logs.specs.declared.text.line.LogLine.{LogLine}
 use Rattle.monk_logs.specs.declared.text.line.LogLine.TheVariants.{Enter, Resume, Lapse, Leave, Wait, Signal, Broadcast, Until, Act}
 use Rattle.monk_judge.specs.declared.holder.Holder.{Holder}
@@ -29,7 +31,8 @@ use Rattle.monk_judge.specs.Shown.{Refuses, Shown, Takes, own_steps, setting_of,
 use Rattle.monk_judge.proofs.Missing.{Known, known_next, known_opening}
 use Rattle.monk_judge.proofs.Holding.{holder_is}
 use Rattle.monk_judge.proofs.Moves.{Moves, line_moves}
-use Rattle.monk_judge.proofs.Passing.{Marks, MarksMore, marks_next}
+use Rattle.monk_judge.proofs.Passing.{Marks, MarksMore}
+use Rattle.monk_judge.proofs.Rivals.{marks_next}
 use Rattle.monk_judge.proofs.Returning.{Hinted}
 use Rattle.monk_judge.proofs.Hinting.{hinted_few, hinted_next}
 use Rattle.monk_judge.proofs.Moments.{line_meets}
@@ -39,21 +42,22 @@ use Rattle.monk_judge.proofs.Tallies.{CountsMore, IsNothing, counted_next}
 -- ---- the counts so far
 
 pub record Taken (o : Object) (m : Setting) (d : List ℕ) (lines : List LogLine) (means : List WaitsFor) (i : ℕ)
-    (v : Shown) (t : Tally) (s : Missed) (seats : List (Option ℕ)) (h : Hints) : Type 0 where
+    (v : Shown) (t : Tally) (s : Missed) (passing passed : List (Option ℕ)) (h : Hints) : Type 0 where
   pub steps : List Step
   pub reached : Reached o m d lines i v steps
   pub counted : IsCounted m d lines steps t
   pub missed : Known m.object means (moments m (opening d) steps) s
-  pub marks : Marks (moments m (opening d) steps) (state_of v) seats
-  pub hinted : Hinted (moments m (opening d) steps) (state_of v) h
+  pub marks : Marks lines m.seats (moments m (opening d) steps) (state_of v) passing passed
+  pub hinted : Hinted lines (moments m (opening d) steps) (state_of v) h
   pub room : t.served + t.passed + t.spurious + t.unheard ≤ 255 * i
 
 pub taken_opening : (o : Object) (m : Setting) (d : List ℕ) (lines : List LogLine) (means : List WaitsFor) (v : Shown)
-    (t : Tally) (s : Missed) (seats : List (Option ℕ)) (h : Hints)
+    (t : Tally) (s : Missed) (passing passed : List (Option ℕ)) (h : Hints)
     → setting_of v o ≡ m
     → length v.ends ≡ length v.places → state_of v ≡ opening d → IsNothing t → s.line ≡ None → s.from_outside ≡ false
-    → Marks [] (state_of v) seats → Hinted [] (state_of v) h → Taken o m d lines means 0 v t s seats h
-taken_opening o m d lines means v t s seats h same many fresh none line inside marks hinted = record {
+    → Marks lines m.seats [] (state_of v) passing passed → Hinted lines [] (state_of v) h
+    → Taken o m d lines means 0 v t s passing passed h
+taken_opening o m d lines means v t s passing passed h same many fresh none line inside marks hinted = record {
   steps = [];
   reached = reached_opening o m d lines v same many fresh;
   counted = record {
@@ -105,10 +109,11 @@ missed_next o m d lines means i v new steps e what s u lt was known does looks =
     (sym (many_moments o m d lines i v steps (omega arith) was)) looks)))
 
 -- what the program does with a line
-pub record Looks (i : ℕ) (l : LogLine) (y : State) (seats new : List (Option ℕ)) (h u : Hints) : Type 0 where
-  pub marks : MarksMore l y seats new
+pub record Looks (log : List LogLine) (seats i : ℕ) (l : LogLine) (y : State)
+    (passing passed newer new : List (Option ℕ)) (h u : Hints) : Type 0 where
+  pub marks : MarksMore log seats l y passing passed newer new
   pub on : Option ℕ
-  pub told : on ≡ passed_of l seats
+  pub told : on ≡ passed_of l passed
   pub mid : Hints
   pub goes : AnswersOwn l h mid
   pub comes : ComesBack l i on mid u
@@ -124,18 +129,21 @@ line_within m x (Broadcast s c) can = can.seat
 line_within m x (Until s p) can = absurd can
 line_within m x (Act s op r) can = can.0
 
-record Beside (all : List Moment) (y : State) (seats : List (Option ℕ)) (h : Hints) : Type 0 where
-  marks : Marks all y seats
-  hinted : Hinted all y h
+record Beside (log : List LogLine) (seats : ℕ) (all : List Moment) (y : State) (passing passed : List (Option ℕ))
+    (h : Hints) : Type 0 where
+  marks : Marks log seats all y passing passed
+  hinted : Hinted log all y h
 
 beside_next : (o : Object) (m : Setting) (d : List ℕ) (lines : List LogLine) (i : ℕ)
-    (v new : Shown) (steps : List Step) (e : WaitEnd) (what : Told) (seats next : List (Option ℕ)) (h u : Hints)
-    → i < length lines → m.seats < 256 → Reached o m d lines i v steps
-    → Marks (moments m (opening d) steps) (state_of v) seats → Hinted (moments m (opening d) steps) (state_of v) h
+    (v new : Shown) (steps : List Step) (e : WaitEnd) (what : Told) (passing passed newer next : List (Option ℕ))
+    (h u : Hints) → i < length lines → Reached o m d lines i v steps
+    → Marks lines m.seats (moments m (opening d) steps) (state_of v) passing passed
+    → Hinted lines (moments m (opening d) steps) (state_of v) h
     → Takes o v new (get_or lines i (Enter 0)) e what
-    → Looks i (get_or lines i (Enter 0)) (state_of new) seats next h u
-    → Beside (moments m (opening d) (steps ++ own_steps v (get_or lines i (Enter 0)) e what)) (state_of new) next u
-beside_next o m d lines i v new steps e what seats next h u lt few was marks hinted does looks =
+    → Looks lines m.seats i (get_or lines i (Enter 0)) (state_of new) passing passed newer next h u
+    → Beside lines m.seats (moments m (opening d) (steps ++ own_steps v (get_or lines i (Enter 0)) e what))
+    (state_of new) newer next u
+beside_next o m d lines i v new steps e what passing passed newer next h u lt was marks hinted does looks =
     let x = state_of v in
     let l = get_or lines i (Enter 0) in
     let own = own_steps v l e what in
@@ -147,30 +155,32 @@ beside_next o m d lines i v new steps e what seats next h u lt few was marks hin
     let moves : Moves x l (state_of new) = subst (λ y. Moves x l y) (sym leads)
     (line_moves m x l (whom what) (runs_out e) acts can does.right) in
     let behind = meets.behind ∙ sym leads in
-    let within : line_seat l < 256 = let a = line_within m x l can in omega arith in
+    let within = line_within m x l can in
     let many = many_moments o m d lines i v steps (omega arith) was in
-    subst (λ k. Beside k (state_of new) next u) (sym (moments_next o m d lines i v steps own l was meets))
+    subst (λ k. Beside lines m.seats k (state_of new) newer next u)
+    (sym (moments_next o m d lines i v steps own l was meets))
     (record {
-      marks = marks_next all meets.t l x (state_of new) seats next meets.line behind moves marks looks.marks;
-      hinted = hinted_next all meets.t l x (state_of new) h looks.mid u looks.on seats looks.told meets.line moves
-          marks within hinted looks.goes
+      marks = marks_next lines m.seats all meets.t l x (state_of new) passing passed newer next meets.line behind moves
+          marks looks.marks;
+      hinted = hinted_next lines m.seats all meets.t l x (state_of new) h looks.mid u looks.on passing passed looks.told
+          meets.line moves marks within hinted looks.goes
           (subst (λ k. ComesBack l k looks.on looks.mid u) (sym many) looks.comes);
     })
 
 pub taken_next : (o : Object) (m : Setting) (d : List ℕ) (lines : List LogLine) (means : List WaitsFor)
-    (ends : List WaitEnd) (i : ℕ) (v new : Shown) (t u : Tally) (s z : Missed) (seats next : List (Option ℕ))
-    (h g : Hints)
-    (what : Told) → i < length lines → m.seats < 256 → AreEnds ends lines → Taken o m d lines means i v t s seats h
+    (ends : List WaitEnd) (i : ℕ) (v new : Shown) (t u : Tally) (s z : Missed)
+    (passing passed newer next : List (Option ℕ)) (h g : Hints) (what : Told) → i < length lines
+    → AreEnds ends lines → Taken o m d lines means i v t s passing passed h
     → Takes o v new (get_or lines i (Enter 0)) (get_or ends i (Resumes 0)) what → CountsMore i t u what
     → LooksAt o means (get_or lines i (Enter 0)) (state_of new) i s z
-    → Looks i (get_or lines i (Enter 0)) (state_of new) seats next h g
-    → Taken o m d lines means (i + 1) new u z next g
-taken_next o m d lines means ends i v new t u s z seats next h g what lt few are was does more looks hints =
+    → Looks lines m.seats i (get_or lines i (Enter 0)) (state_of new) passing passed newer next h g
+    → Taken o m d lines means (i + 1) new u z newer next g
+taken_next o m d lines means ends i v new t u s z passing passed newer next h g what lt are was does more looks hints =
     let e = get_or ends i (Resumes 0) in
     let own = own_steps v (get_or lines i (Enter 0)) e what in
     let then = reached_next o m d lines ends i v new was.steps what lt are was.reached does in
-    let beside = beside_next o m d lines i v new was.steps e what seats next h g lt few was.reached was.marks
-    was.hinted does hints in
+    let beside = beside_next o m d lines i v new was.steps e what passing passed newer next h g lt was.reached
+    was.marks was.hinted does hints in
     record {
       steps = was.steps ++ own;
       reached = then;
@@ -184,19 +194,19 @@ taken_next o m d lines means ends i v new t u s z seats next h g what lt few are
 
 -- no more are counted than there are lines
 pub hints_few : (o : Object) (m : Setting) (d : List ℕ) (lines : List LogLine) (means : List WaitsFor) (i : ℕ)
-    (v : Shown) (t : Tally) (s : Missed) (seats : List (Option ℕ)) (h : Hints) → i ≤ length lines
-    → Taken o m d lines means i v t s seats h → (h.many ≤ i) × (h.again ≤ i)
-hints_few o m d lines means i v t s seats h le was =
+    (v : Shown) (t : Tally) (s : Missed) (passing passed : List (Option ℕ)) (h : Hints) → i ≤ length lines
+    → Taken o m d lines means i v t s passing passed h → (h.many ≤ i) × (h.again ≤ i)
+hints_few o m d lines means i v t s passing passed h le was =
     subst (λ n. (h.many ≤ n) × (h.again ≤ n)) (many_moments o m d lines i v was.steps le was.reached)
-    (hinted_few (moments m (opening d) was.steps) (state_of v) h was.hinted)
+    (hinted_few lines (moments m (opening d) was.steps) (state_of v) h was.hinted)
 
 -- ---- the end
 
 pub taken_all : (o : Object) (m : Setting) (d : List ℕ) (lines : List LogLine) (means : List WaitsFor) (i : ℕ)
-    (v : Shown) (t : Tally) (s : Missed) (seats : List (Option ℕ)) (h : Hints)
+    (v : Shown) (t : Tally) (s : Missed) (passing passed : List (Option ℕ)) (h : Hints)
     → length lines ≤ i
-    → Taken o m d lines means i v t s seats h → IsTaken m d lines means None t s.line h v
-taken_all o m d lines means i v t s seats h all was = record {
+    → Taken o m d lines means i v t s passing passed h → IsTaken m d lines means None t s.line h v
+taken_all o m d lines means i v t s passing passed h all was = record {
   steps = was.steps;
   run = run_all o m d lines i v was.steps all was.reached;
   counted = was.counted;
@@ -208,11 +218,12 @@ taken_all o m d lines means i v t s seats h all was = record {
 }
 
 pub taken_stop : (o : Object) (m : Setting) (d : List ℕ) (lines : List LogLine) (means : List WaitsFor) (i : ℕ)
-    (v new : Shown) (t : Tally) (s : Missed) (seats : List (Option ℕ)) (h : Hints) (f : Misfit)
-    → i < length lines → Taken o m d lines means i v t s seats h → Refuses o v new (get_or lines i (Enter 0)) f.why
+    (v new : Shown) (t : Tally) (s : Missed) (passing passed : List (Option ℕ)) (h : Hints) (f : Misfit)
+    → i < length lines → Taken o m d lines means i v t s passing passed h
+    → Refuses o v new (get_or lines i (Enter 0)) f.why
     → f.line ≡ i
     → IsTaken m d lines means (Some f) t s.line h new
-taken_stop o m d lines means i v new t s seats h f lt was refused at = record {
+taken_stop o m d lines means i v new t s passing passed h f lt was refused at = record {
   steps = was.steps;
   run = run_stop o m d lines i v new was.steps f lt was.reached refused at;
   counted = was.counted;
@@ -228,9 +239,12 @@ taken_stop o m d lines means i v new t s seats h f lt was refused at = record {
 pub report_is : (m : Setting) (d : List ℕ) (lines : List LogLine) (means : List WaitsFor) (v : Shown)
     (misfit : Option Misfit) (t : Tally)
     (lock found : Option ℕ) (holder : Option Holder) (asleep woken : ℕ) (missed : Option ℕ) (g : Hints)
+    (told : List LogLine) (sleeps : List Bool) (crossed : Option Crossed)
     → IsTaken m d lines means misfit t missed g v → NamesLastTaking (fitting misfit lines) found
     → lock ≡ v.lock → holder ≡ holder_by lock found → asleep ≡ sleepers (length v.places) (state_of v)
-    → woken ≡ woken_ones (length v.places) (state_of v)
+    → woken ≡ woken_ones (length v.places) (state_of v) → told ≡ fitting misfit lines
+    → ((s : ℕ) → get_or sleeps s false ≡ is_asleep ((state_of v).place s))
+    → crossed ≡ crossed_of (λ s. get_or sleeps s false) told
     → IsReport m d lines means (record {
       misfit = misfit;
       tally = record {
@@ -248,24 +262,29 @@ pub report_is : (m : Setting) (d : List ℕ) (lines : List LogLine) (means : Lis
       asleep = asleep;
       woken = woken;
       missed = missed;
+      crossed = crossed;
     })
-report_is m d lines means v misfit t lock found holder asleep woken missed g h named holds by sleep wake = record {
-  steps = h.steps;
-  run = h.run;
-  counted = record {
-    spurious = h.counted.spurious;
-    served = h.counted.served;
-    passed = h.counted.passed;
-    unheard = h.counted.unheard;
-    first = h.counted.first;
-    last = h.counted.last;
-  };
-  holder = subst (λ k. IsHolder (fitting misfit lines) (after_all m (opening d) h.steps).lock k) (sym by)
-      (holder_is m d h.steps (fitting misfit lines) lock found h.run.told (holds ∙ h.holder) named);
-  asleep = sleep ∙ ap (λ n. sleepers n (state_of v)) h.seats
-      ∙ ap (λ (f : ℕ → Place). count (λ j. is_asleep (f j)) m.seats) h.places;
-  woken = wake ∙ ap (λ n. woken_ones n (state_of v)) h.seats
-      ∙ ap (λ (f : ℕ → Place). count (λ j. is_woken (f j)) m.seats) h.places;
-  missed = h.missed;
-  overtaken = h.overtaken;
-}
+report_is m d lines means v misfit t lock found holder asleep woken missed g told sleeps crossed h named holds by sleep
+    wake before lie cross = record {
+      steps = h.steps;
+      run = h.run;
+      counted = record {
+        spurious = h.counted.spurious;
+        served = h.counted.served;
+        passed = h.counted.passed;
+        unheard = h.counted.unheard;
+        first = h.counted.first;
+        last = h.counted.last;
+      };
+      holder = subst (λ k. IsHolder (fitting misfit lines) (after_all m (opening d) h.steps).lock k) (sym by)
+          (holder_is m d h.steps (fitting misfit lines) lock found h.run.told (holds ∙ h.holder) named);
+      asleep = sleep ∙ ap (λ n. sleepers n (state_of v)) h.seats
+          ∙ ap (λ (f : ℕ → Place). count (λ j. is_asleep (f j)) m.seats) h.places;
+      woken = wake ∙ ap (λ n. woken_ones n (state_of v)) h.seats
+          ∙ ap (λ (f : ℕ → Place). count (λ j. is_woken (f j)) m.seats) h.places;
+      missed = h.missed;
+      overtaken = h.overtaken;
+      crossed = cross ∙ ap (crossed_of (λ s. get_or sleeps s false)) before
+          ∙ ap (λ (f : ℕ → Bool). crossed_of f (fitting misfit lines)) (λ i. λ s. lie s i)
+          ∙ ap (λ (f : ℕ → Place). crossed_of (λ s. is_asleep (f s)) (fitting misfit lines)) h.places;
+    }

@@ -1,5 +1,6 @@
--- When the waits of a run end: one that runs out does so at once, and only if its thread's next line says so
-use Rattle.std.specs.Prelude.{ℕ, zero, suc, Bool, List, [], ◌∷◌, ◌++◌, None}
+-- When the waits of a run end: one that runs out does so at once, and only if its thread's next line says so. One that
+-- nobody ended by a signal ends when its thread comes back
+use Rattle.std.specs.Prelude.{◌≡◌, ℕ, zero, suc, Bool, List, [], ◌∷◌, ◌++◌, None}
 use Rattle.monk_logs.specs.Log.{line_seat}
 use Rattle.monk_logs.specs.declared.text.line.LogLine.{LogLine}
 use Rattle.monk_logs.specs.declared.text.line.LogLine.TheVariants.{Enter, Resume, Lapse, Leave, Wait, Signal, Broadcast, Until, Act}
@@ -32,3 +33,17 @@ abbrev pub asked_by : ℕ → List LogLine → List Step
 asked_by zero lines = []
 asked_by (suc n) [] = []
 asked_by (suc n) (l ∷ lines) = asked_of l (lapses_next (line_seat l) lines) ++ asked_by n lines
+
+-- the first step tells this line
+abbrev pub TellsFirst : LogLine → List Step → Type 0
+TellsFirst l [] = ⊥
+TellsFirst l (Tells k w ∷ steps) = k ≡ l
+TellsFirst l (RunsOut s ∷ steps) = ⊥
+TellsFirst l (WakesUnasked s ∷ steps) = ⊥
+
+-- whoever wakes though nobody signalled comes back in the next step
+abbrev pub ComeBackAtOnce : List Step → Type 0
+ComeBackAtOnce [] = Unit {0}
+ComeBackAtOnce (Tells l w ∷ steps) = ComeBackAtOnce steps
+ComeBackAtOnce (RunsOut s ∷ steps) = ComeBackAtOnce steps
+ComeBackAtOnce (WakesUnasked s ∷ steps) = TellsFirst (Resume s) steps × ComeBackAtOnce steps

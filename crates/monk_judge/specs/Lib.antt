@@ -17,3 +17,4 @@ pub mod Text
 pub mod Reports
 pub mod Blame
 pub mod Blamed
+pub mod Sleeper

@@ -1,5 +1,6 @@
 -- The report on a log
 use Rattle.std.specs.Prelude.{◌≡◌, ℕ, List, Option, Some, None, MatchOption, length, slice_index_or, take}
+use Rattle.monk_logs.specs.Crossed.{crossed_of}
 use Rattle.monk_logs.specs.declared.text.line.LogLine.{LogLine}
 use Rattle.monk_judge.specs.declared.misfit.Misfit.{Misfit}
 use Rattle.monk_judge.specs.declared.overtaking.Hints.{Hints}
@@ -11,8 +12,8 @@ use Rattle.monk_judge.specs.declared.waits_for.WaitsFor.{WaitsFor}
 use Rattle.monk_logs.specs.declared.text.line.LogLine.TheVariants.{Enter}
 use Rattle.monk_judge.specs.Blamed.{IsBlamed}
 use Rattle.monk_judge.specs.Among.{NamesLast}
-use Rattle.monk_judge.specs.Asked.{asked, asked_by}
-use Rattle.monk_judge.specs.Counts.{finds_nobody, passes, sleepers, total, wakes, woken_ones}
+use Rattle.monk_judge.specs.Asked.{ComeBackAtOnce, asked, asked_by}
+use Rattle.monk_judge.specs.Counts.{finds_nobody, is_asleep, passes, sleepers, total, wakes, woken_ones}
 use Rattle.monk_judge.specs.Explains.{IsFirstNeed, IsLeast, IsMisfit}
 use Rattle.monk_judge.specs.Holding.{IsHolder}
 use Rattle.monk_judge.specs.Judged.{after_all}
@@ -28,8 +29,9 @@ fitting None lines = lines
 fitting (Some f) lines = take f.line lines
 
 -- `found` is the misfit, and the steps are a run of the lines before it; no run of them has fewer
--- wake-ups that nobody sent. A wait runs out exactly behind its own line, and only if its thread's next line says so.
--- After them the line of the misfit can't stand, for the reason that is named
+-- wake-ups that nobody sent. A wait runs out exactly behind its own line, and only if its thread's next line says so;
+-- whoever wakes though nobody signalled comes back in the next step. After them the line of the misfit can't stand, for
+-- the reason that is named
 pub record IsRunOf (m : Setting) (d : List ℕ) (lines : List LogLine) (found : Option Misfit)
     (steps : List Step) : Type 0 where
   pub misfit : IsMisfit m d lines found
@@ -37,6 +39,7 @@ pub record IsRunOf (m : Setting) (d : List ℕ) (lines : List LogLine) (found : 
   pub told : lines_of steps ≡ fitting found lines
   pub least : IsLeast m d steps
   pub asks : asked steps ≡ asked_by (length (fitting found lines)) lines
+  pub back : ComeBackAtOnce steps
   pub blamed : MatchOption found (Unit {0})
       (λ f. IsBlamed m (after_all m (opening d) steps) (slice_index_or lines f.line (Enter 0)) f.why)
 
@@ -71,8 +74,10 @@ pub record IsReport (m : Setting) (d : List ℕ) (lines : List LogLine) (means :
   pub asleep : r.asleep ≡ sleepers m.seats (after_all m (opening d) steps)
   pub woken : r.woken ≡ woken_ones m.seats (after_all m (opening d) steps)
   pub missed : NamesFirstMissed m.object means (moments m (opening d) steps) r.missed
-  pub overtaken : CountsOvertaken (moments m (opening d) steps) r.tally.overtaken r.tally.again
+  pub overtaken : CountsOvertaken lines (moments m (opening d) steps) r.tally.overtaken r.tally.again
       r.tally.first_not_again
+  pub crossed : r.crossed ≡ crossed_of (λ s. is_asleep ((after_all m (opening d) steps).place s))
+      (fitting r.misfit lines)
 
 -- a judge has taken the lines up to the misfit
 pub record IsTaken (m : Setting) (d : List ℕ) (lines : List LogLine) (means : List WaitsFor) (found : Option Misfit)
@@ -81,7 +86,7 @@ pub record IsTaken (m : Setting) (d : List ℕ) (lines : List LogLine) (means : 
   pub run : IsRunOf m d lines found steps
   pub counted : IsCounted m d lines steps t
   pub missed : NamesFirstMissed m.object means (moments m (opening d) steps) lacking
-  pub overtaken : CountsOvertaken (moments m (opening d) steps) h.many h.again h.first_not_again
+  pub overtaken : CountsOvertaken lines (moments m (opening d) steps) h.many h.again h.first_not_again
   pub holder : v.lock ≡ (after_all m (opening d) steps).lock
   pub places : (state_of v).place ≡ (after_all m (opening d) steps).place
   pub seats : length v.places ≡ m.seats

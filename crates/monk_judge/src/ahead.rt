@@ -8,8 +8,16 @@ use crate::wait_end::WaitEnd;
 use monk_logs::{LINE_SEATS, LogLine};
 use std::alloc::{AllocError, Global};
 
-/// Returns for each line how a wait of its seat there would end. Makes one pass from the last line to the
-/// first. Takes 8 bytes of memory for each line, and fails only if a request for memory is refused.
+/// Returns for each line how a wait of its seat there would end, whatever the line is: by what the seat's next line
+/// says. There may be at most 2^25 lines, as `monk_logs::read_log` gives them.
+///
+/// # Errors
+///
+/// A request for memory was refused. It takes 8 bytes for each line, at once.
+///
+/// # Cost
+///
+/// One pass, from the last line to the first.
 pub fn look_ahead(alloc: Global, lines: &[LogLine]) -> Result<Vec<WaitEnd>, AllocError>
     requires { length lines.now ≤ most_lines }
     ensures { IfOk result (λ v. AreEnds v.items lines.now) }

@@ -1,11 +1,11 @@
 //! A mutex and its condition variables, followed line by line.
 
-ghost use Rattle.std.specs.Prelude.{◌≡◌, ◌⊎◌, ◌+◌, ◌<◌, ◌≤◌, ℕ, length, IfOk, MatchOption, MatchResult, Some, None, slice_index_or, slice_set};
+ghost use Rattle.std.specs.Prelude.{◌≡◌, ◌⊎◌, ◌+◌, ◌<◌, ◌≤◌, ℕ, false, length, IfOk, MatchOption, MatchResult, Some, None, slice_index_or, slice_set};
 ghost use Rattle.monk_object.specs.Object.{Object};
 ghost use Rattle.monk_logs.specs.declared.text.line.LogLine.TheVariants as lines;
 ghost use Rattle.monk_judge.specs.Blamed.{IsBlamed};
 ghost use Rattle.monk_judge.specs.declared.blame.Blame.TheVariants.{Range, NoLock};
-ghost use Rattle.monk_judge.specs.Counts.{passing, sleepers, sleepers_on, woken_ones};
+ghost use Rattle.monk_judge.specs.Counts.{is_asleep, passing, sleepers, sleepers_on, woken_ones};
 ghost use Rattle.monk_judge.specs.Followed.{places_below};
 ghost use Rattle.monk_judge.specs.Run.{MaySignal, moved, opening, setting, woken};
 ghost use Rattle.monk_judge.specs.Shown.{Does, IsEarliest, IsFirstBelow, ResumesNoLater, setting_of, shown, state_of};
@@ -20,7 +20,7 @@ use crate::blame::Blame;
 use crate::place::{Place, mark_woken};
 use crate::told::Told;
 use crate::wait_end::WaitEnd;
-use monk_logs::LogLine;
+use monk_logs::{LINE_SEATS, LogLine};
 use monk_object::{Guarded, Op};
 use std::alloc::{AllocError, Global};
 use std::marker::Model;
@@ -49,7 +49,13 @@ impl<T: Guarded> Model for Judge<T> {
 }
 
 impl<T: Guarded> Judge<T> {
-    /// Returns the state before the first line: nobody is inside.
+    /// Returns a judge before the first line: nobody is inside, and nobody has a line that says how a wait would end.
+    /// `seats` and `conds` are those of the log's header, and may be any numbers; `object` is what the lock guards. A
+    /// line of a seat or a condition beyond them is refused later.
+    ///
+    /// # Errors
+    ///
+    /// A request for memory was refused. It takes a few bytes for each seat.
     pub fn opening(alloc: Global, seats: u8, conds: u8, object: T) -> Result<Self, AllocError>
         ensures many { IfOk result (λ v. (length v.places ≡ seats) × (v.conds ≡ conds) × (v.lock ≡ None)
             × (v.data_now ≡ T.state object)) }
@@ -94,6 +100,17 @@ impl<T: Guarded> Judge<T> {
             }
         }
         many
+    }
+
+    /// Returns for each seat that a line can name whether it sleeps.
+    pub(crate) fn sleepers(&self) -> [bool; LINE_SEATS]
+        ensures { (s : ℕ) → slice_index_or result s false ≡ is_asleep ((state_of self.now).place s) }
+    {
+        let mut asleep = [false; LINE_SEATS];
+        for (seat, place) in self.places.iter().enumerate() {
+            asleep[seat] = place.is_asleep();
+        }
+        asleep
     }
 
     /// Returns how many threads sleep on the condition.
@@ -162,9 +179,19 @@ impl<T: Guarded> Judge<T> {
         self.places[usize::from(seat)] = place;
     }
 
-    /// Takes the next line, with the silent steps that it shows, or returns why no run tells it
-    /// here. `end` is how a wait of its seat there would end ([`look_ahead`](crate::look_ahead)).
-    /// After an `Err` nobody has moved, but the object may have changed.
+    /// Takes the next line, with the silent steps that it shows, and returns what it told. `end` is how a wait of its
+    /// seat there would end ([`look_ahead`](crate::look_ahead)): of several sleepers a signal wakes the one that comes
+    /// back first. For another line than a wait it isn't used.
+    ///
+    /// # Errors
+    ///
+    /// Why no run tells the line here: the first reason that applies. Then nobody has moved. An act whose reply is
+    /// another than the object's has been done, so the object may have changed: the judge takes no further line.
+    ///
+    /// # Cost
+    ///
+    /// A signal, and a line that takes the lock, look once at each seat. All others take constant time, and none takes
+    /// memory.
     pub fn line(&mut self, line: LogLine, end: WaitEnd) -> Result<Told, Blame>
         ensures { Does T.meaning self.old self.new line end result }
     {

@@ -3,6 +3,7 @@
 ghost use Rattle.std.specs.Prelude.{◌≡◌, ◌<◌, ◌≤◌, IfOk, IfSome, length};
 ghost use Rattle.monk_history.specs.Limits.{most_lines};
 ghost use Rattle.monk_judge.specs.Ends.{AreEnds};
+ghost use Rattle.monk_judge.specs.Hints.{AreWaiters};
 ghost use Rattle.monk_judge.specs.Holding.{holder_by};
 ghost use Rattle.monk_judge.specs.Reports.{IsReport, IsTaken, fitting};
 ghost use Rattle.monk_judge.specs.Run.{opening, setting};
@@ -13,27 +14,30 @@ use crate::holder::{Holder, last_taking};
 use crate::judge::Judge;
 use crate::misfit::Misfit;
 use crate::missed::Missed;
-use crate::overtaking::{Hints, Passed};
+use crate::overtaking::Hints;
+use crate::passed::Passed;
 use crate::report::Report;
 use crate::tally::Tally;
 use crate::wait_end::WaitEnd;
+use crate::waiters::Waiters;
 use crate::waits_for::WaitsFor;
-use monk_logs::LogLine;
+use monk_logs::{LogLine, find_crossed};
 use monk_object::Guarded;
 use std::alloc::{AllocError, Global};
 
 /// Judges the lines of a log of a program whose mutex guards the object, as `monk_logs::read_log`
-/// reads them. `means` says what the waiters on a condition wait for.
+/// reads them, at most 2^25. `seats` and `conds` are those of its header. `means` says what the waiters on a condition
+/// wait for; a condition or a predicate that there isn't is never missed.
 ///
 /// # Errors
 ///
-/// A request for memory was refused. It takes 8 bytes for each line, and a few for each seat.
+/// A request for memory was refused. It takes 8 bytes for each line, a few for each seat, and 64 KiB.
 ///
 /// # Cost
 ///
-/// Each line is read twice: from the last to the first, to find how waits end, and from the first
-/// on. A signal looks over the seats, and so does a thread that takes the lock. A `leave` or `wait`
-/// does so for each of `means`.
+/// Each line is read three times: from the last to the first, to find how waits end, for who waits
+/// on what, and from the first on. It looks over the seats, and a `leave` or `wait` does so for each
+/// of `means`. At the end the lines are read once more, for signals that came too early.
 pub fn judge_log<T: Guarded>(
     alloc: Global,
     seats: u8,
@@ -49,8 +53,10 @@ pub fn judge_log<T: Guarded>(
         (λ r. IsReport (setting seats conds T.meaning) (T.state object) lines.now means.now r) }
 {
     let ends = look_ahead(alloc, lines)?;
+    let waiters = Waiters::of(alloc, lines)?;
     let mut judge = Judge::opening(alloc, seats, conds, object)?;
-    let (seen, misfit) = take_lines(&mut judge, lines, &ends, means);
+    let (seen, misfit) = take_lines(&mut judge, lines, &ends, means, &waiters);
+    let told = fitting(misfit, lines);
     Ok(Report {
         misfit,
         tally: Tally {
@@ -59,10 +65,11 @@ pub fn judge_log<T: Guarded>(
             first_not_again: seen.hints.first_not_again,
             ..seen.tally
         },
-        holder: holder(judge.lock(), last_taking(fitting(misfit, lines))),
+        holder: holder(judge.lock(), last_taking(told)),
         asleep: judge.asleep(),
         woken: judge.woken(),
         missed: seen.missed.line,
+        crossed: find_crossed(told, &judge.sleepers()),
     })
 }
 
@@ -81,10 +88,12 @@ fn take_lines<T: Guarded>(
     lines: &[LogLine],
     ends: &[WaitEnd],
     means: &[WaitsFor],
+    waiters: &Waiters,
 ) -> (Seen, Option<Misfit>)
     requires opening { state_of judge.old ≡ opening judge.old.data_now }
     requires seats { length judge.old.ends ≡ length judge.old.places }
     requires ends { AreEnds ends.now lines.now }
+    requires waiters { AreWaiters lines.now waiters.now.table.items }
     requires few { length lines.now ≤ most_lines }
     requires few_seats { length judge.old.places < 256 }
     ensures { IsTaken (setting_of judge.old T.meaning) judge.old.data_now lines.now means.now
@@ -102,7 +111,7 @@ fn take_lines<T: Guarded>(
             Err(why) => return (seen, Some(Misfit { line: index, why })),
         }
         seen.missed.look_at(judge, means, index, *line);
-        let on = seen.passed.look_at(judge, *line);
+        let on = seen.passed.look_at(judge.places(), waiters, *line);
         seen.hints = seen.hints.go_on(*line).come_back(*line, index, on);
     }
     (seen, None)

@@ -1,72 +1,13 @@
-//! Threads that were overtaken on their way back.
+//! Threads that were overtaken on their way back, and what they do next.
 
-ghost use Rattle.std.specs.Prelude.{◌≡◌, ◌<◌, ◌^◌, true, false, None, ℕ, length, slice_index_or};
-ghost use Rattle.monk_logs.specs.Log.{line_seat};
-ghost use Rattle.monk_judge.specs.Hints.{ComesBack, AnswersOwn, marked, passed_of, unmarked, without};
-ghost use Rattle.monk_judge.specs.Holding.{takes_lock};
-ghost use Rattle.monk_judge.specs.declared.place.Place.TheVariants.{Outside};
+ghost use Rattle.std.specs.Prelude.{◌≡◌, ◌<◌, ◌^◌};
+ghost use Rattle.monk_judge.specs.Among.{Decides};
+ghost use Rattle.monk_judge.specs.Hints.{ComesBack, AnswersOwn, without};
+ghost use Rattle.monk_judge.specs.Overtaken.{GoesOnBy, is_refused};
 
-use crate::holder::takes_lock;
-use crate::judge::Judge;
-use crate::place::Place;
-use monk_logs::{LINE_SEATS, LogLine};
-use monk_object::Guarded;
+use monk_logs::LogLine;
 
-/// Which woken threads were overtaken. A seat has a condition here if it was woken there, another
-/// thread has taken the lock since, and it isn't back.
-#[derive(Drop)]
-pub(crate) struct Passed {
-    seats: [Option<u8>; LINE_SEATS],
-}
-
-impl Passed {
-    /// Returns the state before any line: nobody was overtaken.
-    pub(crate) fn nobody() -> Passed
-        ensures many { length result.seats ≡ 256 }
-        ensures nobody { (j : ℕ) → j < 256 → slice_index_or result.seats j None ≡ None }
-    {
-        Passed {
-            seats: [None; LINE_SEATS],
-        }
-    }
-
-    /// Looks at a line that the judge has taken. If its thread comes back overtaken, returns the
-    /// condition on which it was woken.
-    pub(crate) fn look_at<T: Guarded>(&mut self, judge: &Judge<T>, line: LogLine) -> Option<u8>
-        requires { length self.old.seats ≡ 256 }
-        ensures many { length self.new.seats ≡ 256 }
-        ensures result { result ≡ passed_of line self.old.seats }
-        ensures taken { takes_lock line ≡ true → (j : ℕ) → j < 256 → slice_index_or self.new.seats j None
-            ≡ marked (slice_index_or judge.now.places j Outside)
-            (unmarked (line_seat line) j (slice_index_or self.old.seats j None)) }
-        ensures kept { takes_lock line ≡ false → self.new ≡ self.old }
-    {
-        if !takes_lock(line) {
-            return None;
-        }
-        let seat = usize::from(line.seat());
-        let was = self.seats[seat];
-        self.seats[seat] = None;
-        self.mark(judge);
-        was
-    }
-
-    /// Marks those who are woken as overtaken, because a thread takes the lock.
-    fn mark<T: Guarded>(&mut self, judge: &Judge<T>)
-        requires { length self.old.seats ≡ 256 }
-        ensures many { length self.new.seats ≡ 256 }
-        ensures marked { (j : ℕ) → j < 256 → slice_index_or self.new.seats j None
-            ≡ marked (slice_index_or judge.now.places j Outside) (slice_index_or self.old.seats j None) }
-    {
-        for (seat, place) in judge.places().iter().enumerate() {
-            if let Place::Woken(cond) = *place {
-                self.seats[seat] = Some(cond);
-            }
-        }
-    }
-}
-
-/// A thread that came back overtaken, and has written no line since.
+/// A thread that came back overtaken, and has written no line since, but for acts that were refused.
 #[derive(Clone, Copy, Debug, PartialEq, Eq)]
 pub(crate) struct Back {
     pub(crate) seat: u8,
@@ -78,7 +19,7 @@ pub(crate) struct Back {
 /// How many threads came back overtaken, and what they did next.
 #[derive(Clone, Copy, Debug, PartialEq, Eq)]
 pub(crate) struct Hints {
-    /// The last of them, if it has written no line since.
+    /// The last of them, if it has done nothing since but acts that were refused.
     pub(crate) back: Option<Back>,
     pub(crate) many: u64,
     /// How many of them waited again.
@@ -96,7 +37,8 @@ impl Hints {
         first_not_again: None,
     };
 
-    /// Notes what a seat that came back overtaken does next, if the line is that seat's.
+    /// Notes what a seat that came back overtaken does next, if the line is that seat's and no
+    /// refused act.
     pub(crate) fn go_on(self, line: LogLine) -> Hints
         requires { self.again < 2 ^ 63 }
         ensures goes { AnswersOwn line self result }
@@ -105,7 +47,7 @@ impl Hints {
         let Some(back) = self.back else {
             return self;
         };
-        if line.seat() != back.seat {
+        if !goes_on_by(line, back.seat) {
             return self;
         }
         if line != LogLine::Wait(back.seat, back.cond) {
@@ -135,6 +77,30 @@ impl Hints {
             again: self.again,
             first_not_again: self.first_not_again.or(Some(line)),
         }
+    }
+}
+
+/// Whether the line is the seat's, and no refused act.
+fn goes_on_by(line: LogLine, seat: u8) -> bool
+    ensures { Decides result (GoesOnBy line seat) }
+{
+    line.seat() == seat && !is_refused(line)
+}
+
+/// Whether the object refused the line's act, as it does if a thread tests and can't go on.
+fn is_refused(line: LogLine) -> bool
+    ensures { result ≡ is_refused line }
+{
+    match line {
+        LogLine::Act(_, _, reply) => reply == 0,
+        LogLine::Enter(_)
+        | LogLine::Resume(_)
+        | LogLine::Lapse(_)
+        | LogLine::Leave(_)
+        | LogLine::Wait(..)
+        | LogLine::Signal(..)
+        | LogLine::Broadcast(..)
+        | LogLine::Until(..) => false,
     }
 }
 

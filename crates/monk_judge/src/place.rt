@@ -2,6 +2,7 @@
 
 ghost use Rattle.std.specs.Prelude.{◌≡◌, ℕ, slice_index_or};
 ghost use Rattle.monk_judge.specs.Counts.{is_asleep, is_woken, waits_on};
+ghost use Rattle.monk_judge.specs.Hints.{woken_on};
 ghost use Rattle.monk_judge.specs.Run.{run_out, woken, woken_unasked};
 ghost use Rattle.monk_judge.specs.declared.place.Place.TheVariants.{Outside};
 
@@ -45,6 +46,16 @@ impl Place {
         ensures { result ≡ is_woken self }
     {
         matches!(self, Place::Woken(_))
+    }
+
+    /// Returns the condition on which a thread there was woken.
+    pub(crate) fn woken_on(self) -> Option<u8>
+        ensures { result ≡ woken_on self }
+    {
+        match self {
+            Place::Woken(on) => Some(on),
+            Place::Outside | Place::Active | Place::Waiting(_) | Place::RanOut(_) => None,
+        }
     }
 
     /// Returns the place of a thread after its wait runs out.

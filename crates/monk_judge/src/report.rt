@@ -3,6 +3,7 @@
 use crate::holder::Holder;
 use crate::misfit::Misfit;
 use crate::tally::Tally;
+use monk_logs::Crossed;
 
 /// What a log says about its program: whether a run of a mutex with condition variables tells it,
 /// and what happens in such a run with the fewest wake-ups that nobody sent.
@@ -22,4 +23,6 @@ pub struct Report {
     /// sleeps on a condition and nobody is woken there, though all predicates given for it hold. No line is
     /// named after a signal of a thread without the lock, because that signal can be on its way to a sleeper.
     pub missed: Option<usize>,
+    /// The seats that sleep at the end of the run because a signal crossed them on their way to sleep.
+    pub crossed: Option<Crossed>,
 }

@@ -23,8 +23,8 @@ use monk_logs::LogLine;
 use monk_object::Guarded;
 use std::alloc::{AllocError, Global};
 
-/// Returns the run that [`judge_log`](crate::judge_log) counts over. It tells the lines before the
-/// misfit, and no run of them has fewer wake-ups that nobody sent.
+/// Returns a run, as [`judge_log`](crate::judge_log) counts over one. It tells the lines before the misfit, and no run
+/// of them has fewer wake-ups that nobody sent. There may be at most 2^25 lines.
 ///
 /// # Errors
 ///

@@ -191,14 +191,15 @@ no_crossing (Act s op r) before other = refl
 
 -- ---- one seat more
 
-pub nobody_crossed : (before : List LogLine) → None ≡ crossed_below before 0
+pub nobody_crossed : (sleeps : ℕ → Bool) (before : List LogLine) → None ≡ crossed_below sleeps before 0
 unfolding crossed_below
-nobody_crossed before = refl
+nobody_crossed sleeps before = refl
 
-pub seat_more : (before : List LogLine) (s : ℕ) (signal : Option ℕ) (found : Option Crossed)
-    → signal ≡ crossing s before → found ≡ crossed_below before s
-    → with_seat signal found ≡ crossed_below before (s + 1)
+pub seat_more : (sleeps : ℕ → Bool) (before : List LogLine) (s : ℕ) (signal : Option ℕ) (found : Option Crossed)
+    → signal ≡ (if sleeps s then crossing s before else None) → found ≡ crossed_below sleeps before s
+    → with_seat signal found ≡ crossed_below sleeps before (s + 1)
 unfolding crossed_below
-seat_more before s signal found is so_far =
-    ap (λ n. with_seat n found) is ∙ ap (with_seat (crossing s before)) so_far
-    ∙ ap (crossed_below before) (let on : suc s ≡ s + 1 = omega arith in on)
+seat_more sleeps before s signal found is so_far =
+    ap (λ n. with_seat n found) is
+    ∙ ap (with_seat (if sleeps s then crossing s before else None)) so_far
+    ∙ ap (crossed_below sleeps before) (let on : suc s ≡ s + 1 = omega arith in on)

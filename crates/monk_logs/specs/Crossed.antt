@@ -1,5 +1,6 @@
--- Seats that a signal crossed on their way to sleep. The last line of such a seat is a wait. Before that wait, and
--- since the seat came in or went on, another seat signalled to the condition. So the signal came too early for the wait
+-- Seats that a signal crossed on their way to sleep. The last line of such a seat is a wait, and it still sleeps.
+-- Before that wait, and since the seat came in or went on, another seat signalled to the condition. So the signal came
+-- too early for the wait
 use Rattle.std.specs.Prelude.{ℕ, zero, suc, ◌+◌, ◌^◌, ◌==◌, ◌&&◌, not, max, Bool, false, if◌then◌else◌}
 use Rattle.std.specs.Prelude.{List, [], ◌∷◌, length, reverse, Option, Some, None}
 use Rattle.monk_logs.specs.Log.{line_seat}
@@ -57,18 +58,19 @@ with_seat None found = found
 with_seat (Some n) None = Some (record { seats = 1; line = n })
 with_seat (Some n) (Some x) = Some (record { seats = x.seats + 1; line = max x.line n })
 
--- those among the seats below a number, if these are the lines, the last first
-unfoldable pub crossed_below : List LogLine → ℕ → Option Crossed
-crossed_below before zero = None
-crossed_below before (suc s) = with_seat (crossing s before) (crossed_below before s)
+-- those of the seats below a number that sleep, if these are the lines, the last first
+unfoldable pub crossed_below : (ℕ → Bool) → List LogLine → ℕ → Option Crossed
+crossed_below sleeps before zero = None
+crossed_below sleeps before (suc s) =
+    with_seat (if sleeps s then crossing s before else None) (crossed_below sleeps before s)
 
 -- how many seats a line can name
 abbrev pub named_seats : ℕ
 named_seats = 2 ^ 8
 
--- the seats that a signal crossed on their way to sleep
-abbrev pub crossed_of : List LogLine → Option Crossed
-crossed_of log = crossed_below (reverse log) named_seats
+-- those of the seats that still sleep which a signal crossed on their way to sleep
+abbrev pub crossed_of : (ℕ → Bool) → List LogLine → Option Crossed
+crossed_of sleeps log = crossed_below sleeps (reverse log) named_seats
 
 -- how many such seats there are
 abbrev pub number_crossed : Option Crossed → ℕ

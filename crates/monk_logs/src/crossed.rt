@@ -1,6 +1,6 @@
 //! Seats that a signal crossed on their way to sleep.
 
-ghost use Rattle.std.specs.Prelude.{◌≡◌, ◌+◌, ◌≤◌, ◌^◌, ℕ, None, get_or, reverse};
+ghost use Rattle.std.specs.Prelude.{◌≡◌, ◌+◌, ◌≤◌, ◌^◌, ℕ, None, false, get_or, reverse, slice_index_or, if◌then◌else◌};
 ghost use Rattle.monk_logs.specs.Crossed as crossings;
 ghost use Rattle.monk_logs.specs.LastLine.{last_line};
 ghost use Rattle.monk_logs.specs.declared.subject.Subject.TheVariants.{Seat};
@@ -96,22 +96,35 @@ fn with_seat(signal: Option<usize>, found: Option<Crossed>) -> Option<Crossed>
     }
 }
 
-/// Finds the seats that a signal crossed on their way to sleep. The last line of such a seat is a
-/// `wait`. Before that line, and after its last `enter`, `resume` or `lapse`, another seat signals
-/// to the condition, to one or to all. A seat that keeps the rules of a monitor can't do that. So
-/// only a program that signals without the lock has such seats. They may sleep for ever: the signal
-/// came between their test and their wait.
+/// Returns the number of the signal that crossed the seat, if it sleeps. `number` is that of the
+/// seat's last line.
+fn crossing_if(sleeps: bool, lines: &[LogLine], number: Option<usize>) -> Option<usize>
+    ensures { (s : ℕ) → number ≡ last_line (Seat s) lines.now
+        → result ≡ (if sleeps then crossings.crossing s (reverse lines.now) else None) }
+{
+    if sleeps {
+        crossing_of(lines, number)
+    } else {
+        None
+    }
+}
+
+/// Finds the seats that a signal crossed on their way to sleep. `sleeps` says of each seat whether
+/// it sleeps after the lines. The last line of such a seat is a `wait`. Before that line, and after
+/// its last `enter`, `resume` or `lapse`, another seat signals to the condition, to one or to all. A
+/// seat that keeps the rules of a monitor can't do that. So only a program that signals without the
+/// lock has such seats. They may sleep for ever: the signal came between their test and their wait.
 ///
 /// # Cost
 ///
 /// One pass over the lines. Also one pass over the lines of its last visit for each seat whose last line is a `wait`.
-pub fn find_crossed(lines: &[LogLine]) -> Option<Crossed>
-    ensures { result ≡ crossings.crossed_of lines.now }
+pub fn find_crossed(lines: &[LogLine], sleeps: &[bool; LINE_SEATS]) -> Option<Crossed>
+    ensures { result ≡ crossings.crossed_of (λ s. slice_index_or sleeps.now s false) lines.now }
 {
     let numbers = last_numbers(lines);
     let mut found = None;
-    for number in &numbers {
-        found = with_seat(crossing_of(lines, *number), found);
+    for (seat, number) in numbers.iter().enumerate() {
+        found = with_seat(crossing_if(sleeps[seat], lines, *number), found);
     }
     found
 }

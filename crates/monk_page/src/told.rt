@@ -186,7 +186,12 @@ fn misshapen(text: &[u8]) -> Option<ToldFault> {
 ///
 /// # Errors
 ///
-/// The first fault: the text isn't JSON, or else it isn't such an object.
+/// `Memory` if a request for memory was refused; else the first fault, with its line and column: the text isn't JSON,
+/// or isn't such an object.
+///
+/// # Cost
+///
+/// Two passes over the text, and memory for all that it holds.
 pub fn check_told(alloc: Global, text: &str) -> Result<(), ToldFault>
     // It is JSON.
     ensures { OnOk result ((d : Data) × (read text.now ≡ Some d)) }
@@ -197,7 +202,7 @@ pub fn check_told(alloc: Global, text: &str) -> Result<(), ToldFault>
 
 /// Returns the names of seats and conditions in a text that can be beside a history.
 ///
-/// # Errors
+/// # Errors and cost
 ///
 /// As [`check_told`].
 pub fn told_names(alloc: Global, text: &str) -> Result<ToldNames, ToldFault>

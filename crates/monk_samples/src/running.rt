@@ -51,8 +51,9 @@ use std::thread::Threads;
 /// `Range` if a number is out of range; then nothing is started. `Memory` if a request for memory was refused.
 /// `Thread` if a thread was not started; then no worker has begun. `Tired` or `Late` is the end of the lowest seat
 /// that did not end well. `Tired` also if the first seat has too few events left to come in once more. `Busy` if the
-/// hall can't be closed, if its history holds more than these seats did, or if a read or a write of a book was not
-/// ended. A worker that ends early may leave others waiting for good: then this does not return.
+/// hall can't be closed, or its history isn't whole: it holds more than these seats did, has an event that the first
+/// version lacks, or a read or a write of a book was not ended. (No member leaves such a history; that isn't proved.) A
+/// worker that ends early may leave others waiting for good: then this does not return.
 ///
 /// # Cost
 ///

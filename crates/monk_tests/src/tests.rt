@@ -27,6 +27,7 @@ mod refused;
 mod requests;
 mod runs;
 mod samples;
+mod sweeps;
 mod text_pictures;
 mod texts;
 mod told_pages;

@@ -1,4 +1,4 @@
-/* Scenes whose histories have to be those of the same scenes in Python (lab/c/same.py), and scenes with faults of C. */
+/* Scenes whose histories have to be those of the same scenes in Python (lab/same.py), and scenes with faults of C. */
 #include "lab.h"
 
 #include <assert.h>

@@ -19,7 +19,7 @@ use crate::logs::view::LogView;
 use crate::question::Question;
 use monk_history::ReadFault;
 use monk_judge::{Misfit, WaitsFor};
-use monk_logs::{LogHeader, LogLine, find_crossed, read_log};
+use monk_logs::{LogHeader, LogLine, read_log};
 use std::alloc::{AllocError, Global};
 
 /// Whether the first word of the text is `log`.
@@ -54,7 +54,6 @@ fn finding(
     let report = report(alloc, means, log)?;
     Ok(Finding {
         report,
-        crossed: find_crossed(log.lines),
         seats: log.header.seats(),
         wrong_seat: wrong_seat(report.misfit, log.lines),
         has_ended,

@@ -120,6 +120,6 @@ fn put_end(told: &mut LinesTold<'_>, finding: &Finding) -> Result<(), AllocError
     }
     told.put(
         tally.first_not_again,
-        "others came in before this thread was back, and it didn't wait again: is its test an `if`?",
+        "a thread that waits there too came and went before this one was back, and it didn't wait again: is its test an `if`?",
     )
 }

@@ -4,15 +4,12 @@ ghost use Rattle.std.specs.Prelude.{◌≡◌, ◌≤◌};
 ghost use Rattle.monk_commands.specs.LogFound.{finding_status, never_again};
 
 use monk_judge::Report;
-use monk_logs::Crossed;
 
 /// What is found for a log.
 #[derive(Clone, Copy)]
 pub(crate) struct Finding {
     /// What the log shows of its program.
     pub(crate) report: Report,
-    /// The seats that a signal crossed on their way to sleep.
-    pub(crate) crossed: Option<Crossed>,
     /// How many seats the log has.
     pub(crate) seats: u8,
     /// The seat of the line that misfits, or 0 if none does.
@@ -21,9 +18,10 @@ pub(crate) struct Finding {
     pub(crate) has_ended: bool,
 }
 
-/// How many threads must be overtaken before it is said that none waits again. Under contention a `while` waits
-/// again now and then, and an `if` never does. With fewer it would often be said about a right program.
-const ENOUGH_OVERTAKEN: u64 = 8;
+/// How many threads must be overtaken before it is said that none waits again. A `while` waits again
+/// now and then if a rival took what its thread was woken for, and an `if` never does. With fewer it
+/// would be said about right programs.
+const ENOUGH_OVERTAKEN: u64 = 24;
 
 impl Finding {
     /// Returns the exit status: 1 if the log misfits, if a signal is missed, or if the program is busy at its end. A
@@ -58,7 +56,9 @@ impl Finding {
 
     /// Returns the line of the last signal that crossed a thread, if one did, by its index after the header.
     pub(crate) fn crossed_at(&self) -> Option<usize> {
-        self.crossed.map(|crossed| crossed.line.saturating_sub(1))
+        self.report
+            .crossed
+            .map(|crossed| crossed.line.saturating_sub(1))
     }
 
     /// Returns the word for how the run of the lines that fit ends.

@@ -66,7 +66,10 @@ fn put_threads(
     put(map, alloc, "asleep", Value::from(report.asleep))?;
     put(map, alloc, "woken", Value::from(report.woken))?;
     put(map, alloc, "missed", line_value(report.missed))?;
-    let crossed = finding.crossed.map_or(0, |crossed| crossed.seats as u64);
+    let crossed = finding
+        .report
+        .crossed
+        .map_or(0, |crossed| crossed.seats as u64);
     let crossed = counted(alloc, crossed, "last", finding.crossed_at())?;
     put(map, alloc, "crossed", crossed)
 }

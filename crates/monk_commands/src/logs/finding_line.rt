@@ -94,7 +94,7 @@ pub(crate) fn finding_line(alloc: Global, finding: &Finding) -> Result<String, A
     let verdict = verdict_words(alloc, finding)?;
     let counts = tally_words(alloc, &finding.report.tally)?;
     let missed = placed(alloc, "; missed at ", finding.report.missed)?;
-    let crossed = crossed_words(alloc, finding.crossed)?;
+    let crossed = crossed_words(alloc, finding.report.crossed)?;
     let never = never_words(alloc, finding)?;
     Ok(format!(in alloc; "{verdict}{counts}{missed}{crossed}{never}\n")?)
 }

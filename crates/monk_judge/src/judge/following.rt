@@ -14,7 +14,9 @@ use monk_logs::LogLine;
 use monk_object::{Guarded, Op};
 
 impl<T: Guarded> Judge<T> {
-    /// Takes a step of a run.
+    /// Takes a step of a run, as [`run_of_log`](crate::run_of_log) returns it: a line with the thread that its signal
+    /// woke, or a step of which a log has no line. The caller knows that the step may happen here; nothing tests it.
+    /// A broadcast looks once at each seat.
     pub fn follow(&mut self, step: Step)
         requires { May (setting_of self.old T.meaning) (state_of self.old) step }
         ensures state { state_of self.new ≡ after (setting_of self.old T.meaning) (state_of self.old) step }
@@ -27,7 +29,7 @@ impl<T: Guarded> Judge<T> {
         }
     }
 
-    /// Takes the steps of a run.
+    /// Takes the steps of a run in order, each as [`follow`](Judge::follow) does.
     pub fn follow_all(&mut self, steps: &[Step])
         requires { IsRun (setting_of self.old T.meaning) (state_of self.old) steps.now }
         ensures state { state_of self.new

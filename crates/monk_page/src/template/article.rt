@@ -15,10 +15,10 @@ say\" role=\"status\" aria-live=\"polite\" aria-atomic=\"true\"></p>\n    <p cla
 role=\"status\"></p>\n    <div class=\"choices\"></div>\n    <p class=\"data\"></p>\n    <p cl\
 ass=\"line\"></p>\n  </section>\n  <section class=\"boxes\" aria-label=\"The monitor\"></secti\
 on>\n</div>\n<section class=\"kinds\" aria-label=\"Kinds\" hidden>\n  <h2>The same events unde\
-r each kind, and the step that it forbids first</h2>\n  <ul class=\"chips\"></ul>\n  <div clas\
-s=\"notes\"></div>\n</section>\n<details class=\"all\" hidden><summary>All steps as a table</s\
-ummary><div class=\"table\"></div></details>\n<script type=\"application/json\" class=\"histor\
-y-data\">\n";
+r each kind, and the step that it forbids first. Such a kind isn&#8217;t wrong: under it the t\
+hreads would go other ways.</h2>\n  <ul class=\"chips\"></ul>\n  <div class=\"notes\"></div>\n\
+</section>\n<details class=\"all\" hidden><summary>All steps as a table</summary><div class=\"\
+table\"></div></details>\n<script type=\"application/json\" class=\"history-data\">\n";
 
 /// The text between the data and what was given beside the history.
 pub(crate) const BESIDE: &str = "\

@@ -99,148 +99,156 @@ n === 'of') at[seat] = 'active';\n  if (turn === 'due') at[seat] = 'due';\n  ret
 R.forEach((r) => {\n  r.at = placesOf(r);\n  r.entry = atEntry(r);\n});\n\n// The monitor as b\
 oxes: who is active, the data, each queue, and who is outside.\n\nfunction entryBox(r) {\n  if \
 (r.entry === undefined || isHiding()) {\n    return box('entry', 'Entry', '', make('p', 'quiet\
-', 'nobody known'));\n  }\n  const known = make('p', 'quiet', 'known since it enters next');\n  \
-return box('entry', 'Entry', '', make('div', '', queueOf([r.entry], 'entry'), known));\n}\n\nf\
-unction queueBox(name, r) {\n  switch (name) {\n    case 'waiters':\n      return box('waiter'\
-, 'Waiter queue', '', queueOf(r.waiter, 'waiter'));\n    case 'signallers':\n      return box(\
-'signaller', 'Signaller queue', '', queueOf(r.signaller, 'signaller'));\n    case 'ready':\n      \
-return box('until', 'Ready', '', queueOf(r.ready, 'until'));\n    default:\n      return entry\
-Box(r);\n  }\n}\n\nfunction activeWords(r) {\n  const [turn, seat, from] = r.turn.split(' ');\n  \
-if (turn === 'open') return make('p', 'quiet', 'nobody: open to whoever enters');\n  if (turn \
-=== 'of') return queueOf([Number(seat)], 'active');\n  const queue = from === 'until' ? 'waits\
--until' : `${from} queue`;\n  const next = make('span', '', `is next, from the ${queue}`);\n  \
-return make('div', 'seats', token(Number(seat), from, 'span'), next);\n}\n\nfunction topRow(r) \
-{\n  return make('div', 'row', box('active half', 'Active', '', activeWords(r)), dataBox(r));\n\
-}\n\n// The queues in the kind's order, with `>` or `=` between them.\nfunction orderRow(r) {\n  \
-const head = make('h2', '', `Who goes on at a release: ${orderWords()}`);\n  const line = make\
-('div', 'row', head);\n  ORDER.forEach(([name, rank], i) => {\n    if (i) {\n      const sign \
-= make('span', 'rank', ORDER[i - 1][1] === rank ? '=' : '>');\n      sign.setAttribute('aria-h\
-idden', 'true');\n      line.append(sign);\n    }\n    line.append(queueBox(name, r));\n  });\n  \
-return line;\n}\n\nfunction untilLine(r, [s, predicate]) {\n  const isTrue = r.ready.includes(\
-s);\n  const truth = make('span', `truth ${isTrue ? 'yes' : 'quiet'}`, isTrue ? 'true: ready' \
-: 'false');\n  const words = make('span', '', `until ${PREDICATES[predicate]}`);\n  return mak\
-e('li', '', token(s, 'until', 'span'), words, truth);\n}\n\nfunction waitersRow(r) {\n  if (!a\
-utomatic) {\n    const boxes = r.conditions.map((queue, c) => {\n      const [title, note] = C\
-ONDITIONS[c] ? [CONDITIONS[c], 'condition'] : [`Condition ${c}`, ''];\n      return box('condi\
-tion', title, note, queueOf(queue, 'condition'));\n    });\n    return boxes.length ? [make('d\
-iv', 'row', ...boxes)] : [];\n  }\n  const waits = r.until.map((wait) => untilLine(r, wait));\n  \
-const list = waits.length ? make('ol', 'waits', ...waits) : make('p', 'quiet', 'nobody');\n  r\
-eturn [make('div', 'row', box('until', 'Waits until', 'first wait first', list))];\n}\n\nfunct\
-ion outsideRow(r) {\n  const out = [];\n  for (let s = 0; s < H.seats; s++) {\n    const isAtE\
-ntry = s === r.entry && !isHiding();\n    if (!r.inside.includes(s) && !isAtEntry) out.push(s)\
-;\n  }\n  return make('div', 'row', box('outside', 'Outside the monitor', '', queueOf(out, 'ou\
-tside')));\n}\n\nfunction showBoxes(r) {\n  const parts = [topRow(r), orderRow(r), ...waitersR\
-ow(r)];\n  if (r.bad) {\n    const head = `Before step ${r.step}, which can\\u2019t be: the mo\
-nitor as it stands`;\n    parts.unshift(make('h2', '', head));\n  }\n  $('boxes').replaceChild\
-ren(make('div', 'monitor', ...parts), outsideRow(r));\n  const when = r.bad ? 'before' : 'afte\
-r';\n  $('boxes').setAttribute('aria-label', `The monitor ${when} step ${r.step}`);\n}\n\n// T\
-he sentence of a step, and who might have gone on.\n\nfunction candidateOf(front, caller) {\n  \
-const [queue, s] = front.split(' ');\n  if (queue === 'waiter') return [front, `seat ${s}, fro\
-m the waiter queue`, waiterRank];\n  if (queue === 'until') return [front, `seat ${s}, whose p\
-redicate holds`, waiterRank];\n  return s === caller\n    ? ['stay', `seat ${s}, by staying ac\
-tive`, signallerRank]\n    : [front, `seat ${s}, from the signaller queue`, signallerRank];\n}\
-\n\n// Who could go on: each candidate with its words and its priority, the highest first.\nfu\
-nction candidates(r) {\n  const caller = r.words[1];\n  const found = r.fronts.map((front) => \
-candidateOf(front, caller));\n  if (r.may.includes('stay') && !found.some(([next]) => next === \
-'stay')) {\n    return [['stay', `seat ${caller}, by staying active`, 9]];\n  }\n  found.push(\
-['entry', 'whoever enters next', entryRank]);\n  return found.sort((a, b) => b[2] - a[2]);\n}\n\
-\nfunction takenWords(r, took) {\n  if (took === 'stay') return `seat ${r.words[1]} stays acti\
-ve`;\n  return took === 'entry' ? 'whoever enters next' : took;\n}\n\nfunction choiceLine(r, [\
-next, words], took) {\n  const may = r.may.includes(next);\n  const isTaken = next === took;\n  \
-const notTaken = may ? (r.bad ? 'permitted' : 'permitted too') : 'not permitted';\n  const tak\
-en = may ? 'taken' : 'taken, forbidden';\n  const filled = may ? '\\u25CF' : '\\u00D7';\n  con\
-st hollow = may ? '\\u25CB' : '\\u2013';\n  const sign = make('span', 'sign', isTaken ? filled \
-: hollow);\n  sign.setAttribute('aria-hidden', 'true');\n  const how = make('span', 'how', isT\
-aken ? taken : notTaken);\n  const cls = (isTaken ? 'took ' : '') + (may ? '' : 'barred');\n  \
-return make('li', cls, sign, make('span', 'who', named(words)), how);\n}\n\nfunction showChoic\
-es(r) {\n  const area = $('choices');\n  area.replaceChildren();\n  area.hidden = !r.event || \
-(r.bad && !r.may);\n  if (area.hidden) return;\n  if (!r.may) {\n    const words = 'No choice \
-here: this step doesn\\u2019t give the monitor up.';\n    area.append(make('p', 'quiet', words\
-));\n    return;\n  }\n  const took = nextOf(r).join(' ');\n  const all = candidates(r);\n  if \
-(!all.some(([next]) => next === took)) all.push([took, takenWords(r, took), 0]);\n  area.appen\
-d(make('h2', '', `Who may go on under ${H.kind}`));\n  area.append(make('ul', '', ...all.map((\
-it) => choiceLine(r, it, took))));\n}\n\nfunction showSay(r) {\n  const line = $('say');\n  co\
-nst end = r.step === last && TOLD.end;\n  line.replaceChildren(make('span', 'unseen', `Step ${\
-r.step}. `), named(say(r)));\n  if (r.bad) line.append(make('span', 'bad', named(wrongWords(r)\
-)));\n  if (end) line.append(make('span', 'bad', end));\n  const others = H.kinds.filter((k) =\
-> k.kind !== H.kind && k.why && stepOf(k) === r.step);\n  if (others.length) {\n    const name\
-s = listed(others.map((k) => k.kind));\n    line.append(make('span', 'unseen', ` ${names} woul\
-d forbid this step.`));\n  }\n  $('told').classList.toggle('bad', Boolean(r.bad || end));\n  $\
-('line').textContent = r.event || '';\n}\n\n// The ten kinds: what each says of the same event\
-s.\n\nconst OF = {\n  PB: 'Hoare\\u2019s kind',\n  NPNB: 'Mesa\\u2019s own kind, and that of P\
-OSIX, Java and Go',\n};\n\nconst stepOf = (k) => Number(k.verdict.split(' ')[1]);\n\nconst chi\
-ps = H.kinds.map((k) => {\n  const isOwn = k.kind === H.kind;\n  const ownWords = 'the kind of \
-this history';\n  const cls = `chip${k.why ? ' no' : ''}${isOwn ? ' own' : ''}`;\n  const word\
-s = make('span', 'unseen', isOwn ? `, ${ownWords}` : '');\n  const isShown = k.why && stepOf(k\
-) >= first && stepOf(k) <= last;\n  const toIt = () => go(isShown ? stepOf(k) : now, own, k);\n  \
-const chip = button(cls, toIt, make('b', '', k.kind), make('span', ''), words);\n  if (isOwn) \
-chip.title = ownWords;\n  $('chips').append(make('li', '', chip));\n  return chip;\n});\n\nfun\
-ction showChip(chip, k, r) {\n  const isPast = Boolean(k.why) && stepOf(k) <= r.step;\n  const \
-isHidden = isHiding() && !isPast && r.step < last;\n  chip.classList.toggle('past', isPast);\n  \
-chip.classList.toggle('no', Boolean(k.why) && !isHidden);\n  chip.children[1].textContent = is\
-Hidden ? 'so far legal' : verdictWords(k.verdict);\n}\n\n// The sentence of one kind, said of \
-several.\nfunction ofMany(kind, why) {\n  return why\n    .replace(`${kind} puts`, 'they put')\
-\n    .replace(`${kind} monitors have`, 'they have')\n    .replace(`${kind} monitors`, 'their \
-monitors');\n}\n\nfunction noteOf(kinds) {\n  const [k] = kinds;\n  const names = make('b', ''\
-, listed(kinds.map((it) => it.kind)));\n  if (!k.why) return make('p', '', names, ` permits al\
-l ${plural(H.events, 'event')}.`);\n  const isMany = kinds.length > 1;\n  const why = isMany ? \
-ofMany(k.kind, k.why) : k.why;\n  const forbids = isMany ? 'forbid' : 'forbids';\n  return mak\
-e('p', '', names, named(` ${forbids} step ${stepOf(k)}: ${why}.`));\n}\n\nfunction showKinds(r\
-, all) {\n  const notes = new Map();\n  H.kinds.forEach((k, i) => {\n    showChip(chips[i], k, \
-r);\n    if ((k.why && (stepOf(k) === r.step || all)) || picked === k) {\n      const same = k\
-.why ? stepOf(k) + k.why.replaceAll(k.kind, '') : '';\n      notes.set(same, [...(notes.get(sa\
-me) || []), k]);\n    }\n  });\n  $('notes').replaceChildren(...[...notes.values()].map(noteOf\
-));\n}\n\n// What the table says of a step, besides its sentence and the data.\n\nfunction hea\
-dOf() {\n  const conditions = (R[0].conditions || []).map((_, c) => CONDITIONS[c] || `c${c}`);\
-\n  const signaller = signallerRank ? ['Signaller'] : [];\n  const queues = automatic ? ['Wait\
-s until', 'Ready'] : [...conditions, 'Waiter', ...signaller];\n  return ['Step', 'What happens\
-', 'Active', ...queues, 'Data'];\n}\n\nfunction turnCell(r) {\n  const [turn, seat] = r.turn.s\
-plit(' ');\n  if (turn === 'open') return 'open';\n  return turn === 'of' ? seat : `${seat} ne\
-xt`;\n}\n\nfunction queueCells(r) {\n  if (automatic) {\n    const waits = r.until.map(([s, pr\
-edicate]) => `${s}: ${PREDICATES[predicate]}`);\n    return [waits.join('; '), r.ready.join(', \
-')];\n  }\n  const signaller = signallerRank ? [r.signaller] : [];\n  return [...r.conditions, \
-r.waiter, ...signaller].map((queue) => queue.join(', '));\n}\n\nconst placeCells = (r) => [tur\
-nCell(r), ...queueCells(r)];\nconst isLongCell = (i) => automatic && i === 3;\n\n// Ask first: \
-the call is shown and who goes on is asked, then the step is shown as it was.\n\nconst MOST_SE\
-ATS_ASKED = 8; // with whoever enters next as many as there are keys\nlet guesses = [];\n\ncon\
-st seatOfNext = (r, next) =>\n  next === 'stay' ? r.words[1] : next === 'entry' ? next : next.\
-split(' ')[1];\nconst allowed = (r) => r.may.map((next) => seatOfNext(r, next));\n\n// Whoever \
-might be thought to go on: whoever may, the first of each queue, and who signals or waits in v\
-ain.\nfunction guessesOf(r) {\n  const fronts = r.fronts.map((front) => seatOfNext(r, front));\
-\n  const sleepers = (r.was.conditions || []).flatMap((queue) => queue.slice(0, 1).map(String)\
-);\n  const waits = (r.was.until || []).map(([s]) => String(s));\n  const caller = r.words[0] \
-=== 'signal' ? [r.words[1]] : [];\n  const seats = new Set([...allowed(r), ...fronts, ...calle\
-r, ...sleepers, ...waits]);\n  seats.delete('entry');\n  return [...[...seats].slice(0, MOST_S\
-EATS_ASKED).sort((a, b) => a - b), 'entry'];\n}\n\nconst guessWords = (guess) => (guess === 'e\
-ntry' ? 'whoever enters next' : seatName(guess));\n\nfunction guessButton(guess, i) {\n  const \
-key = make('kbd', '', String(i + 1));\n  return button('guess', () => answer(i), key, guessWor\
-ds(guess));\n}\n\n// Where nobody could be guessed wrong nothing is asked.\nfunction ask(step) \
-{\n  const r = R[step - first];\n  guesses = r && r.may && r.was ? guessesOf(r) : [];\n  if (g\
-uesses.every((guess) => allowed(r).includes(guess))) {\n    show(step);\n    return;\n  }\n  [\
-now, question] = [step, r];\n  showAround(r, true);\n  $('say').replaceChildren(named(`Seat ${\
-r.words[1]} ${CLAIMS[r.words[0]](r)}.`));\n  $('told').classList.remove('bad');\n  const head \
-= make('h2', '', `What will happen: who goes on under ${H.kind}?`);\n  $('choices').hidden = f\
-alse;\n  $('choices').replaceChildren(head, make('div', 'guesses', ...guesses.map(guessButton)\
-));\n  for (const cls of ['answer', 'line']) $(cls).textContent = '';\n}\n\n// Whether the gue\
-ss is right, and what is said of it.\nfunction judged(r, guess) {\n  const who = guessWords(gu\
-ess);\n  const isTaken = guess === seatOfNext(r, nextOf(r).join(' '));\n  if (!allowed(r).incl\
-udes(guess)) return [false, `Not ${who}.`];\n  if (isTaken) return [true, 'Right.'];\n  const \
-might = `Right: ${who} might have gone on`;\n  return [true, r.bad ? `${might}.` : `${might}, \
-and ${H.kind} leaves it open. This time it was another.`];\n}\n\nfunction answer(i) {\n  if (!\
-question || i >= guesses.length) return;\n  const [isRight, words] = judged(question, guesses[\
-i]);\n  show(now);\n  $('answer').textContent = words;\n  $('answer').classList.toggle('bad', \
-!isRight);\n  scored(isRight);\n}\n\n// The head of the page.\n\nfunction showVerdict() {\n  c\
-onst [word, step, , reasonWord] = H.verdict.split(' ');\n  const isLegal = word === 'legal';\n  \
-const forbidden = `forbidden at step ${step}: ${reasonWord}`;\n  const verdict = isLegal ? `le\
-gal, ${plural(H.events, 'event')}` : forbidden;\n  $('verdict').textContent = isKnown(last) ? \
-verdict : '';\n  $('verdict').classList.toggle('bad', !isLegal);\n}\n\nfunction headWords() {\n  \
-const kind = `${H.kind}, ${H.mode}${OF[H.kind] ? ` (${OF[H.kind]})` : ''}: ${orderWords()}.`;\n  \
+', 'nobody known'));\n  }\n  return box('entry', 'Entry', '', queueOf([r.entry], 'entry'), mak\
+e('p', 'quiet', 'enters next'));\n}\n\nfunction queueBox(name, r) {\n  switch (name) {\n    ca\
+se 'waiters':\n      return box('waiter', 'Waiter queue', '', queueOf(r.waiter, 'waiter'));\n    \
+case 'signallers':\n      return box('signaller', 'Signaller queue', '', queueOf(r.signaller, \
+'signaller'));\n    case 'ready':\n      return box('until', 'Ready', '', queueOf(r.ready, 'un\
+til'));\n    default:\n      return entryBox(r);\n  }\n}\n\nfunction activeWords(r) {\n  const \
+[turn, seat, from] = r.turn.split(' ');\n  if (turn === 'open') return make('p', 'quiet', 'nob\
+ody: open to whoever enters');\n  if (turn === 'of') return queueOf([Number(seat)], 'active');\
+\n  const queue = from === 'until' ? 'waits-until' : `${from} queue`;\n  const next = make('sp\
+an', '', `is next, from the ${queue}`);\n  return make('div', 'seats', token(Number(seat), fro\
+m, 'span'), next);\n}\n\nfunction topRow(r) {\n  return make('div', 'row', box('active half', \
+'Active', '', activeWords(r)), dataBox(r));\n}\n\n// The queues in the kind's order, with `>` \
+or `=` between them.\nfunction orderRow(r) {\n  const head = make('h2', '', `Who goes on at a \
+release: ${orderWords()}`);\n  const line = make('div', 'row', head);\n  ORDER.forEach(([name, \
+rank], i) => {\n    if (i) {\n      const sign = make('span', 'rank', ORDER[i - 1][1] === rank \
+? '=' : '>');\n      sign.setAttribute('aria-hidden', 'true');\n      line.append(sign);\n    \
+}\n    line.append(queueBox(name, r));\n  });\n  return line;\n}\n\nfunction untilLine(r, [s, \
+predicate]) {\n  const isTrue = r.ready.includes(s);\n  const truth = make('span', `truth ${is\
+True ? 'yes' : 'quiet'}`, isTrue ? 'true: ready' : 'false');\n  const words = make('span', '', \
+`until ${PREDICATES[predicate]}`);\n  return make('li', '', token(s, 'until', 'span'), words, \
+truth);\n}\n\nfunction waitersRow(r) {\n  if (!automatic) {\n    const boxes = r.conditions.ma\
+p((queue, c) => {\n      const [title, note] = CONDITIONS[c] ? [CONDITIONS[c], 'condition'] : \
+[`Condition ${c}`, ''];\n      return box('condition', title, note, queueOf(queue, 'condition'\
+));\n    });\n    return boxes.length ? [make('div', 'row', ...boxes)] : [];\n  }\n  const wai\
+ts = r.until.map((wait) => untilLine(r, wait));\n  const list = waits.length ? make('ol', 'wai\
+ts', ...waits) : make('p', 'quiet', 'nobody');\n  return [make('div', 'row', box('until', 'Wai\
+ts until', 'first wait first', list))];\n}\n\nfunction outsideRow(r) {\n  const out = [];\n  f\
+or (let s = 0; s < H.seats; s++) {\n    const isAtEntry = s === r.entry && !isHiding();\n    i\
+f (!r.inside.includes(s) && !isAtEntry) out.push(s);\n  }\n  return make('div', 'row', box('ou\
+tside', 'Outside the monitor', '', queueOf(out, 'outside')));\n}\n\nfunction showBoxes(r) {\n  \
+const parts = [topRow(r), orderRow(r), ...waitersRow(r)];\n  if (r.bad) {\n    const head = `B\
+efore step ${r.step}, which can\\u2019t be: the monitor as it stands`;\n    parts.unshift(make\
+('h2', '', head));\n  }\n  $('boxes').replaceChildren(make('div', 'monitor', ...parts), outsid\
+eRow(r));\n  const when = r.bad ? 'before' : 'after';\n  $('boxes').setAttribute('aria-label', \
+`The monitor ${when} step ${r.step}`);\n}\n\n// The sentence of a step, and who might have gon\
+e on.\n\nfunction candidateOf(front, caller) {\n  const [queue, s] = front.split(' ');\n  if (\
+queue === 'waiter') return [front, `seat ${s}, from the waiter queue`, waiterRank];\n  if (que\
+ue === 'until') return [front, `seat ${s}, whose predicate holds`, waiterRank];\n  return s ==\
+= caller\n    ? ['stay', `seat ${s}, by staying active`, signallerRank]\n    : [front, `seat $\
+{s}, from the signaller queue`, signallerRank];\n}\n\n// Who could go on: each candidate with \
+its words and its priority, the highest first.\nfunction candidates(r) {\n  const caller = r.w\
+ords[1];\n  const found = r.fronts.map((front) => candidateOf(front, caller));\n  if (r.may.in\
+cludes('stay') && !found.some(([next]) => next === 'stay')) {\n    return [['stay', `seat ${ca\
+ller}, by staying active`, 9]];\n  }\n  found.push(['entry', 'whoever enters next', entryRank]\
+);\n  return found.sort((a, b) => b[2] - a[2]);\n}\n\nfunction takenWords(r, took) {\n  if (to\
+ok === 'stay') return `seat ${r.words[1]} stays active`;\n  return took === 'entry' ? 'whoever \
+enters next' : took;\n}\n\nfunction choiceLine(r, [next, words], took) {\n  const may = r.may.\
+includes(next);\n  const isTaken = next === took;\n  const notTaken = may ? (r.bad ? 'permitte\
+d' : 'permitted too') : 'not permitted';\n  const taken = may ? 'taken' : 'taken, forbidden';\n  \
+const filled = may ? '\\u25CF' : '\\u00D7';\n  const hollow = may ? '\\u25CB' : '\\u2013';\n  \
+const sign = make('span', 'sign', isTaken ? filled : hollow);\n  sign.setAttribute('aria-hidde\
+n', 'true');\n  const how = make('span', 'how', isTaken ? taken : notTaken);\n  const cls = (i\
+sTaken ? 'took ' : '') + (may ? '' : 'barred');\n  return make('li', cls, sign, make('span', '\
+who', named(words)), how);\n}\n\nfunction showChoices(r) {\n  const area = $('choices');\n  ar\
+ea.replaceChildren();\n  area.hidden = !r.event || (r.bad && !r.may);\n  if (area.hidden) retu\
+rn;\n  if (!r.may) {\n    const words = 'No choice here: this step doesn\\u2019t give the moni\
+tor up.';\n    area.append(make('p', 'quiet', words));\n    return;\n  }\n  const took = nextO\
+f(r).join(' ');\n  const all = candidates(r);\n  if (!all.some(([next]) => next === took)) all\
+.push([took, takenWords(r, took), 0]);\n  area.append(make('h2', '', `Who may go on under ${H.\
+kind}`));\n  area.append(make('ul', '', ...all.map((it) => choiceLine(r, it, took))));\n}\n\nf\
+unction showSay(r) {\n  const line = $('say');\n  const end = r.step === last && TOLD.end;\n  \
+line.replaceChildren(make('span', 'unseen', `Step ${r.step}. `), named(say(r)));\n  if (r.bad) \
+line.append(make('span', 'bad', named(wrongWords(r))));\n  if (end) line.append(make('span', '\
+bad', end));\n  const others = H.kinds.filter((k) => k.kind !== H.kind && k.why && stepOf(k) =\
+== r.step);\n  if (others.length) {\n    const names = listed(others.map((k) => k.kind));\n    \
+line.append(make('span', 'unseen', ` ${names} would forbid this step.`));\n  }\n  $('told').cl\
+assList.toggle('bad', Boolean(r.bad || end));\n  $('line').textContent = r.event || '';\n}\n\n\
+// The ten kinds: what each says of the same events.\n\nconst OF = {\n  PB: 'Hoare\\u2019s kin\
+d',\n  NPNB: 'Mesa\\u2019s own kind, and that of POSIX, Java and Go',\n};\n\nconst stepOf = (k\
+) => Number(k.verdict.split(' ')[1]);\n\nconst chips = H.kinds.map((k) => {\n  const isOwn = k\
+.kind === H.kind;\n  const ownWords = 'the kind of this history';\n  const cls = `chip${k.why \
+? ' no' : ''}${isOwn ? ' own' : ''}`;\n  const words = make('span', 'unseen', isOwn ? `, ${own\
+Words}` : '');\n  const isShown = k.why && stepOf(k) >= first && stepOf(k) <= last;\n  const t\
+oIt = () => go(isShown ? stepOf(k) : now, own, k);\n  const chip = button(cls, toIt, make('b', \
+'', k.kind), make('span', ''), words);\n  if (isOwn) chip.title = ownWords;\n  $('chips').appe\
+nd(make('li', '', chip));\n  return chip;\n});\n\nfunction showChip(chip, k, r) {\n  const isP\
+ast = Boolean(k.why) && stepOf(k) <= r.step;\n  const isHidden = isHiding() && !isPast && r.st\
+ep < last;\n  chip.classList.toggle('past', isPast);\n  chip.classList.toggle('no', Boolean(k.\
+why) && !isHidden);\n  chip.children[1].textContent = isHidden ? 'so far legal' : verdictWords\
+(k.verdict);\n}\n\n// The sentence of one kind, said of several.\nfunction ofMany(kind, why) {\
+\n  return why\n    .replace(`${kind} puts`, 'they put')\n    .replace(`${kind} monitors have`\
+, 'they have')\n    .replace(`${kind} monitors`, 'their monitors');\n}\n\nfunction noteOf(kind\
+s) {\n  const [k] = kinds;\n  const names = make('b', '', listed(kinds.map((it) => it.kind)));\
+\n  if (!k.why) return make('p', '', names, ` permits all ${plural(H.events, 'event')}.`);\n  \
+const isMany = kinds.length > 1;\n  const why = isMany ? ofMany(k.kind, k.why) : k.why;\n  con\
+st forbids = isMany ? 'forbid' : 'forbids';\n  return make('p', '', names, named(` ${forbids} \
+step ${stepOf(k)}: ${why}.`));\n}\n\nfunction showKinds(r, all) {\n  const notes = new Map();\n  \
+H.kinds.forEach((k, i) => {\n    showChip(chips[i], k, r);\n    if ((k.why && (stepOf(k) === r\
+.step || all)) || picked === k) {\n      const same = k.why ? stepOf(k) + k.why.replaceAll(k.k\
+ind, '') : '';\n      notes.set(same, [...(notes.get(same) || []), k]);\n    }\n  });\n  $('no\
+tes').replaceChildren(...[...notes.values()].map(noteOf));\n}\n\n// What the table says of a s\
+tep, besides its sentence and the data.\n\nfunction headOf() {\n  const conditions = (R[0].con\
+ditions || []).map((_, c) => CONDITIONS[c] || `Condition ${c}`);\n  const signaller = signalle\
+rRank ? ['Signaller'] : [];\n  const queues = automatic ? ['Waits until', 'Ready'] : [...condi\
+tions, 'Waiter', ...signaller];\n  return ['Step', 'What happens', 'Active', ...queues, 'Data'\
+];\n}\n\nfunction turnCell(r) {\n  const [turn, seat] = r.turn.split(' ');\n  if (turn === 'op\
+en') return 'open';\n  return turn === 'of' ? seat : `${seat} next`;\n}\n\nfunction queueCells\
+(r) {\n  if (automatic) {\n    const waits = r.until.map(([s, predicate]) => `${s}: ${PREDICAT\
+ES[predicate]}`);\n    return [waits.join('; '), r.ready.join(', ')];\n  }\n  const signaller \
+= signallerRank ? [r.signaller] : [];\n  return [...r.conditions, r.waiter, ...signaller].map(\
+(queue) => queue.join(', '));\n}\n\nconst placeCells = (r) => [turnCell(r), ...queueCells(r)];\
+\nconst isLongCell = (i) => automatic && i === 3;\n\n// Ask first: the call is shown, and who \
+may go on is asked, be it one or several. Then the step is shown as it was.\n\nconst MOST_SEAT\
+S_ASKED = 8; // with whoever enters next as many as there are keys\nlet guesses = [];\n\nconst \
+seatOfNext = (r, next) =>\n  next === 'stay' ? r.words[1] : next === 'entry' ? next : next.spl\
+it(' ')[1];\nconst allowed = (r) => r.may.map((next) => seatOfNext(r, next));\n\n// Whoever mi\
+ght be thought to go on: whoever may, the first of each queue, and who signals or waits in vai\
+n.\nfunction guessesOf(r) {\n  const fronts = r.fronts.map((front) => seatOfNext(r, front));\n  \
+const sleepers = (r.was.conditions || []).flatMap((queue) => queue.slice(0, 1).map(String));\n  \
+const waits = (r.was.until || []).map(([s]) => String(s));\n  const caller = r.words[0] === 's\
+ignal' ? [r.words[1]] : [];\n  const seats = new Set([...allowed(r), ...fronts, ...caller, ...\
+sleepers, ...waits]);\n  seats.delete('entry');\n  return [...[...seats].slice(0, MOST_SEATS_A\
+SKED).sort((a, b) => a - b), 'entry'];\n}\n\nconst guessWords = (guess) => (guess === 'entry' \
+? 'whoever enters next' : seatName(guess));\n\nfunction guessLine(guess, i) {\n  const tick = \
+make('input');\n  Object.assign(tick, { type: 'checkbox', autocomplete: 'off' });\n  return ma\
+ke('label', 'guess', make('kbd', '', String(i + 1)), tick, make('span', '', guessWords(guess))\
+);\n}\n\nfunction questionForm() {\n  const check = make('button', 'check', make('kbd', '', 'E\
+nter'), 'Check');\n  const form = make('form', 'guesses', ...guesses.map(guessLine), check);\n  \
+form.addEventListener('submit', (event) => {\n    event.preventDefault();\n    answer();\n  })\
+;\n  return form;\n}\n\nconst ticks = () => [...$('choices').querySelectorAll('input')];\n\nfu\
+nction tick(i) {\n  if (ticks()[i]) ticks()[i].click();\n}\n\n// Where only one could be guess\
+ed nothing is asked.\nfunction ask(step) {\n  const r = R[step - first];\n  guesses = r && r.m\
+ay && r.was ? guessesOf(r) : [];\n  if (guesses.length < 2) {\n    show(step);\n    return;\n  \
+}\n  [now, question] = [step, r];\n  showAround(r, true);\n  $('say').replaceChildren(named(`S\
+eat ${r.words[1]} ${CLAIMS[r.words[0]](r)}.`));\n  $('told').classList.remove('bad');\n  $('ch\
+oices').hidden = false;\n  $('choices').replaceChildren(make('h2', '', `Who may go on under ${\
+H.kind}? Tick all.`), questionForm());\n  for (const cls of ['answer', 'line']) $(cls).textCon\
+tent = '';\n}\n\n// Whether what is ticked is right, and what is said of it.\nfunction judged(\
+r, ticked) {\n  const may = (guess) => allowed(r).includes(guess);\n  const wrong = ticked.fil\
+ter((guess) => !may(guess));\n  const missing = guesses.filter((guess) => may(guess) && !ticke\
+d.includes(guess));\n  if (wrong.length || missing.length) {\n    const not = wrong.length ? `\
+Not ${listed(wrong.map(guessWords))}. ` : '';\n    const too = missing.length ? `Also ${listed\
+(missing.map(guessWords))}.` : '';\n    return [false, `${not}${too}`.trim()];\n  }\n  return \
+[true, r.may.length > 1 ? `Right: ${H.kind} leaves it open.` : 'Right.'];\n}\n\n// Judges what \
+is ticked, and shows the step; a question of which nothing is ticked doesn't count.\nfunction \
+answer() {\n  if (!question) return;\n  const r = question;\n  const ticked = guesses.filter((\
+_, i) => ticks()[i].checked);\n  show(now);\n  if (!ticked.length) return;\n  const [isRight, \
+words] = judged(r, ticked);\n  $('answer').textContent = words;\n  $('answer').classList.toggl\
+e('bad', !isRight);\n  scored(isRight);\n}\n\n// The head of the page.\n\nfunction showVerdict\
+() {\n  const [word, step, , reasonWord] = H.verdict.split(' ');\n  const isLegal = word === '\
+legal';\n  const forbidden = `forbidden at step ${step}: ${reasonWord}`;\n  const verdict = is\
+Legal ? `legal, ${plural(H.events, 'event')}` : forbidden;\n  $('verdict').textContent = isKno\
+wn(last) ? verdict : '';\n  $('verdict').classList.toggle('bad', !isLegal);\n}\n\nfunction hea\
+dWords() {\n  const kind = `${H.kind}, ${H.mode}${OF[H.kind] ? ` (${OF[H.kind]})` : ''}.`;\n  \
 const conditions = automatic ? '' : `, ${plural(H.conditions, 'condition')}`;\n  const size = \
 `${plural(H.seats, 'seat')}${conditions}, ${objectWords()}.`;\n  const isPart = H.before > 0 |\
 | last < H.events;\n  const shownSteps = `The page shows steps ${first + 1} to ${last} of ${H.\
 events}.`;\n  return `${kind} ${size}${isPart && last > first ? ` ${shownSteps}` : ''}`;\n}\n\n\
-return beginHistory({ kind: H.kind, noun: 'A history', ask, answer });\n}\n\nbegin();\n})();\n\
-</script>\n</body>\n</html>\n";
+return beginHistory({ kind: H.kind, noun: 'A history', ask, answer, tick });\n}\n\nbegin();\n}\
+)();\n</script>\n</body>\n</html>\n";
 
 /// The rest of the page of a log.
 pub(crate) const LOG: &str = "\
@@ -337,18 +345,18 @@ box('outside', 'Without the lock', '', queueOf(seatsAt(r, 'outside'), 'outside')
 ').replaceChildren(monitor, make('div', 'row', outside));\n  $('boxes').setAttribute('aria-lab\
 el', `The program ${r.bad ? 'before' : 'after'} step ${r.step}`);\n}\n\n// What the table says \
 of a step, besides its sentence and the data.\n\nfunction headOf() {\n  const conditions = Arr\
-ay.from({ length: H.conditions }, (_, c) => `c${c}`);\n  return ['Step', 'What happens', 'Lock\
-', ...conditions, 'Woken', 'Data'];\n}\n\nfunction placeCells(r) {\n  const asleep = Array.fro\
-m({ length: H.conditions }, (_, c) => seatsAt(r, `waiting ${c}`));\n  const cells = [...asleep\
-, seatsThat(r, 'woken')].map((seats) => seats.join(', '));\n  return [r.lock === null ? 'free' \
-: String(r.lock), ...cells];\n}\n\nconst isLongCell = () => false;\n\n// The head of the page.\
-\n\nfunction showVerdict() {\n  const misfit = H.misfit && `misfit at line ${H.misfit.index + \
-2}: ${H.misfit.word}`;\n  $('verdict').textContent = isKnown(last) ? misfit || 'fits' : '';\n  \
-$('verdict').classList.toggle('bad', Boolean(misfit));\n}\n\nfunction headWords() {\n  const r\
-ule = 'A run of a mutex with condition variables that tells this log.';\n  const numbers = `${\
-plural(H.seats, 'thread')}, ${plural(H.conditions, 'condition')}`;\n  const shown = ` The page \
-shows lines ${first + 2} to ${last + 1} of the file.`;\n  return `${rule} ${numbers}, ${object\
-Words()}.${first > 0 && last > first ? shown : ''}`;\n}\n\n// A log is judged by one kind alon\
-e.\nfunction showKinds() {}\n\nconst log = beginHistory({ kind: 'log', noun: 'A log of a progr\
-am' });\n$('kinds').hidden = true;\nreturn log;\n}\n\nbegin();\n})();\n</script>\n</body>\n</h\
-tml>\n";
+ay.from({ length: H.conditions }, (_, c) => CONDITIONS[c] || `Condition ${c}`);\n  return ['St\
+ep', 'What happens', 'Lock', ...conditions, 'Woken', 'Data'];\n}\n\nfunction placeCells(r) {\n  \
+const asleep = Array.from({ length: H.conditions }, (_, c) => seatsAt(r, `waiting ${c}`));\n  \
+const cells = [...asleep, seatsThat(r, 'woken')].map((seats) => seats.join(', '));\n  return [\
+r.lock === null ? 'free' : String(r.lock), ...cells];\n}\n\nconst isLongCell = () => false;\n\n\
+// The head of the page.\n\nfunction showVerdict() {\n  const misfit = H.misfit && `misfit at \
+line ${H.misfit.index + 2}: ${H.misfit.word}`;\n  $('verdict').textContent = isKnown(last) ? m\
+isfit || 'fits' : '';\n  $('verdict').classList.toggle('bad', Boolean(misfit));\n}\n\nfunction \
+headWords() {\n  const rule = 'A run of a mutex with condition variables that tells this log.'\
+;\n  const numbers = `${plural(H.seats, 'thread')}, ${plural(H.conditions, 'condition')}`;\n  \
+const shown = ` The page shows lines ${first + 2} to ${last + 1} of the file.`;\n  return `${r\
+ule} ${numbers}, ${objectWords()}.${first > 0 && last > first ? shown : ''}`;\n}\n\n// A log i\
+s judged by one kind alone.\nfunction showKinds() {}\n\nconst log = beginHistory({ kind: 'log'\
+, noun: 'A log of a program' });\n$('kinds').hidden = true;\nreturn log;\n}\n\nbegin();\n})();\
+\n</script>\n</body>\n</html>\n";

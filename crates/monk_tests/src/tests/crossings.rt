@@ -1,8 +1,11 @@
 //! Seats that a signal crossed on their way to sleep.
 
 use monk_logs::LogLine::{Broadcast, Enter, Lapse, Leave, Resume, Signal, Wait};
-use monk_logs::{Crossed, LogLine, find_crossed};
+use monk_logs::{Crossed, LINE_SEATS, LogLine, find_crossed};
 use std::test::Fail;
+
+/// Each seat sleeps.
+const ALL: [bool; LINE_SEATS] = [true; LINE_SEATS];
 
 /// A log, and the seats in it that were crossed.
 struct Row {
@@ -84,7 +87,7 @@ static ROWS: [Row; 9] = [
 #[test]
 fn seats_that_a_signal_crossed_are_found() -> Result<(), Fail> {
     for row in ROWS.iter() {
-        if find_crossed(row.lines) != row.crossed {
+        if find_crossed(row.lines, &ALL) != row.crossed {
             return Err(Fail::new(row.name));
         }
     }

@@ -1,12 +1,11 @@
 //! Workers of a run are at work side by side: none waits for another to end.
 use monk_kinds::Pb;
 use monk_samples::{Gate, Sample, run};
-use std::hint::spin_loop;
 use std::sync::atomic::{AtomicBool, Ordering};
 use std::test::Fail;
 
-/// How often a worker looks for the other, with a pause each time: some seconds in all.
-const MOST_LOOKS: u32 = 100_000_000;
+/// How often a worker looks for the other: about a second in all.
+const MOST_LOOKS: u32 = 1_000_000_000;
 
 /// A gate at which each of two workers has to be there before the other may go on.
 #[derive(Drop)]
@@ -31,7 +30,6 @@ impl Gate for Meeting {
             if other.load(Ordering::SeqCst) {
                 return !self.missed.load(Ordering::SeqCst);
             }
-            spin_loop();
         }
         self.missed.store(true, Ordering::SeqCst);
         false

@@ -2,7 +2,7 @@
 ghost use Rattle.std.specs.Prelude.{IfOk};
 ghost use Rattle.monk_tests.specs.Passes.{AreSeats, IsSeat};
 
-mod gates;
+pub(crate) mod gates;
 mod later_members;
 mod runs;
 

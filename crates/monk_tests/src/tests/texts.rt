@@ -41,7 +41,7 @@ fn header_end(text: &[u8]) -> usize {
 }
 
 /// Returns the header of the text, and its lines `times` times.
-fn repeated(rt: &HostRuntime, text: &[u8], times: usize) -> Result<Vec<u8>, Fail> {
+pub(crate) fn repeated(rt: &HostRuntime, text: &[u8], times: usize) -> Result<Vec<u8>, Fail> {
     let end = header_end(text);
     let mut bytes = Vec::from_slice(rt.alloc(), text)?;
     for _ in 1..times {

@@ -16,7 +16,7 @@ returns g c =
     = λ i. record { seats = opened.many.0 i; conds = opened.many.1 i; object = o } in
     let taken = c.take_lines-misfit in
     let seen = taken.result.0 in
-    let named = subst (λ k. NamesLastTaking k c.last_taking.result) c.fitting.ensures c.last_taking.ensures in
+    let named = subst (λ k. NamesLastTaking k c.last_taking.result) c.fitting-told.ensures c.last_taking.ensures in
     let r : Report = record {
       misfit = taken.result.1;
       tally = record {
@@ -34,10 +34,13 @@ returns g c =
       asleep = c.asleep.result;
       woken = c.woken.result;
       missed = seen.missed.line;
+      crossed = c.find_crossed.result;
     } in
     let report : IsReport (setting_of v o) v.data_now c.args.lines.now c.args.means.now r = report_is (setting_of v o)
     v.data_now c.args.lines.now c.args.means.now taken.new.judge taken.result.1 seen.tally c.lock.result
-    c.last_taking.result c.holder.result c.asleep.result c.woken.result seen.missed.line seen.hints taken.ensures
-    named c.lock.ensures c.holder.ensures c.asleep.ensures c.woken.ensures in
+    c.last_taking.result c.holder.result c.asleep.result c.woken.result seen.missed.line seen.hints
+    c.fitting-told.result.now c.sleepers.result c.find_crossed.result taken.ensures
+    named c.lock.ensures c.holder.ensures c.asleep.ensures c.woken.ensures c.fitting-told.ensures c.sleepers.ensures
+    c.find_crossed.ensures in
     subst (λ m. IsReport m (g.T.Guarded.state c.args.object) c.args.lines.now c.args.means.now r) same
     (subst (λ d. IsReport (setting_of v o) d c.args.lines.now c.args.means.now r) opened.many.3 report)

@@ -1,4 +1,4 @@
-use Rattle.std.proofs.Common.{◌-◌, ◌∙◌, None, ⊎_elim, ap, arith, reverse, sym}
+use Rattle.std.proofs.Common.{◌∙◌, None, ⊎_elim, ap, arith, reverse, sym}
 use Rattle.monk_logs.specs.Crossed.{crossing_at}
 use Rattle.monk_logs.specs.declared.text.line.LogLine.TheVariants.{Enter}
 use Rattle.monk_logs.proofs.CrossedLaws.{crossing_front, crossing_told, no_crossing, told_within}

@@ -1,9 +1,9 @@
-use Rattle.std.proofs.Common.{◌≡◌, ◌≤◌, reverse}
+use Rattle.std.proofs.Common.{◌≡◌, ◌≤◌, false, get_or, reverse}
 use Rattle.monk_logs.specs.Crossed as crossings
 use Rattle.monk_logs.proofs.crossed.find_crossed.Given as goal
 
-abbrev pub invariant-loop-number : goal.invariant-loop-number
-invariant-loop-number l = record {
-  within : crossings.number_crossed l.found ≤ l.number-index;
-  found : l.found ≡ crossings.crossed_below (reverse l.lines) l.number-index;
+abbrev pub invariant-loop-seat : goal.invariant-loop-seat
+invariant-loop-seat l = record {
+  within : crossings.number_crossed l.found ≤ l.seat;
+  found : l.found ≡ crossings.crossed_below (λ s. get_or l.sleeps s false) (reverse l.lines) l.seat;
 }

@@ -1,4 +1,4 @@
-// Ask first: the call is shown and who goes on is asked, then the step is shown as it was.
+// Ask first: the call is shown, and who may go on is asked, be it one or several. Then the step is shown as it was.
 
 const MOST_SEATS_ASKED = 8; // with whoever enters next as many as there are keys
 let guesses = [];
@@ -20,16 +20,33 @@ function guessesOf(r) {
 
 const guessWords = (guess) => (guess === 'entry' ? 'whoever enters next' : seatName(guess));
 
-function guessButton(guess, i) {
-  const key = make('kbd', '', String(i + 1));
-  return button('guess', () => answer(i), key, guessWords(guess));
+function guessLine(guess, i) {
+  const tick = make('input');
+  Object.assign(tick, { type: 'checkbox', autocomplete: 'off' });
+  return make('label', 'guess', make('kbd', '', String(i + 1)), tick, make('span', '', guessWords(guess)));
 }
 
-// Where nobody could be guessed wrong nothing is asked.
+function questionForm() {
+  const check = make('button', 'check', make('kbd', '', 'Enter'), 'Check');
+  const form = make('form', 'guesses', ...guesses.map(guessLine), check);
+  form.addEventListener('submit', (event) => {
+    event.preventDefault();
+    answer();
+  });
+  return form;
+}
+
+const ticks = () => [...$('choices').querySelectorAll('input')];
+
+function tick(i) {
+  if (ticks()[i]) ticks()[i].click();
+}
+
+// Where only one could be guessed nothing is asked.
 function ask(step) {
   const r = R[step - first];
   guesses = r && r.may && r.was ? guessesOf(r) : [];
-  if (guesses.every((guess) => allowed(r).includes(guess))) {
+  if (guesses.length < 2) {
     show(step);
     return;
   }
@@ -37,26 +54,32 @@ function ask(step) {
   showAround(r, true);
   $('say').replaceChildren(named(`Seat ${r.words[1]} ${CLAIMS[r.words[0]](r)}.`));
   $('told').classList.remove('bad');
-  const head = make('h2', '', `What will happen: who goes on under ${H.kind}?`);
   $('choices').hidden = false;
-  $('choices').replaceChildren(head, make('div', 'guesses', ...guesses.map(guessButton)));
+  $('choices').replaceChildren(make('h2', '', `Who may go on under ${H.kind}? Tick all.`), questionForm());
   for (const cls of ['answer', 'line']) $(cls).textContent = '';
 }
 
-// Whether the guess is right, and what is said of it.
-function judged(r, guess) {
-  const who = guessWords(guess);
-  const isTaken = guess === seatOfNext(r, nextOf(r).join(' '));
-  if (!allowed(r).includes(guess)) return [false, `Not ${who}.`];
-  if (isTaken) return [true, 'Right.'];
-  const might = `Right: ${who} might have gone on`;
-  return [true, r.bad ? `${might}.` : `${might}, and ${H.kind} leaves it open. This time it was another.`];
+// Whether what is ticked is right, and what is said of it.
+function judged(r, ticked) {
+  const may = (guess) => allowed(r).includes(guess);
+  const wrong = ticked.filter((guess) => !may(guess));
+  const missing = guesses.filter((guess) => may(guess) && !ticked.includes(guess));
+  if (wrong.length || missing.length) {
+    const not = wrong.length ? `Not ${listed(wrong.map(guessWords))}. ` : '';
+    const too = missing.length ? `Also ${listed(missing.map(guessWords))}.` : '';
+    return [false, `${not}${too}`.trim()];
+  }
+  return [true, r.may.length > 1 ? `Right: ${H.kind} leaves it open.` : 'Right.'];
 }
 
-function answer(i) {
-  if (!question || i >= guesses.length) return;
-  const [isRight, words] = judged(question, guesses[i]);
+// Judges what is ticked, and shows the step; a question of which nothing is ticked doesn't count.
+function answer() {
+  if (!question) return;
+  const r = question;
+  const ticked = guesses.filter((_, i) => ticks()[i].checked);
   show(now);
+  if (!ticked.length) return;
+  const [isRight, words] = judged(r, ticked);
   $('answer').textContent = words;
   $('answer').classList.toggle('bad', !isRight);
   scored(isRight);

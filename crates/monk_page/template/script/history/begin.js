@@ -10,7 +10,7 @@ function showVerdict() {
 }
 
 function headWords() {
-  const kind = `${H.kind}, ${H.mode}${OF[H.kind] ? ` (${OF[H.kind]})` : ''}: ${orderWords()}.`;
+  const kind = `${H.kind}, ${H.mode}${OF[H.kind] ? ` (${OF[H.kind]})` : ''}.`;
   const conditions = automatic ? '' : `, ${plural(H.conditions, 'condition')}`;
   const size = `${plural(H.seats, 'seat')}${conditions}, ${objectWords()}.`;
   const isPart = H.before > 0 || last < H.events;
@@ -18,4 +18,4 @@ function headWords() {
   return `${kind} ${size}${isPart && last > first ? ` ${shownSteps}` : ''}`;
 }
 
-return beginHistory({ kind: H.kind, noun: 'A history', ask, answer });
+return beginHistory({ kind: H.kind, noun: 'A history', ask, answer, tick });

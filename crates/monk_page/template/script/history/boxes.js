@@ -4,8 +4,7 @@ function entryBox(r) {
   if (r.entry === undefined || isHiding()) {
     return box('entry', 'Entry', '', make('p', 'quiet', 'nobody known'));
   }
-  const known = make('p', 'quiet', 'known since it enters next');
-  return box('entry', 'Entry', '', make('div', '', queueOf([r.entry], 'entry'), known));
+  return box('entry', 'Entry', '', queueOf([r.entry], 'entry'), make('p', 'quiet', 'enters next'));
 }
 
 function queueBox(name, r) {

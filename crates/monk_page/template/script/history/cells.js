@@ -1,7 +1,7 @@
 // What the table says of a step, besides its sentence and the data.
 
 function headOf() {
-  const conditions = (R[0].conditions || []).map((_, c) => CONDITIONS[c] || `c${c}`);
+  const conditions = (R[0].conditions || []).map((_, c) => CONDITIONS[c] || `Condition ${c}`);
   const signaller = signallerRank ? ['Signaller'] : [];
   const queues = automatic ? ['Waits until', 'Ready'] : [...conditions, 'Waiter', ...signaller];
   return ['Step', 'What happens', 'Active', ...queues, 'Data'];

@@ -44,7 +44,7 @@ function showBoxes(r) {
 // What the table says of a step, besides its sentence and the data.
 
 function headOf() {
-  const conditions = Array.from({ length: H.conditions }, (_, c) => `c${c}`);
+  const conditions = Array.from({ length: H.conditions }, (_, c) => CONDITIONS[c] || `Condition ${c}`);
   return ['Step', 'What happens', 'Lock', ...conditions, 'Woken', 'Data'];
 }
 

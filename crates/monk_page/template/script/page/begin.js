@@ -25,7 +25,8 @@ function begin() {
   document.body.classList.toggle('several', histories.length > 1);
   document.body.classList.toggle('asking', histories.some((it) => it.ask));
   document.body.style.setProperty('--histories', histories.length);
-  byId('live').hidden = false;
+  byId('live').hidden = byId('legend').hidden = false;
+  showLegend();
   beginKeys();
   fitPictures();
   addEventListener('hashchange', byAddress);

@@ -72,7 +72,8 @@ function press(event) {
   if (event.altKey || event.ctrlKey || event.metaKey || event.defaultPrevented) return;
   if (help.open && event.key !== '?') return;
   const [open] = openQuestions();
-  if (open && /^[1-9]$/.test(event.key)) open.answer(Number(event.key) - 1);
+  if (open && /^[1-9]$/.test(event.key)) open.tick(Number(event.key) - 1);
+  else if (open && event.key === 'Enter' && !event.target.closest('button, summary, a')) open.answer();
   else if (event.key in KEYS) KEYS[event.key]();
   else return;
   event.preventDefault();

@@ -62,11 +62,11 @@ function go(step, from, kind) {
   moveBy((it, to) => it.show(to, it === from ? kind : null), step);
 }
 
-// With `ask first` a step that chooses is a question before it is shown; one that isn't answered is shown.
+// With `ask first` a step that chooses is a question before it is shown; to step on answers it, or just shows it.
 function stepOn() {
   const open = openQuestions();
   if (open.length) {
-    open.forEach((it) => it.show(it.now));
+    open.forEach((it) => it.answer());
     settle();
   } else if (byId('ask').checked) {
     moveBy((it, to) => it.ask(to), whereNow() + 1);

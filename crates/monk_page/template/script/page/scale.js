@@ -1,15 +1,15 @@
 // How far the pictures are magnified, all alike: to the width, and several so that their sentences are in view.
 
 const LARGEST = 1.35;
-const LEAST = { one: 1.15, several: 0.58, fitted: 0.3 };
-const LEGIBLE = 0.9; // where a picture of several is scrolled rather than smaller
-const PART_OF_WINDOW = 0.48;
+const LEAST = { one: 0.9, several: 0.58, fitted: 0.3 };
+const LEGIBLE = 0.9; // where a picture is scrolled rather than smaller
+const PART_OF_WINDOW = { one: 0.36, several: 0.48 }; // so that what stands below is in view
 
 function scaleOf({ w, h }, room) {
   const wide = room / w;
-  const high = (innerHeight * PART_OF_WINDOW) / histories.length / h;
-  if (isFitting()) return Math.min(wide, high);
-  return histories.length > 1 ? Math.min(high, Math.max(wide, LEGIBLE)) : wide;
+  const part = histories.length > 1 ? PART_OF_WINDOW.several : PART_OF_WINDOW.one;
+  const high = (innerHeight * part) / histories.length / h;
+  return Math.min(high, isFitting() ? wide : Math.max(wide, LEGIBLE));
 }
 
 function fitPictures() {

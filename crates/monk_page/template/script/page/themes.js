@@ -1,12 +1,17 @@
 // Light and dark: as the system has it, until the button is pressed.
 
 let dark = matchMedia('(prefers-color-scheme: dark)').matches;
-const schemes = [...document.styleSheets]
-  .flatMap((sheet) => [...sheet.cssRules])
-  .filter((rule) => rule.media && rule.media.mediaText.includes('prefers-color-scheme'));
+let schemes = null;
+
+// The rules of a scheme. They are collected when they are first wanted: a picture that is moved gets new ones.
+function rulesOfSchemes() {
+  const rules = [...document.styleSheets].flatMap((sheet) => [...sheet.cssRules]);
+  return rules.filter((rule) => rule.media && rule.media.mediaText.includes('prefers-color-scheme'));
+}
 
 function setTheme(isDark) {
   dark = isDark;
+  schemes ??= rulesOfSchemes();
   schemes.forEach((rule) => (rule.media.mediaText = dark ? 'all' : 'not all'));
   document.documentElement.style.colorScheme = dark ? 'dark' : 'light';
   byId('theme').textContent = dark ? 'Light' : 'Dark';

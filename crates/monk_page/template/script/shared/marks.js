@@ -3,7 +3,6 @@
 let marks = [];
 let wrong = []; // what shows that the last step is wrong
 let markedUpTo = Infinity;
-const CHARACTER = 6.4; // how wide one is, more or less
 
 // The mark of a step stands behind its number.
 function collectMarks() {
@@ -38,21 +37,6 @@ function nameLanes() {
     draw('title', {}, t).textContent = 'this seat\u2019s next event (with Shift: the one before)';
     return { seat, y: Number(t.getAttribute('y')) };
   });
-}
-
-function nameConditions() {
-  svg.querySelectorAll('.what, .note').forEach((t) => {
-    const [, c] = /^c(\d)$/.exec(t.textContent) || [];
-    if (CONDITIONS[c]) write(t, CONDITIONS[c], gap - 4);
-  });
-}
-
-// Words that would be wider than that are squeezed. Measuring each would lay the page out as often.
-function write(t, words, width) {
-  t.textContent = words;
-  if (words.length * CHARACTER <= width) return;
-  t.setAttribute('textLength', width);
-  t.setAttribute('lengthAdjust', 'spacingAndGlyphs');
 }
 
 const nearest = (all, distance) => all.reduce((a, b) => (distance(b) < distance(a) ? b : a));

@@ -33,14 +33,24 @@ function bufferAct(code, arg, reply) {
     : `takes item ${BigInt(reply) - 1n} (the reply is the item and 1)`;
 }
 
+// The flags that a number has, as bits.
+function flagsIn(bits) {
+  const flags = Array.from({ length: H.size }, (_, flag) => flag);
+  return flags.filter((flag) => (BigInt(bits) >> BigInt(flag)) & 1n);
+}
+
+function flagsAct(arg, reply) {
+  const set = flagsIn(arg);
+  const flags = `flag${set.length > 1 ? 's' : ''} ${listed(set)}`;
+  const others = set.length < H.size ? ' and no other' : '';
+  if (reply === '0') return `tries to set ${set.length ? flags : 'no flag'}${others}, in vain (reply 0)`;
+  return set.length ? `sets ${flags}${others}` : 'clears all flags';
+}
+
 function actWords(r) {
   const [, , code, arg, reply] = r.words;
   if (H.object === 'buffer' && (code === '0' || code === '1')) return bufferAct(code, arg, reply);
-  if (H.object === 'flags' && code === '0') {
-    const bits = BigInt(arg).toString(2).padStart(H.size, '0');
-    const tries = `tries to set the flags to ${bits}, in vain (reply 0)`;
-    return reply === '0' ? tries : `sets the flags to ${bits}`;
-  }
+  if (H.object === 'flags' && code === '0') return flagsAct(arg, reply);
   if (ACTS && ACTS[code]) {
     return reply === '0' ? `tries ${ACTS[code][1]}, in vain (reply 0)` : ACTS[code][0];
   }
@@ -72,10 +82,7 @@ function shopWords([size, waiting, cut]) {
 }
 
 function flagsWords([size, bits]) {
-  const set = [];
-  for (let flag = 0; flag < size; flag++) {
-    if ((BigInt(bits) >> BigInt(flag)) & 1n) set.push(flag);
-  }
+  const set = flagsIn(bits);
   if (set.length === 0) return [`No flag is set (of ${size}).`];
   return [`${set.length === 1 ? 'Flag' : 'Flags'} ${listed(set)} set (of ${size}).`];
 }
@@ -94,9 +101,9 @@ function dataBox(r) {
 
 function objectWords() {
   return {
-    buffer: `a buffer of ${H.size}`,
+    buffer: `a buffer for ${plural(H.size, 'item')}`,
     book: `a book for ${plural(H.size, 'reader')}`,
     shop: `a shop with ${plural(H.size, 'waiting chair')}`,
-    flags: plural(H.size, 'flag'),
+    flags: `an object with ${plural(H.size, 'flag')}`,
   }[H.object];
 }

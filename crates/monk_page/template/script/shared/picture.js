@@ -15,6 +15,7 @@ let veil;
 function cropPicture() {
   svg.classList.add('cropped');
   if (index) svg.querySelectorAll('style, defs').forEach((it) => it.remove());
+  svg.querySelectorAll('text.soft').forEach((t) => t.parentNode.nodeName === 'g' && t.parentNode.classList.add('legend'));
   svg.querySelectorAll('.step').forEach((t) => {
     columns.set(Number(t.textContent), Number(t.getAttribute('x')));
   });
@@ -69,6 +70,7 @@ function fitPicture(scale) {
   lanes.style.marginRight = `${-NAMES * scale}px`;
   inner.style.width = `${view.w * scale}px`;
   view.scale = scale;
+  fitLabels(scale);
 }
 
 // A ruler is shown if the picture can be scrolled along the other.

@@ -54,11 +54,12 @@ function nextOfThisSeat(way) {
 
 function beginPicture() {
   lanesAt = nameLanes();
-  nameConditions();
   cropPicture();
   addBand();
   rulers = addRulers();
   collectMarks();
+  writeMarks();
+  writeBars();
   svg.addEventListener('click', clickPicture);
 }
 
