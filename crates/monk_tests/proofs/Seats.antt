@@ -1,5 +1,6 @@
 -- The passes of a hall are its seats
-use Rattle.std.proofs.Common.{◌≡◌, ℕ, zero, suc, refl, List, [], ◌∷◌, ◌++◌}
+use Rattle.std.proofs.Common.{◌≡◌, ℕ, zero, suc, refl, List, [], ◌∷◌, ◌++◌, Some}
+use Rattle.std.proofs.lemmas.List.Elements.{All-nil, All-cons, All-pop}
 use Rattle.atomic_table.specs.Seated.{TableId}
 use Rattle.monk_hall.specs.Records.{opening_records}
 use Rattle.monk_hall.specs.Tokens.{Token, AreOf, tokens}
@@ -8,12 +9,11 @@ use Rattle.monk_tests.specs.Passes.{IsSeat, AreSeats}
 
 pub tokens_are_seats : (z : TableId) (c : Setting) (n i : ℕ) → c.conds ≡ 3
     → AreSeats z (tokens z (opening_records c n i))
-tokens_are_seats z c zero i e = tt
-tokens_are_seats z c (suc n) i e = ((refl, e), tokens_are_seats z c n (suc i) e)
+tokens_are_seats z c zero i e = All-nil (IsSeat z)
+tokens_are_seats z c (suc n) i e = All-cons (IsSeat z) _ _ (refl, e) (tokens_are_seats z c n (suc i) e)
 
 pub last_is_seat : (z : TableId) (ps : List Token) (p : Token) → AreSeats z (ps ++ p ∷ []) → IsSeat z p × AreSeats z ps
-last_is_seat z [] p h = (h.0, tt)
-last_is_seat z (q ∷ ps) p h = let rest = last_is_seat z ps p h.1 in (rest.0, (h.0, rest.1))
+last_is_seat z ps p h = let back = All-pop (IsSeat z) (ps ++ p ∷ []) ps (Some p) refl h in (back.1, back.0)
 
 pub tokens_are_of : (z : TableId) (c : Setting) (n i : ℕ) → AreOf z c (tokens z (opening_records c n i))
 tokens_are_of z c zero i = tt

@@ -1,5 +1,5 @@
 -- What the tests know of their passes
-use Rattle.std.specs.Prelude.{◌≡◌, List, [], ◌∷◌}
+use Rattle.std.specs.Prelude.{◌≡◌, List, All}
 use Rattle.atomic_table.specs.Seated.{TableId}
 use Rattle.monk_hall.specs.Tokens.{Token}
 
@@ -9,5 +9,4 @@ IsSeat z p = (p.hall ≡ z) × (p.me.setting.conds ≡ 3)
 
 -- each of those passes is a seat of that table
 abbrev pub AreSeats : TableId → List Token → Type 0
-AreSeats z [] = Unit {0}
-AreSeats z (p ∷ ps) = IsSeat z p × AreSeats z ps
+AreSeats z ps = All (IsSeat z) ps

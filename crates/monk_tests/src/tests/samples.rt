@@ -2,6 +2,7 @@
 ghost use Rattle.std.specs.Prelude.{IfOk};
 ghost use Rattle.monk_tests.specs.Passes.{AreSeats, IsSeat};
 
+mod crowds;
 pub(crate) mod gates;
 mod later_members;
 mod runs;
@@ -13,18 +14,20 @@ use monk_object::{Book, Buffer, Guarded, Shop};
 use monk_samples::{
     End, Style, barber_turn, put, read_begin, read_end, sit_and_cut, take, write_begin, write_end,
 };
+use std::alloc::Global;
 use std::sync::Wait;
 use std::test::Fail;
 
-/// A hall of two seats, with its passes.
+/// A hall of so many seats, with its passes.
 fn hall<K: Style, T: Guarded>(
-    rt: &HostRuntime,
+    alloc: Global,
     object: T,
+    seats: u8,
     budget: u32,
 ) -> Result<(Hall<K, T>, Vec<Pass<K, T>>), Fail>
     ensures { IfOk result (λ r. AreSeats r.0.id r.1.items) }
 {
-    Ok(Hall::make(rt.alloc(), object, 2, 3, budget)?)
+    Ok(Hall::make(alloc, object, seats, 3, budget)?)
 }
 
 /// Takes the last of the passes.
@@ -51,7 +54,7 @@ fn two<K: Style, T: Guarded>(
     ensures first { IfOk result (λ r. IsSeat r.0.id r.1) }
     ensures second { IfOk result (λ r. IsSeat r.0.id r.2) }
 {
-    let (hall, mut passes) = hall::<K, T>(rt, object, budget)?;
+    let (hall, mut passes) = hall::<K, T>(rt.alloc(), object, 2, budget)?;
     let second = last(&hall, &mut passes)?;
     let first = last(&hall, &mut passes)?;
     Ok((hall, first, second))
