@@ -1,5 +1,8 @@
 -- Traces grow by a line for each command
 use Rattle.std.proofs.Common.{◌≡◌, ℕ, suc, ◌+◌, List, [], ◌∷◌, ◌++◌, refl, sym, ap, subst, ◌∙◌, append_assoc, arith}
+use Rattle.std.specs.Prelude.{Option}
+use Rattle.std.specs.Io.KnownBytes.{Appends}
+use Rattle.std.proofs.KnownBytes.{Appends-trans}
 use Rattle.std.proofs.lemmas.List.{append-nil}
 use Rattle.monk_object.specs.declared.name.ObjectName.{ObjectName}
 use Rattle.monk_history.specs.Meaning.Monitor.{Monitor}
@@ -31,13 +34,57 @@ traced_on name m before s all cs c a u last rest is step are =
     (trace_line name m (before + 1) c a u (situation m u.floor.history) ++ rest)) (sym is)
     (a, (u, (rest, (step, (refl, are)))))
 
--- if no command is left, the lines are all there are
-pub traced_all : (name : ObjectName) (m : Monitor) (before : ℕ) (s last : State) (all left : List (ℕ × Command))
-    (page : List ℕ)
-    → left ≡ []
-    → ((rest : List ℕ) → AreTraced name m before last left last rest
-    → AreTraced name m 0 s all last (page ++ rest))
-    → AreTraced name m 0 s all last page
-traced_all name m before s last all left page none on =
-    subst (λ (text : List ℕ). AreTraced name m 0 s all last text) (append-nil page)
-    (on [] (subst (λ (l : List (ℕ × Command)). AreTraced name m before last l last []) (sym none) (refl, refl)))
+-- what is traced by a text
+abbrev pub Tracing : Type 1
+Tracing = State → List ℕ → Type 0
+
+-- a part of the lines was written, and the page has more: they come before those that are left
+pub record IsOnItsWay (before now : Option (List ℕ)) (page : List ℕ) (Left All : Tracing) : Type 0 where
+  pub gone : List ℕ
+  pub got : Appends before now gone
+  pub on : (last : State) (rest : List ℕ) → Left last rest → All last (gone ++ (page ++ rest))
+
+-- a line comes on the page
+pub grows : (before now : Option (List ℕ)) (page more line : List ℕ) (Left After All : Tracing)
+    → IsOnItsWay before now page Left All → more ≡ page ++ line
+    → ((last : State) (rest : List ℕ) → After last rest → Left last (line ++ rest))
+    → IsOnItsWay before now more After All
+grows before now page more line Left After All way is on =
+    record {
+      gone = way.gone;
+      got = way.got;
+      on = λ last rest are.
+          subst (λ (text : List ℕ). All last (way.gone ++ text))
+          (sym (ap (λ (text : List ℕ). text ++ rest) is ∙ append_assoc page line rest))
+          (way.on last (line ++ rest) (on last rest are));
+    }
+
+-- the page is written, and is empty then
+pub sends : (before now later : Option (List ℕ)) (page empty : List ℕ) (Left All : Tracing)
+    → IsOnItsWay before now page Left All → Appends now later page → empty ≡ []
+    → IsOnItsWay before later empty Left All
+sends before now later page empty Left All way appends is =
+    record {
+      gone = way.gone ++ page;
+      got = Appends-trans before now later way.gone page way.got appends;
+      on = λ last rest are.
+          subst (λ (text : List ℕ). All last text)
+          (sym (append_assoc way.gone page rest)
+          ∙ ap (λ (front : List ℕ). (way.gone ++ page) ++ (front ++ rest)) (sym is))
+          (way.on last rest are);
+    }
+
+-- if no command is left, what was written and the page are all lines
+pub traced_all : (name : ObjectName) (m : Monitor) (before : ℕ) (last : State) (left : List (ℕ × Command))
+    (start now later : Option (List ℕ)) (page : List ℕ) (All : Tracing)
+    → left ≡ [] → IsOnItsWay start now page (AreTraced name m before last left) All → Appends now later page
+    → (text : List ℕ) × (All last text × Appends start later text)
+traced_all name m before last left start now later page All none way appends =
+    let none_left = subst (λ (l : List (ℕ × Command)). AreTraced name m before last l last []) (sym none) (refl, refl) in
+    (
+      way.gone ++ page,
+      (
+        subst (λ (text : List ℕ). All last (way.gone ++ text)) (append-nil page) (way.on last [] none_left),
+        Appends-trans start now later way.gone page way.got appends,
+      ),
+    )

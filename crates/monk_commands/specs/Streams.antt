@@ -4,6 +4,8 @@ use Rattle.std.specs.Io.KnownBytes.{Appends, IsAtEnd}
 use Rattle.monk_history.specs.declared.text.device.Device.{Device}
 use Rattle.monk_history.specs.Text.Device.{reads_of, bytes_of, has_failed, inner_of}
 use Rattle.monk_commands.specs.Answer.{LineAnswer}
+use Rattle.monk_commands.specs.declared.report.Report.{Report}
+use Rattle.monk_commands.specs.declared.report.Report.TheVariants.{History}
 use Rattle.monk_commands.specs.declared.fault.StreamFault.{StreamFault}
 use Rattle.monk_commands.specs.declared.fault.StreamFault.TheVariants.{File, Memory}
 
@@ -43,6 +45,12 @@ pub record IsWriting {W T : Type 0} (old new : Device W) (result : Result T Stre
   pub file : IsErrOf result File → has_failed new ≡ true
   pub memory : IsErrOf result Memory → new ≡ old
 
+-- the same of a report: only one that is written as a whole promises that nothing was written if there is no memory
+pub record IsReporting {W T : Type 0} (report : Report) (old new : Device W) (result : Result T StreamFault) : Type 0 where
+  pub file : IsErrOf result File → has_failed new ≡ true
+  pub memory : IsErrOf result Memory → has_failed new ≡ false
+  pub whole : report ≡ History → IsErrOf result Memory → new ≡ old
+
 -- how a stream leaves its reader and its writer, which had not failed: if it answers, it has read
 -- all; if it reports a file, a read or a write failed or the input was too long; if it reports
 -- memory, no call failed and nothing was written
@@ -52,4 +60,13 @@ pub record IsStreamOutcome {R W : Type 0} (remaining : R → Option (List ℕ)) 
   pub file : IsErrOf result File → IsYoung reader
       → (has_failed reader_after ≡ true) ⊎ (has_failed writer_after ≡ true) ⊎ IsPastBound reader reader_after
   pub memory : IsErrOf result Memory → (has_failed reader_after ≡ false) × (writer_after ≡ writer)
+  pub reads : reads_of reader_after ≤ reads_of reader + 2 ^ 31
+
+-- the same of a stream that writes while it works: if it reports memory, no call failed
+pub record IsPassingOn {R W : Type 0} (remaining : R → Option (List ℕ)) (reader reader_after : Device R)
+    (writer_after : Device W) (result : Result ℕ StreamFault) : Type 0 where
+  pub all_read : OnOk result (IsAtEnd (remaining (inner_of reader_after)))
+  pub file : IsErrOf result File → IsYoung reader
+      → (has_failed reader_after ≡ true) ⊎ (has_failed writer_after ≡ true) ⊎ IsPastBound reader reader_after
+  pub memory : IsErrOf result Memory → (has_failed reader_after ≡ false) × (has_failed writer_after ≡ false)
   pub reads : reads_of reader_after ≤ reads_of reader + 2 ^ 31

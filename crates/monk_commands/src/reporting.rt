@@ -9,7 +9,7 @@ ghost use Rattle.monk_object.specs.declared.name.ObjectName.TheVariants as objec
 ghost use Rattle.monk_history.specs.Text.Device.{inner_of, has_failed};
 ghost use Rattle.monk_commands.specs.Played.{IsAnswerTo, IsPlayAnswer, IsPlayable};
 ghost use Rattle.monk_commands.specs.Reported.{IsReported, IsReportedBy, report_with};
-ghost use Rattle.monk_commands.specs.Streams.{IsWriting};
+ghost use Rattle.monk_commands.specs.Streams.{IsReporting};
 
 use crate::answer::{put, too_big, unreadable};
 use crate::fault::StreamFault;
@@ -40,7 +40,7 @@ fn play_as<K: Kind, T: Listed, W: Write>(
     ensures played { OnOk result
         (IsReportedBy (report_with shown) K.rules T.meaning (T.state object) play.entry.0 play.entry.1 play.entry.2
         (Appends (W.contents (inner_of writer.old)) (W.contents (inner_of writer.new)))) }
-    ensures writing { IsWriting writer.old writer.new result }
+    ensures writing { IsReporting (report_with shown) writer.old writer.new result }
 {
     let header = play.header();
     match World::<K, T>::make(alloc, object, header.seats(), header.conds(), play.budget()) {
@@ -75,7 +75,7 @@ fn play_named<T: Listed, W: Write>(
         (IsReportedBy (report_with shown) (rules_named play.entry.0.kind) T.meaning
         (T.state object) play.entry.0 play.entry.1 play.entry.2
         (Appends (W.contents (inner_of writer.old)) (W.contents (inner_of writer.new)))) }
-    ensures writing { IsWriting writer.old writer.new result }
+    ensures writing { IsReporting (report_with shown) writer.old writer.new result }
 {
     match play.header().kind() {
         KindName::Pb => play_as::<Pb, T, W>(alloc, object, shown, play, writer),
@@ -107,7 +107,7 @@ fn play_over<T: Listed, W: Write>(
         (IsReportedBy report (rules_named play.entry.0.kind) T.meaning
         (T.state object) play.entry.0 play.entry.1 play.entry.2
         (Appends (W.contents (inner_of writer.old)) (W.contents (inner_of writer.new)))) }
-    ensures writing { IsWriting writer.old writer.new result }
+    ensures writing { IsReporting report writer.old writer.new result }
 {
     match report {
         Report::History => play_named(alloc, object, None, play, writer),
@@ -131,7 +131,7 @@ fn play_buffer<W: Write>(
         (IsReportedBy report (rules_named play.entry.0.kind) (meaning_named object.Buffer)
         (opening_named object.Buffer size) play.entry.0 play.entry.1 play.entry.2
         (Appends (W.contents (inner_of writer.old)) (W.contents (inner_of writer.new)))) }
-    ensures writing { IsWriting writer.old writer.new result }
+    ensures writing { IsReporting report writer.old writer.new result }
 {
     match report {
         Report::History => play_named(alloc, buffer(alloc, size)?, None, play, writer),
@@ -155,7 +155,7 @@ fn play_object<W: Write>(
     ensures played { OnOk result
         (IsReported report play.entry.0 play.entry.1 play.entry.2
         (Appends (W.contents (inner_of writer.old)) (W.contents (inner_of writer.new)))) }
-    ensures writing { IsWriting writer.old writer.new result }
+    ensures writing { IsReporting report writer.old writer.new result }
 {
     let header = play.header();
     let size = header.size();
@@ -179,7 +179,7 @@ fn play_lines<W: Write>(
     ensures answer { IfOk result
         (λ status. IsPlayAnswer (IsReported report) play.entry status
         (Appends (W.contents (inner_of writer.old)) (W.contents (inner_of writer.new)))) }
-    ensures writing { IsWriting writer.old writer.new result }
+    ensures writing { IsReporting report writer.old writer.new result }
 {
     let header = play.header();
     if header.size() > header.object().greatest_size() {
@@ -200,7 +200,7 @@ pub(crate) fn play_text<W: Write>(
     ensures answer { IfOk result
         (λ status. IsAnswerTo (IsReported report) bytes.items status
         (Appends (W.contents (inner_of writer.old)) (W.contents (inner_of writer.new)))) }
-    ensures writing { IsWriting writer.old writer.new result }
+    ensures writing { IsReporting report writer.old writer.new result }
 {
     match PlayLines::check(&bytes) {
         Ok(play) => play_lines(alloc, report, play, writer),

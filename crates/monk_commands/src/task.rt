@@ -1,6 +1,7 @@
-ghost use Rattle.std.specs.Prelude.{◌≡◌, ◌≤◌, false, IfOk};
+ghost use Rattle.std.specs.Prelude.{◌≡◌, ◌≤◌, false, IfOk, IsErrOf};
 ghost use Rattle.monk_history.specs.Text.Device.{has_failed};
-ghost use Rattle.monk_commands.specs.Streams.{IsStreamOutcome};
+ghost use Rattle.monk_commands.specs.Streams.{IsPassingOn};
+ghost use Rattle.monk_commands.specs.declared.fault.StreamFault.TheVariants.{Memory};
 
 use crate::auditing::audit_stream;
 use crate::completing::complete_stream;
@@ -107,7 +108,9 @@ impl Task<'_> {
         requires reader_works { has_failed reader.old ≡ false }
         requires writer_works { has_failed writer.old ≡ false }
         ensures statuses { IfOk result (λ status. status ≤ 2) }
-        ensures outcome { IsStreamOutcome R.remaining reader.old reader.new writer.old writer.new result }
+        ensures outcome { IsPassingOn R.remaining reader.old reader.new writer.new result }
+        // All but a trace write nothing if a request for memory is refused.
+        ensures whole { (self ≡ Task.Trace → ⊥) → IsErrOf result Memory → writer.new ≡ writer.old }
     {
         match self {
             Task::Audit => audit_stream(alloc, reader, writer),

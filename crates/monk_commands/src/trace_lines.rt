@@ -5,7 +5,7 @@ ghost use Rattle.std.specs.Prelude.{string_bytes};
 ghost use Rattle.std.specs.Io.KnownBytes.{Appends};
 ghost use Rattle.monk_history.specs.Text.Device.{inner_of, has_failed};
 ghost use Rattle.monk_world.specs.WorldViews.{state_of_view};
-ghost use Rattle.monk_commands.specs.Streams.{IsWriting};
+ghost use Rattle.monk_commands.specs.Streams.{IsReporting};
 ghost use Rattle.monk_history.specs.Meaning.Monitor.{monitor};
 ghost use Rattle.monk_audit.specs.Replay.{replay_situation};
 ghost use Rattle.monk_floor.specs.View.{empty_floor, monitor_of};
@@ -18,6 +18,7 @@ ghost use Rattle.monk_commands.specs.Traced.{seat_text, trace_line};
 
 use crate::fault::StreamFault;
 use crate::following::Follower;
+use crate::report::Report;
 use monk_audit::Replay;
 use monk_history::Device;
 use monk_kinds::{Kind, rules_of};
@@ -27,6 +28,9 @@ use monk_world::{Answer, Command, PlayLines, World};
 use std::alloc::{AllocError, Global};
 use std::fmt;
 use std::io::Write;
+
+/// Lines are written once there are so many bytes of them.
+const PAGE: usize = 1 << 16;
 
 /// Returns what follows an answer: that the object refused an act, if it did.
 fn refusal(answer: Answer) -> &'static str
@@ -160,22 +164,44 @@ fn put_line<K: Kind, T: Listed>(
     Ok(())
 }
 
-/// Carries out the commands that are left of the play, in order, and returns the lines of all of them.
-fn lines_of<K: Kind, T: Listed>(
+/// Writes what is on the page, which is empty then.
+fn write_page<W: Write>(page: &mut String, writer: &mut Device<W>) -> Result<(), StreamFault>
+    requires { has_failed writer.old ≡ false }
+    ensures page { OnOk result (string_bytes page.new ≡ []) }
+    ensures written { OnOk result
+        (Appends (W.contents (inner_of writer.old)) (W.contents (inner_of writer.new)) (string_bytes page.old)) }
+    ensures works { OnOk result (has_failed writer.new ≡ false) }
+    ensures fails { IsReporting Report.Trace writer.old writer.new result }
+{
+    match writer.write_all(page.as_bytes()) {
+        Ok(()) => {
+            page.clear();
+            Ok(())
+        }
+        Err(_) => Err(StreamFault::File),
+    }
+}
+
+/// Carries out the commands that are left of the play, in order, and writes the lines of all of them.
+fn write_lines<K: Kind, T: Listed, W: Write>(
     alloc: Global,
     world: &mut World<K, T>,
     follower: &mut Follower<T>,
     name: ObjectName,
-    play: PlayLines<'_>,
-) -> Result<String, AllocError>
+    mut play: PlayLines<'_>,
+    writer: &mut Device<W>,
+) -> Result<(), StreamFault>
+    requires works { has_failed writer.old ≡ false }
     requires behind { IsBehind (monitor_of K.rules T.meaning (state_of_view world.old).floor) T.PREDICATES
         follower.old.conds follower.old.replay (T.state follower.old.object) (state_of_view world.old).floor.history }
     requires few { length play.2 ≤ 2 ^ 25 }
-    ensures { IfOk result
-        (λ page. AreTraced name (monitor_of K.rules T.meaning (state_of_view world.old).floor) 0
-        (state_of_view world.old) play.entry.2 (state_of_view world.new) (string_bytes page)) }
+    ensures traced { OnOk result
+        ((text : List ℕ)
+        × (AreTraced name (monitor_of K.rules T.meaning (state_of_view world.old).floor) 0
+        (state_of_view world.old) play.entry.2 (state_of_view world.new) text
+        × Appends (W.contents (inner_of writer.old)) (W.contents (inner_of writer.new)) text)) }
+    ensures writing { IsReporting Report.Trace writer.old writer.new result }
 {
-    let mut play = play;
     let mut page = String::new(alloc);
     let mut number = 0;
     while let Some((seat, command)) = play.next() {
@@ -188,12 +214,15 @@ fn lines_of<K: Kind, T: Listed>(
             answer,
         };
         put_line(alloc, &mut page, &told, world, follower, name)?;
+        if page.len() >= PAGE {
+            write_page(&mut page, writer)?;
+        }
     }
-    Ok(page)
+    write_page(&mut page, writer)
 }
 
-/// Carries out the commands of the play in order, and writes the lines of all of them. The world hasn't
-/// begun, and the object equals the world's own.
+/// Carries out the commands of the play in order, and writes their lines. The world hasn't begun, and the object equals
+/// the world's own.
 pub(crate) fn put_trace<K: Kind, T: Listed, W: Write>(
     alloc: Global,
     world: &mut World<K, T>,
@@ -210,7 +239,7 @@ pub(crate) fn put_trace<K: Kind, T: Listed, W: Write>(
         (monitor K.rules play.entry.0.seats play.entry.0.conds T.meaning (T.state object)) 0
         (state_of_view world.old) play.entry.2 (state_of_view world.new) text
         × Appends (W.contents (inner_of writer.old)) (W.contents (inner_of writer.new)) text)) }
-    ensures writing { IsWriting writer.old writer.new result }
+    ensures writing { IsReporting Report.Trace writer.old writer.new result }
 {
     let header = play.header();
     let (seats, conds) = (header.seats(), header.conds());
@@ -220,9 +249,5 @@ pub(crate) fn put_trace<K: Kind, T: Listed, W: Write>(
         object,
         conds,
     };
-    let page = lines_of(alloc, world, &mut follower, header.object(), play)?;
-    match writer.write_all(page.as_bytes()) {
-        Ok(()) => Ok(()),
-        Err(_) => Err(StreamFault::File),
-    }
+    write_lines(alloc, world, &mut follower, header.object(), play, writer)
 }

@@ -6,7 +6,7 @@ ghost use Rattle.monk_history.specs.Text.{Heading};
 ghost use Rattle.monk_history.specs.Text.Device.{inner_of, has_failed};
 ghost use Rattle.monk_world.specs.declared.command.Command.{Command};
 ghost use Rattle.monk_commands.specs.Played.{IsAnswerTo, IsPlayOf, IsPlayText};
-ghost use Rattle.monk_commands.specs.Streams.{IsStreamOutcome};
+ghost use Rattle.monk_commands.specs.Streams.{IsPassingOn};
 ghost use Rattle.monk_commands.specs.Traced.{IsTraced};
 
 use crate::fault::StreamFault;
@@ -34,12 +34,12 @@ use std::io::{Read, Write};
 ///
 /// # Errors
 ///
-/// The errors of [`play_stream`](crate::play_stream).
+/// The errors of [`play_stream`](crate::play_stream). Lines may have been written by then.
 ///
 /// # Cost
 ///
 /// The cost of [`play_stream`](crate::play_stream), and for each command a line with the place of each seat, for
-/// which each queue is searched. Memory for all lines and for the queues, in addition to the play's.
+/// which each queue is searched. Memory for 64 KiB of lines and for the queues, in addition to the play's.
 pub fn trace_stream<R: Read, W: Write>(
     alloc: Global,
     reader: &mut Device<R>,
@@ -62,7 +62,7 @@ pub fn trace_stream<R: Read, W: Write>(
         (λ input. (h : Heading) (budget : ℕ) (commands : List (ℕ × Command)) → IsPlayOf input h budget commands
         → IsTraced h budget commands (Appends (W.contents (inner_of writer.old)) (W.contents (inner_of writer.new))))) }
     ensures statuses { IfOk result (λ status. (status ≡ 0) ⊎ (status ≡ 2)) }
-    ensures outcome { IsStreamOutcome R.remaining reader.old reader.new writer.old writer.new result }
+    ensures outcome { IsPassingOn R.remaining reader.old reader.new writer.new result }
 {
     let bytes = read_all(alloc, reader)?;
     play_text(alloc, Report::Trace, bytes, writer)

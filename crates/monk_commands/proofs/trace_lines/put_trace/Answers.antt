@@ -9,8 +9,8 @@ use Rattle.monk_floor.specs.View.{FloorView, monitor_of}
 use Rattle.monk_commands.specs.Following.{IsBehind}
 use Rattle.monk_commands.proofs.trace_lines.put_trace.Goals as goal
 
-pub lines_of-requires-clause-behind : goal.lines_of-requires-clause-behind
-lines_of-requires-clause-behind g c κs within =
+pub write_lines-requires-clause-behind : goal.write_lines-requires-clause-behind
+write_lines-requires-clause-behind g c κs within =
     let k = g.K.Kind.rules in
     let o = g.T.Guarded.meaning in
     let opening = g.T.Guarded.state c.args.object in
