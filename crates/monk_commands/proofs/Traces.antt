@@ -44,34 +44,22 @@ pub record IsOnItsWay (before now : Option (List ℕ)) (page : List ℕ) (Left A
   pub got : Appends before now gone
   pub on : (last : State) (rest : List ℕ) → Left last rest → All last (gone ++ (page ++ rest))
 
--- a line comes on the page
-pub grows : (before now : Option (List ℕ)) (page more line : List ℕ) (Left After All : Tracing)
+-- a line comes on the page, and of that a part is written
+pub goes_on : (before now later : Option (List ℕ)) (page more sent left line : List ℕ) (Left After All : Tracing)
     → IsOnItsWay before now page Left All → more ≡ page ++ line
     → ((last : State) (rest : List ℕ) → After last rest → Left last (line ++ rest))
-    → IsOnItsWay before now more After All
-grows before now page more line Left After All way is on =
+    → Appends now later sent → more ≡ sent ++ left → IsOnItsWay before later left After All
+goes_on before now later page more sent left line Left After All way is on appends parts =
     record {
-      gone = way.gone;
-      got = way.got;
-      on = λ last rest are.
-          subst (λ (text : List ℕ). All last (way.gone ++ text))
-          (sym (ap (λ (text : List ℕ). text ++ rest) is ∙ append_assoc page line rest))
-          (way.on last (line ++ rest) (on last rest are));
-    }
-
--- the page is written, and is empty then
-pub sends : (before now later : Option (List ℕ)) (page empty : List ℕ) (Left All : Tracing)
-    → IsOnItsWay before now page Left All → Appends now later page → empty ≡ []
-    → IsOnItsWay before later empty Left All
-sends before now later page empty Left All way appends is =
-    record {
-      gone = way.gone ++ page;
-      got = Appends-trans before now later way.gone page way.got appends;
+      gone = way.gone ++ sent;
+      got = Appends-trans before now later way.gone sent way.got appends;
       on = λ last rest are.
           subst (λ (text : List ℕ). All last text)
-          (sym (append_assoc way.gone page rest)
-          ∙ ap (λ (front : List ℕ). (way.gone ++ page) ++ (front ++ rest)) (sym is))
-          (way.on last rest are);
+          (ap (λ (text : List ℕ). way.gone ++ text)
+          (sym (append_assoc page line rest) ∙ ap (λ (text : List ℕ). text ++ rest) (sym is ∙ parts)
+          ∙ append_assoc sent left rest)
+          ∙ sym (append_assoc way.gone sent (left ++ rest)))
+          (way.on last (line ++ rest) (on last rest are));
     }
 
 -- if no command is left, what was written and the page are all lines

@@ -110,7 +110,7 @@ impl Task<'_> {
         ensures statuses { IfOk result (λ status. status ≤ 2) }
         ensures outcome { IsPassingOn R.remaining reader.old reader.new writer.new result }
         // All but a trace write nothing if a request for memory is refused.
-        ensures whole { (self ≡ Task.Trace → ⊥) → IsErrOf result Memory → writer.new ≡ writer.old }
+        ensures whole { (self.entry ≡ Task.Trace → ⊥) → IsErrOf result Memory → writer.new ≡ writer.old }
     {
         match self {
             Task::Audit => audit_stream(alloc, reader, writer),

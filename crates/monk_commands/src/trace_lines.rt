@@ -182,6 +182,24 @@ fn write_page<W: Write>(page: &mut String, writer: &mut Device<W>) -> Result<(),
     }
 }
 
+/// Writes what is on the page if that is full.
+fn write_full_page<W: Write>(
+    page: &mut String,
+    writer: &mut Device<W>,
+) -> Result<(), StreamFault>
+    requires { has_failed writer.old ≡ false }
+    ensures written { OnOk result
+        ((gone : List ℕ) × (Appends (W.contents (inner_of writer.old)) (W.contents (inner_of writer.new)) gone
+        × (string_bytes page.old ≡ gone ++ string_bytes page.new))) }
+    ensures works { OnOk result (has_failed writer.new ≡ false) }
+    ensures fails { IsReporting Report.Trace writer.old writer.new result }
+{
+    if page.len() < PAGE {
+        return Ok(());
+    }
+    write_page(page, writer)
+}
+
 /// Carries out the commands that are left of the play, in order, and writes the lines of all of them.
 fn write_lines<K: Kind, T: Listed, W: Write>(
     alloc: Global,
@@ -214,9 +232,7 @@ fn write_lines<K: Kind, T: Listed, W: Write>(
             answer,
         };
         put_line(alloc, &mut page, &told, world, follower, name)?;
-        if page.len() >= PAGE {
-            write_page(&mut page, writer)?;
-        }
+        write_full_page(&mut page, writer)?;
     }
     write_page(&mut page, writer)
 }

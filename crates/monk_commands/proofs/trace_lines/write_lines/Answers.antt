@@ -1,18 +1,21 @@
-use Rattle.std.proofs.Common.{◌≡◌, ◌∙◌, ℕ, ◌+◌, ◌++◌, List, [], length, sym, ap, subst, append_assoc, arith}
+use Rattle.std.proofs.Common.{◌≡◌, ◌∙◌, ℕ, ◌+◌, ◌++◌, List, [], length, ap, arith}
+use Rattle.std.proofs.lemmas.Result.{on_ok_weaker}
 use Rattle.std.specs.Prelude.{string_bytes}
 use Rattle.monk_history.specs.Meaning.Monitor.{Monitor, monitor}
 use Rattle.monk_history.specs.Meaning.Situation.{situation}
+use Rattle.monk_history.specs.Text.Device.{inner_of}
 use Rattle.monk_floor.specs.View.{monitor_of}
 use Rattle.monk_world.specs.WorldViews.{state_of_view}
 use Rattle.monk_world.specs.declared.command.Command.{Command}
 use Rattle.monk_commands.specs.Traced.{AreTraced, trace_line}
-use Rattle.monk_commands.proofs.Traces.{traced_all, traced_on}
-use Rattle.monk_commands.proofs.trace_lines.lines_of.Goals as goal
+use Rattle.monk_commands.proofs.Traces.{goes_on, traced_all, traced_on}
+use Rattle.monk_commands.proofs.trace_lines.write_lines.Goals as goal
 
 pub loop-seat-preserved : goal.loop-seat-preserved
 loop-seat-preserved g c =
     let k = g.K.Kind.rules in
     let o = g.T.Guarded.meaning in
+    let contents = g.W.Write.contents in
     let name = c.args.name in
     let first = state_of_view c.args.world.now in
     let here = state_of_view c.loop-seat.world in
@@ -29,13 +32,19 @@ loop-seat-preserved g c =
     let line = trace_line name m (before + 1) told answer next (situation m next.floor.history) in
     let put = c.in_ok-put_line.ensures
     ∙ (λ i. page ++ trace_line name (monitor k 0 (conds i) o []) (before + 1) told answer next (stands i)) in
+    let written = c.in_ok-write_full_page.ensures.written in
     record {
-      traced = λ last rest are.
-          subst (λ (text : List ℕ). AreTraced name m 0 first c.args.play.2 last text)
-          (sym (ap (λ (text : List ℕ). text ++ rest) put ∙ append_assoc page line rest))
-          (c.loop-seat.invariant.traced last (line ++ rest)
-          (traced_on name m before here c.loop-seat.play.2 c.next.new.self.2 told answer next last rest
-          c.in-Some.ensures.command stepped.step are));
+      works = c.in_ok-write_full_page.ensures.works;
+      way =
+          goes_on (contents (inner_of c.args.writer.now)) (contents (inner_of c.loop-seat.writer))
+              (contents (inner_of c.write_full_page.new.writer)) page (string_bytes c.put_line.new.page) written.0
+              (string_bytes c.write_full_page.new.page) line (AreTraced name m before here c.loop-seat.play.2)
+              (AreTraced name m (before + 1) next c.next.new.self.2) (AreTraced name m 0 first c.args.play.2)
+              c.loop-seat.invariant.way put
+              (λ last rest are.
+              traced_on name m before here c.loop-seat.play.2 c.next.new.self.2 told answer next last rest
+              c.in-Some.ensures.command stepped.step are)
+              written.1.0 written.1.1;
       few =
           omega (
             arith,
@@ -46,9 +55,14 @@ loop-seat-preserved g c =
       behind = stepped.behind;
     }
 
-pub returns : goal.returns
-returns g c =
+pub returns-clause-traced : goal.returns-clause-traced
+returns-clause-traced g c =
+    let contents = g.W.Write.contents in
     let first = state_of_view c.args.world.now in
-    traced_all c.args.name (monitor_of g.K.Kind.rules g.T.Guarded.meaning first.floor) c.loop-seat.number first
-    (state_of_view c.loop-seat.world) c.args.play.2 c.loop-seat.play.2 (string_bytes c.loop-seat.page)
-    c.in_default.ensures.command (c.loop-seat.invariant.traced (state_of_view c.loop-seat.world))
+    let m = monitor_of g.K.Kind.rules g.T.Guarded.meaning first.floor in
+    on_ok_weaker c.write_page.result
+    (traced_all c.args.name m c.loop-seat.number (state_of_view c.loop-seat.world) c.loop-seat.play.2
+    (contents (inner_of c.args.writer.now)) (contents (inner_of c.loop-seat.writer))
+    (contents (inner_of c.write_page.new.writer)) (string_bytes c.loop-seat.page)
+    (AreTraced c.args.name m 0 first c.args.play.2) c.in_default.ensures.command c.loop-seat.invariant.way)
+    c.write_page.ensures.written
