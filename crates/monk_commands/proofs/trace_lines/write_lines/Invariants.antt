@@ -1,4 +1,4 @@
-use Rattle.std.proofs.Common.{◌≡◌, ◌≤◌, ◌+◌, ◌^◌, ℕ, List, length}
+use Rattle.std.proofs.Common.{◌≡◌, ◌≤◌, ◌+◌, ◌^◌, length}
 use Rattle.std.specs.Prelude.{false, string_bytes}
 use Rattle.monk_history.specs.Text.Device.{has_failed, inner_of}
 use Rattle.monk_floor.specs.View.{monitor_of}
