@@ -68,8 +68,8 @@ pub traced_all : (name : ObjectName) (m : Monitor) (before : ℕ) (last : State)
     → left ≡ [] → IsOnItsWay start now page (AreTraced name m before last left) All → Appends now later page
     → (text : List ℕ) × (All last text × Appends start later text)
 traced_all name m before last left start now later page All none way appends =
-    let none_left = subst (λ (l : List (ℕ × Command)). AreTraced name m before last l last []) (sym none) (refl, refl) in
-    (
+    let none_left : AreTraced name m before last left last [] =
+    subst (λ (l : List (ℕ × Command)). AreTraced name m before last l last []) (sym none) (refl, refl) in (
       way.gone ++ page,
       (
         subst (λ (text : List ℕ). All last (way.gone ++ text)) (append-nil page) (way.on last [] none_left),

@@ -46,7 +46,8 @@ pub record IsWriting {W T : Type 0} (old new : Device W) (result : Result T Stre
   pub memory : IsErrOf result Memory → new ≡ old
 
 -- the same of a report: only one that is written as a whole promises that nothing was written if there is no memory
-pub record IsReporting {W T : Type 0} (report : Report) (old new : Device W) (result : Result T StreamFault) : Type 0 where
+pub record IsReporting {W T : Type 0} (report : Report) (old new : Device W) (result : Result T StreamFault)
+    : Type 0 where
   pub file : IsErrOf result File → has_failed new ≡ true
   pub memory : IsErrOf result Memory → has_failed new ≡ false
   pub whole : report ≡ History → IsErrOf result Memory → new ≡ old

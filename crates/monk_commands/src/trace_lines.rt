@@ -1,6 +1,6 @@
 //! The lines of a trace: one for each command of a play, with where all seats are after it.
 
-ghost use Rattle.std.specs.Prelude.{◌≡◌, ◌<◌, ◌≤◌, ◌^◌, ◌++◌, false, All, IfOk, OnOk, ℕ, List, [], length};
+ghost use Rattle.std.specs.Prelude.{◌≡◌, ◌<◌, ◌≤◌, ◌^◌, ◌++◌, false, All, OnOk, ℕ, List, [], length};
 ghost use Rattle.std.specs.Prelude.{string_bytes};
 ghost use Rattle.std.specs.Io.KnownBytes.{Appends};
 ghost use Rattle.monk_history.specs.Text.Device.{inner_of, has_failed};
@@ -183,10 +183,7 @@ fn write_page<W: Write>(page: &mut String, writer: &mut Device<W>) -> Result<(),
 }
 
 /// Writes what is on the page if that is full.
-fn write_full_page<W: Write>(
-    page: &mut String,
-    writer: &mut Device<W>,
-) -> Result<(), StreamFault>
+fn write_full_page<W: Write>(page: &mut String, writer: &mut Device<W>) -> Result<(), StreamFault>
     requires { has_failed writer.old ≡ false }
     ensures written { OnOk result
         ((gone : List ℕ) × (Appends (W.contents (inner_of writer.old)) (W.contents (inner_of writer.new)) gone

@@ -37,14 +37,14 @@ loop-seat-preserved g c =
       works = c.in_ok-write_full_page.ensures.works;
       way =
           goes_on (contents (inner_of c.args.writer.now)) (contents (inner_of c.loop-seat.writer))
-              (contents (inner_of c.write_full_page.new.writer)) page (string_bytes c.put_line.new.page) written.0
-              (string_bytes c.write_full_page.new.page) line (AreTraced name m before here c.loop-seat.play.2)
-              (AreTraced name m (before + 1) next c.next.new.self.2) (AreTraced name m 0 first c.args.play.2)
-              c.loop-seat.invariant.way put
-              (λ last rest are.
-              traced_on name m before here c.loop-seat.play.2 c.next.new.self.2 told answer next last rest
-              c.in-Some.ensures.command stepped.step are)
-              written.1.0 written.1.1;
+          (contents (inner_of c.write_full_page.new.writer)) page (string_bytes c.put_line.new.page) written.0
+          (string_bytes c.write_full_page.new.page) line (AreTraced name m before here c.loop-seat.play.2)
+          (AreTraced name m (before + 1) next c.next.new.self.2) (AreTraced name m 0 first c.args.play.2)
+          c.loop-seat.invariant.way put
+          (λ last rest are.
+          traced_on name m before here c.loop-seat.play.2 c.next.new.self.2 told answer next last rest
+          c.in-Some.ensures.command stepped.step are)
+          written.1.0 written.1.1;
       few =
           omega (
             arith,

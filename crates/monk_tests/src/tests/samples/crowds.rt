@@ -51,7 +51,11 @@ fn works<K: Style, R: Wait>(
     requires { IsSeat hall.now.id pass }
 {
     let putters = seats / 2;
-    let times = if pass.seat() % 2 == 0 { putters } else { seats - putters };
+    let times = if pass.seat() % 2 == 0 {
+        putters
+    } else {
+        seats - putters
+    };
     for _ in 0..times {
         match trades(pass, rt, hall) {
             Some(back) => pass = back,
