@@ -74,8 +74,11 @@ fn all_work<K: Style, R: Threads + Wait + Sync>(
 ) -> Result<bool, AllocError>
     requires { AreSeats hall.now.id passes.items }
 {
-    let works = thread::map_vec(rt, passes, &|pass| works(pass, rt, hall, seats))?;
-    Ok(works.iter().all(|works| *works))
+    let work = |pass: Pass<K, Buffer>| -> bool
+        requires { IsSeat hall.now.id pass }
+    { works(pass, rt, hall, seats) };
+    let worked = thread::map_vec(rt, passes, &work)?;
+    Ok(worked.iter().all(|worked| *worked))
 }
 
 /// Whether such a crowd trades over a buffer with room for one item.
