@@ -1,6 +1,7 @@
-/* A library behind the layer or the recorder: calls of the system that FAILS names go wrong. FAILS=CALL:ERROR:FIRST:EVERY:
-   of the calls that write into files (`write`), open (`open`) or close them (`close`), the FIRST goes wrong, and each
-   EVERY-th after it. With error 0 a part of the bytes is written. A file is closed before its closing fails. */
+/* A library behind the layer or the recorder: calls of the system that FAILS names go wrong. FAILS is
+   CALL:ERROR:FIRST:EVERY. Of the calls that write into files (`write`), open (`open`) or close them (`close`), the
+   FIRST goes wrong, and each EVERY-th after it. With error 0 a part of the bytes is written. A file is closed before
+   its closing fails. */
 #define _GNU_SOURCE
 #include <dlfcn.h>
 #include <errno.h>
