@@ -21,16 +21,13 @@ static _Atomic int watcher_lock;            /* taken while the watcher begins or
 /* Whether the process ends after this, or the program goes on. */
 enum { GOES_ON, IS_LAST };
 
-/* A thread that was cancelled doesn't end here. */
+/* (A thread that was cancelled doesn't end here: nothing in it is a point at which it would.) */
 static void finish(const char *why, int is_last) {
-    int may_end;
     if (is_in_parent() || atomic_exchange(&is_ending, 1)) return;
-    pthread_setcancelstate(PTHREAD_CANCEL_DISABLE, &may_end);
     turns.ahead = 0; /* the library's limits go by the system's clock */
     save_all(why, is_last);
     tell_lost("histories and reports");
     is_written = 1;
-    pthread_setcancelstate(may_end, NULL);
 }
 
 /* ---- If a program is ended from here, its children are ended with it */

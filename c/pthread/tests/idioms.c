@@ -110,8 +110,9 @@ static void *exit_at_once(void *unused) {
 
 /* Its end isn't a point at which a cancelled thread ends. */
 static void cancelled_at_once(void) {
-    CHECK(pthread_detach(begun(post, &box)) == 0);
+    pthread_t thread = begun(post, &box);
     take_one();
+    result_of(thread);
     CHECK(pthread_cancel(pthread_self()) == 0);
     _exit(AT_ONCE);
 }

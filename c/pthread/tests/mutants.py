@@ -148,10 +148,10 @@ MUTANTS: Dict[str, Mutant] = {
         "    if (it->how == MORE || (",
         "    if ((",
         ("outputs",)),
-    "a cancelled thread doesn't write to the end": Mutant(
-        "layer_ends.h",
-        "    pthread_setcancelstate(PTHREAD_CANCEL_DISABLE, &may_end);\n",
-        "    pthread_setcancelstate(PTHREAD_CANCEL_ENABLE, &may_end);\n",
+    "a cancelled thread ends as it writes": Mutant(
+        "monk_outputs.h",
+        "    long wrote = syscall(SYS_write, file, text, length);\n",
+        "    long wrote = write(file, text, length);\n",
         ("outputs",)),
     "lost files don't change the status": Mutant(
         "libmonk_pthread.c",
