@@ -112,8 +112,8 @@ static int close_output(struct output *it) {
 /* Says once what is lost. */
 static void tell_lost(const char *what) {
     if (outputs.lost && !atomic_exchange(&outputs.is_told, 1))
-        say("monk: %d of %d files of %s couldn't be written; the first is %s: %s\n", outputs.lost, outputs.wanted, what,
-            outputs.first, strerror(outputs.error));
+        say("monk: %d of %d files of %s couldn't be written; the first is %s: %s; make room, or name another place\n",
+            outputs.lost, outputs.wanted, what, outputs.first, strerror(outputs.error));
 }
 
 static void forget_outputs(void) { memset(&outputs, 0, sizeof outputs); }

@@ -35,7 +35,8 @@ FAULTS = (
 
 
 def told(lost: Tuple[int, int], what: str, first: str, why: str) -> str:
-    return f"monk: {lost[0]} of {lost[1]} files of {what} couldn't be written; the first is {first}: {why}\n"
+    advice = "make room, or name another place"
+    return f"monk: {lost[0]} of {lost[1]} files of {what} couldn't be written; the first is {first}: {why}; {advice}\n"
 
 
 def files_in(folder: str) -> List[str]:
