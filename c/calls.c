@@ -289,11 +289,18 @@ static int leave_for(monk_seat *s, unsigned flag) {
     return done(end(s, flag < s->monitor->flag_count ? go_out(s) : MONK_RANGE));
 }
 
+/* One call: no other by the seat comes in between. */
+static int signal_and_go(monk_seat *s, unsigned condition) {
+    int r = begin(&s);
+    if (r) return r;
+    r = signal_on(s, condition);
+    if (r == MONK_WAITING) r = come_in(s, NULL);
+    return done(end(s, r == MONK_INSIDE ? go_out(s) : r));
+}
+
 int monk_finish(monk_seat *s, unsigned n) {
     if (!s) return MONK_RANGE;
     int mode = monk_mode_of(seat_of(s)->monitor->kind);
     if (mode == MONK_IMMEDIATE_RETURN) return monk_signal_leave(s, n);
-    if (mode == MONK_AUTOMATIC) return leave_for(s, n);
-    int r = monk_signal(s, n);
-    return r ? r : monk_leave(s);
+    return mode == MONK_AUTOMATIC ? leave_for(s, n) : signal_and_go(s, n);
 }

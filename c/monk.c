@@ -244,16 +244,6 @@ int monk_history(monk_monitor *m, monk_seat *by, char **text, size_t *length) {
     return r;
 }
 
-int monk_save(monk_monitor *m, monk_seat *by, FILE *to) {
-    char *text;
-    size_t length;
-    int r = to ? monk_history(m, by, &text, &length) : MONK_RANGE;
-    if (r) return r;
-    if (fwrite(text, 1, length, to) != length || fflush(to)) r = MONK_IO;
-    free(text);
-    return r;
-}
-
 /* ---- Closing and freeing */
 
 /* The last visit. Everybody is outside, so the monitor is free, and the seat comes in at once. It stays: nobody

@@ -253,7 +253,8 @@ int monk_enter_within(monk_seat *s, long milliseconds);
 /* Puts the text into memory, with a 0 at the end that *length doesn't count; free() it. */
 int monk_history(monk_monitor *m, monk_seat *by, char **text, size_t *length);
 
-/* Writes the text to a stream. MONK_IO if that fails. */
+/* Writes the text to a stream, and flushes it. MONK_IO if that fails: a part may be written then, and errno says why.
+ * It is EINTR if a handler without SA_RESTART ran while the stream blocked. */
 int monk_save(monk_monitor *m, monk_seat *by, FILE *to);
 
 #ifdef __cplusplus

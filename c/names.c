@@ -1,5 +1,8 @@
-/* names.c - the words of monk.h: kinds, modes, answers, the version. The library and the reference share them. */
+/* names.c - the words of monk.h: kinds, modes, answers, the version; and how a history is written to a stream. The
+ * library and the reference share them. */
 #include "monk.h"
+#include <errno.h>
+#include <stdlib.h>
 #include <string.h>
 
 static const struct {
@@ -46,3 +49,15 @@ const char *monk_strerror(int answer) {
 }
 
 uint32_t monk_version(void) { return MONK_VERSION; }
+
+int monk_save(monk_monitor *m, monk_seat *by, FILE *to) {
+    char *text;
+    size_t length;
+    int r = to ? monk_history(m, by, &text, &length) : MONK_RANGE;
+    if (r) return r;
+    if (fwrite(text, 1, length, to) != length || fflush(to)) r = MONK_IO;
+    int error = errno;
+    free(text);
+    errno = error;
+    return r;
+}

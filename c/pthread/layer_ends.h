@@ -21,11 +21,12 @@ static _Atomic int watcher_lock;            /* taken while the watcher begins or
 /* Whether the process ends after this, or the program goes on. */
 enum { GOES_ON, IS_LAST };
 
+/* (A thread that was cancelled doesn't end here: nothing in it is a point at which it would.) */
 static void finish(const char *why, int is_last) {
     if (is_in_parent() || atomic_exchange(&is_ending, 1)) return;
     turns.ahead = 0; /* the library's limits go by the system's clock */
     save_all(why, is_last);
-    are_written();
+    tell_lost("histories and reports");
     is_written = 1;
 }
 
@@ -62,7 +63,7 @@ static void refuse(const char *format, ...) {
     vsnprintf(line, sizeof line, format, words);
     va_end(words);
     if (!is_ending && !atomic_exchange(&is_told, 1)) {
-        write_line(STDERR_FILENO, "monk: %s\n", line);
+        say("monk: %s\n", line);
         finish("cant", IS_LAST);
         end_children_of(getpid());
         end_now(STATUS_CANT);
@@ -344,6 +345,7 @@ static void in_child(void) {
     every_monitor = NULL;
     is_ending = is_written = ending_signal = is_watched = has_watcher = 0;
     ended_volumes = ended_timeouts = ended_outside = 0;
+    forget_outputs();
     serials = 0;
     for (struct thread *t = every_thread; t; t = t->next) t->has_ended = t != me;
     if (me) me->id = (pid_t)syscall(SYS_gettid);

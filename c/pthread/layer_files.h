@@ -47,17 +47,20 @@ static void tell_monitor(struct output *file, struct monitor *m) {
 
 /* ---- Histories: DIR/MONITOR.VOLUME, and beside them DIR/MONITOR.names */
 
-static void open_history(struct output *it, struct monitor *m, const char *ending, int how) {
+static void open_history(struct output *it, struct monitor *m, const char *ending, enum opening how) {
     mkdir(asked.history, 0755);
-    snprintf(it->path, sizeof it->path, "%s/%d.%s", asked.history, m->serial, ending);
+    snprintf(it->name, sizeof it->name, "%s/%d.%s", asked.history, m->serial, ending);
     open_output(it, how);
 }
 
-/* The names are written in parts. */
-static void open_names(struct output *it, struct monitor *m) {
-    open_history(it, m, "names", m->has_names ? O_APPEND : O_EXCL);
-    m->has_names |= it->file != NO_FILE;
+/* The names are written in parts, unless one was lost. */
+static int open_names(struct output *it, struct monitor *m) {
+    if (!asked.history || m->names == LOST_NAMES) return 0;
+    open_history(it, m, "names", m->names == HAS_NAMES ? MORE : NEW);
+    return 1;
 }
+
+static void close_names(struct output *it, struct monitor *m) { m->names = close_output(it) ? HAS_NAMES : LOST_NAMES; }
 
 /* How many seats and conditions were used, so that pictures have no empty lanes. One event of the steward may be the
    look. */
@@ -92,10 +95,10 @@ static void write_volume(struct monitor *m, struct hall *h, int is_look, struct 
     struct output file;
     char volume[16];
     snprintf(volume, sizeof volume, "%u", h->volume);
-    open_history(&file, m, volume, O_EXCL);
+    open_history(&file, m, volume, NEW);
     put_line(&file, "monk 3 %s %d %d flags 1", monk_kind_name(asked.kind), count_used_seats(h, is_look),
              count_used_conditions(m));
-    put(&file, events.first, events.length);
+    put_bytes(&file, events.first, events.length);
     close_output(&file);
 }
 
@@ -115,19 +118,17 @@ static int save_volume(struct monitor *m, struct hall *h, int n) {
 /* The seats whose waits were given up before this volume ended: the next one begins without them. */
 static void save_ghosts(struct monitor *m, uint32_t ghosts) {
     struct output file;
-    if (!asked.history || !ghosts) return;
-    open_names(&file, m);
+    if (!ghosts || !open_names(&file, m)) return;
     for (int n = 0; n < SEATS; n++)
         if (ghosts >> n & 1) put_line(&file, "ghost %d %ld %d\n", m->serial, m->volumes + 1, n);
-    close_output(&file);
+    close_names(&file, m);
 }
 
 static void save_names(struct monitor *m) {
     struct output file;
-    if (!asked.history) return;
-    open_names(&file, m);
+    if (!open_names(&file, m)) return;
     tell_monitor(&file, m);
-    close_output(&file);
+    close_names(&file, m);
 }
 
 #endif

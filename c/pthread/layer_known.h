@@ -2,7 +2,7 @@
 #ifndef LAYER_KNOWN_H
 #define LAYER_KNOWN_H
 
-#include "layer_outputs.h"
+#include "layer_settings.h"
 #include <limits.h>
 #include <linux/futex.h>
 #include <sched.h>
@@ -107,7 +107,7 @@ struct monitor {
     const void *_Atomic conditions[CONDITIONS];
     int serial, depth;
     const void *first_wait; /* where the first wait with it was called; null: none was */
-    int has_names;          /* whether this process began the file of its names */
+    enum { NO_NAMES, HAS_NAMES, LOST_NAMES } names; /* of the file that this process writes */
     _Atomic int has_stepped_down; /* its mutex is what it was: nobody uses it again */
     int transit;  /* seats that were served or signalled, and aren't back inside */
     int deferred; /* the condition that an immediate-return kind signals as it goes out, or NONE */

@@ -69,8 +69,8 @@ static void tell_end(struct output *file, const char *why) {
 static void save_report(const char *why) {
     struct output file;
     if (!asked.report) return;
-    strcpy(file.path, asked.report);
-    open_output(&file, O_TRUNC);
+    strcpy(file.name, asked.report);
+    open_output(&file, NAMED);
     tell_end(&file, why), tell_remarks(&file), tell_woken(&file), tell_turns(&file), tell_elsewhere(&file);
     tell_places(&file);
     tell_descents(&file);

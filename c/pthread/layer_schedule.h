@@ -126,8 +126,8 @@ static void read_schedule(void) {
 static void save_schedule(void) {
     struct output file;
     if (!asked.schedule) return;
-    snprintf(file.path, sizeof file.path, "%s", asked.schedule);
-    open_output(&file, O_EXCL);
+    snprintf(file.name, sizeof file.name, "%s", asked.schedule);
+    open_output(&file, NEW);
     put_line(&file, "monk schedule 1\n");
     for (int i = 0; i < schedule.count_made && !schedule.is_too_long; i++) {
         const struct change *it = &schedule.made[i];

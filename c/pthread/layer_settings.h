@@ -4,13 +4,9 @@
 
 #include "layer_real.h"
 #include "monk.h"
-#include <errno.h>
-#include <stdarg.h>
 #include <stdint.h>
 #include <stdlib.h>
-#include <string.h>
 #include <sys/stat.h>
-#include <unistd.h>
 
 enum {
     STATUS_LATE = 124 /* as of timeout(1) */,
@@ -18,9 +14,14 @@ enum {
     STATUS_LOADED = 3, /* what a process ends with that is started to see whether the layer is there */
     LONGEST_LINE = 1200,
     LONGEST_PATH = 500,
+    LONGEST_NAME = LONGEST_PATH + 32,
     A_THOUSAND = 1000,
     MOST_BUDGET = 1 << 20
 };
+
+#include "monk_outputs.h"
+
+static int standard_error(void) { return STDERR_FILENO; }
 
 /* How the layer mends a program, so that monk-try sees what would be right: each signal is a broadcast; or all who
    wait are woken when all sleep for ever. */
@@ -51,26 +52,13 @@ static pid_t process; /* whose files these are */
 /* A child of vfork runs in its parent's memory until it is another program. */
 static int is_in_parent(void) { return getpid() != process; }
 
-/* ---- Saying */
-
-__attribute__((format(printf, 2, 3))) static void write_line(int file, const char *format, ...) {
-    char line[LONGEST_LINE];
-    va_list words;
-    va_start(words, format);
-    int length = vsnprintf(line, sizeof line, format, words);
-    va_end(words);
-    if (length < 0) return;
-    size_t size = (size_t)length < sizeof line ? (size_t)length : sizeof line - 1;
-    if (real.write(file, line, size) < 0) return;
-}
-
 __attribute__((noreturn)) static void end_now(int status) {
     real.end(status);
     __builtin_unreachable();
 }
 
 __attribute__((noreturn)) static void refuse_setting(const char *name, const char *text, const char *what) {
-    write_line(STDERR_FILENO, "monk: %s=%s: %s\n", name, text, what);
+    say("monk: %s=%s: %s\n", name, text, what);
     end_now(STATUS_CANT);
 }
 

@@ -84,7 +84,7 @@ static int has_place(void) {
     static _Atomic int is_told;
     if (!asked.spurious_at || was_there || !is_owner() || used_by_children() > used_before) return 1;
     if (!atomic_exchange(&is_told, 1))
-        write_line(STDERR_FILENO, "monk: %s: no wait was called there\n", asked.spurious_at);
+        say("monk: %s: no wait was called there\n", asked.spurious_at);
     return 0;
 }
 

@@ -136,7 +136,7 @@ static void set_up(struct monitor *m, const void *mutex, struct hall *h, int ser
     m->deferred = m->inside = NONE;
     m->owner = NULL;
     m->first_wait = NULL;
-    m->has_names = 0;
+    m->names = NO_NAMES;
     m->free = (1u << NUMBERS) - 1;
     m->due = m->transit = m->has_pending = m->wants_renewal = 0;
     m->volumes = m->timeouts = m->passed_on = m->taken_over = m->outside = m->late_renewals = 0;

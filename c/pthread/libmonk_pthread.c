@@ -4,14 +4,14 @@
    monk-run has its options, docs/TRY.md says what it reports. A mutex becomes a monitor when a thread first waits on
    a condition with it; until then it is what it was. None of this is proved: the monitors below it are (monk.h).
 
-   The parts: layer_real.h, the system's functions; layer_settings.h, what is asked; layer_outputs.h, files that are
-   written; layer_known.h, threads, monitors and conditions; layer_shakes.h, what the dice do; layer_turns.h and
-   layer_schedule.h, runs that repeat; layer_start.h, what calls begin with; layer_numbers.h, seats; layer_queues.h, who
-   waits where; layer_remarks.h, uses that can't be meant; layer_files.h, histories and the report; layer_halls.h,
-   volumes of a monitor; layer_signals.h; layer_ghosts.h, seats without a thread; layer_visits.h, entering, leaving, and
-   how a mutex becomes a monitor; layer_waits.h; layer_elsewhere.h, where threads meet outside monitors; layer_report.h
-   and layer_ends.h, the ends of a run; layer_calls.h, layer_c11.h, layer_births.h and layer_elsewhere_calls.h, the
-   calls that programs make. */
+   The parts: layer_real.h, the system's functions; layer_settings.h, what is asked; monk_outputs.h (of the recorder),
+   files that are written; layer_known.h, threads, monitors and conditions; layer_shakes.h, what the dice do;
+   layer_turns.h and layer_schedule.h, runs that repeat; layer_start.h, what calls begin with; layer_numbers.h, seats;
+   layer_queues.h, who waits where; layer_remarks.h, uses that can't be meant; layer_files.h, histories and the report;
+   layer_halls.h, volumes of a monitor; layer_signals.h; layer_ghosts.h, seats without a thread; layer_visits.h,
+   entering, leaving, and how a mutex becomes a monitor; layer_waits.h; layer_elsewhere.h, where threads meet outside
+   monitors; layer_report.h and layer_ends.h, the ends of a run; layer_calls.h, layer_c11.h, layer_births.h and
+   layer_elsewhere_calls.h, the calls that programs make. */
 #define _GNU_SOURCE
 #include "layer_births.h"
 #include "layer_c11.h"
@@ -21,10 +21,7 @@
 /* ---- The beginning */
 
 /* Whether files are missing, or a place that was asked for. Else the status is the program's. */
-static int has_all(void) {
-    int are_all = are_written();
-    return has_place() && are_all;
-}
+static int has_all(void) { return has_place() && !outputs.lost; }
 
 /* The status says so; what the program printed is not lost. */
 __attribute__((destructor)) static void ended(void) {

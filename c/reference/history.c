@@ -106,13 +106,3 @@ int monk_history(monk_monitor *m, monk_seat *by, char **text, size_t *length) {
     monk_abandon(s);
     return r;
 }
-
-int monk_save(monk_monitor *m, monk_seat *by, FILE *to) {
-    char *text;
-    size_t length;
-    int r = to ? monk_history(m, by, &text, &length) : MONK_RANGE;
-    if (r) return r;
-    if (fwrite(text, 1, length, to) != length || fflush(to)) r = MONK_IO;
-    free(text);
-    return r;
-}

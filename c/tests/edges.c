@@ -1,7 +1,9 @@
 /* Where an error leaves something behind, as monk.h says; a wait whose descriptor is refused; and looks that fail. */
 #include "calls.h"
 #include <errno.h>
+#include <signal.h>
 #include <sys/resource.h>
+#include <sys/time.h>
 #include <unistd.h>
 
 enum { KINDS = MONK_NPIS + 1 };
@@ -11,11 +13,35 @@ static void saved_in_vain(int kind) {
     FILE *full = fopen("/dev/full", "w");
     begin(kind, 2, 0, 0, 100);
     OK(monk_give_seat(b)); b = NULL;
-    IS(monk_save(m, NULL, full), MONK_IO);
+    errno = 0;
+    IS(monk_save(m, NULL, full), MONK_IO); IS(errno, ENOSPC);
     IS(monk_save(m, NULL, NULL), MONK_RANGE);
     ENDS(NULL, "flags 1\nenter 1 free\nleave 1 entry\nenter 1 free\n");
     IS(monk_left(a), 100);
     fclose(full);
+    end();
+}
+
+static void nothing(int number) { (void)number; }
+
+/* A pipe that nobody reads, and a handler that lets no call go on. */
+static void saved_until_a_signal(void) {
+    struct sigaction interrupts = {.sa_handler = nothing};
+    struct itimerval soon = {.it_interval.tv_usec = 50000, .it_value.tv_usec = 50000}, never = {.it_value.tv_sec = 0};
+    int ends[2];
+    sigaction(SIGALRM, &interrupts, NULL);
+    IS(pipe(ends), 0);
+    FILE *pipe = fdopen(ends[1], "w");
+    begin(MONK_PB, 2, 0, 0, 7000);
+    for (int visit = 0; visit < 3000; visit++) { OK(monk_enter(a)); OK(monk_leave(a)); }
+    OK(monk_enter(a));
+    setitimer(ITIMER_REAL, &soon, NULL);
+    IS(monk_save(m, a, pipe), MONK_IO); IS(errno, EINTR);
+    setitimer(ITIMER_REAL, &never, NULL);
+    OK(monk_leave(a));
+    close(ends[0]);
+    signal(SIGPIPE, SIG_IGN);
+    fclose(pipe);
     end();
 }
 
@@ -62,7 +88,7 @@ static void without_descriptors(int kind) {
 
 int main(void) {
     for (int kind = MONK_PB; kind < KINDS; kind++) saved_in_vain(kind), without_descriptors(kind);
-    looked_in_vain(MONK_PB), looked_in_vain(MONK_NPIS);
+    looked_in_vain(MONK_PB), looked_in_vain(MONK_NPIS), saved_until_a_signal();
     printf("%d answers, %d wrong\n", made, failed);
     return failed != 0;
 }

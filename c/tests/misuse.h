@@ -10,7 +10,7 @@
 
 /* The kinds that have a call, and what its number is. */
 enum { ALL, SIGNALLING, NOT_AUTOMATIC, NON_BLOCKING, IMMEDIATE, AUTOMATIC };
-enum { NOTHING, TEXT, CONDITION, FLAG, EITHER, BITS, WISH };
+enum { NOTHING, TEXT, CONDITION, FLAG, EITHER, BITS, WISH, TIME };
 enum { ANYWHERE = 0, NOT_OUTSIDE = 4 };
 
 /* A call: the place from which it is made, the kinds that have it, its number, the events that must be left. */
@@ -21,7 +21,7 @@ enum { ANYWHERE = 0, NOT_OUTSIDE = 4 };
     CALL(give_seat, MONK_OUTSIDE, ALL, NOTHING, 0) \
     CALL(poll, MONK_WAITING, ALL, NOTHING, 0) \
     CALL(await, NOT_OUTSIDE, ALL, NOTHING, 0) \
-    CALL(await_until, NOT_OUTSIDE, ALL, NOTHING, 0) \
+    CALL(await_until, NOT_OUTSIDE, ALL, TIME, 0) \
     CALL(wait_fd, NOT_OUTSIDE, ALL, NOTHING, 0) \
     CALL(leave, MONK_INSIDE, ALL, NOTHING, 1) \
     CALL(wait, MONK_INSIDE, NOT_AUTOMATIC, CONDITION, 3) \
@@ -38,9 +38,11 @@ enum { ANYWHERE = 0, NOT_OUTSIDE = 4 };
     CALL(waiting, MONK_INSIDE, NOT_AUTOMATIC, CONDITION, 0) \
     CALL(flags, MONK_INSIDE, ALL, NOTHING, 0) \
     CALL(history, MONK_INSIDE, ALL, TEXT, 0) \
+    CALL(save, MONK_INSIDE, ALL, TEXT, 0) \
     CALL(pause, MONK_INSIDE, ALL, EITHER, 3) \
     CALL(finish, MONK_INSIDE, ALL, EITHER, 0) \
-    CALL(set_wish, ANYWHERE, ALL, WISH, 0)
+    CALL(set_wish, ANYWHERE, ALL, WISH, 0) \
+    CALL(abandon, ANYWHERE, ALL, NOTHING, 0)
 
 typedef struct call {
     const char *name;
@@ -85,8 +87,10 @@ static int is_of(int kind, int kinds) {
 /* Numbers that are out of range. */
 static const unsigned *wrong_numbers(int number) {
     static const unsigned conditions[] = {CONDITIONS, 99, 256, UINT32_MAX, 0}, bits[] = {4, 99, UINT32_MAX, 0},
-        wishes[] = {4, 99, 0}, none[] = {0};
-    return number <= TEXT ? none : number == BITS ? bits : number == WISH ? wishes : conditions;
+        wishes[] = {4, 99, 0},
+        times[] = {1, 2, 3, 0}, none[] = {0};
+    return number <= TEXT ? none : number == BITS ? bits : number == WISH ? wishes
+        : number == TIME ? times : conditions;
 }
 
 static unsigned needs_of(const call *c, int kind) {
@@ -137,6 +141,9 @@ static void with_few_events(const call *c, int kind) {
     arrange(kind, c->from, needs);
     refuses(c, kind, 0, MONK_SPENT, "too few events");
     if (*wrong_numbers(c->number)) refuses(c, kind, 99, MONK_RANGE, "out of range comes before too few events");
+    clear();
+    arrange(kind, c->from == MONK_OUTSIDE ? MONK_INSIDE : MONK_OUTSIDE, needs);
+    refuses(c, kind, 0, MONK_NOT_NOW, "another place comes before too few events");
     clear();
 }
 

@@ -80,7 +80,8 @@ def failed(words: str, stream: str, **how: Any) -> Answer:
 
 def failing() -> Iterator[Asked]:
     """Each command with a standard output that is closed or full, and each reader with a standard input that is closed,
-    or a folder."""
+    or a folder. A failure is told once and has its status, as with the files that C writes
+    (c/pthread/tests/outputs.py)."""
     with open("/dev/full", "wb") as full:
         for words in COMMANDS:
             yield f"{words} with standard output closed", FAILED, failed(words, "stdout", **closed(1))

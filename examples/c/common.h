@@ -79,7 +79,7 @@ static inline void finish_run(const char *path) {
         FILE *f = fopen(path, "w");
         if (!f) perror(path), exit(2);
         MUST(monk_save(monitor, NULL, f));
-        fclose(f);
+        if (fclose(f)) perror(path), exit(2);
     }
     MUST(monk_free(monitor));
 }

@@ -13,9 +13,10 @@
    MONK_SHAKE=SEED threads let others go first at random.
 
    The parts: monk_order.h, locks; monk_memory.h, what is known of an address; monk_sites.h, where in the program a
-   call is; monk_known.h, threads, mutexes and conditions; monk_lines.h, the lines; monk_holds.h, who holds
-   what; monk_outside.h, signals by threads that don't hold the mutex; monk_files.h and monk_ends.h, how all are
-   written at the end; monk_real.h, the system's functions; monk_shake.h. recorders/README.md says what the recorder can't see. */
+   call is; monk_known.h, threads, mutexes and conditions; monk_lines.h, the lines; monk_holds.h, who holds what;
+   monk_outside.h, signals by threads that don't hold the mutex; monk_files.h and monk_ends.h, how all are written at
+   the end; monk_outputs.h, files; monk_real.h, the system's functions; monk_shake.h. recorders/README.md says what the
+   recorder can't see. */
 #define _GNU_SOURCE
 #include "monk_ends.h"
 #include "monk_holds.h"

@@ -22,7 +22,7 @@ enum { RUNNING, WRITING, WRITTEN };
 static const char *why_no_log(const char *prefix, int waits) {
     if (!prefix)
         return "no log, since MONK_LOG isn't set";
-    if (told.error)
+    if (outputs.lost)
         return "no log, since none could be written";
     if (waits)
         return "no log, since those with waits have no lines";
@@ -31,16 +31,16 @@ static const char *why_no_log(const char *prefix, int waits) {
 }
 
 /* Adds to a line. */
-__attribute__((format(printf, 2, 3))) static void add(char line[LONGEST], const char *format, ...) {
+__attribute__((format(printf, 2, 3))) static void add(char line[LONGEST_LINE], const char *format, ...) {
     size_t length = strlen(line);
     va_list words;
     va_start(words, format);
-    vsnprintf(line + length, LONGEST - length, format, words);
+    vsnprintf(line + length, LONGEST_LINE - length, format, words);
     va_end(words);
 }
 
 static void say_last(const char *prefix, int waits) {
-    char line[LONGEST] = "";
+    char line[LONGEST_LINE] = "";
     if (is_child)
         add(line, "process %d: ", (int)this_process);
     add(line, "%d mutex%s, %d with waits, ", seen.mutexes, seen.mutexes == 1 ? "" : "es", waits);
@@ -114,33 +114,30 @@ static void write_all(void) {
     for (struct log *log = atomic_load(&all_logs); log; log = log->next)
         write_in_order(log, prefix);
     told.left_out += seen.left_out;
+    tell_lost("logs");
     say_last(prefix, waits);
 }
 
-/* A thread that comes second waits until the logs are written. Signals that the writing itself causes, by a full disk
-   or a reader that is gone, must not end the program. */
+/* A thread that comes second waits until the logs are written. One that was cancelled doesn't end here. */
 static void finish(void) {
-    int state = RUNNING;
+    int state = RUNNING, may_end;
     sigset_t all, before;
-    struct timespec now = {0, 0}, while_writing = {0, MILLISECOND};
+    struct timespec while_writing = {0, MILLISECOND};
     if (getpid() != this_process)
         return;
     sigfillset(&all);
     pthread_sigmask(SIG_SETMASK, &all, &before);
+    pthread_setcancelstate(PTHREAD_CANCEL_DISABLE, &may_end);
     if (atomic_compare_exchange_strong(&end_state, &state, WRITING)) {
         int error = errno;
         atomic_store(&closed, 1);
         write_all();
-        sigemptyset(&all);
-        sigaddset(&all, SIGPIPE);
-        sigaddset(&all, SIGXFSZ);
-        while (sigtimedwait(&all, 0, &now) > 0)
-            ;
         errno = error;
         atomic_store(&end_state, WRITTEN);
     }
     while (atomic_load(&end_state) != WRITTEN)
         nanosleep(&while_writing, 0);
+    pthread_setcancelstate(may_end, 0);
     pthread_sigmask(SIG_SETMASK, &before, 0);
 }
 
@@ -272,6 +269,7 @@ static void forked(void) {
     atomic_store(&all_logs, 0);
     idle_logs = 0;
     memset(&told, 0, sizeof told);
+    forget_outputs();
     memset(&seen, 0, sizeof seen);
     if (!me)
         return;

@@ -4,27 +4,23 @@
 #define MONK_FILES_H
 
 #include <dlfcn.h>
-#include <errno.h>
-#include <fcntl.h>
-#include <signal.h>
-#include <stdarg.h>
-#include <stdio.h>
 #include <stdlib.h>
 #include <sys/stat.h>
-#include <time.h>
 
 #include "monk_outside.h"
 
 enum {
     PREFIX = 4096,
-    NAME = PREFIX + 64,
+    LONGEST_NAME = PREFIX + 64,
     PAGE = 1 << 14,
-    LONGEST = 8192,         /* line that is written */
+    LONGEST_LINE = 8192,
     MILLISECOND = 1000000,  /* in nanoseconds */
     SECOND = 1000 * MILLISECOND,
     TO_SETTLE = 10,         /* milliseconds for lines that are being written when the program ends */
     HIGH_FILE = 200         /* the number of a file that no program asks for */
 };
+
+#include "monk_outputs.h"
 
 static const char *const verbs[] = {"enter", "resume", "lapse", "leave", "wait", "signal", "broadcast", "act"};
 
@@ -52,57 +48,35 @@ static void drop_errors(void) {
     errors.copy = -1;
 }
 
-__attribute__((format(printf, 1, 2))) static void say(const char *format, ...) {
-    char line[LONGEST];
-    int file = is_errors(STDERR_FILENO) ? STDERR_FILENO : errors.copy, length;
-    va_list words;
-    va_start(words, format);
-    length = vsnprintf(line, sizeof line, format, words);
-    va_end(words);
-    if (is_errors(file) && write(file, line, length < LONGEST ? length : LONGEST - 1) < 0)
-        return;
+static int standard_error(void) {
+    return is_errors(STDERR_FILENO) ? STDERR_FILENO : is_errors(errors.copy) ? errors.copy : NO_FILE;
 }
 
-/* ---- a file, of which whole lines are written */
+/* ---- a file, and lines that aren't in it yet */
 
 struct page {
-    int file, error;
-    off_t whole; /* what is in the file */
+    struct output to;
     size_t length;
     char text[PAGE];
 };
 
 static void flush(struct page *page) {
-    for (size_t at = 0; at < page->length && !page->error;) {
-        ssize_t wrote = write(page->file, page->text + at, page->length - at);
-        if (wrote < 0 && errno != EINTR)
-            page->error = errno;
-        else if (wrote > 0)
-            at += wrote;
-    }
-    if (!page->error)
-        page->whole += page->length;
+    put_bytes(&page->to, page->text, page->length);
     page->length = 0;
 }
 
 __attribute__((format(printf, 2, 3))) static void print(struct page *page, const char *format, ...) {
     va_list words;
-    if (page->length + LONGEST > PAGE)
+    if (page->length + LONGEST_LINE > PAGE)
         flush(page);
     va_start(words, format);
-    int length = vsnprintf(page->text + page->length, LONGEST, format, words);
+    page->length += format_line(page->text + page->length, LONGEST_LINE, format, words);
     va_end(words);
-    page->length += length < LONGEST ? length : LONGEST - 1;
 }
 
-/* Lines that were not written as a whole are removed again. */
-static void close_page(struct page *page, const char *name) {
+static int close_page(struct page *page) {
     flush(page);
-    if (page->error && (!page->whole || ftruncate(page->file, page->whole)))
-        unlink(name);
-    if (page->error)
-        say("monk: %s: %s; %s\n", name, strerror(page->error), page->whole ? "it ends early" : "it is left out");
-    close(page->file);
+    return close_output(&page->to);
 }
 
 /* ---- the names that are written beside a log */
@@ -149,18 +123,15 @@ static struct {
     int number, first, written, taken; /* of files; how many names there were already */
     int cut_by_threads, cut_by_conds, noted, left_out; /* signals from outside that are in logs, and that aren't */
     int unlocks;                                       /* of mutexes that other threads held */
-    int error;
 } told;
 
-/* A new file with the next free number; its name is left in `name`. */
-static int next_file(const char *prefix, char name[NAME]) {
-    int file;
+/* A new file with the next free number. */
+static void open_next(struct output *it, const char *prefix) {
     do {
-        snprintf(name, NAME, "%s.%d", prefix, ++told.number);
-        file = open(name, O_WRONLY | O_CREAT | O_EXCL | O_CLOEXEC, 0666);
-        told.taken += file < 0 && errno == EEXIST;
-    } while (file < 0 && errno == EEXIST);
-    return file;
+        snprintf(it->name, LONGEST_NAME, "%s.%d", prefix, ++told.number);
+        open_output(it, NEW);
+        told.taken += it->error == EEXIST;
+    } while (it->error == EEXIST);
 }
 
 static void put_text(struct page *page, const char *text) {
@@ -204,7 +175,7 @@ static void print_line(struct page *page, const uint32_t *at) {
 }
 
 static void visit_line(struct page *page, const uint32_t *at, visit *one) {
-    if (page->length + LONGEST > PAGE)
+    if (page->length + LONGEST_LINE > PAGE)
         flush(page);
     one(page, at);
 }
@@ -223,7 +194,7 @@ static size_t visit_outside(struct page *page, struct log *log, size_t from, siz
 
 static void visit_lines(struct page *page, struct log *log, visit *one) {
     size_t outside = 0;
-    for (size_t at = 0; at < log->end && !page->error;) {
+    for (size_t at = 0; at < log->end && !page->to.error;) {
         outside = visit_outside(page, log, outside, at, one);
         visit_line(page, log->words + at, one);
         at += verb_of(log->words[at]) == ACT ? WORDS_OF_ACT : 1;
@@ -278,13 +249,8 @@ static void print_sites(struct page *page, struct log *log) {
 
 static void write_names(struct log *log, const char *name) {
     static struct page page;
-    char beside[NAME + 8];
-    snprintf(beside, sizeof beside, "%s.names", name);
-    page = (struct page){.file = open(beside, O_WRONLY | O_CREAT | O_EXCL | O_CLOEXEC, 0666)};
-    if (page.file < 0) {
-        say("monk: %s: %s\n", beside, strerror(errno));
-        return;
-    }
+    snprintf(page.to.name, LONGEST_NAME, "%.*s.names", PREFIX + 32, name);
+    open_output(&page.to, NEW);
     print_known(&page, "mutex", &log->known);
     for (int i = 0; i < log->nconds; i++) {
         char what[32];
@@ -297,27 +263,17 @@ static void write_names(struct log *log, const char *name) {
     }
     print(&page, "ended %s\n", how_it_ended);
     print_sites(&page, log);
-    close_page(&page, beside);
+    close_page(&page);
 }
 
 static void write_log(struct log *log, const char *prefix) {
     static struct page page;
-    const char *object = getenv("MONK_OBJECT");
-    char name[NAME];
-    page = (struct page){.file = next_file(prefix, name)};
-    if (page.file < 0) {
-        if (!told.error)
-            say("monk: %s: %s\n", name, strerror(errno));
-        told.error = errno;
-        return;
-    }
+    const char *object = getenv("MONK_OBJECT"), *name = page.to.name;
+    open_next(&page.to, prefix);
     print(&page, "log 1 %d %d %s\n", log->nseats, log->nconds, object ? object : "buffer 1");
     log->end = log->length;
     visit_lines(&page, log, print_line);
-    close_page(&page, name);
-    if (page.error)
-        told.error = page.error;
-    if (!page.whole)
+    if (!close_page(&page))
         return;
     told.first = told.written++ ? told.first : told.number;
     write_names(log, name);

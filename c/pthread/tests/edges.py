@@ -1,10 +1,10 @@
-"""Tests of the layer where the system refuses: no room for files, a library that can't be loaded; and of a process whose
-first thread ends first."""
+"""Tests of the layer where the system refuses: a library that can't be loaded, more waiters than seats; and of a process
+whose first thread ends first."""
 import itertools
 import os
 import shutil
 import sys
-from typing import Any, Tuple
+from typing import Any
 
 from unasked import FEW, fail
 
@@ -20,28 +20,6 @@ def first_ends(tests: Any) -> str:
         if done.returncode or done.stdout != "leader: last words\n" or not tests.audited(folder)[0]:
             fail(f"{words}: status {done.returncode}: {done.stdout}{done.stderr}")
     return "its status and output"
-
-
-def outputs(tests: Any) -> str:
-    """Histories that can't be written: one sentence with their number, the status, and nothing else is changed."""
-    folder, target = os.path.join(tests.room, "outputs"), os.path.join(tests.room, "target")
-    told = "monk: 2 of 2 files of histories and reports couldn't be written; the first is "
-    program = " ".join(tests.words(("buffer", "right", "20")))
-    with open(target, "w") as file:
-        file.write("kept")
-    link = f"ln -s {target} {folder}/1.1 && ln -s {target} {folder}/1.names"
-    cases: Tuple[Tuple[str, str], ...] = (("ulimit -f 0", "File too large"), (link, "File exists"))
-    for before, why in cases:
-        shutil.rmtree(folder, ignore_errors=True)
-        done = tests.run("NPNB", "any", ["sh", "-c", f"{before}; exec {program}"], "--history", folder)
-        left = [name for name in os.listdir(folder) if not os.path.islink(os.path.join(folder, name))]
-        is_told = done.stderr.startswith(told) and done.stderr.endswith(f": {why}\n") and done.stderr.count("\n") == 1
-        if done.returncode != CANT or not is_told or done.stdout != "buffer: wrong 0\n" or left:
-            fail(f"outputs {before}: status {done.returncode}: {done.stdout}{done.stderr}{left}")
-    with open(target) as file:
-        if file.read() != "kept":
-            fail("outputs: a link's target was changed")
-    return f"{len(cases)} reasons, each told once"
 
 
 def unloaded(tests: Any) -> str:

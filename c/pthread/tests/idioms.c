@@ -108,6 +108,15 @@ static void *exit_at_once(void *unused) {
     return _exit(AT_ONCE), unused;
 }
 
+/* Its end isn't a point at which a cancelled thread ends. */
+static void cancelled_at_once(void) {
+    pthread_t thread = begun(post, &box);
+    take_one();
+    result_of(thread);
+    CHECK(pthread_cancel(pthread_self()) == 0);
+    _exit(AT_ONCE);
+}
+
 static void at_once(void) {
     begun(exit_at_once, NULL);
     wait_for_ever(NULL);
@@ -341,7 +350,7 @@ static void runs_out11(void) {
     DO(join_) DO(detach) DO(thread_exit) DO(main_exits_first) DO(exit_in_thread) DO(quick) DO(at_once) DO(aborts) \
     DO(killed) DO(at_exit) DO(cancel) DO(cancel_timed) DO(cancel_later) DO(cancel_at_any_time) DO(cleanup) \
     DO(destructor) DO(broadcast) DO(runs_out) DO(runs_out_by_clock) DO(at_most_once) DO(forks) DO(join11) DO(detach11) \
-    DO(runs_out11)
+    DO(runs_out11) DO(cancelled_at_once)
 #define ROW(name) {#name, name},
 
 static const struct {

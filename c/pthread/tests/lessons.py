@@ -1,4 +1,5 @@
-"""What monk-try has to say of runs by how they ended."""
+"""What monk-try has to say of runs by how they ended, and the table of TRY.md that says so."""
+import os
 import re
 from collections import Counter
 from typing import Dict, List, NamedTuple
@@ -15,6 +16,7 @@ class Case(NamedTuple):
     name: str
     unasked: str = ""        # how runs ended whose waits wake unasked, if there were any
     again: int = 6           # of six wrong runs that were repeated, so many went wrong again
+    unlocks: bool = False    # a thread ended inside
 
 
 CASES = (Case({"PB": OK, "NPNB": OK}, [], "right"),
@@ -36,7 +38,15 @@ CASES = (Case({"PB": OK, "NPNB": OK}, [], "right"),
          Case({"NPNB": OK, "PB": LATE}, [], "late", OK),
          Case({"NPNB": WRONG, "PB": OK}, [True, True], "seldom", again=2),
          Case({"NPNB": WRONG, "PB": OK}, [True, True], "broadcast", again=3),
-         Case({"NPNB": OK, "PB": HUNG}, [], "seldom", again=1))
+         Case({"NPNB": OK, "PB": HUNG}, [], "seldom", again=1),
+         Case({"PB": HUNG, "NPNB": HUNG}, [False, False], "unlock", unlocks=True))
+# Each row of that table, and the lesson's name.
+ROWS = {"all right": "right", "right under NPNB, wrong where waits wake unasked": "unasked",
+        "right under PB, wrong under PNB, NPNB": "if", "the same, but right with broadcasts": "broadcast",
+        "right under PNB, NPNB, wrong where a signal gives the monitor up (PB, NPB, PQB, NPQB)": "hand-over",
+        "hung, and a thread ended inside": "unlock", "wrong everywhere, right once all sleepers are woken": "signal",
+        "hangs, also if all are woken": "deadlock", "wrong under PB too": "hoare"}
+PAGE = os.path.join(os.path.dirname(os.path.abspath(__file__)), "..", "..", "..", "docs", "TRY.md")
 
 
 def told_of(case: Case) -> Lesson:
@@ -45,7 +55,15 @@ def told_of(case: Case) -> Lesson:
     unasked = [Cell("NPNB", "any", [Result(case.unasked, "", "")], UNASKED)] if case.unasked else []
     kind = next((cell.kind for cell in cells if cell.is_bad()), "")
     repeats = Repeats(kind, 6 if kind else 0, case.again if kind else 0, mended)
-    return lesson(Facts(cells, Counter({OK: 1}), repeats, [], True, Unasked(unasked)))
+    unlocks = ["thread 1 ended inside"] * case.unlocks
+    return lesson(Facts(cells, Counter({OK: 1}), repeats, unlocks, True, Unasked(unasked)))
+
+
+def table() -> List[str]:
+    """What was seen, by the rows of the page."""
+    with open(PAGE, encoding="utf-8") as file:
+        text = file.read().split("| What was seen | Lesson |\n|---|---|\n")[1]
+    return [row.split(" | ")[0].lstrip("| ") for row in text.split("\n\n")[0].splitlines()]
 
 
 def first_wrong_lesson() -> str:
@@ -54,4 +72,6 @@ def first_wrong_lesson() -> str:
         told = told_of(case)
         if told.name != case.name or {*re.findall(r"\bN?P(?:N|Q|I)?[BR]\b", told.text)} - {*case.ends}:
             return f"{case}: {told}"
+    if table() != [*ROWS] or not {*ROWS.values()} <= {case.name for case in CASES}:
+        return f"TRY.md's table has other rows than are tried: {table()}"
     return ""

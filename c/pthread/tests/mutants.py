@@ -110,13 +110,48 @@ MUTANTS: Dict[str, Mutant] = {
         ("first_ends",)),
     "writes over what stands there": Mutant(
         "layer_files.h",
-        "    open_history(&file, m, volume, O_EXCL);\n",
-        "    open_history(&file, m, volume, O_TRUNC);\n",
+        "    open_history(&file, m, volume, NEW);\n",
+        "    open_history(&file, m, volume, NAMED);\n",
         ("outputs",)),
     "a file's limit ends the program": Mutant(
-        "layer_outputs.h",
-        "    pthread_sigmask(SIG_BLOCK, &limit, &before);\n",
+        "monk_outputs.h",
+        "    pthread_sigmask(SIG_BLOCK, &ours, &before);\n",
         "    pthread_sigmask(SIG_BLOCK, NULL, &before);\n",
+        ("outputs",)),
+    "an interrupted write is an error": Mutant(
+        "monk_outputs.h",
+        "        if (wrote < 0 && errno == EINTR) continue;\n",
+        "",
+        ("outputs",)),
+    "a part that is written is all": Mutant(
+        "monk_outputs.h",
+        "length -= (size_t)wrote;",
+        "length = 0;",
+        ("outputs",)),
+    "a file that fails as it is closed is whole": Mutant(
+        "monk_outputs.h",
+        "syscall(SYS_close, it->file) && !it->error) it->error = errno;",
+        "syscall(SYS_close, it->file) && !it->error) it->error = 0;",
+        ("outputs",)),
+    "what is lost isn't removed": Mutant(
+        "monk_outputs.h",
+        "    if (it->how == MORE || (it->how == NEW && is_open)) unlink(it->name);\n",
+        "",
+        ("outputs",)),
+    "names that were lost are written again": Mutant(
+        "layer_files.h",
+        "m->names = close_output(it) ? HAS_NAMES : LOST_NAMES;",
+        "m->names = close_output(it) ? HAS_NAMES : NO_NAMES;",
+        ("outputs",)),
+    "a file to which nothing can be added stays": Mutant(
+        "monk_outputs.h",
+        "    if (it->how == MORE || (",
+        "    if ((",
+        ("outputs",)),
+    "a cancelled thread ends as it writes": Mutant(
+        "monk_outputs.h",
+        "    long wrote = syscall(SYS_write, file, text, length);\n",
+        "    long wrote = write(file, text, length);\n",
         ("outputs",)),
     "lost files don't change the status": Mutant(
         "libmonk_pthread.c",
@@ -171,9 +206,10 @@ MUTANTS: Dict[str, Mutant] = {
 }
 
 
-def mutant(folder: str, room: str, it: Mutant) -> str:
-    """Makes a copy of the layer's sources with that change in it; returns its main file."""
-    shutil.copytree(folder, room, ignore=shutil.ignore_patterns("tests"))
+def mutant(folders: Tuple[str, ...], room: str, it: Mutant) -> str:
+    """Makes a copy of the layer's sources, of some folders, with that change in it; returns its main file."""
+    for folder in folders:
+        shutil.copytree(folder, room, ignore=shutil.ignore_patterns("tests"), dirs_exist_ok=True)
     path = os.path.join(room, it.file)
     with open(path) as file:
         text = file.read()

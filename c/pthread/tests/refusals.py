@@ -22,6 +22,7 @@ BY_RUN: Cases = (
     (["--kind", "PB", "--report", "/dev/null/x", "ls"], "/dev/null/x: it can't be written"),
     (["--kind", "PB", "STATIC"], "STATIC: it isn't dynamically linked"),
     (["--kind", "PB", "SCRIPT"], "SCRIPT: it can't be executed: it is neither a program nor a script that begins with #!"),
+    (["--kind", "PB", "LOADER"], "LOADER: it can't be executed: there is no /no/such/ld.so"),
     (["--kind", "PB", "ORPHAN"], "ORPHAN: it can't be executed: there is no /no/such/shell"),
     (["--kind", "PB", "--history", "ROOM", "ls"], "files stand there; name a fresh folder for histories"),
     (["--kind", "PB", "--turns", "luck", "ls"], "MONK_TURNS=luck: none of walk priorities"),

@@ -16,9 +16,10 @@ HERE = os.path.dirname(os.path.abspath(__file__))
 PTHREAD = os.path.dirname(HERE)
 C = os.path.dirname(PTHREAD)
 OUT = os.path.join(C, "out")
+WRITER = os.path.join(os.path.dirname(C), "recorders", "c")
 KINDS = ("PB", "NPB", "PNB", "NPNB", "PQB", "NPQB", "PIR", "NPIR")
 WISHES = ("waiter", "entry", "any")
-LAYER = ["gcc", "-std=gnu11", "-O2", "-g", "-fPIC", "-pthread", "-fexceptions", "-shared", "-I", C,
+LAYER = ["gcc", "-std=gnu11", "-O2", "-g", "-fPIC", "-pthread", "-fexceptions", "-shared", "-I", C, "-I", WRITER,
          f"-Wl,--version-script={PTHREAD}/names.map"]
 SANITIZE = ["-fsanitize=address,undefined", "-fno-sanitize-recover=undefined"]
 PARTS = [os.path.join(C, name + ".c") for name in ("monk", "calls", "abandoned", "names")]
@@ -43,7 +44,7 @@ def raced_program(tests: Any, name: str) -> str:
     """The layer, the library's C and a test in one program under ThreadSanitizer."""
     built = os.path.join(tests.room, f"raced.{name}")
     is_cpp = os.path.exists(os.path.join(HERE, name + ".cpp"))
-    options = ["-O1", "-g", "-pthread", "-fsanitize=thread", "-fexceptions", "-I", C]
+    options = ["-O1", "-g", "-pthread", "-fsanitize=thread", "-fexceptions", "-I", C, "-I", WRITER]
     parts = []
     for source in (os.path.join(PTHREAD, "libmonk_pthread.c"), *PARTS):
         parts.append(os.path.join(tests.room, os.path.basename(source) + ".o"))
@@ -90,7 +91,7 @@ def failed(tests: Any, names: "tuple[str, ...]", library: str) -> str:
 def finds(tests: Any, name: str, it: Mutant) -> str:
     """The first test that finds the mutant."""
     library = os.path.join(tests.room, "mutant.so")
-    source = mutant(PTHREAD, os.path.join(tests.room, name), it)
+    source = mutant((PTHREAD, WRITER), os.path.join(tests.room, name), it)
     tests.said([*LAYER, source, os.path.join(OUT, "whole.o"), "-ldl", "-o", library], name)
     if it.tests:
         return failed(tests, it.tests, library)

@@ -28,10 +28,12 @@ class Shape(ctypes.Structure):
 
 
 def _beside() -> List[str]:
-    """Where the library may be beside this package: in its folder, in the sources, or where both were installed."""
+    """Where the library may be beside this package: in its folder, in the sources, or where both were installed, by
+    Debian's package too."""
     folder = os.path.dirname(os.path.abspath(__file__))
     places = [("libmonk.so",), ("..", "..", "out", "libmonk.so"), ("..", "..", SYSTEMS_LIBRARY),
-              ("..", "..", "..", SYSTEMS_LIBRARY)]
+              ("..", "..", "..", SYSTEMS_LIBRARY),
+              ("..", "..", "..", f"{os.uname().machine}-linux-gnu", SYSTEMS_LIBRARY)]
     return [os.path.normpath(os.path.join(folder, *place)) for place in places]
 
 
