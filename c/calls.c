@@ -85,7 +85,7 @@ static int come_in_at(monk_seat *s, size_t word, bell *b, const struct timespec 
         if (answer != MONK_WAITING) return answer;
         if (is_sent_home(s)) return MONK_STOPPED;
         if (!in_time) return MONK_WAITING;
-        if (!rings_soon(s->monitor, word, seen)) in_time = sleep_at(b, seen, limit);
+        if (!rings_soon(s->monitor, word, seen)) in_time = sleep_until_turn(s->monitor, word, seen, limit);
     }
 }
 
@@ -184,7 +184,7 @@ int monk_flags(monk_seat *s, uint32_t *bits) {
 
 /* ---- Calls that wait */
 
-enum { MS_A_SECOND = 1000, NS_A_MS = 1000000, NS_A_SECOND = 1000000000 };
+enum { MS_A_SECOND = 1000, NS_A_MS = 1000000 };
 
 /* The time that is `milliseconds` from now. */
 static struct timespec limit_in(long milliseconds) {

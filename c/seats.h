@@ -3,6 +3,7 @@
 #ifndef MONK_SEATS_H
 #define MONK_SEATS_H
 #define _GNU_SOURCE
+#include "looks.h"
 #include "monk.h"
 #include "monk_kernel.h"
 #include <errno.h>
@@ -27,8 +28,6 @@ enum {
                                    comes, and each of the others may visit before, and come back */
     MOST_LOOKS = 4096,          /* some 20 us: a few times what a sleep costs */
     SHORT_LOOKS = 1024,         /* where looking doesn't pay: divided by the square of the number of seats */
-    MOST_VAIN = 4,              /* after so many looks in vain in a row looking doesn't pay */
-    WAITS_A_TRY = 1024,         /* then one of so many waits tries whether it does again */
     NOT_KNOWN = 0,              /* how many visits come before that of a seat inside */
     PATIENCE_MS = 1000,
     VISIT = 2,                  /* events that a visit needs: an enter and a leave */
@@ -80,12 +79,6 @@ struct monk_seat {
     uint8_t is_visitor;                 /* lent to the library, for a look at the history; changed as `lent` is */
 };
 _Static_assert(sizeof(struct monk_seat) == LINE, "a seat has a line of its own, and no more");
-
-/* How the last looks of waiting threads ended. */
-typedef struct tally {
-    _Atomic unsigned vain;              /* so many in a row were in vain, up to MOST_VAIN */
-    _Atomic unsigned slept;             /* threads that slept because looking didn't pay */
-} tally;
 
 struct monk_monitor {
     bell bells[BELLS];
@@ -151,28 +144,6 @@ static inline int is_crowded(monk_monitor *m) {
     return atomic_load_explicit(&m->lent, memory_order_relaxed) > m->processors;
 }
 
-/* ---- Whether looking pays. Only time rests on this, so a thread may read what another is about to change.
-
-   If a thread looks in vain for as long as a sleep costs, either visits take long, or somebody lost its processor.
-   After some such looks in a row threads sleep at once. Now and then one tries again. */
-
-static inline int pays(tally *t) {
-    return atomic_load_explicit(&t->vain, memory_order_relaxed) < MOST_VAIN;
-}
-
-/* Whether to try again, though looking doesn't pay. Then it does, until one more look is in vain. */
-static inline int tries_again(tally *t) {
-    if (atomic_fetch_add_explicit(&t->slept, 1, memory_order_relaxed) % WAITS_A_TRY) return 0;
-    atomic_store_explicit(&t->vain, MOST_VAIN - 1, memory_order_relaxed);
-    return 1;
-}
-
-/* Notes how a thread's looks ended. While looking doesn't pay it looks briefly, which tells nothing. */
-static inline void note_look(tally *t, int was_let_in) {
-    unsigned vain = atomic_load_explicit(&t->vain, memory_order_relaxed), then = was_let_in ? 0 : vain + 1;
-    if (vain < MOST_VAIN && then != vain) atomic_store_explicit(&t->vain, then, memory_order_relaxed);
-}
-
 /* Wakes the thread that waits for that word. The kernel has granted it before. It also wakes the one whose turn to
  * enter comes next, so that it is awake by then: else each hand-over takes as long as a wake. */
 static inline bell *ring(monk_monitor *m, size_t word) {
@@ -231,6 +202,16 @@ static inline int sleep_at(bell *b, uint32_t seen, const struct timespec *limit)
     atomic_store(&b->waiter, ASLEEP);
     int in_time = sleep_on(&b->rings, seen, limit);
     atomic_store_explicit(&b->waiter, AWAKE, memory_order_relaxed);
+    return in_time;
+}
+
+/* The same, for the turn of a seat. If it took long though looking paid, it doesn't now. */
+static inline int sleep_until_turn(monk_monitor *m, size_t word, uint32_t seen, const struct timespec *limit) {
+    bell *b = bell_of(m, word);
+    if (!is_for_entry(word) || is_crowded(m) || !pays(&m->entry)) return sleep_at(b, seen, limit);
+    uint64_t since = now_ns();
+    int in_time = sleep_at(b, seen, limit);
+    note_sleep(&m->entry, since);
     return in_time;
 }
 
