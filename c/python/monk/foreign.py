@@ -1,11 +1,12 @@
 """Scenes in other languages: a process has the programs, and the driver says who moves next.
 
-The driver writes `new WORD SCENE WORDS`, `go PROGRAMS` or `end`, and the process answers each by that first word and a
-line of JSON. One of its programs runs at a time, up to its next call. Nothing changes between two answers: each has the
-data, and what the invariant and the tests say.
+The driver writes `new WORD SCENE WORDS`, `go PROGRAMS` or `end`, and the process answers each by that word, a digest of
+all answers of this run, and a line of JSON. One of its programs runs at a time, up to its next call. Nothing changes
+between two answers: each has the data, and what the invariant and the tests say.
 
 What programs do after the same moves is the same, under each kind. So each move is asked for once, and the answer is
-kept. A run leaves what is known at its first move that is new: there the process makes the moves before it again."""
+kept. A run leaves what is known at its first move that is new: there the process makes the moves before it again. By
+the digest each of its answers on the way has to be as it was."""
 
 from __future__ import annotations
 
@@ -29,11 +30,11 @@ CHANCE = ("the same moves don't do the same once more: make all data anew in eac
 
 
 class Known:
-    """What is answered after some moves, and after one more."""
-    __slots__ = ("answer", "then")
+    """What is answered after some moves, the digest of all answers up to there, and what is known of one more."""
+    __slots__ = ("answer", "digest", "then")
 
-    def __init__(self, answer: Answer) -> None:
-        self.answer = answer
+    def __init__(self, answer: Answer, digest: bytes = b"") -> None:
+        self.answer, self.digest = answer, digest
         self.then: Dict[int, Known] = {}
 
 
@@ -56,7 +57,7 @@ class Process:
         """Begins a run of that scene."""
         self.is_there = question not in self.scenes
         if self.is_there:
-            self.scenes[question] = Known(self.pipe.ask(question))
+            self.scenes[question] = Known(self.pipe.ask(question), self.pipe.digest)
         self.question, self.known, self.moves = question, self.scenes[question], []
         self.now = self.known.answer
         return self.known.answer
@@ -64,7 +65,7 @@ class Process:
     def go(self, number: int) -> Answer:
         """The program moves up to its next call. END in place of a program: what the test of the end says."""
         if number not in self.known.then:
-            self.known.then[number] = Known(self._asked(number))
+            self.known.then[number] = Known(self._asked(number), self.pipe.digest)
         self.known = self.known.then[number]
         self.moves.append(number)
         self.now = self.known.answer if "data" in self.known.answer else self.now
@@ -76,9 +77,9 @@ class Process:
             answer = self.pipe.ask(question)
             if "endless" in answer:                 # a program of the last run doesn't let itself be ended
                 return answer
-            self.is_there = answer == self.known.answer
-        if not self.is_there:
+        if not self.is_there and self.pipe.digest != self.known.digest:
             return {"fault": CHANCE, "is_last": True}
+        self.is_there = True
         return self.pipe.ask("end" if number == END else f"go {number}")
 
     def _questions(self) -> List[str]:

@@ -109,6 +109,9 @@ final class Program {
         else turn.release();
     }
 
+    /** Whether it came to its end, or to a fault. */
+    boolean isThrough() { return hasEnded; }
+
     /** The thread in which it runs. */
     Thread thread() { return worker; }
 
