@@ -310,12 +310,13 @@ int main(void) {
     lab = shared(sizeof *lab, MAP_PRIVATE);
     char *line = shared(LINE, MAP_SHARED);
     const char *ms = getenv("LAB_MS");
-    lab->in = dup(0), lab->out = dup(1), lab->limit_ms = ms ? atol(ms) : USUAL_MS, lab->digest = BASIS;
+    lab->in = dup(0), lab->out = dup(1), lab->limit_ms = ms ? atol(ms) : USUAL_MS;
     if (!freopen("/dev/null", "r", stdin)) return 1;
     dup2(2, 1);                             /* what a program prints doesn't come between */
     signal(SIGALRM, too_long);
     for (hear(line);;) {
         int status;
+        lab->digest = BASIS;
         snprintf(lab->word, LINE, "%.*s", (int)strcspn(line + NEW, " "), line + NEW);
         pid_t child = fork();
         if (child < 0) return 1;

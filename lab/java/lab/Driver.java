@@ -21,6 +21,8 @@ import java.util.Arrays;
  * each were asked alone. One thread runs at a time, so nothing depends on luck.
  */
 public final class Driver {
+    /** How long a scene may take to be made, which loads its classes, and how long a program may run. */
+    private static final long MAKE_MS = 2000;
     private static final long LIMIT_MS = Long.parseLong(System.getenv().getOrDefault("LAB_MS", "2000"));
     private static final Thread HERE = Thread.currentThread();
     /** The digest is FNV-1a's, of 64 bits. */
@@ -29,7 +31,7 @@ public final class Driver {
 
     private final OutputStream out = new FileOutputStream(FileDescriptor.out);
     private final Class<?> scenes;
-    private final Watch watch = new Watch(LIMIT_MS, () -> say(late(HERE)));
+    private final Watch watch = new Watch(HERE, this::tellOfLate);
     private Scene scene = new Scene();
     /** The program that moved last. */
     private Program moved;
@@ -57,7 +59,7 @@ public final class Driver {
         String[] words = line.split(" ");
         if (words[0].equals("go")) return move(words);
         Program late = words[0].equals("new") ? scene.end(LIMIT_MS) : null;
-        return late == null ? watched(words) : late(late.thread());
+        return late == null ? watched(words) : late(late.thread(), LIMIT_MS);
     }
 
     /** Runs programs one after the other, each up to its next call. Of one that is through, nothing is told. */
@@ -68,14 +70,14 @@ public final class Driver {
             moved = scene.program(Integer.parseInt(words[i]));
             if (moved.isThrough()) return new Json();
             moved.goOn();
-            if (!Program.isBack(LIMIT_MS)) return late(moved.thread());
+            if (!moved.isBack(LIMIT_MS)) return late(moved.thread(), LIMIT_MS);
             answer = watched(words);
         }
         return answer;
     }
 
     private Json watched(String[] words) {
-        watch.begins();
+        watch.begins(words[0].equals("new") ? MAKE_MS : LIMIT_MS);
         try {
             return told(words);
         } catch (ReflectiveOperationException | RuntimeException | Error fault) {
@@ -114,7 +116,11 @@ public final class Driver {
         }
     }
 
-    private static Json late(Thread thread) { return new Json().number("endless", LIMIT_MS).place(Place.own(thread)); }
+    private static Json late(Thread thread, long limit) {
+        return new Json().number("endless", limit).place(Place.own(thread));
+    }
+
+    private void tellOfLate() { say(late(HERE, watch.limit())); }
 
     /** A program calls System.exit: that is its fault, and the process ends. */
     private void tellOfExit() {
