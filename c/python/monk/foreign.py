@@ -93,8 +93,9 @@ class Process:
 
         def made() -> Scene:
             answer = self.begin(question)
-            if "programs" not in answer:
-                fault = answer.get("fault") or f"isn't made in {answer['endless'] / MS_A_SECOND:g} s"
+            if not answer.get("programs"):
+                late = f"isn't made in {answer['endless'] / MS_A_SECOND:g} s" if "endless" in answer else ""
+                fault = answer.get("fault") or late or "has no programs"
                 raise MonkError(f"{name}: {fault}{self.place(answer)}")
             programs = [Program(self, number, title) for number, title in enumerate(answer["programs"])]
             end = self._end if answer["has_end"] else None
@@ -137,7 +138,7 @@ class Program:
     untested = "give the wait on {name} in line {line} a test"
 
     def __init__(self, process: Process, number: int, title: str) -> None:
-        self.process, self.number, self.__name__, self.line = process, number, title, "0"
+        self.process, self.number, self.__name__, self.line = process, number, title, ""
 
     def __call__(self) -> Program:
         return self
@@ -149,7 +150,8 @@ class Program:
         answer = self.process.go(self.number)
         self.line = f"{answer['line']} of {answer['file']}" if answer.get("file") else last
         if "endless" in answer or "fault" in answer:
-            raise self._over(answer, self.process.place(answer) or f" after line {last}")
+            place = self.process.place(answer)
+            raise self._over(answer, place or (f" after line {last}" if last else " before its first call"))
         if "ended" in answer:
             raise StopIteration
         key = f"{self.number} {answer['on']}"
