@@ -59,6 +59,24 @@ BESIDE = """(() => { const choices = document.querySelectorAll('#choices button'
   const beside = [...document.querySelectorAll('#tags .can')].filter((it) => { const box = it.getBoundingClientRect();
     return box.width > 20 && box.right <= innerWidth && box.top >= 0 && box.bottom <= innerHeight; });
   return choices > 0 && beside.length === choices; })()"""
+# The threads whose lines end under chips, even after a scroll to the right.
+COVERED = """new Promise((done) => {
+  const code = document.getElementById('code'), text = document.getElementById('threads').firstChild;
+  const rows = [...document.querySelectorAll('#tags .row')], lines = text.data.trimEnd().split('\\n');
+  code.scrollLeft = code.scrollWidth;
+  setTimeout(() => {
+    let at = 0;
+    const found = lines.filter((line, i) => {
+      const range = document.createRange(), chip = rows[rows.length - lines.length + i].firstElementChild;
+      range.setStart(text, at);
+      range.setEnd(text, at += line.length);
+      at += 1;
+      return chip && range.getBoundingClientRect().right > chip.getBoundingClientRect().left + 1;
+    });
+    code.scrollLeft = 0;
+    setTimeout(() => done(found), 50);
+  }, 50);
+})"""
 SEEN = """(() => ['code', 'monitor', 'choices', 'kinds', 'goal', 'say'].filter((id) => {
   const box = document.getElementById(id).getBoundingClientRect();
   return box.bottom > innerHeight || box.right > innerWidth; }))()"""
@@ -285,10 +303,12 @@ def looks(it: Student) -> None:
     """Both sizes, light and dark: what is seen, contrasts, names and sizes."""
     for size, dark in ((WIDE, False), (WIDE, True), (PHONE, False), (PHONE, True)):
         name = f"{size[0]}_{'dark' if dark else 'light'}"
-        for level in (2, 9):
+        for level in (2, 9, 10):
             it.open(f"#level={level}", size, dark)
             it.must(it.run("document.documentElement.dataset.theme") == ("dark" if dark else "light"), f"{name}: the theme")
             it.must(it.run("document.documentElement.scrollWidth <= innerWidth"), f"{name}: level {level} is too wide")
+            covered = it.run(COVERED)
+            it.must(not covered, f"{name}: level {level} covers the end of {covered}")
             it.press("1")
             hidden, beside = it.run(SEEN), it.run(BESIDE)
             it.must(size == PHONE or not hidden, f"{name}: level {level} hides {hidden}")
