@@ -91,11 +91,13 @@ export class Editor {
     this.makeRoom();
   }
 
-  /** Each line that has chips has room for them after its end. */
+  /** Each line has room, for its chips too. */
   makeRoom() {
     const lines = `${this.source.value}\n${this.fixed}`.split('\n');
-    const ends = (this.tags || []).map((it, i) => it.firstElementChild ?
-      `${lines[i].length + 1}ch + ${it.clientWidth - it.firstElementChild.offsetLeft}px` : '0px');
+    const ends = (this.tags || []).map((it, i) => {
+      const width = it.firstElementChild ? it.clientWidth - it.firstElementChild.offsetLeft : 0;
+      return `${lines[i].length + 1}ch + ${width}px`;
+    });
     for (const it of [this.source, byId('threads')]) it.style.minWidth = `max(100% - 2.9em, ${ends.join(', ')})`;
   }
 }
