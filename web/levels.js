@@ -65,9 +65,10 @@ export function levelOf(text) {
  * @param {Level} level @param {boolean} isBroken whether what comes first is done @returns {string} */
 export function taskOf(level, isBroken) {
   const asked = level.unasked ? ' A waiter may be woken unasked, once.' : '';
-  if (level.first && !isBroken) return `First break it: find an order that goes wrong under ${titleOf(level.first)}.${asked}`;
-  if (level.goal === 'break') return `Find an order that goes wrong under ${titleOf(level.kind)}.${asked}`;
-  if (level.goal === 'claim') return `Find an order that goes wrong under ${titleOf(level.kind)}, or say that there is none.${asked}`;
+  const find = `find an order that goes wrong under ${titleOf(isBroken ? level.kind : level.first || level.kind)}`;
+  if (level.first && !isBroken) return `First break it: ${find}.${asked}`;
+  if (level.goal === 'break') return `Break it: ${find}.${asked}`;
+  if (level.goal === 'claim') return `Try to ${find}, or say that there is none.${asked}`;
   if (level.goal === 'predict') return `Say who goes on, before it is shown, under ${level.kinds.map(titleOf).join(' and ')}.`;
   const kinds = level.kinds.length === KINDS.length ? 'all ten kinds' : level.kinds.join(', ');
   const without = level.without.length ? `, without ${level.without.join(' or ')}` : '';

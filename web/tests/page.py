@@ -292,7 +292,7 @@ def links(it: Student) -> None:
     it.wait("document.getElementById('address').value.includes('#')", "the link is shown")
     address = it.run("document.getElementById('address').value")
     it.open(address[address.index("#"):])
-    it.must("Tea." in it.text("goal") and "Find an order" in it.text("goal"), it.text("goal"))
+    it.must("Tea." in it.text("goal") and "Break it: find an order" in it.text("goal"), it.text("goal"))
     it.must(it.text("threads").startswith("thread a[2]"), "the threads are not the level's own")
     it.open("#scene=constructor&level=99&kind=XY&moves=7.x.9")
     it.must("1. Who goes next?" in it.text("goal"), "a link that says nothing leads nowhere")
