@@ -129,6 +129,6 @@ HOSTILE: List[Tried] = [
     # (a name of chance is another in each run, and no answer after it says so)
     _taking("leaves it to chance", "extern int getentropy(void *, unsigned long), snprintf(char *, unsigned long, const char *, ...); "
             "static char name[40]; unsigned long dice = 0; if (getentropy(&dice, sizeof dice)) return 0; "
-            "snprintf(name, sizeof name, \"chance %lx\", dice); lab_signal(name);", "the same moves don't do the same once more", only=2),
+            "snprintf(name, sizeof name, \"chance %lx\", dice); lab_signal(name);", r"the same moves don't do the same once more.* \(answer.c:21: extern", only=2),
 ]
 TRIED = RIGHT + WRONG + HOSTILE

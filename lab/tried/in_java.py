@@ -177,8 +177,9 @@ HOSTILE: List[Tried] = [
     _taking("doesn't let itself be ended", "try { monitor.signal(\"room\"); } catch (Error over) { while (items.size() < 9) Thread.onSpinWait(); }",
             r"makes no call for 2 s \(answer.java:22: "),
     # (a name of chance is another in each run, and no answer after it says so)
-    _taking("leaves it to chance", 'monitor.signal("chance" + Math.random());', CHANCE, only=2),
-    _java("1_buffer", "data of chance", 2, [("    final List", "    final double luck = Math.random();\n    final List")], CHANCE),
+    _taking("leaves it to chance", 'monitor.signal("chance" + Math.random());', CHANCE + r".* \(answer.java:22: monitor.signal", only=2),
+    _java("1_buffer", "data of chance", 2, [("    final List", "    final double luck = Math.random();\n    final List")],
+          CHANCE + ".*: buffer.luck; after line"),
     _java("1_buffer", "data that outlast a run", 2, [(TAKEN, '        if (++Count.of % 3 == 0) monitor.signal("room");\n' + TAKEN),
           ("class Buffer", "class Count { static int of; }\n\nclass Buffer")], CHANCE),
 ]

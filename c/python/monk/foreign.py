@@ -12,7 +12,7 @@ from __future__ import annotations
 
 import linecache
 import os
-from typing import Any, Callable, Dict, List, Sequence
+from typing import Any, Callable, Dict, List, Sequence, Tuple
 
 from .actor import Over
 from .calls import Call
@@ -25,8 +25,10 @@ from .shared import in_words
 # The most moves that are made by one question.
 MOST_MOVES = 64
 END = -1
+# The most runs by which is found where chance comes in.
+MORE_RUNS = 8
 CHANCE = ("the same moves don't do the same once more: make all data anew in each run, and leave nothing to chance or to "
-          "a thread of your own;")
+          "a thread of your own")
 
 
 class Known:
@@ -78,9 +80,30 @@ class Process:
             if "endless" in answer:                 # a program of the last run doesn't let itself be ended
                 return answer
         if not self.is_there and self.pipe.digest != self.known.digest:
-            return {"fault": CHANCE, "is_last": True}
+            return self._chance()
         self.is_there = True
         return self.pipe.ask("end" if number == END else f"go {number}")
+
+    def _chance(self) -> Answer:
+        """Says that a run wasn't as it was; and where, or in which data, if that is found."""
+        both = self._differing()
+        first = min((it for it in both if it.get("file")), key=lambda it: int(it["line"]), default=None)
+        if first:
+            return {"fault": CHANCE, "is_last": True, "file": first["file"], "line": first["line"]}
+        then, now = (it.get("data", {}) for it in both)
+        names = ", ".join(name for name in then if name in now and now[name] != then[name])
+        return {"fault": f"{CHANCE}{': ' * bool(names)}{names};", "is_last": True}
+
+    def _differing(self) -> Tuple[Answer, Answer]:
+        """What is known of a move of this run, and another answer to it, from some runs more. Both are empty if each
+        answer is as it is known."""
+        for _ in range(MORE_RUNS):
+            known, answer, moves = self.scenes[self.question], self.pipe.ask(self.question), iter(self.moves)
+            while self.pipe.digest == known.digest and (number := next(moves, None)) is not None:
+                known, answer = known.then[number], self.pipe.ask(f"go {number}")
+            if self.pipe.digest != known.digest:
+                return known.answer, answer
+        return {}, {}
 
     def _questions(self) -> List[str]:
         """The moves of this run, many in a question."""
