@@ -1,7 +1,7 @@
 // Levels. A level is a text in the notation with a head of comments: what to do, and what was learned. The monitor is
 // the player's, and the threads are the level's own. A teacher writes one, and sends it as a link.
 // @ts-check
-import { KINDS } from './engine/kinds.js';
+import { KINDS, titleOf } from './engine/kinds.js';
 import { Fault } from './notation/tokens.js';
 
 /**
@@ -26,7 +26,7 @@ export const isLevel = (text) => FIRST_LINE.test(text);
  * @param {string} words @param {number} line @returns {string[]} */
 function kindsOf(words, line) {
   const found = words.split(/[ ,]+/).filter(Boolean), strange = found.find((it) => !KINDS.includes(it));
-  if (strange) throw new Fault(line, `there is no kind ${strange}: take from ${KINDS.join(', ')}`);
+  if (strange) throw new Fault(line, `there is no kind ${strange}: write only kinds there, of ${KINDS.join(', ')}`);
   return found.length ? found : KINDS;
 }
 
@@ -65,10 +65,11 @@ export function levelOf(text) {
  * @param {Level} level @param {boolean} isBroken whether what comes first is done @returns {string} */
 export function taskOf(level, isBroken) {
   const asked = level.unasked ? ' A waiter may be woken unasked, once.' : '';
-  if (level.first && !isBroken) return `First break it: find an order that goes wrong under ${level.first}.${asked}`;
-  if (level.goal === 'break') return `Find an order that goes wrong under ${level.kind}.${asked}`;
-  if (level.goal === 'claim') return `Find an order that goes wrong under ${level.kind}, or say that there is none.${asked}`;
-  if (level.goal === 'predict') return `Say who goes on, before it is shown, under ${level.kinds.join(' and ')}.`;
+  const find = `find an order that goes wrong under ${titleOf(isBroken ? level.kind : level.first || level.kind)}`;
+  if (level.first && !isBroken) return `First break it: ${find}.${asked}`;
+  if (level.goal === 'break') return `Break it: ${find}.${asked}`;
+  if (level.goal === 'claim') return `Try to ${find}, or say that there is none.${asked}`;
+  if (level.goal === 'predict') return `Say who goes on, before it is shown, under ${level.kinds.map(titleOf).join(' and ')}.`;
   const kinds = level.kinds.length === KINDS.length ? 'all ten kinds' : level.kinds.join(', ');
   const without = level.without.length ? `, without ${level.without.join(' or ')}` : '';
   return `Change the monitor (click its text): make it right in every order under ${kinds}${without}.${asked}`;

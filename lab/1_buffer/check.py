@@ -45,7 +45,7 @@ def checks_of(of: Callable[..., Callable[[], Scene]], wrong_with_if: List[str]) 
         holds("two of each, under Mesa's rules (NPNB)", of(2, 2), ["NPNB"]),
         holds("one puts two, and two take, under every kind", of(1, 2, 2)),
         knows("you found the kinds under which an `if` goes wrong", wrong_with_if, WRONG_WITH_IF,
-              "WRONG_WITH_IF isn't what this check finds: write `if`, and look at the fourth line"),
+              "WRONG_WITH_IF isn't what this check finds: write `if` for each `while`, and look at check 4"),
     ]
 
 

@@ -1,10 +1,12 @@
 /* lab.c - the process of a lab (c/python/monk/foreign.py). A line on standard input is `new WORD WORDS`, which makes a
  * fresh scene; `go NUMBERS`, which runs these programs one after the other, each up to its next call; or `end`. Each
- * is answered by that first word and a line of JSON. A program is a context with a stack of its own. Each run has a
- * child of its own, so its data are fresh, and a crash ends one run. */
+ * is answered by that first word, a digest of all answers of this run, and a line of JSON. The moves of a line count
+ * in the digest as if each were asked alone. A program is a context with a stack of its own. Each run has a child of
+ * its own, so its data are fresh, and a crash ends one run. */
 #define _GNU_SOURCE
 #include "lab.h"
 
+#include <inttypes.h>
 #include <signal.h>
 #include <stdarg.h>
 #include <stdio.h>
@@ -13,12 +15,15 @@
 #include <sys/mman.h>
 #include <sys/prctl.h>
 #include <sys/time.h>
+#include <sys/uio.h>
 #include <sys/wait.h>
 #include <ucontext.h>
 #include <unistd.h>
 
 enum { MOST = 32, MOST_WORDS = 8, LINE = 256, ANSWER = 1 << 16, STACK = 1 << 18, PAGE = 4096, AGAIN = 77, TOLD = 78,
     NEW = 4, GO = 3, USUAL_MS = 2000, A_SECOND_MS = 1000, A_MS_US = 1000 };
+/* The digest is FNV-1a's, of 64 bits. */
+static const uint64_t BASIS = 0xcbf29ce484222325, PRIME = 0x100000001b3;
 
 struct program {
     const char *name, *verb, *on, *file;
@@ -47,6 +52,7 @@ static struct lab {
     lab_test invariant, end;
     ucontext_t driver;
     long limit_ms;
+    uint64_t digest;
     char word[LINE], answer[ANSWER];
 } *lab;
 
@@ -100,12 +106,22 @@ static void say_place(const struct program *program) {
 /* Begins an answer. */
 static void begin_answer(void) {
     lab->used = 0;
-    say("%s {", lab->word);
+    say("{");
+}
+
+/* Ends an answer, which counts in the digest from now on. */
+static void end_answer(void) {
+    say("}");
+    for (int i = 0; i < lab->used; i++) lab->digest = (lab->digest ^ (unsigned char)lab->answer[i]) * PRIME;
 }
 
 static void send(void) {
-    say("}\n");
-    if (write(lab->out, lab->answer, (size_t)lab->used) != lab->used) _exit(1);
+    char head[2 * LINE];
+    end_answer();
+    say("\n");
+    int length = snprintf(head, sizeof head, "%s %" PRIx64 " ", lab->word, lab->digest);
+    struct iovec parts[] = {{head, (size_t)length}, {lab->answer, (size_t)lab->used}};
+    if (writev(lab->out, parts, 2) != length + lab->used) _exit(1);
 }
 
 /* ---- what a scene is made of */
@@ -207,16 +223,8 @@ static void begin(struct program *program) {
     makecontext(&program->context, run, 0);
 }
 
-/* Runs these programs one after the other, each up to its next call, and tells where the last one came to. */
-static void go(char *numbers) {
-    struct program *program = 0;
-    for (char *word = strtok(numbers, " "); word; word = strtok(0, " ")) {
-        program = &lab->programs[lab->here = atoi(word)];
-        if (!program->has_begun) begin(program);
-        limit(lab->limit_ms);
-        swapcontext(&lab->driver, &program->context);
-    }
-    if (!program) _exit(1);
+/* Where a program came to. */
+static void tell(const struct program *program) {
     if (program->fault[0]) say("\"fault\":"), say_words(program->fault);
     else if (program->has_ended) say("\"ended\":true");
     else {
@@ -225,6 +233,21 @@ static void go(char *numbers) {
     }
     if (!program->has_ended) say_place(program);
     say_state();
+}
+
+/* Runs these programs one after the other, each up to its next call. Of one that is through, nothing is told. */
+static void go(char *numbers) {
+    char *rest;                             /* (a student may use strtok) */
+    for (char *word = strtok_r(numbers, " ", &rest), *next; word; word = next) {
+        struct program *program = &lab->programs[lab->here = atoi(word)];
+        if (program->has_ended || program->fault[0]) return;
+        if (!program->has_begun) begin(program);
+        limit(lab->limit_ms);
+        swapcontext(&lab->driver, &program->context);
+        tell(program);
+        next = strtok_r(0, " ", &rest);
+        if (next) end_answer(), begin_answer();
+    }
 }
 
 /* ---- the process */
@@ -293,6 +316,7 @@ int main(void) {
     signal(SIGALRM, too_long);
     for (hear(line);;) {
         int status;
+        lab->digest = BASIS;
         snprintf(lab->word, LINE, "%.*s", (int)strcspn(line + NEW, " "), line + NEW);
         pid_t child = fork();
         if (child < 0) return 1;

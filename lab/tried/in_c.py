@@ -126,8 +126,9 @@ HOSTILE: List[Tried] = [
             "for (;;) for (int i = 3; i < 9; i++) if (write(i, zeros, 9999)) { }", "writes where the lab answers"),
     _c("1_buffer", "a test without an end", 4, [("return count > 0", "while (!*(volatile int *)&count) { } return count > 0")],
        "makes no call for 2 s after line 19 of answer.c"),
-    _taking("leaves it to chance", "extern int rand(void), getpid(void); extern void srand(unsigned); static int was; "
-            "if (!was) srand(getpid()); was = 1; if (rand() % 2) lab_signal(\"chance\");",
-            "the same moves don't do the same once more", only=2),
+    # (a name of chance is another in each run, and no answer after it says so)
+    _taking("leaves it to chance", "extern int getentropy(void *, unsigned long), snprintf(char *, unsigned long, const char *, ...); "
+            "static char name[40]; unsigned long dice = 0; if (getentropy(&dice, sizeof dice)) return 0; "
+            "snprintf(name, sizeof name, \"chance %lx\", dice); lab_signal(name);", r"the same moves don't do the same once more.* \(answer.c:21: extern", only=2),
 ]
 TRIED = RIGHT + WRONG + HOSTILE

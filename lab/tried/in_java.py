@@ -14,6 +14,7 @@ def _java(exercise: str, name: str, only: int, changes: Sequence[Tuple[str, str]
     return Tried(exercise, f"Java, {name}", changes, "", says, status, ending=".java", only=only)
 
 
+CHANCE = "the same moves don't do the same once more"
 TAKEN = "        String item = items.remove(0);\n"
 
 
@@ -175,6 +176,11 @@ HOSTILE: List[Tried] = [
           "{ while (items.size() < 9) Thread.onSpinWait(); return null; } };\n    final List")], r"buffer: isn't made in 2 s \(answer.java:9: "),
     _taking("doesn't let itself be ended", "try { monitor.signal(\"room\"); } catch (Error over) { while (items.size() < 9) Thread.onSpinWait(); }",
             r"makes no call for 2 s \(answer.java:22: "),
-    _taking("leaves it to chance", "if (Math.random() < 0.5) monitor.signal(\"chance\");", "the same moves don't do the same once more", only=2),
+    # (a name of chance is another in each run, and no answer after it says so)
+    _taking("leaves it to chance", 'monitor.signal("chance" + Math.random());', CHANCE + r".* \(answer.java:22: monitor.signal", only=2),
+    _java("1_buffer", "data of chance", 2, [("    final List", "    final double luck = Math.random();\n    final List")],
+          CHANCE + ".*: buffer.luck; after line"),
+    _java("1_buffer", "data that outlast a run", 2, [(TAKEN, '        if (++Count.of % 3 == 0) monitor.signal("room");\n' + TAKEN),
+          ("class Buffer", "class Count { static int of; }\n\nclass Buffer")], CHANCE),
 ]
 TRIED = RIGHT + WRONG + HOSTILE

@@ -35,6 +35,9 @@ IF = Tried("1_buffer", "if", [("while box", "if box"), ("while not box", "if not
     r"putter1 signalled item \(4\), taker2 came in between \(6\), taker1 went on \(9\)", "^3 of 5$"])
 WRONG: List[Tried] = [
     IF,
+    Tried("1_buffer", "if, and no test", [*IF.changes, ('wait("item", lambda: box.items)', 'wait("item")')], says=[
+        r"^ *So it is under NPQB, NPIR, too\.\n *And under PIS, NPIS: taker1: PIS has no signals: write wait\('item', lambda: \.\.\) in line 21\.$"],
+        only=4),
     _line("1_buffer", "a signal forgotten", '        yield signal("room")\n', "",
           "nobody can go on: .* waits on room, after event", only=2),
     _line("1_buffer", "a kind too few", '["NPNB", "NPQB", "NPIR"]', '["NPNB"]', "NO   you found the kinds", only=5),

@@ -28,7 +28,7 @@ const MOST_STATES = 20000, UNKNOWN = -1, NEAR = 32;
 /** What a way does, in words.
  * @param {Stage} stage @param {Actor} actor @param {string} wish @returns {string} */
 function wordsOf(stage, actor, wish) {
-  if (actor === stage.nobody) return `wakes one of ${wish}, unasked`;
+  if (actor === stage.nobody) return `wakes one that waits on ${wish}, unasked`;
   if (actor.place === 'outside') return 'arrives';
   const { verb, name } = actor.call();
   if (verb === 'leave') return 'leaves';

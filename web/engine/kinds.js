@@ -40,6 +40,10 @@ const PROMISE = {
   NPIS: `${NO_SIGNALS}Who waits comes in only while its test holds.`,
 };
 
-/** The kind, who knows it by another name, and what it promises.
+/** The kind, and who knows it by another name.
  * @param {string} kind @returns {string} */
-export const promiseOf = (kind) => `${kind}${KNOWN_AS[kind] ? ` (${KNOWN_AS[kind]})` : ''}: ${PROMISE[kind]}`;
+export const titleOf = (kind) => `${kind}${KNOWN_AS[kind] ? ` (${KNOWN_AS[kind]})` : ''}`;
+
+/** The same, and what it promises.
+ * @param {string} kind @returns {string} */
+export const promiseOf = (kind) => `${titleOf(kind)}: ${PROMISE[kind]}`;

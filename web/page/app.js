@@ -218,7 +218,7 @@ export class App {
       this.riddle = null;
       this.meet();
       this.begin(this.played[this.kind]);
-      this.tell(`${atOnce} of ${of} at once.`, 'good');
+      this.tell(`${atOnce} of ${of} right at the first try.`, 'good');
     });
     this.riddle.begin(level.kinds.map((it) => this.played[it]));
     this.show();

@@ -20,6 +20,10 @@ export class Editor {
       touched();
       this.timer = setTimeout(changed, REST);
     });
+    // (the chips stay in view, and the end of a line beside them comes into view)
+    byId('code').addEventListener('scroll', () => {
+      byId('tags').style.transform = `translateX(${byId('code').scrollLeft}px)`;
+    });
     this.source.addEventListener('keydown', (/** @type {KeyboardEvent} */ event) => {
       if (event.key === 'Escape') this.source.blur();
       if (event.key !== 'Enter' || !(event.ctrlKey || event.metaKey)) return;
@@ -84,6 +88,17 @@ export class Editor {
       (this.rows || [])[at].classList.add('here');
       tag.append(...chipsOf(chip));
     }
+    this.makeRoom();
+  }
+
+  /** Each line has room, for its chips too. */
+  makeRoom() {
+    const lines = `${this.source.value}\n${this.fixed}`.split('\n');
+    const ends = (this.tags || []).map((it, i) => {
+      const width = it.firstElementChild ? it.clientWidth - it.firstElementChild.offsetLeft : 0;
+      return `${lines[i].length + 1}ch + ${width}px`;
+    });
+    for (const it of [this.source, byId('threads')]) it.style.minWidth = `max(100% - 2.9em, ${ends.join(', ')})`;
   }
 }
 

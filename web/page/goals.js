@@ -27,8 +27,8 @@ export function showGoal({ level, number, isMet, isBroken, isOwn, more, about, g
   if (!isMet) place.append(make('span', '', taskOf(level, isBroken)));
   if (level.first && isBroken && !isMet) place.append(make('span', 'good', ' Broken. '));
   if (more) place.append(make('span', 'bad', ` ${more}`));
-  if (resets) place.append(' ', button('Its own text again', resets));
   if (isMet) place.append(' ', learned(level), ...(goes ? [button('Next level', goes, 'next')] : []));
+  if (resets) place.append(' ', button('The level\u2019s text again', resets));
 }
 
 /** @param {Level} level */

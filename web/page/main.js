@@ -41,7 +41,8 @@ async function share(app) {
   const place = app.place(), isOwnLevel = Boolean(app.level && app.isEdited), base = location.href.split('#')[0];
   const address = base + await addressOf(isOwnLevel ? { text: place.text ?? app.editor.text } : place);
   byId('address').value = address;
-  byId('edits').textContent = isOwnLevel ? 'This link gives the level to students. Keep your text, to change it later.' : '';
+  const words = isOwnLevel ? 'This link gives the level to students. Keep your text, to change it later.' : '';
+  byId('edits').textContent = byId('fault').textContent ? 'The text has a fault: mend it before you send this.' : words;
   byId('share').showModal();
   byId('address').select();
   if (navigator.clipboard) navigator.clipboard.writeText(address).catch(() => {});

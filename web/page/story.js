@@ -53,7 +53,7 @@ export function showStory(play) {
   const said = last.flatMap(({ event: [seat, words, rule] }) =>
     [make('span', 'event', `${seats[seat]} ${words}.`), ...(rule ? [make('span', 'rule', rule)] : [])]);
   const start = 'You are the scheduler: who is outside may arrive, who is inside goes on, and where a kind leaves it open ' +
-    'you say who comes next.';
+    'you say who comes next. An order goes wrong if an assert fails, or if somebody waits for ever.';
   const begun = [start, promiseOf(play.kind.kind)].map((it) => make('span', 'rule', it));
   byId('say').replaceChildren(...(play.path.length ? said : begun));
   byId('log').replaceChildren(...all.map(({ event: [seat, words] }) => make('li', '', `${seats[seat]} ${words}`)));

@@ -51,7 +51,7 @@ export function verdictOf(all) {
     const first = `${bad[0].kind}: ${outcome === 'stuck' ? 'stuck, ' : who ? `${who}: ` : ''}${why}`;
     parts.push(`Wrong under ${names(bad)}. ${first}.`);
   }
-  if (right.length) parts.push(right.length === all.length ? 'Right in every order under all of them.' : `Right in every order under ${names(right)}.`);
+  if (right.length) parts.push(right.length === all.length ? 'Right in every order under every kind.' : `Right in every order under ${names(right)}.`);
   if (unsaid.length) parts.push(`It can\u2019t be said under ${names(unsaid)}.`);
   return parts.join(' ');
 }

@@ -59,6 +59,24 @@ BESIDE = """(() => { const choices = document.querySelectorAll('#choices button'
   const beside = [...document.querySelectorAll('#tags .can')].filter((it) => { const box = it.getBoundingClientRect();
     return box.width > 20 && box.right <= innerWidth && box.top >= 0 && box.bottom <= innerHeight; });
   return choices > 0 && beside.length === choices; })()"""
+# The threads whose lines end under chips, even after a scroll to the right.
+COVERED = """new Promise((done) => {
+  const code = document.getElementById('code'), text = document.getElementById('threads').firstChild;
+  const rows = [...document.querySelectorAll('#tags .row')], lines = text.data.trimEnd().split('\\n');
+  code.scrollLeft = code.scrollWidth;
+  setTimeout(() => {
+    let at = 0;
+    const found = lines.filter((line, i) => {
+      const range = document.createRange(), chip = rows[rows.length - lines.length + i].firstElementChild;
+      range.setStart(text, at);
+      range.setEnd(text, at += line.length);
+      at += 1;
+      return chip && range.getBoundingClientRect().right > chip.getBoundingClientRect().left + 1;
+    });
+    code.scrollLeft = 0;
+    setTimeout(() => done(found), 50);
+  }, 50);
+})"""
 SEEN = """(() => ['code', 'monitor', 'choices', 'kinds', 'goal', 'say'].filter((id) => {
   const box = document.getElementById(id).getBoundingClientRect();
   return box.bottom > innerHeight || box.right > innerWidth; }))()"""
@@ -201,8 +219,8 @@ def repair(it: Student) -> None:
     it.shoot("3_fault")
     it.write(own.replace("if (items.length == 0)", "while (items.length == 0)"))
     it.wait(f"document.getElementById('goal').innerText.includes('Done') && {READY}", "level 3 is done")
-    it.must("Right in every order under all of them" in it.text("verdict"), it.text("verdict"))
-    it.run("[...document.querySelectorAll('#goal button')].find((it) => it.textContent === 'Its own text again').click(), 1")
+    it.must("Right in every order under every kind" in it.text("verdict"), it.text("verdict"))
+    it.run("[...document.querySelectorAll('#goal button')].find((it) => it.textContent === 'The level\u2019s text again').click(), 1")
     it.must(it.run("document.getElementById('source').value") == own, "the level's own text doesn't come back")
     it.wait(READY, "the level's own text is played")
     it.shoot("3_repaired")
@@ -264,6 +282,11 @@ def links(it: Student) -> None:
     it.open(it.run("location.hash"))
     it.must(it.text("kinds") == kinds, "the link holds another text")
     it.open("#scene=your own level")
+    it.write(FAULTY)
+    it.wait("document.getElementById('fault').textContent.includes('quotes')", "a level's fault is said")
+    it.press("l")
+    it.wait("document.getElementById('edits').textContent.includes('has a fault')", "the link of a fault says so")
+    it.run("document.querySelector('#share button').click(), 1")
     it.write(OWN)
     it.wait(f"document.getElementById('goal').innerText.includes('Your level: Tea') && {READY}", "a level is read")
     it.write(OWN.replace("a[2]", "a"))
@@ -274,7 +297,7 @@ def links(it: Student) -> None:
     it.wait("document.getElementById('address').value.includes('#')", "the link is shown")
     address = it.run("document.getElementById('address').value")
     it.open(address[address.index("#"):])
-    it.must("Tea." in it.text("goal") and "Find an order" in it.text("goal"), it.text("goal"))
+    it.must("Tea." in it.text("goal") and "Break it: find an order" in it.text("goal"), it.text("goal"))
     it.must(it.text("threads").startswith("thread a[2]"), "the threads are not the level's own")
     it.open("#scene=constructor&level=99&kind=XY&moves=7.x.9")
     it.must("1. Who goes next?" in it.text("goal"), "a link that says nothing leads nowhere")
@@ -285,10 +308,12 @@ def looks(it: Student) -> None:
     """Both sizes, light and dark: what is seen, contrasts, names and sizes."""
     for size, dark in ((WIDE, False), (WIDE, True), (PHONE, False), (PHONE, True)):
         name = f"{size[0]}_{'dark' if dark else 'light'}"
-        for level in (2, 9):
+        for level in (2, 9, 10):
             it.open(f"#level={level}", size, dark)
             it.must(it.run("document.documentElement.dataset.theme") == ("dark" if dark else "light"), f"{name}: the theme")
             it.must(it.run("document.documentElement.scrollWidth <= innerWidth"), f"{name}: level {level} is too wide")
+            covered = it.run(COVERED)
+            it.must(not covered, f"{name}: level {level} covers the end of {covered}")
             it.press("1")
             hidden, beside = it.run(SEEN), it.run(BESIDE)
             it.must(size == PHONE or not hidden, f"{name}: level {level} hides {hidden}")

@@ -57,7 +57,10 @@ def tool(names: Sequence[str], package: str) -> str:
 
 def build(words: Sequence[str]) -> None:
     """Runs a compiler. NotBuilt, with its first errors, if it refuses. They name files without their folders."""
-    done = subprocess.run(words, capture_output=True, text=True, errors="replace", timeout=SECONDS, check=False)
+    try:
+        done = subprocess.run(words, capture_output=True, text=True, errors="replace", timeout=SECONDS, check=False)
+    except subprocess.TimeoutExpired:
+        raise NotBuilt(f"the compiler takes more than {SECONDS} s: is the machine busy?") from None
     if done.returncode:
         lines = [line for line in done.stderr.splitlines() if "error:" in line or "undefined" in line]
         lines = [FOLDER.sub("", line) for line in lines[:MOST_LINES] or done.stderr.splitlines()[-1:]]

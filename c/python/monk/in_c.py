@@ -7,7 +7,9 @@ import os
 from . import compiled
 from .foreign import Process
 
-FLAGS = ("-std=gnu11", "-O1", "-g", "-Wall", "-Wextra")
+# (a call of what isn't declared, or a number for a pointer, would end the process and not say why)
+FLAGS = ("-std=gnu11", "-O1", "-g", "-Wall", "-Wextra", "-Werror=implicit-function-declaration", "-Werror=int-conversion",
+         "-Werror=incompatible-pointer-types")
 
 
 def answer(path: str, room: str) -> compiled.Answer:

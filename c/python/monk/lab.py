@@ -26,7 +26,7 @@ from .actor import where
 from .grading import TooLong
 from .kinds import KINDS
 from .orders import Comparison, Finding, Orders, compare
-from .run import Run
+from .run import NO_SUCH_CALL, Run
 from .scene import Made
 
 WIDTH = 92
@@ -150,9 +150,18 @@ def _broken(found: Comparison) -> str:
     run = finding.example
     bad = sum(finding.bad.values())
     lines = [f"{finding.kind}, {bad} of {finding.runs} orders: {run.fault}, after event {run.at}", run.between,
-             _misspelt(finding), run.picture(WIDTH, last=LAST_STEPS) if run.story else "", _moves(run),
-             f"So it is under {', '.join(found.breaks[1:])}, too." if found.breaks[1:] else ""]
+             _misspelt(finding), run.picture(WIDTH, last=LAST_STEPS) if run.story else "", _moves(run), *_others(found)]
     return "\n".join(line for line in lines if line)
+
+
+def _others(found: Comparison) -> List[str]:
+    """The other kinds that break. That some don't have a call is another thing than that it goes wrong."""
+    first, *others = found.breaks
+    lacks_first = found[first].outcome == NO_SUCH_CALL
+    alike = [kind for kind in others if (found[kind].outcome == NO_SUCH_CALL) == lacks_first]
+    rest = [kind for kind in others if kind not in alike]
+    return [f"So it is under {', '.join(alike)}, too." if alike else "",
+            f"And under {', '.join(rest)}: {found[rest[0]].example.fault}." if rest else ""]
 
 
 def _moves(run: Run) -> str:

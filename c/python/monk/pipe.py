@@ -1,4 +1,5 @@
-"""The process of programs in another language: it is asked by lines, and answers each by a line of JSON."""
+"""The process of programs in another language: it is asked by lines, and answers each by a line: a word, a digest of all
+answers of this run, and JSON."""
 
 from __future__ import annotations
 
@@ -30,12 +31,14 @@ class Pipe:
         # (what a program prints where the process answers is no answer)
         self.word = os.urandom(8).hex()
         self.process: Optional[subprocess.Popen[bytes]] = None
-        # Lines that were heard, each once: few are different.
+        # The JSON that was heard, each once: few are different.
         self.heard: Dict[bytes, Answer] = {}
+        # The digest of the answers of this run up to the last one.
+        self.digest = b""
 
     def ask(self, words: str) -> Answer:
         """The answer to that question. If an interrupt comes before it, the process is ended."""
-        process, line = self._begun(), b""
+        process, line, self.digest = self._begun(), b"", b""
         assert process.stdin and process.stdout
         try:
             with contextlib.suppress(BrokenPipeError):
@@ -59,11 +62,12 @@ class Pipe:
         return self.process
 
     def _parsed(self, line: bytes) -> Answer:
-        if line not in self.heard:
-            word, _, rest = line.partition(b" ")
-            is_whole = word == self.word.encode() and line.find(b"\n") == len(line) - 1
-            self.heard[line] = json.loads(rest) if is_whole else {"fault": INTRUDES, "is_last": True}
-        answer = self.heard[line]
+        word, _, rest = line.partition(b" ")
+        self.digest, _, rest = rest.partition(b" ")
+        is_whole = word == self.word.encode() and rest.find(b"\n") == len(rest) - 1
+        if is_whole and rest not in self.heard:
+            self.heard[rest] = json.loads(rest)
+        answer = self.heard[rest] if is_whole else {"fault": INTRUDES, "is_last": True}
         if "endless" in answer:
             self.end_late()
         if "is_last" in answer:

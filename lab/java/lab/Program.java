@@ -109,12 +109,15 @@ final class Program {
         else turn.release();
     }
 
+    /** Whether it came to its end, or to a fault. */
+    boolean isThrough() { return hasEnded; }
+
     /** The thread in which it runs. */
     Thread thread() { return worker; }
 
-    /** Whether the one that runs comes to its next call, or to its end, in time. */
-    static boolean isBack(long millis) throws InterruptedException {
-        return BACK.tryAcquire(millis, TimeUnit.MILLISECONDS);
+    /** Whether it comes to its next call, or to its end, in time. */
+    boolean isBack(long millis) throws InterruptedException {
+        return Patience.sees(most -> BACK.tryAcquire(most, TimeUnit.MILLISECONDS), worker, millis);
     }
 
     /** Where it came to: a fault, its end, or a call. */

@@ -8,21 +8,28 @@ import java.util.concurrent.locks.LockSupport;
  * scene is made, and in its tests and the words of its data.
  */
 final class Watch extends Thread {
-    private static final long NANOS = 1_000_000, LOOKS = 8, NEVER = 0, TOLD = -1;
+    private static final long NANOS = 1_000_000, LOOK_MS = 25, NEVER = 0, TOLD = -1;
     private final AtomicLong since = new AtomicLong(NEVER);
-    private final long millis;
+    private final Thread driver;
     private final Runnable tell;
+    private volatile long millis;
 
-    /** So long may what is watched take. The task is run once if it takes longer, and then the process ends. */
-    Watch(long millis, Runnable tell) {
+    /** The task is run once if what that thread does takes too long, and then the process ends. */
+    Watch(Thread driver, Runnable tell) {
         super("watch");
-        this.millis = millis;
+        this.driver = driver;
         this.tell = tell;
         setDaemon(true);
         start();
     }
 
-    void begins() { since.set(System.nanoTime()); }
+    /** So long may what is watched take. */
+    void begins(long most) {
+        millis = most;
+        since.set(System.nanoTime());
+    }
+
+    long limit() { return millis; }
 
     /** What is watched has ended. If it was told to be late, this doesn't return. */
     void ends() {
@@ -31,13 +38,24 @@ final class Watch extends Thread {
 
     @Override public void run() {
         while (true) {
-            LockSupport.parkNanos(millis * NANOS / LOOKS);
+            LockSupport.parkNanos(LOOK_MS * NANOS);
             long began = since.get();
             boolean isLate = began != NEVER && System.nanoTime() - began > millis * NANOS;
-            if (isLate && since.compareAndSet(began, TOLD)) {
+            if (isLate && !endsLate(began) && since.compareAndSet(began, TOLD)) {
                 tell.run();
                 Runtime.getRuntime().halt(1);
             }
+        }
+    }
+
+    private boolean endsLate(long began) {
+        try {
+            return Patience.sees(look -> {
+                sleep(look);
+                return since.get() != began;
+            }, driver, 0);
+        } catch (InterruptedException never) {
+            return false;
         }
     }
 }
