@@ -9,6 +9,8 @@
 #include <sys/wait.h>
 
 enum { TICK_NS = 50000000, QUIET_TICKS = 8, STUCK_TICKS = 2, MOST_WAKES = 100, WRITING_MS = 2000 };
+/* By turns it is known at once that all sleep for ever: so sleepers can be woken more often. */
+enum { MOST_WAKES_BY_TURNS = 1000 };
 /* In such a time nothing moves if no step is made, and less than one part in so many of processor time is used. */
 enum { IDLE_SECONDS = 2, LITTLE = 20 };
 enum { DOTS = 2 }; /* a folder has these links beside its entries */
@@ -231,7 +233,22 @@ static void tick(void) {
     for (int ns = 0; asked.turns && ns < TICK_NS; ns += TURN_TICK_NS) {
         real.nanosleep(&part, NULL);
         look_at_turns();
+        if (asked.mend == WAKES_SLEEPERS && are_stuck()) return;
     }
+}
+
+/* Whether it has been quiet for long enough to say that the program hangs, or to wake its sleepers: once it has lost a
+   signal, it may lose more, and each wake-up has to come soon. */
+static int is_over_after(int quiet, int wakes) {
+    int is_stuck = are_stuck();
+    if (asked.mend == WAKES_SLEEPERS && is_stuck) return quiet > 0;
+    return quiet >= (is_stuck || wakes > 0 ? STUCK_TICKS : QUIET_TICKS);
+}
+
+/* Whether sleepers were woken, so that the run goes on. */
+static int has_woken(int *wakes) {
+    int most = asked.turns ? MOST_WAKES_BY_TURNS : MOST_WAKES;
+    return asked.mend == WAKES_SLEEPERS && (*wakes)++ < most && wake_sleepers();
 }
 
 static void *watch(void *unused) {
@@ -249,8 +266,8 @@ static void *watch(void *unused) {
         take(&watcher_lock);
         quiet = count_quiet(quiet, &seen, watcher);
         let(&watcher_lock);
-        if (quiet < (are_stuck() ? STUCK_TICKS : QUIET_TICKS)) continue;
-        if (asked.mend != WAKES_SLEEPERS || wakes++ >= MOST_WAKES || !wake_sleepers()) end_by_watcher("hung");
+        if (!is_over_after(quiet, wakes)) continue;
+        if (!has_woken(&wakes)) end_by_watcher("hung");
         quiet = 0;
     }
     return unused;

@@ -45,7 +45,7 @@ class Repeats(NamedTuple):
     kind: str = ""               # nothing: no run went wrong
     runs: int = 0
     bad: int = 0                 # of those that were as before
-    mended: Dict[int, bool] = {} # for each mend that was tried, whether all runs were right
+    mended: Dict[int, bool] = {} # for each mend under which no run was late, whether all were right
 
     def is_seldom(self) -> bool:
         """Whether too few went wrong again to learn from what is right."""
@@ -190,7 +190,7 @@ def forgotten(facts: Facts) -> Optional[Lesson]:
 
 
 def deadlock(facts: Facts) -> Optional[Lesson]:
-    if facts.having(WRONG) or not facts.mended:
+    if facts.having(WRONG) or facts.mended.get(WAKES_SLEEPERS, True):
         return None
     return Lesson("deadlock", f"It hangs under {' '.join(facts.bad())}, also when all are woken: what these threads"
                   " wait for doesn't come true. A deadlock, or a change that is forgotten, not only its signal.")

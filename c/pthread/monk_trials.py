@@ -66,9 +66,13 @@ class Try:
         self.remarks: Dict[str, int] = {}       # and in how many runs each was made
         self.untried: Dict[str, None] = {}      # sentences
 
+    def job_of(self, it: Run) -> Job:
+        """A run whose sleepers are woken each time that all sleep has a longer limit: that takes a while each time."""
+        return self.job._replace(seconds=PATIENCE * self.job.seconds) if it.mend == WAKES_SLEEPERS else self.job
+
     def options(self, it: Run) -> List[str]:
         words = ["--kind", it.kind, "--wish", it.wish, "--seed", str(it.seed), "--eager", str(self.asked.eager)]
-        words += ["--seconds", f"{self.job.seconds:g}"]
+        words += ["--seconds", f"{self.job_of(it).seconds:g}"]
         words += [word for place in self.asked.leave for word in ("--leave", place)]
         words += ["--shake", str(it.seed)] if it.seed % 2 == 1 and not self.asked.steady and not it.turns else []
         words += ["--turns", it.turns] if it.turns else []
@@ -79,7 +83,7 @@ class Try:
     def run(self, it: Run) -> Result:
         folder = os.path.join(self.room, f"{it.name()}.{it.seed}")
         schedule = ["--schedule", f"{folder}.turns"] if it.turns else []
-        result = run_under(self.job, folder, [*self.options(it), *schedule])
+        result = run_under(self.job_of(it), folder, [*self.options(it), *schedule])
         self.has_waits = self.has_waits or has_waits(result.folder)
         for remark in remarks_in(result.folder):
             self.remarks[remark] = self.remarks.get(remark, 0) + 1
@@ -160,7 +164,8 @@ class Try:
             bad = REPEATED
         else:
             bad = REPEATED - self.count_repeated(cell, 0, pool)[OK]
-        is_right = {mend: self.count_repeated(cell, mend, pool)[OK] == REPEATED for mend in mends}
+        ends = {mend: self.count_repeated(cell, mend, pool) for mend in mends}
+        is_right = {mend: count[OK] == REPEATED for mend, count in ends.items() if not count[LATE]}
         return Repeats(cell.kind, REPEATED, bad, is_right)
 
     def unasked(self, cells: List[Cell], pool: ThreadPoolExecutor) -> List[Cell]:

@@ -25,6 +25,7 @@ CASES = (Case({"PB": OK, "NPNB": OK}, [], "right"),
          Case({"PB": HUNG, "NPNB": HUNG}, [True, True], "broadcast"),
          Case({"PB": HUNG, "NPNB": HUNG}, [False, True], "signal"),
          Case({"PB": HUNG, "NPNB": HUNG}, [False, False], "deadlock"),
+         Case({"PB": HUNG, "NPNB": HUNG}, [False], "hoare"),      # late once mended
          Case({"PB": WRONG, "NPNB": WRONG}, [False, False], "hoare"),
          Case({"NPNB": WRONG}, [False, False], "order"),
          Case({"NPNB": OK, "PIR": HUNG}, [], "order"),
