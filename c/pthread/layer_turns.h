@@ -200,7 +200,7 @@ static void begin_turns_in_child(struct thread *t) {
 
 /* ---- By the watcher */
 
-/* Whether the system says that the thread sleeps. */
+/* Whether the system says that the thread sleeps. (A read of a disk, a page or a vfork ends by itself: D, not S.) */
 static int sleeps_in_system(pid_t id) {
     char path[64], text[256] = "";
     snprintf(path, sizeof path, "/proc/self/task/%d/stat", (int)id);
@@ -208,7 +208,7 @@ static int sleeps_in_system(pid_t id) {
     ssize_t length = file == NONE ? NONE : read(file, text, sizeof text - 1);
     if (file != NONE) close(file);
     const char *state = length > 0 ? strrchr(text, ')') : NULL;
-    return state && state[1] == ' ' && state[2] != 'R';
+    return state && state[1] == ' ' && state[2] == 'S';
 }
 
 static int has_others(const struct thread *holder) {

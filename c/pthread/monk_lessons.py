@@ -22,8 +22,11 @@ class Cell(NamedTuple):
     def count(self, what: str) -> int:
         return sum(result.what == what for result in self.results)
 
+    def count_bad(self) -> int:
+        return self.count(WRONG) + self.count(HUNG)
+
     def is_bad(self) -> bool:
-        return self.count(WRONG) + self.count(HUNG) > 0
+        return self.count_bad() > 0
 
     def with_hung(self) -> "Cell":
         """The cell whose late runs are known to hang."""
@@ -89,7 +92,7 @@ def untried(facts: Facts) -> Optional[Lesson]:
 
 def unasked(facts: Facts) -> Optional[Lesson]:
     """A wait without a loop, which only an unasked wake-up shows."""
-    bad = sum(cell.count(WRONG) + cell.count(HUNG) for cell in facts.unasked.cells)
+    bad = sum(cell.count_bad() for cell in facts.unasked.cells)
     if not bad or "NPNB" in facts.bad():
         return None
     places = f" at {', '.join(facts.unasked.places)}" if facts.unasked.places else ""

@@ -1,4 +1,5 @@
 """One run of a program, plain or under a kind of monitor, and how it is judged. Part of monk-try."""
+import fcntl
 import os
 import re
 import signal
@@ -7,7 +8,7 @@ import threading
 import time
 from collections import Counter
 from concurrent.futures import ThreadPoolExecutor
-from typing import Counter as Counts, Dict, List, NamedTuple, Optional, Set, Tuple
+from typing import IO, Counter as Counts, Dict, List, NamedTuple, Optional, Set, Tuple
 
 HERE = os.path.dirname(os.path.realpath(__file__))
 OK, WRONG, HUNG, LATE, CANT = "ok", "wrong", "hung", "late", "n/a"
@@ -20,6 +21,8 @@ FEWEST_PLAIN, LONGEST_PLAIN_SECONDS = 3, 5
 # The limit of a plain run that is repeated alone.
 PATIENT_PLAIN_SECONDS = 60
 BUDGET = "65536"
+# Of Linux (Python knows it from 3.10 on). A user may have so wide a pipe.
+F_SETPIPE_SZ, WIDTH_OF_PIPE = 1031, 1 << 20
 
 
 class Result(NamedTuple):
@@ -63,6 +66,15 @@ _sessions: Set[int] = set()
 _is_over = threading.Event()
 
 
+def widen(pipe: Optional[IO[bytes]]) -> None:
+    """Who prints more than the pipe holds waits for its reader: by turns that is a sleep in an unknown call."""
+    try:
+        if pipe:
+            fcntl.fcntl(pipe, F_SETPIPE_SZ, WIDTH_OF_PIPE)
+    except OSError:
+        pass
+
+
 def run(words: List[str], seconds: float) -> Ended:
     """Runs it in a session of its own, and leaves no process of it. The status is STATUS_LATE if the time is over."""
     if _is_over.is_set():
@@ -71,6 +83,7 @@ def run(words: List[str], seconds: float) -> Ended:
     process = subprocess.Popen(words, stdin=subprocess.DEVNULL, stdout=subprocess.PIPE, stderr=subprocess.PIPE,
                                start_new_session=True)
     _sessions.add(process.pid)
+    widen(process.stdout)
     try:
         output, errors = process.communicate(timeout=0 if _is_over.is_set() else seconds)
         status = process.returncode

@@ -51,10 +51,11 @@ def asked_of(cell: Cell, result: Result) -> Run:
 
 
 def worst(cells: List[Cell]) -> Optional[Cell]:
-    """The first cell that is wrong, or only late under Mesa's rule, which comes first."""
+    """The cell with the most wrong runs, or one that is only late under Mesa's rule, which comes first."""
     bad = [cell for cell in cells if cell.is_bad()]
     late = [cell for cell in cells if cell.kind == "NPNB" and cell.count(LATE)]
-    bad.sort(key=lambda cell: (cell.kind != "NPNB", cell.row != TURNS))
+    kinds = [cell.kind for cell in bad]
+    bad.sort(key=lambda cell: (cell.kind != "NPNB", kinds.index(cell.kind), cell.row != TURNS, -cell.count_bad()))
     return next(iter([*bad, *late]), None) if bad and bad[0].kind == "NPNB" else next(iter([*late, *bad]), None)
 
 

@@ -148,6 +148,16 @@ MUTANTS: Dict[str, Mutant] = {
         "    count_elsewhere(RWLOCKS, answer == EBUSY);\n",
         "",
         ("met",)),
+    "takes a child's time for a sleep": Mutant(
+        "layer_turns.h",
+        "state[2] == 'S';",
+        "state[2] != 'R';",
+        ("met",)),
+    "wakes sleepers too seldom": Mutant(
+        "layer_ends.h",
+        "    int most = asked.turns ? MOST_WAKES_BY_TURNS : MOST_WAKES;\n",
+        "    int most = asked.turns ? MOST_WAKES : MOST_WAKES_BY_TURNS;\n",
+        ("woken",)),
     "doesn't take a turn away": Mutant(
         "layer_turns.h",
         "    if (!has_others(t)) return;\n",
