@@ -91,14 +91,16 @@ def untried(facts: Facts) -> Optional[Lesson]:
 
 
 def unasked(facts: Facts) -> Optional[Lesson]:
-    """A wait without a loop, which only an unasked wake-up shows."""
+    """A wait without a loop, which only an unasked wake-up shows, but for runs that seldom go wrong again."""
     bad = sum(cell.count_bad() for cell in facts.unasked.cells)
-    if not bad or "NPNB" in facts.bad():
+    is_right_else = "NPNB" not in facts.bad()
+    if not bad or not (is_right_else or facts.unasked.places and facts.repeats.is_seldom()):
         return None
     places = f" at {', '.join(facts.unasked.places)}" if facts.unasked.places else ""
     count = sum(len(cell.results) for cell in facts.unasked.cells)
-    return Lesson("unasked", f"Wrong in {bad} of {count} runs in which waits wake unasked, as POSIX and C++ allow, right"
-                  f" under NPNB else: the wait{places} isn't in a loop that tests again. Write `while` for `if`.")
+    return Lesson("unasked", f"Wrong in {bad} of {count} runs in which waits wake unasked, as POSIX and C++ allow,"
+                  f" {'right' if is_right_else else 'and seldom'} under NPNB else: the wait{places} isn't in a loop that"
+                  " tests again. Write `while` for `if`.")
 
 
 def late(facts: Facts) -> Optional[Lesson]:

@@ -82,7 +82,7 @@ def exported_at(place: str) -> str:
         _exported[path] = [line.split(maxsplit=3) for line in said(["nm", "-D", "-S", "-C", path]).splitlines()]
     for row in _exported.get(path, []) if plus else []:
         if len(row) == 4 and row[2] in FUNCTIONS and int(row[0], 16) < int(offset, 16) <= int(row[0], 16) + int(row[1], 16):
-            return f", in {row[3].partition('(')[0].partition('@')[0]}"
+            return f" (in {row[3].partition('(')[0].partition('@')[0]})"
     return ""
 
 

@@ -17,6 +17,7 @@ REPEATED = 6
 # How many of a thousand waits wake unasked, in turn: often for a program that waits seldom, and seldom for one that
 # waits often. How many runs with each at least; and how many with each place, if some go wrong.
 RATES, LEAST_UNASKED, RUNS_AT, MOST_PLACES = ("500", "50"), 2, 4, 16
+SELDOM = 8
 # A run that is late is repeated with a longer limit, but only so many are.
 PATIENCE, MOST_PATIENT = 3, 4
 # How runs by turns choose who is next, by their seeds.
@@ -170,8 +171,10 @@ class Try:
         return Repeats(cell.kind, REPEATED, bad, is_right)
 
     def unasked(self, cells: List[Cell], pool: ThreadPoolExecutor) -> List[Cell]:
-        """The row of runs under Mesa's rule whose waits wake unasked, if the program is right without this."""
-        is_right = any(cell.count(OK) for cell in cells) and not any(cell.is_bad() for cell in cells)
+        """The row of runs under Mesa's rule whose waits wake unasked, if the program is right without this, but for a
+        run in so many."""
+        bad, runs = sum(cell.count_bad() for cell in cells), sum(len(cell.results) for cell in cells)
+        is_right = any(cell.count(OK) for cell in cells) and bad * SELDOM <= runs
         return self.cells("NPNB", RATES, pool) if is_right and self.has_waits else []
 
     def wrong_at(self, place: str, bad: List[Run], pool: ThreadPoolExecutor) -> int:

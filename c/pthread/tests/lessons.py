@@ -37,6 +37,8 @@ CASES = (Case({"PB": OK, "NPNB": OK}, [], "right"),
          Case({"NPNB": OK, "PB": LATE}, [], "late", OK),
          Case({"NPNB": WRONG, "PB": OK}, [True, True], "seldom", again=2),
          Case({"NPNB": WRONG, "PB": OK}, [True, True], "broadcast", again=3),
+         Case({"NPNB": WRONG, "PB": OK}, [True, True], "unasked", WRONG, again=2),
+         Case({"NPNB": WRONG, "PB": OK}, [True, True], "seldom", OK, again=2),
          Case({"NPNB": OK, "PB": HUNG}, [], "seldom", again=1))
 
 
@@ -46,7 +48,7 @@ def told_of(case: Case) -> Lesson:
     unasked = [Cell("NPNB", "any", [Result(case.unasked, "", "")], UNASKED)] if case.unasked else []
     kind = next((cell.kind for cell in cells if cell.is_bad()), "")
     repeats = Repeats(kind, 6 if kind else 0, case.again if kind else 0, mended)
-    return lesson(Facts(cells, Counter({OK: 1}), repeats, [], True, Unasked(unasked)))
+    return lesson(Facts(cells, Counter({OK: 1}), repeats, [], True, Unasked(unasked, ["x.c:1"] * bool(case.unasked))))
 
 
 def first_wrong_lesson() -> str:

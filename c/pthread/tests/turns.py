@@ -65,10 +65,12 @@ def woken(tests: Any) -> str:
 
 
 def repeats(tests: Any) -> str:
-    """Twenty runs with one seed have one end and one schedule; and faults show with some of ten seeds."""
+    """Twenty runs with one seed have one end and one schedule; and faults show with some of ten seeds. (What is printed
+    goes into a file: a full pipe makes the program wait for another one.)"""
     found = debian.programs(tests.room)
     programs = {" ".join(it): tests.words(it) for it in LESSONS if it != UNENDING}
-    programs.update({name: found[name] for name in MEETING if name in found})
+    into_file = ["sh", "-c", f"exec \"$@\" >{os.path.join(tests.room, 'printed')}", "sh"]
+    programs.update({name: [*into_file, *found[name]] for name in MEETING if name in found})
     for name, words in programs.items():
         runs = Counter(run_by(tests, words, 1, "walk", "repeats")[:2] for _ in range(TIMES))
         print(f"repeats: {name}: status {[*runs][0][0][0]}, {len(runs)} schedules in {TIMES} runs", flush=True)
