@@ -80,8 +80,10 @@ def exported_at(place: str) -> str:
     path, plus, offset = place.rpartition("+0x")
     if plus and path not in _exported:
         _exported[path] = [line.split(maxsplit=3) for line in said(["nm", "-D", "-S", "-C", path]).splitlines()]
+    at = int(offset, 16) if plus else 0
     for row in _exported.get(path, []) if plus else []:
-        if len(row) == 4 and row[2] in FUNCTIONS and int(row[0], 16) < int(offset, 16) <= int(row[0], 16) + int(row[1], 16):
+        start, size = (int(word, 16) for word in row[:2]) if len(row) == 4 and row[2] in FUNCTIONS else (at, 0)
+        if start < at <= start + size:
             return f" (in {row[3].partition('(')[0].partition('@')[0]})"
     return ""
 
