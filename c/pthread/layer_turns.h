@@ -233,7 +233,7 @@ static void lose_turn(struct thread *t, int is_asleep) {
         hand_on(NULL);
 }
 
-enum { TURN_TICK_NS = 2000000, SLEEPING_TICKS = 10, SPINNING_TICKS = 250 };
+enum { TURN_TICK_NS = 2000000, SLEEPING_TICKS = 10, SPINNING_NS = 500000000 };
 
 /* Whether nobody has the turn, and no thread outside, no limit and no other process gives it to anybody. */
 static int are_stuck(void) {
@@ -248,26 +248,37 @@ static int are_stuck(void) {
     return is_stuck;
 }
 
+enum { OF_A_THREAD = 6 }; /* in the number of a clock of Linux: its processor time, as the scheduler counts it */
+
 static void pass_time(void) {
     turns.now += TURN_TICK_NS;
     if (turns.count) hand_on(NULL);
+}
+
+/* The processor time of a thread: others may keep it from the processor for long. */
+static int64_t used_by(pid_t id) {
+    struct timespec used = {0};
+    real.clock_gettime((clockid_t)(~(unsigned)id << 3 | OF_A_THREAD), &used);
+    return used.tv_sec * (int64_t)A_SECOND_NS + used.tv_nsec;
 }
 
 /* At each tick. The turn is lost by a holder that sleeps, or has run for long; if nobody has it, others are asked
    again. Time outside passes as it does. */
 static void look_at_turns(void) {
     static unsigned long seen;
-    static int ticks, asleep;
+    static int asleep;
+    static int64_t since;
     if (!asked.turns || turns.is_over) return;
     take(&turns.lock);
     struct thread *t = turns.holder;
-    if (turns.steps != seen) ticks = asleep = 0;
-    seen = turns.steps, ticks++;
+    int64_t used = t ? used_by(t->id) : 0;
+    if (turns.steps != seen) asleep = 0, since = used;
+    seen = turns.steps;
     asleep = t && sleeps_in_system(t->id) ? asleep + 1 : 0;
     if (!t) pass_time();
-    if (t && (asleep > SLEEPING_TICKS || ticks > SPINNING_TICKS)) {
+    if (t && (asleep > SLEEPING_TICKS || used - since > SPINNING_NS)) {
         lose_turn(t, asleep > SLEEPING_TICKS);
-        ticks = asleep = 0;
+        asleep = 0, since = used;
     }
     let(&turns.lock);
 }

@@ -153,6 +153,11 @@ MUTANTS: Dict[str, Mutant] = {
         "state[2] == 'S';",
         "state[2] != 'R';",
         ("met",)),
+    "takes the time of others for a spin": Mutant(
+        "layer_turns.h",
+        "    real.clock_gettime((clockid_t)(~(unsigned)id << 3 | OF_A_THREAD), &used);\n",
+        "    real.clock_gettime(id ? CLOCK_MONOTONIC : CLOCK_REALTIME, &used);\n",
+        ("busy",)),
     "wakes sleepers too seldom": Mutant(
         "layer_ends.h",
         "    int most = asked.turns ? MOST_WAKES_BY_TURNS : MOST_WAKES;\n",

@@ -3,6 +3,7 @@ import os
 import re
 import shutil
 from collections import Counter
+from concurrent.futures import ThreadPoolExecutor
 from typing import Any, List, Tuple
 
 import debian
@@ -17,6 +18,7 @@ UNENDING = ("barrier", "one")
 # Programs of Debian that meet where the layer sees it.
 MEETING = ("zstd", "pigz", "plzip", "lbzip2", "sort")
 MANY_LOST = "1000"
+CROWD = 4       # runs on each processor
 
 
 def run_by(tests: Any, words: List[str], seed: int, how: str, name: str) -> Tuple[Tuple[int, str], str, str]:
@@ -52,6 +54,17 @@ def met(tests: Any) -> str:
         if end != (0, "meetings: wrong 0\n") or "unrepeatable" in report or len(counts) != 3:
             fail(f"met: {how}: {end} {report[:500]}")
     return ", ".join(f"{name} {calls}" for name, calls, _ in counts)
+
+
+def busy(tests: Any) -> str:
+    """A thread that others keep from the processor keeps its turn."""
+    words, count = tests.words(("meetings", "busy")), CROWD * (os.cpu_count() or 1)
+    with ThreadPoolExecutor(count) as pool:
+        runs = list(pool.map(lambda number: run_by(tests, words, 1, "walk", f"busy.{number}"), range(count)))
+    lost = [report for _, _, report in runs if "unrepeatable" in report]
+    if {end for end, _, _ in runs} != {(0, "meetings: wrong 0\n")} or lost:
+        fail(f"busy: {runs[0][0]} {len(lost)} of {count} lost turns: {lost[:1]}")
+    return f"{count} runs at once"
 
 
 def woken(tests: Any) -> str:
