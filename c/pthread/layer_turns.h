@@ -8,7 +8,7 @@
 
 #include "layer_schedule.h"
 
-enum { STEP_NS = 1000, A_SECOND_NS = 1000000000, MOST_LOST = 40, COST_OF_SPIN = 10 };
+enum { STEP_NS = 1000, A_SECOND_NS = 1000000000, MOST_LOST = 40, COST_OF_SPIN = 30 };
 
 #define NEVER INT64_MAX
 
@@ -233,7 +233,7 @@ static void lose_turn(struct thread *t, int is_asleep) {
         hand_on(NULL);
 }
 
-enum { TURN_TICK_NS = 2000000, SLEEPING_TICKS = 10, SPINNING_NS = 500000000 };
+enum { TURN_TICK_NS = 2000000, SLEEPING_TICKS = 10, SPINNING_NS = 1000000000 };
 
 /* Whether nobody has the turn, and no thread outside, no limit and no other process gives it to anybody. */
 static int are_stuck(void) {

@@ -184,13 +184,17 @@ class Try:
 
     def woken(self, cells: List[Cell], pool: ThreadPoolExecutor) -> List[str]:
         """The places of waits whose unasked ends alone make the program go wrong, in half of the runs or more: of
-        those the ones that do so most often."""
+        those the ones that do so most often. If there is none, other runs are tried."""
         bad = [(cell, result) for cell in cells for result in cell.results if result.what in (WRONG, HUNG)]
         places = list(dict.fromkeys(place for _, result in bad for place in woken_in(result.folder)))[:MOST_PLACES]
-        again = [asked_of(*bad[number % len(bad)])._replace(again=number) for number in range(RUNS_AT)] if bad else []
-        wrong = {place: self.wrong_at(place, again, pool) for place in places}
-        most = max(wrong.values(), default=0)
-        return [line_of(place) for place in places if 2 * wrong[place] >= max(RUNS_AT, most + 1)]
+        for numbers in (range(RUNS_AT), range(RUNS_AT, 2 * RUNS_AT)) if bad else ():
+            again = [asked_of(*bad[number % len(bad)])._replace(again=number) for number in numbers]
+            wrong = {place: self.wrong_at(place, again, pool) for place in places}
+            most = max(wrong.values(), default=0)
+            found = [line_of(place) for place in places if 2 * wrong[place] >= max(RUNS_AT, most + 1)]
+            if found:
+                return found
+        return []
 
     def facts(self, cells: List[Cell], plain: Counts[str], unasked: List[Cell], pool: ThreadPoolExecutor) -> Facts:
         repeats = self.repeats(cells, pool)

@@ -9,7 +9,7 @@
 #include <time.h>
 #include <unistd.h>
 
-enum { THREADS = 4, MEETINGS = 20, SLEEP_US = 500, CHILD_NS = 100000000, BUSY_NS = 300000000 };
+enum { THREADS = 4, MEETINGS = 20, SLEEP_US = 500, CHILD_NS = 100000000, BUSY_NS = 400000000 };
 
 static sem_t full, empty;
 static pthread_rwlock_t lock = PTHREAD_RWLOCK_INITIALIZER;
