@@ -32,6 +32,8 @@ def name_of(place: str) -> str:
     return name if at == address else f"{name}+{at - address}"
 
 
+# That of binutils 2.40 takes some lines of a header for those of the file that includes it.
+TOOLS = ("llvm-addr2line", "addr2line")
 _lines: Dict[str, str] = {}
 
 
@@ -40,9 +42,9 @@ def full_line(place: str) -> str:
     inlined; nothing if the program doesn't say."""
     path, plus, offset = place.rpartition("+0x")
     if plus and place not in _lines:
-        rows = said(["addr2line", "-i", "-e", path, hex(int(offset, 16) - 1)]).splitlines()
-        lines = [row.split(" ")[0] for row in rows if row and not row.startswith("?")]
-        _lines[place] = min(lines, key=is_header, default="")
+        told = (said([tool, "-i", "-e", path, hex(int(offset, 16) - 1)]).splitlines() for tool in TOOLS)
+        found = ([row.split(" ")[0] for row in rows if row and not row.startswith("?")] for rows in told)
+        _lines[place] = min(next(filter(None, found), []), key=is_header, default="")
     return _lines.get(place, "")
 
 
