@@ -80,14 +80,14 @@ static int has_child(void) {
     return waitid(P_ALL, 0, &child, WEXITED | WNOHANG | WNOWAIT) == 0;
 }
 
-/* A timer or a child may wake somebody, and so may a signal at a mutex that is left alone. */
+/* A timer or a child may wake somebody, and so may a signal at a mutex that is left alone, or another process. */
 static int may_be_woken(void) {
     struct itimerval alarm;
     char first;
     int timers = open("/proc/self/timers", O_RDONLY | O_CLOEXEC);
     int has_timer = timers != NONE && read(timers, &first, 1) > 0;
     if (timers != NONE) close(timers);
-    if (has_timer || waits_left_alone) return 1;
+    if (has_timer || waits_left_alone || waits_for_others()) return 1;
     if (!getitimer(ITIMER_REAL, &alarm) && (alarm.it_value.tv_sec || alarm.it_value.tv_usec)) return 1;
     return has_child();
 }
@@ -210,7 +210,8 @@ static void look_at_activity(struct activity *last) {
 static void end_if_over(struct timespec begin, const struct activity *last, pid_t watcher) {
     double idle = asked.seconds / 2 < IDLE_SECONDS ? asked.seconds / 2 : IDLE_SECONDS;
     if (seconds_since(begin) < asked.seconds + has_child()) return;
-    end_by_watcher(seconds_since(last->at) < idle || has_child() || !all_sleep(watcher) ? "late" : "hung");
+    int may_go_on = seconds_since(last->at) < idle || has_child() || waits_for_others() || !all_sleep(watcher);
+    end_by_watcher(may_go_on ? "late" : "hung");
 }
 
 /* Whether the program's last thread has ended, and its first one before. The first stays until the process ends. */

@@ -248,6 +248,17 @@ static int are_stuck(void) {
     return is_stuck;
 }
 
+/* Whether a thread waits for a pipe or a socket: another process may be at its other end. */
+static int waits_for_others(void) {
+    int found = 0;
+    if (!asked.turns || turns.is_over) return 0;
+    take(&turns.lock);
+    for (int i = 0; i < turns.count; i++)
+        found |= turns.members[i]->turn.state == BLOCKS && turns.members[i]->turn.is_of_others;
+    let(&turns.lock);
+    return found;
+}
+
 enum { OF_A_THREAD = 6 }; /* in the number of a clock of Linux: its processor time, as the scheduler counts it */
 
 static void pass_time(void) {

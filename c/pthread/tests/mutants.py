@@ -153,6 +153,11 @@ MUTANTS: Dict[str, Mutant] = {
         "state[2] == 'S';",
         "state[2] != 'R';",
         ("met",)),
+    "takes a wait for another process for a hang": Mutant(
+        "layer_ends.h",
+        "waits_left_alone || waits_for_others()) return 1;",
+        "waits_left_alone) return 1;",
+        ("piped",)),
     "takes the time of others for a spin": Mutant(
         "layer_turns.h",
         "    real.clock_gettime((clockid_t)(~(unsigned)id << 3 | OF_A_THREAD), &used);\n",

@@ -56,6 +56,15 @@ def met(tests: Any) -> str:
     return ", ".join(f"{name} {calls}" for name, calls, _ in counts)
 
 
+def piped(tests: Any) -> str:
+    """A process that waits for a slow one doesn't hang. (A sleep would take no time: the other counts.)"""
+    words = ["sh", "-c", "(i=0; while [ $i -lt 600000 ]; do i=$((i + 1)); done; echo told) | grep told"]
+    end, _, report = run_by(tests, words, 1, "walk", "piped")
+    if end != (0, "told\n"):
+        fail(f"piped: {end} {report}")
+    return "waits for another process"
+
+
 def busy(tests: Any) -> str:
     """A thread that others keep from the processor keeps its turn."""
     words, count = tests.words(("meetings", "busy")), CROWD * (os.cpu_count() or 1)
