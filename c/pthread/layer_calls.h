@@ -196,7 +196,7 @@ static int wait_by(struct locking it, pthread_cond_t *condition, const void *fro
     struct monitor *m = monitor_of(it.mutex);
     if (m && m->owner != t) return EPERM;
     if (attention == NOTHING) attention = MONITORS;
-    if (!is_watched) watch_process();
+    be_watched();
     if (!m && !(asked.left_alone && is_named(from))) m = promote(it.mutex, t);
     if (it.how == TIMED) it.clock = condition->__data.__wrefs & IS_MONOTONIC ? CLOCK_MONOTONIC : CLOCK_REALTIME;
     if (it.until && (!is_clock(it.clock) || !is_time(it.until))) return EINVAL;

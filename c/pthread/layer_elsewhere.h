@@ -52,10 +52,16 @@ static int is_posted(struct thread *t) {
     return !sem_getvalue((sem_t *)(uintptr_t)t->turn.what, &value) && value > 0;
 }
 
+/* Whether other processes may post it; as glibc keeps it, after the value. */
+static int is_of_processes(const sem_t *semaphore) { return ((const int *)(const void *)semaphore)[2] != 0; }
+
 /* Whether it was taken by turns; else its time is over (LATE), or the thread has to wait freely. */
 static enum waited take_by_turns(sem_t *semaphore, int64_t until) {
     while (is_by_turns(me)) {
-        if (sleep_or_end(me, is_posted, semaphore, until) == LATE) return LATE;
+        me->turn.is_of_others = is_of_processes(semaphore);
+        enum waited how = sleep_or_end(me, is_posted, semaphore, until);
+        me->turn.is_of_others = 0;
+        if (how == LATE) return LATE;
         pthread_testcancel();
         if (!real.sem_trywait(semaphore)) return MAY_GO_ON;
     }

@@ -326,8 +326,12 @@ static void watch_process(void) {
     watch_signals();
 }
 
+static void be_watched(void) {
+    if (!is_watched) watch_process();
+}
+
 /* ---- Forks. In the child no mutex is a monitor. Mutexes whose monitors its thread was inside are locked by it. The
-   child is watched from its first wait on: as it is forked, an allocator may still have its locks. The watcher then
+   child is watched from its first wait on, or its first sleep by turns: as it is forked, an allocator may still have its locks. The watcher then
    holds none, or the child's own watcher would wait for it for ever. */
 
 static void before_fork(void) {

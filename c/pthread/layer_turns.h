@@ -127,10 +127,13 @@ static void give_turn(struct thread *t, const char *does, const void *at) {
 
 enum waited { LATE, MAY_GO_ON, FREELY };
 
+static void be_watched(void); /* layer_ends.h: the watcher asks those again who wait for others */
+
 /* Gives the turn up until the thread may go on (null: it can't before its time), or its time is over. FREELY: turns
    are over, and the thread has to wait as if there were none. */
 static enum waited sleep_by_turns(struct thread *t, int (*may_go_on)(struct thread *), const void *what,
                                   int64_t until) {
+    be_watched();
     take(&turns.lock);
     t->turn.may_go_on = may_go_on, t->turn.what = what, t->turn.until = until;
     t->turn.is_late = 0;

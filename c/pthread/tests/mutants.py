@@ -158,6 +158,16 @@ MUTANTS: Dict[str, Mutant] = {
         "waits_left_alone || waits_for_others()) return 1;",
         "waits_left_alone) return 1;",
         ("piped",)),
+    "takes a semaphore of processes for one of threads": Mutant(
+        "layer_elsewhere.h",
+        "(const void *)semaphore)[2] != 0; }",
+        "(const void *)semaphore)[2] < 0; }",
+        ("piped",)),
+    "doesn't watch a child that takes turns": Mutant(
+        "layer_turns.h",
+        "    be_watched();\n",
+        "",
+        ("piped",)),
     "takes the time of others for a spin": Mutant(
         "layer_turns.h",
         "    real.clock_gettime((clockid_t)(~(unsigned)id << 3 | OF_A_THREAD), &used);\n",
