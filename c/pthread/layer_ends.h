@@ -331,8 +331,8 @@ static void be_watched(void) {
 }
 
 /* ---- Forks. In the child no mutex is a monitor. Mutexes whose monitors its thread was inside are locked by it. The
-   child is watched from its first wait on, or its first sleep by turns: as it is forked, an allocator may still have its locks. The watcher then
-   holds none, or the child's own watcher would wait for it for ever. */
+   child is watched from its first wait on, or its first sleep by turns: as it is forked, an allocator may still have
+   its locks. The watcher then holds none, or the child's own watcher would wait for it for ever. */
 
 static void before_fork(void) {
     take(&watcher_lock);

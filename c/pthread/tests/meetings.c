@@ -1,5 +1,6 @@
 /* Threads that meet outside monitors: by joins, semaphores, read-write locks, barriers, sleeps and a pipe; one makes a
-   child. busy: one computes for a while. elsewhere: some also meet where no layer sees it, by a futex; spins: one waits for a flag without a call. */
+   child. busy: one computes for a while. elsewhere: some also meet where no layer sees it, by a futex; spins: one waits
+   for a flag without a call. */
 #define _GNU_SOURCE
 #include "textbook.h"
 #include <linux/futex.h>
