@@ -42,8 +42,13 @@ static int lock_noted(const struct locking *it) {
     return after_call(real.lock(it->mutex));
 }
 
+/* Whether a thread that can't have the mutex gives its turn up. (One of another process may have it.) */
+static int is_locked_by_turns(const struct locking *it) {
+    return is_by_turns(me) && it->how != TRY && !is_told_own(it->mutex) && !(it->mutex->__data.__kind & SHARED);
+}
+
 static inline int lock_really(const struct locking *it) {
-    if (is_by_turns(me) && it->how != TRY && !is_told_own(it->mutex)) {
+    if (is_locked_by_turns(it)) {
         int answer = lock_by_turns(it);
         if (answer != EBUSY) return answer;
     }

@@ -101,7 +101,7 @@ static int lock_rwlock(pthread_rwlock_t *lock, int (*attempt)(pthread_rwlock_t *
     begin_call(me->does, me->at);
     int answer = attempt(lock);
     count_elsewhere(RWLOCKS, answer == EBUSY);
-    while (answer == EBUSY && is_by_turns(me)) {
+    while (answer == EBUSY && is_by_turns(me) && !lock->__data.__shared) {
         uintptr_t seen = rwlock_unlocks;
         sleep_by_turns(me, may_try_again, (const void *)seen, NEVER);
         answer = attempt(lock);
@@ -109,10 +109,11 @@ static int lock_rwlock(pthread_rwlock_t *lock, int (*attempt)(pthread_rwlock_t *
     return answer == EBUSY ? wait(lock) : answer;
 }
 
-/* ---- Barriers, of which the layer reads how many threads they want */
+/* ---- Barriers, of which the layer reads how many threads they want, and whether those of other processes come too */
 
 struct barrier {
     unsigned arrived, round, wanted;
+    int is_of_processes;
 };
 
 static int is_through(struct thread *t) { return t->turn.answer; }
@@ -134,11 +135,11 @@ static void let_through(const void *barrier) {
 }
 
 static int meet(pthread_barrier_t *barrier) {
-    unsigned wanted = ((const struct barrier *)(const void *)barrier)->wanted;
+    const struct barrier *it = (const void *)barrier;
     begin_call(me->does, me->at);
     count_elsewhere(BARRIERS, 1);
-    if (!is_by_turns(me)) return real.barrier_wait(barrier);
-    if ((unsigned)count_at(barrier) + 1 == wanted) return let_through(barrier), PTHREAD_BARRIER_SERIAL_THREAD;
+    if (!is_by_turns(me) || it->is_of_processes) return real.barrier_wait(barrier);
+    if ((unsigned)count_at(barrier) + 1 == it->wanted) return let_through(barrier), PTHREAD_BARRIER_SERIAL_THREAD;
     me->turn.answer = 0;
     sleep_by_turns(me, is_through, barrier, NEVER);
     return me->turn.answer ? 0 : real.barrier_wait(barrier);

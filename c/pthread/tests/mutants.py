@@ -140,7 +140,7 @@ MUTANTS: Dict[str, Mutant] = {
         ("met",)),
     "keeps the turn at a barrier": Mutant(
         "layer_elsewhere.h",
-        "    if (!is_by_turns(me)) return real.barrier_wait(barrier);\n",
+        "    if (!is_by_turns(me) || it->is_of_processes) return real.barrier_wait(barrier);\n",
         "    if (!is_by_turns(me) || 1) return real.barrier_wait(barrier);\n",
         ("met",)),
     "doesn't count locks of read-write locks": Mutant(
@@ -162,6 +162,21 @@ MUTANTS: Dict[str, Mutant] = {
         "layer_elsewhere.h",
         "(const void *)semaphore)[2] != 0; }",
         "(const void *)semaphore)[2] < 0; }",
+        ("piped",)),
+    "takes a mutex of processes for one of threads": Mutant(
+        "layer_calls.h",
+        " && !(it->mutex->__data.__kind & SHARED);",
+        ";",
+        ("piped",)),
+    "takes a read-write lock of processes for one of threads": Mutant(
+        "layer_elsewhere.h",
+        " && !lock->__data.__shared) {",
+        ") {",
+        ("piped",)),
+    "takes a barrier of processes for one of threads": Mutant(
+        "layer_elsewhere.h",
+        " || it->is_of_processes) return real",
+        ") return real",
         ("piped",)),
     "doesn't watch a child that takes turns": Mutant(
         "layer_turns.h",

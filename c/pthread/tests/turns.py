@@ -57,11 +57,12 @@ def met(tests: Any) -> str:
 
 
 def piped(tests: Any) -> str:
-    """A process that waits for a slow one doesn't hang: at a semaphore, or a pipe. (A sleep would take no time: the
-    other counts.)"""
-    end, _, report = run_by(tests, tests.words(("kin",)), 1, "walk", "piped")
-    if end != (0, "kin: wrong 0\n"):
-        fail(f"piped: {end} {report}")
+    """A process that waits for a slow one doesn't hang: where processes meet, or at a pipe. (A sleep would take no time:
+    the other counts.)"""
+    for where in ("semaphore", "mutex", "lock", "barrier"):
+        end, _, report = run_by(tests, tests.words(("kin", where)), 1, "walk", "piped")
+        if end != (0, "kin: wrong 0\n"):
+            fail(f"piped: {where}: {end} {report}")
     words = ["sh", "-c", "(i=0; while [ $i -lt 600000 ]; do i=$((i + 1)); done; echo told) | grep told"]
     end, _, report = run_by(tests, words, 1, "walk", "piped")
     if end != (0, "told\n"):
