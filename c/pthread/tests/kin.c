@@ -1,5 +1,5 @@
-/* A thread of a child meets its parent, who comes after it has computed for a while: at a semaphore, a mutex, a read-write
-   lock or a barrier. */
+/* A thread of a child meets its parent, who comes after it has computed for a while: at a semaphore, a mutex, a
+   read-write lock or a barrier. */
 #define _GNU_SOURCE
 #include "textbook.h"
 #include <semaphore.h>
