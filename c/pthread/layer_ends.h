@@ -10,7 +10,7 @@
 
 enum { TICK_NS = 50000000, QUIET_TICKS = 8, STUCK_TICKS = 2, MOST_WAKES = 100, WRITING_MS = 2000 };
 /* By turns it is known at once that all sleep for ever: so sleepers can be woken more often. */
-enum { MOST_WAKES_BY_TURNS = 1000 };
+enum { MOST_WAKES_BY_TURNS = 500 };
 /* In such a time nothing moves if no step is made, and less than one part in so many of processor time is used. */
 enum { IDLE_SECONDS = 2, LITTLE = 20 };
 enum { DOTS = 2 }; /* a folder has these links beside its entries */

@@ -19,7 +19,7 @@ REPEATED = 6
 RATES, LEAST_UNASKED, RUNS_AT, MOST_PLACES = ("500", "50"), 2, 4, 16
 SELDOM = 8
 # A run that is late is repeated with a longer limit, but only so many are.
-PATIENCE, MOST_PATIENT = 3, 4
+PATIENCE, MOST_PATIENT, LEAST_TO_WAKE = 3, 4, 40
 # How runs by turns choose who is next, by their seeds.
 CHOICES = ("priorities", "walk", "walk", "walk")
 
@@ -69,8 +69,10 @@ class Try:
         self.untried: Dict[str, None] = {}      # sentences
 
     def job_of(self, it: Run) -> Job:
-        """A run whose sleepers are woken each time that all sleep has a longer limit: that takes a while each time."""
-        return self.job._replace(seconds=PATIENCE * self.job.seconds) if it.mend == WAKES_SLEEPERS else self.job
+        """A run whose sleepers are woken each time that all sleep has a longer limit: that takes a while each time, and
+        only a run that hangs at last is a deadlock."""
+        seconds = max(PATIENCE * self.job.seconds, LEAST_TO_WAKE)
+        return self.job._replace(seconds=seconds) if it.mend == WAKES_SLEEPERS else self.job
 
     def options(self, it: Run) -> List[str]:
         words = ["--kind", it.kind, "--wish", it.wish, "--seed", str(it.seed), "--eager", str(self.asked.eager)]
