@@ -42,8 +42,13 @@ static int lock_noted(const struct locking *it) {
     return after_call(real.lock(it->mutex));
 }
 
+/* Whether a thread that can't have the mutex gives its turn up. (One of another process may have it.) */
+static int is_locked_by_turns(const struct locking *it) {
+    return is_by_turns(me) && it->how != TRY && !is_told_own(it->mutex) && !(it->mutex->__data.__kind & SHARED);
+}
+
 static inline int lock_really(const struct locking *it) {
-    if (is_by_turns(me) && it->how != TRY && !is_told_own(it->mutex)) {
+    if (is_locked_by_turns(it)) {
         int answer = lock_by_turns(it);
         if (answer != EBUSY) return answer;
     }
@@ -196,7 +201,7 @@ static int wait_by(struct locking it, pthread_cond_t *condition, const void *fro
     struct monitor *m = monitor_of(it.mutex);
     if (m && m->owner != t) return EPERM;
     if (attention == NOTHING) attention = MONITORS;
-    if (!is_watched) watch_process();
+    be_watched();
     if (!m && !(asked.left_alone && is_named(from))) m = promote(it.mutex, t);
     if (it.how == TIMED) it.clock = condition->__data.__wrefs & IS_MONOTONIC ? CLOCK_MONOTONIC : CLOCK_REALTIME;
     if (it.until && (!is_clock(it.clock) || !is_time(it.until))) return EINVAL;

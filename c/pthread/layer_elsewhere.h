@@ -52,10 +52,16 @@ static int is_posted(struct thread *t) {
     return !sem_getvalue((sem_t *)(uintptr_t)t->turn.what, &value) && value > 0;
 }
 
+/* Whether other processes may post it; as glibc keeps it, after the value. */
+static int is_of_processes(const sem_t *semaphore) { return ((const int *)(const void *)semaphore)[2] != 0; }
+
 /* Whether it was taken by turns; else its time is over (LATE), or the thread has to wait freely. */
 static enum waited take_by_turns(sem_t *semaphore, int64_t until) {
     while (is_by_turns(me)) {
-        if (sleep_or_end(me, is_posted, semaphore, until) == LATE) return LATE;
+        me->turn.is_of_others = is_of_processes(semaphore);
+        enum waited how = sleep_or_end(me, is_posted, semaphore, until);
+        me->turn.is_of_others = 0;
+        if (how == LATE) return LATE;
         pthread_testcancel();
         if (!real.sem_trywait(semaphore)) return MAY_GO_ON;
     }
@@ -95,7 +101,7 @@ static int lock_rwlock(pthread_rwlock_t *lock, int (*attempt)(pthread_rwlock_t *
     begin_call(me->does, me->at);
     int answer = attempt(lock);
     count_elsewhere(RWLOCKS, answer == EBUSY);
-    while (answer == EBUSY && is_by_turns(me)) {
+    while (answer == EBUSY && is_by_turns(me) && !lock->__data.__shared) {
         uintptr_t seen = rwlock_unlocks;
         sleep_by_turns(me, may_try_again, (const void *)seen, NEVER);
         answer = attempt(lock);
@@ -103,10 +109,11 @@ static int lock_rwlock(pthread_rwlock_t *lock, int (*attempt)(pthread_rwlock_t *
     return answer == EBUSY ? wait(lock) : answer;
 }
 
-/* ---- Barriers, of which the layer reads how many threads they want */
+/* ---- Barriers, of which the layer reads how many threads they want, and whether those of other processes come too */
 
 struct barrier {
     unsigned arrived, round, wanted;
+    int is_of_processes;
 };
 
 static int is_through(struct thread *t) { return t->turn.answer; }
@@ -128,11 +135,11 @@ static void let_through(const void *barrier) {
 }
 
 static int meet(pthread_barrier_t *barrier) {
-    unsigned wanted = ((const struct barrier *)(const void *)barrier)->wanted;
+    const struct barrier *it = (const void *)barrier;
     begin_call(me->does, me->at);
     count_elsewhere(BARRIERS, 1);
-    if (!is_by_turns(me)) return real.barrier_wait(barrier);
-    if ((unsigned)count_at(barrier) + 1 == wanted) return let_through(barrier), PTHREAD_BARRIER_SERIAL_THREAD;
+    if (!is_by_turns(me) || it->is_of_processes) return real.barrier_wait(barrier);
+    if ((unsigned)count_at(barrier) + 1 == it->wanted) return let_through(barrier), PTHREAD_BARRIER_SERIAL_THREAD;
     me->turn.answer = 0;
     sleep_by_turns(me, is_through, barrier, NEVER);
     return me->turn.answer ? 0 : real.barrier_wait(barrier);

@@ -9,6 +9,8 @@
 #include <sys/wait.h>
 
 enum { TICK_NS = 50000000, QUIET_TICKS = 8, STUCK_TICKS = 2, MOST_WAKES = 100, WRITING_MS = 2000 };
+/* By turns it is known at once that all sleep for ever: so sleepers can be woken more often. */
+enum { MOST_WAKES_BY_TURNS = 500 };
 /* In such a time nothing moves if no step is made, and less than one part in so many of processor time is used. */
 enum { IDLE_SECONDS = 2, LITTLE = 20 };
 enum { DOTS = 2 }; /* a folder has these links beside its entries */
@@ -79,14 +81,14 @@ static int has_child(void) {
     return waitid(P_ALL, 0, &child, WEXITED | WNOHANG | WNOWAIT) == 0;
 }
 
-/* A timer or a child may wake somebody, and so may a signal at a mutex that is left alone. */
+/* A timer or a child may wake somebody, and so may a signal at a mutex that is left alone, or another process. */
 static int may_be_woken(void) {
     struct itimerval alarm;
     char first;
     int timers = open("/proc/self/timers", O_RDONLY | O_CLOEXEC);
     int has_timer = timers != NONE && read(timers, &first, 1) > 0;
     if (timers != NONE) close(timers);
-    if (has_timer || waits_left_alone) return 1;
+    if (has_timer || waits_left_alone || waits_for_others()) return 1;
     if (!getitimer(ITIMER_REAL, &alarm) && (alarm.it_value.tv_sec || alarm.it_value.tv_usec)) return 1;
     return has_child();
 }
@@ -209,7 +211,8 @@ static void look_at_activity(struct activity *last) {
 static void end_if_over(struct timespec begin, const struct activity *last, pid_t watcher) {
     double idle = asked.seconds / 2 < IDLE_SECONDS ? asked.seconds / 2 : IDLE_SECONDS;
     if (seconds_since(begin) < asked.seconds + has_child()) return;
-    end_by_watcher(seconds_since(last->at) < idle || has_child() || !all_sleep(watcher) ? "late" : "hung");
+    int may_go_on = seconds_since(last->at) < idle || has_child() || waits_for_others() || !all_sleep(watcher);
+    end_by_watcher(may_go_on ? "late" : "hung");
 }
 
 /* Whether the program's last thread has ended, and its first one before. The first stays until the process ends. */
@@ -232,7 +235,22 @@ static void tick(void) {
     for (int ns = 0; asked.turns && ns < TICK_NS; ns += TURN_TICK_NS) {
         real.nanosleep(&part, NULL);
         look_at_turns();
+        if (asked.mend == WAKES_SLEEPERS && are_stuck()) return;
     }
+}
+
+/* Whether it has been quiet for long enough to say that the program hangs, or to wake its sleepers: once it has lost a
+   signal, it may lose more, and each wake-up has to come soon. */
+static int is_over_after(int quiet, int wakes) {
+    int is_stuck = are_stuck();
+    if (asked.mend == WAKES_SLEEPERS && is_stuck) return quiet > 0;
+    return quiet >= (is_stuck || wakes > 0 ? STUCK_TICKS : QUIET_TICKS);
+}
+
+/* Whether sleepers were woken, so that the run goes on. */
+static int has_woken(int *wakes) {
+    int most = asked.turns ? MOST_WAKES_BY_TURNS : MOST_WAKES;
+    return asked.mend == WAKES_SLEEPERS && (*wakes)++ < most && wake_sleepers();
 }
 
 static void *watch(void *unused) {
@@ -250,8 +268,8 @@ static void *watch(void *unused) {
         take(&watcher_lock);
         quiet = count_quiet(quiet, &seen, watcher);
         let(&watcher_lock);
-        if (quiet < (are_stuck() ? STUCK_TICKS : QUIET_TICKS)) continue;
-        if (asked.mend != WAKES_SLEEPERS || wakes++ >= MOST_WAKES || !wake_sleepers()) end_by_watcher("hung");
+        if (!is_over_after(quiet, wakes)) continue;
+        if (!has_woken(&wakes)) end_by_watcher("hung");
         quiet = 0;
     }
     return unused;
@@ -309,9 +327,13 @@ static void watch_process(void) {
     watch_signals();
 }
 
+static void be_watched(void) {
+    if (!is_watched) watch_process();
+}
+
 /* ---- Forks. In the child no mutex is a monitor. Mutexes whose monitors its thread was inside are locked by it. The
-   child is watched from its first wait on: as it is forked, an allocator may still have its locks. The watcher then
-   holds none, or the child's own watcher would wait for it for ever. */
+   child is watched from its first wait on, or its first sleep by turns: as it is forked, an allocator may still have
+   its locks. The watcher then holds none, or the child's own watcher would wait for it for ever. */
 
 static void before_fork(void) {
     take(&watcher_lock);

@@ -8,7 +8,7 @@
 
 #include "layer_schedule.h"
 
-enum { STEP_NS = 1000, A_SECOND_NS = 1000000000, MOST_LOST = 40, COST_OF_SPIN = 10 };
+enum { STEP_NS = 1000, A_SECOND_NS = 1000000000, MOST_LOST = 40, COST_OF_SPIN = 30 };
 
 #define NEVER INT64_MAX
 
@@ -127,10 +127,13 @@ static void give_turn(struct thread *t, const char *does, const void *at) {
 
 enum waited { LATE, MAY_GO_ON, FREELY };
 
+static void be_watched(void); /* layer_ends.h: the watcher asks those again who wait for others */
+
 /* Gives the turn up until the thread may go on (null: it can't before its time), or its time is over. FREELY: turns
    are over, and the thread has to wait as if there were none. */
 static enum waited sleep_by_turns(struct thread *t, int (*may_go_on)(struct thread *), const void *what,
                                   int64_t until) {
+    be_watched();
     take(&turns.lock);
     t->turn.may_go_on = may_go_on, t->turn.what = what, t->turn.until = until;
     t->turn.is_late = 0;
@@ -200,7 +203,7 @@ static void begin_turns_in_child(struct thread *t) {
 
 /* ---- By the watcher */
 
-/* Whether the system says that the thread sleeps. */
+/* Whether the system says that the thread sleeps. (A read of a disk, a page or a vfork ends by itself: D, not S.) */
 static int sleeps_in_system(pid_t id) {
     char path[64], text[256] = "";
     snprintf(path, sizeof path, "/proc/self/task/%d/stat", (int)id);
@@ -208,7 +211,7 @@ static int sleeps_in_system(pid_t id) {
     ssize_t length = file == NONE ? NONE : read(file, text, sizeof text - 1);
     if (file != NONE) close(file);
     const char *state = length > 0 ? strrchr(text, ')') : NULL;
-    return state && state[1] == ' ' && state[2] != 'R';
+    return state && state[1] == ' ' && state[2] == 'S';
 }
 
 static int has_others(const struct thread *holder) {
@@ -233,7 +236,7 @@ static void lose_turn(struct thread *t, int is_asleep) {
         hand_on(NULL);
 }
 
-enum { TURN_TICK_NS = 2000000, SLEEPING_TICKS = 10, SPINNING_TICKS = 250 };
+enum { TURN_TICK_NS = 2000000, SLEEPING_TICKS = 10, SPINNING_NS = 1000000000 };
 
 /* Whether nobody has the turn, and no thread outside, no limit and no other process gives it to anybody. */
 static int are_stuck(void) {
@@ -248,26 +251,48 @@ static int are_stuck(void) {
     return is_stuck;
 }
 
+/* Whether a thread waits for a pipe or a socket: another process may be at its other end. */
+static int waits_for_others(void) {
+    int found = 0;
+    if (!asked.turns || turns.is_over) return 0;
+    take(&turns.lock);
+    for (int i = 0; i < turns.count; i++)
+        found |= turns.members[i]->turn.state == BLOCKS && turns.members[i]->turn.is_of_others;
+    let(&turns.lock);
+    return found;
+}
+
+enum { OF_A_THREAD = 6 }; /* in the number of a clock of Linux: its processor time, as the scheduler counts it */
+
 static void pass_time(void) {
     turns.now += TURN_TICK_NS;
     if (turns.count) hand_on(NULL);
+}
+
+/* The processor time of a thread: others may keep it from the processor for long. */
+static int64_t used_by(pid_t id) {
+    struct timespec used = {0};
+    real.clock_gettime((clockid_t)(~(unsigned)id << 3 | OF_A_THREAD), &used);
+    return used.tv_sec * (int64_t)A_SECOND_NS + used.tv_nsec;
 }
 
 /* At each tick. The turn is lost by a holder that sleeps, or has run for long; if nobody has it, others are asked
    again. Time outside passes as it does. */
 static void look_at_turns(void) {
     static unsigned long seen;
-    static int ticks, asleep;
+    static int asleep;
+    static int64_t since;
     if (!asked.turns || turns.is_over) return;
     take(&turns.lock);
     struct thread *t = turns.holder;
-    if (turns.steps != seen) ticks = asleep = 0;
-    seen = turns.steps, ticks++;
+    int64_t used = t ? used_by(t->id) : 0;
+    if (turns.steps != seen) asleep = 0, since = used;
+    seen = turns.steps;
     asleep = t && sleeps_in_system(t->id) ? asleep + 1 : 0;
     if (!t) pass_time();
-    if (t && (asleep > SLEEPING_TICKS || ticks > SPINNING_TICKS)) {
+    if (t && (asleep > SLEEPING_TICKS || used - since > SPINNING_NS)) {
         lose_turn(t, asleep > SLEEPING_TICKS);
-        ticks = asleep = 0;
+        asleep = 0, since = used;
     }
     let(&turns.lock);
 }

@@ -22,8 +22,11 @@ class Cell(NamedTuple):
     def count(self, what: str) -> int:
         return sum(result.what == what for result in self.results)
 
+    def count_bad(self) -> int:
+        return self.count(WRONG) + self.count(HUNG)
+
     def is_bad(self) -> bool:
-        return self.count(WRONG) + self.count(HUNG) > 0
+        return self.count_bad() > 0
 
     def with_hung(self) -> "Cell":
         """The cell whose late runs are known to hang."""
@@ -45,7 +48,7 @@ class Repeats(NamedTuple):
     kind: str = ""               # nothing: no run went wrong
     runs: int = 0
     bad: int = 0                 # of those that were as before
-    mended: Dict[int, bool] = {} # for each mend that was tried, whether all runs were right
+    mended: Dict[int, bool] = {} # for each mend under which no run was late, whether all were right
 
     def is_seldom(self) -> bool:
         """Whether too few went wrong again to learn from what is right."""
@@ -88,14 +91,16 @@ def untried(facts: Facts) -> Optional[Lesson]:
 
 
 def unasked(facts: Facts) -> Optional[Lesson]:
-    """A wait without a loop, which only an unasked wake-up shows."""
-    bad = sum(cell.count(WRONG) + cell.count(HUNG) for cell in facts.unasked.cells)
-    if not bad or "NPNB" in facts.bad():
+    """A wait without a loop, which only an unasked wake-up shows, but for runs that seldom go wrong again."""
+    bad = sum(cell.count_bad() for cell in facts.unasked.cells)
+    is_right_else = "NPNB" not in facts.bad()
+    if not bad or not (is_right_else or facts.unasked.places and facts.repeats.is_seldom()):
         return None
     places = f" at {', '.join(facts.unasked.places)}" if facts.unasked.places else ""
     count = sum(len(cell.results) for cell in facts.unasked.cells)
-    return Lesson("unasked", f"Wrong in {bad} of {count} runs in which waits wake unasked, as POSIX and C++ allow, right"
-                  f" under NPNB else: the wait{places} isn't in a loop that tests again. Write `while` for `if`.")
+    return Lesson("unasked", f"Wrong in {bad} of {count} runs in which waits wake unasked, as POSIX and C++ allow,"
+                  f" {'right' if is_right_else else 'and seldom'} under NPNB else: the wait{places} isn't in a loop that"
+                  " tests again. Write `while` for `if`.")
 
 
 def late(facts: Facts) -> Optional[Lesson]:
@@ -190,7 +195,7 @@ def forgotten(facts: Facts) -> Optional[Lesson]:
 
 
 def deadlock(facts: Facts) -> Optional[Lesson]:
-    if facts.having(WRONG) or not facts.mended:
+    if facts.having(WRONG) or facts.mended.get(WAKES_SLEEPERS, True):
         return None
     return Lesson("deadlock", f"It hangs under {' '.join(facts.bad())}, also when all are woken: what these threads"
                   " wait for doesn't come true. A deadlock, or a change that is forgotten, not only its signal.")

@@ -1,24 +1,15 @@
 """Where threads were at the end of a run, in the words of the program's source; and the step of a history at which a
 woken thread may rely on too much. Part of monk-try."""
 import os
-import subprocess
 from typing import Dict, List, NamedTuple, Optional, Set, Tuple
 
+from monk_callers import FUNCTIONS, callers_of, said
 from monk_runs import reports
 
 # The letters that nm gives to data of a program; and how far after a name an address may be that belongs to it.
 DATA, FARTHEST = "bBdDvVuC", 4096
 MOST_HISTORIES = 3
 _symbols: Dict[str, List[Tuple[int, str]]] = {}
-
-
-def said(words: List[str]) -> str:
-    """What a tool prints; nothing if there is no such tool."""
-    try:
-        done = subprocess.run(words, stdout=subprocess.PIPE, stderr=subprocess.DEVNULL, universal_newlines=True)
-    except OSError:
-        return ""
-    return done.stdout
 
 
 def symbols(program: str) -> List[Tuple[int, str]]:
@@ -41,19 +32,62 @@ def name_of(place: str) -> str:
     return name if at == address else f"{name}+{at - address}"
 
 
-def line_of(place: str) -> str:
-    """File and line of the call before PATH+0xOFFSET, or of its caller, if the call is in a header of the system; file
-    and function of a program without lines; the place itself if the program doesn't say."""
+# That of binutils 2.40 takes some lines of a header for those of the file that includes it.
+TOOLS = ("llvm-addr2line", "addr2line")
+_lines: Dict[str, str] = {}
+
+
+def full_line(place: str) -> str:
+    """Path and line of the call before PATH+0xOFFSET, or of its caller, if the call is in a header of the system and
+    inlined; nothing if the program doesn't say."""
     path, plus, offset = place.rpartition("+0x")
-    if not plus:
-        return place
-    rows = said(["addr2line", "-i", "-e", path, hex(int(offset, 16) - 1)]).splitlines()
-    lines = [row.split(" ")[0] for row in rows if row and not row.startswith("?")]
-    lines.sort(key=lambda line: line.startswith("/usr/include/"))
-    if not lines:
-        return place
-    file, _, number = os.path.basename(lines[0]).rpartition(":")
+    if plus and place not in _lines:
+        told = (said([tool, "-i", "-e", path, hex(int(offset, 16) - 1)]).splitlines() for tool in TOOLS)
+        found = ([row.split(" ")[0] for row in rows if row and not row.startswith("?")] for rows in told)
+        _lines[place] = min(next(filter(None, found), []), key=is_header, default="")
+    return _lines.get(place, "")
+
+
+def is_header(line: str) -> bool:
+    """Whether the line is one of the system's headers."""
+    return line.startswith("/usr/include/")
+
+
+def is_own(place: str) -> bool:
+    return bool(full_line(place)) and not is_header(full_line(place))
+
+
+def line_of(place: str) -> str:
+    """File and line of the call before PATH+0xOFFSET; from where it is called, if it is in a header of the system; file
+    and function of a program without lines; the place itself, and its function, if the program doesn't say more."""
+    line = full_line(place)
+    if not line:
+        return place + exported_at(place)
+    callers = callers_of(place, is_own) if is_header(line) else []
+    if callers:
+        return " or ".join(dict.fromkeys(map(short_line, callers)))
+    return short_line(place)
+
+
+def short_line(place: str) -> str:
+    file, _, number = os.path.basename(full_line(place)).rpartition(":")
     return f"{file}:{number}" if number != "?" else f"{file}, in {functions_at(place).partition(chr(10))[0]}"
+
+
+_exported: Dict[str, List[List[str]]] = {}
+
+
+def exported_at(place: str) -> str:
+    """The function that a library exports there; nothing if there is none."""
+    path, plus, offset = place.rpartition("+0x")
+    if plus and path not in _exported:
+        _exported[path] = [line.split(maxsplit=3) for line in said(["nm", "-D", "-S", "-C", path]).splitlines()]
+    at = int(offset, 16) if plus else 0
+    for row in _exported.get(path, []) if plus else []:
+        start, size = (int(word, 16) for word in row[:2]) if len(row) == 4 and row[2] in FUNCTIONS else (at, 0)
+        if start < at <= start + size:
+            return f" (in {row[3].partition('(')[0].partition('@')[0]})"
+    return ""
 
 
 _functions: Dict[str, str] = {}

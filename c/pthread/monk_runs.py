@@ -1,4 +1,5 @@
 """One run of a program, plain or under a kind of monitor, and how it is judged. Part of monk-try."""
+import fcntl
 import os
 import re
 import signal
@@ -7,19 +8,23 @@ import threading
 import time
 from collections import Counter
 from concurrent.futures import ThreadPoolExecutor
-from typing import Counter as Counts, Dict, List, NamedTuple, Optional, Set, Tuple
+from typing import IO, Counter as Counts, Dict, List, NamedTuple, Optional, Set, Tuple
+
+from monk_sleepers import sleeps_for_ever
 
 HERE = os.path.dirname(os.path.realpath(__file__))
 OK, WRONG, HUNG, LATE, CANT = "ok", "wrong", "hung", "late", "n/a"
 STATUS_CANT = 125
-# Of a run that was ended here. No program ends with it.
-STATUS_LATE = 1000
+# Of a run that was ended here: it still ran, or all its threads slept for ever. No program ends with them.
+STATUS_LATE, STATUS_HUNG = 1000, 1001
 # The seconds that a run may take beyond its time limit, for its histories.
 TO_WRITE = 10
 FEWEST_PLAIN, LONGEST_PLAIN_SECONDS = 3, 5
 # The limit of a plain run that is repeated alone.
 PATIENT_PLAIN_SECONDS = 60
 BUDGET = "65536"
+# Of Linux (Python knows it from 3.10 on). A user may have so wide a pipe.
+F_SETPIPE_SZ, WIDTH_OF_PIPE = 1031, 1 << 20
 
 
 class Result(NamedTuple):
@@ -63,6 +68,15 @@ _sessions: Set[int] = set()
 _is_over = threading.Event()
 
 
+def widen(pipe: Optional[IO[bytes]]) -> None:
+    """Who prints more than the pipe holds waits for its reader: by turns that is a sleep in an unknown call."""
+    try:
+        if pipe:
+            fcntl.fcntl(pipe, F_SETPIPE_SZ, WIDTH_OF_PIPE)
+    except OSError:
+        pass
+
+
 def run(words: List[str], seconds: float) -> Ended:
     """Runs it in a session of its own, and leaves no process of it. The status is STATUS_LATE if the time is over."""
     if _is_over.is_set():
@@ -71,13 +85,14 @@ def run(words: List[str], seconds: float) -> Ended:
     process = subprocess.Popen(words, stdin=subprocess.DEVNULL, stdout=subprocess.PIPE, stderr=subprocess.PIPE,
                                start_new_session=True)
     _sessions.add(process.pid)
+    widen(process.stdout)
     try:
         output, errors = process.communicate(timeout=0 if _is_over.is_set() else seconds)
         status = process.returncode
     except subprocess.TimeoutExpired:
+        status = STATUS_HUNG if sleeps_for_ever(process.pid) else STATUS_LATE
         end_session(process.pid)
         output, errors = process.communicate()
-        status = STATUS_LATE
     end_session(process.pid)
     _sessions.discard(process.pid)
     return Ended(status, output, errors.decode(errors="replace"), time.monotonic() - began)
@@ -110,7 +125,7 @@ def judged(ended: Ended, folder: str, expected: Expected) -> Result:
         return Result(CANT, refusal[1], folder)
     if folder and not ends and ended.status != STATUS_LATE:
         return Result(CANT, "the layer wasn't loaded into the program, or couldn't write its report", folder)
-    if "hung" in ends:
+    if "hung" in ends or ended.status == STATUS_HUNG:
         return Result(HUNG, "it hangs", folder)
     if "late" in ends or ended.status == STATUS_LATE:
         return Result(LATE, "it still ran at the limit", folder)
@@ -164,8 +179,13 @@ def expected_of(runs: List[Ended], status: int, expect: Optional[str], check: Op
     return Expected(status, outputs.pop() if len(outputs) == 1 else None, check)
 
 
+def has_ended(it: Ended) -> bool:
+    """By itself."""
+    return it.status not in (STATUS_LATE, STATUS_HUNG)
+
+
 def try_plain(words: List[str], runs: int, seconds: Optional[float], jobs: int) -> List[Ended]:
-    """Plain runs. Those that are late are repeated alone, with a longer limit, until one is late again."""
+    """Plain runs. Those that are late and don't hang are repeated alone, with a longer limit, until one is so again."""
     patient = seconds or PATIENT_PLAIN_SECONDS
     limit = min(patient, LONGEST_PLAIN_SECONDS)
     with ThreadPoolExecutor(jobs) as pool:
@@ -173,7 +193,7 @@ def try_plain(words: List[str], runs: int, seconds: Optional[float], jobs: int) 
     for number, it in enumerate(ended):
         if it.status == STATUS_LATE and limit < patient:
             ended[number] = run(words, patient)
-            patient = limit if ended[number].status == STATUS_LATE else patient
+            patient = patient if has_ended(ended[number]) else limit
     return ended
 
 

@@ -9,6 +9,8 @@ from monk_runs import CANT, HUNG, LATE, OK, STATUS_CANT, WRONG, Expected, status
 from monk_wrong import Wrong
 
 WHATS = (OK, WRONG, HUNG, LATE, CANT)
+# The lessons to which the step of a history belongs at which a woken thread goes on.
+OF_A_STEP = ("if", "hoare", "order", "seldom")
 
 
 def counted(cell: Cell) -> str:
@@ -34,10 +36,10 @@ def print_row(cells: List[Cell]) -> None:
     print(f"{name:<10}" + "".join(f"{counted(cell):>22}" for cell in cells), flush=True)
 
 
-def print_history(it: Dict[str, Any]) -> None:
+def print_history(it: Dict[str, Any], lesson: str) -> None:
     path = it["path"]
     print(f"History: {path}")
-    if "step" in it:
+    if "step" in it and lesson in OF_A_STEP:
         print(f"  see step {it['step']}: seat {it['seat']} comes back from its wait, though seat {it['between']} has"
               f" been in since its signal, and goes on (the first of {it['steps']} such steps)")
     print(f"  monk explain <{path}; monk page <{path} >{os.path.basename(path)}.html")
@@ -66,7 +68,7 @@ def print_end(cells: List[Cell], told: Told) -> None:
         print(f"The first wrong run: {rule}, wish {wrong.cell.wish}, seed {wrong.seed}: {wrong.result.why}.")
         print(*(f"  {line}" for line in [*wrong.waits, *wrong.turns]), sep="\n", end="\n" * bool(wrong.waits + wrong.turns))
         for it in wrong.histories:
-            print_history(it)
+            print_history(it, told.lesson.name)
         print(f"Again: {wrong.again}")
     for cant in {cell.row == TURNS: cell for cell in reversed(cells) if cell.count(CANT)}.values():
         result = cant.first(CANT) or cant.results[0]

@@ -17,8 +17,9 @@ REPEATED = 6
 # How many of a thousand waits wake unasked, in turn: often for a program that waits seldom, and seldom for one that
 # waits often. How many runs with each at least; and how many with each place, if some go wrong.
 RATES, LEAST_UNASKED, RUNS_AT, MOST_PLACES = ("500", "50"), 2, 4, 16
+SELDOM = 8
 # A run that is late is repeated with a longer limit, but only so many are.
-PATIENCE, MOST_PATIENT = 3, 4
+PATIENCE, MOST_PATIENT, LEAST_TO_WAKE = 3, 4, 40
 # How runs by turns choose who is next, by their seeds.
 CHOICES = ("priorities", "walk", "walk", "walk")
 
@@ -51,10 +52,11 @@ def asked_of(cell: Cell, result: Result) -> Run:
 
 
 def worst(cells: List[Cell]) -> Optional[Cell]:
-    """The first cell that is wrong, or only late under Mesa's rule, which comes first."""
+    """The cell with the most wrong runs, or one that is only late under Mesa's rule, which comes first."""
     bad = [cell for cell in cells if cell.is_bad()]
     late = [cell for cell in cells if cell.kind == "NPNB" and cell.count(LATE)]
-    bad.sort(key=lambda cell: (cell.kind != "NPNB", cell.row != TURNS))
+    kinds = [cell.kind for cell in bad]
+    bad.sort(key=lambda cell: (cell.kind != "NPNB", kinds.index(cell.kind), cell.row != TURNS, -cell.count_bad()))
     return next(iter([*bad, *late]), None) if bad and bad[0].kind == "NPNB" else next(iter([*late, *bad]), None)
 
 
@@ -66,9 +68,15 @@ class Try:
         self.remarks: Dict[str, int] = {}       # and in how many runs each was made
         self.untried: Dict[str, None] = {}      # sentences
 
+    def job_of(self, it: Run) -> Job:
+        """A run whose sleepers are woken each time that all sleep has a longer limit: that takes a while each time, and
+        only a run that hangs at last is a deadlock."""
+        seconds = max(PATIENCE * self.job.seconds, LEAST_TO_WAKE)
+        return self.job._replace(seconds=seconds) if it.mend == WAKES_SLEEPERS else self.job
+
     def options(self, it: Run) -> List[str]:
         words = ["--kind", it.kind, "--wish", it.wish, "--seed", str(it.seed), "--eager", str(self.asked.eager)]
-        words += ["--seconds", f"{self.job.seconds:g}"]
+        words += ["--seconds", f"{self.job_of(it).seconds:g}"]
         words += [word for place in self.asked.leave for word in ("--leave", place)]
         words += ["--shake", str(it.seed)] if it.seed % 2 == 1 and not self.asked.steady and not it.turns else []
         words += ["--turns", it.turns] if it.turns else []
@@ -79,7 +87,7 @@ class Try:
     def run(self, it: Run) -> Result:
         folder = os.path.join(self.room, f"{it.name()}.{it.seed}")
         schedule = ["--schedule", f"{folder}.turns"] if it.turns else []
-        result = run_under(self.job, folder, [*self.options(it), *schedule])
+        result = run_under(self.job_of(it), folder, [*self.options(it), *schedule])
         self.has_waits = self.has_waits or has_waits(result.folder)
         for remark in remarks_in(result.folder):
             self.remarks[remark] = self.remarks.get(remark, 0) + 1
@@ -160,12 +168,15 @@ class Try:
             bad = REPEATED
         else:
             bad = REPEATED - self.count_repeated(cell, 0, pool)[OK]
-        is_right = {mend: self.count_repeated(cell, mend, pool)[OK] == REPEATED for mend in mends}
+        ends = {mend: self.count_repeated(cell, mend, pool) for mend in mends}
+        is_right = {mend: count[OK] == REPEATED for mend, count in ends.items() if not count[LATE]}
         return Repeats(cell.kind, REPEATED, bad, is_right)
 
     def unasked(self, cells: List[Cell], pool: ThreadPoolExecutor) -> List[Cell]:
-        """The row of runs under Mesa's rule whose waits wake unasked, if the program is right without this."""
-        is_right = any(cell.count(OK) for cell in cells) and not any(cell.is_bad() for cell in cells)
+        """The row of runs under Mesa's rule whose waits wake unasked, if the program is right without this, but for a
+        run in so many."""
+        bad, runs = sum(cell.count_bad() for cell in cells), sum(len(cell.results) for cell in cells)
+        is_right = any(cell.count(OK) for cell in cells) and bad * SELDOM <= runs
         return self.cells("NPNB", RATES, pool) if is_right and self.has_waits else []
 
     def wrong_at(self, place: str, bad: List[Run], pool: ThreadPoolExecutor) -> int:
@@ -175,13 +186,17 @@ class Try:
 
     def woken(self, cells: List[Cell], pool: ThreadPoolExecutor) -> List[str]:
         """The places of waits whose unasked ends alone make the program go wrong, in half of the runs or more: of
-        those the ones that do so most often."""
+        those the ones that do so most often. If there is none, other runs are tried."""
         bad = [(cell, result) for cell in cells for result in cell.results if result.what in (WRONG, HUNG)]
         places = list(dict.fromkeys(place for _, result in bad for place in woken_in(result.folder)))[:MOST_PLACES]
-        again = [asked_of(*bad[number % len(bad)])._replace(again=number) for number in range(RUNS_AT)] if bad else []
-        wrong = {place: self.wrong_at(place, again, pool) for place in places}
-        most = max(wrong.values(), default=0)
-        return [line_of(place) for place in places if 2 * wrong[place] >= max(RUNS_AT, most + 1)]
+        for numbers in (range(RUNS_AT), range(RUNS_AT, 2 * RUNS_AT)) if bad else ():
+            again = [asked_of(*bad[number % len(bad)])._replace(again=number) for number in numbers]
+            wrong = {place: self.wrong_at(place, again, pool) for place in places}
+            most = max(wrong.values(), default=0)
+            found = [line_of(place) for place in places if 2 * wrong[place] >= max(RUNS_AT, most + 1)]
+            if found:
+                return found
+        return []
 
     def facts(self, cells: List[Cell], plain: Counts[str], unasked: List[Cell], pool: ThreadPoolExecutor) -> Facts:
         repeats = self.repeats(cells, pool)

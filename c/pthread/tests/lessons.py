@@ -27,6 +27,7 @@ CASES = (Case({"PB": OK, "NPNB": OK}, [], "right"),
          Case({"PB": HUNG, "NPNB": HUNG}, [True, True], "broadcast"),
          Case({"PB": HUNG, "NPNB": HUNG}, [False, True], "signal"),
          Case({"PB": HUNG, "NPNB": HUNG}, [False, False], "deadlock"),
+         Case({"PB": HUNG, "NPNB": HUNG}, [False], "hoare"),      # late once mended
          Case({"PB": WRONG, "NPNB": WRONG}, [False, False], "hoare"),
          Case({"NPNB": WRONG}, [False, False], "order"),
          Case({"NPNB": OK, "PIR": HUNG}, [], "order"),
@@ -38,6 +39,8 @@ CASES = (Case({"PB": OK, "NPNB": OK}, [], "right"),
          Case({"NPNB": OK, "PB": LATE}, [], "late", OK),
          Case({"NPNB": WRONG, "PB": OK}, [True, True], "seldom", again=2),
          Case({"NPNB": WRONG, "PB": OK}, [True, True], "broadcast", again=3),
+         Case({"NPNB": WRONG, "PB": OK}, [True, True], "unasked", WRONG, again=2),
+         Case({"NPNB": WRONG, "PB": OK}, [True, True], "seldom", OK, again=2),
          Case({"NPNB": OK, "PB": HUNG}, [], "seldom", again=1),
          Case({"PB": HUNG, "NPNB": HUNG}, [False, False], "unlock", unlocks=True))
 # Each row of that table, and the lesson's name.
@@ -56,7 +59,8 @@ def told_of(case: Case) -> Lesson:
     kind = next((cell.kind for cell in cells if cell.is_bad()), "")
     repeats = Repeats(kind, 6 if kind else 0, case.again if kind else 0, mended)
     unlocks = ["thread 1 ended inside"] * case.unlocks
-    return lesson(Facts(cells, Counter({OK: 1}), repeats, unlocks, True, Unasked(unasked)))
+    return lesson(Facts(cells, Counter({OK: 1}), repeats, unlocks, True,
+                        Unasked(unasked, ["x.c:1"] * bool(case.unasked))))
 
 
 def table() -> List[str]:

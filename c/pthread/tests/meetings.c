@@ -1,13 +1,16 @@
-/* Threads that meet outside monitors: by joins, semaphores, read-write locks, barriers, sleeps and a pipe. elsewhere:
-   some also meet where no layer sees it, by a futex; spins: one waits for a flag without a call. */
+/* Threads that meet outside monitors: by joins, semaphores, read-write locks, barriers, sleeps and a pipe; one makes a
+   child. busy: one computes for a while. elsewhere: some also meet where no layer sees it, by a futex; spins: one waits
+   for a flag without a call. */
 #define _GNU_SOURCE
 #include "textbook.h"
 #include <linux/futex.h>
 #include <semaphore.h>
 #include <sys/syscall.h>
+#include <sys/wait.h>
+#include <time.h>
 #include <unistd.h>
 
-enum { THREADS = 4, MEETINGS = 20, SLEEP_US = 500 };
+enum { THREADS = 4, MEETINGS = 20, SLEEP_US = 500, CHILD_NS = 100000000, BUSY_NS = 400000000 };
 
 static sem_t full, empty;
 static pthread_rwlock_t lock = PTHREAD_RWLOCK_INITIALIZER;
@@ -51,6 +54,22 @@ static void send_byte(int is_reader, int number) {
         must_hold(write(pipes[1], &byte, 1) == 1);
 }
 
+/* The thread sleeps until its child has ended, which it does by itself. */
+static void make_child(void) {
+    const struct timespec time = {0, CHILD_NS};
+    pid_t child = vfork();
+    if (child == 0) {
+        syscall(SYS_nanosleep, &time, NULL);
+        _exit(0);
+    }
+    must_hold(waitpid(child, NULL, 0) == child);
+}
+
+static void compute(void) {
+    struct timespec used = {0};
+    while (used.tv_sec == 0 && used.tv_nsec < BUSY_NS) clock_gettime(CLOCK_THREAD_CPUTIME_ID, &used);
+}
+
 /* Where the layer doesn't see it. */
 static void meet_elsewhere(int is_waiter) {
     if (!is_waiter) usleep(SLEEP_US);
@@ -66,6 +85,8 @@ static void meet_elsewhere(int is_waiter) {
 
 static void *work(void *it) {
     int number = (int)(long)it;
+    if (number == 0) make_child();
+    if (number == 0 && has("busy")) compute();
     for (int round = 0; round < MEETINGS; round++) {
         if (number < 2) (number ? take : put)(round);
         if (number >= 2) send_byte(number == 2, round);
@@ -73,7 +94,7 @@ static void *work(void *it) {
         meet_all(round);
         usleep(SLEEP_US);
     }
-    if (!has("right")) meet_elsewhere(number > 0);
+    if (has("elsewhere") || has("spins")) meet_elsewhere(number > 0);
     return NULL;
 }
 

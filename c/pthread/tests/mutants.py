@@ -175,7 +175,7 @@ MUTANTS: Dict[str, Mutant] = {
         ("met",)),
     "keeps the turn at a barrier": Mutant(
         "layer_elsewhere.h",
-        "    if (!is_by_turns(me)) return real.barrier_wait(barrier);\n",
+        "    if (!is_by_turns(me) || it->is_of_processes) return real.barrier_wait(barrier);\n",
         "    if (!is_by_turns(me) || 1) return real.barrier_wait(barrier);\n",
         ("met",)),
     "doesn't count locks of read-write locks": Mutant(
@@ -183,6 +183,51 @@ MUTANTS: Dict[str, Mutant] = {
         "    count_elsewhere(RWLOCKS, answer == EBUSY);\n",
         "",
         ("met",)),
+    "takes a child's time for a sleep": Mutant(
+        "layer_turns.h",
+        "state[2] == 'S';",
+        "state[2] != 'R';",
+        ("met",)),
+    "takes a wait for another process for a hang": Mutant(
+        "layer_ends.h",
+        "waits_left_alone || waits_for_others()) return 1;",
+        "waits_left_alone) return 1;",
+        ("piped",)),
+    "takes a semaphore of processes for one of threads": Mutant(
+        "layer_elsewhere.h",
+        "(const void *)semaphore)[2] != 0; }",
+        "(const void *)semaphore)[2] < 0; }",
+        ("piped",)),
+    "takes a mutex of processes for one of threads": Mutant(
+        "layer_calls.h",
+        " && !(it->mutex->__data.__kind & SHARED);",
+        ";",
+        ("piped",)),
+    "takes a read-write lock of processes for one of threads": Mutant(
+        "layer_elsewhere.h",
+        " && !lock->__data.__shared) {",
+        ") {",
+        ("piped",)),
+    "takes a barrier of processes for one of threads": Mutant(
+        "layer_elsewhere.h",
+        " || it->is_of_processes) return real",
+        ") return real",
+        ("piped",)),
+    "doesn't watch a child that takes turns": Mutant(
+        "layer_turns.h",
+        "    be_watched();\n",
+        "",
+        ("piped",)),
+    "takes the time of others for a spin": Mutant(
+        "layer_turns.h",
+        "    real.clock_gettime((clockid_t)(~(unsigned)id << 3 | OF_A_THREAD), &used);\n",
+        "    real.clock_gettime(id ? CLOCK_MONOTONIC : CLOCK_REALTIME, &used);\n",
+        ("busy",)),
+    "wakes sleepers too seldom": Mutant(
+        "layer_ends.h",
+        "    int most = asked.turns ? MOST_WAKES_BY_TURNS : MOST_WAKES;\n",
+        "    int most = asked.turns ? MOST_WAKES : MOST_WAKES_BY_TURNS;\n",
+        ("woken",)),
     "doesn't take a turn away": Mutant(
         "layer_turns.h",
         "    if (!has_others(t)) return;\n",

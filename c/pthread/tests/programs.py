@@ -13,13 +13,14 @@ SOUND = (Program(("odd",), "odd: bad 0"), Program(("timed", "60"), "timed: late 
          Program(("promote", "60"), "promote: bad 0"), Program(("crowd", "30", "8"), "crowd: all went"),
          Program(("barrier",), "barrier: wrong 0"), Program(("conditions",), "conditions: bad 0"))
 RIGHT = (("buffer", "right"), ("readers", "right"), ("philosophers", "right"), ("barber", "right"), ("pool", "right"),
-         ("pool", "after"), ("barrier", "right"), ("turns", "right"))
+         ("pool", "after"), ("barrier", "right"), ("turns", "right"), ("flag", "right"))
 # What monk-try has to say of a program with a planted fault; `right` if it is none. (A signal that the buffer forgets
 # in one round is covered by later ones: it can't be found for certain, so it isn't here.)
 LESSONS = {("buffer", "if"): "if", ("barber", "if"): "if", ("pool", "if"): "if", ("readers", "if"): "hoare",
            ("philosophers", "if"): "right", ("buffer", "one"): "broadcast", ("readers", "one"): "broadcast",
            ("pool", "one"): "broadcast", ("buffer", "early"): "signal", ("buffer", "unlock"): "unlock",
-           ("philosophers", "forget"): "deadlock", ("barrier", "one"): "broadcast", ("turns", "if"): "unasked"}
+           ("philosophers", "forget"): "deadlock", ("barrier", "one"): "broadcast", ("turns", "if"): "unasked",
+           ("flag", "outside"): "signal", ("flag", "twice"): "signal"}
 # What the layer remarks, by the fault of misuse.c: words of the sentence.
 REMARKS = {"right": "", "mutexes": "at once, which POSIX leaves undefined", "unlock": "hasn't locked it, while another",
            "clock": "its limit was read from CLOCK_MONOTONIC: it runs out at once"}

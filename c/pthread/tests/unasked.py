@@ -6,6 +6,7 @@ import sys
 from typing import Any
 from xml.etree import ElementTree
 
+from monk_places import who_waits
 from programs import REMARKS
 
 # Two runs of each kind that is named after them: one is shaken. (A run that isn't misses the `if` once in four.)
@@ -23,6 +24,19 @@ def unasked(tests: Any) -> str:
     if "turns.c:" not in told:
         fail(f"monk-try turns if: {told}")
     return "a wait without a loop, by its line"
+
+
+def called(tests: Any) -> str:
+    """The places of a program that isn't optimized, so that functions of headers wait in place of its own."""
+    folder = os.path.join(tests.room, "called")
+    os.makedirs(folder)
+    program = [tests.built("barrier", ["-O0"]), "one"]
+    tests.run("PB", "any", program, "--seconds", "1", "--report", os.path.join(folder, "report"))
+    told = who_waits(folder)
+    waits = [line for line in told if " waits on " in line]
+    if not waits or not all(" at barrier.cpp:" in line for line in waits) or "(in std::thread::join)" not in str(told):
+        fail(f"called: {told}")
+    return "by their own lines"
 
 
 def remarked(tests: Any) -> str:
