@@ -94,7 +94,7 @@ impl Task<'_> {
     ///
     /// # Errors
     ///
-    /// The errors of [`audit_stream`].
+    /// The errors of [`audit_stream`]. A trace may have written lines by then.
     ///
     /// # Cost
     ///
