@@ -171,8 +171,10 @@ int pthread_mutex_destroy(pthread_mutex_t *mutex) {
 
 /* ---- Conditions */
 
+/* With a mutex that is left alone. The condition may have been one of a monitor before: signals don't go there now. */
 static int wait_really(struct locking it, pthread_cond_t *condition) {
     waits_left_alone++;
+    forget_condition(condition);
     switch (it.how) {
     case TIMED:
         return real.timedwait(condition, it.mutex, it.until);

@@ -98,6 +98,11 @@ MUTANTS: Dict[str, Mutant] = {
         "    if (!m && !(asked.left_alone && is_named(from)))",
         "    if (!m)",
         ("left_alone",)),
+    "a condition stays with its monitor as another mutex waits": Mutant(
+        "layer_calls.h",
+        "    waits_left_alone++;\n    forget_condition(condition);\n",
+        "    waits_left_alone++;\n",
+        ("left_alone",)),
     "makes what may be left alone a monitor": Mutant(
         "layer_visits.h",
         "serials >= asked.eager || may_be_left(mutex)) return;",

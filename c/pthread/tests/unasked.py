@@ -62,7 +62,11 @@ def left_alone(tests: Any) -> str:
         end = file.readline()
     if not place or done.returncode or " monitors 0 " not in end or " alone 4\n" not in end:
         fail(f"left_alone: {place} {end}{done.stderr}")
-    return "by the place of a wait"
+    astray = tests.built("astray")
+    done = tests.run("NPNB", "any", [astray], "--leave", tests.place_of(astray, "mutexes"))
+    if done.returncode or done.stdout != "astray: turns 30\n":
+        fail(f"left_alone: a condition of it and of a monitor in turn: status {done.returncode}: {done.stderr}")
+    return "by the place of a wait; a condition goes to it and back"
 
 
 def untried(tests: Any) -> str:
