@@ -3,9 +3,20 @@ PREFIX.1, ..
 
 Two takers wait for an item. The first does so only for a while, and its time runs out while the putter has the lock.
 Then the putter puts an item and notifies once. The second taker should get it, because the first has given up. If it
-sleeps on, that notify was lost. Takers wait on condition 0 (predicate 1 of a buffer). The program is right;
-docs/LOGS.md follows its log to the line at fault. With the style `passed on` the condition has its line at fault
-mended."""
+sleeps on, that notify was lost. Takers wait on condition 0 (predicate 1 of a buffer, that there is an item). The
+program is right. `monk explain --means 0=1` says of its log:
+
+    fits; owed, 1 woken and not back; served 1, passed 1
+    seat 0: outside since line 11
+    seat 1: woken by seat 2, and not back since line 8
+    seat 2: outside since line 9
+
+Nothing is `missed`, and no line misfits by `reply`, so it isn't the program. The time of seat 0 had run out, so the
+signal of line 8 was for seat 1, which still sleeps: the library owes it the wake-up. `Condition.notify` of threading.py
+takes the first of a list of waiters, seat 0's. At its end `Condition.wait` takes the lock again. If the time had run
+out before, it then does `self._waiters.remove(waiter)`, and passes over a ValueError. If a notify came in between, the
+waiter is no longer in the list. So the wake-up is thrown away with the ValueError. With the style `passed on` the
+condition passes the notify on there: then the second taker gets the item."""
 from __future__ import annotations
 
 import os
