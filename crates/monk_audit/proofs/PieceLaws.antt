@@ -1,51 +1,36 @@
 -- What is owed to a text that comes in pieces, stage by stage.
 use Rattle.std.proofs.Common.{◌≡◌, ◌≢◌, ◌+◌, ◌-◌, ◌^◌, ◌<◌, ◌≤◌, ◌==◌, ℕ, cond, List, [], ◌∷◌, ◌++◌, length}
-use Rattle.std.proofs.Common.{Option, Some, None, Result, Ok, Err}
 use Rattle.std.proofs.Common.{refl, sym, ap, subst, ◌∙◌, arith, true, false}
-use Rattle.std.proofs.lemmas.Bool.{eqb-false, eqb-true, le-ltb, lt-ltb, ne_eqb}
-use Rattle.std.proofs.lemmas.List.{append-nil}
+use Rattle.std.specs.Prelude.{◌⊎◌, IfOk, IfSome}
+use Rattle.std.proofs.Common.{Option, Some, None, Result, Ok, Err}
+use Rattle.std.proofs.lemmas.{Bool.eqb-false, Bool.eqb-true, Bool.le-ltb, Bool.lt-ltb, Bool.ne_eqb, List.append-nil}
 use Rattle.std.specs.Option.{option_map}
 use mathlib.Core.Logic.{inl, inr}
-use Rattle.std.specs.Prelude.{◌⊎◌, IfOk, IfSome}
-use Rattle.monk_history.specs.Text.{Heading}
 use Rattle.monk_history.specs.Text.Words.{◌>>=◌}
+use Rattle.monk_history.proofs.PublicLaws.Texts.{head_missing, head_opens, head_refused, items_end, items_unfinished}
+use Rattle.monk_history.specs.Meaning.{Monitor.Monitor, Monitor.monitor, Situation.Situation, Step.after}
+use Rattle.monk_history.specs.Meaning.{Step.opening_situation, Named.named_monitor, Reasons.reason_in}
+use Rattle.monk_history.specs.declared.{event.Event.Event, text.fault.ReadFault.ReadFault}
+use Rattle.monk_history.specs.Text.{Heading, Faults.end_fault, Faults.header_fault, Faults.memory}
 use Rattle.monk_history.specs.Text.Lines.{Gives, LinesLeft, is_unended, lines_of, opened_at}
 use Rattle.monk_history.specs.Text.Pieces.{IsHeadOf, IsNextOfPiece, PieceLeft, items_with}
 use Rattle.monk_history.specs.Text.Reading.{event_under, header_at}
-use Rattle.monk_history.specs.declared.event.Event.{Event}
-use Rattle.monk_history.specs.declared.text.fault.ReadFault.{ReadFault}
-use Rattle.monk_history.specs.Meaning.Monitor.{Monitor, monitor}
-use Rattle.monk_history.specs.Meaning.Situation.{Situation}
-use Rattle.monk_history.specs.Meaning.Step.{after, opening_situation}
-use Rattle.monk_history.specs.Meaning.Named.{named_monitor}
-use Rattle.monk_history.specs.Text.Faults.{end_fault, header_fault, memory}
-use Rattle.monk_history.proofs.PublicLaws.Texts.{head_missing, head_opens, head_refused, items_end, items_unfinished}
-use Rattle.monk_history.specs.Meaning.Reasons.{reason_in}
-use Rattle.monk_audit.specs.Reading.{read_through, verdict_at, verdict_read, lines_verdict}
-use Rattle.monk_audit.specs.Reading.{text_verdict, MakesNoObject, same}
-use Rattle.monk_kinds.specs.declared.mode.Rules.{Rules}
-use Rattle.monk_kinds.specs.Names.{rules_named}
-use Rattle.monk_object.specs.Object.{Object}
-use Rattle.monk_object.specs.Buffer.{buffer_meaning}
-use Rattle.monk_object.specs.Book.{book_meaning}
-use Rattle.monk_object.specs.Shop.{shop_meaning}
-use Rattle.monk_object.specs.Flags.{flags_meaning}
-use Rattle.monk_object.specs.Names.{meaning_named, most, opening_named}
-use Rattle.monk_object.specs.declared.name.ObjectName.{ObjectName}
-use Rattle.monk_audit.specs.Replay.{replay_situation}
-use Rattle.monk_audit.specs.Pieces.{events_from, found_from, judged_from_here, monitor_of, owed_verdict, verdict_from_here}
-use Rattle.monk_audit.specs.Pieces.{stages_left, AsksForNone, IsCarried, IsCourseStep, IsFaulty, IsJudgedStep, IsLast}
-use Rattle.monk_audit.specs.Pieces.{IsSound, IsSoundCourse, IsStageStep}
-use Rattle.monk_audit.specs.declared.course.Course.{Course}
-use Rattle.monk_audit.specs.declared.stage.Stage.{Stage}
 use Rattle.monk_audit.specs.declared.stage.Stage.TheVariants as stage
-use Rattle.monk_audit.specs.declared.text_verdict.TextVerdict.{TextVerdict}
-use Rattle.monk_audit.specs.declared.text_verdict.TextVerdict.TheVariants.{Judged, TooBig}
-use Rattle.monk_audit.specs.declared.verdict.Verdict.{Verdict}
-use Rattle.monk_audit.specs.declared.verdict.Verdict.TheVariants.{Forbidden, Legal}
-use Rattle.monk_audit.proofs.AuditLaws.{reason_opening}
 use Rattle.monk_audit.proofs.ReadingLaws.{forbidden_then, judged_end, judged_fault, judged_is, not_opened_text}
 use Rattle.monk_audit.proofs.ReadingLaws.{opened_text, verdict_of_reading}
+use Rattle.monk_audit.proofs.AuditLaws.{reason_opening}
+use Rattle.monk_audit.specs.{Reading.read_through, Reading.verdict_at, Reading.verdict_read, Reading.lines_verdict}
+use Rattle.monk_audit.specs.{Reading.text_verdict, Reading.MakesNoObject, Reading.same, Replay.replay_situation}
+use Rattle.monk_audit.specs.Pieces.{events_from, found_from, judged_from_here, monitor_of, owed_verdict}
+use Rattle.monk_audit.specs.Pieces.{verdict_from_here, stages_left, AsksForNone, IsCarried, IsCourseStep, IsFaulty}
+use Rattle.monk_audit.specs.Pieces.{IsJudgedStep, IsLast, IsSound, IsSoundCourse, IsStageStep}
+use Rattle.monk_audit.specs.declared.{course.Course.Course, stage.Stage.Stage}
+use Rattle.monk_audit.specs.declared.verdict.Verdict.{Verdict, TheVariants.Forbidden, TheVariants.Legal}
+use Rattle.monk_audit.specs.declared.text_verdict.TextVerdict.{TextVerdict, TheVariants.Judged, TheVariants.TooBig}
+use Rattle.monk_kinds.specs.{declared.mode.Rules.Rules, Names.rules_named}
+use Rattle.monk_object.specs.{Object.Object, Buffer.buffer_meaning, Book.book_meaning, Shop.shop_meaning}
+use Rattle.monk_object.specs.{Flags.flags_meaning, declared.name.ObjectName.ObjectName}
+use Rattle.monk_object.specs.Names.{meaning_named, most, opening_named}
 
 -- and what is left of them comes after the events that were read
 pub piece_ends : (h : Heading) (count : ℕ) (p : PieceLeft) (rest : List ℕ) → p.number ≡ count + 2

@@ -1,30 +1,24 @@
 -- Judging events as they are read, one after the other, as a loop does
 use Rattle.std.proofs.Common.{◌≡◌, ◌≢◌, ◌==◌, ◌+◌, ℕ, Bool, true, false, cond, List, [], ◌∷◌, ◌++◌, length}
 use Rattle.std.proofs.Common.{Result, Ok, Err, refl, sym, ap, ◌∙◌, length-append}
+use Rattle.std.specs.Prelude.{◌^◌}
 use Rattle.std.proofs.lemmas.Bool.{eqb-true}
 use Rattle.monk_kinds.specs.declared.mode.Rules.{Rules}
 use Rattle.monk_object.specs.Object.{Object}
-use Rattle.std.specs.Prelude.{◌^◌}
-use Rattle.monk_history.specs.Text.{Heading}
 use Rattle.monk_history.specs.Text.Words.{◌>>=◌}
-use Rattle.monk_history.specs.Text.Lines.{LinesLeft, items_left, lines_of, opened_at}
-use Rattle.monk_history.specs.Text.Reading.{header_at, event_under}
-use Rattle.monk_history.proofs.PublicLaws.Texts.{behind, lines_behind}
 use Rattle.monk_history.proofs.PublicLaws.Meaning.{legal_none, legal-push, allowed_from_reason, legal_situation-push}
 use Rattle.monk_history.proofs.PublicLaws.Meaning.{situation-none}
-use Rattle.monk_history.specs.declared.text.fault.ReadFault.{ReadFault}
+use Rattle.monk_history.proofs.PublicLaws.Texts.{behind, lines_behind}
+use Rattle.monk_history.specs.Meaning.{Situation.Situation, Situation.situation, Reasons.reason_in, Reasons.reason_of}
+use Rattle.monk_history.specs.Meaning.{Step.after, Step.opening_situation, Legal.IsLegal}
 use Rattle.monk_history.specs.Meaning.Monitor.{Monitor, monitor}
-use Rattle.monk_history.specs.Meaning.Situation.{Situation, situation}
-use Rattle.monk_history.specs.Meaning.Reasons.{reason_in, reason_of}
-use Rattle.monk_history.specs.Meaning.Step.{after, opening_situation}
-use Rattle.monk_history.specs.Meaning.Legal.{IsLegal}
-use Rattle.monk_history.specs.declared.event.Event.{Event}
-use Rattle.monk_audit.specs.Verdict.{verdict_from, verdict_of}
-use Rattle.monk_audit.specs.Reading.{verdict_at, verdict_read, read_through, history_verdict}
-use Rattle.monk_audit.specs.Reading.{lines_verdict, text_verdict}
-use Rattle.monk_audit.specs.declared.verdict.Verdict.{Verdict}
-use Rattle.monk_audit.specs.declared.verdict.Verdict.TheVariants.{Legal, Forbidden}
+use Rattle.monk_history.specs.declared.{text.fault.ReadFault.ReadFault, event.Event.Event}
+use Rattle.monk_history.specs.Text.{Heading, Reading.header_at, Reading.event_under}
+use Rattle.monk_history.specs.Text.Lines.{LinesLeft, items_left, lines_of, opened_at}
 use Rattle.monk_audit.proofs.AuditLaws.{reason_opening}
+use Rattle.monk_audit.specs.{Verdict.verdict_from, Verdict.verdict_of, Reading.verdict_at, Reading.verdict_read}
+use Rattle.monk_audit.specs.{Reading.read_through, Reading.history_verdict, Reading.lines_verdict, Reading.text_verdict}
+use Rattle.monk_audit.specs.declared.verdict.Verdict.{Verdict, TheVariants.Legal, TheVariants.Forbidden}
 
 more_count : (past : List Event) (e : Event) → length past + 1 ≡ length (past ++ e ∷ [])
 more_count past e = sym (length-append past (e ∷ []))

@@ -1,14 +1,12 @@
 -- Reasons and their numbers
 use Rattle.std.proofs.Common.{◌≡◌, ◌≢◌, ◌∙◌, ℕ, Bool, true, false, not, cond, List, take, Option, Some, None, ap, sym, subst, refl, arith}
+use Rattle.monk_audit.specs.Reasons.{number_of, number_or_0, numbered}
 use Rattle.monk_audit.specs.declared.reason.Reason.{Reason}
 use Rattle.monk_audit.specs.declared.reason.Reason.TheVariants.{Range, Call, Turn, Place, Reply, Choice}
-use Rattle.monk_audit.specs.Reasons.{number_of, number_or_0, numbered}
-use Rattle.monk_history.specs.declared.event.Event.{Event}
-use Rattle.monk_history.specs.Meaning.Choice.{is_permitted}
-use Rattle.monk_history.specs.Meaning.Legal.{IsFirstFault}
-use Rattle.monk_history.specs.Meaning.Monitor.{Monitor}
-use Rattle.monk_history.specs.Meaning.Reasons.{is_in_place, is_in_range, is_in_turn, is_offered, is_right_reply, reason_in}
-use Rattle.monk_history.specs.Meaning.Situation.{Situation, situation}
+use Rattle.monk_history.specs.{declared.event.Event.Event, Meaning.Choice.is_permitted, Meaning.Legal.IsFirstFault}
+use Rattle.monk_history.specs.{Meaning.Monitor.Monitor, Meaning.Reasons.is_in_place, Meaning.Reasons.is_in_range}
+use Rattle.monk_history.specs.{Meaning.Reasons.is_in_turn, Meaning.Reasons.is_offered, Meaning.Reasons.is_right_reply}
+use Rattle.monk_history.specs.{Meaning.Reasons.reason_in, Meaning.Situation.Situation, Meaning.Situation.situation}
 
 -- no reason has the number 0
 pub some_number : (r : Reason) → number_of r ≢ 0

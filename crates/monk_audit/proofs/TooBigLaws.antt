@@ -1,31 +1,20 @@
 -- If the verdict is that the size is too big, no memory was asked for.
 use Rattle.std.proofs.Common.{◌≡◌, ◌<◌, ◌^◌, ℕ, Bool, true, false, cond, List, [], Option, None, Result, Ok, Err}
 use Rattle.std.proofs.Common.{refl, sym, ap, ◌∙◌, nat_lt}
-use Rattle.std.proofs.lemmas.List.{append-nil}
-use Rattle.std.specs.Prelude.{IfOk}
-use Rattle.std.proofs.lemmas.Bool.{ltb-true}
-use Rattle.monk_object.specs.Names.{most}
-use Rattle.monk_object.specs.Buffer.{buffer_meaning}
-use Rattle.monk_object.specs.Book.{book_meaning}
-use Rattle.monk_object.specs.Shop.{shop_meaning}
-use Rattle.monk_object.specs.Flags.{flags_meaning}
-use Rattle.monk_history.specs.Text.{Heading}
+use Rattle.std.{proofs.lemmas.List.append-nil, proofs.lemmas.Bool.ltb-true, specs.Prelude.IfOk}
+use Rattle.monk_object.specs.{Names.most, Buffer.buffer_meaning, Book.book_meaning, Shop.shop_meaning}
+use Rattle.monk_object.specs.{Flags.flags_meaning}
 use Rattle.monk_history.specs.Text.Words.{◌>>=◌}
-use Rattle.monk_history.specs.Text.Lines.{LinesLeft, items_left, lines_of, opened_at}
-use Rattle.monk_history.specs.Text.Reading.{event_under, header_at}
-use Rattle.monk_history.specs.declared.event.Event.{Event}
-use Rattle.monk_history.specs.declared.text.fault.ReadFault.{ReadFault}
 use Rattle.monk_history.specs.Meaning.Named.{named_monitor}
-use Rattle.monk_audit.specs.Audits.{owed_by}
-use Rattle.monk_audit.specs.Pieces.{owed_verdict, verdict_from_here, AsksForNone}
-use Rattle.monk_audit.specs.Reading.{lines_verdict, text_verdict}
-use Rattle.monk_audit.specs.Verdict.{verdict_of}
-use Rattle.monk_audit.specs.declared.stage.Stage.{Stage}
+use Rattle.monk_history.specs.declared.{event.Event.Event, text.fault.ReadFault.ReadFault}
+use Rattle.monk_history.specs.Text.{Heading, Reading.event_under, Reading.header_at}
+use Rattle.monk_history.specs.Text.Lines.{LinesLeft, items_left, lines_of, opened_at}
 use Rattle.monk_audit.specs.declared.stage.Stage.TheVariants as stage
-use Rattle.monk_audit.specs.declared.text_verdict.TextVerdict.{TextVerdict}
-use Rattle.monk_audit.specs.declared.text_verdict.TextVerdict.TheVariants.{Judged, TooBig}
-use Rattle.monk_audit.specs.declared.verdict.Verdict.{Verdict}
 use Rattle.monk_audit.proofs.ReadingLaws.{opened_text}
+use Rattle.monk_audit.specs.{Audits.owed_by, Reading.lines_verdict, Reading.text_verdict, Verdict.verdict_of}
+use Rattle.monk_audit.specs.Pieces.{owed_verdict, verdict_from_here, AsksForNone}
+use Rattle.monk_audit.specs.declared.{stage.Stage.Stage, verdict.Verdict.Verdict}
+use Rattle.monk_audit.specs.declared.text_verdict.TextVerdict.{TextVerdict, TheVariants.Judged, TheVariants.TooBig}
 
 by_size : (h : Heading) (v : Verdict) (b : Bool) → nat_lt (most h.object) h.size ≡ b
     → cond b TooBig (Judged v) ≡ TooBig → most h.object < h.size

@@ -1,10 +1,8 @@
 -- The audit of a text that comes in pieces, as its callers see it
 use Rattle.std.specs.Prelude.{ℕ, List, ◌++◌, Option, Some, None, Result, Err}
 use Rattle.monk_history.specs.declared.text.fault.ReadFault.{ReadFault}
-use Rattle.monk_audit.specs.Pieces.{owed_verdict, IsSound}
-use Rattle.monk_audit.specs.declared.stage.Stage.{Stage}
-use Rattle.monk_audit.specs.declared.text_audit.TextAudit.{TextAudit}
-use Rattle.monk_audit.specs.declared.text_verdict.TextVerdict.{TextVerdict}
+use Rattle.monk_audit.specs.{Pieces.owed_verdict, Pieces.IsSound, declared.stage.Stage.Stage}
+use Rattle.monk_audit.specs.{declared.text_audit.TextAudit.TextAudit, declared.text_verdict.TextVerdict.TextVerdict}
 
 -- what an audit still owes, unless it has found a fault
 abbrev pub owed_by : Option ReadFault → Stage → List ℕ → List ℕ → Result TextVerdict ReadFault

@@ -1,26 +1,18 @@
 -- The audit of a text that comes in pieces: what is owed, as a function of the bytes that are still to come.
 use Rattle.std.specs.Prelude.{◌≡◌, ℕ, ◌+◌, ◌-◌, ◌<◌, ◌≤◌, ◌^◌, List, [], ◌++◌, All, length, Option, Some, None}
 use Rattle.std.specs.Prelude.{Result, Ok, Err, true}
-use Rattle.monk_object.specs.Object.{Object}
-use Rattle.monk_object.specs.Buffer.{buffer_meaning}
-use Rattle.monk_object.specs.Book.{book_meaning}
-use Rattle.monk_object.specs.Shop.{shop_meaning}
-use Rattle.monk_object.specs.Flags.{flags_meaning}
-use Rattle.monk_history.specs.Text.{Heading}
+use Rattle.monk_object.specs.{Object.Object, Buffer.buffer_meaning, Book.book_meaning, Shop.shop_meaning}
+use Rattle.monk_object.specs.{Flags.flags_meaning}
 use Rattle.monk_history.specs.Text.Words.{◌>>=◌}
-use Rattle.monk_history.specs.Text.Lines.{lines_of, items_at, is_unended}
-use Rattle.monk_history.specs.Text.Reading.{event_under}
-use Rattle.monk_history.specs.declared.text.fault.ReadFault.{ReadFault}
-use Rattle.monk_history.specs.declared.event.Event.{Event}
 use Rattle.monk_history.specs.Meaning.Monitor.{Monitor, monitor}
-use Rattle.monk_audit.specs.Replay.{replay_situation}
+use Rattle.monk_history.specs.declared.{text.fault.ReadFault.ReadFault, event.Event.Event}
+use Rattle.monk_history.specs.Text.{Heading, Lines.lines_of, Lines.items_at, Lines.is_unended, Reading.event_under}
 use Rattle.monk_audit.specs.Reading.{verdict_read, read_through, text_verdict, MakesNoObject}
-use Rattle.monk_audit.specs.declared.course.Course.{Course}
+use Rattle.monk_audit.specs.Replay.{replay_situation}
+use Rattle.monk_audit.specs.declared.{course.Course.Course, verdict.Verdict.Verdict}
 use Rattle.monk_audit.specs.declared.stage.Stage.{Stage}
 use Rattle.monk_audit.specs.declared.stage.Stage.TheVariants.{Opening, Buffer, Book, Shop, Flags, Found}
-use Rattle.monk_audit.specs.declared.verdict.Verdict.{Verdict}
-use Rattle.monk_audit.specs.declared.text_verdict.TextVerdict.{TextVerdict}
-use Rattle.monk_audit.specs.declared.text_verdict.TextVerdict.TheVariants.{Judged}
+use Rattle.monk_audit.specs.declared.text_verdict.TextVerdict.{TextVerdict, TheVariants.Judged}
 
 -- the events of the bytes, after a header and `count` events
 abbrev pub events_from : Heading → ℕ → List ℕ → Result (List Event) ReadFault

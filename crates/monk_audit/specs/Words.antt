@@ -2,8 +2,7 @@
 use Rattle.std.specs.Prelude.{ℕ, List, [], ◌++◌, codes}
 use Rattle.std.specs.Fmt.{decimal}
 use Rattle.monk_audit.specs.Reasons.{caption_of, numbered, word_of}
-use Rattle.monk_audit.specs.declared.verdict.Verdict.{Verdict}
-use Rattle.monk_audit.specs.declared.verdict.Verdict.TheVariants.{Legal, Forbidden}
+use Rattle.monk_audit.specs.declared.verdict.Verdict.{Verdict, TheVariants.Legal, TheVariants.Forbidden}
 
 -- the line of an audit, without its end
 abbrev pub verdict_text : Verdict → List ℕ

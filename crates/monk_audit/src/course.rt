@@ -3,14 +3,11 @@
 ghost use Rattle.std.specs.Prelude.{◌≡◌, ◌≢◌, ◌≤◌, ◌^◌, List, ℕ, Err, true, IfOk, IfErr, OnOk};
 ghost use Rattle.monk_kinds.specs.Names.{rules_named};
 ghost use Rattle.monk_object.specs.Object.{Object};
-ghost use Rattle.monk_history.specs.Meaning.Monitor.{monitor};
-ghost use Rattle.monk_history.specs.Meaning.Step.{opening_situation};
-ghost use Rattle.monk_history.specs.Text.Faults.{memory};
-ghost use Rattle.monk_history.specs.Text.Lines.{is_unended};
-ghost use Rattle.monk_audit.specs.Pieces.{events_from, found_from, verdict_from_here};
-ghost use Rattle.monk_audit.specs.Pieces.{IsCarried, IsCourseStep, IsFaulty, IsSoundCourse};
-ghost use Rattle.monk_audit.specs.Reading.{read_through};
-ghost use Rattle.monk_audit.specs.Replay.{replay_situation};
+ghost use Rattle.monk_history.specs.Meaning.{Monitor.monitor, Step.opening_situation};
+ghost use Rattle.monk_history.specs.Text.{Faults.memory, Lines.is_unended};
+ghost use Rattle.monk_audit.specs.{Reading.read_through, Replay.replay_situation};
+ghost use Rattle.monk_audit.specs.Pieces.{events_from, found_from, verdict_from_here, IsCarried, IsCourseStep};
+ghost use Rattle.monk_audit.specs.Pieces.{IsFaulty, IsSoundCourse};
 
 use crate::kinds::rules_by_name;
 use crate::replay::Replay;

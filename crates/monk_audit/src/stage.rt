@@ -2,8 +2,7 @@
 
 ghost use Rattle.std.specs.Prelude.{◌≡◌, ◌≢◌, ◌≤◌, ◌<◌, ◌⊎◌, ℕ, List, [], Err, true, IfOk, IfErr, OnOk, length};
 ghost use Rattle.monk_object.specs.Names.{most};
-ghost use Rattle.monk_history.specs.Text.Faults.{memory};
-ghost use Rattle.monk_history.specs.Text.Lines.{Gives, is_unended};
+ghost use Rattle.monk_history.specs.Text.{Faults.memory, Lines.Gives, Lines.is_unended};
 ghost use Rattle.monk_audit.specs.Pieces.{events_from, judged_from_here, owed_verdict, stages_left, AsksForNone};
 ghost use Rattle.monk_audit.specs.Pieces.{IsCarried, IsFaulty, IsJudgedStep, IsSound, IsSoundCourse, IsStageStep};
 ghost use Rattle.monk_audit.specs.Reading.{lines_verdict, same};

@@ -2,9 +2,7 @@
 
 ghost use Rattle.std.specs.Prelude.{◌≡◌, ◌≤◌, List, ℕ, [], None, Ok, OnOk, IfSome, length};
 ghost use Rattle.monk_history.specs.Text.Lines.{Gives};
-ghost use Rattle.monk_audit.specs.Audits.{owes, IsGoingOn};
-ghost use Rattle.monk_audit.specs.Pieces.{IsCarried};
-ghost use Rattle.monk_audit.specs.Reading.{same, text_verdict};
+ghost use Rattle.monk_audit.specs.{Audits.owes, Audits.IsGoingOn, Pieces.IsCarried, Reading.same, Reading.text_verdict};
 
 use crate::stage::Stage;
 use crate::text_verdict::TextVerdict;

@@ -1,29 +1,20 @@
 -- Why a close through a handle is refused, or what it has done
 use Rattle.std.specs.Prelude.{◌≡◌, ◌≢◌, ◌<◌, ◌⊎◌, ℕ, zero, suc, ℤ, pos, List, length, slice_get, slice_index_or, slice_set, Option, Some, None, IfSome}
 use Rattle.std.proofs.Common.{refl, sym, ap, subst, ◌∙◌, inl, inr, arith}
-use Rattle.std.proofs.lemmas.List.{set-get_or}
-use Rattle.std.proofs.lemmas.Option.{get_or_from_slice_get, slice_get-get_or}
-use Rattle.monk_kinds.specs.Names.{rules_named}
+use Rattle.std.proofs.lemmas.{List.set-get_or, Option.get_or_from_slice_get, Option.slice_get-get_or}
 use Rattle.monk_kinds.specs.declared.mode.Pick.TheVariants as pick
-use Rattle.monk_kinds.specs.declared.mode.Rules.{Rules}
+use Rattle.monk_kinds.specs.{Names.rules_named, declared.mode.Rules.Rules}
 use Rattle.monk_object.specs.Flags.{flags_meaning}
-use Rattle.monk_world.specs.Places.{stage, due_stage}
-use Rattle.monk_world.specs.Steps.{place_after_arrive}
-use Rattle.monk_hall.specs.Calls.{HasArrived}
-use Rattle.monk_hall.specs.Layout.{tickets, unpassed}
-use Rattle.monk_hall.specs.declared.record.SeatRecord.{SeatRecord}
-use Rattle.monk_c.specs.Answers.{place_number, refusal_number}
-use Rattle.monk_c.specs.Closing.{FoundTaken, IfCloseRefused, IfClosed, IsInOrTaken, close_refusal, refusal_of_seats, refusal_through}
-use Rattle.monk_c.specs.Coming.{HasCome}
-use Rattle.monk_c.specs.Handles.{AnswersAt, IfRefusedAt, booked}
-use Rattle.monk_c.specs.Refusal.{refusal_at}
-use Rattle.monk_c.specs.Stands.{At, Booked}
-use Rattle.monk_c.specs.Stands.At.{Outside, Waiting, Inside}
-use Rattle.monk_c.specs.Taken.{HasPolled, IsOutside, IsWaiting}
-use Rattle.monk_c.specs.declared.any_seat.AnySeat.{AnySeat}
+use Rattle.monk_world.specs.{Places.stage, Places.due_stage, Steps.place_after_arrive}
+use Rattle.monk_hall.specs.{Calls.HasArrived, Layout.tickets, Layout.unpassed, declared.record.SeatRecord.SeatRecord}
+use Rattle.monk_c.specs.{Coming.HasCome, Refusal.refusal_at, Taken.HasPolled, Taken.IsOutside, Taken.IsWaiting}
+use Rattle.monk_c.specs.Stands.{At, Booked, At.Outside, At.Waiting, At.Inside}
+use Rattle.monk_c.specs.Closing.{FoundTaken, IfCloseRefused, IfClosed, IsInOrTaken, close_refusal, refusal_of_seats}
+use Rattle.monk_c.specs.Closing.{refusal_through}
+use Rattle.monk_c.specs.declared.{any_seat.AnySeat.AnySeat, refusal.Refusal.Refusal, handle.MonkSeat.MonkSeat}
 use Rattle.monk_c.specs.declared.call.Call.TheVariants.{Arrive, Poll}
-use Rattle.monk_c.specs.declared.refusal.Refusal.{Refusal}
-use Rattle.monk_c.specs.declared.handle.MonkSeat.{MonkSeat}
+use Rattle.monk_c.specs.Handles.{AnswersAt, IfRefusedAt, booked}
+use Rattle.monk_c.specs.Answers.{place_number, refusal_number}
 
 set_back : (handles : List MonkSeat) (i : ℕ) (h : MonkSeat) → slice_get handles i ≡ Some h
     → slice_set handles i h ≡ handles

@@ -1,13 +1,10 @@
 -- A seat that has arrived may poll
 use Rattle.std.specs.Prelude.{◌≡◌, ℤ, None}
 use Rattle.std.proofs.Common.{refl, sym, ap, ◌∙◌, subst}
-use Rattle.monk_kinds.specs.Names.{rules_named}
-use Rattle.monk_kinds.specs.declared.name.KindName.{KindName}
 use Rattle.monk_kinds.specs.declared.name.KindName.TheVariants as kind
+use Rattle.monk_kinds.specs.{Names.rules_named, declared.name.KindName.KindName}
+use Rattle.monk_c.specs.{Handles.booked, Handles.seat_named, Refusal.refusal_at, Refusal.refusal_of, Stands.SeatView}
 use Rattle.monk_c.specs.Coming.{Comes, HasCome, IfComes, IfComesAt}
-use Rattle.monk_c.specs.Handles.{booked, seat_named}
-use Rattle.monk_c.specs.Refusal.{refusal_at, refusal_of}
-use Rattle.monk_c.specs.Stands.{SeatView}
 use Rattle.monk_c.specs.declared.any_seat.AnySeat.{AnySeat}
 use Rattle.monk_c.specs.declared.any_seat.AnySeat.TheVariants.{Pb, Npb, Pnb, Npnb, Pqb, Npqb, Pir, Npir, Pis, Npis}
 use Rattle.monk_c.specs.declared.call.Call.TheVariants.{Arrive}

@@ -4,17 +4,12 @@ use Rattle.std.proofs.Common.{◌≡◌, ℕ, zero, suc, ◌+◌, ◌<◌, ◌�
 use Rattle.std.proofs.Common.{true, false, List, length, slice_index_or, refl, ap, sym, subst, ◌∙◌, arith}
 use Rattle.std.proofs.Math.Nat.{not-suc-le-zero, le_of_suc-le-suc}
 use Rattle.atomic_table.specs.Seated.{TableId}
-use Rattle.monk_hall.specs.Records.{opening_record, opening_records, first_view}
-use Rattle.monk_hall.specs.Tokens.{House, Token, tokens}
-use Rattle.monk_hall.specs.declared.setting.Setting.{Setting}
-use Rattle.monk_floor.specs.Making.{make_refusal}
-use Rattle.monk_floor.specs.declared.fault.MakeFault.{MakeFault}
-use Rattle.monk_hall.specs.Rule.{setting_of}
+use Rattle.monk_hall.specs.{Records.opening_record, Records.opening_records, Records.first_view, Tokens.House}
+use Rattle.monk_hall.specs.{Tokens.Token, Tokens.tokens, declared.setting.Setting.Setting, Rule.setting_of}
+use Rattle.monk_floor.specs.{Making.make_refusal, declared.fault.MakeFault.MakeFault}
+use Rattle.monk_c.specs.{declared.numbers.Numbers.Numbers, Stands.RoomView}
 use Rattle.monk_c.specs.Dealing.{ArePasses, IsMadeOf, fresh_pass}
-use Rattle.monk_object.specs.Names.{opening_named}
-use Rattle.monk_object.specs.declared.name.ObjectName.TheVariants.{Flags as FlagsName}
-use Rattle.monk_c.specs.declared.numbers.Numbers.{Numbers}
-use Rattle.monk_c.specs.Stands.{RoomView}
+use Rattle.monk_object.specs.{Names.opening_named, declared.name.ObjectName.TheVariants.Flags as FlagsName}
 
 abbrev fresh : TableId → Setting → ℕ → Token
 fresh z c i = record { hall = z; me = opening_record c i }

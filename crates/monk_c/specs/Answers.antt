@@ -1,7 +1,6 @@
 -- What an export answers
 use Rattle.std.specs.Prelude.{ℤ, pos, negsuc}
-use Rattle.monk_c.specs.Stands.{At}
-use Rattle.monk_c.specs.Stands.At.{Outside, Waiting, Inside}
+use Rattle.monk_c.specs.Stands.{At, At.Outside, At.Waiting, At.Inside}
 use Rattle.monk_c.specs.declared.refusal.Refusal.{Refusal}
 use Rattle.monk_c.specs.declared.refusal.Refusal.TheVariants.{NotNow, Spent, NotOfKind, Range, Memory, Closed}
 

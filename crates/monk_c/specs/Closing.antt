@@ -1,19 +1,11 @@
 -- The close of a monitor through one of its handles
 use Rattle.std.specs.Prelude.{◌≡◌, ◌⊎◌, ◌<◌, ℕ, ℤ, pos, Bool, false, not, is_some, List, slice_get, slice_set, Option, Some, None, IfSome, if◌then◌else◌}
 use Rattle.std.specs.List.{list_all}
-use Rattle.monk_hall.specs.Changes.{record_after_arrive}
-use Rattle.monk_hall.specs.Layout.{unpassed}
-use Rattle.monk_c.specs.Answers.{refusal_number}
-use Rattle.monk_c.specs.Coming.{HasCome}
-use Rattle.monk_c.specs.Handles.{booked}
-use Rattle.monk_c.specs.Refusal.{is_outside, refusal_at}
-use Rattle.monk_c.specs.Stands.{At, Booked}
-use Rattle.monk_c.specs.Taken.{IsOutside, IsWaiting}
-use Rattle.monk_c.specs.declared.any_seat.AnySeat.{AnySeat}
-use Rattle.monk_c.specs.declared.call.Call.TheVariants.{Arrive}
-use Rattle.monk_c.specs.declared.refusal.Refusal.{Refusal}
-use Rattle.monk_c.specs.declared.refusal.Refusal.TheVariants.{NotNow, Range, Closed}
-use Rattle.monk_c.specs.declared.handle.MonkSeat.{MonkSeat}
+use Rattle.monk_hall.specs.{Changes.record_after_arrive, Layout.unpassed}
+use Rattle.monk_c.specs.{Answers.refusal_number, Coming.HasCome, Handles.booked, Refusal.is_outside, Refusal.refusal_at}
+use Rattle.monk_c.specs.{Stands.At, Stands.Booked, Taken.IsOutside, Taken.IsWaiting}
+use Rattle.monk_c.specs.declared.{any_seat.AnySeat.AnySeat, call.Call.TheVariants.Arrive, handle.MonkSeat.MonkSeat}
+use Rattle.monk_c.specs.declared.refusal.Refusal.{Refusal, TheVariants.NotNow, TheVariants.Range, TheVariants.Closed}
 
 -- whether the handle has a seat that is outside
 abbrev pub has_seat_outside : Option Booked → Bool

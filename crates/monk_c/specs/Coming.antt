@@ -2,12 +2,9 @@
 use Rattle.std.specs.Prelude.{◌≡◌, ℤ, None}
 use Rattle.monk_kinds.specs.declared.mode.Pick.TheVariants as pick
 use Rattle.monk_kinds.specs.declared.mode.Rules.{Rules}
+use Rattle.monk_c.specs.{Refusal.refusal_at, Refusal.refusal_of, Stands.SeatView, Taken.Answers}
 use Rattle.monk_c.specs.Handles.{AnswersAt, booked}
-use Rattle.monk_c.specs.Refusal.{refusal_at, refusal_of}
-use Rattle.monk_c.specs.Stands.{SeatView}
-use Rattle.monk_c.specs.Taken.{Answers}
-use Rattle.monk_c.specs.declared.any_seat.AnySeat.{AnySeat}
-use Rattle.monk_c.specs.declared.call.Call.TheVariants.{Arrive, Poll}
+use Rattle.monk_c.specs.declared.{any_seat.AnySeat.AnySeat, call.Call.TheVariants.Arrive, call.Call.TheVariants.Poll}
 
 -- the seat has come: it arrived, and then looked
 pub record HasCome (s : AnySeat) (code : ℤ) (t : AnySeat) : Type 0 where

@@ -1,17 +1,11 @@
 -- A new hall, and the passes of its seats
 use Rattle.std.specs.Prelude.{◌≡◌, ℕ, Bool, false, nat_lt, ◌<◌, ◌||◌, List, length, slice_index_or, is_some, if◌then◌else◌}
 use Rattle.monk_floor.specs.Making.{make_refusal}
-use Rattle.monk_hall.specs.Records.{opening_record}
-use Rattle.monk_hall.specs.Rule.{setting_of}
-use Rattle.monk_hall.specs.Tokens.{Token}
-use Rattle.monk_object.specs.Names.{opening_named}
-use Rattle.monk_object.specs.declared.name.ObjectName.TheVariants.{Flags as FlagsName}
-use Rattle.monk_c.specs.Headings.{flags_made}
-use Rattle.monk_c.specs.Stands.{RoomView, SeatView}
-use Rattle.monk_c.specs.Stands.At.{Outside}
-use Rattle.monk_c.specs.declared.refusal.Refusal.{Refusal}
-use Rattle.monk_c.specs.declared.refusal.Refusal.TheVariants.{Range, Memory}
+use Rattle.monk_hall.specs.{Records.opening_record, Rule.setting_of, Tokens.Token}
+use Rattle.monk_object.specs.{Names.opening_named, declared.name.ObjectName.TheVariants.Flags as FlagsName}
+use Rattle.monk_c.specs.{Headings.flags_made, Stands.RoomView, Stands.SeatView, Stands.At.Outside}
 use Rattle.monk_c.specs.declared.numbers.Numbers.{Numbers}
+use Rattle.monk_c.specs.declared.refusal.Refusal.{Refusal, TheVariants.Range, TheVariants.Memory}
 
 -- a hall, and how many passes of its first seats are left
 pub record DealView : Type 0 where

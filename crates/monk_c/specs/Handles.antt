@@ -1,15 +1,12 @@
 -- What a handle has, and what a call makes of it
 use Rattle.std.specs.Prelude.{◌≡◌, ℕ, ℤ, Option, Some, None, IfSome}
-use Rattle.monk_kinds.specs.Names.{rules_named}
-use Rattle.monk_kinds.specs.declared.mode.Pick.{Pick}
-use Rattle.monk_kinds.specs.declared.name.KindName.{KindName}
 use Rattle.monk_kinds.specs.declared.name.KindName.TheVariants as kind
-use Rattle.monk_c.specs.Answers.{refusal_number}
-use Rattle.monk_c.specs.Refusal.{refusal_at}
+use Rattle.monk_kinds.specs.{Names.rules_named, declared.mode.Pick.Pick, declared.name.KindName.KindName}
+use Rattle.monk_c.specs.{Answers.refusal_number, Refusal.refusal_at, Taken.Answers}
 use Rattle.monk_c.specs.Stands.{SeatView, Booked, booking}
-use Rattle.monk_c.specs.Taken.{Answers}
 use Rattle.monk_c.specs.declared.any_seat.AnySeat.{AnySeat}
-use Rattle.monk_c.specs.declared.any_seat.AnySeat.TheVariants.{Empty, Pb, Npb, Pnb, Npnb, Pqb, Npqb, Pir, Npir, Pis, Npis}
+use Rattle.monk_c.specs.declared.any_seat.AnySeat.TheVariants.{Empty, Pb, Npb, Pnb, Npnb, Pqb, Npqb, Pir, Npir, Pis}
+use Rattle.monk_c.specs.declared.any_seat.AnySeat.TheVariants.{Npis}
 use Rattle.monk_c.specs.declared.call.Call.{Call}
 
 -- what a handle has: nothing, or a seat of a kind

@@ -1,10 +1,9 @@
 -- The header of a hall's history
 use Rattle.std.specs.Prelude.{◌≡◌, ◌≤◌, ℕ, max, List, IsTrue}
 use Rattle.monk_kinds.specs.declared.name.KindName.{KindName}
-use Rattle.monk_object.specs.Names.{opening_named}
-use Rattle.monk_object.specs.declared.name.ObjectName.TheVariants.{Flags}
-use Rattle.monk_history.specs.Text.{Heading, heading, is_writable, object_version}
+use Rattle.monk_object.specs.{Names.opening_named, declared.name.ObjectName.TheVariants.Flags}
 use Rattle.monk_history.specs.declared.event.Event.{Event}
+use Rattle.monk_history.specs.Text.{Heading, heading, is_writable, object_version}
 use Rattle.monk_c.specs.Stands.{RoomView}
 
 -- there is no monitor without a flag

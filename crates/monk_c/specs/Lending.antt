@@ -1,9 +1,7 @@
 -- What a handle has after it lent what it has
 use Rattle.std.specs.Borrow.{Lends, MutBor, Fml}
-use Rattle.monk_c.specs.contracts.any_seat.AnySeat.{the_row as seat_row}
-use Rattle.monk_c.specs.contracts.handle.MonkSeat.{the_row as handle_row}
-use Rattle.monk_c.specs.declared.any_seat.AnySeat.{AnySeat}
-use Rattle.monk_c.specs.declared.handle.MonkSeat.{MonkSeat}
+use Rattle.monk_c.specs.contracts.{any_seat.AnySeat.the_row as seat_row, handle.MonkSeat.the_row as handle_row}
+use Rattle.monk_c.specs.declared.{any_seat.AnySeat.AnySeat, handle.MonkSeat.MonkSeat}
 
 -- the handle with another in its place
 abbrev pub with_has : MonkSeat → AnySeat → MonkSeat

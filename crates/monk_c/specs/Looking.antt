@@ -1,13 +1,9 @@
 -- How many wait, as a seat that is inside sees it
 use Rattle.std.specs.Prelude.{◌≡◌, ℕ, ℤ, pos, nat_lt, not, length, Option, Some, None, MatchOption, if◌then◌else◌}
-use Rattle.monk_kinds.specs.Names.{rules_named}
-use Rattle.monk_kinds.specs.declared.mode.Mode.{Mode}
-use Rattle.monk_history.specs.Meaning.Conditions.{condition}
-use Rattle.monk_history.specs.Meaning.Events.{has_conditions}
-use Rattle.monk_c.specs.Answers.{refusal_number}
-use Rattle.monk_c.specs.Refusal.{is_inside}
-use Rattle.monk_c.specs.Stands.{At, Booked, SeatView}
-use Rattle.monk_c.specs.Stands.At.{Outside, Waiting, Inside}
+use Rattle.monk_kinds.specs.{Names.rules_named, declared.mode.Mode.Mode}
+use Rattle.monk_history.specs.Meaning.{Conditions.condition, Events.has_conditions}
+use Rattle.monk_c.specs.{Answers.refusal_number, Refusal.is_inside}
+use Rattle.monk_c.specs.Stands.{At, Booked, SeatView, At.Outside, At.Waiting, At.Inside}
 use Rattle.monk_c.specs.declared.refusal.Refusal.{Refusal}
 use Rattle.monk_c.specs.declared.refusal.Refusal.TheVariants.{NotNow, NotOfKind, Range, Closed}
 

@@ -1,16 +1,10 @@
 -- What is made: a hall, and a seat of it for each handle
 use Rattle.std.specs.Prelude.{◌≡◌, ◌⊎◌, ℕ, ℤ, pos, ◌<◌, ◌≤◌, Option, Some, None, Result, Ok, Err, List, length, slice_get, slice_index_or}
-use Rattle.monk_kinds.specs.Names.{kinds}
-use Rattle.monk_kinds.specs.declared.name.KindName.{KindName}
-use Rattle.monk_c.specs.Answers.{refusal_number}
+use Rattle.monk_kinds.specs.{Names.kinds, declared.name.KindName.KindName}
+use Rattle.monk_c.specs.{Answers.refusal_number, Handles.seat_named, Stands.RoomView}
 use Rattle.monk_c.specs.Dealing.{IsMadeOf, IsMakeRefusal, fresh_view}
-use Rattle.monk_c.specs.Handles.{seat_named}
-use Rattle.monk_c.specs.Stands.{RoomView}
-use Rattle.monk_c.specs.declared.any_seat.AnySeat.{AnySeat}
-use Rattle.monk_c.specs.declared.refusal.Refusal.{Refusal}
-use Rattle.monk_c.specs.declared.refusal.Refusal.TheVariants.{Range}
-use Rattle.monk_c.specs.declared.handle.MonkSeat.{MonkSeat}
-use Rattle.monk_c.specs.declared.numbers.Numbers.{Numbers}
+use Rattle.monk_c.specs.declared.{any_seat.AnySeat.AnySeat, handle.MonkSeat.MonkSeat, numbers.Numbers.Numbers}
+use Rattle.monk_c.specs.declared.refusal.Refusal.{Refusal, TheVariants.Range}
 
 -- the kinds by the numbers that C has for them
 abbrev pub kind_of : ℕ → Option KindName

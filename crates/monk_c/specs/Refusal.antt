@@ -1,16 +1,14 @@
 -- Which calls are refused
 use Rattle.std.specs.Prelude.{◌≡◌, ◌≤◌, ℕ, ◌+◌, ◌^◌, nat_lt, ◌&&◌, not, Bool, true, false, length, Option, Some, None, if◌then◌else◌}
-use Rattle.monk_kinds.specs.declared.mode.Mode.{Mode}
-use Rattle.monk_kinds.specs.Names.{rules_named}
+use Rattle.monk_kinds.specs.{declared.mode.Mode.Mode, Names.rules_named}
 use Rattle.monk_history.specs.Meaning.Events.{has_conditions, has_signaller_queue, is_non_blocking, returns_at_once}
 use Rattle.monk_hall.specs.declared.record.SeatRecord.{SeatRecord}
-use Rattle.monk_c.specs.Stands.{At, SeatView, Booked, me_of}
-use Rattle.monk_c.specs.Stands.At.{Outside, Waiting, Inside}
-use Rattle.monk_c.specs.declared.call.Call.{Call}
-use Rattle.monk_c.specs.declared.call.Call.TheVariants.{Arrive, Poll, Leave, Wait, Signal, Broadcast}
-use Rattle.monk_c.specs.declared.call.Call.TheVariants.{SignalLeave, SignalWait, SetFlags, WaitUntil}
+use Rattle.monk_c.specs.Stands.{At, SeatView, Booked, me_of, At.Outside, At.Waiting, At.Inside}
 use Rattle.monk_c.specs.declared.refusal.Refusal.{Refusal}
 use Rattle.monk_c.specs.declared.refusal.Refusal.TheVariants.{NotNow, Spent, NotOfKind, Range, Closed}
+use Rattle.monk_c.specs.declared.call.Call.{Call}
+use Rattle.monk_c.specs.declared.call.Call.TheVariants.{Arrive, Poll, Leave, Wait, Signal, Broadcast, SignalLeave}
+use Rattle.monk_c.specs.declared.call.Call.TheVariants.{SignalWait, SetFlags, WaitUntil}
 
 -- whether kinds of this mode have the call
 abbrev pub has_call : Mode → Call → Bool

@@ -1,9 +1,8 @@
 -- What a program can ask of a seat at any time
 use Rattle.std.specs.Prelude.{◌≡◌, ℕ, ◌+◌, ℤ, pos, length, Option, Some, None}
 use Rattle.monk_hall.specs.Layout.{waiting_word}
+use Rattle.monk_c.specs.Stands.{At, Booked, me_of, At.Outside, At.Waiting, At.Inside}
 use Rattle.monk_c.specs.Answers.{place_number}
-use Rattle.monk_c.specs.Stands.{At, Booked, me_of}
-use Rattle.monk_c.specs.Stands.At.{Outside, Waiting, Inside}
 
 -- the number for C of where a handle's seat is
 abbrev pub place_at : Option Booked → ℤ

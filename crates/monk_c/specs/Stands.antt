@@ -2,8 +2,7 @@
 use Rattle.std.specs.Prelude.{◌≡◌, ℕ}
 use Rattle.atomic_table.specs.Seated.{TableId}
 use Rattle.monk_kinds.specs.declared.name.KindName.{KindName}
-use Rattle.monk_hall.specs.Tokens.{House, Token, Holder}
-use Rattle.monk_hall.specs.declared.record.SeatRecord.{SeatRecord}
+use Rattle.monk_hall.specs.{Tokens.House, Tokens.Token, Tokens.Holder, declared.record.SeatRecord.SeatRecord}
 
 -- a hall, and how many flags the program has for its predicates
 pub record RoomView : Type 0 where

@@ -1,23 +1,18 @@
 -- What a call that is not refused has done
 use Rattle.std.specs.Prelude.{◌≡◌, ◌≢◌, ℕ, ℤ, ◌==◌, Option, Some, None, IfSome, if◌then◌else◌}
-use Rattle.monk_kinds.specs.declared.mode.Pick.{Pick}
 use Rattle.monk_kinds.specs.declared.mode.Pick.TheVariants as pick
-use Rattle.monk_kinds.specs.declared.mode.Rules.{Rules}
-use Rattle.monk_history.specs.declared.event.Event.{Event}
+use Rattle.monk_kinds.specs.declared.mode.{Pick.Pick, Rules.Rules}
 use Rattle.monk_history.specs.declared.event.Event.TheVariants as event
-use Rattle.monk_history.specs.declared.event.Next.TheVariants.{Stay}
-use Rattle.monk_world.specs.Places.{stage, due_stage}
+use Rattle.monk_history.specs.declared.event.{Event.Event, Next.TheVariants.Stay}
 use Rattle.monk_world.specs.declared.home.Home.TheVariants as home
+use Rattle.monk_world.specs.Places.{stage, due_stage}
+use Rattle.monk_hall.specs.Tokens.{House, Token, Holder}
 use Rattle.monk_hall.specs.Calls.{ComesAfter, HasArrived, HasEntered, StillWaits, HasStayed, HasDone, peeks_for}
 use Rattle.monk_hall.specs.Granting.{Grant, HasGranted, GrantsOut, GrantsInside}
-use Rattle.monk_hall.specs.Tokens.{House, Token, Holder}
-use Rattle.monk_c.specs.Answers.{refusal_number, place_number}
-use Rattle.monk_object.specs.Flags.{SET, flags_meaning}
-use Rattle.monk_c.specs.Refusal.{refusal_of}
-use Rattle.monk_c.specs.Stands.{At, SeatView}
-use Rattle.monk_c.specs.Stands.At.{Outside, Waiting, Inside}
-use Rattle.monk_c.specs.declared.call.Call.{Call}
 use Rattle.monk_c.specs.declared.call.Call.TheVariants as call
+use Rattle.monk_c.specs.{Answers.refusal_number, Answers.place_number, Refusal.refusal_of, declared.call.Call.Call}
+use Rattle.monk_c.specs.Stands.{At, SeatView, At.Outside, At.Waiting, At.Inside}
+use Rattle.monk_object.specs.Flags.{SET, flags_meaning}
 
 -- a wish from C's number: 0 for entry, 2 for a signaller, and any other for a waiter
 abbrev pub wish_of : ℕ → Pick

@@ -1,17 +1,12 @@
 -- The text of a history, as C gets it
 use Rattle.std.specs.Prelude.{◌≡◌, ◌⊎◌, ◌++◌, ◌≤◌, ℕ, ℤ, pos, List, length, drop, nat_le, Option, Some, None, if◌then◌else◌}
 use Rattle.monk_kinds.specs.declared.name.KindName.{KindName}
-use Rattle.monk_history.specs.Limits.{most_lines}
-use Rattle.monk_history.specs.Meaning.Legal.{IsLegal}
-use Rattle.monk_history.specs.Meaning.Named.{named_monitor}
-use Rattle.monk_history.specs.Text.{HasText, text}
+use Rattle.monk_history.specs.{Limits.most_lines, Text.HasText, Text.text}
+use Rattle.monk_history.specs.Meaning.{Legal.IsLegal, Named.named_monitor}
 use Rattle.monk_hall.specs.Tokens.{Holder}
-use Rattle.monk_c.specs.Answers.{refusal_number}
-use Rattle.monk_c.specs.Headings.{heading_for}
-use Rattle.monk_c.specs.Stands.{At, Booked, RoomView}
-use Rattle.monk_c.specs.Stands.At.{Outside, Waiting, Inside}
-use Rattle.monk_c.specs.declared.refusal.Refusal.{Refusal}
-use Rattle.monk_c.specs.declared.refusal.Refusal.TheVariants.{NotNow, Memory, Closed}
+use Rattle.monk_c.specs.{Answers.refusal_number, Headings.heading_for}
+use Rattle.monk_c.specs.Stands.{At, Booked, RoomView, At.Outside, At.Waiting, At.Inside}
+use Rattle.monk_c.specs.declared.refusal.Refusal.{Refusal, TheVariants.NotNow, TheVariants.Memory, TheVariants.Closed}
 
 -- the text of the history that the seat inside sees, under the header of its hall. The history is legal for the monitor
 -- that the header names, and no longer than a text may be. So the text is read as this header and these events again

@@ -1,10 +1,9 @@
 -- Where a seat is by its token
-use Rattle.monk_hall.specs.declared.after.After.{After}
 use Rattle.monk_hall.specs.declared.after.After.TheVariants as after
-use Rattle.monk_c.specs.Stands.{At}
-use Rattle.monk_c.specs.Stands.At.{Outside, Waiting, Inside}
-use Rattle.monk_c.specs.declared.token.SeatToken.{SeatToken}
+use Rattle.monk_hall.specs.declared.after.After.{After}
 use Rattle.monk_c.specs.declared.token.SeatToken.TheVariants as token
+use Rattle.monk_c.specs.Stands.{At, At.Outside, At.Waiting, At.Inside}
+use Rattle.monk_c.specs.declared.token.SeatToken.{SeatToken}
 
 -- where the token's seat is
 abbrev pub at_of : {K : Type 0} → SeatToken K → At

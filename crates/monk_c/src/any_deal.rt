@@ -1,8 +1,7 @@
 //! A new hall of any kind.
 ghost use Rattle.std.specs.Prelude.{◌≡◌, ◌+◌, IfOk, IfErr, MatchOption};
+ghost use Rattle.monk_c.specs.{Deals.deal_in, Deals.kind_dealt, Making.fresh_seat};
 ghost use Rattle.monk_c.specs.Dealing.{IsMadeOf, IsMakeRefusal};
-ghost use Rattle.monk_c.specs.Deals.{deal_in, kind_dealt};
-ghost use Rattle.monk_c.specs.Making.{fresh_seat};
 
 use crate::any_seat::AnySeat;
 use crate::deal::Deal;

@@ -1,11 +1,9 @@
 //! A seat of a monitor of any kind.
 ghost use Rattle.std.specs.Prelude.{◌≡◌, true, IfOk, IfErr};
 ghost use Rattle.monk_kinds.specs.declared.mode.Pick.TheVariants as pick;
-ghost use Rattle.monk_c.specs.Coming.{IfComesAt};
-ghost use Rattle.monk_c.specs.Handles.{IfRefusedAt, IfTakenAt, IfUntoldAt, booked};
-ghost use Rattle.monk_c.specs.Looking.{IsCountOf};
-ghost use Rattle.monk_c.specs.Refusal.{is_plain};
+ghost use Rattle.monk_c.specs.{Coming.IfComesAt, Looking.IsCountOf, Refusal.is_plain};
 ghost use Rattle.monk_c.specs.Texts.{HasTextBooked, IsTextRefusalOf};
+ghost use Rattle.monk_c.specs.Handles.{IfRefusedAt, IfTakenAt, IfUntoldAt, booked};
 ghost use Rattle.monk_c.specs.SeatQuestions.{IsLeft, place_at, word_at};
 
 use crate::call::Call;

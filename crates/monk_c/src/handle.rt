@@ -1,13 +1,10 @@
 //! What a C program has for a seat.
 ghost use Rattle.std.specs.Prelude.{◌≡◌, true, IfOk, IfErr};
 ghost use Rattle.monk_kinds.specs.declared.mode.Pick.TheVariants as pick;
-ghost use Rattle.monk_c.specs.Coming.{IfComesAt};
+ghost use Rattle.monk_c.specs.{Coming.IfComesAt, Looking.IsCountOf, Refusal.is_plain, Texts.HasTextBooked};
+ghost use Rattle.monk_c.specs.{Texts.IsTextRefusalOf, declared.any_seat.AnySeat.AnySeat as Held};
 ghost use Rattle.monk_c.specs.Handles.{IfRefusedAt, IfTakenAt, IfUntoldAt, booked};
-ghost use Rattle.monk_c.specs.Looking.{IsCountOf};
-ghost use Rattle.monk_c.specs.Refusal.{is_plain};
-ghost use Rattle.monk_c.specs.Texts.{HasTextBooked, IsTextRefusalOf};
 ghost use Rattle.monk_c.specs.SeatQuestions.{IsLeft, place_at, word_at};
-ghost use Rattle.monk_c.specs.declared.any_seat.AnySeat.{AnySeat as Held};
 
 use crate::any_seat::AnySeat;
 use crate::call::Call;

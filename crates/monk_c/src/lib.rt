@@ -9,15 +9,11 @@
 #![tactic(auto)]
 
 ghost use Rattle.std.specs.Prelude.{◌≡◌};
-ghost use Rattle.monk_c.specs.Closing.{IfCloseRefused, IfClosed};
-ghost use Rattle.monk_c.specs.Coming.{IfComesAt};
-ghost use Rattle.monk_c.specs.Handles.{IfRefusedAt, IfTakenAt, IfUntoldAt, booked};
-ghost use Rattle.monk_c.specs.Looking.{IsCountOf};
-ghost use Rattle.monk_c.specs.Making.{IsMade};
-ghost use Rattle.monk_c.specs.Taken.{wish_of};
-ghost use Rattle.monk_c.specs.Texts.{IsPut, IsTold};
-ghost use Rattle.monk_c.specs.SeatQuestions.{IsLeft, place_at, word_at};
 ghost use Rattle.monk_c.specs.declared.any_seat.AnySeat.TheVariants as any;
+ghost use Rattle.monk_c.specs.{Coming.IfComesAt, Looking.IsCountOf, Making.IsMade, Taken.wish_of, Texts.IsPut};
+ghost use Rattle.monk_c.specs.{Texts.IsTold, SeatQuestions.IsLeft, SeatQuestions.place_at, SeatQuestions.word_at};
+ghost use Rattle.monk_c.specs.Handles.{IfRefusedAt, IfTakenAt, IfUntoldAt, booked};
+ghost use Rattle.monk_c.specs.Closing.{IfCloseRefused, IfClosed};
 ghost use Rattle.monk_kinds.specs.declared.mode.Pick.TheVariants as pick;
 
 mod any_deal;

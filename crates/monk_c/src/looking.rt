@@ -1,7 +1,6 @@
 //! What a seat that is inside sees.
 ghost use Rattle.std.specs.Prelude.{IfOk, IfErr};
-ghost use Rattle.monk_c.specs.Looking.{IsCount};
-ghost use Rattle.monk_c.specs.Texts.{HasTextAt, IsTextRefusal};
+ghost use Rattle.monk_c.specs.{Looking.IsCount, Texts.HasTextAt, Texts.IsTextRefusal};
 
 use crate::modes::has_conditions;
 use crate::refusal::Refusal;

@@ -1,9 +1,8 @@
 //! A hall with the numbers that it was made with.
 ghost use Rattle.std.specs.Prelude.{◌≡◌, List, IsTrue};
-ghost use Rattle.monk_object.specs.Names.{opening_named};
 ghost use Rattle.monk_object.specs.declared.name.ObjectName.TheVariants as object;
-ghost use Rattle.monk_history.specs.Text.{is_writable};
-ghost use Rattle.monk_history.specs.declared.event.Event.{Event};
+ghost use Rattle.monk_object.specs.Names.{opening_named};
+ghost use Rattle.monk_history.specs.{Text.is_writable, declared.event.Event.Event};
 ghost use Rattle.monk_c.specs.Headings.{flags_made, heading_for};
 
 use monk_hall::Hall;

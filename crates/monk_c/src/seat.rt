@@ -2,18 +2,13 @@
 ghost use Rattle.std.specs.Prelude.{◌≡◌, ◌+◌, true, length, List, IsTrue};
 ghost use Rattle.std.specs.Arc.{arc_value};
 ghost use Rattle.monk_kinds.specs.declared.mode.Pick.TheVariants as pick;
-ghost use Rattle.monk_object.specs.Names.{opening_named};
 ghost use Rattle.monk_object.specs.declared.name.ObjectName.TheVariants as object;
-ghost use Rattle.monk_history.specs.Text.{is_writable};
-ghost use Rattle.monk_history.specs.declared.event.Event.{Event};
-ghost use Rattle.monk_c.specs.Answers.{place_number};
-ghost use Rattle.monk_c.specs.Coming.{IfComes};
-ghost use Rattle.monk_c.specs.Headings.{flags_made, heading_for};
+ghost use Rattle.monk_object.specs.Names.{opening_named};
+ghost use Rattle.monk_history.specs.{Text.is_writable, declared.event.Event.Event};
+ghost use Rattle.monk_c.specs.{Answers.place_number, Coming.IfComes, Stands.IsAtHome, Stands.me_of, Tokens.at_of};
+ghost use Rattle.monk_c.specs.{Taken.Answers, Taken.IfRefused, Taken.IfTaken, Taken.IfUntold, SeatQuestions.word_of};
 ghost use Rattle.monk_c.specs.Refusal.{IsReady, is_plain, refusal_of};
-ghost use Rattle.monk_c.specs.Stands.{IsAtHome, me_of};
-ghost use Rattle.monk_c.specs.Tokens.{at_of};
-ghost use Rattle.monk_c.specs.Taken.{Answers, IfRefused, IfTaken, IfUntold};
-ghost use Rattle.monk_c.specs.SeatQuestions.{word_of};
+ghost use Rattle.monk_c.specs.Headings.{flags_made, heading_for};
 
 use crate::call::Call;
 use crate::refusal::Refusal;

@@ -2,12 +2,8 @@
 ghost use Rattle.std.specs.Prelude.{◌≡◌};
 ghost use Rattle.std.specs.Arc.{arc_value};
 ghost use Rattle.monk_kinds.specs.declared.mode.Pick.TheVariants as pick;
-ghost use Rattle.monk_c.specs.Answers.{place_number};
-ghost use Rattle.monk_c.specs.Coming.{Comes};
-ghost use Rattle.monk_c.specs.Refusal.{IsReady};
-ghost use Rattle.monk_c.specs.Stands.{IsAtHome};
+ghost use Rattle.monk_c.specs.{Answers.place_number, Coming.Comes, Refusal.IsReady, Stands.IsAtHome, Taken.Answers};
 ghost use Rattle.monk_c.specs.Tokens.{at_after, at_of};
-ghost use Rattle.monk_c.specs.Taken.{Answers};
 
 use crate::call::Call;
 use crate::reply::Reply;

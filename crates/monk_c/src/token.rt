@@ -1,9 +1,6 @@
 //! The token of a seat, wherever the seat is.
 ghost use Rattle.std.specs.Prelude.{◌≡◌, ◌+◌, length};
-ghost use Rattle.monk_c.specs.Answers.{place_number};
-ghost use Rattle.monk_c.specs.Refusal.{is_from};
-ghost use Rattle.monk_c.specs.Stands.{me_of};
-ghost use Rattle.monk_c.specs.Tokens.{at_of};
+ghost use Rattle.monk_c.specs.{Answers.place_number, Refusal.is_from, Stands.me_of, Tokens.at_of};
 
 use crate::call::Call;
 use monk_hall::{Active, Parked, Pass};

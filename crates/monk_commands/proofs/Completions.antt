@@ -5,17 +5,14 @@ use Rattle.std.specs.Prelude.{◌↔◌}
 use Rattle.monk_kinds.specs.declared.name.KindName.{KindName}
 use Rattle.monk_object.specs.Names.{most}
 use Rattle.monk_history.specs.declared.text.fault.ReadFault.{ReadFault}
-use Rattle.monk_completion.specs.Fits.{IsOpen}
-use Rattle.monk_logs.specs.Log.{LogHeading}
-use Rattle.monk_logs.specs.Log.Reading.{Log, log, log_at}
-use Rattle.monk_completion.specs.Stand.{verdict_on}
-use Rattle.monk_completion.specs.Verdict.{FitsExactly, IsMisfit, MisfitsExactly, log_monitor}
-use Rattle.monk_logs.specs.declared.text.line.LogLine.{LogLine}
-use Rattle.monk_completion.specs.declared.verdict.LogVerdict.{LogVerdict}
-use Rattle.monk_completion.specs.declared.verdict.LogVerdict.TheVariants.{Fits, Misfit}
 use Rattle.monk_completion.proofs.PublicLaws.{kind_fits, kind_misfits}
-use Rattle.monk_logs.proofs.PublicLaws.{log_again, log_read}
-use Rattle.monk_commands.specs.Completed.{IsAnswerToLog, IsLogAnswer, IsLogOf, IsMisfitText, IsOpenText, IsReadingAnswer, IsVerdictAnswer}
+use Rattle.monk_completion.specs.{Fits.IsOpen, Stand.verdict_on}
+use Rattle.monk_completion.specs.Verdict.{FitsExactly, IsMisfit, MisfitsExactly, log_monitor}
+use Rattle.monk_completion.specs.declared.verdict.LogVerdict.{LogVerdict, TheVariants.Fits, TheVariants.Misfit}
+use Rattle.monk_logs.{specs.Log.LogHeading, specs.Log.Reading.Log, specs.Log.Reading.log, specs.Log.Reading.log_at}
+use Rattle.monk_logs.{specs.declared.text.line.LogLine.LogLine, proofs.PublicLaws.log_again, proofs.PublicLaws.log_read}
+use Rattle.monk_commands.specs.Completed.{IsAnswerToLog, IsLogAnswer, IsLogOf, IsMisfitText, IsOpenText}
+use Rattle.monk_commands.specs.Completed.{IsReadingAnswer, IsVerdictAnswer}
 
 -- for the answer to a log
 module _ (kind : KindName) (h : LogHeading) (ls : List LogLine) (status : ℕ) (Puts : List ℕ → Type 0) where

@@ -4,20 +4,14 @@ use Rattle.std.proofs.Common.{Result, Ok, Err, refl, sym, ap, subst, ◌∙◌, 
 use Rattle.std.specs.Prelude.{IfSome, ◌↔◌}
 use Rattle.std.proofs.lemmas.Bool.{ltb-false, le-ltb}
 use Rattle.monk_object.specs.Names.{most}
-use Rattle.monk_history.specs.declared.event.Event.{Event}
-use Rattle.monk_history.specs.declared.text.fault.ReadFault.{ReadFault}
-use Rattle.monk_history.specs.Text.{Heading}
-use Rattle.monk_history.specs.Text.Reading.{History, history, text_at}
-use Rattle.monk_history.specs.Meaning.Legal.{IsLegal}
-use Rattle.monk_history.specs.Meaning.Named.{named_monitor}
 use Rattle.monk_history.proofs.PublicLaws.Texts.{text_again, text_read}
+use Rattle.monk_history.specs.Text.{Heading, Reading.History, Reading.history, Reading.text_at, Lines.Gives}
+use Rattle.monk_history.specs.Meaning.{Legal.IsLegal, Named.named_monitor}
+use Rattle.monk_history.specs.declared.{event.Event.Event, text.fault.ReadFault.ReadFault}
 use Rattle.monk_audit.proofs.PublicLaws.{is_legal, is_fault, is_verdict}
-use Rattle.monk_audit.specs.Verdict.{IsVerdict, verdict_of}
-use Rattle.monk_history.specs.Text.Lines.{Gives}
-use Rattle.monk_audit.specs.Reading.{same, text_verdict}
+use Rattle.monk_audit.specs.{Verdict.IsVerdict, Verdict.verdict_of, Reading.same, Reading.text_verdict}
+use Rattle.monk_audit.specs.declared.verdict.Verdict.{Verdict, TheVariants.Legal, TheVariants.Forbidden}
 use Rattle.monk_audit.specs.declared.text_verdict.TextVerdict.{TextVerdict}
-use Rattle.monk_audit.specs.declared.verdict.Verdict.{Verdict}
-use Rattle.monk_audit.specs.declared.verdict.Verdict.TheVariants.{Legal, Forbidden}
 use Rattle.monk_commands.specs.Answer.{LineAnswer, answer_of, reading_answer, too_big, verdict_answer}
 use Rattle.monk_commands.specs.Legal.{IsTextOf, IsLegalText, HasFault, IsForbiddenText}
 

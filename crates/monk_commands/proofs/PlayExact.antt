@@ -3,21 +3,14 @@ use Rattle.std.proofs.Common.{◌≡◌, ℕ, ◌≤◌, ◌^◌, inl, inr, List
 use Rattle.std.proofs.Common.{refl, sym, ap, subst, ◌∙◌, arith}
 use Rattle.std.specs.Prelude.{◌↔◌}
 use Rattle.monk_kinds.specs.declared.mode.Rules.{Rules}
-use Rattle.monk_object.specs.Object.{Object}
-use Rattle.monk_object.specs.Names.{most}
-use Rattle.monk_history.specs.declared.event.Event.{Event}
-use Rattle.monk_history.specs.declared.text.fault.ReadFault.{ReadFault}
-use Rattle.monk_history.specs.Meaning.Legal.{IsLegal}
-use Rattle.monk_history.specs.Meaning.Monitor.{Monitor, monitor}
+use Rattle.monk_object.specs.{Object.Object, Names.most}
 use Rattle.monk_history.specs.Text.{Heading, HasText}
-use Rattle.monk_world.specs.declared.command.Command.{Command}
-use Rattle.monk_world.specs.Play.Reading.{Play, play, play_at}
-use Rattle.monk_floor.specs.View.{monitor_of}
-use Rattle.monk_world.specs.Records.{IsRecordedBy}
-use Rattle.monk_world.specs.Runs.{opening_state}
-use Rattle.monk_world.specs.State.{State}
-use Rattle.monk_world.specs.Telling.{IsLed}
+use Rattle.monk_history.specs.Meaning.{Legal.IsLegal, Monitor.Monitor, Monitor.monitor}
+use Rattle.monk_history.specs.declared.{event.Event.Event, text.fault.ReadFault.ReadFault}
 use Rattle.monk_world.proofs.PublicLaws.{same_monitor, play_again, play_found}
+use Rattle.monk_world.specs.{declared.command.Command.Command, Play.Reading.Play, Play.Reading.play}
+use Rattle.monk_world.specs.{Play.Reading.play_at, Records.IsRecordedBy, Runs.opening_state, State.State, Telling.IsLed}
+use Rattle.monk_floor.specs.View.{monitor_of}
 use Rattle.monk_commands.specs.Played.{IsAnswer, IsAnswerTo, IsLedTo, IsPlayOf, IsPlayText, Telling}
 
 found_again : (input : List ℕ) (h : Heading) (budget : ℕ) (cs : List (ℕ × Command)) → IsPlayOf input h budget cs

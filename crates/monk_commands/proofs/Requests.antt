@@ -2,16 +2,14 @@
 use Rattle.std.proofs.Common.{◌≡◌, ℕ, ◌+◌, ◌<◌, List, [], ◌∷◌, ◌++◌, length, get_or, take, map, Option, Some, None, Result, Ok, true}
 use Rattle.std.proofs.Common.{refl, sym, ap, subst, ◌∙◌, Bor}
 use Rattle.std.proofs.lemmas.List.{map-append, take_more}
-use Rattle.std.specs.Str.Parse.{ParsesUnsigned}
-use Rattle.clap.specs.declared.parser.matches.Found.{Found}
-use Rattle.clap.proofs.WalkLemmas.{one_text-rows, raw_values-rows}
-use Rattle.monk_commands.specs.declared.request.Line.{Line}
-use Rattle.std.specs.Prelude.{option_map}
+use Rattle.std.specs.{Str.Parse.ParsesUnsigned, Prelude.option_map}
+use Rattle.clap.proofs.{WalkLemmas.one_text-rows, WalkLemmas.raw_values-rows, OnLiterals.clap_on_literals}
 use Rattle.clap.specs.Words.{Row, Text, TriesOne, all_of, matched_of, one_text, raw_values, rows_of, is_simple}
-use Rattle.clap.proofs.OnLiterals.{clap_on_literals}
+use Rattle.clap.specs.declared.parser.matches.Found.{Found}
+use Rattle.monk_commands.specs.Request.{AreMeanings, IsAsked, IsMeaning, IsRead, MayHaveNumber, NameList, monk_app}
+use Rattle.monk_commands.specs.Request.{words_or_none}
+use Rattle.monk_commands.specs.declared.request.Line.{Line}
 use Rattle.monk_judge.specs.declared.waits_for.WaitsFor.{WaitsFor}
-use Rattle.monk_commands.specs.Request.{AreMeanings, IsAsked, IsMeaning, IsRead, MayHaveNumber, NameList}
-use Rattle.monk_commands.specs.Request.{monk_app, words_or_none}
 
 -- what is read in the rows of a command is asked for if that command was found
 pub asked_in : (o : Option (Text × List Row)) (word : Text) (rows : List Row) (l : Line)

@@ -1,17 +1,12 @@
 -- Traces grow by a line for each command
 use Rattle.std.proofs.Common.{◌≡◌, ℕ, suc, ◌+◌, List, [], ◌∷◌, ◌++◌, refl, sym, ap, subst, ◌∙◌, append_assoc, arith}
-use Rattle.std.specs.Prelude.{Option}
-use Rattle.std.specs.Io.KnownBytes.{Appends}
-use Rattle.std.proofs.KnownBytes.{Appends-trans}
-use Rattle.std.proofs.lemmas.List.{append-nil}
+use Rattle.std.proofs.{KnownBytes.Appends-trans, lemmas.List.append-nil}
+use Rattle.std.specs.{Prelude.Option, Io.KnownBytes.Appends}
 use Rattle.monk_object.specs.declared.name.ObjectName.{ObjectName}
-use Rattle.monk_history.specs.Meaning.Monitor.{Monitor}
-use Rattle.monk_history.specs.Meaning.Situation.{situation}
+use Rattle.monk_history.specs.Meaning.{Monitor.Monitor, Situation.situation}
 use Rattle.monk_tell.specs.declared.place.SeatPlace.{SeatPlace}
-use Rattle.monk_world.specs.declared.answer.Answer.{Answer}
-use Rattle.monk_world.specs.declared.command.Command.{Command}
-use Rattle.monk_world.specs.State.{State}
-use Rattle.monk_world.specs.StepTable.{IsStep}
+use Rattle.monk_world.specs.{State.State, StepTable.IsStep}
+use Rattle.monk_world.specs.declared.{answer.Answer.Answer, command.Command.Command}
 use Rattle.monk_commands.specs.Traced.{AreTraced, places_text, seat_text, trace_line}
 
 pub places_more : (s : State) (stands : ℕ → SeatPlace) (j : ℕ)

@@ -2,12 +2,10 @@
 use Rattle.std.proofs.Common.{◌≡◌, ℕ, ◌^◌, ◌⊎◌, inl, inr, Bool, true, false, cond, List, Result, Ok, Err}
 use Rattle.std.proofs.Common.{refl, sym, ap, subst, ◌∙◌, arith}
 use Rattle.std.specs.Prelude.{◌↔◌, nat_le}
-use Rattle.monk_history.specs.Limits.{all_events_version}
-use Rattle.monk_history.specs.declared.event.Event.{Event}
-use Rattle.monk_history.specs.declared.text.fault.ReadFault.{ReadFault}
-use Rattle.monk_history.specs.Text.{Heading, heading, text, upgraded_heading}
-use Rattle.monk_history.specs.Text.Reading.{History, history, text_at}
 use Rattle.monk_history.proofs.PublicLaws.Texts.{text_again, text_read, upgraded_text}
+use Rattle.monk_history.specs.{Limits.all_events_version, Text.Heading, Text.heading, Text.text, Text.upgraded_heading}
+use Rattle.monk_history.specs.{Text.Reading.History, Text.Reading.history, Text.Reading.text_at}
+use Rattle.monk_history.specs.declared.{event.Event.Event, text.fault.ReadFault.ReadFault}
 use Rattle.monk_commands.specs.Answer.{LineAnswer}
 use Rattle.monk_commands.specs.Upgraded.{IsHistoryOf, IsHistoryText, IsUpgraded, upgrade_answer, upgrade_of}
 

@@ -1,7 +1,6 @@
 -- The file that a recorder writes beside a log
 use Rattle.std.specs.Prelude.{ℕ, ◌==◌, Bool, List, codes}
-use Rattle.std.specs.List.{list_any, slice_split}
-use Rattle.std.specs.Str.{bytes_eq}
+use Rattle.std.specs.{List.list_any, List.slice_split, Str.bytes_eq}
 
 -- its rows
 abbrev pub rows_of : List ℕ → List (List ℕ)

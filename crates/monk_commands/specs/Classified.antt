@@ -1,9 +1,7 @@
 -- The two lines that name an ordering of three priorities
 use Rattle.std.specs.Prelude.{ℕ, List, ◌++◌, Option, Some, None, codes}
-use Rattle.monk_kinds.specs.Names.{kind_word}
+use Rattle.monk_kinds.specs.{Names.kind_word, declared.name.KindName.KindName, declared.ordering.Ordering13.Ordering13}
 use Rattle.monk_kinds.specs.Orderings.{ordering_text, ordering_kind}
-use Rattle.monk_kinds.specs.declared.name.KindName.{KindName}
-use Rattle.monk_kinds.specs.declared.ordering.Ordering13.{Ordering13}
 
 -- the kind of monitor, or that there is none
 abbrev pub kind_or_rejected : Option KindName → List ℕ

@@ -2,23 +2,16 @@
 -- with which none begins
 use Rattle.std.specs.Prelude.{◌≡◌, ℕ, ◌<◌, ◌≤◌, ◌^◌, ◌⊎◌, List, length, ◌++◌, Result, Ok, Err, codes}
 use Rattle.std.specs.Fmt.{decimal}
-use Rattle.monk_kinds.specs.Names.{kind_word}
-use Rattle.monk_kinds.specs.declared.name.KindName.{KindName}
+use Rattle.monk_kinds.specs.{Names.kind_word, declared.name.KindName.KindName}
 use Rattle.monk_object.specs.Names.{most}
-use Rattle.monk_history.specs.declared.event.Event.{Event}
-use Rattle.monk_history.specs.declared.text.fault.ReadFault.{ReadFault}
 use Rattle.monk_history.specs.Text.{Heading, HasText, heading, object_version, text, upgraded_heading}
-use Rattle.monk_completion.specs.Blame.{blame_number, blame_word}
-use Rattle.monk_completion.specs.Completion.{Completes}
-use Rattle.monk_completion.specs.Fits.{IsOpen}
-use Rattle.monk_logs.specs.Log.{HasLogText, LogHeading, log_text}
-use Rattle.monk_logs.specs.Log.Reading.{Log, log_at}
-use Rattle.monk_completion.specs.Stand.{verdict_on}
-use Rattle.monk_completion.specs.Verdict.{IsMisfit, log_monitor}
+use Rattle.monk_history.specs.declared.{event.Event.Event, text.fault.ReadFault.ReadFault}
+use Rattle.monk_completion.specs.{Blame.blame_number, Blame.blame_word, Completion.Completes, Fits.IsOpen}
+use Rattle.monk_completion.specs.{Stand.verdict_on, Verdict.IsMisfit, Verdict.log_monitor}
 use Rattle.monk_completion.specs.declared.blame.Blame.{Blame}
+use Rattle.monk_completion.specs.declared.verdict.LogVerdict.{LogVerdict, TheVariants.Fits, TheVariants.Misfit}
+use Rattle.monk_logs.specs.Log.{HasLogText, LogHeading, log_text, Reading.Log, Reading.log_at}
 use Rattle.monk_logs.specs.declared.text.line.LogLine.{LogLine}
-use Rattle.monk_completion.specs.declared.verdict.LogVerdict.{LogVerdict}
-use Rattle.monk_completion.specs.declared.verdict.LogVerdict.TheVariants.{Fits, Misfit}
 use Rattle.monk_commands.specs.Answer.{LineAnswer, too_big, unreadable}
 
 -- ---- the texts of logs

@@ -1,12 +1,10 @@
 -- The answer to a history whose verdict is explained
 use Rattle.std.specs.Prelude.{◌≡◌, ℕ, List, Option, Some, None}
 use Rattle.monk_kinds.specs.declared.name.KindName.{KindName}
-use Rattle.monk_history.specs.Text.{Heading}
-use Rattle.monk_history.specs.Text.Reading.{History}
+use Rattle.monk_history.specs.Text.{Heading, Reading.History}
 use Rattle.monk_audit.specs.Under.{under}
 use Rattle.monk_tell.specs.Told.{Account, account}
-use Rattle.monk_commands.specs.Answer.{IsSized, verdict_answer}
-use Rattle.monk_commands.specs.LogAnswered.{BeginsWith}
+use Rattle.monk_commands.specs.{Answer.IsSized, Answer.verdict_answer, LogAnswered.BeginsWith}
 
 -- the status and the line of an audit; nothing is said about the lines after it
 pub record IsTold (t : Account) (status : ℕ) (text : List ℕ) : Type 0 where

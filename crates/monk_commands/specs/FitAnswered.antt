@@ -1,21 +1,16 @@
 -- The answer to a text that is judged: a finding for a log, the verdict under one kind or each for a history
 use Rattle.std.specs.Prelude.{◌≡◌, ◌==◌, ◌^◌, ℕ, Bool, List, [], ◌∷◌, ◌++◌, Option, Some, None, codes, if◌then◌else◌}
 use Rattle.std.specs.List.{flat_map, list_any}
-use Rattle.monk_kinds.specs.Names.{kind_word, kinds}
-use Rattle.monk_kinds.specs.declared.name.KindName.{KindName}
-use Rattle.monk_history.specs.declared.event.Event.{Event}
-use Rattle.monk_history.specs.Meaning.Named.{named_monitor}
-use Rattle.monk_history.specs.Text.{Heading}
-use Rattle.monk_history.specs.Text.Reading.{History, text_at}
-use Rattle.monk_audit.specs.Under.{under}
-use Rattle.monk_audit.specs.Verdict.{verdict_of}
-use Rattle.monk_audit.specs.declared.verdict.Verdict.{Verdict}
-use Rattle.monk_commands.specs.Answer.{IsOf, IsReading, IsSized, LineAnswer, verdict_answer}
+use Rattle.monk_kinds.specs.{Names.kind_word, Names.kinds, declared.name.KindName.KindName}
+use Rattle.monk_history.specs.{declared.event.Event.Event, Meaning.Named.named_monitor}
+use Rattle.monk_history.specs.Text.{Heading, Reading.History, Reading.text_at}
+use Rattle.monk_audit.specs.{Under.under, Verdict.verdict_of, declared.verdict.Verdict.Verdict}
+use Rattle.monk_commands.specs.declared.logs.view.LogView.TheVariants as view
 use Rattle.monk_commands.specs.LogAnswered.{IsAnswerToLog}
+use Rattle.monk_commands.specs.Answer.{IsOf, IsReading, IsSized, LineAnswer, verdict_answer}
+use Rattle.monk_commands.specs.declared.question.Question.{Question}
 use Rattle.monk_commands.specs.declared.fit_form.FitForm.{FitForm}
 use Rattle.monk_commands.specs.declared.fit_form.FitForm.TheVariants.{Words, Named, Json}
-use Rattle.monk_commands.specs.declared.logs.view.LogView.TheVariants as view
-use Rattle.monk_commands.specs.declared.question.Question.{Question}
 
 -- ---- a history
 

@@ -4,17 +4,13 @@ use Rattle.std.specs.List.{starts_with}
 use Rattle.monk_kinds.specs.declared.name.KindName.{KindName}
 use Rattle.monk_history.specs.declared.text.fault.ReadFault.{ReadFault}
 use Rattle.monk_judge.specs.declared.waits_for.WaitsFor.{WaitsFor}
-use Rattle.monk_logs.specs.Log.{LogHeading}
-use Rattle.monk_logs.specs.Log.Reading.{Log, log_at}
-use Rattle.monk_logs.specs.declared.text.line.LogLine.{LogLine}
-use Rattle.monk_commands.specs.Answer.{unreadable}
+use Rattle.monk_logs.specs.{Log.LogHeading, Log.Reading.Log, Log.Reading.log_at, declared.text.line.LogLine.LogLine}
+use Rattle.monk_commands.specs.{Answer.unreadable, LogRefused.refusal_line, LogRefused.refusal_of}
 use Rattle.monk_commands.specs.LogFound.{IsFinding, finding_line, finding_status}
-use Rattle.monk_commands.specs.LogRefused.{refusal_line, refusal_of}
-use Rattle.monk_commands.specs.declared.logs.finding.Finding.{Finding}
-use Rattle.monk_commands.specs.declared.logs.refusal.LogRefusal.{LogRefusal}
+use Rattle.monk_commands.specs.declared.question.Question.{Question}
+use Rattle.monk_commands.specs.declared.logs.{finding.Finding.Finding, refusal.LogRefusal.LogRefusal}
 use Rattle.monk_commands.specs.declared.logs.view.LogView.{LogView}
 use Rattle.monk_commands.specs.declared.logs.view.LogView.TheVariants.{Line, Json, Explanation}
-use Rattle.monk_commands.specs.declared.question.Question.{Question}
 
 -- the first word of a text is `log`
 abbrev pub is_log_text : List ℕ → Bool

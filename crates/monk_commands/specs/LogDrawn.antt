@@ -1,18 +1,11 @@
 -- The picture or the page of a log: of a run that tells it, up to the line that misfits
 use Rattle.std.specs.Prelude.{◌≡◌, ◌^◌, ◌+◌, ⊤, ℕ, true, false, List, length, take, Option, Some, None}
 use Rattle.monk_object.specs.Names.{meaning_named, opening_named}
-use Rattle.monk_draw.specs.Window.{is_behind, not_shown, shown_last}
-use Rattle.monk_draw.specs.declared.window.Window.{Window}
-use Rattle.monk_judge.specs.Run.{IsRun, opening, setting}
-use Rattle.monk_judge.specs.declared.misfit.Misfit.{Misfit}
-use Rattle.monk_judge.specs.declared.run.Run.{Run}
-use Rattle.monk_logs.specs.Log.{LogHeading}
-use Rattle.monk_logs.specs.Log.Reading.{Log, log_at}
-use Rattle.monk_logs.specs.declared.text.line.LogLine.{LogLine}
-use Rattle.monk_commands.specs.Answer.{IsOf, IsReading, IsSized, behind}
-use Rattle.monk_commands.specs.RunText.{IsRunOfLog}
-use Rattle.monk_commands.specs.declared.show.Show.{Show}
-use Rattle.monk_commands.specs.declared.show.Show.TheVariants.{Picture, Page}
+use Rattle.monk_draw.specs.{Window.is_behind, Window.not_shown, Window.shown_last, declared.window.Window.Window}
+use Rattle.monk_judge.specs.{Run.IsRun, Run.opening, Run.setting, declared.misfit.Misfit.Misfit, declared.run.Run.Run}
+use Rattle.monk_logs.specs.{Log.LogHeading, Log.Reading.Log, Log.Reading.log_at, declared.text.line.LogLine.LogLine}
+use Rattle.monk_commands.specs.{Answer.IsOf, Answer.IsReading, Answer.IsSized, Answer.behind, RunText.IsRunOfLog}
+use Rattle.monk_commands.specs.declared.show.Show.{Show, TheVariants.Picture, TheVariants.Page}
 use Rattle.monk_page.specs.Log.{IsLogPage}
 
 -- the lines that are drawn

@@ -3,20 +3,13 @@ use Rattle.std.specs.Prelude.{◌≡◌, ℕ, ◌+◌, ◌==◌, ◌&&◌, ◌||
 use Rattle.std.specs.Prelude.{Option, Some, None, is_some, nat_lt, nat_le, option_map, min, ◌^◌, ◌-◌}
 use Rattle.std.specs.Fmt.{decimal}
 use Rattle.monk_object.specs.Names.{meaning_named, opening_named}
-use Rattle.monk_logs.specs.Log.{line_seat}
-use Rattle.monk_logs.specs.Log.{LogHeading}
-use Rattle.monk_logs.specs.declared.crossed.Crossed.{Crossed}
-use Rattle.monk_logs.specs.declared.text.line.LogLine.{LogLine}
-use Rattle.monk_judge.specs.Blame.{blame_word}
-use Rattle.monk_judge.specs.Reports.{IsReport}
-use Rattle.monk_judge.specs.Run.{setting}
+use Rattle.monk_logs.specs.Log.{line_seat, LogHeading}
+use Rattle.monk_logs.specs.declared.{crossed.Crossed.Crossed, text.line.LogLine.LogLine}
+use Rattle.monk_judge.specs.{Blame.blame_word, Reports.IsReport, Run.setting}
+use Rattle.monk_judge.specs.declared.{holder.Holder.Holder, misfit.Misfit.Misfit, report.Report.Report}
+use Rattle.monk_judge.specs.declared.{tally.Tally.Tally, waits_for.WaitsFor.WaitsFor}
 use Rattle.monk_judge.specs.declared.blame.Blame.{Blame}
 use Rattle.monk_judge.specs.declared.blame.Blame.TheVariants.{Range, Call, Held, NoLock, Asleep, Awake, Reply}
-use Rattle.monk_judge.specs.declared.holder.Holder.{Holder}
-use Rattle.monk_judge.specs.declared.misfit.Misfit.{Misfit}
-use Rattle.monk_judge.specs.declared.report.Report.{Report}
-use Rattle.monk_judge.specs.declared.tally.Tally.{Tally}
-use Rattle.monk_judge.specs.declared.waits_for.WaitsFor.{WaitsFor}
 use Rattle.monk_commands.specs.declared.logs.finding.Finding.{Finding}
 
 -- ---- the value

@@ -1,8 +1,7 @@
 -- The page of several histories, each with what its program says
 use Rattle.std.specs.Prelude.{◌≡◌, ◌^◌, ℕ, zero, suc, List, [], ◌++◌, Option, Some, None, Result, Ok, Err, slice_get}
 use Rattle.monk_draw.specs.declared.window.Window.{Window}
-use Rattle.monk_history.specs.Text.Reading.{History, text_at}
-use Rattle.monk_history.specs.declared.text.fault.ReadFault.{ReadFault}
+use Rattle.monk_history.specs.{Text.Reading.History, Text.Reading.text_at, declared.text.fault.ReadFault.ReadFault}
 use Rattle.monk_page.specs.Html.{IsArticle, history_end, page_of}
 use Rattle.monk_commands.specs.declared.paging.Paged.{Paged}
 

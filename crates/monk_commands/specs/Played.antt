@@ -1,22 +1,12 @@
 -- Plays that can be played, and the answer to a play's text
 use Rattle.std.specs.Prelude.{◌≡◌, ℕ, ◌<◌, ◌≤◌, ◌^◌, ◌⊎◌, List, length, None, Result, Ok, Err}
-use Rattle.monk_kinds.specs.declared.mode.Rules.{Rules}
-use Rattle.monk_kinds.specs.Names.{rules_named}
-use Rattle.monk_object.specs.Object.{Object}
-use Rattle.monk_object.specs.Names.{most, meaning_named, opening_named}
-use Rattle.monk_history.specs.declared.event.Event.{Event}
-use Rattle.monk_history.specs.declared.text.fault.ReadFault.{ReadFault}
-use Rattle.monk_history.specs.Text.{Heading, HasText, text}
-use Rattle.monk_history.specs.Meaning.Legal.{IsLegal}
-use Rattle.monk_history.specs.Meaning.Monitor.{monitor}
-use Rattle.monk_world.specs.declared.command.Command.{Command}
-use Rattle.monk_world.specs.Play.{HasPlayText, playtext}
+use Rattle.monk_kinds.specs.{declared.mode.Rules.Rules, Names.rules_named}
+use Rattle.monk_object.specs.{Object.Object, Names.most, Names.meaning_named, Names.opening_named}
+use Rattle.monk_history.specs.{Text.Heading, Text.HasText, Text.text, Meaning.Legal.IsLegal, Meaning.Monitor.monitor}
+use Rattle.monk_history.specs.declared.{event.Event.Event, text.fault.ReadFault.ReadFault}
+use Rattle.monk_world.specs.{declared.command.Command.Command, Play.HasPlayText, Play.playtext, Play.Reading.Play}
+use Rattle.monk_world.specs.{Play.Reading.play_at, Records.AreToldIn, Runs.opening_state, State.State, Telling.IsLed}
 use Rattle.monk_floor.specs.Making.{make_refusal}
-use Rattle.monk_world.specs.Play.Reading.{Play, play_at}
-use Rattle.monk_world.specs.Records.{AreToldIn}
-use Rattle.monk_world.specs.Runs.{opening_state}
-use Rattle.monk_world.specs.State.{State}
-use Rattle.monk_world.specs.Telling.{IsLed}
 use Rattle.monk_commands.specs.Answer.{unreadable, too_big}
 
 -- the text of a play whose size is within the object's greatest

@@ -1,17 +1,13 @@
 -- The answer to a run of a sample: its totals, its history, or both for a run in haste
 use Rattle.std.specs.Prelude.{◌≡◌, ℕ, ◌⊎◌, Bool, true, List, [], ◌++◌, Option, Some, None, codes, slice_index}
 use Rattle.std.specs.Fmt.{decimal}
-use Rattle.monk_kinds.specs.Names.{rules_named}
-use Rattle.monk_kinds.specs.declared.name.KindName.{KindName}
-use Rattle.monk_history.specs.Text.{Heading, HasText, text}
-use Rattle.monk_history.specs.declared.event.Event.{Event}
-use Rattle.monk_samples.specs.Runs.{HasLeft, IsFaultOfRun}
+use Rattle.monk_kinds.specs.{Names.rules_named, declared.name.KindName.KindName}
+use Rattle.monk_history.specs.{Text.Heading, Text.HasText, Text.text, declared.event.Event.Event}
+use Rattle.monk_samples.specs.{Runs.HasLeft, Runs.IsFaultOfRun, Totals.HasTotals, Totals.first_missed, Totals.missed_in}
 use Rattle.monk_samples.specs.Samples.{IsOutcome, Played, in_haste, patiently}
-use Rattle.monk_samples.specs.Totals.{HasTotals, first_missed, missed_in}
+use Rattle.monk_samples.specs.declared.sample.Sample.{Sample, TheVariants.Buffer, TheVariants.Book, TheVariants.Shop}
 use Rattle.monk_samples.specs.declared.run_fault.RunFault.{RunFault}
 use Rattle.monk_samples.specs.declared.run_fault.RunFault.TheVariants.{Range, Memory, Tired, Late, Busy, Thread}
-use Rattle.monk_samples.specs.declared.sample.Sample.{Sample}
-use Rattle.monk_samples.specs.declared.sample.Sample.TheVariants.{Buffer, Book, Shop}
 
 -- the rows of a sample's totals
 abbrev pub rows_text : Sample → List ℕ → List ℕ

@@ -1,13 +1,9 @@
 -- What is written for a play: its history or its trace
 use Rattle.std.specs.Prelude.{ℕ, List, Option, Some, None}
-use Rattle.monk_kinds.specs.Names.{rules_named}
-use Rattle.monk_kinds.specs.declared.mode.Rules.{Rules}
-use Rattle.monk_object.specs.Names.{meaning_named, opening_named}
-use Rattle.monk_object.specs.Object.{Object}
-use Rattle.monk_commands.specs.Played.{IsPlayedBy, Telling}
-use Rattle.monk_commands.specs.Traced.{IsTracedBy}
-use Rattle.monk_commands.specs.declared.report.Report.{Report}
-use Rattle.monk_commands.specs.declared.report.Report.TheVariants.{History, Trace}
+use Rattle.monk_kinds.specs.{Names.rules_named, declared.mode.Rules.Rules}
+use Rattle.monk_object.specs.{Names.meaning_named, Names.opening_named, Object.Object}
+use Rattle.monk_commands.specs.{Played.IsPlayedBy, Played.Telling, Traced.IsTracedBy}
+use Rattle.monk_commands.specs.declared.report.Report.{Report, TheVariants.History, TheVariants.Trace}
 
 -- what is written for a play with these objects to show: a trace shows one
 abbrev pub report_with : {T : Type 0} → Option T → Report

@@ -1,36 +1,29 @@
 -- The command line of the program, as clap sees it, and what a line asks for
 use Rattle.std.specs.Prelude.{◌≡◌, ℕ, Bool, List, [], ◌∷◌, ◌++◌, Option, Some, None, IfSome, IsSomeAnd, true, false, fold, map, option_map, codes, pos}
+use Rattle.std.specs.{Str.Parse.IsNumeral, Str.Parse.digits_value, Str.Parse.without_leading_plus, Borrow.Bor}
 use Rattle.std.specs.Prelude.{String, string_bytes, unwrap_or}
-use Rattle.std.specs.Str.Parse.{IsNumeral, digits_value, without_leading_plus}
-use Rattle.std.specs.Borrow.{Bor}
-use Rattle.clap.specs.Words.{App, Row, Rule, Text, all_of, app_of, first_of, new_app, new_rule, one_of, rule_of, with_rule}
-use Rattle.clap.specs.Words.{with_subcommand}
-use Rattle.clap.specs.declared.builder.arg.Arg.{Arg}
+use Rattle.clap.specs.Words.{App, Row, Rule, Text, all_of, app_of, first_of, new_app, new_rule, one_of, rule_of}
+use Rattle.clap.specs.Words.{with_rule, with_subcommand}
+use Rattle.clap.specs.declared.builder.{arg.Arg.Arg, command.Command.Command, command.Command.TheViews.out-Command}
 use Rattle.clap.specs.declared.builder.action.ArgAction.TheVariants.{Append, SetTrue}
-use Rattle.clap.specs.declared.builder.command.Command.{Command}
-use Rattle.clap.specs.declared.builder.command.Command.TheViews.{out-Command}
-use Rattle.clap.specs.declared.builder.value_parser.ValueParser.TheVariants.{Signed, Names}
-use Rattle.clap.specs.declared.builder.value_parser.ValueParser.{ValueParser}
+use Rattle.clap.specs.declared.builder.value_parser.ValueParser.{ValueParser, TheVariants.Signed, TheVariants.Names}
 use Rattle.monk_draw.specs.Asked.{numbers_meant, window_fault}
-use Rattle.monk_draw.specs.declared.text_form.TextLayout.{TextLayout}
-use Rattle.monk_draw.specs.declared.window.Window.{Window}
-use Rattle.monk_kinds.specs.Names.{kind_word, kinds as monitor_kinds}
-use Rattle.monk_kinds.specs.declared.name.KindName.{KindName}
+use Rattle.monk_draw.specs.declared.{text_form.TextLayout.TextLayout, window.Window.Window}
+use Rattle.monk_kinds.specs.{Names.kind_word, Names.kinds as monitor_kinds, declared.name.KindName.KindName}
 use Rattle.monk_judge.specs.declared.waits_for.WaitsFor.{WaitsFor}
 use Rattle.monk_object.specs.Names.{object_word}
 use Rattle.monk_samples.specs.Samples.{IsInRange, sample_object}
-use Rattle.monk_samples.specs.declared.sample.Sample.{Sample}
-use Rattle.monk_samples.specs.declared.sample.Sample.TheVariants.{Buffer, Book, Shop}
-use Rattle.monk_commands.specs.declared.commands.CommandWords.{CommandWords}
-use Rattle.monk_commands.specs.declared.fit_form.FitForm.{FitForm}
-use Rattle.monk_commands.specs.declared.fit_form.FitForm.TheVariants.{Words, Named, Json}
+use Rattle.monk_samples.specs.declared.sample.Sample.{Sample, TheVariants.Buffer, TheVariants.Book, TheVariants.Shop}
 use Rattle.monk_commands.specs.declared.request.Judging.{Judging}
 use Rattle.monk_commands.specs.declared.request.Line.{Line}
 use Rattle.monk_commands.specs.declared.request.Line.TheVariants.{Classify, Audit, Play, Upgrade, Fit, Trace, Explain}
 use Rattle.monk_commands.specs.declared.request.Line.TheVariants.{Draw, DrawText, Page, Complete, Run, Record, Hasty}
+use Rattle.monk_commands.specs.declared.fit_form.FitForm.{FitForm}
+use Rattle.monk_commands.specs.declared.fit_form.FitForm.TheVariants.{Words, Named, Json}
 use Rattle.monk_commands.specs.declared.word.Form.{Form}
 use Rattle.monk_commands.specs.declared.word.Form.TheVariants.{Optional, Several, Required, Flag, Repeated, Chosen}
 use Rattle.monk_commands.specs.declared.word.Word.{Word}
+use Rattle.monk_commands.specs.declared.commands.CommandWords.{CommandWords}
 
 -- ---- the words of a command
 

@@ -1,21 +1,12 @@
 -- The text of a run that tells a log, and the answer to a log if a run is asked for
 use Rattle.std.specs.Prelude.{◌≡◌, ◌^◌, MatchOption, ℕ, List, ◌∷◌, [], ◌++◌, codes}
-use Rattle.std.specs.Fmt.{decimal}
-use Rattle.std.specs.List.{flat_map}
+use Rattle.std.specs.{Fmt.decimal, List.flat_map}
 use Rattle.monk_object.specs.Names.{meaning_named, object_word, opening_named}
 use Rattle.monk_history.specs.Text.Lines.{line}
-use Rattle.monk_judge.specs.Blame.{blame_word}
-use Rattle.monk_judge.specs.Reports.{IsRunOf}
-use Rattle.monk_judge.specs.Run.{setting}
-use Rattle.monk_judge.specs.Text.{step_text}
-use Rattle.monk_judge.specs.declared.misfit.Misfit.{Misfit}
-use Rattle.monk_judge.specs.declared.run.Run.{Run}
-use Rattle.monk_judge.specs.declared.step.Step.{Step}
-use Rattle.monk_logs.specs.Log.{LogHeading}
-use Rattle.monk_logs.specs.Log.Reading.{Log, log_at}
-use Rattle.monk_logs.specs.declared.text.line.LogLine.{LogLine}
-use Rattle.monk_commands.specs.Answer.{IsReading, IsSized}
-use Rattle.monk_commands.specs.LogFound.{number}
+use Rattle.monk_judge.specs.{Blame.blame_word, Reports.IsRunOf, Run.setting, Text.step_text}
+use Rattle.monk_judge.specs.declared.{misfit.Misfit.Misfit, run.Run.Run, step.Step.Step}
+use Rattle.monk_logs.specs.{Log.LogHeading, Log.Reading.Log, Log.Reading.log_at, declared.text.line.LogLine.LogLine}
+use Rattle.monk_commands.specs.{Answer.IsReading, Answer.IsSized, LogFound.number}
 
 -- ---- the text
 

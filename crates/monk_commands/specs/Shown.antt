@@ -1,20 +1,15 @@
 -- The answer to a history that is shown, by a picture or by a page: with the status of its audit
 use Rattle.std.specs.Prelude.{◌≡◌, ℕ, ⊤, false, true, List, length, Option}
-use Rattle.monk_history.specs.declared.event.Event.{Event}
-use Rattle.monk_history.specs.Meaning.Named.{named_monitor}
-use Rattle.monk_history.specs.Text.{Heading}
-use Rattle.monk_history.specs.Text.Reading.{History}
-use Rattle.monk_audit.specs.Verdict.{verdict_of}
-use Rattle.monk_audit.specs.declared.verdict.Verdict.{Verdict}
-use Rattle.monk_draw.specs.Window.{is_behind, showable}
-use Rattle.monk_draw.specs.declared.window.Window.{Window}
+use Rattle.monk_history.specs.{declared.event.Event.Event, Meaning.Named.named_monitor}
+use Rattle.monk_history.specs.Text.{Heading, Reading.History}
+use Rattle.monk_audit.specs.{Verdict.verdict_of, declared.verdict.Verdict.Verdict}
+use Rattle.monk_draw.specs.{Window.is_behind, Window.showable, declared.window.Window.Window}
 use Rattle.monk_page.specs.Html.{IsArticle, IsPage}
 use Rattle.monk_tell.specs.Told.{forbidden_step}
-use Rattle.monk_commands.specs.Answer.{IsOf, IsSized, behind, verdict_answer}
-use Rattle.monk_commands.specs.declared.show.HistoryForm.{HistoryForm}
 use Rattle.monk_commands.specs.declared.show.HistoryForm.TheVariants as form
-use Rattle.monk_commands.specs.declared.show.Show.{Show}
 use Rattle.monk_commands.specs.declared.show.Show.TheVariants as show
+use Rattle.monk_commands.specs.Answer.{IsOf, IsSized, behind, verdict_answer}
+use Rattle.monk_commands.specs.declared.show.{HistoryForm.HistoryForm, Show.Show}
 
 -- the last event that can be shown
 abbrev pub last_shown : Verdict → List Event → ℕ

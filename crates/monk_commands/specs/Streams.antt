@@ -1,13 +1,11 @@
 -- What a stream does to what its reader has left and its writer holds.
 use Rattle.std.specs.Prelude.{◌≡◌, ℕ, ◌+◌, ◌<◌, ◌≤◌, ◌^◌, ◌⊎◌, false, true, List, Option, IfSome, Result, OnOk, IsErrOf}
 use Rattle.std.specs.Io.KnownBytes.{Appends, IsAtEnd}
-use Rattle.monk_history.specs.declared.text.device.Device.{Device}
 use Rattle.monk_history.specs.Text.Device.{reads_of, bytes_of, has_failed, inner_of}
+use Rattle.monk_history.specs.declared.text.device.Device.{Device}
 use Rattle.monk_commands.specs.Answer.{LineAnswer}
-use Rattle.monk_commands.specs.declared.report.Report.{Report}
-use Rattle.monk_commands.specs.declared.report.Report.TheVariants.{History}
-use Rattle.monk_commands.specs.declared.fault.StreamFault.{StreamFault}
-use Rattle.monk_commands.specs.declared.fault.StreamFault.TheVariants.{File, Memory}
+use Rattle.monk_commands.specs.declared.report.Report.{Report, TheVariants.History}
+use Rattle.monk_commands.specs.declared.fault.StreamFault.{StreamFault, TheVariants.File, TheVariants.Memory}
 
 -- known input and output: the status and the appended line are the answer's
 abbrev pub Answers : (List ℕ → LineAnswer) → Option (List ℕ) → Option (List ℕ) → Option (List ℕ) → ℕ → Type 0

@@ -1,28 +1,19 @@
 -- The trace of a play: a line for each command, with its answer, the words, the data and where each seat is after it
 use Rattle.std.specs.Prelude.{◌≡◌, ℕ, zero, suc, ◌+◌, ◌==◌, List, [], ◌∷◌, ◌++◌, if◌then◌else◌, codes}
-use Rattle.std.specs.List.{join_with_byte}
-use Rattle.std.specs.Fmt.{decimal}
-use Rattle.monk_kinds.specs.Names.{rules_named}
-use Rattle.monk_kinds.specs.declared.mode.Rules.{Rules}
+use Rattle.std.specs.{List.join_with_byte, Fmt.decimal}
+use Rattle.monk_kinds.specs.{Names.rules_named, declared.mode.Rules.Rules}
+use Rattle.monk_object.specs.{Object.Object, declared.name.ObjectName.ObjectName}
 use Rattle.monk_object.specs.Names.{meaning_named, opening_named}
-use Rattle.monk_object.specs.Object.{Object}
-use Rattle.monk_object.specs.declared.name.ObjectName.{ObjectName}
-use Rattle.monk_history.specs.Meaning.Monitor.{Monitor, monitor}
-use Rattle.monk_history.specs.Meaning.Situation.{Situation, situation}
+use Rattle.monk_history.specs.Meaning.{Monitor.Monitor, Monitor.monitor, Situation.Situation, Situation.situation}
 use Rattle.monk_history.specs.Text.{Heading}
+use Rattle.monk_tell.specs.{Told.queues_shown, Words.data_text, declared.place.SeatPlace.SeatPlace}
 use Rattle.monk_tell.specs.Place.{in_queues, place_text}
-use Rattle.monk_tell.specs.Told.{queues_shown}
-use Rattle.monk_tell.specs.Words.{data_text}
-use Rattle.monk_tell.specs.declared.place.SeatPlace.{SeatPlace}
-use Rattle.monk_world.specs.declared.answer.Answer.{Answer}
-use Rattle.monk_world.specs.declared.answer.Answer.TheVariants.{Arrived, Looked, Found, Now, Chose, GrantedTicket, GrantedSeat}
-use Rattle.monk_world.specs.declared.answer.Answer.TheVariants.{Reply, Woke, Range, NoCall, NotNow, Tired}
-use Rattle.monk_world.specs.declared.command.Command.{Command}
-use Rattle.monk_world.specs.Play.{command_words}
-use Rattle.monk_world.specs.Runs.{opening_state}
+use Rattle.monk_world.specs.{Play.command_words, Runs.opening_state, State.State, StepTable.IsStep}
 use Rattle.monk_world.specs.Shown.{answer_words, is_granted, place_words}
-use Rattle.monk_world.specs.State.{State}
-use Rattle.monk_world.specs.StepTable.{IsStep}
+use Rattle.monk_world.specs.declared.answer.Answer.{Answer}
+use Rattle.monk_world.specs.declared.answer.Answer.TheVariants.{Arrived, Looked, Found, Now, Chose, GrantedTicket}
+use Rattle.monk_world.specs.declared.answer.Answer.TheVariants.{GrantedSeat, Reply, Woke, Range, NoCall, NotNow, Tired}
+use Rattle.monk_world.specs.declared.command.Command.{Command}
 
 -- where seat j is, on which queue if it waits inside, and whether the grant that it looks for is there; a comma
 -- before each but the first

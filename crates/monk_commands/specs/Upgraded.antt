@@ -1,9 +1,7 @@
 -- The answer to a text that is upgraded: the text of the same events in a version that has every event
 use Rattle.std.specs.Prelude.{◌≡◌, ℕ, ◌≤◌, ◌^◌, List, length, Result, Ok, Err}
-use Rattle.monk_history.specs.declared.event.Event.{Event}
-use Rattle.monk_history.specs.declared.text.fault.ReadFault.{ReadFault}
-use Rattle.monk_history.specs.Text.{Heading, HasText, text, upgraded_heading}
-use Rattle.monk_history.specs.Text.Reading.{History, text_at}
+use Rattle.monk_history.specs.Text.{Heading, HasText, text, upgraded_heading, Reading.History, Reading.text_at}
+use Rattle.monk_history.specs.declared.{event.Event.Event, text.fault.ReadFault.ReadFault}
 use Rattle.monk_commands.specs.Answer.{LineAnswer, unreadable}
 
 -- the answer of an upgrade to what was read

@@ -2,9 +2,7 @@
 
 ghost use Rattle.std.specs.Prelude.{◌≡◌, ◌≢◌, ◌≤◌, ℕ, List, false, true, IfOk, OnErr, Err, string_bytes};
 ghost use Rattle.std.specs.Io.KnownBytes.{Appends};
-ghost use Rattle.monk_history.specs.Text.Device.{inner_of, has_failed};
-ghost use Rattle.monk_history.specs.Text.Faults.{memory};
-ghost use Rattle.monk_history.specs.Text.Lines.{Gives};
+ghost use Rattle.monk_history.specs.Text.{Device.inner_of, Device.has_failed, Faults.memory, Lines.Gives};
 ghost use Rattle.monk_audit.specs.Reading.{same, text_verdict};
 ghost use Rattle.monk_commands.specs.Answer.{answer_of, behind, verdict_answer, fault_word, too_big, unreadable};
 

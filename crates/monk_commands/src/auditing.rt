@@ -1,13 +1,10 @@
 //! The auditor's stream. It reads all of a reader by pieces, and writes one line.
 
 ghost use Rattle.std.specs.Prelude.{◌≡◌, ◌≤◌, false, IfOk, IfSome, ◌↔◌};
-ghost use Rattle.monk_audit.specs.Audits.{owes, IsGoingOn};
-ghost use Rattle.monk_audit.specs.Reading.{same, text_verdict};
-ghost use Rattle.monk_history.specs.Text.Lines.{Gives};
-ghost use Rattle.monk_history.specs.Text.Device.{inner_of, has_failed};
-ghost use Rattle.monk_commands.specs.Answer.{answer_of};
+ghost use Rattle.monk_audit.specs.{Audits.owes, Audits.IsGoingOn, Reading.same, Reading.text_verdict};
+ghost use Rattle.monk_history.specs.Text.{Lines.Gives, Device.inner_of, Device.has_failed};
+ghost use Rattle.monk_commands.specs.{Answer.answer_of, Streams.Answers, Streams.IsReading, Streams.IsStreamOutcome};
 ghost use Rattle.monk_commands.specs.Legal.{IsLegalText, IsForbiddenText};
-ghost use Rattle.monk_commands.specs.Streams.{Answers, IsReading, IsStreamOutcome};
 
 use crate::answer::{answer_to, put};
 use crate::fault::StreamFault;

@@ -1,8 +1,7 @@
 //! The stream that names an ordering of three priorities.
 
 ghost use Rattle.std.specs.Prelude.{◌≡◌, true, false, IfOk, OnOk, OnErr, Err};
-ghost use Rattle.monk_kinds.specs.Orderings.{IsOrdered};
-ghost use Rattle.monk_kinds.specs.declared.ordering.Ordering13.{Ordering13};
+ghost use Rattle.monk_kinds.specs.{Orderings.IsOrdered, declared.ordering.Ordering13.Ordering13};
 ghost use Rattle.monk_history.specs.Text.Device.{has_failed, Writes};
 ghost use Rattle.monk_commands.specs.Classified.{ordering_lines};
 

@@ -3,12 +3,11 @@
 ghost use Rattle.std.specs.Prelude.{◌≡◌, ◌≤◌, ◌^◌, ◌↔◌, false, length, IfOk, IfSome, IsTrue, List, string_bytes};
 ghost use Rattle.std.specs.Io.KnownBytes.{Appends};
 ghost use Rattle.monk_history.specs.declared.event.Event.{Event};
-ghost use Rattle.monk_history.specs.Text.{is_writable};
-ghost use Rattle.monk_history.specs.Text.Device.{inner_of, has_failed};
+ghost use Rattle.monk_history.specs.Text.{is_writable, Device.inner_of, Device.has_failed};
 ghost use Rattle.monk_logs.specs.Log.Reading.{log};
+ghost use Rattle.monk_commands.specs.Streams.{IsStreamOutcome, IsWriting};
 ghost use Rattle.monk_commands.specs.Completed.{IsAnswerToLog, IsLogAnswer, IsMisfitText, IsOpenText};
 ghost use Rattle.monk_commands.specs.Completed.{completed_heading, misfit_answer};
-ghost use Rattle.monk_commands.specs.Streams.{IsStreamOutcome, IsWriting};
 
 use crate::answer::{LineAnswer, put, too_big, unreadable};
 use crate::fault::StreamFault;

@@ -3,9 +3,8 @@
 ghost use Rattle.std.specs.Prelude.{◌≡◌, ◌≤◌, ◌^◌, length, IfOk, string_bytes};
 ghost use Rattle.monk_history.specs.Text.Reading.{history, text_at};
 ghost use Rattle.monk_tell.specs.Told.{telling_of};
-ghost use Rattle.monk_commands.specs.Answer.{IsReading};
+ghost use Rattle.monk_commands.specs.{Answer.IsReading, LogAnswered.IsAnswerToLog};
 ghost use Rattle.monk_commands.specs.Explained.{IsExplained, IsTold, judged_under};
-ghost use Rattle.monk_commands.specs.LogAnswered.{IsAnswerToLog};
 
 use crate::answer::{LineAnswer, too_big, unreadable, verdict_answer};
 use crate::logs::answering::answer_to_log;

@@ -1,13 +1,10 @@
 //! A replay that follows the history of a world.
 
 ghost use Rattle.std.specs.Prelude.{◌≡◌, ℕ, List, IfOk, OnOk, take};
-ghost use Rattle.monk_history.specs.Meaning.Legal.{IsLegal};
-ghost use Rattle.monk_history.specs.Meaning.Monitor.{monitor};
+ghost use Rattle.monk_history.specs.Meaning.{Legal.IsLegal, Monitor.monitor, Situation.situation};
 ghost use Rattle.monk_floor.specs.View.{monitor_of};
-ghost use Rattle.monk_world.specs.WorldViews.{state_of_view};
-ghost use Rattle.monk_world.specs.StepTable.{IsStep};
+ghost use Rattle.monk_world.specs.{WorldViews.state_of_view, StepTable.IsStep};
 ghost use Rattle.monk_commands.specs.Following.{IsBehind};
-ghost use Rattle.monk_history.specs.Meaning.Situation.{situation};
 ghost use Rattle.monk_audit.specs.Replay.{IsReplayOf, replay_situation, seats_in};
 
 use monk_audit::Replay;

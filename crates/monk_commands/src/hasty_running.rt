@@ -2,12 +2,10 @@
 
 ghost use Rattle.std.specs.Prelude.{◌≡◌, ◌⊎◌, false, true, IfErr, IfOk, IsErrOf, string_bytes};
 ghost use Rattle.std.specs.Io.KnownBytes.{Appends};
-ghost use Rattle.monk_history.specs.Text.{HasText, text};
-ghost use Rattle.monk_history.specs.Text.Device.{inner_of, has_failed};
+ghost use Rattle.monk_history.specs.Text.{HasText, text, Device.inner_of, Device.has_failed};
 ghost use Rattle.monk_kinds.specs.Names.{rules_named};
-ghost use Rattle.monk_samples.specs.Runs.{IsFaultOfRun};
+ghost use Rattle.monk_samples.specs.{Runs.IsFaultOfRun, Totals.first_missed, Totals.missed_in};
 ghost use Rattle.monk_samples.specs.Samples.{IsInRange, IsOutcome, in_haste};
-ghost use Rattle.monk_samples.specs.Totals.{first_missed, missed_in};
 ghost use Rattle.monk_commands.specs.Ran.{HasServed, IsHastyAnswer, IsUnstarted, first_line, hasty_text, lets_in};
 
 use crate::answer::put;

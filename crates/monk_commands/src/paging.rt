@@ -3,8 +3,7 @@
 ghost use Rattle.std.specs.Prelude.{◌≡◌, ◌≤◌, false, length, IfOk, string_bytes};
 ghost use Rattle.std.specs.Io.KnownBytes.{Appends};
 ghost use Rattle.monk_history.specs.Text.Device.{inner_of, has_failed};
-ghost use Rattle.monk_commands.specs.Paged.{IsPageOfAll, IsPart};
-ghost use Rattle.monk_commands.specs.Streams.{IsPut};
+ghost use Rattle.monk_commands.specs.{Paged.IsPageOfAll, Paged.IsPart, Streams.IsPut};
 
 use crate::answer::{LineAnswer, put};
 use crate::fault::StreamFault;

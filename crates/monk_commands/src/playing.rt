@@ -2,8 +2,7 @@
 
 ghost use Rattle.std.specs.Prelude.{◌≡◌, ◌⊎◌, false, IfOk, IfSome, ◌↔◌, ℕ, List};
 ghost use Rattle.std.specs.Io.KnownBytes.{Appends};
-ghost use Rattle.monk_history.specs.Text.{Heading};
-ghost use Rattle.monk_history.specs.Text.Device.{inner_of, has_failed};
+ghost use Rattle.monk_history.specs.Text.{Heading, Device.inner_of, Device.has_failed};
 ghost use Rattle.monk_world.specs.declared.command.Command.{Command};
 ghost use Rattle.monk_commands.specs.Played.{IsAnswerTo, IsPlayOf, IsPlayText, IsPlayed};
 ghost use Rattle.monk_commands.specs.Streams.{IsStreamOutcome};

@@ -2,8 +2,7 @@
 
 ghost use Rattle.std.specs.Prelude.{◌≡◌, ◌⊎◌, false, true, Err, IfOk, IsErrOf, IsTrue, OnErr};
 ghost use Rattle.std.specs.Io.KnownBytes.{Appends};
-ghost use Rattle.monk_history.specs.Text.{HasText, is_writable, text};
-ghost use Rattle.monk_history.specs.Text.Device.{inner_of, has_failed};
+ghost use Rattle.monk_history.specs.Text.{HasText, is_writable, text, Device.inner_of, Device.has_failed};
 ghost use Rattle.monk_samples.specs.Samples.{IsInRange, patiently};
 ghost use Rattle.monk_commands.specs.Ran.{IsRecordAnswer, IsUnstarted};
 

@@ -1,15 +1,13 @@
 //! What is written for a play: the history that it leads to, or a trace.
 
 ghost use Rattle.std.specs.Prelude.{◌≡◌, ◌≤◌, false, IfOk, OnOk};
-ghost use Rattle.std.specs.Option.{ForSome};
-ghost use Rattle.std.specs.Io.KnownBytes.{Appends};
+ghost use Rattle.std.specs.{Option.ForSome, Io.KnownBytes.Appends};
 ghost use Rattle.monk_kinds.specs.Names.{rules_named};
-ghost use Rattle.monk_object.specs.Names.{meaning_named, most, opening_named};
 ghost use Rattle.monk_object.specs.declared.name.ObjectName.TheVariants as object;
+ghost use Rattle.monk_object.specs.Names.{meaning_named, most, opening_named};
 ghost use Rattle.monk_history.specs.Text.Device.{inner_of, has_failed};
-ghost use Rattle.monk_commands.specs.Played.{IsAnswerTo, IsPlayAnswer, IsPlayable};
+ghost use Rattle.monk_commands.specs.{Played.IsAnswerTo, Played.IsPlayAnswer, Played.IsPlayable, Streams.IsReporting};
 ghost use Rattle.monk_commands.specs.Reported.{IsReported, IsReportedBy, report_with};
-ghost use Rattle.monk_commands.specs.Streams.{IsReporting};
 
 use crate::answer::{put, too_big, unreadable};
 use crate::fault::StreamFault;

@@ -3,13 +3,12 @@
 ghost use Rattle.std.specs.Prelude.{◌≡◌, ◌≢◌, ◌≤◌, ◌^◌, ◌⊎◌, ◌↔◌, false, true, IfErr, IfOk, IsErrOf, Some, length, string_bytes};
 ghost use Rattle.std.specs.Io.KnownBytes.{Appends};
 ghost use Rattle.monk_object.specs.Names.{most};
-ghost use Rattle.monk_history.specs.Meaning.Legal.{IsLegal};
-ghost use Rattle.monk_history.specs.Meaning.Named.{named_monitor};
+ghost use Rattle.monk_history.specs.Meaning.{Legal.IsLegal, Named.named_monitor};
 ghost use Rattle.monk_history.specs.Text.Device.{inner_of, has_failed};
 ghost use Rattle.monk_kinds.specs.Names.{rules_named};
-ghost use Rattle.monk_samples.specs.Runs.{IsFaultOfRun};
-ghost use Rattle.monk_samples.specs.Samples.{IsInRange, IsOutcome, patiently};
-ghost use Rattle.monk_commands.specs.Ran.{HasServed, IsRunAnswer, IsUnstarted, end_word, lets_in, rows_text, totals_text};
+ghost use Rattle.monk_samples.specs.{Runs.IsFaultOfRun, Samples.IsInRange, Samples.IsOutcome, Samples.patiently};
+ghost use Rattle.monk_commands.specs.Ran.{HasServed, IsRunAnswer, IsUnstarted, end_word, lets_in, rows_text};
+ghost use Rattle.monk_commands.specs.Ran.{totals_text};
 
 use crate::answer::{LineAnswer, put, verdict_answer};
 use crate::fault::StreamFault;

@@ -1,7 +1,6 @@
 ghost use Rattle.std.specs.Prelude.{◌≡◌, ◌≤◌, false, IfOk, IsErrOf};
 ghost use Rattle.monk_history.specs.Text.Device.{has_failed};
-ghost use Rattle.monk_commands.specs.Streams.{IsPassingOn};
-ghost use Rattle.monk_commands.specs.declared.fault.StreamFault.TheVariants.{Memory};
+ghost use Rattle.monk_commands.specs.{Streams.IsPassingOn, declared.fault.StreamFault.TheVariants.Memory};
 
 use crate::auditing::audit_stream;
 use crate::completing::complete_stream;

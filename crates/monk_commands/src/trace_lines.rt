@@ -1,20 +1,15 @@
 //! The lines of a trace: one for each command of a play, with where all seats are after it.
 
 ghost use Rattle.std.specs.Prelude.{◌≡◌, ◌<◌, ◌≤◌, ◌^◌, ◌++◌, false, All, OnOk, ℕ, List, [], length};
-ghost use Rattle.std.specs.Prelude.{string_bytes};
-ghost use Rattle.std.specs.Io.KnownBytes.{Appends};
-ghost use Rattle.monk_history.specs.Text.Device.{inner_of, has_failed};
+ghost use Rattle.std.specs.{Prelude.string_bytes, Io.KnownBytes.Appends};
+ghost use Rattle.monk_history.specs.{Text.Device.inner_of, Text.Device.has_failed, Meaning.Monitor.monitor};
 ghost use Rattle.monk_world.specs.WorldViews.{state_of_view};
-ghost use Rattle.monk_commands.specs.Streams.{IsReporting};
-ghost use Rattle.monk_history.specs.Meaning.Monitor.{monitor};
+ghost use Rattle.monk_commands.specs.{Streams.IsReporting, Following.IsBehind};
+ghost use Rattle.monk_commands.specs.Traced.{AreTraced, data_part, line_front, places_text, refusal_text, seat_text};
+ghost use Rattle.monk_commands.specs.Traced.{trace_line};
 ghost use Rattle.monk_audit.specs.Replay.{replay_situation};
 ghost use Rattle.monk_floor.specs.View.{empty_floor, monitor_of};
-ghost use Rattle.monk_tell.specs.Place.{in_queues};
-ghost use Rattle.monk_tell.specs.Told.{queues_of};
-ghost use Rattle.monk_tell.specs.declared.place.SeatPlace.{SeatPlace};
-ghost use Rattle.monk_commands.specs.Following.{IsBehind};
-ghost use Rattle.monk_commands.specs.Traced.{AreTraced, data_part, line_front, places_text, refusal_text};
-ghost use Rattle.monk_commands.specs.Traced.{seat_text, trace_line};
+ghost use Rattle.monk_tell.specs.{Place.in_queues, Told.queues_of, declared.place.SeatPlace.SeatPlace};
 
 use crate::fault::StreamFault;
 use crate::following::Follower;

@@ -2,12 +2,10 @@
 
 ghost use Rattle.std.specs.Prelude.{◌≡◌, ◌⊎◌, false, IfOk, IfSome, ◌↔◌, ℕ, List};
 ghost use Rattle.std.specs.Io.KnownBytes.{Appends};
-ghost use Rattle.monk_history.specs.Text.{Heading};
-ghost use Rattle.monk_history.specs.Text.Device.{inner_of, has_failed};
+ghost use Rattle.monk_history.specs.Text.{Heading, Device.inner_of, Device.has_failed};
 ghost use Rattle.monk_world.specs.declared.command.Command.{Command};
+ghost use Rattle.monk_commands.specs.{Streams.IsPassingOn, Traced.IsTraced};
 ghost use Rattle.monk_commands.specs.Played.{IsAnswerTo, IsPlayOf, IsPlayText};
-ghost use Rattle.monk_commands.specs.Streams.{IsPassingOn};
-ghost use Rattle.monk_commands.specs.Traced.{IsTraced};
 
 use crate::fault::StreamFault;
 use crate::input::read_all;

@@ -3,10 +3,8 @@
 ghost use Rattle.std.specs.Prelude.{◌≡◌, ◌⊎◌, ◌↔◌, false, IfOk, IfSome, List};
 ghost use Rattle.std.specs.Io.KnownBytes.{Appends};
 ghost use Rattle.monk_history.specs.declared.event.Event.{Event};
-ghost use Rattle.monk_history.specs.Text.{Heading, text, upgraded_heading};
-ghost use Rattle.monk_history.specs.Text.Device.{inner_of, has_failed};
-ghost use Rattle.monk_commands.specs.Given.{IsGiven};
-ghost use Rattle.monk_commands.specs.Streams.{Answers, IsStreamOutcome, IsWriting};
+ghost use Rattle.monk_history.specs.Text.{Heading, text, upgraded_heading, Device.inner_of, Device.has_failed};
+ghost use Rattle.monk_commands.specs.{Given.IsGiven, Streams.Answers, Streams.IsStreamOutcome, Streams.IsWriting};
 ghost use Rattle.monk_commands.specs.Upgraded.{IsHistoryOf, IsHistoryText, IsUpgraded, upgrade_of};
 
 use crate::answer::{put, unreadable};

@@ -2,8 +2,7 @@
 
 ghost use Rattle.std.specs.Prelude.{◌≡◌, IfOk, codes, map};
 ghost use Rattle.clap.specs.Words.{App, app_of, found_of, rows_of, subcommand_of, subcommand_rows_of, with_subcommand};
-ghost use Rattle.monk_commands.specs.Request.{IsAsked, IsMonk, IsOwnApp, IsRead, bare_app, command_app};
-ghost use Rattle.monk_commands.specs.Request.{with_commands};
+ghost use Rattle.monk_commands.specs.Request.{IsAsked, IsMonk, IsOwnApp, IsRead, bare_app, command_app, with_commands};
 
 use crate::commands::{COMMANDS, CommandWords};
 use crate::found_words::{byte, file_of, missing, one_kind};

@@ -1,15 +1,10 @@
 -- From which queue a turn is due, and what may be called if an event may
 use Rattle.std.proofs.Common.{arith, ◌≡◌, ℕ, Some}
-use Rattle.monk_history.specs.declared.event.Event.{Event}
 use Rattle.monk_history.specs.declared.event.Event.TheVariants as event
-use Rattle.monk_history.specs.declared.event.Next.{Next}
-use Rattle.monk_history.specs.declared.event.Next.TheVariants.{Stay}
-use Rattle.monk_object.specs.Object.{Object}
-use Rattle.monk_history.specs.Meaning.Choice.{queues_at}
-use Rattle.monk_history.specs.Meaning.Events.{next_of}
-use Rattle.monk_history.specs.Meaning.Monitor.{Monitor}
+use Rattle.monk_history.specs.Meaning.{Choice.queues_at, Events.next_of, Monitor.Monitor, Situation.Situation}
 use Rattle.monk_history.specs.Meaning.Release.{MayCallIn, as_called, with_next}
-use Rattle.monk_history.specs.Meaning.Situation.{Situation}
+use Rattle.monk_history.specs.declared.event.{Event.Event, Next.Next, Next.TheVariants.Stay}
+use Rattle.monk_object.specs.Object.{Object}
 
 pub half_called : (m : Monitor) (t : Situation) (s c d : ℕ) → MayCallIn m t (event.SignalWait s c d Stay)
     → MayCallIn m t (event.SignalLeave s c Stay)

@@ -2,31 +2,22 @@
 use Rattle.std.proofs.Common.{◌≡◌, ℕ, ◌≤◌, false, List, [], ◌∷◌, ◌++◌, length, Some, None}
 use Rattle.std.proofs.Common.{refl, sym, ap, subst, ◌∙◌, arith}
 use Rattle.std.proofs.lemmas.List.{append-nil, append_assoc, length-append, same_from_push}
-use Rattle.monk_kinds.specs.Kind.{IsKind}
-use Rattle.monk_kinds.specs.declared.mode.Pick.TheVariants.{Entry as WishEntry}
-use Rattle.monk_kinds.specs.declared.mode.Rules.{Rules}
+use Rattle.monk_kinds.specs.{Kind.IsKind, declared.mode.Pick.TheVariants.Entry as WishEntry, declared.mode.Rules.Rules}
 use Rattle.monk_object.specs.Object.{Object}
-use Rattle.monk_history.specs.declared.event.Event.{Event}
 use Rattle.monk_history.specs.declared.event.Event.TheVariants as event
-use Rattle.monk_history.specs.declared.event.Next.{Next}
-use Rattle.monk_history.specs.declared.event.Next.TheVariants.{Stay}
-use Rattle.monk_history.specs.Meaning.Events.{next_of}
-use Rattle.monk_history.specs.Meaning.Legal.{IsLegal}
-use Rattle.monk_history.specs.Meaning.Monitor.{Monitor}
-use Rattle.monk_history.specs.Meaning.Reasons.{IsAllowed}
-use Rattle.monk_history.specs.Meaning.Release.{MayCall, with_next}
-use Rattle.monk_history.specs.Meaning.Situation.{Situation, situation}
-use Rattle.monk_history.proofs.PublicLaws.Meaning.{chosen_allowed, history_induction, legal-push, legal_last, legal_order}
-use Rattle.monk_completion.specs.Completion.{AreHandedOver, Completes, other_half}
-use Rattle.monk_completion.specs.Ending.{last_events, unwished_next}
-use Rattle.monk_completion.specs.Erasure.{erasure_of, erasure}
-use Rattle.monk_logs.specs.declared.text.line.LogLine.{LogLine}
-use Rattle.monk_logs.specs.declared.text.line.LogLine.TheVariants.{Leave, Signal}
-use Rattle.monk_completion.specs.declared.pending.Pending.{Pending}
-use Rattle.monk_completion.specs.declared.pending.Pending.TheVariants.{Settled, Half, Release}
+use Rattle.monk_history.proofs.PublicLaws.Meaning.{chosen_allowed, history_induction, legal-push, legal_last}
+use Rattle.monk_history.proofs.PublicLaws.Meaning.{legal_order}
+use Rattle.monk_history.specs.Meaning.{Events.next_of, Legal.IsLegal, Monitor.Monitor, Reasons.IsAllowed}
+use Rattle.monk_history.specs.Meaning.{Release.MayCall, Release.with_next, Situation.Situation, Situation.situation}
+use Rattle.monk_history.specs.declared.event.{Event.Event, Next.Next, Next.TheVariants.Stay}
+use Rattle.monk_completion.proofs.Soundness.{Tells, release_right}
 use Rattle.monk_completion.proofs.Halves.{event_whole, never, signal_half}
 use Rattle.monk_completion.proofs.Events.{erased_with_next, erasure-push, handed-push, no_enter, release_is_no_enter}
-use Rattle.monk_completion.proofs.Soundness.{Tells, release_right}
+use Rattle.monk_completion.specs.{Ending.last_events, Ending.unwished_next, Erasure.erasure_of, Erasure.erasure}
+use Rattle.monk_completion.specs.Completion.{AreHandedOver, Completes, other_half}
+use Rattle.monk_completion.specs.declared.pending.Pending.{Pending}
+use Rattle.monk_completion.specs.declared.pending.Pending.TheVariants.{Settled, Half, Release}
+use Rattle.monk_logs.specs.declared.text.line.LogLine.{LogLine, TheVariants.Leave, TheVariants.Signal}
 
 -- ---- how many events there are
 

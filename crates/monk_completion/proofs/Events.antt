@@ -1,16 +1,10 @@
 -- What a recorder writes for one more event, and how seats enter
 use Rattle.std.proofs.Common.{arith, ◌≡◌, ℕ, Bool, false, not, cond, List, [], ◌∷◌, ◌++◌, Some, None, refl, ap, ◌∙◌}
-use Rattle.std.specs.List.{AllByRecursion}
-use Rattle.std.proofs.lemmas.Grind.{flat_map-append}
-use Rattle.std.proofs.lemmas.List.{append-nil}
-use Rattle.monk_history.specs.declared.event.Event.{Event}
+use Rattle.std.{specs.List.AllByRecursion, proofs.lemmas.Grind.flat_map-append, proofs.lemmas.List.append-nil}
 use Rattle.monk_history.specs.declared.event.Event.TheVariants as event
-use Rattle.monk_history.specs.declared.event.Next.{Next}
-use Rattle.monk_history.specs.declared.event.Next.TheVariants.{Stay}
-use Rattle.monk_history.specs.declared.event.Via.TheVariants.{Free, Handed}
-use Rattle.monk_history.specs.Meaning.Events.{next_of, via_of}
-use Rattle.monk_history.specs.Meaning.Release.{with_next}
-use Rattle.monk_history.specs.Meaning.Signallers.{is_empty}
+use Rattle.monk_history.specs.Meaning.{Events.next_of, Events.via_of, Release.with_next, Signallers.is_empty}
+use Rattle.monk_history.specs.declared.event.{Event.Event, Via.TheVariants.Free, Via.TheVariants.Handed}
+use Rattle.monk_history.specs.declared.event.Next.{Next, TheVariants.Stay}
 use Rattle.monk_logs.specs.declared.text.line.LogLine.{LogLine}
 use Rattle.monk_completion.specs.Completion.{AreHandedOver, IsNoFreeEnter}
 use Rattle.monk_completion.specs.Erasure.{erasure_of, erasure}

@@ -2,21 +2,16 @@
 use Rattle.std.proofs.Common.{◌≡◌, ℕ, ◌+◌, zero, suc, ◌<◌, ◌≤◌, ◌-◌, List, [], ◌∷◌, take, drop, ◌++◌, length, Some, refl, sym, ap, subst, ◌∙◌, arith}
 use Rattle.std.proofs.lemmas.List.{append-nil, append_assoc, length-append, take-append-drop, take-take, take_at}
 use Rattle.std.specs.Prelude.{Result, Ok, Err}
-use Rattle.monk_kinds.specs.Kind.{IsKind}
-use Rattle.monk_kinds.specs.Names.{rules_named}
-use Rattle.monk_kinds.specs.declared.name.KindName.{KindName}
+use Rattle.monk_kinds.specs.{Kind.IsKind, Names.rules_named, declared.name.KindName.KindName}
 use Rattle.monk_history.specs.Meaning.Monitor.{Monitor}
-use Rattle.monk_logs.specs.Log.{LogHeading}
-use Rattle.monk_logs.specs.declared.text.line.LogLine.{LogLine}
-use Rattle.monk_completion.specs.Fits.{IsOpen}
+use Rattle.monk_logs.specs.{Log.LogHeading, declared.text.line.LogLine.LogLine}
+use Rattle.monk_completion.proofs.{Completeness.open_judged, Soundness.judged_open, Soundness.open_front}
+use Rattle.monk_completion.proofs.Lead.{lead_all, lead_none, lead_push}
 use Rattle.monk_completion.specs.Stand.{Stand, line_over, opening_stand, verdict_from, verdict_on}
+use Rattle.monk_completion.specs.Fits.{IsOpen}
 use Rattle.monk_completion.specs.Verdict.{FitsExactly, IsMisfit, IsVerdictOn, MisfitsExactly, log_monitor, misfit_at}
 use Rattle.monk_completion.specs.declared.blame.Blame.{Blame}
-use Rattle.monk_completion.specs.declared.verdict.LogVerdict.{LogVerdict}
-use Rattle.monk_completion.specs.declared.verdict.LogVerdict.TheVariants.{Fits, Misfit}
-use Rattle.monk_completion.proofs.Completeness.{open_judged}
-use Rattle.monk_completion.proofs.Lead.{lead_all, lead_none, lead_push}
-use Rattle.monk_completion.proofs.Soundness.{judged_open, open_front}
+use Rattle.monk_completion.specs.declared.verdict.LogVerdict.{LogVerdict, TheVariants.Fits, TheVariants.Misfit}
 
 -- ---- line by line
 

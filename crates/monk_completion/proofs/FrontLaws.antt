@@ -1,21 +1,13 @@
 -- A choice in order of arrival depends only on the fronts of the queues
 use Rattle.std.proofs.Common.{arith, ◌≡◌, ℕ, Bool, List, [], ◌∷◌, ◌++◌, take, Option, Some, refl}
-use Rattle.std.specs.Option.{option_or}
-use Rattle.std.specs.Prelude.{slice_get}
+use Rattle.std.specs.{Option.option_or, Prelude.slice_get}
 use Rattle.monk_kinds.specs.declared.mode.Rules.{Rules}
-use Rattle.monk_history.specs.Just.{just}
-use Rattle.monk_history.specs.declared.event.Event.{Event}
-use Rattle.monk_history.specs.declared.event.Next.TheVariants.{Stay}
-use Rattle.monk_history.specs.Meaning.Choice.{Queues}
-use Rattle.monk_history.specs.Meaning.Events.{next_of}
-use Rattle.monk_history.specs.Meaning.Signallers.{signals}
-use Rattle.monk_history.specs.Meaning.Waiters.{serves}
-use Rattle.monk_history.specs.Meaning.Wish.{unwished_choice}
+use Rattle.monk_history.specs.{Just.just, Meaning.Choice.Queues, Meaning.Events.next_of, Meaning.Signallers.signals}
+use Rattle.monk_history.specs.{Meaning.Waiters.serves, Meaning.Wish.unwished_choice}
+use Rattle.monk_history.specs.declared.event.{Event.Event, Next.TheVariants.Stay}
 use Rattle.monk_audit.specs.Settled.{permits}
 use Rattle.monk_logs.specs.declared.text.line.LogLine.{LogLine}
-use Rattle.monk_completion.specs.Blame.{stay_blame}
-use Rattle.monk_completion.specs.Fronts.{fronts_of}
-use Rattle.monk_completion.specs.Told.{told_next}
+use Rattle.monk_completion.specs.{Blame.stay_blame, Fronts.fronts_of, Told.told_next}
 
 -- the first seat of two queues, one after the other
 pub first_of_both : (xs ys : List ℕ) (o p : Option ℕ) → o ≡ slice_get xs 0 → p ≡ slice_get ys 0

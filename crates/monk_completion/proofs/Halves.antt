@@ -2,12 +2,9 @@
 use Rattle.std.proofs.Common.{arith, ◌≡◌, ℕ, Bool, true, cond, List, [], ◌∷◌, ◌++◌, Option, Some, None, refl, ap, ◌∙◌}
 use Rattle.std.specs.List.{last_or}
 use Rattle.monk_kinds.specs.declared.mode.Mode.{Mode}
-use Rattle.monk_history.specs.declared.event.Event.{Event}
-use Rattle.monk_history.specs.Meaning.Events.{is_call_of, returns_at_once}
-use Rattle.monk_completion.specs.Completion.{leaving, other_half}
-use Rattle.monk_completion.specs.Erasure.{erasure_of}
-use Rattle.monk_logs.specs.declared.text.line.LogLine.{LogLine}
-use Rattle.monk_logs.specs.declared.text.line.LogLine.TheVariants.{Leave, Signal}
+use Rattle.monk_history.specs.{declared.event.Event.Event, Meaning.Events.is_call_of, Meaning.Events.returns_at_once}
+use Rattle.monk_completion.specs.{Completion.leaving, Completion.other_half, Erasure.erasure_of}
+use Rattle.monk_logs.specs.declared.text.line.LogLine.{LogLine, TheVariants.Leave, TheVariants.Signal}
 
 last_append : (o : Option LogLine) (xs ys : List LogLine) → last_or o (xs ++ ys) ≡ last_or (last_or o xs) ys
 last_append o [] ys = refl

@@ -3,8 +3,7 @@ use Rattle.std.proofs.Common.{arith, ◌≡◌, List, [], ◌∷◌, ◌++◌, r
 use Rattle.std.specs.Prelude.{Result, Ok, Err}
 use Rattle.monk_history.specs.Meaning.Monitor.{Monitor}
 use Rattle.monk_logs.specs.declared.text.line.LogLine.{LogLine}
-use Rattle.monk_completion.specs.Stand.{Stand, line_over, opening_stand}
-use Rattle.monk_completion.specs.declared.blame.Blame.{Blame}
+use Rattle.monk_completion.specs.{Stand.Stand, Stand.line_over, Stand.opening_stand, declared.blame.Blame.Blame}
 
 -- the stand after the lines to come, or the reason against one of them, from there on
 unfoldable pub lead : Monitor → Result Stand Blame → List LogLine → Result Stand Blame

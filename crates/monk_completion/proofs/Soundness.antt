@@ -1,40 +1,31 @@
 -- If a log is judged to fit, it is open: the events that were taken from it are a legal history that tells it
 use Rattle.std.proofs.Common.{arith, ◌≡◌, ℕ, Bool, true, false, cond, ◌&&◌, not, List, [], ◌∷◌, ◌++◌, Some, None, refl, sym, ap, subst, ◌∙◌}
-use Rattle.std.proofs.lemmas.Bool.{eqb-true}
-use Rattle.std.proofs.lemmas.List.{append-nil, append_assoc, same_from_push}
 use Rattle.std.specs.Prelude.{◌==◌, Result, Ok, Err}
-use Rattle.monk_kinds.specs.Kind.{IsKind}
-use Rattle.monk_kinds.specs.declared.mode.Pick.TheVariants.{Waiter as WishWaiter}
-use Rattle.monk_history.specs.declared.event.Event.{Event}
+use Rattle.std.proofs.lemmas.{Bool.eqb-true, List.append-nil, List.append_assoc, List.same_from_push}
+use Rattle.monk_kinds.specs.{Kind.IsKind, declared.mode.Pick.TheVariants.Waiter as WishWaiter}
 use Rattle.monk_history.specs.declared.event.Event.TheVariants as event
-use Rattle.monk_history.specs.declared.event.Next.TheVariants.{Stay}
-use Rattle.monk_history.specs.Meaning.Choice.{queues_at}
-use Rattle.monk_history.specs.Meaning.Events.{next_of, returns_at_once}
-use Rattle.monk_history.specs.Meaning.Legal.{IsLegal}
-use Rattle.monk_history.specs.Meaning.Monitor.{Monitor}
+use Rattle.monk_history.proofs.PublicLaws.Meaning.{allowed_from_reason, and_right, chosen_allowed, legal-push}
+use Rattle.monk_history.proofs.PublicLaws.Meaning.{legal_none, legal_order, legal_situation-push, situation-none}
+use Rattle.monk_history.specs.Meaning.{Choice.queues_at, Legal.IsLegal, Monitor.Monitor, Signallers.is_empty}
+use Rattle.monk_history.specs.Meaning.{Situation.Situation, Situation.situation, Step.after}
 use Rattle.monk_history.specs.Meaning.Reasons.{IsAllowed, is_right_reply, reason_before, reason_in}
+use Rattle.monk_history.specs.Meaning.Events.{next_of, returns_at_once}
 use Rattle.monk_history.specs.Meaning.Release.{MayCall, choice_of, with_next}
-use Rattle.monk_history.specs.Meaning.Signallers.{is_empty}
-use Rattle.monk_history.specs.Meaning.Situation.{Situation, situation}
-use Rattle.monk_history.specs.Meaning.Step.{after}
-use Rattle.monk_history.proofs.PublicLaws.Meaning.{allowed_from_reason, and_right, chosen_allowed, legal-push, legal_none, legal_order}
-use Rattle.monk_history.proofs.PublicLaws.Meaning.{legal_situation-push, situation-none}
+use Rattle.monk_history.specs.declared.event.{Event.Event, Next.TheVariants.Stay}
 use Rattle.monk_logs.specs.declared.text.line.LogLine.{LogLine}
-use Rattle.monk_logs.specs.declared.text.line.LogLine.TheVariants.{Enter, Resume, Lapse, Leave, Wait, Signal, Broadcast, Until, Act}
-use Rattle.monk_completion.specs.Blame.{blame_of, half_blame, release_blame}
-use Rattle.monk_completion.specs.Completion.{AreHandedOver, IsNoFreeEnter}
-use Rattle.monk_completion.specs.Erasure.{erasure_of, erasure}
-use Rattle.monk_completion.specs.Events.{line_events, told_events}
-use Rattle.monk_completion.specs.Fits.{IsOpen}
-use Rattle.monk_completion.specs.Stand.{Stand, due_from, hold_over, line_behind, line_half, line_over, line_settled, line_told}
-use Rattle.monk_completion.specs.Stand.{opening_stand, release_over, settle, stand, stand_settled}
-use Rattle.monk_completion.specs.Told.{is_lapse, told_next, told_release}
+use Rattle.monk_logs.specs.declared.text.line.LogLine.TheVariants.{Enter, Resume, Lapse, Leave, Wait, Signal, Broadcast}
+use Rattle.monk_logs.specs.declared.text.line.LogLine.TheVariants.{Until, Act}
+use Rattle.monk_completion.proofs.{Lead.lead, Lead.lead_all, Tests.called_from_tests, Tests.passed}
+use Rattle.monk_completion.proofs.Events.{erased_with_next, erasure-push, handed-push, handed_enter, no_enter}
+use Rattle.monk_completion.proofs.Events.{release_is_no_enter}
+use Rattle.monk_completion.specs.{Blame.blame_of, Blame.half_blame, Blame.release_blame, Completion.AreHandedOver}
+use Rattle.monk_completion.specs.{Completion.IsNoFreeEnter, Erasure.erasure_of, Erasure.erasure, Events.line_events}
+use Rattle.monk_completion.specs.{Events.told_events, Fits.IsOpen, Told.is_lapse, Told.told_next, Told.told_release}
+use Rattle.monk_completion.specs.Stand.{Stand, due_from, hold_over, line_behind, line_half, line_over, line_settled}
+use Rattle.monk_completion.specs.Stand.{line_told, opening_stand, release_over, settle, stand, stand_settled}
 use Rattle.monk_completion.specs.declared.blame.Blame.{Blame}
 use Rattle.monk_completion.specs.declared.pending.Pending.{Pending}
 use Rattle.monk_completion.specs.declared.pending.Pending.TheVariants.{Settled, Half, Release}
-use Rattle.monk_completion.proofs.Events.{erased_with_next, erasure-push, handed-push, handed_enter, no_enter, release_is_no_enter}
-use Rattle.monk_completion.proofs.Lead.{lead, lead_all}
-use Rattle.monk_completion.proofs.Tests.{called_from_tests, passed}
 
 -- the lines of what is not yet known
 abbrev pub untold : Pending → List LogLine

@@ -3,14 +3,11 @@ use Rattle.std.proofs.Common.{◌≡◌, ℕ, Bool, true, false, cond, not, Opti
 use Rattle.std.specs.Prelude.{◌==◌, Ok, Err}
 use Rattle.std.specs.Option.{option_map_or}
 use Rattle.monk_object.specs.Runs.{Answered}
-use Rattle.monk_history.specs.Meaning.Events.{answered_act}
-use Rattle.monk_history.specs.declared.event.Event.{Event}
-use Rattle.monk_history.specs.Meaning.Monitor.{Monitor}
-use Rattle.monk_history.specs.Meaning.Choice.{is_permitted}
-use Rattle.monk_history.specs.Meaning.Reasons.{IsAllowedIn, reason_before, reason_in, is_in_range, is_offered, is_in_turn, is_in_place}
-use Rattle.monk_history.specs.Meaning.Reasons.{fits_object, is_right_reply}
+use Rattle.monk_history.specs.Meaning.{Events.answered_act, Monitor.Monitor, Choice.is_permitted, Situation.Situation}
+use Rattle.monk_history.specs.Meaning.Reasons.{IsAllowedIn, reason_before, reason_in, is_in_range, is_offered}
+use Rattle.monk_history.specs.Meaning.Reasons.{is_in_turn, is_in_place, fits_object, is_right_reply}
 use Rattle.monk_history.specs.Meaning.Release.{MayCallIn, as_called}
-use Rattle.monk_history.specs.Meaning.Situation.{Situation}
+use Rattle.monk_history.specs.declared.event.Event.{Event}
 
 -- ---- what was added if a test passed
 

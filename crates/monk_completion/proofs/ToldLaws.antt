@@ -1,18 +1,13 @@
 -- After a release gets the choice that a line shows, the line leads where it leads by that choice
 use Rattle.std.proofs.Common.{arith, ◌≡◌, ◌∙◌, Bool, true, false, not, List, [], ◌∷◌, ◌++◌, ap, append_assoc}
 use Rattle.std.specs.Prelude.{◌==◌, Result, Ok, Err, OnOk}
+use Rattle.monk_history.specs.Meaning.{Monitor.Monitor, Reasons.reason_in, Situation.Situation, Step.after}
 use Rattle.monk_history.specs.declared.event.Event.{Event}
-use Rattle.monk_history.specs.Meaning.Monitor.{Monitor}
-use Rattle.monk_history.specs.Meaning.Reasons.{reason_in}
-use Rattle.monk_history.specs.Meaning.Situation.{Situation}
-use Rattle.monk_history.specs.Meaning.Step.{after}
 use Rattle.monk_logs.specs.declared.text.line.LogLine.{LogLine}
-use Rattle.monk_completion.specs.Events.{line_events, told_events}
+use Rattle.monk_completion.specs.{Events.line_events, Events.told_events, Told.is_lapse, Told.told_release}
 use Rattle.monk_completion.specs.Stand.{line_settled, line_told, settle, stand_or}
-use Rattle.monk_completion.specs.Told.{is_lapse, told_release}
 use Rattle.monk_completion.specs.declared.blame.Blame.{Blame}
-use Rattle.monk_completion.specs.declared.pending.Pending.{Pending}
-use Rattle.monk_completion.specs.declared.pending.Pending.TheVariants.{Settled, Release}
+use Rattle.monk_completion.specs.declared.pending.Pending.{Pending, TheVariants.Settled, TheVariants.Release}
 
 module _ (m : Monitor) (t u : Situation) (e told : Event) (l : LogLine) (r : Result Pending Blame)
     (refused : Bool)

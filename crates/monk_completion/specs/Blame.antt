@@ -1,33 +1,21 @@
 -- Why a line can't come from a monitor: the first of nine tests that it fails
 use Rattle.std.specs.Prelude.{ℕ, ◌==◌, nat_lt, Bool, true, ◌&&◌, ◌||◌, not, List, Option, Some, None, if◌then◌else◌, is_some, codes}
-use Rattle.monk_kinds.specs.declared.mode.Mode.{Mode}
-use Rattle.monk_kinds.specs.declared.mode.Rules.{Rules}
-use Rattle.monk_history.specs.declared.event.Event.{Event}
+use Rattle.monk_kinds.specs.declared.mode.{Mode.Mode, Rules.Rules}
 use Rattle.monk_history.specs.declared.event.Event.TheVariants as event
 use Rattle.monk_history.specs.declared.event.From3.TheVariants as from
 use Rattle.monk_history.specs.declared.event.Next.TheVariants as next
-use Rattle.monk_history.specs.declared.event.Via.TheVariants.{Handed}
+use Rattle.monk_history.specs.Meaning.{Monitor.Monitor, Situation.Situation, Turn.is_exit_of}
 use Rattle.monk_history.specs.Meaning.Choice.{Queues, is_front, must_stay, queues_at}
-use Rattle.monk_history.specs.Meaning.Events.{awaited_predicate, returns_at_once, seat_of, steps_back, waits_on}
-use Rattle.monk_history.specs.Meaning.Monitor.{Monitor}
 use Rattle.monk_history.specs.Meaning.Reasons.{is_in_range, is_offered, is_right_reply}
-use Rattle.monk_history.specs.Meaning.Situation.{Situation}
-use Rattle.monk_history.specs.Meaning.Turn.{is_exit_of}
+use Rattle.monk_history.specs.Meaning.Events.{awaited_predicate, returns_at_once, seat_of, steps_back, waits_on}
+use Rattle.monk_history.specs.declared.event.{Event.Event, Via.TheVariants.Handed}
 use Rattle.monk_audit.specs.Replay.{is_front_in, stands_in}
 use Rattle.monk_completion.specs.declared.blame.Blame.{Blame}
-use Rattle.monk_completion.specs.declared.blame.Blame.TheVariants.{
-  Range,
-  Call,
-  Turn,
-  Place,
-  Reply,
-  Unserved,
-  Served,
-  Order,
-  Choice,
-}
+use Rattle.monk_completion.specs.declared.blame.Blame.TheVariants.{Range, Call, Turn, Place, Reply, Unserved, Served}
+use Rattle.monk_completion.specs.declared.blame.Blame.TheVariants.{Order, Choice}
 use Rattle.monk_logs.specs.declared.text.line.LogLine.{LogLine}
-use Rattle.monk_logs.specs.declared.text.line.LogLine.TheVariants.{Enter, Resume, Lapse, Leave, Wait, Signal, Broadcast, Until, Act}
+use Rattle.monk_logs.specs.declared.text.line.LogLine.TheVariants.{Enter, Resume, Lapse, Leave, Wait, Signal, Broadcast}
+use Rattle.monk_logs.specs.declared.text.line.LogLine.TheVariants.{Until, Act}
 
 -- ---- numbers and words
 

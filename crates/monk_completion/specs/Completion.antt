@@ -2,22 +2,16 @@
 use Rattle.std.specs.Prelude.{◌≡◌, ◌≢◌, ◌≤◌, List, length, drop, [], ◌∷◌, ◌++◌, Option, Some, None, if◌then◌else◌}
 use Rattle.std.specs.List.{AllByRecursion, last_or}
 use Rattle.monk_kinds.specs.declared.mode.Mode.{Mode}
-use Rattle.monk_history.specs.declared.event.Event.{Event}
-use Rattle.monk_history.specs.declared.event.Next.{Next}
-use Rattle.monk_history.specs.declared.event.Via.TheVariants.{Free}
+use Rattle.monk_history.specs.Meaning.{Legal.IsLegal, Monitor.Monitor, Situation.situation}
 use Rattle.monk_history.specs.Meaning.Events.{next_of, returns_at_once, via_of}
-use Rattle.monk_history.specs.Meaning.Legal.{IsLegal}
-use Rattle.monk_history.specs.Meaning.Monitor.{Monitor}
-use Rattle.monk_history.specs.Meaning.Situation.{situation}
-use Rattle.monk_completion.specs.Ending.{unwished_next}
-use Rattle.monk_completion.specs.Erasure.{erasure}
-use Rattle.monk_completion.specs.Stand.{verdict_on}
-use Rattle.monk_completion.specs.declared.completion.Completion.{Completion}
+use Rattle.monk_history.specs.declared.event.{Event.Event, Next.Next, Via.TheVariants.Free}
 use Rattle.monk_completion.specs.declared.completion.Completion.TheVariants as completion
-use Rattle.monk_logs.specs.declared.text.line.LogLine.{LogLine}
-use Rattle.monk_logs.specs.declared.text.line.LogLine.TheVariants.{Enter, Resume, Lapse, Leave, Wait, Signal, Broadcast, Until, Act}
-use Rattle.monk_completion.specs.declared.verdict.LogVerdict.{LogVerdict}
 use Rattle.monk_completion.specs.declared.verdict.LogVerdict.TheVariants as verdict
+use Rattle.monk_completion.specs.{Ending.unwished_next, Erasure.erasure, Stand.verdict_on}
+use Rattle.monk_completion.specs.declared.{completion.Completion.Completion, verdict.LogVerdict.LogVerdict}
+use Rattle.monk_logs.specs.declared.text.line.LogLine.{LogLine}
+use Rattle.monk_logs.specs.declared.text.line.LogLine.TheVariants.{Enter, Resume, Lapse, Leave, Wait, Signal, Broadcast}
+use Rattle.monk_logs.specs.declared.text.line.LogLine.TheVariants.{Until, Act}
 
 -- the line by which a signaller leaves
 abbrev pub leaving : Option LogLine → List LogLine

@@ -1,15 +1,11 @@
 -- The release at the end of a log, whose choice no line shows
 use Rattle.std.specs.Prelude.{false, List, [], ◌∷◌, Option, Some, None}
 use Rattle.std.specs.Option.{option_map_or}
-use Rattle.monk_kinds.specs.declared.mode.Pick.TheVariants.{Entry as WishEntry}
-use Rattle.monk_kinds.specs.declared.mode.Rules.{Rules}
+use Rattle.monk_kinds.specs.declared.mode.{Pick.TheVariants.Entry as WishEntry, Rules.Rules}
 use Rattle.monk_object.specs.Object.{Object}
-use Rattle.monk_history.specs.declared.event.Event.{Event}
-use Rattle.monk_history.specs.declared.event.Event.TheVariants.{SignalLeave}
-use Rattle.monk_history.specs.declared.event.Next.{Next}
 use Rattle.monk_history.specs.declared.event.Next.TheVariants as next
-use Rattle.monk_history.specs.Meaning.Release.{choice_of, with_next}
-use Rattle.monk_history.specs.Meaning.Situation.{Situation}
+use Rattle.monk_history.specs.Meaning.{Release.choice_of, Release.with_next, Situation.Situation}
+use Rattle.monk_history.specs.declared.event.{Event.Event, Event.TheVariants.SignalLeave, Next.Next}
 use Rattle.monk_completion.specs.declared.pending.Pending.{Pending}
 use Rattle.monk_completion.specs.declared.pending.Pending.TheVariants.{Settled, Half, Release}
 

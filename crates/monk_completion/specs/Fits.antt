@@ -1,8 +1,6 @@
 -- Which logs could come from a monitor
 use Rattle.std.specs.Prelude.{◌≡◌, List, ◌++◌}
-use Rattle.monk_history.specs.declared.event.Event.{Event}
-use Rattle.monk_history.specs.Meaning.Legal.{IsLegal}
-use Rattle.monk_history.specs.Meaning.Monitor.{Monitor}
+use Rattle.monk_history.specs.{declared.event.Event.Event, Meaning.Legal.IsLegal, Meaning.Monitor.Monitor}
 use Rattle.monk_logs.specs.declared.text.line.LogLine.{LogLine}
 use Rattle.monk_completion.specs.Erasure.{erasure}
 

@@ -1,7 +1,6 @@
 -- The fronts of the queues from which a release chooses: all that a choice in order of arrival depends on
 use Rattle.std.specs.Prelude.{take}
-use Rattle.monk_history.specs.Just.{just}
-use Rattle.monk_history.specs.Meaning.Choice.{Queues}
+use Rattle.monk_history.specs.{Just.just, Meaning.Choice.Queues}
 use Rattle.monk_completion.specs.declared.fronts.Fronts.{Fronts}
 
 -- the queues cut after their fronts

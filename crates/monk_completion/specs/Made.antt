@@ -1,9 +1,7 @@
 -- The object of a log's header, when it is made
 use Rattle.std.specs.Prelude.{◌≡◌, ◌≤◌, ◌<◌, ℕ, List, Result, Ok, Err}
-use Rattle.monk_object.specs.Names.{meaning_named, most, opening_named}
-use Rattle.monk_object.specs.Object.{Object}
-use Rattle.monk_object.specs.declared.fault.ObjectFault.{ObjectFault}
-use Rattle.monk_object.specs.declared.fault.ObjectFault.TheVariants.{Size, Memory}
+use Rattle.monk_object.specs.{Names.meaning_named, Names.most, Names.opening_named, Object.Object}
+use Rattle.monk_object.specs.declared.fault.ObjectFault.{ObjectFault, TheVariants.Size, TheVariants.Memory}
 use Rattle.monk_logs.specs.Log.{LogHeading}
 
 -- an object with this meaning and this view of its states was made as the header names it; or else why not

@@ -2,31 +2,24 @@
 -- The contract of `complete` says that a log fits exactly if some legal history begins with it
 use Rattle.std.specs.Prelude.{◌≡◌, ℕ, ◌+◌, ◌==◌, ◌&&◌, not, List, [], ◌∷◌, Some, Result, Ok, Err, if◌then◌else◌}
 use Rattle.monk_object.specs.Object.{Object}
-use Rattle.monk_history.specs.declared.event.Event.{Event}
 use Rattle.monk_history.specs.declared.event.Event.TheVariants as event
-use Rattle.monk_history.specs.declared.event.From3.{From3}
 use Rattle.monk_history.specs.declared.event.From3.TheVariants as from
 use Rattle.monk_history.specs.declared.event.Next.TheVariants as next
-use Rattle.monk_history.specs.declared.event.Turn.{Turn}
-use Rattle.monk_history.specs.declared.event.Turn.TheVariants.{Open, Due, Owned}
-use Rattle.monk_history.specs.declared.event.Via.{Via}
-use Rattle.monk_history.specs.declared.event.Via.TheVariants.{Free, Handed}
+use Rattle.monk_history.specs.Meaning.{Monitor.Monitor, Monitor.monitor, Reasons.reason_before, Reasons.reason_in}
+use Rattle.monk_history.specs.Meaning.{Release.MayCallIn, Situation.Situation, Step.after, Step.opening_situation}
 use Rattle.monk_history.specs.Meaning.Events.{next_of, returns_at_once}
-use Rattle.monk_history.specs.Meaning.Monitor.{Monitor, monitor}
-use Rattle.monk_history.specs.Meaning.Reasons.{reason_before, reason_in}
-use Rattle.monk_history.specs.Meaning.Release.{MayCallIn}
-use Rattle.monk_history.specs.Meaning.Situation.{Situation}
-use Rattle.monk_history.specs.Meaning.Step.{after, opening_situation}
+use Rattle.monk_history.specs.declared.event.{Event.Event, From3.From3}
+use Rattle.monk_history.specs.declared.event.Via.{Via, TheVariants.Free, TheVariants.Handed}
+use Rattle.monk_history.specs.declared.event.Turn.{Turn, TheVariants.Open, TheVariants.Due, TheVariants.Owned}
 use Rattle.monk_logs.specs.declared.text.line.LogLine.{LogLine}
-use Rattle.monk_logs.specs.declared.text.line.LogLine.TheVariants.{Enter, Resume, Lapse, Leave, Wait, Signal, Broadcast, Until, Act}
+use Rattle.monk_logs.specs.declared.text.line.LogLine.TheVariants.{Enter, Resume, Lapse, Leave, Wait, Signal, Broadcast}
+use Rattle.monk_logs.specs.declared.text.line.LogLine.TheVariants.{Until, Act}
 use Rattle.monk_completion.specs.Blame.{blame_of, half_blame, lapse_blame, release_blame}
-use Rattle.monk_completion.specs.Told.{is_lapse, told_release}
-use Rattle.monk_completion.specs.declared.blame.Blame.{Blame}
+use Rattle.monk_completion.specs.declared.{blame.Blame.Blame, setting.MonitorSetting.MonitorSetting}
+use Rattle.monk_completion.specs.declared.verdict.LogVerdict.{LogVerdict, TheVariants.Fits, TheVariants.Misfit}
 use Rattle.monk_completion.specs.declared.pending.Pending.{Pending}
 use Rattle.monk_completion.specs.declared.pending.Pending.TheVariants.{Settled, Half, Release}
-use Rattle.monk_completion.specs.declared.setting.MonitorSetting.{MonitorSetting}
-use Rattle.monk_completion.specs.declared.verdict.LogVerdict.{LogVerdict}
-use Rattle.monk_completion.specs.declared.verdict.LogVerdict.TheVariants.{Fits, Misfit}
+use Rattle.monk_completion.specs.Told.{is_lapse, told_release}
 
 -- the state of the monitor after the events that are known, and what is not yet known
 pub record Stand : Type 0 where

@@ -1,15 +1,11 @@
 -- What the verdict on a log says exactly
 use Rattle.std.specs.Prelude.{◌≡◌, ◌↔◌, ℕ, ◌-◌, List, Option, Some, None, take}
-use Rattle.monk_kinds.specs.declared.mode.Rules.{Rules}
-use Rattle.monk_kinds.specs.declared.name.KindName.{KindName}
-use Rattle.monk_kinds.specs.Names.{rules_named}
+use Rattle.monk_kinds.specs.{declared.mode.Rules.Rules, declared.name.KindName.KindName, Names.rules_named}
 use Rattle.monk_object.specs.Names.{meaning_named, opening_named}
 use Rattle.monk_history.specs.Meaning.Monitor.{Monitor, monitor}
-use Rattle.monk_logs.specs.Log.{LogHeading}
-use Rattle.monk_logs.specs.declared.text.line.LogLine.{LogLine}
+use Rattle.monk_logs.specs.{Log.LogHeading, declared.text.line.LogLine.LogLine}
 use Rattle.monk_completion.specs.Fits.{IsOpen}
-use Rattle.monk_completion.specs.declared.verdict.LogVerdict.{LogVerdict}
-use Rattle.monk_completion.specs.declared.verdict.LogVerdict.TheVariants.{Fits, Misfit}
+use Rattle.monk_completion.specs.declared.verdict.LogVerdict.{LogVerdict, TheVariants.Fits, TheVariants.Misfit}
 
 -- the monitor of the header, with those rules
 abbrev pub header_monitor : LogHeading → Rules → Monitor

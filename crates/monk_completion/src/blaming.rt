@@ -1,17 +1,12 @@
 //! The reason if a line can't follow a release, or a signal that lacks its second line.
 
 ghost use Rattle.std.specs.Prelude.{◌≡◌, ◌||◌, ◌++◌, [], true, Some, IfOk, is_some, if◌then◌else◌};
-ghost use Rattle.monk_history.specs.Just.{just};
-ghost use Rattle.monk_history.specs.declared.event.Next.{Next};
-ghost use Rattle.monk_history.specs.Meaning.Choice.{queues_at};
+ghost use Rattle.monk_history.specs.{Just.just, declared.event.Next.Next};
+ghost use Rattle.monk_history.specs.Meaning.{Choice.queues_at, Reasons.fits_object, Release.MayCallIn, Turn.is_exit_of};
 ghost use Rattle.monk_history.specs.Meaning.Events.{awaited_predicate, next_of, returns_at_once, steps_back, waits_on};
-ghost use Rattle.monk_history.specs.Meaning.Reasons.{fits_object};
-ghost use Rattle.monk_history.specs.Meaning.Release.{MayCallIn};
-ghost use Rattle.monk_history.specs.Meaning.Turn.{is_exit_of};
 ghost use Rattle.monk_audit.specs.Replay.{IsReplayOf, has, replay_situation, stands_in};
 ghost use Rattle.monk_completion.specs.Blame as blames;
-ghost use Rattle.monk_completion.specs.Blame.{early_blame};
-ghost use Rattle.monk_completion.specs.Stand.{monitor_in};
+ghost use Rattle.monk_completion.specs.{Blame.early_blame, Stand.monitor_in};
 
 use crate::blame::Blame;
 use crate::fronts::{Fronts, first_served, stepping_back};

@@ -3,11 +3,9 @@
 ghost use Rattle.std.specs.Prelude.{◌≡◌, ◌≤◌, ◌<◌, IfOk, OnOk, IsErrOf, length};
 ghost use Rattle.monk_kinds.specs.Kind.{IsKind};
 ghost use Rattle.monk_object.specs.Names.{most};
-ghost use Rattle.monk_history.specs.Limits.{most_lines};
-ghost use Rattle.monk_history.specs.Meaning.Monitor.{monitor};
+ghost use Rattle.monk_history.specs.{Limits.most_lines, Meaning.Monitor.monitor};
+ghost use Rattle.monk_completion.specs.{Made.IsMadeAs, Stand.verdict_on};
 ghost use Rattle.monk_completion.specs.Completion.{IsCompletionOf, IsFound, verdict_in};
-ghost use Rattle.monk_completion.specs.Made.{IsMadeAs};
-ghost use Rattle.monk_completion.specs.Stand.{verdict_on};
 ghost use Rattle.monk_completion.specs.Verdict.{FitsExactly, MisfitsExactly, log_monitor};
 
 use crate::completion::Completion;

@@ -1,18 +1,14 @@
 //! The fronts of the queues from which a release chooses.
 
 ghost use Rattle.std.specs.Prelude.{◌≡◌, ◌<◌, ◌==◌, All, Some, [], slice_get, if◌then◌else◌};
-ghost use Rattle.monk_history.specs.declared.event.Next.{Next};
 ghost use Rattle.monk_history.specs.Meaning.Choice as choice;
-ghost use Rattle.monk_history.specs.Meaning.Choice.{queues_at};
-ghost use Rattle.monk_history.specs.Meaning.Events.{next_of};
-ghost use Rattle.monk_history.specs.Meaning.Signallers.{signals};
-ghost use Rattle.monk_history.specs.Meaning.Waiters.{serves};
-ghost use Rattle.monk_history.specs.Meaning.Wish.{unwished_choice};
-ghost use Rattle.monk_audit.specs.Replay.{is_front_in, replay_situation};
+ghost use Rattle.monk_history.specs.{declared.event.Next.Next, Meaning.Choice.queues_at, Meaning.Events.next_of};
+ghost use Rattle.monk_history.specs.{Meaning.Signallers.signals, Meaning.Waiters.serves, Meaning.Wish.unwished_choice};
 ghost use Rattle.monk_audit.specs.Settled as settled;
+ghost use Rattle.monk_audit.specs.Replay.{is_front_in, replay_situation};
 ghost use Rattle.monk_completion.specs.Blame as blames;
-ghost use Rattle.monk_completion.specs.Fronts.{fronts_of, shown};
 ghost use Rattle.monk_completion.specs.Told as told;
+ghost use Rattle.monk_completion.specs.Fronts.{fronts_of, shown};
 
 use crate::blame::Blame;
 use monk_audit::Replay;

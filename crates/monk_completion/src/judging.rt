@@ -2,15 +2,12 @@
 
 ghost use Rattle.std.specs.Prelude.{◌≡◌, ◌<◌, ◌==◌, ◌++◌, ◌∷◌, [], All, None, Some, IfOk, OnOk, not};
 ghost use Rattle.monk_history.specs.declared.event.Next.{Next};
-ghost use Rattle.monk_history.specs.Meaning.Events.{answered_act, next_of};
-ghost use Rattle.monk_history.specs.Meaning.Reasons.{reason_in};
-ghost use Rattle.monk_history.specs.Meaning.Release.{MayCallIn};
+ghost use Rattle.monk_history.specs.Meaning.{Events.answered_act, Events.next_of, Reasons.reason_in, Release.MayCallIn};
 ghost use Rattle.monk_audit.specs.Replay.{IsReplayOf, replay_situation};
-ghost use Rattle.monk_completion.specs.Events.{line_events, told_events};
 ghost use Rattle.monk_completion.specs.Stand as stands;
-ghost use Rattle.monk_completion.specs.Stand.{IsHeldOver, monitor_in, stand_or};
 ghost use Rattle.monk_completion.specs.Told as told;
-ghost use Rattle.monk_completion.specs.declared.pending.Pending.{Pending};
+ghost use Rattle.monk_completion.specs.{Events.line_events, Events.told_events, declared.pending.Pending.Pending};
+ghost use Rattle.monk_completion.specs.Stand.{IsHeldOver, monitor_in, stand_or};
 
 use crate::blame::Blame;
 use crate::blaming::{half_blame, lapse_blame, release_blame};

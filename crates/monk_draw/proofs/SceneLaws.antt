@@ -1,10 +1,8 @@
 -- Where seats are after steps
 use Rattle.std.proofs.Common.{◌≡◌, ◌∙◌, ℕ, List, map, sym}
 use Rattle.std.proofs.lemmas.Simd.{map-map}
-use Rattle.monk_tell.specs.Steps.{step_of}
-use Rattle.monk_tell.specs.Told.{standing_of}
-use Rattle.monk_tell.specs.declared.place.SeatPlace.{SeatPlace}
-use Rattle.monk_tell.specs.declared.step.Step.{Step}
+use Rattle.monk_tell.specs.{Steps.step_of, Told.standing_of}
+use Rattle.monk_tell.specs.declared.{place.SeatPlace.SeatPlace, step.Step.Step}
 use Rattle.monk_draw.specs.Scene.{places_below}
 
 -- the places after the steps, from the steps as data

@@ -1,22 +1,15 @@
 -- What a picture shows: the events, who goes on after each of them, and where each seat is between them
 use Rattle.std.specs.Prelude.{ℕ, ◌+◌, Option, Some, None, List, length, map, slice_get, slice_range}
-use Rattle.std.specs.List.{range_with_len}
-use Rattle.std.specs.declared.alloc.Global.{Global}
-use Rattle.std.specs.declared.vec.Vec.{Vec}
-use Rattle.monk_history.specs.Meaning.Events.{next_of}
-use Rattle.monk_history.specs.declared.event.Event.{Event}
+use Rattle.std.specs.{List.range_with_len, declared.alloc.Global.Global, declared.vec.Vec.Vec}
 use Rattle.monk_history.specs.declared.event.Event.TheVariants as event
-use Rattle.monk_history.specs.declared.event.Via.TheVariants.{Handed}
+use Rattle.monk_history.specs.{Meaning.Events.next_of, Text.Heading}
+use Rattle.monk_history.specs.declared.event.{Event.Event, Via.TheVariants.Handed}
 use Rattle.monk_history.specs.declared.event.Next.{Next}
 use Rattle.monk_history.specs.declared.event.Next.TheVariants.{Stay, Entry, Waiter, Signaller, Until}
-use Rattle.monk_history.specs.Text.{Heading}
+use Rattle.monk_tell.specs.{Told.ShownStanding, Place.place_in, declared.place.SeatPlace.SeatPlace}
 use Rattle.monk_tell.specs.Steps.{ShownStep, steps_between}
-use Rattle.monk_tell.specs.Told.{ShownStanding}
-use Rattle.monk_tell.specs.Place.{place_in}
-use Rattle.monk_tell.specs.declared.place.SeatPlace.{SeatPlace}
 use Rattle.monk_draw.specs.Window.{not_shown, showable, shown_last}
-use Rattle.monk_draw.specs.declared.scene.Scene.{Scene}
-use Rattle.monk_draw.specs.declared.window.Window.{Window}
+use Rattle.monk_draw.specs.declared.{scene.Scene.Scene, window.Window.Window}
 
 -- who comes in by an event because it was handed the monitor
 abbrev pub handed : Option Event → Option ℕ

@@ -2,8 +2,7 @@
 
 ghost use Rattle.std.specs.Prelude.{◌≡◌, ◌<◌, ◌≤◌, ◌^◌, IfOk, IsErrOf, length, map, slice_get};
 ghost use Rattle.monk_object.specs.Names.{most};
-ghost use Rattle.monk_tell.specs.Steps.{step_of};
-ghost use Rattle.monk_tell.specs.Told.{forbidden_step, standing_of};
+ghost use Rattle.monk_tell.specs.{Steps.step_of, Told.forbidden_step, Told.standing_of};
 ghost use Rattle.monk_draw.specs.Scene.{arrows_below, goes_on, handed, history_scene, places_below, row_of, scene_of};
 ghost use Rattle.monk_draw.specs.Scene.{window_scene};
 

@@ -1,16 +1,13 @@
 -- What a release is, as its caller knows it
 use Rattle.std.proofs.Common.{◌≡◌, ℕ, true, true≢false, not, List, Some, None, refl, sym, ap, ◌∙◌}
-use Rattle.monk_kinds.specs.declared.mode.Mode.{Mode}
-use Rattle.monk_kinds.specs.declared.mode.Mode.TheVariants.{Blocking, ImmediateReturn}
+use Rattle.monk_kinds.specs.declared.mode.Mode.{Mode, TheVariants.Blocking, TheVariants.ImmediateReturn}
 use Rattle.monk_object.specs.Object.{Object}
+use Rattle.monk_history.specs.Meaning.{Monitor.data_after, Release.with_next}
 use Rattle.monk_history.specs.Meaning.Events.{seat_of, next_of, steps_back, has_conditions, is_call_of}
-use Rattle.monk_history.specs.Meaning.Monitor.{data_after}
-use Rattle.monk_history.specs.Meaning.Release.{with_next}
+use Rattle.monk_history.specs.declared.event.Next.{Next, TheVariants.Stay}
 use Rattle.monk_history.specs.declared.event.Event.{Event}
-use Rattle.monk_history.specs.declared.event.Event.TheVariants.{Enter, Act, Leave, Wait, Signal, SignalLeave, Until, Resume}
-use Rattle.monk_history.specs.declared.event.Event.TheVariants.{SignalAll, SignalWait}
-use Rattle.monk_history.specs.declared.event.Next.{Next}
-use Rattle.monk_history.specs.declared.event.Next.TheVariants.{Stay}
+use Rattle.monk_history.specs.declared.event.Event.TheVariants.{Enter, Act, Leave, Wait, Signal, SignalLeave, Until}
+use Rattle.monk_history.specs.declared.event.Event.TheVariants.{Resume, SignalAll, SignalWait}
 use Rattle.monk_floor.specs.Releases.{IsReplyless, MakesNoSignaller, ServesNobody}
 
 pub replyless : (o : Object) (e : Event) → next_of e ≡ Some Stay → IsReplyless o e

@@ -2,33 +2,24 @@
 use Rattle.std.proofs.Common.{◌≡◌, ℕ, Bool, true, false, cond, not, ◌&&◌, ◌||◌, ◌==◌, Option, List, [], ◌∷◌, ◌++◌, refl}
 use Rattle.std.proofs.Common.{sym, ap, subst, ◌∙◌, eq-eqb}
 use Rattle.std.specs.Prelude.{slice_get, nat_le, if◌then◌else◌}
-use Rattle.monk_kinds.specs.declared.mode.Rules.{Rules}
-use Rattle.monk_kinds.specs.declared.mode.Pick.{Pick}
-use Rattle.monk_kinds.specs.declared.mode.Pick.TheVariants.{Entry as WishEntry, Waiter as WishWaiter, Signaller as WishSignaller}
 use Rattle.monk_kinds.specs.Kind.{IsKind}
-use Rattle.monk_object.specs.Object.{Object}
-use Rattle.monk_object.specs.declared.op.Op.{Op}
-use Rattle.monk_history.specs.Meaning.Events.{seat_of, has_conditions}
-use Rattle.monk_history.specs.Meaning.Monitor.{Monitor}
-use Rattle.monk_history.specs.Meaning.Situation.{Situation, situation}
-use Rattle.monk_history.specs.Meaning.Waiters.{serves}
-use Rattle.monk_history.specs.Meaning.Signallers.{is_empty, signals}
-use Rattle.monk_history.specs.Meaning.Untils.{ready_of}
-use Rattle.monk_history.specs.Meaning.Choice.{Queues, queues_at, must_stay}
-use Rattle.monk_history.specs.Meaning.Wish.{inner_waiters, front, waiter_choice, choice_by}
-use Rattle.monk_history.specs.Meaning.Release.{MayCall, with_next, choice_of}
-use Rattle.monk_history.specs.Meaning.Reasons.{is_right_reply, IsAllowed}
-use Rattle.monk_history.specs.declared.event.Event.{Event}
-use Rattle.monk_history.specs.declared.event.Event.TheVariants.{Act}
-use Rattle.monk_history.specs.declared.event.Next.{Next}
-use Rattle.monk_history.specs.declared.event.Next.TheVariants.{Stay, Entry, Waiter, Signaller, Until as UntilSeat}
-use Rattle.monk_history.specs.declared.event.Turn.{Turn}
+use Rattle.monk_kinds.specs.declared.mode.Pick.{Pick, TheVariants.Entry as WishEntry, TheVariants.Waiter as WishWaiter}
+use Rattle.monk_kinds.specs.declared.mode.Pick.{TheVariants.Signaller as WishSignaller}
+use Rattle.monk_kinds.specs.declared.mode.Rules.{Rules}
+use Rattle.monk_object.specs.{Object.Object, declared.op.Op.Op}
 use Rattle.monk_history.proofs.PublicLaws.Meaning.{chosen_allowed}
 use Rattle.monk_history.specs.Just.{just}
-use Rattle.monk_floor.specs.Queues.{QueueLists, queue_at}
-use Rattle.monk_floor.specs.Kept.{shown_situation, KeepsHistory}
-use Rattle.monk_floor.specs.Ready.{stays_by}
-use Rattle.monk_floor.proofs.KeptLaws.{in_order}
+use Rattle.monk_history.specs.Meaning.{Monitor.Monitor, Situation.Situation, Situation.situation, Waiters.serves}
+use Rattle.monk_history.specs.Meaning.{Signallers.is_empty, Signallers.signals, Untils.ready_of, Release.MayCall}
+use Rattle.monk_history.specs.Meaning.{Release.with_next, Release.choice_of, Reasons.is_right_reply, Reasons.IsAllowed}
+use Rattle.monk_history.specs.Meaning.Choice.{Queues, queues_at, must_stay}
+use Rattle.monk_history.specs.Meaning.Events.{seat_of, has_conditions}
+use Rattle.monk_history.specs.Meaning.Wish.{inner_waiters, front, waiter_choice, choice_by}
+use Rattle.monk_history.specs.declared.event.{Event.Event, Event.TheVariants.Act, Turn.Turn}
+use Rattle.monk_history.specs.declared.event.Next.{Next}
+use Rattle.monk_history.specs.declared.event.Next.TheVariants.{Stay, Entry, Waiter, Signaller, Until as UntilSeat}
+use Rattle.monk_floor.{specs.Queues.QueueLists, specs.Queues.queue_at, specs.Kept.shown_situation}
+use Rattle.monk_floor.{specs.Kept.KeepsHistory, specs.Ready.stays_by, proofs.KeptLaws.in_order}
 
 -- a choice by what it reads of the queues
 abbrev parts : Rules → Bool → Next → Bool → ℕ → ℕ → Bool → Pick → Next

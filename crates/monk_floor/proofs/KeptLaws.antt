@@ -1,40 +1,29 @@
 -- What a floor keeps, before an event and after it
 use Rattle.std.proofs.Common.{◌≡◌, ℕ, ◌+◌, ◌-◌, ◌*◌, ◌<◌, ◌≤◌, zero, suc, Bool, true, false, cond, ◌&&◌, ◌||◌, not}
 use Rattle.std.proofs.Common.{◌==◌, All, List, [], ◌∷◌, ◌++◌, length, refl, sym, ap, subst, ◌∙◌, arith, Option, Some, None, drop, ⊎_elim}
-use Rattle.std.specs.Prelude.{nat_lt, slice_index_or}
 use Rattle.std.proofs.Math.Nat.{mul-le-mul_right}
-use Rattle.std.specs.List.{list_all}
-use Rattle.std.proofs.lemmas.Bool.{eqb-true, cases_lt}
-use Rattle.std.proofs.lemmas.List.Elements.{All-nil}
-use Rattle.monk_kinds.specs.declared.mode.Rules.{Rules}
-use Rattle.monk_kinds.specs.Kind.{IsKind}
+use Rattle.std.proofs.lemmas.{Bool.eqb-true, Bool.cases_lt, List.Elements.All-nil}
+use Rattle.std.specs.{Prelude.nat_lt, Prelude.slice_index_or, List.list_all}
+use Rattle.monk_kinds.specs.{declared.mode.Rules.Rules, Kind.IsKind}
 use Rattle.monk_object.specs.Object.{Object}
-use Rattle.monk_history.specs.Limits.{most_seats, most_conds, most_budget, most_lines}
-use Rattle.monk_history.specs.Meaning.Events.{seat_of, next_of, named_seat, waits_on, signals_on}
-use Rattle.monk_history.specs.Meaning.Monitor.{Monitor, data_after}
-use Rattle.monk_history.specs.Meaning.Situation.{situation}
-use Rattle.monk_history.specs.Meaning.Step.{after, opening_situation}
-use Rattle.monk_history.specs.Meaning.Turn.{turn_by, is_enter_of, is_exit_of}
-use Rattle.monk_history.specs.Meaning.Signallers.{is_empty}
-use Rattle.monk_history.specs.Meaning.Release.{MayCall}
-use Rattle.monk_history.specs.Meaning.Reasons.{is_in_range, is_condition, fits_object, IsAllowed}
-use Rattle.monk_history.specs.Meaning.Legal.{IsLegal}
-use Rattle.monk_history.specs.Meaning.Counts.{events_of, left_of, grants, granted_of, is_enter, enters_of}
-use Rattle.monk_floor.specs.View.{FloorView, monitor_of}
-use Rattle.monk_history.specs.declared.event.Event.{Event}
-use Rattle.monk_history.specs.declared.event.Turn.{Turn}
-use Rattle.monk_history.specs.declared.event.Turn.TheVariants.{Open}
 use Rattle.monk_history.proofs.PublicLaws.Meaning.{and_left, and_right, legal-push, legal_none, same_situation}
 use Rattle.monk_history.proofs.PublicLaws.Meaning.{legal_situation-push, situation-none, length-events_of-push}
-use Rattle.monk_history.proofs.PublicLaws.Meaning.{granted_of-push, enters_of-push, granted_few, enters_few, granted_none}
-use Rattle.monk_history.proofs.PublicLaws.Meaning.{enters_none, few_events, room_left, history_few, IsInOrder, legal_order}
-use Rattle.monk_history.proofs.PublicLaws.Meaning.{seat_in_range}
-use Rattle.monk_history.proofs.PublicLaws.Meaning.{caller_unqueued, joins_in_range}
-use Rattle.monk_history.specs.Meaning.Conditions.{is_at, waiting_by, served_by}
+use Rattle.monk_history.proofs.PublicLaws.Meaning.{granted_of-push, enters_of-push, granted_few, enters_few}
+use Rattle.monk_history.proofs.PublicLaws.Meaning.{granted_none, enters_none, few_events, room_left, history_few}
+use Rattle.monk_history.proofs.PublicLaws.Meaning.{IsInOrder, legal_order, seat_in_range, caller_unqueued}
+use Rattle.monk_history.proofs.PublicLaws.Meaning.{joins_in_range}
+use Rattle.monk_history.specs.Limits.{most_seats, most_conds, most_budget, most_lines}
+use Rattle.monk_history.specs.Meaning.{Monitor.Monitor, Monitor.data_after, Situation.situation, Step.after}
+use Rattle.monk_history.specs.Meaning.{Step.opening_situation, Signallers.is_empty, Release.MayCall, Legal.IsLegal}
+use Rattle.monk_history.specs.Meaning.Reasons.{is_in_range, is_condition, fits_object, IsAllowed}
 use Rattle.monk_history.specs.Meaning.Standing.{times, times_in_conditions, in_queues}
+use Rattle.monk_history.specs.Meaning.Turn.{turn_by, is_enter_of, is_exit_of}
+use Rattle.monk_history.specs.Meaning.Conditions.{is_at, waiting_by, served_by}
+use Rattle.monk_history.specs.Meaning.Counts.{events_of, left_of, grants, granted_of, is_enter, enters_of}
+use Rattle.monk_history.specs.Meaning.Events.{seat_of, next_of, named_seat, waits_on, signals_on}
+use Rattle.monk_history.specs.declared.event.{Event.Event, Turn.Turn, Turn.TheVariants.Open}
+use Rattle.monk_floor.specs.{View.FloorView, View.monitor_of, Kept.shown_situation, Kept.KeepsHistory, Ready.HasRoomFor}
 use Rattle.monk_floor.specs.Queues.{QueueLists, queue_at, in_lists, IsMoved}
-use Rattle.monk_floor.specs.Kept.{shown_situation, KeepsHistory}
-use Rattle.monk_floor.specs.Ready.{HasRoomFor}
 
 range_waits : (m : Monitor) (e : Event) → is_in_range m.seats m.conds m.object.codes m.object.predicates e ≡ true
     → is_condition m.conds (waits_on e) ≡ true

@@ -1,7 +1,6 @@
 -- How an event changes the queues
 use Rattle.std.proofs.Common.{◌≡◌, ℕ, ◌≤◌, Bool, true, false, cond, List, [], ◌∷◌, filter, sym, ap, subst, arith}
-use Rattle.monk_history.specs.Limits.{most_conds}
-use Rattle.monk_history.specs.Meaning.Standing.{times, times_in_conditions}
+use Rattle.monk_history.specs.{Limits.most_conds, Meaning.Standing.times, Meaning.Standing.times_in_conditions}
 use Rattle.monk_floor.specs.Queues.{QueueLists, queue_at, times_in_waits, in_lists}
 
 times_fewer : (s : ℕ) (p : ℕ × ℕ → Bool) (us : List (ℕ × ℕ)) → times_in_waits s (filter p us) ≤ times_in_waits s us

@@ -2,22 +2,16 @@
 use Rattle.std.proofs.Common.{◌≡◌, ◌≢◌, ℕ, zero, suc, ◌<◌, ◌+◌, ◌==◌, Bool, true, false, cond, not, Option, Some, None}
 use Rattle.std.proofs.Common.{List, [], ◌∷◌, ◌++◌, map, length, drop, take, filter, refl, sym, ap, subst, ◌∙◌, arith}
 use Rattle.std.proofs.Common.{append-nil, eq-eqb, get_or, get_or-set_same, get_or-set_other, ⊎_elim}
-use Rattle.std.proofs.lemmas.Bool.{cases_eq}
-use Rattle.std.proofs.Math.Seq.{drop-length}
-use Rattle.std.specs.Prelude.{slice_set}
-use Rattle.monk_history.specs.Meaning.Events.{next_of, is_until, is_stay}
-use Rattle.monk_history.specs.Meaning.Signallers.{is_empty}
-use Rattle.monk_history.specs.Meaning.Standing.{times, times_in_conditions}
-use Rattle.monk_history.specs.Meaning.Untils.{chooses}
-use Rattle.monk_history.specs.declared.event.Event.{Event}
-use Rattle.monk_history.specs.declared.event.Event.TheVariants.{Wait, Signal, SignalLeave, Until, SignalAll, SignalWait}
+use Rattle.std.{proofs.lemmas.Bool.cases_eq, proofs.Math.Seq.drop-length, specs.Prelude.slice_set}
+use Rattle.monk_history.specs.Meaning.{Events.next_of, Events.is_until, Events.is_stay, Signallers.is_empty}
+use Rattle.monk_history.specs.Meaning.{Standing.times, Standing.times_in_conditions, Untils.chooses}
 use Rattle.monk_history.specs.declared.event.Next.{Next}
 use Rattle.monk_history.specs.declared.event.Next.TheVariants.{Stay, Entry, Waiter, Signaller, Until as UntilSeat}
+use Rattle.monk_history.specs.declared.event.Event.{Event}
+use Rattle.monk_history.specs.declared.event.Event.TheVariants.{Wait, Signal, SignalLeave, Until, SignalAll, SignalWait}
+use Rattle.monk_floor.proofs.LinkLaws.{Walks.other, Walks.rest, Chains.times_le, Passing.times_both}
 use Rattle.monk_floor.specs.Links.{most_queues, places, without}
 use Rattle.monk_floor.specs.Queues.{queue_at, lists_of, waits_in, times_in_waits, in_lists, chosen_until, IsServed}
-use Rattle.monk_floor.proofs.LinkLaws.Walks.{other, rest}
-use Rattle.monk_floor.proofs.LinkLaws.Chains.{times_le}
-use Rattle.monk_floor.proofs.LinkLaws.Passing.{times_both}
 
 -- the conditions come after the three other queues
 three_more : (c : ℕ) → suc (suc (suc c)) ≡ 3 + c

@@ -3,10 +3,8 @@ use Rattle.std.proofs.Common.{◌≡◌, ℕ, zero, suc, ◌<◌, ◌≤◌, ◌
 use Rattle.std.proofs.Common.{length, drop, filter, refl, sym, ap, subst, ◌∙◌, arith, eq-eqb, get_or, add-one}
 use Rattle.std.specs.Prelude.{slice_get}
 use Rattle.monk_object.specs.Object.{Object}
-use Rattle.monk_history.specs.Meaning.Standing.{times}
-use Rattle.monk_history.specs.Meaning.Untils.{ready_of}
-use Rattle.monk_floor.specs.Queues.{waits_in, times_in_waits}
-use Rattle.monk_floor.proofs.ShownLaws.{seats_back}
+use Rattle.monk_history.specs.Meaning.{Standing.times, Untils.ready_of}
+use Rattle.monk_floor.{specs.Queues.waits_in, specs.Queues.times_in_waits, proofs.ShownLaws.seats_back}
 
 pub times_back : (s : ℕ) (p xs : List ℕ) → times_in_waits s (waits_in p xs) ≡ times s xs
 times_back s p xs = ap (times s) (seats_back p xs)

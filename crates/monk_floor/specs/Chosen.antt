@@ -1,15 +1,10 @@
 -- What a release chooses
 use Rattle.std.specs.Prelude.{◌≡◌, Bool}
-use Rattle.monk_kinds.specs.declared.mode.Rules.{Rules}
-use Rattle.monk_kinds.specs.declared.mode.Pick.{Pick}
+use Rattle.monk_kinds.specs.declared.mode.{Rules.Rules, Pick.Pick}
 use Rattle.monk_object.specs.Object.{Object}
-use Rattle.monk_history.specs.Meaning.Reasons.{IsAllowed}
-use Rattle.monk_history.specs.Meaning.Release.{with_next, choice_of}
-use Rattle.monk_history.specs.declared.event.Event.{Event}
-use Rattle.monk_history.specs.declared.event.Next.{Next}
-use Rattle.monk_history.specs.declared.event.Next.TheVariants.{Stay}
-use Rattle.monk_floor.specs.Grown.{IsGrown}
-use Rattle.monk_floor.specs.View.{FloorView, monitor_of, stands_of}
+use Rattle.monk_history.specs.Meaning.{Reasons.IsAllowed, Release.with_next, Release.choice_of}
+use Rattle.monk_history.specs.declared.event.{Event.Event, Next.Next, Next.TheVariants.Stay}
+use Rattle.monk_floor.specs.{Grown.IsGrown, View.FloorView, View.monitor_of, View.stands_of}
 
 -- the choice by the wish rules. The event is allowed with it
 pub record IsChosen (k : Rules) (o : Object) (f : FloorView) (e : Event) (known : Bool) (pick : Pick)

@@ -1,6 +1,5 @@
 -- Queues of which only the fronts are known
-use Rattle.monk_history.specs.Meaning.Choice.{Queues}
-use Rattle.monk_history.specs.Just.{just}
+use Rattle.monk_history.specs.{Meaning.Choice.Queues, Just.just}
 use Rattle.monk_floor.specs.declared.fronts.Fronts.{Fronts}
 
 -- queues with these fronts and nobody after them

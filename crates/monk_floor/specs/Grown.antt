@@ -2,8 +2,7 @@
 use Rattle.std.specs.Prelude.{◌≡◌, [], ◌∷◌, ◌++◌}
 use Rattle.monk_kinds.specs.declared.mode.Rules.{Rules}
 use Rattle.monk_object.specs.Object.{Object}
-use Rattle.monk_history.specs.Meaning.Reasons.{IsAllowed}
-use Rattle.monk_history.specs.declared.event.Event.{Event}
+use Rattle.monk_history.specs.{Meaning.Reasons.IsAllowed, declared.event.Event.Event}
 use Rattle.monk_floor.specs.View.{FloorView, monitor_of}
 
 -- the history has grown by this event, which is allowed after it, and nothing else has changed

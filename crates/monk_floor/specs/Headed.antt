@@ -2,10 +2,8 @@
 use Rattle.std.specs.Prelude.{◌≡◌, List}
 use Rattle.monk_kinds.specs.Names.{rules_named}
 use Rattle.monk_object.specs.Names.{meaning_named, opening_named}
-use Rattle.monk_history.specs.Meaning.Legal.{IsLegal}
-use Rattle.monk_history.specs.Meaning.Named.{named_monitor}
-use Rattle.monk_history.specs.Text.{Heading}
-use Rattle.monk_history.specs.declared.event.Event.{Event}
+use Rattle.monk_history.specs.{Text.Heading, declared.event.Event.Event}
+use Rattle.monk_history.specs.Meaning.{Legal.IsLegal, Named.named_monitor}
 use Rattle.monk_floor.specs.View.{FloorView, monitor_of}
 
 -- the header has the floor's numbers, and its object opens as the floor's did

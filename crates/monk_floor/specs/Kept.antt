@@ -1,13 +1,9 @@
 -- What a floor's fields say of its history
 use Rattle.std.specs.Prelude.{◌≡◌, ℕ, ◌≤◌, ◌<◌, ◌*◌, Bool, false, not, All, List, [], length, slice_index_or}
 use Rattle.monk_history.specs.Limits.{most_seats, most_conds, most_budget}
-use Rattle.monk_history.specs.Meaning.Monitor.{Monitor}
-use Rattle.monk_history.specs.Meaning.Situation.{Situation, situation}
-use Rattle.monk_history.specs.Meaning.Signallers.{is_empty}
-use Rattle.monk_history.specs.Meaning.Legal.{IsLegal}
-use Rattle.monk_history.specs.Meaning.Counts.{events_of, granted_of, enters_of}
-use Rattle.monk_history.specs.declared.event.Event.{Event}
-use Rattle.monk_history.specs.declared.event.Turn.{Turn}
+use Rattle.monk_history.specs.Meaning.{Monitor.Monitor, Situation.Situation, Situation.situation, Signallers.is_empty}
+use Rattle.monk_history.specs.Meaning.{Legal.IsLegal, Counts.events_of, Counts.granted_of, Counts.enters_of}
+use Rattle.monk_history.specs.declared.event.{Event.Event, Turn.Turn}
 use Rattle.monk_floor.specs.Queues.{QueueLists, queue_at}
 
 -- the situation that the fields show

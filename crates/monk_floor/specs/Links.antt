@@ -1,8 +1,7 @@
 -- Queues of seats, each linked from seat to seat
 use Rattle.std.specs.Prelude.{◌≡◌, ℕ, zero, suc, ◌≤◌, ◌==◌, nat_lt, not, Option, Some, None, if◌then◌else◌}
 use Rattle.std.specs.Prelude.{List, [], ◌∷◌, length, filter, slice_index_or}
-use Rattle.monk_history.specs.Limits.{most_seats}
-use Rattle.monk_history.specs.Meaning.Standing.{times_in_conditions}
+use Rattle.monk_history.specs.{Limits.most_seats, Meaning.Standing.times_in_conditions}
 use Rattle.monk_floor.specs.declared.chain.Chain.{Chain}
 
 -- the most queues: three, and one for each condition variable

@@ -2,17 +2,14 @@
 use Rattle.std.specs.Prelude.{◌≡◌, ℕ, ◌+◌, Bool, false, not, Option, Some, None, if◌then◌else◌}
 use Rattle.std.specs.Prelude.{List, ◌++◌, map, length, drop, filter, slice_index_or}
 use Rattle.std.specs.Option.{option_map_or}
-use Rattle.monk_history.specs.Limits.{most_conds}
-use Rattle.monk_history.specs.QueueAt.{seats_at}
+use Rattle.monk_history.specs.{Limits.most_conds, QueueAt.seats_at}
+use Rattle.monk_history.specs.Meaning.{Events.next_of, Events.is_waiter, Events.steps_back, Conditions.served_by}
+use Rattle.monk_history.specs.Meaning.{Conditions.waiting_by, Waiters.serves, Untils.chooses, Untils.waits_until}
 use Rattle.monk_history.specs.Meaning.Standing.{times, times_in_conditions}
-use Rattle.monk_history.specs.Meaning.Events.{next_of, is_waiter, steps_back}
-use Rattle.monk_history.specs.Meaning.Conditions.{served_by, waiting_by}
-use Rattle.monk_history.specs.Meaning.Waiters.{serves}
 use Rattle.monk_history.specs.Meaning.Signallers.{is_empty, signals, takes_signaller}
-use Rattle.monk_history.specs.Meaning.Untils.{chooses, waits_until}
-use Rattle.monk_history.specs.declared.event.Event.{Event}
 use Rattle.monk_history.specs.declared.event.Next.{Next}
 use Rattle.monk_history.specs.declared.event.Next.TheVariants.{Stay, Entry, Waiter, Signaller, Until as UntilSeat}
+use Rattle.monk_history.specs.declared.event.Event.{Event}
 
 -- the queues of a floor, as lists
 pub record QueueLists : Type 0 where

@@ -1,13 +1,11 @@
 -- When a floor's fields can take one more event
 use Rattle.std.specs.Prelude.{◌≡◌, ℕ, ◌<◌, ◌^◌, Bool, false, true, List, length, slice_index_or, nat_lt}
-use Rattle.std.specs.List.{list_all}
-use Rattle.std.specs.Option.{option_map_or}
+use Rattle.std.specs.{List.list_all, Option.option_map_or}
 use Rattle.monk_object.specs.Object.{Object}
-use Rattle.monk_history.specs.Limits.{most_seats, most_conds}
-use Rattle.monk_history.specs.Meaning.Events.{seat_of, next_of, named_seat, waits_on, signals_on, awaited_predicate, steps_back}
-use Rattle.monk_history.specs.Meaning.Reasons.{is_condition}
-use Rattle.monk_history.specs.Meaning.Signallers.{is_empty}
-use Rattle.monk_history.specs.declared.event.Event.{Event}
+use Rattle.monk_history.specs.{Limits.most_seats, Limits.most_conds, declared.event.Event.Event}
+use Rattle.monk_history.specs.Meaning.{Reasons.is_condition, Signallers.is_empty}
+use Rattle.monk_history.specs.Meaning.Events.{seat_of, next_of, named_seat, waits_on, signals_on, awaited_predicate}
+use Rattle.monk_history.specs.Meaning.Events.{steps_back}
 use Rattle.monk_floor.specs.Queues.{QueueLists, in_lists}
 
 -- an event fits the floor's fields

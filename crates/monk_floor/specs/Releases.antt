@@ -2,12 +2,8 @@
 use Rattle.std.specs.Prelude.{◌≡◌, ℕ, List, [], true, false}
 use Rattle.monk_kinds.specs.declared.mode.Rules.{Rules}
 use Rattle.monk_object.specs.Object.{Object}
-use Rattle.monk_history.specs.Meaning.Situation.{Situation}
-use Rattle.monk_history.specs.Meaning.Waiters.{serves}
-use Rattle.monk_history.specs.Meaning.Signallers.{signals}
-use Rattle.monk_history.specs.Meaning.Choice.{must_stay}
-use Rattle.monk_history.specs.Meaning.Reasons.{is_right_reply}
-use Rattle.monk_history.specs.Meaning.Release.{MayCall}
+use Rattle.monk_history.specs.Meaning.{Situation.Situation, Waiters.serves, Signallers.signals, Choice.must_stay}
+use Rattle.monk_history.specs.Meaning.{Reasons.is_right_reply, Release.MayCall}
 use Rattle.monk_history.specs.declared.event.Event.{Event}
 use Rattle.monk_floor.specs.View.{FloorView, monitor_of}
 

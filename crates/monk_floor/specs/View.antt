@@ -2,8 +2,7 @@
 use Rattle.std.specs.Prelude.{ℕ, List, []}
 use Rattle.monk_kinds.specs.declared.mode.Rules.{Rules}
 use Rattle.monk_object.specs.Object.{Object}
-use Rattle.monk_history.specs.Meaning.Monitor.{Monitor, monitor}
-use Rattle.monk_history.specs.Meaning.Situation.{Situation, situation}
+use Rattle.monk_history.specs.Meaning.{Monitor.Monitor, Monitor.monitor, Situation.Situation, Situation.situation}
 use Rattle.monk_history.specs.declared.event.Event.{Event}
 
 -- its object's opening state, its numbers, and its history

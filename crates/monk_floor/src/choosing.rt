@@ -1,11 +1,9 @@
 ghost use Rattle.std.specs.Prelude.{◌≡◌, ◌<◌, All, slice_get, true};
-ghost use Rattle.monk_history.specs.Limits.{most_conds};
 ghost use Rattle.monk_history.specs.Meaning.Events as events;
 ghost use Rattle.monk_history.specs.Meaning.Paths as paths;
-ghost use Rattle.monk_history.specs.Meaning.Reasons.{is_condition, fits_object};
-ghost use Rattle.monk_history.specs.Meaning.Untils.{ready_of};
-ghost use Rattle.monk_floor.specs.Queues.{queue_at};
-ghost use Rattle.monk_floor.specs.Ready.{stays_by};
+ghost use Rattle.monk_history.specs.Meaning.{Reasons.is_condition, Reasons.fits_object, Untils.ready_of};
+ghost use Rattle.monk_history.specs.Limits.{most_conds};
+ghost use Rattle.monk_floor.specs.{Queues.queue_at, Ready.stays_by};
 
 use crate::queues::Queues;
 use monk_history::{Event, From3, Next};

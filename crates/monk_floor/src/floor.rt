@@ -1,19 +1,12 @@
 ghost use Rattle.std.specs.Prelude.{◌≡◌, ℕ, ◌*◌, ◌<◌, ◌≤◌, None, false, not, ◌&&◌, IfOk, IfErr, nat_lt, slice_index_or};
 ghost use Rattle.std.specs.Prelude.{List, [], ◌∷◌, ◌++◌, length};
-ghost use Rattle.monk_history.specs.Limits.{most_lines};
-ghost use Rattle.monk_history.specs.Meaning.Conditions.{condition};
-ghost use Rattle.monk_history.specs.Meaning.Counts.{left_of, granted_of, enters_of};
 ghost use Rattle.monk_history.specs.Meaning.Events as events;
-ghost use Rattle.monk_history.specs.Meaning.Legal.{IsLegal};
-ghost use Rattle.monk_history.specs.Meaning.Monitor.{data_of, data_after};
-ghost use Rattle.monk_history.specs.Meaning.Reasons.{IsAllowed};
-ghost use Rattle.monk_history.specs.Meaning.Standing.{has_turn, is_queued};
-ghost use Rattle.monk_history.specs.Meaning.Turn.{turn};
-ghost use Rattle.monk_floor.specs.Chosen.{IsChosen};
-ghost use Rattle.monk_floor.specs.Due.{IsDueTo, IsDueSome, due_seat};
-ghost use Rattle.monk_floor.specs.Grown.{IsGrown};
-ghost use Rattle.monk_floor.specs.Making.{make_refusal, IsRefused};
-ghost use Rattle.monk_floor.specs.Releases.{MayCallOn, IsReplyless};
+ghost use Rattle.monk_history.specs.Meaning.{Conditions.condition, Legal.IsLegal, Monitor.data_of, Monitor.data_after};
+ghost use Rattle.monk_history.specs.Meaning.{Reasons.IsAllowed, Standing.has_turn, Standing.is_queued, Turn.turn};
+ghost use Rattle.monk_history.specs.Meaning.Counts.{left_of, granted_of, enters_of};
+ghost use Rattle.monk_history.specs.Limits.{most_lines};
+ghost use Rattle.monk_floor.specs.{Chosen.IsChosen, Due.IsDueTo, Due.IsDueSome, Due.due_seat, Grown.IsGrown};
+ghost use Rattle.monk_floor.specs.{Making.make_refusal, Making.IsRefused, Releases.MayCallOn, Releases.IsReplyless};
 ghost use Rattle.monk_floor.specs.View.{monitor_of, stands_of, empty_floor};
 
 use crate::choosing::{first_ready, must_stay};

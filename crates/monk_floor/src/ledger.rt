@@ -1,11 +1,10 @@
 ghost use Rattle.std.specs.Prelude.{◌≡◌, ℕ, ◌<◌, ◌+◌, ◌^◌, ◌==◌, false, true, ◌&&◌, ◌||◌, not, [], IfOk, length};
 ghost use Rattle.std.specs.Prelude.{nat_lt, slice_index_or, if◌then◌else◌};
-ghost use Rattle.monk_history.specs.Meaning.Events as events;
 ghost use Rattle.std.specs.List.{list_all};
+ghost use Rattle.monk_history.specs.Meaning.Events as events;
 ghost use Rattle.monk_history.specs.Meaning.Counts as counts;
 ghost use Rattle.monk_history.specs.Meaning.Turn as turns;
-ghost use Rattle.monk_floor.specs.Queues.{IsMoved};
-ghost use Rattle.monk_floor.specs.Ready.{HasRoomFor};
+ghost use Rattle.monk_floor.specs.{Queues.IsMoved, Ready.HasRoomFor};
 
 use crate::queues::Queues;
 use monk_history::{Event, Next, Turn};

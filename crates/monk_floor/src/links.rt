@@ -1,9 +1,7 @@
 ghost use Rattle.std.specs.Prelude.{◌≡◌, ◌≢◌, ℕ, ◌<◌, ◌≤◌, ◌+◌, ◌==◌, Some, [], ◌∷◌, ◌++◌, drop, take, length};
 ghost use Rattle.std.specs.Prelude.{slice_get, IfSome, if◌then◌else◌};
-ghost use Rattle.monk_history.specs.Meaning.Signallers.{is_empty};
-ghost use Rattle.monk_history.specs.Meaning.Standing.{times};
-ghost use Rattle.monk_floor.specs.Links.{places, without, seat_before};
-ghost use Rattle.monk_floor.specs.Queues.{queue_at};
+ghost use Rattle.monk_history.specs.Meaning.{Signallers.is_empty, Standing.times};
+ghost use Rattle.monk_floor.specs.{Links.places, Links.without, Links.seat_before, Queues.queue_at};
 
 use crate::chain::Chain;
 use monk_history::{MOST_CONDS, MOST_SEATS};

@@ -1,8 +1,7 @@
 ghost use Rattle.std.specs.Prelude.{◌≡◌, ℕ, ◌<◌, ◌≤◌, ◌+◌, Some, [], ◌++◌, drop, filter, not, true};
 ghost use Rattle.std.specs.Prelude.{slice_get, length, if◌then◌else◌};
-ghost use Rattle.monk_history.specs.Meaning.Signallers.{is_empty, takes_front};
-ghost use Rattle.monk_history.specs.Meaning.Untils.{chooses};
 ghost use Rattle.monk_history.specs.Meaning.Events as events;
+ghost use Rattle.monk_history.specs.Meaning.{Signallers.is_empty, Signallers.takes_front, Untils.chooses};
 ghost use Rattle.monk_floor.specs.Queues as lists;
 
 use crate::links::Links;

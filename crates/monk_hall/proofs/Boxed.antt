@@ -3,10 +3,8 @@ use Rattle.std.proofs.Common.{◌≡◌, sym, subst}
 use Rattle.monk_kinds.specs.declared.mode.Rules.{Rules}
 use Rattle.monk_object.specs.Object.{Object}
 use Rattle.monk_floor.specs.View.{FloorView}
-use Rattle.monk_hall.specs.Records.{the}
-use Rattle.monk_hall.specs.Recorded.{IsApart}
+use Rattle.monk_hall.specs.{Records.the, Recorded.IsApart, declared.release.Release.Release}
 use Rattle.monk_hall.specs.Tokens.{Holder, IsHolding, holder}
-use Rattle.monk_hall.specs.declared.release.Release.{Release}
 
 pub shown_apart : {K T : Type 0} {k : Rules} {o : Object} {a : Holder} {r : Release K T} {f : FloorView} → f ≡ r.floor
     → IsApart k o a r → IsApart k o a (record r { floor = f })

@@ -2,33 +2,21 @@
 use Rattle.std.proofs.Common.{◌≡◌, ℕ, zero, suc, ◌*◌, ◌==◌, ◌<◌, ◌≤◌, ◌⊎◌, cond, Bool, true, false, nat_lt, ◌&&◌}
 use Rattle.std.proofs.Common.{List, [], ◌∷◌, ◌++◌, map, length, sym, refl, ap, ◌∙◌, subst, inl, inr, arith, eq-eqb}
 use Rattle.std.proofs.lemmas.List.{nil_from_length}
-use Rattle.monk_kinds.specs.declared.mode.Pick.TheVariants.{Entry as WishEntry}
-use Rattle.monk_kinds.specs.declared.mode.Rules.{Rules}
+use Rattle.monk_kinds.specs.declared.mode.{Pick.TheVariants.Entry as WishEntry, Rules.Rules}
 use Rattle.monk_object.specs.Object.{Object}
-use Rattle.monk_history.specs.Meaning.Choice.{Queues}
-use Rattle.monk_history.specs.Meaning.Conditions.{condition}
-use Rattle.monk_history.specs.Meaning.Counts.{events_of}
-use Rattle.monk_history.specs.Meaning.Events.{has_conditions}
-use Rattle.monk_history.specs.Meaning.Legal.{IsLegal}
-use Rattle.monk_history.specs.Meaning.Monitor.{Monitor, data_of}
-use Rattle.monk_history.specs.declared.event.Event.{Event}
-use Rattle.monk_history.specs.declared.event.Next.{Next}
-use Rattle.monk_floor.specs.Grown.{IsGrown}
-use Rattle.monk_history.specs.Meaning.Release.{choice_of}
-use Rattle.monk_history.specs.Meaning.Situation.{Situation, situation}
-use Rattle.monk_history.specs.Meaning.Standing.{times, in_queues, IsPlaced}
-use Rattle.monk_history.specs.Meaning.Signallers.{signals, is_empty}
-use Rattle.monk_history.specs.Meaning.Untils.{ready_of}
-use Rattle.monk_history.specs.Meaning.Waiters.{serves}
-use Rattle.monk_history.specs.Meaning.Wish.{choice_by, is_waiter_open, waiter_choice, signaller_choice}
-use Rattle.monk_history.specs.declared.event.Event.TheVariants.{Leave}
 use Rattle.monk_history.specs.declared.event.Next.TheVariants as next
 use Rattle.monk_history.proofs.PublicLaws.Meaning.{legal_seated, IsSeated, times_le_conditions, legal_placed}
-use Rattle.monk_floor.specs.View.{FloorView, monitor_of, stands_of}
-use Rattle.monk_hall.proofs.Private.{own_event}
-use Rattle.monk_hall.proofs.ReleaseLaws.{peeked_none}
-use Rattle.monk_hall.specs.Closing.{HasNobody, HasSomebody, IsUnqueued, IsEnded, IsBusy}
+use Rattle.monk_history.specs.Meaning.{Choice.Queues, Conditions.condition, Counts.events_of, Events.has_conditions}
+use Rattle.monk_history.specs.Meaning.{Legal.IsLegal, Release.choice_of, Situation.Situation, Situation.situation}
+use Rattle.monk_history.specs.Meaning.{Signallers.signals, Signallers.is_empty, Untils.ready_of, Waiters.serves}
+use Rattle.monk_history.specs.Meaning.Monitor.{Monitor, data_of}
+use Rattle.monk_history.specs.Meaning.Standing.{times, in_queues, IsPlaced}
+use Rattle.monk_history.specs.Meaning.Wish.{choice_by, is_waiter_open, waiter_choice, signaller_choice}
+use Rattle.monk_history.specs.declared.event.{Event.Event, Event.TheVariants.Leave, Next.Next}
+use Rattle.monk_floor.specs.{Grown.IsGrown, View.FloorView, View.monitor_of, View.stands_of}
+use Rattle.monk_hall.proofs.{Private.own_event, ReleaseLaws.peeked_none}
 use Rattle.monk_hall.specs.Tokens.{Holder}
+use Rattle.monk_hall.specs.Closing.{HasNobody, HasSomebody, IsUnqueued, IsEnded, IsBusy}
 
 empty_of : (xs : List ℕ) → ((j : ℕ) → times j xs ≡ 0) → xs ≡ []
 empty_of [] none = refl

@@ -1,21 +1,15 @@
 -- How many events a history has that holds the calls of some seats, and what their number shows
 use Rattle.std.proofs.Common.{◌≡◌, ◌≢◌, ℕ, ◌+◌, ◌<◌, ◌≤◌, ◌==◌, Bool, cond, zero, suc, List, [], ◌∷◌, ◌++◌, length, map, take}
 use Rattle.std.proofs.Common.{append-nil, length-append, refl, sym, ap, ◌∙◌, arith, eq-eqb, ⊎_elim}
-use Rattle.std.specs.Prelude.{All, AllPairs, slice_index_or, sum_by}
 use Rattle.std.proofs.lemmas.Bool.Decides.{eqb_tells}
-use Rattle.std.proofs.lemmas.List.{nil_from_length, take_more}
+use Rattle.std.proofs.lemmas.List.{nil_from_length, take_more, Kept.AllPairs-cons, Sums.sum_by-cons, Sums.sum_by_more}
 use Rattle.std.proofs.lemmas.List.Elements.{All-cons, All-head, All-map, All-more, All-nil, All-tail, All-take}
-use Rattle.std.proofs.lemmas.List.Kept.{AllPairs-cons}
-use Rattle.std.proofs.lemmas.List.Sums.{sum_by-cons, sum_by_more}
-use Rattle.monk_history.specs.Meaning.Counts.{events_of}
-use Rattle.monk_history.specs.Meaning.Events.{seat_of}
-use Rattle.monk_history.specs.declared.event.Event.{Event}
+use Rattle.std.specs.Prelude.{All, AllPairs, slice_index_or, sum_by}
 use Rattle.monk_history.proofs.PublicLaws.Meaning.{AreDistinct, length-events_of-push, length-sum_by, rest_has, rest_of}
 use Rattle.monk_history.proofs.PublicLaws.Meaning.{same_sums, sum_by_all_seats, sum_by_seats}
-use Rattle.monk_hall.specs.Complete.{AreApart, HaveSeenPart, HoldsOnly}
-use Rattle.monk_hall.specs.Floors.{StartsWith}
-use Rattle.monk_hall.specs.Tokens.{Token}
-use Rattle.monk_hall.proofs.IdleLearns.{events_of-append}
+use Rattle.monk_history.specs.{Meaning.Counts.events_of, Meaning.Events.seat_of, declared.event.Event.Event}
+use Rattle.monk_hall.{specs.Complete.AreApart, specs.Complete.HaveSeenPart, specs.Complete.HoldsOnly}
+use Rattle.monk_hall.{specs.Floors.StartsWith, specs.Tokens.Token, proofs.IdleLearns.events_of-append}
 
 -- the seats that may have events
 abbrev seats_of : ℕ → List Token → List ℕ

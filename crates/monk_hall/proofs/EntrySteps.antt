@@ -4,35 +4,25 @@ use Rattle.std.proofs.Common.{length, length-append, append-nil, None, refl, sym
 use Rattle.atomic_table.specs.Seated.{TableId}
 use Rattle.monk_kinds.specs.declared.mode.Rules.{Rules}
 use Rattle.monk_object.specs.Object.{Object}
-use Rattle.monk_history.specs.Meaning.Counts.{events_of, enters_of}
-use Rattle.monk_history.specs.Meaning.Events.{seat_of, next_of}
-use Rattle.monk_history.specs.Meaning.Legal.{IsLegal}
-use Rattle.monk_history.specs.Meaning.Turn.{turn, turn_by}
-use Rattle.monk_history.specs.declared.event.Event.{Event}
-use Rattle.monk_history.specs.declared.event.Turn.{Turn}
-use Rattle.monk_history.specs.declared.event.Turn.TheVariants.{Owned}
 use Rattle.monk_history.proofs.PublicLaws.Meaning.{legal-push, turn-push}
+use Rattle.monk_history.specs.Meaning.{Events.seat_of, Events.next_of, Legal.IsLegal, Turn.turn, Turn.turn_by}
+use Rattle.monk_history.specs.Meaning.Counts.{events_of, enters_of}
+use Rattle.monk_history.specs.declared.event.{Event.Event, Turn.Turn, Turn.TheVariants.Owned}
 use Rattle.monk_floor.specs.View.{FloorView, monitor_of}
-use Rattle.monk_world.specs.State.{with_event}
-use Rattle.monk_world.specs.StepTable.{out_event}
-use Rattle.monk_world.specs.Steps.{place_after_arrive, place_after_ticket_look, place_after_seat_look, count_after_seat_look}
-use Rattle.monk_world.specs.declared.place.Place.{Place}
-use Rattle.monk_world.specs.declared.place.Place.TheVariants.{Ticket, Due, Active}
-use Rattle.monk_world.specs.declared.source.Source.{Source}
-use Rattle.monk_world.specs.declared.source.Source.TheVariants.{Free, Granted, Called}
+use Rattle.monk_world.specs.{State.with_event, StepTable.out_event, Steps.place_after_arrive}
+use Rattle.monk_world.specs.{Steps.place_after_ticket_look, Steps.place_after_seat_look, Steps.count_after_seat_look}
+use Rattle.monk_world.specs.declared.place.Place.{Place, TheVariants.Ticket, TheVariants.Due, TheVariants.Active}
+use Rattle.monk_world.specs.declared.source.Source.{Source, TheVariants.Free, TheVariants.Granted, TheVariants.Called}
 use Rattle.monk_hall.proofs.Private.{own_event}
-use Rattle.monk_hall.specs.Calls.{HasArrived, HasEntered}
+use Rattle.monk_hall.specs.{Calls.HasArrived, Calls.HasEntered, Layout.floor_of, Layout.tickets, Layout.unpassed}
+use Rattle.monk_hall.specs.{Records.View, Records.the, Tells.Me, Tells.TellsArrive, Tells.SeesTruly}
 use Rattle.monk_hall.specs.Changes.{record_after_arrive, record_after_ticket_look, record_after_seat_look, source_from}
 use Rattle.monk_hall.specs.Changes.{record_after_floor_out}
-use Rattle.monk_hall.specs.Floors.{Finds, GoesOn, IsPrivate, ArePrivate}
-use Rattle.monk_hall.specs.Layout.{floor_of, tickets, unpassed}
-use Rattle.monk_hall.specs.Records.{View, the}
-use Rattle.monk_hall.specs.Tells.{Me, TellsArrive, SeesTruly}
 use Rattle.monk_hall.specs.Tokens.{Token, IsResting, IsHolding, IsWaiting, with_own, holder}
+use Rattle.monk_hall.specs.Floors.{Finds, GoesOn, IsPrivate, ArePrivate}
+use Rattle.monk_hall.specs.declared.{record.SeatRecord.SeatRecord, seat_numbers.SeatNumbers.SeatNumbers}
 use Rattle.monk_hall.specs.declared.deed.Deed.{Deed}
 use Rattle.monk_hall.specs.declared.deed.Deed.TheVariants.{Arrive, LookForTicket, LookForCall}
-use Rattle.monk_hall.specs.declared.record.SeatRecord.{SeatRecord}
-use Rattle.monk_hall.specs.declared.seat_numbers.SeatNumbers.{SeatNumbers}
 
 -- a seat's own event is one more of its own
 pub own_longer : (h : List Event) (e : Event) (s : ℕ) → seat_of e ≡ s

@@ -1,30 +1,24 @@
 -- How few steps each call takes
 use Rattle.std.proofs.Common.{◌≡◌, ℕ, zero, suc, ◌+◌, ◌≤◌, Bool, false, true, List, [], ◌∷◌, ◌++◌, length, refl, sym, ap}
 use Rattle.std.proofs.Common.{subst, ◌∙◌, inl, inr, arith, append_assoc, length-append, Option, Some, None}
-use Rattle.std.proofs.lemmas.List.Sums.{sum_by-append}
+use Rattle.std.proofs.lemmas.{List.Sums.sum_by-append, Option.none-some, Option.same_Some}
 use Rattle.std.specs.Prelude.{IfSome, MatchOption}
-use Rattle.std.proofs.lemmas.Option.{none-some, same_Some}
 use Rattle.monk_kinds.specs.declared.mode.Rules.{Rules}
 use Rattle.monk_object.specs.Object.{Object}
-use Rattle.monk_history.specs.Meaning.Counts.{enters_of}
-use Rattle.monk_history.specs.declared.event.Event.{Event}
+use Rattle.monk_history.specs.{Meaning.Counts.enters_of, declared.event.Event.Event}
 use Rattle.monk_world.specs.declared.place.Place.{Place}
 use Rattle.monk_world.specs.declared.place.Place.TheVariants.{Idle, Ticket, Due, Active, Back, Passing, Inner}
-use Rattle.monk_hall.specs.Calls.{peeks_at}
-use Rattle.monk_hall.specs.Changes.{since}
-use Rattle.monk_hall.specs.Deeds.{knows_from, looks_in, looks_of, steps_of, look_at, looks_in_vain}
+use Rattle.monk_hall.proofs.HandingLaws.{grants_by}
+use Rattle.monk_hall.specs.{Calls.peeks_at, Changes.since, Handing.HandsOn, Handing.seat_called_by, Layout.seat_word}
+use Rattle.monk_hall.specs.{Layout.ticket_word, NextTicket.IsLooking, Tokens.Token, Tokens.Holder, Tokens.House}
 use Rattle.monk_hall.specs.FewSteps.{ArrivalsAreFewSteps, PollsAreFewSteps, ComesInFewSteps, ReleasesAreFewSteps}
-use Rattle.monk_hall.specs.FewSteps.{StaysAreFewSteps, BusyIsFewSteps, GrantsAreSteps, UnlookedLearnsNothing, IsGrantFor}
-use Rattle.monk_hall.specs.FewSteps.{HasStepped}
+use Rattle.monk_hall.specs.FewSteps.{StaysAreFewSteps, BusyIsFewSteps, GrantsAreSteps, UnlookedLearnsNothing}
+use Rattle.monk_hall.specs.FewSteps.{IsGrantFor, HasStepped}
 use Rattle.monk_hall.specs.Granting.{Grant, granted_last}
-use Rattle.monk_hall.specs.Handing.{HandsOn, seat_called_by}
-use Rattle.monk_hall.specs.Layout.{seat_word, ticket_word}
-use Rattle.monk_hall.specs.NextTicket.{IsLooking}
-use Rattle.monk_hall.specs.Tokens.{Token, Holder, House}
+use Rattle.monk_hall.specs.Deeds.{knows_from, looks_in, looks_of, steps_of, look_at, looks_in_vain}
+use Rattle.monk_hall.specs.declared.record.SeatRecord.{SeatRecord}
 use Rattle.monk_hall.specs.declared.deed.Deed.{Deed}
 use Rattle.monk_hall.specs.declared.deed.Deed.TheVariants.{Peek, FloorOut, FloorIn, Drop, GrantTicket, CallSeat}
-use Rattle.monk_hall.specs.declared.record.SeatRecord.{SeatRecord}
-use Rattle.monk_hall.proofs.HandingLaws.{grants_by}
 
 -- more deeds are more looks and more steps
 stepped : (looks most : ℕ) (r w : SeatRecord) (ds : List Deed) → w.did ≡ r.did ++ ds → looks_of ds ≡ looks

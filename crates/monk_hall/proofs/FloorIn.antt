@@ -1,58 +1,41 @@
 -- The active seat takes the floor home
 use Rattle.std.proofs.Common.{◌≡◌, ◌≢◌, ℕ, ◌+◌, ◌<◌, ◌≤◌, cond, Bool, false, List, [], ◌∷◌, ◌++◌, length, set, sym}
 use Rattle.std.proofs.Common.{refl, ap, ◌∙◌, subst, inl, inr, arith, ne_eqb, append-nil, append_assoc, length-append}
-use Rattle.std.proofs.Common.{length-set}
-use Rattle.std.specs.List.{last_or}
-use Rattle.std.specs.Prelude.{Option, Some, None}
-use Rattle.std.proofs.lemmas.Bool.Decides.{eqb_tells}
+use Rattle.std.proofs.{Common.length-set, lemmas.Bool.Decides.eqb_tells}
+use Rattle.std.specs.{List.last_or, Prelude.Option, Prelude.Some, Prelude.None}
 use mathlib.Core.Option as maybe
 use mathlib.Core.Path.{Path}
 use lib.ListN.{get_elem?}
-use Rattle.atomic_table.proofs.Lists.{set_here}
 use Rattle.atomic_table.specs.Table as table
-use Rattle.monk_kinds.specs.Kind.{IsKind}
-use Rattle.monk_kinds.specs.declared.mode.Rules.{Rules}
+use Rattle.atomic_table.proofs.Lists.{set_here}
+use Rattle.monk_kinds.specs.{Kind.IsKind, declared.mode.Rules.Rules}
 use Rattle.monk_object.specs.Object.{Object}
-use Rattle.monk_history.specs.Meaning.Counts.{events_of, granted_of, grants, chooses_seat, left_of}
-use Rattle.monk_history.specs.Meaning.Events.{seat_of, next_of}
-use Rattle.monk_history.specs.Meaning.Legal.{IsLegal}
-use Rattle.monk_history.specs.Meaning.Release.{MayCall, with_next, choice_of}
-use Rattle.monk_history.specs.Meaning.Turn.{turn, turn_by}
-use Rattle.monk_history.specs.declared.event.Event.{Event}
-use Rattle.monk_history.specs.declared.event.Next.{Next}
 use Rattle.monk_history.specs.declared.event.Next.TheVariants as next
-use Rattle.monk_history.specs.declared.event.Turn.TheVariants.{Owned}
 use Rattle.monk_history.proofs.PublicLaws.Meaning.{granted_of-push}
-use Rattle.monk_world.proofs.PublicLaws.{held, at_update, update_here, names_chosen}
-use Rattle.monk_floor.specs.View.{FloorView, monitor_of, stands_of}
-use Rattle.monk_world.specs.Kept.{IsKept}
-use Rattle.monk_world.specs.Places.{stage, back_turn, due_to, turn_of_next, due_stage, active_stage, back_stage, passing_stage}
-use Rattle.monk_world.specs.Update.{update}
-use Rattle.monk_world.specs.Sound.{left_within}
-use Rattle.monk_world.specs.State.{State, with_event}
-use Rattle.monk_world.specs.StepTable.{IsStep, out_event}
-use Rattle.monk_world.specs.Steps.{after_floor_in}
-use Rattle.monk_world.specs.World.{World}
+use Rattle.monk_history.specs.Meaning.{Events.seat_of, Events.next_of, Legal.IsLegal, Turn.turn, Turn.turn_by}
+use Rattle.monk_history.specs.Meaning.Counts.{events_of, granted_of, grants, chooses_seat, left_of}
+use Rattle.monk_history.specs.Meaning.Release.{MayCall, with_next, choice_of}
+use Rattle.monk_history.specs.declared.event.{Event.Event, Next.Next, Turn.TheVariants.Owned}
 use Rattle.monk_world.specs.declared.answer.Answer.TheVariants as answer
+use Rattle.monk_world.proofs.PublicLaws.{held, at_update, update_here, names_chosen}
+use Rattle.monk_world.specs.{Kept.IsKept, Update.update, Sound.left_within, State.State, State.with_event}
+use Rattle.monk_world.specs.{StepTable.IsStep, StepTable.out_event, Steps.after_floor_in, World.World}
+use Rattle.monk_world.specs.Places.{stage, back_turn, due_to, turn_of_next, due_stage, active_stage, back_stage}
+use Rattle.monk_world.specs.Places.{passing_stage}
 use Rattle.monk_world.specs.declared.place.Place.{Place}
 use Rattle.monk_world.specs.declared.place.Place.TheVariants.{Idle, Ticket, Due, Active, Back, Passing, Inner}
-use Rattle.monk_world.specs.declared.source.Source.{Source}
-use Rattle.monk_world.specs.declared.source.Source.TheVariants.{Free, Granted, Called}
-use Rattle.monk_hall.specs.Changes.{record_after_floor_in, source_from, back_after}
-use Rattle.monk_hall.specs.Floors.{StartsWith, ArePrivate}
-use Rattle.monk_hall.specs.Laws.{BringsHome}
-use Rattle.monk_hall.specs.Layout.{floor_of, shown_state, shown_world}
-use Rattle.monk_hall.specs.Records.{View}
-use Rattle.monk_hall.specs.Rule.{IsHall, AreTold, CountsCalls}
-use Rattle.monk_hall.specs.Tells.{Returns}
-use Rattle.monk_hall.specs.declared.record.SeatRecord.{SeatRecord}
-use Rattle.monk_hall.specs.declared.setting.Setting.{Setting}
+use Rattle.monk_world.specs.declared.source.Source.{Source, TheVariants.Free, TheVariants.Granted, TheVariants.Called}
+use Rattle.monk_floor.specs.View.{FloorView, monitor_of, stands_of}
 use Rattle.monk_hall.proofs.Frame as frame
 use Rattle.monk_hall.proofs.Private as private
 use Rattle.monk_hall.proofs.Releasing as releasing
 use Rattle.monk_hall.proofs.Seats as seats
 use Rattle.monk_hall.proofs.Standing as standing
 use Rattle.monk_hall.proofs.Stepping as stepping
+use Rattle.monk_hall.specs.{Floors.StartsWith, Floors.ArePrivate, Laws.BringsHome, Layout.floor_of, Layout.shown_state}
+use Rattle.monk_hall.specs.{Layout.shown_world, Records.View, Rule.IsHall, Rule.AreTold, Rule.CountsCalls}
+use Rattle.monk_hall.specs.{Tells.Returns, declared.record.SeatRecord.SeatRecord, declared.setting.Setting.Setting}
+use Rattle.monk_hall.specs.Changes.{record_after_floor_in, source_from, back_after}
 
 last_more : (o : Option Event) (es : List Event) (e : Event) → last_or o (es ++ e ∷ []) ≡ Some e
 last_more o [] e = refl

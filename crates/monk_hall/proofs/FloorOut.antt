@@ -5,45 +5,31 @@ use Rattle.std.specs.Prelude.{Option, Some}
 use mathlib.Core.Option as maybe
 use mathlib.Core.Path.{Path}
 use lib.ListN.{get_elem?}
-use Rattle.atomic_table.proofs.Lists.{set_here}
 use Rattle.atomic_table.specs.Table as table
-use Rattle.monk_kinds.specs.Kind.{IsKind}
-use Rattle.monk_kinds.specs.declared.mode.Rules.{Rules}
+use Rattle.atomic_table.proofs.Lists.{set_here}
+use Rattle.monk_kinds.specs.{Kind.IsKind, declared.mode.Rules.Rules}
 use Rattle.monk_object.specs.Object.{Object}
-use Rattle.monk_history.specs.Meaning.Counts.{events_of, enters_of}
-use Rattle.monk_history.specs.Meaning.Turn.{turn}
-use Rattle.monk_history.specs.declared.event.Event.{Event}
-use Rattle.monk_history.proofs.PublicLaws.Meaning.{legal_last}
-use Rattle.monk_world.proofs.PublicLaws.{IsReady, entered_here, held, at_update, update_here}
-use Rattle.monk_floor.specs.View.{FloorView, monitor_of}
-use Rattle.monk_world.specs.Enters.{used_at}
-use Rattle.monk_world.specs.Kept.{IsKept}
-use Rattle.monk_world.specs.Places.{stage, ticket, source, back_turn, due_stage, active_stage, back_stage, granted_source}
-use Rattle.monk_world.specs.Update.{update}
-use Rattle.monk_world.specs.Sound.{left_at}
-use Rattle.monk_world.specs.State.{State, with_event}
-use Rattle.monk_world.specs.StepTable.{IsStep, may_be_told, out_event}
-use Rattle.monk_world.specs.Steps.{after_floor_out}
-use Rattle.monk_world.specs.World.{World}
+use Rattle.monk_history.{specs.Meaning.Counts.events_of, specs.Meaning.Counts.enters_of, specs.Meaning.Turn.turn}
+use Rattle.monk_history.{specs.declared.event.Event.Event, proofs.PublicLaws.Meaning.legal_last}
 use Rattle.monk_world.specs.declared.answer.Answer.TheVariants as answer
 use Rattle.monk_world.specs.declared.command.Command.TheVariants as command
-use Rattle.monk_world.specs.declared.place.Place.{Place}
-use Rattle.monk_world.specs.declared.place.Place.TheVariants.{Due, Active}
-use Rattle.monk_world.specs.declared.source.Source.{Source}
-use Rattle.monk_world.specs.declared.source.Source.TheVariants.{Free, Granted}
-use Rattle.monk_hall.specs.Changes.{record_after_floor_out, source_from}
-use Rattle.monk_hall.specs.Floors.{StartsWith, Finds}
-use Rattle.monk_hall.specs.Laws.{Takes}
-use Rattle.monk_hall.specs.Layout.{floor_of, shown_state, shown_world}
-use Rattle.monk_hall.specs.Records.{View}
-use Rattle.monk_hall.specs.Rule.{IsHall, AreTold}
-use Rattle.monk_hall.specs.declared.record.SeatRecord.{SeatRecord}
-use Rattle.monk_hall.specs.declared.setting.Setting.{Setting}
+use Rattle.monk_world.proofs.PublicLaws.{IsReady, entered_here, held, at_update, update_here}
+use Rattle.monk_world.specs.{Enters.used_at, Kept.IsKept, Places.stage, Places.ticket, Places.source, Places.back_turn}
+use Rattle.monk_world.specs.{Places.due_stage, Places.active_stage, Places.back_stage, Places.granted_source}
+use Rattle.monk_world.specs.{Update.update, Sound.left_at, State.State, State.with_event, StepTable.IsStep}
+use Rattle.monk_world.specs.{StepTable.may_be_told, StepTable.out_event, Steps.after_floor_out, World.World}
+use Rattle.monk_world.specs.declared.place.Place.{Place, TheVariants.Due, TheVariants.Active}
+use Rattle.monk_world.specs.declared.source.Source.{Source, TheVariants.Free, TheVariants.Granted}
+use Rattle.monk_floor.specs.View.{FloorView, monitor_of}
 use Rattle.monk_hall.proofs.Frame as frame
-use Rattle.monk_hall.proofs.Knows.{calls_stay}
 use Rattle.monk_hall.proofs.Seats as seats
 use Rattle.monk_hall.proofs.Standing as standing
 use Rattle.monk_hall.proofs.Stepping as stepping
+use Rattle.monk_hall.proofs.Knows.{calls_stay}
+use Rattle.monk_hall.specs.{Floors.StartsWith, Floors.Finds, Laws.Takes, Records.View, Rule.IsHall, Rule.AreTold}
+use Rattle.monk_hall.specs.Changes.{record_after_floor_out, source_from}
+use Rattle.monk_hall.specs.Layout.{floor_of, shown_state, shown_world}
+use Rattle.monk_hall.specs.declared.{record.SeatRecord.SeatRecord, setting.Setting.Setting}
 
 module _ (k : Rules) (o : Object) (c : Setting) (kind : IsKind k) (s : table.State (Option FloorView) View)
     (h : IsHall k o c s) (id : ℕ) (r : SeatRecord) (here : get_elem? s.views id ≡ maybe.some (r ∷ []))

@@ -1,35 +1,27 @@
 -- A step that grants a word leaves a grant there, for a seat that waits at it
 use Rattle.std.proofs.Common.{◌≡◌, ◌≢◌, ℕ, ◌+◌, ◌%◌, ◌<◌, ◌⊎◌, List, [], ◌∷◌, set, sym, refl}
 use Rattle.std.proofs.Common.{ap, subst, ◌∙◌, inl, inr, ⊎_elim, arith, get_or-set_same, mod-lt}
-use Rattle.std.specs.Prelude.{Some, slice_index}
 use Rattle.std.proofs.lemmas.Option.{none-some, same_Some}
+use Rattle.std.specs.Prelude.{Some, slice_index}
 use mathlib.Core.Option.{some}
 use lib.ListN.{get_elem?}
-use Rattle.monk_kinds.specs.Kind.{IsKind}
-use Rattle.monk_kinds.specs.declared.mode.Rules.{Rules}
+use Rattle.monk_kinds.specs.{Kind.IsKind, declared.mode.Rules.Rules}
 use Rattle.monk_object.specs.Object.{Object}
-use Rattle.monk_history.specs.Meaning.Counts.{granted_of}
-use Rattle.monk_history.specs.declared.event.Event.{Event}
-use Rattle.monk_world.specs.Places.{stage, ticket, back_turn, due_to, ticketed_stage}
-use Rattle.monk_world.specs.Places.{outside_stage, back_stage, passing_stage, inside_stage}
+use Rattle.monk_history.specs.{Meaning.Counts.granted_of, declared.event.Event.Event}
 use Rattle.monk_world.proofs.PublicLaws.{held}
-use Rattle.monk_world.specs.Right.{With}
-use Rattle.monk_world.specs.declared.place.Place.{Place}
-use Rattle.monk_hall.specs.Changes.{record_after_grant}
-use Rattle.monk_hall.specs.GrantsInTurn.{granted_word}
-use Rattle.monk_hall.specs.Laws.{HallState, IsRecord}
-use Rattle.monk_hall.specs.Layout.{ticket_word, seat_word, waiting_word_at}
-use Rattle.monk_hall.specs.Rule.{IsHall, Homes}
+use Rattle.monk_world.specs.{Right.With, declared.place.Place.Place}
+use Rattle.monk_world.specs.Places.{stage, ticket, back_turn, due_to, ticketed_stage, outside_stage, back_stage}
+use Rattle.monk_world.specs.Places.{passing_stage, inside_stage}
+use Rattle.monk_hall.proofs.Standing as standing
+use Rattle.monk_hall.proofs.{RecordLaws.is, RecordLaws.cases_le, ScheduleLaws.IsLed, ScheduleLaws.records_after}
+use Rattle.monk_hall.proofs.GrantSteps.{choosing_at, called_near}
+use Rattle.monk_hall.specs.{Changes.record_after_grant, GrantsInTurn.granted_word, Laws.HallState, Laws.IsRecord}
+use Rattle.monk_hall.specs.{Layout.ticket_word, Layout.seat_word, Layout.waiting_word_at, Rule.IsHall, Rule.Homes}
 use Rattle.monk_hall.specs.Schedules.{Step, By, Deal, Part, Join, Compare, IsStep, after_step}
+use Rattle.monk_hall.specs.declared.{record.SeatRecord.SeatRecord, setting.Setting.Setting}
 use Rattle.monk_hall.specs.declared.deed.Deed.{Deed}
 use Rattle.monk_hall.specs.declared.deed.Deed.TheVariants.{Arrive, LookForTicket, LookForCall, Peek, FloorOut, FloorIn}
 use Rattle.monk_hall.specs.declared.deed.Deed.TheVariants.{Drop, GrantTicket, CallSeat, Meet}
-use Rattle.monk_hall.specs.declared.record.SeatRecord.{SeatRecord}
-use Rattle.monk_hall.specs.declared.setting.Setting.{Setting}
-use Rattle.monk_hall.proofs.GrantSteps.{choosing_at, called_near}
-use Rattle.monk_hall.proofs.RecordLaws.{is, cases_le}
-use Rattle.monk_hall.proofs.ScheduleLaws.{IsLed, records_after}
-use Rattle.monk_hall.proofs.Standing as standing
 
 -- the grant of seat j is in the word w, where the seat waits
 pub record Stands (c : Setting) (words : List ℕ) (at : ℕ → SeatRecord) (j w : ℕ) : Type 0 where

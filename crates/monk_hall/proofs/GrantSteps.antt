@@ -1,45 +1,35 @@
 -- Each step that hands the right on keeps the rule
 use Rattle.std.proofs.Common.{◌≡◌, ◌≢◌, ℕ, zero, suc, ◌+◌, ◌%◌, ◌<◌, ◌≤◌, ◌⊎◌, true, List, [], ◌∷◌, set, sym, refl}
 use Rattle.std.proofs.Common.{ap, ◌∙◌, subst, inl, inr, arith, length-set, get_or-set_other, mod-lt}
-use Rattle.std.specs.Prelude.{Option, slice_index}
-use Rattle.std.proofs.lemmas.Bool.Decides.{eqb_tells}
+use Rattle.std.{specs.Prelude.Option, specs.Prelude.slice_index, proofs.lemmas.Bool.Decides.eqb_tells}
 use mathlib.Core.Option as maybe
 use mathlib.Core.Path.{Path}
 use lib.ListN.{get_elem?}
 use Rattle.atomic_table.specs.Table as table
-use Rattle.monk_kinds.specs.Kind.{IsKind}
-use Rattle.monk_kinds.specs.declared.mode.Rules.{Rules}
+use Rattle.monk_kinds.specs.{Kind.IsKind, declared.mode.Rules.Rules}
 use Rattle.monk_object.specs.Object.{Object}
-use Rattle.monk_history.specs.Meaning.Counts.{granted_of}
-use Rattle.monk_history.specs.declared.event.Event.{Event}
-use Rattle.monk_history.specs.declared.event.Next.{Next}
 use Rattle.monk_history.specs.declared.event.Next.TheVariants as next
+use Rattle.monk_history.specs.{Meaning.Counts.granted_of, declared.event.Event.Event, declared.event.Next.Next}
 use Rattle.monk_floor.specs.View.{FloorView}
-use Rattle.monk_world.specs.Places.{stage, ticket, back_turn, due_to, turn_of_next, place_of, outside_stage, back_stage}
-use Rattle.monk_world.specs.Places.{passing_stage, inside_stage}
-use Rattle.monk_world.specs.Update.{update}
-use Rattle.monk_world.specs.State.{State}
-use Rattle.monk_world.specs.StepTable.{IsDone, IsGranted, may_be_told, names_seat}
-use Rattle.monk_world.specs.Steps.{after_ticket_grant, after_seat_grant}
-use Rattle.monk_world.specs.World.{World}
 use Rattle.monk_world.specs.declared.answer.Answer.TheVariants as answer
 use Rattle.monk_world.specs.declared.command.Command.TheVariants as command
-use Rattle.monk_world.specs.declared.home.Home.{Home}
+use Rattle.monk_world.proofs.PublicLaws.{IsReady, held, at_update}
+use Rattle.monk_world.specs.{Update.update, State.State, Steps.after_ticket_grant, Steps.after_seat_grant, World.World}
+use Rattle.monk_world.specs.StepTable.{IsDone, IsGranted, may_be_told, names_seat}
+use Rattle.monk_world.specs.Places.{stage, ticket, back_turn, due_to, turn_of_next, place_of, outside_stage, back_stage}
+use Rattle.monk_world.specs.Places.{passing_stage, inside_stage}
 use Rattle.monk_world.specs.declared.place.Place.{Place}
 use Rattle.monk_world.specs.declared.place.Place.TheVariants.{Idle, Ticket, Due, Active, Back, Passing, Inner}
-use Rattle.monk_world.proofs.PublicLaws.{IsReady, held, at_update}
-use Rattle.monk_hall.specs.Changes.{record_after_grant, home_at}
-use Rattle.monk_hall.specs.Laws.{Takes}
-use Rattle.monk_hall.specs.Layout.{tickets, unpassed, shown_state, shown_world, place_word, seat_word}
-use Rattle.monk_hall.specs.Records.{View}
-use Rattle.monk_hall.specs.Rule.{IsHall, CountsCalls}
-use Rattle.monk_hall.specs.declared.deed.Deed.TheVariants.{GrantTicket, CallSeat}
-use Rattle.monk_hall.specs.declared.record.SeatRecord.{SeatRecord}
-use Rattle.monk_hall.specs.declared.setting.Setting.{Setting}
-use Rattle.monk_hall.proofs.Knows.{calls_stay}
+use Rattle.monk_world.specs.declared.home.Home.{Home}
 use Rattle.monk_hall.proofs.Standing as standing
 use Rattle.monk_hall.proofs.Stepping as stepping
 use Rattle.monk_hall.proofs.Stored as stored
+use Rattle.monk_hall.proofs.Knows.{calls_stay}
+use Rattle.monk_hall.specs.{Laws.Takes, Records.View, Rule.IsHall, Rule.CountsCalls}
+use Rattle.monk_hall.specs.Changes.{record_after_grant, home_at}
+use Rattle.monk_hall.specs.Layout.{tickets, unpassed, shown_state, shown_world, place_word, seat_word}
+use Rattle.monk_hall.specs.declared.{record.SeatRecord.SeatRecord, setting.Setting.Setting}
+use Rattle.monk_hall.specs.declared.deed.Deed.TheVariants.{GrantTicket, CallSeat}
 
 -- a place at which a seat has chosen seat m
 pub record IsChoosing (p : Place) (m : ℕ) : Type 0 where

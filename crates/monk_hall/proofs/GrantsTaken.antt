@@ -1,38 +1,30 @@
 -- A grant is in its word until the seat that it is for finds it there
 use Rattle.std.proofs.Common.{◌≡◌, ◌≢◌, ℕ, ◌+◌, ◌<◌, ◌⊎◌, Bool, true, List, [], ◌∷◌, ◌++◌, sym, refl}
 use Rattle.std.proofs.Common.{ap, subst, ◌∙◌, inl, inr, ⊎_elim, arith, eq-eqb, get_or-set_other}
+use Rattle.std.proofs.lemmas.{Bool.Decides.eqb_tells, Option.none-some}
 use Rattle.std.specs.Prelude.{Some, slice_index}
-use Rattle.std.proofs.lemmas.Bool.Decides.{eqb_tells}
-use Rattle.std.proofs.lemmas.Option.{none-some}
 use mathlib.Core.Option.{some}
 use lib.ListN.{get_elem?}
-use Rattle.monk_kinds.specs.Kind.{IsKind}
-use Rattle.monk_kinds.specs.declared.mode.Rules.{Rules}
+use Rattle.monk_kinds.specs.{Kind.IsKind, declared.mode.Rules.Rules}
 use Rattle.monk_object.specs.Object.{Object}
-use Rattle.monk_world.specs.OnePlace.{IsInOnePlace}
-use Rattle.monk_world.specs.Places.{HoldsRight, stage, ticket, back_turn, due_to, due_stage}
-use Rattle.monk_world.specs.Places.{active_stage, passing_stage}
+use Rattle.monk_world.specs.{OnePlace.IsInOnePlace, Places.HoldsRight, Places.stage, Places.ticket, Places.back_turn}
+use Rattle.monk_world.specs.{Places.due_to, Places.due_stage, Places.active_stage, Places.passing_stage}
 use Rattle.monk_world.specs.declared.place.Place.{Place}
 use Rattle.monk_world.specs.declared.place.Place.TheVariants.{Idle, Ticket, Due, Active, Back, Passing, Inner}
-use Rattle.monk_hall.specs.Changes.{record_after_arrive, record_after_ticket_look, record_after_seat_look}
-use Rattle.monk_hall.specs.Deeds.{look_at}
-use Rattle.monk_hall.specs.GrantsInTurn.{granted_word, IsTaken, IsTakenBetween, GrantsComeInTurn}
-use Rattle.monk_hall.specs.Laws.{HallState, IsRecord}
-use Rattle.monk_hall.specs.Layout.{ticket_word, seat_word, waiting_word_at, shown_world}
-use Rattle.monk_hall.specs.NextTicket.{IsLooking}
-use Rattle.monk_hall.specs.Rule.{IsHall, Homes}
-use Rattle.monk_hall.specs.Schedules.{Step, By, Deal, Part, Join, Compare, IsDone, IsStep, IsSchedule, after_step, opening_table}
+use Rattle.monk_hall.proofs.Standing as standing
+use Rattle.monk_hall.proofs.{RecordLaws.is, RuleLaws.right_in_one_place, ScheduleLaws.IsLed}
+use Rattle.monk_hall.proofs.ScheduleMoves.{IsMoveOf, each_as, step_led, led_by, led_opening}
+use Rattle.monk_hall.proofs.GrantStands.{Stands, at_next, others_stay, grant_stands}
+use Rattle.monk_hall.specs.{Deeds.look_at, Laws.HallState, Laws.IsRecord, NextTicket.IsLooking, Rule.IsHall, Rule.Homes}
+use Rattle.monk_hall.specs.Schedules.{Step, By, Deal, Part, Join, Compare, IsDone, IsStep, IsSchedule, after_step}
+use Rattle.monk_hall.specs.Schedules.{opening_table}
+use Rattle.monk_hall.specs.declared.{record.SeatRecord.SeatRecord, setting.Setting.Setting}
 use Rattle.monk_hall.specs.declared.deed.Deed.{Deed}
 use Rattle.monk_hall.specs.declared.deed.Deed.TheVariants.{Arrive, LookForTicket, LookForCall, Peek, FloorOut, FloorIn}
 use Rattle.monk_hall.specs.declared.deed.Deed.TheVariants.{Drop, GrantTicket, CallSeat, Meet}
-use Rattle.monk_hall.specs.declared.record.SeatRecord.{SeatRecord}
-use Rattle.monk_hall.specs.declared.setting.Setting.{Setting}
-use Rattle.monk_hall.proofs.RecordLaws.{is}
-use Rattle.monk_hall.proofs.RuleLaws.{right_in_one_place}
-use Rattle.monk_hall.proofs.ScheduleLaws.{IsLed}
-use Rattle.monk_hall.proofs.ScheduleMoves.{IsMoveOf, each_as, step_led, led_by, led_opening}
-use Rattle.monk_hall.proofs.Standing as standing
-use Rattle.monk_hall.proofs.GrantStands.{Stands, at_next, others_stay, grant_stands}
+use Rattle.monk_hall.specs.Changes.{record_after_arrive, record_after_ticket_look, record_after_seat_look}
+use Rattle.monk_hall.specs.GrantsInTurn.{granted_word, IsTaken, IsTakenBetween, GrantsComeInTurn}
+use Rattle.monk_hall.specs.Layout.{ticket_word, seat_word, waiting_word_at, shown_world}
 
 -- a grant is still there if neither the seat nor its word changes
 stands_still : (c : Setting) (words ws : List ℕ) (at bt : ℕ → SeatRecord) (j w : ℕ) → Stands c words at j w

@@ -1,35 +1,22 @@
 -- A release goes home with the floor, and the right is handed on
 use Rattle.std.proofs.Common.{◌≡◌, ◌≢◌, ℕ, ◌+◌, ◌-◌, ◌≤◌, false, true≢false}
 use Rattle.std.proofs.Common.{List, [], ◌∷◌, ◌++◌, length, Option, Some, None, refl, sym, ap, subst, ◌∙◌}
-use Rattle.std.proofs.Common.{arith}
-use Rattle.std.specs.List.{last_or}
+use Rattle.std.{proofs.Common.arith, specs.List.last_or}
 use Rattle.atomic_table.specs.Seated.{TableId}
 use Rattle.monk_kinds.specs.declared.mode.Rules.{Rules}
 use Rattle.monk_object.specs.Object.{Object}
-use Rattle.monk_history.specs.Meaning.Counts.{events_of, left_of}
-use Rattle.monk_history.specs.Meaning.Events.{is_stay}
-use Rattle.monk_history.specs.Meaning.Legal.{IsLegal}
-use Rattle.monk_history.specs.Meaning.Release.{with_next}
-use Rattle.monk_history.specs.declared.event.Next.{Next}
 use Rattle.monk_history.specs.declared.event.Next.TheVariants as next
 use Rattle.monk_history.proofs.PublicLaws.Meaning.{legal-push}
+use Rattle.monk_history.specs.{Meaning.Counts.events_of, Meaning.Counts.left_of, Meaning.Events.is_stay}
+use Rattle.monk_history.specs.{Meaning.Legal.IsLegal, Meaning.Release.with_next, declared.event.Next.Next}
 use Rattle.monk_floor.specs.View.{FloorView, monitor_of}
-use Rattle.monk_world.specs.Places.{back_turn, turn_of_next, due_to, place_of}
-use Rattle.monk_world.specs.Sound.{left_within}
-use Rattle.monk_world.specs.State.{with_event}
-use Rattle.monk_world.specs.declared.home.Home.{Home}
-use Rattle.monk_world.specs.declared.place.Place.TheVariants.{Back}
-use Rattle.monk_hall.specs.Changes.{record_after_floor_in, back_after, home_at}
-use Rattle.monk_hall.specs.Granting.{grant_of, granted_last}
+use Rattle.monk_world.specs.{Places.back_turn, Places.turn_of_next, Places.due_to, Places.place_of, Sound.left_within}
+use Rattle.monk_world.specs.{State.with_event, declared.home.Home.Home, declared.place.Place.TheVariants.Back}
+use Rattle.monk_hall.proofs.{Releasing.back_is, Releasing.said, EntrySteps.own_longer}
+use Rattle.monk_hall.specs.{Changes.record_after_floor_in, Changes.back_after, Changes.home_at, Granting.grant_of}
+use Rattle.monk_hall.specs.{Granting.granted_last, Layout.floor_of, Records.the, Tells.Me, Tokens.IsSeated}
+use Rattle.monk_hall.specs.{Tokens.IsResting, declared.deed.Deed.Deed, declared.seat_numbers.SeatNumbers.SeatNumbers}
 use Rattle.monk_hall.specs.Handing.{seat_called_by, HasRecordedRelease, HasGone}
-use Rattle.monk_hall.specs.Layout.{floor_of}
-use Rattle.monk_hall.specs.Records.{the}
-use Rattle.monk_hall.specs.Tells.{Me}
-use Rattle.monk_hall.specs.Tokens.{IsSeated, IsResting}
-use Rattle.monk_hall.specs.declared.deed.Deed.{Deed}
-use Rattle.monk_hall.specs.declared.seat_numbers.SeatNumbers.{SeatNumbers}
-use Rattle.monk_hall.proofs.Releasing.{back_is, said}
-use Rattle.monk_hall.proofs.EntrySteps.{own_longer}
 
 last_is : {A : Type 0} (o : Option A) (h : List A) (e : A) → last_or o (h ++ e ∷ []) ≡ Some e
 last_is o [] e = refl

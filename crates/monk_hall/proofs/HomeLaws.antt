@@ -6,14 +6,10 @@ use lib.ListN.{get_elem?}
 use Rattle.monk_kinds.specs.declared.mode.Rules.{Rules}
 use Rattle.monk_object.specs.Object.{Object}
 use Rattle.monk_world.specs.Places.{stage, active_stage}
-use Rattle.monk_hall.specs.Changes.{source_from}
-use Rattle.monk_hall.specs.Floors.{StartsWith}
+use Rattle.monk_hall.proofs.{RecordLaws.is, RecordLaws.recorded, Standing.active_at}
+use Rattle.monk_hall.specs.{Changes.source_from, Floors.StartsWith, Rule.IsHall}
 use Rattle.monk_hall.specs.Laws.{HallState, IsRecord, IsHomeHistory, HasHomeHistory}
-use Rattle.monk_hall.specs.Rule.{IsHall}
-use Rattle.monk_hall.specs.declared.record.SeatRecord.{SeatRecord}
-use Rattle.monk_hall.specs.declared.setting.Setting.{Setting}
-use Rattle.monk_hall.proofs.RecordLaws.{is, recorded}
-use Rattle.monk_hall.proofs.Standing.{active_at}
+use Rattle.monk_hall.specs.declared.{record.SeatRecord.SeatRecord, setting.Setting.Setting}
 
 -- a list of one element is its first
 alone_in : {A : Type 0} (xs : List A) (x : A) → length xs ≡ 1 → get_elem? xs 0 ≡ some x → xs ≡ x ∷ []

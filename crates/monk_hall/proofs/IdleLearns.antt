@@ -1,40 +1,25 @@
 -- The longer of two histories begins with both, and idle seats' records may learn it
 use Rattle.std.proofs.Common.{◌≡◌, ◌≢◌, ℕ, ◌+◌, ◌<◌, ◌≤◌, ◌⊎◌, ◌==◌, Bool, true, false, cond, nat_le, List}
 use Rattle.std.proofs.Common.{[], ◌∷◌, ◌++◌, length, set, sym, refl, ap, ◌∙◌, subst, inl, inr, ⊎_elim, arith}
-use Rattle.std.proofs.Common.{append-nil, length-append}
-use Rattle.std.proofs.Math.Option.{some-injective}
-use Rattle.std.proofs.lemmas.Bool.Decides.{eqb_tells}
-use Rattle.std.proofs.lemmas.List.{nil_from_length}
-use Rattle.std.proofs.lemmas.List.Elements.{filter-append}
+use Rattle.std.proofs.{Common.append-nil, Common.length-append, Math.Option.some-injective}
+use Rattle.std.proofs.lemmas.{Bool.Decides.eqb_tells, List.nil_from_length, List.Elements.filter-append}
 use mathlib.Core.Option as maybe
 use mathlib.Core.Path.{Path}
 use lib.ListN.{get_elem?}
 use Rattle.atomic_table.proofs.Lists.{at_set, set_here, set_else}
 use Rattle.monk_kinds.specs.declared.mode.Rules.{Rules}
 use Rattle.monk_object.specs.Object.{Object}
-use Rattle.monk_history.specs.Meaning.Counts.{events_of}
-use Rattle.monk_history.specs.Meaning.Events.{seat_of}
-use Rattle.monk_history.specs.Meaning.Turn.{turn}
+use Rattle.monk_history.specs.Meaning.{Counts.events_of, Events.seat_of, Turn.turn}
 use Rattle.monk_history.specs.declared.event.Event.{Event}
 use Rattle.monk_world.proofs.PublicLaws.{at_update, update_here, update_else, all_back}
-use Rattle.monk_world.specs.Kept.{IsKept}
+use Rattle.monk_world.specs.{Kept.IsKept, Update.update, State.State, StepTable.out_event}
 use Rattle.monk_world.specs.Places.{stage, outside_stage, active_stage, back_stage}
-use Rattle.monk_world.specs.Update.{update}
-use Rattle.monk_world.specs.State.{State}
-use Rattle.monk_world.specs.StepTable.{out_event}
-use Rattle.monk_world.specs.declared.place.Place.{Place}
-use Rattle.monk_world.specs.declared.place.Place.TheVariants.{Active}
-use Rattle.monk_world.specs.declared.source.Source.{Source}
-use Rattle.monk_hall.specs.Changes.{longer}
-use Rattle.monk_hall.specs.Floors.{StartsWith}
-use Rattle.monk_hall.specs.Layout.{floor_of, shown_state, shown_world}
-use Rattle.monk_hall.specs.Records.{View, In, Distinct}
+use Rattle.monk_world.specs.declared.{place.Place.Place, place.Place.TheVariants.Active, source.Source.Source}
+use Rattle.monk_hall.proofs.{Seats.long, Stored.field_stays}
+use Rattle.monk_hall.specs.{Changes.longer, Floors.StartsWith, Records.View, Records.In, Records.Distinct, Tells.AreOne}
 use Rattle.monk_hall.specs.Rule.{AreShown, CountsCalls, Homes, IsKeptHall}
-use Rattle.monk_hall.specs.Tells.{AreOne}
-use Rattle.monk_hall.specs.declared.record.SeatRecord.{SeatRecord}
-use Rattle.monk_hall.specs.declared.setting.Setting.{Setting}
-use Rattle.monk_hall.proofs.Seats.{long}
-use Rattle.monk_hall.proofs.Stored.{field_stays}
+use Rattle.monk_hall.specs.Layout.{floor_of, shown_state, shown_world}
+use Rattle.monk_hall.specs.declared.{record.SeatRecord.SeatRecord, setting.Setting.Setting}
 
 hd : Event → List Event → Event
 hd d [] = d

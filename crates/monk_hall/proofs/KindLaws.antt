@@ -1,7 +1,6 @@
 -- What the bounds on a kind say about the mode that its rules have
 use Rattle.std.proofs.Common.{arith, ◌≡◌, ◌≢◌, true, false, sym, ap, ◌∙◌}
-use Rattle.monk_kinds.specs.declared.mode.Mode.{Mode}
-use Rattle.monk_kinds.specs.declared.mode.Mode.TheVariants.{ImmediateReturn, Automatic}
+use Rattle.monk_kinds.specs.declared.mode.Mode.{Mode, TheVariants.ImmediateReturn, TheVariants.Automatic}
 use Rattle.monk_kinds.specs.declared.mode.Rules.{Rules}
 use Rattle.monk_history.specs.Meaning.Events.{has_conditions, has_signaller_queue, returns_at_once}
 

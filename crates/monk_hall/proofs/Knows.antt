@@ -4,21 +4,14 @@ use mathlib.Core.Option.{none, some}
 use lib.ListN.{get_elem?}
 use Rattle.monk_kinds.specs.declared.mode.Rules.{Rules}
 use Rattle.monk_object.specs.Object.{Object}
-use Rattle.monk_history.specs.Meaning.Counts.{events_of, granted_of}
-use Rattle.monk_history.specs.Meaning.Turn.{turn}
+use Rattle.monk_history.specs.Meaning.{Counts.events_of, Counts.granted_of, Turn.turn}
 use Rattle.monk_history.specs.declared.event.Event.{Event}
-use Rattle.monk_world.specs.Places.{stage, back_turn, open_turn, due_to, active_stage, back_stage}
-use Rattle.monk_world.specs.Update.{update}
-use Rattle.monk_world.specs.StepTable.{out_event}
-use Rattle.monk_world.specs.World.{World}
-use Rattle.monk_world.specs.declared.place.Place.{Place}
-use Rattle.monk_world.specs.declared.place.Place.TheVariants.{Active}
-use Rattle.monk_world.specs.declared.source.Source.{Source}
 use Rattle.monk_world.proofs.PublicLaws.{at_update, all_back}
-use Rattle.monk_hall.specs.Floors.{StartsWith}
+use Rattle.monk_world.specs.{Update.update, StepTable.out_event, World.World}
+use Rattle.monk_world.specs.Places.{stage, back_turn, open_turn, due_to, active_stage, back_stage}
+use Rattle.monk_world.specs.declared.{place.Place.Place, place.Place.TheVariants.Active, source.Source.Source}
+use Rattle.monk_hall.specs.{Floors.StartsWith, declared.record.SeatRecord.SeatRecord, declared.setting.Setting.Setting}
 use Rattle.monk_hall.specs.Rule.{AreTold, CountsCalls, Homes}
-use Rattle.monk_hall.specs.declared.record.SeatRecord.{SeatRecord}
-use Rattle.monk_hall.specs.declared.setting.Setting.{Setting}
 
 -- if a seat steps that has chosen no other before or after, and no seat's word changes, the calls stay counted
 pub calls_stay : (s t : World) (h : List Event) (i : ℕ) (p : Place) → CountsCalls s h → t.place ≡ update s.place i p

@@ -1,39 +1,26 @@
 -- Two idle seats' views are joined, and both records learn the longer history
 use Rattle.std.proofs.Common.{◌≡◌, ◌≢◌, ℕ, ◌+◌, ◌<◌, ◌⊎◌, Bool, true, false, cond, nat_le, List}
 use Rattle.std.proofs.Common.{[], ◌∷◌, ◌++◌, length, set, sym, refl, ap, ◌∙◌, subst, inl, inr, ⊎_elim}
-use Rattle.std.proofs.Math.Option.{some-injective}
-use Rattle.std.proofs.lemmas.Bool.Decides.{eqb_tells}
+use Rattle.std.proofs.{Math.Option.some-injective, lemmas.Bool.Decides.eqb_tells}
 use mathlib.Core.Option as maybe
 use lib.ListN.{get_elem?}
-use Rattle.atomic_table.proofs.Lists.{at_set, set_here, set_else}
+use Rattle.atomic_table.{proofs.Lists.at_set, proofs.Lists.set_here, proofs.Lists.set_else, specs.Seated.TableId}
 use Rattle.monk_kinds.specs.declared.mode.Rules.{Rules}
 use Rattle.monk_object.specs.Object.{Object}
-use Rattle.monk_history.specs.Meaning.Counts.{events_of}
-use Rattle.monk_history.specs.declared.event.Event.{Event}
-use Rattle.monk_history.specs.Meaning.Legal.{IsLegal}
 use Rattle.monk_history.proofs.PublicLaws.Meaning.{legal_front}
+use Rattle.monk_history.specs.{Meaning.Counts.events_of, Meaning.Legal.IsLegal, declared.event.Event.Event}
 use Rattle.monk_world.proofs.PublicLaws.{at_update, update_here, update_else}
+use Rattle.monk_world.specs.{Places.stage, Update.update, declared.place.Place.TheVariants.Idle}
 use Rattle.monk_floor.specs.View.{monitor_of}
-use Rattle.monk_world.specs.Places.{stage}
-use Rattle.monk_world.specs.Update.{update}
-use Rattle.monk_world.specs.declared.place.Place.TheVariants.{Idle}
-use Rattle.monk_hall.specs.Changes.{longer, view_after_join}
-use Rattle.monk_hall.specs.Floors.{StartsWith}
-use Rattle.monk_hall.specs.Laws.{HallState}
-use Rattle.monk_hall.specs.Layout.{floor_of, word_count}
-use Rattle.monk_hall.specs.Records.{View, In, Distinct, IsOne, the}
-use Rattle.monk_hall.specs.Rule.{AreShown, IsHall}
-use Rattle.atomic_table.specs.Seated.{TableId}
-use Rattle.monk_hall.specs.Tells.{AreOne, SeesTruly}
-use Rattle.monk_hall.specs.Tokens.{IsResting, top}
-use Rattle.monk_hall.specs.declared.deed.Deed.TheVariants.{Meet}
-use Rattle.monk_hall.specs.declared.record.SeatRecord.{SeatRecord}
-use Rattle.monk_hall.specs.declared.setting.Setting.{Setting}
-use Rattle.monk_hall.specs.declared.seat_numbers.SeatNumbers.{SeatNumbers}
-use Rattle.monk_hall.proofs.Dealing.{shown_moved, IsStill}
-use Rattle.monk_hall.proofs.Seats.{is_at, is_desk, is_near, is_setting, long, only}
 use Rattle.monk_hall.proofs.IdleLearns.{parts, events_between, longer_both, IsLonger, learns, two_of, same_seat, in_a}
 use Rattle.monk_hall.proofs.IdleLearns.{in_b, still_b, shown_two}
+use Rattle.monk_hall.proofs.Dealing.{shown_moved, IsStill}
+use Rattle.monk_hall.proofs.Seats.{is_at, is_desk, is_near, is_setting, long, only}
+use Rattle.monk_hall.specs.{Changes.longer, Changes.view_after_join, Floors.StartsWith, Laws.HallState, Layout.floor_of}
+use Rattle.monk_hall.specs.{Layout.word_count, Records.View, Records.In, Records.Distinct, Records.IsOne, Records.the}
+use Rattle.monk_hall.specs.{Rule.AreShown, Rule.IsHall, Tells.AreOne, Tells.SeesTruly, Tokens.IsResting, Tokens.top}
+use Rattle.monk_hall.specs.declared.{deed.Deed.TheVariants.Meet, record.SeatRecord.SeatRecord, setting.Setting.Setting}
+use Rattle.monk_hall.specs.declared.{seat_numbers.SeatNumbers.SeatNumbers}
 
 -- two idle records are in one view
 module _ (k : Rules) (o : Object) (c : Setting) (s : HallState) (h : IsHall k o c s) (id : ℕ) (a b : SeatRecord)

@@ -3,25 +3,17 @@ use Rattle.std.proofs.Common.{◌≡◌, ◌≢◌, ℕ, List, [], ◌∷◌, �
 use Rattle.std.proofs.Common.{◌∙◌, arith}
 use Rattle.std.proofs.lemmas.Option.{none-some, same_Some}
 use Rattle.atomic_table.specs.Seated.{TableId}
-use Rattle.monk_history.specs.Meaning.Counts.{enters_of}
-use Rattle.monk_history.specs.declared.event.Event.{Event}
-use Rattle.monk_world.specs.Places.{stage, ticket, passing_stage}
+use Rattle.monk_history.specs.{Meaning.Counts.enters_of, declared.event.Event.Event}
 use Rattle.monk_world.proofs.PublicLaws.{held}
-use Rattle.monk_world.specs.declared.place.Place.{Place}
-use Rattle.monk_world.specs.declared.place.Place.TheVariants.{Ticket}
-use Rattle.monk_hall.specs.Calls.{peeks_at}
-use Rattle.monk_hall.specs.Changes.{source_from, since}
-use Rattle.monk_hall.specs.Granting.{Grant, granted_last}
-use Rattle.monk_hall.specs.Handing.{HandsOn}
-use Rattle.monk_hall.specs.Layout.{ticket_word, waiting_word_at}
-use Rattle.monk_hall.specs.NextTicket.{NextTicketWaits, NoTicketWaits, GrantedEntersNext}
-use Rattle.monk_hall.specs.declared.deed.Deed.{Deed}
-use Rattle.monk_hall.specs.declared.deed.Deed.TheVariants.{FloorIn, Drop, GrantTicket}
-use Rattle.monk_hall.specs.declared.record.SeatRecord.{SeatRecord}
-use Rattle.monk_hall.specs.declared.setting.Setting.{Setting}
-use Rattle.monk_hall.proofs.HandingLaws.{grants_by}
+use Rattle.monk_world.specs.Places.{stage, ticket, passing_stage}
+use Rattle.monk_world.specs.declared.place.Place.{Place, TheVariants.Ticket}
+use Rattle.monk_hall.proofs.{HandingLaws.grants_by, Standing.ticket_at}
 use Rattle.monk_hall.proofs.RecordLaws.{is, place, with, next_ticket, recorded}
-use Rattle.monk_hall.proofs.Standing.{ticket_at}
+use Rattle.monk_hall.specs.{Calls.peeks_at, Changes.source_from, Changes.since, Granting.Grant, Granting.granted_last}
+use Rattle.monk_hall.specs.{Handing.HandsOn, Layout.ticket_word, Layout.waiting_word_at}
+use Rattle.monk_hall.specs.NextTicket.{NextTicketWaits, NoTicketWaits, GrantedEntersNext}
+use Rattle.monk_hall.specs.declared.{record.SeatRecord.SeatRecord, setting.Setting.Setting}
+use Rattle.monk_hall.specs.declared.deed.Deed.{Deed, TheVariants.FloorIn, TheVariants.Drop, TheVariants.GrantTicket}
 
 -- where a seat of this setting that waits with this ticket finds its grant
 word_is : (c : Setting) (r : SeatRecord) (t : ℕ) → r.setting ≡ c → r.place ≡ Ticket t

@@ -1,7 +1,6 @@
 -- The two halves of the ticket word
 use Rattle.std.proofs.Common.{◌≡◌, ℕ, suc, ◌+◌, ◌-◌, ◌*◌, ◌%◌, ◌<◌, sym, ap, ◌∙◌, arith}
-use Rattle.std.proofs.lemmas.Nat.{mod-mul-add, div-mul-add}
-use Rattle.std.proofs.Math.Nat.{mod-add-div'}
+use Rattle.std.proofs.{lemmas.Nat.mod-mul-add, lemmas.Nat.div-mul-add, Math.Nat.mod-add-div'}
 use Rattle.monk_hall.specs.Layout.{tickets, unpassed}
 
 abbrev pub packed : ℕ → ℕ → ℕ

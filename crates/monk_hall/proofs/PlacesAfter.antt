@@ -1,25 +1,19 @@
 -- What a seat holds, and how it came, at the place where each step leaves it
 use Rattle.std.proofs.Common.{◌≡◌, ℕ, ◌+◌, ◌-◌, ◌==◌, ◌≤◌, cond, Bool, true, false, List, [], ◌∷◌}
 use Rattle.std.proofs.Common.{sym, refl, ap, ◌∙◌, arith}
-use Rattle.std.specs.Prelude.{Option, Some, None}
 use Rattle.std.proofs.lemmas.Option.{none-some, same_Some}
-use Rattle.monk_history.specs.Meaning.Counts.{is_enter}
-use Rattle.monk_history.specs.Meaning.Release.{with_next}
-use Rattle.monk_history.specs.declared.event.Event.{Event}
+use Rattle.std.specs.Prelude.{Option, Some, None}
 use Rattle.monk_history.specs.declared.event.Event.TheVariants as event
-use Rattle.monk_history.specs.declared.event.Next.{Next}
-use Rattle.monk_history.specs.declared.event.Turn.{Turn}
-use Rattle.monk_world.specs.Places.{place_of}
-use Rattle.monk_world.specs.StepTable.{out_event}
-use Rattle.monk_world.specs.Steps.{place_after_arrive, place_after_ticket_look, place_after_seat_look, place_after_drop}
-use Rattle.monk_world.specs.declared.home.Home.{Home}
+use Rattle.monk_history.specs.Meaning.{Counts.is_enter, Release.with_next}
+use Rattle.monk_history.specs.declared.event.{Event.Event, Next.Next, Turn.Turn}
 use Rattle.monk_world.specs.declared.home.Home.TheVariants as home
+use Rattle.monk_world.specs.{Places.place_of, StepTable.out_event}
+use Rattle.monk_world.specs.Steps.{place_after_arrive, place_after_ticket_look, place_after_seat_look, place_after_drop}
 use Rattle.monk_world.specs.declared.place.Place.TheVariants.{Ticket, Due, Passing}
-use Rattle.monk_world.specs.declared.source.Source.{Source}
-use Rattle.monk_world.specs.declared.source.Source.TheVariants.{Free, Granted, Called}
-use Rattle.monk_hall.specs.Schedules.{entered}
-use Rattle.monk_hall.specs.Tells.{IsReleaseTo}
+use Rattle.monk_world.specs.declared.source.Source.{Source, TheVariants.Free, TheVariants.Granted, TheVariants.Called}
+use Rattle.monk_world.specs.declared.home.Home.{Home}
 use Rattle.monk_hall.proofs.ScheduleLaws.{held, came_by, ticket_by}
+use Rattle.monk_hall.specs.{Schedules.entered, Tells.IsReleaseTo}
 
 pub held_arrived : (t n : ℕ) → held (place_after_arrive t n) ≡ Some t
 held_arrived t n = by_free (n == 0)

@@ -3,19 +3,14 @@ use Rattle.std.proofs.Common.{◌≡◌, ◌≢◌, ℕ, ◌+◌, ◌<◌, ◌�
 use Rattle.std.proofs.Common.{◌∙◌, subst, arith, eq-eqb, append-nil, append_assoc, length-append}
 use Rattle.monk_kinds.specs.declared.mode.Rules.{Rules}
 use Rattle.monk_object.specs.Object.{Object}
-use Rattle.monk_history.specs.Meaning.Counts.{events_of, left_of}
-use Rattle.monk_history.specs.Meaning.Events.{seat_of}
-use Rattle.monk_history.specs.Meaning.Legal.{IsLegal}
-use Rattle.monk_history.specs.declared.event.Event.{Event}
 use Rattle.monk_history.proofs.PublicLaws.Meaning.{events_of-push, legal_front, legal_last}
+use Rattle.monk_history.specs.Meaning.{Counts.events_of, Counts.left_of, Events.seat_of, Legal.IsLegal}
+use Rattle.monk_history.specs.declared.event.Event.{Event}
 use Rattle.monk_world.proofs.PublicLaws.{bounded_floor, no_less, update_same, stays}
-use Rattle.monk_floor.specs.View.{monitor_of}
-use Rattle.monk_world.specs.Kept.{IsKept}
+use Rattle.monk_world.specs.{Kept.IsKept, declared.place.Place.TheVariants.Active, declared.source.Source.Source}
 use Rattle.monk_world.specs.State.{State, with_event}
-use Rattle.monk_world.specs.declared.place.Place.TheVariants.{Active}
-use Rattle.monk_world.specs.declared.source.Source.{Source}
-use Rattle.monk_hall.specs.Floors.{IsPrivate, ArePrivate}
-use Rattle.monk_hall.proofs.Frame.{other_event}
+use Rattle.monk_floor.specs.View.{monitor_of}
+use Rattle.monk_hall.{specs.Floors.IsPrivate, specs.Floors.ArePrivate, proofs.Frame.other_event}
 
 pub own_event : (h : List Event) (e : Event) (i : ℕ) → seat_of e ≡ i
     → events_of (h ++ e ∷ []) i ≡ events_of h i ++ e ∷ []

@@ -7,46 +7,37 @@ use mathlib.Core.Option as maybe
 use lib.ListN.{get_elem?}
 use Rattle.atomic_table.proofs.Lists.{set_else}
 use Rattle.atomic_table.specs.Table.{opening, keeps, takes, gives, Allows, Joins, Splits}
-use Rattle.monk_kinds.specs.Kind.{IsKind}
-use Rattle.monk_kinds.specs.declared.mode.Rules.{Rules}
+use Rattle.monk_kinds.specs.{Kind.IsKind, declared.mode.Rules.Rules}
 use Rattle.monk_object.specs.Object.{Object}
-use Rattle.monk_history.specs.Meaning.Counts.{events_of, granted_of}
-use Rattle.monk_history.specs.Meaning.Legal.{IsLegal}
-use Rattle.monk_history.specs.Meaning.Release.{with_next}
-use Rattle.monk_history.specs.declared.event.Event.{Event}
 use Rattle.monk_history.specs.declared.event.Next.TheVariants as next
 use Rattle.monk_history.proofs.PublicLaws.Meaning.{legal_front, legal_last}
-use Rattle.monk_floor.specs.Making.{make_refusal}
-use Rattle.monk_floor.specs.View.{FloorView, monitor_of}
-use Rattle.monk_world.specs.Places.{stage, ticket, back_turn, due_to, ticketed_stage, due_stage, active_stage, passing_stage}
-use Rattle.monk_world.specs.Places.{inside_stage}
+use Rattle.monk_history.specs.Meaning.{Counts.events_of, Counts.granted_of, Legal.IsLegal, Release.with_next}
+use Rattle.monk_history.specs.declared.event.Event.{Event}
+use Rattle.monk_floor.specs.{Making.make_refusal, View.FloorView, View.monitor_of}
+use Rattle.monk_world.specs.Places.{stage, ticket, back_turn, due_to, ticketed_stage, due_stage, active_stage}
+use Rattle.monk_world.specs.Places.{passing_stage, inside_stage}
 use Rattle.monk_world.specs.State.{with_event}
-use Rattle.monk_world.specs.declared.home.Home.{Home}
-use Rattle.monk_world.specs.declared.place.Place.TheVariants.{Idle, Back}
+use Rattle.monk_world.specs.declared.{home.Home.Home, place.Place.TheVariants.Idle, place.Place.TheVariants.Back}
+use Rattle.monk_hall.proofs.FloorOut as floor_out
+use Rattle.monk_hall.proofs.MeetLaws as meeting
+use Rattle.monk_hall.proofs.Stepping as stepping
+use Rattle.monk_hall.proofs.{RecordLaws.next_ticket, RuleLaws.one_is_active, ScheduleMoves.led_by}
+use Rattle.monk_hall.proofs.{ScheduleMoves.led_opening, WordSteps.knew_still, WordSteps.some_unpassed}
+use Rattle.monk_hall.proofs.Private.{own_event, own_more}
+use Rattle.monk_hall.specs.{Floors.ArePrivate, Laws.HallState, Laws.IsRecord, Rule.IsHall, Rule.Homes}
+use Rattle.monk_hall.specs.Schedules.{Step, By, Deal, Part, Join, Compare, IsStep, IsSchedule, IsReached, after_step}
+use Rattle.monk_hall.specs.Schedules.{ArePlayed, IsReleasedBy, came_in, opening_table}
+use Rattle.monk_hall.specs.declared.{record.SeatRecord.SeatRecord, setting.Setting.Setting}
+use Rattle.monk_hall.specs.declared.deed.Deed.TheVariants.{Arrive, LookForTicket, LookForCall, Peek, FloorOut, FloorIn}
+use Rattle.monk_hall.specs.declared.deed.Deed.TheVariants.{Drop, GrantTicket, CallSeat, Meet}
 use Rattle.monk_hall.specs.Changes.{record_after_arrive, record_after_ticket_look, record_after_seat_look}
 use Rattle.monk_hall.specs.Changes.{record_after_peek, record_after_floor_out, record_after_floor_in, record_after_drop}
 use Rattle.monk_hall.specs.Changes.{record_after_grant, view_after_join, view_after_compare}
-use Rattle.monk_hall.specs.Floors.{ArePrivate}
-use Rattle.monk_hall.specs.Laws.{HallState, IsRecord}
+use Rattle.monk_hall.specs.Tells.{Me, TellsArrive, TellsTicketLook, TellsSeatLook, TellsPeek, TellsFloorOut}
+use Rattle.monk_hall.specs.Tells.{TellsFloorIn, held_history, TellsDrop, TellsTicketGrant, TellsCall, TellsCompare}
+use Rattle.monk_hall.specs.Tells.{Returns}
 use Rattle.monk_hall.specs.Layout.{floor_of, place_word, seat_word, word_count}
 use Rattle.monk_hall.specs.Records.{View, In, IsOne, the, head, tail, first_view}
-use Rattle.monk_hall.specs.Rule.{IsHall, Homes}
-use Rattle.monk_hall.specs.Schedules.{Step, By, Deal, Part, Join, Compare, IsStep, IsSchedule, IsReached, after_step}
-use Rattle.monk_hall.specs.declared.deed.Deed.TheVariants.{Arrive, LookForTicket, LookForCall, Peek, FloorOut, FloorIn}
-use Rattle.monk_hall.specs.declared.deed.Deed.TheVariants.{Drop, GrantTicket, CallSeat, Meet}
-use Rattle.monk_hall.specs.Schedules.{ArePlayed, IsReleasedBy, came_in, opening_table}
-use Rattle.monk_hall.specs.Tells.{Me, TellsArrive, TellsTicketLook, TellsSeatLook, TellsPeek, TellsFloorOut, TellsFloorIn}
-use Rattle.monk_hall.specs.Tells.{held_history, TellsDrop, TellsTicketGrant, TellsCall, TellsCompare, Returns}
-use Rattle.monk_hall.specs.declared.record.SeatRecord.{SeatRecord}
-use Rattle.monk_hall.specs.declared.setting.Setting.{Setting}
-use Rattle.monk_hall.proofs.FloorOut as floor_out
-use Rattle.monk_hall.proofs.MeetLaws as meeting
-use Rattle.monk_hall.proofs.Private.{own_event, own_more}
-use Rattle.monk_hall.proofs.RecordLaws.{next_ticket}
-use Rattle.monk_hall.proofs.RuleLaws.{one_is_active}
-use Rattle.monk_hall.proofs.ScheduleMoves.{led_by, led_opening}
-use Rattle.monk_hall.proofs.Stepping as stepping
-use Rattle.monk_hall.proofs.WordSteps.{knew_still, some_unpassed}
 
 -- the view has two records
 abbrev pub IsTwo : View → Type 0

@@ -3,19 +3,13 @@ use Rattle.std.proofs.Common.{◌≡◌, ◌≢◌, ℕ, zero, suc, ◌+◌, ◌
 use Rattle.std.specs.Prelude.{slice_index}
 use Rattle.monk_kinds.specs.declared.mode.Rules.{Rules}
 use Rattle.monk_object.specs.Object.{Object}
-use Rattle.monk_history.specs.Meaning.Counts.{enters_of}
-use Rattle.monk_history.specs.declared.event.Next.{Next}
-use Rattle.monk_world.specs.Enters.{FitsEnters, used_at}
-use Rattle.monk_world.specs.Places.{stage, outside_stage, due_stage, active_stage, back_stage, passing_stage}
-use Rattle.monk_world.specs.Right.{Whereabouts, With}
-use Rattle.monk_world.specs.declared.home.Home.{Home}
-use Rattle.monk_world.specs.declared.place.Place.TheVariants.{Back}
+use Rattle.monk_history.specs.{Meaning.Counts.enters_of, declared.event.Next.Next}
 use Rattle.monk_world.proofs.PublicLaws.{held}
-use Rattle.monk_hall.specs.Laws.{HallState, IsRecord}
-use Rattle.monk_hall.specs.Layout.{tickets, unpassed, shown_world}
-use Rattle.monk_hall.specs.Rule.{IsHall}
-use Rattle.monk_hall.specs.declared.record.SeatRecord.{SeatRecord}
-use Rattle.monk_hall.specs.declared.setting.Setting.{Setting}
+use Rattle.monk_world.specs.{Enters.FitsEnters, Enters.used_at, Right.Whereabouts, Right.With}
+use Rattle.monk_world.specs.Places.{stage, outside_stage, due_stage, active_stage, back_stage, passing_stage}
+use Rattle.monk_world.specs.declared.{home.Home.Home, place.Place.TheVariants.Back}
+use Rattle.monk_hall.specs.{Laws.HallState, Laws.IsRecord, Layout.tickets, Layout.unpassed, Layout.shown_world}
+use Rattle.monk_hall.specs.{Rule.IsHall, declared.record.SeatRecord.SeatRecord, declared.setting.Setting.Setting}
 
 pub cases_le : (a b : ℕ) → (a ≤ b) ⊎ (b < a)
 cases_le zero b = inl (omega arith)

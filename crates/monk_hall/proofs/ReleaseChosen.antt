@@ -2,40 +2,28 @@
 use Rattle.std.proofs.Common.{◌≡◌, ℕ, ◌+◌, Bool, true, false, true≢false, cond, List, [], ◌∷◌, ◌++◌}
 use Rattle.std.proofs.Common.{append_assoc, Some, refl, sym, ap, subst, ◌∙◌}
 use Rattle.atomic_table.specs.Seated.{TableId}
+use Rattle.monk_kinds.specs.declared.mode.Pick.{Pick, TheVariants.Entry as WishEntry, TheVariants.Waiter as WishWaiter}
+use Rattle.monk_kinds.specs.declared.mode.Pick.{TheVariants.Signaller as WishSignaller}
 use Rattle.monk_kinds.specs.declared.mode.Rules.{Rules}
-use Rattle.monk_kinds.specs.declared.mode.Pick.{Pick}
-use Rattle.monk_kinds.specs.declared.mode.Pick.TheVariants.{Entry as WishEntry, Waiter as WishWaiter, Signaller as WishSignaller}
 use Rattle.monk_object.specs.Object.{Object}
-use Rattle.monk_history.specs.Meaning.Choice.{Queues, must_stay, queues_at}
-use Rattle.monk_history.specs.Meaning.Counts.{events_of, is_enter}
-use Rattle.monk_history.specs.Meaning.Events.{seat_of, is_stay}
-use Rattle.monk_history.specs.Meaning.Monitor.{Monitor}
-use Rattle.monk_history.specs.Meaning.Reasons.{IsAllowed}
-use Rattle.monk_history.specs.Meaning.Release.{with_next, choice_of}
-use Rattle.monk_history.specs.Meaning.Wish.{choice_by}
-use Rattle.monk_history.specs.declared.event.Event.{Event}
-use Rattle.monk_history.specs.declared.event.Event.TheVariants.{Enter, Act, Leave, Wait, Signal, SignalLeave, Until, Resume}
-use Rattle.monk_history.specs.declared.event.Event.TheVariants.{SignalAll, SignalWait}
-use Rattle.monk_history.specs.declared.event.Next.{Next}
 use Rattle.monk_history.specs.declared.event.Next.TheVariants as next
-use Rattle.monk_history.specs.Meaning.Turn.{turn_by}
-use Rattle.monk_history.specs.declared.event.Turn.TheVariants.{Owned}
+use Rattle.monk_history.specs.Meaning.{Events.seat_of, Events.is_stay, Monitor.Monitor, Reasons.IsAllowed}
+use Rattle.monk_history.specs.Meaning.{Release.with_next, Release.choice_of, Wish.choice_by, Turn.turn_by}
+use Rattle.monk_history.specs.Meaning.Counts.{events_of, is_enter}
+use Rattle.monk_history.specs.Meaning.Choice.{Queues, must_stay, queues_at}
+use Rattle.monk_history.specs.declared.event.{Next.Next, Turn.TheVariants.Owned}
+use Rattle.monk_history.specs.declared.event.Event.{Event}
+use Rattle.monk_history.specs.declared.event.Event.TheVariants.{Enter, Act, Leave, Wait, Signal, SignalLeave, Until}
+use Rattle.monk_history.specs.declared.event.Event.TheVariants.{Resume, SignalAll, SignalWait}
 use Rattle.monk_floor.specs.View.{FloorView, stands_of}
 use Rattle.monk_world.specs.declared.home.Home.{Home}
+use Rattle.monk_hall.proofs.{Private.own_event, Releasing.said}
+use Rattle.monk_hall.specs.{Changes.since, Layout.floor_of, Recorded.IsRelease, Records.the, Tells.Me}
+use Rattle.monk_hall.specs.{Tells.IsReleaseTo, Tells.SeesTruly, Tokens.Token, Tokens.Holder, Tokens.IsHolding}
+use Rattle.monk_hall.specs.{Tokens.holder, declared.deed.Deed.Deed, declared.deed.Deed.TheVariants.FloorIn}
+use Rattle.monk_hall.specs.{declared.record.SeatRecord.SeatRecord, declared.seat_numbers.SeatNumbers.SeatNumbers}
 use Rattle.monk_hall.specs.Calls.{HasReleased, HasPeeked, Remembers, is_entry_known, peeks_at}
-use Rattle.monk_hall.specs.Changes.{since}
 use Rattle.monk_hall.specs.Handing.{HasRecordedRelease, HandsOn, HasGone, seat_called_by}
-use Rattle.monk_hall.specs.Layout.{floor_of}
-use Rattle.monk_hall.specs.Recorded.{IsRelease}
-use Rattle.monk_hall.specs.Records.{the}
-use Rattle.monk_hall.specs.Tells.{Me, IsReleaseTo, SeesTruly}
-use Rattle.monk_hall.specs.Tokens.{Token, Holder, IsHolding, holder}
-use Rattle.monk_hall.specs.declared.deed.Deed.{Deed}
-use Rattle.monk_hall.specs.declared.deed.Deed.TheVariants.{FloorIn}
-use Rattle.monk_hall.specs.declared.record.SeatRecord.{SeatRecord}
-use Rattle.monk_hall.specs.declared.seat_numbers.SeatNumbers.{SeatNumbers}
-use Rattle.monk_hall.proofs.Private.{own_event}
-use Rattle.monk_hall.proofs.Releasing.{said}
 
 -- the wish rules ask whether somebody is known to wait for entry only if the wish is for entry
 knows_reads : (k : Rules) (q : Queues) (s : ℕ) (known : Bool) (wish : Pick)

@@ -2,46 +2,30 @@
 use Rattle.std.proofs.Common.{◌≡◌, ℕ, ◌+◌, ◌<◌, ◌≤◌, Bool, true, false, not, [], ◌∷◌, ◌++◌}
 use Rattle.std.proofs.Common.{length, append-nil, Option, Some, refl, sym, ap, subst, ◌∙◌, arith}
 use Rattle.atomic_table.specs.Seated.{TableId}
-use Rattle.monk_kinds.specs.declared.mode.Rules.{Rules}
-use Rattle.monk_kinds.specs.declared.mode.Pick.{Pick}
+use Rattle.monk_kinds.specs.declared.mode.{Rules.Rules, Pick.Pick}
 use Rattle.monk_object.specs.Object.{Object}
-use Rattle.monk_history.specs.Meaning.Choice.{must_stay}
-use Rattle.monk_history.specs.Meaning.Counts.{events_of, left_of}
-use Rattle.monk_history.specs.Meaning.Events.{is_stay, has_conditions, has_signaller_queue, returns_at_once}
-use Rattle.monk_history.proofs.PublicLaws.Meaning.{may_leave, may_wait, may_signal_on, may_signal_leave, may_signal_wait, may_until}
-use Rattle.monk_history.proofs.PublicLaws.Meaning.{legal-push}
-use Rattle.monk_history.specs.Meaning.Legal.{IsLegal}
-use Rattle.monk_history.specs.Meaning.Release.{with_next, choice_of}
-use Rattle.monk_history.specs.declared.event.Event.{Event}
-use Rattle.monk_history.specs.declared.event.Event.TheVariants.{Leave, Wait, Signal, SignalLeave, Until}
-use Rattle.monk_history.specs.declared.event.Event.TheVariants.{SignalWait}
-use Rattle.monk_history.specs.declared.event.Next.{Next}
 use Rattle.monk_history.specs.declared.event.Next.TheVariants as next
-use Rattle.monk_history.specs.Meaning.Turn.{turn, turn_by}
-use Rattle.monk_history.specs.declared.event.Turn.TheVariants.{Owned}
-use Rattle.monk_floor.specs.Grown.{IsGrown}
-use Rattle.monk_floor.specs.View.{FloorView, monitor_of, stands_of}
-use Rattle.monk_world.specs.State.{with_event}
-use Rattle.monk_world.specs.declared.home.Home.{Home}
+use Rattle.monk_history.proofs.PublicLaws.Meaning.{may_leave, may_wait, may_signal_on, may_signal_leave}
+use Rattle.monk_history.proofs.PublicLaws.Meaning.{may_signal_wait, may_until, legal-push}
+use Rattle.monk_history.specs.Meaning.{Choice.must_stay, Counts.events_of, Counts.left_of, Legal.IsLegal}
+use Rattle.monk_history.specs.Meaning.{Release.with_next, Release.choice_of, Turn.turn, Turn.turn_by}
+use Rattle.monk_history.specs.Meaning.Events.{is_stay, has_conditions, has_signaller_queue, returns_at_once}
+use Rattle.monk_history.specs.declared.event.{Next.Next, Turn.TheVariants.Owned}
+use Rattle.monk_history.specs.declared.event.Event.{Event}
+use Rattle.monk_history.specs.declared.event.Event.TheVariants.{Leave, Wait, Signal, SignalLeave, Until, SignalWait}
+use Rattle.monk_floor.specs.{Grown.IsGrown, View.FloorView, View.monitor_of, View.stands_of}
 use Rattle.monk_world.specs.declared.home.Home.TheVariants as home
-use Rattle.monk_hall.specs.Calls.{HasStayed, HasPeeked, is_entry_known, peeks_at}
-use Rattle.monk_hall.specs.AfterCalls.{MatchAfter}
-use Rattle.monk_hall.specs.declared.after.After.{After}
-use Rattle.monk_hall.specs.declared.after.After.TheVariants.{Active, Parked}
-use Rattle.monk_hall.specs.Changes.{record_after_peek}
-use Rattle.monk_hall.specs.Granting.{Grant, granted_last, HasGranted, HasStayedAlone}
-use Rattle.monk_hall.specs.Handing.{HasGone}
-use Rattle.monk_hall.specs.Layout.{unpassed}
-use Rattle.monk_hall.specs.Recorded.{IsRelease}
-use Rattle.monk_hall.specs.Records.{the}
-use Rattle.monk_hall.specs.Tells.{Me, TellsPeek, SeesTruly}
-use Rattle.monk_hall.specs.Tokens.{Token, Holder, House, IsHolding, with_own, holder}
-use Rattle.monk_hall.specs.declared.seat_numbers.SeatNumbers.{SeatNumbers}
-use Rattle.monk_hall.proofs.Private.{own_event}
-use Rattle.monk_hall.proofs.Releasing.{said}
-use Rattle.monk_hall.proofs.TokenLaws.{grown_holds}
+use Rattle.monk_world.specs.{State.with_event, declared.home.Home.Home}
+use Rattle.monk_hall.proofs.{Private.own_event, Releasing.said, TokenLaws.grown_holds}
 use Rattle.monk_hall.proofs.ReleaseChosen.{stay_is, stay_keeps, never_enters, chosen_as_known, released}
 use Rattle.monk_hall.proofs.ReleaseChosen.{remembers_twice, of_setting, released_peeked}
+use Rattle.monk_hall.specs.{AfterCalls.MatchAfter, Changes.record_after_peek, Handing.HasGone, Layout.unpassed}
+use Rattle.monk_hall.specs.{Recorded.IsRelease, Records.the, Tells.Me, Tells.TellsPeek, Tells.SeesTruly}
+use Rattle.monk_hall.specs.Calls.{HasStayed, HasPeeked, is_entry_known, peeks_at}
+use Rattle.monk_hall.specs.Tokens.{Token, Holder, House, IsHolding, with_own, holder}
+use Rattle.monk_hall.specs.Granting.{Grant, granted_last, HasGranted, HasStayedAlone}
+use Rattle.monk_hall.specs.declared.seat_numbers.SeatNumbers.{SeatNumbers}
+use Rattle.monk_hall.specs.declared.after.After.{After, TheVariants.Active, TheVariants.Parked}
 
 -- what the active seat may do
 module _ {k : Rules} {o : Object} {z : TableId} {me : Me} {numbers : SeatNumbers} {f : FloorView} where

@@ -1,37 +1,27 @@
 -- A release as the step of a world
 use Rattle.std.proofs.Common.{◌≡◌, ℕ, ◌+◌, ◌<◌, cond, Bool, true, false, sym, refl, ap, ◌∙◌, subst, arith}
 use Rattle.std.specs.Prelude.{Option, Some}
-use Rattle.monk_kinds.specs.Kind.{IsKind}
-use Rattle.monk_kinds.specs.declared.mode.Pick.{Pick}
-use Rattle.monk_kinds.specs.declared.mode.Rules.{Rules}
+use Rattle.monk_kinds.specs.{Kind.IsKind, declared.mode.Pick.Pick, declared.mode.Rules.Rules}
 use Rattle.monk_object.specs.Object.{Object}
-use Rattle.monk_history.specs.Meaning.Counts.{left_of}
-use Rattle.monk_history.specs.Meaning.Events.{seat_of, next_of, is_stay}
-use Rattle.monk_history.specs.Meaning.Release.{MayCall, with_next}
-use Rattle.monk_history.specs.declared.event.Event.{Event}
-use Rattle.monk_history.specs.declared.event.Event.TheVariants.{Enter, Act, Leave, Wait, Signal, SignalLeave, Until, Resume}
-use Rattle.monk_history.specs.declared.event.Event.TheVariants.{SignalAll, SignalWait}
-use Rattle.monk_history.specs.declared.event.Next.{Next}
 use Rattle.monk_history.specs.declared.event.Next.TheVariants as next
+use Rattle.monk_history.specs.Meaning.{Counts.left_of, Release.MayCall, Release.with_next}
+use Rattle.monk_history.specs.Meaning.Events.{seat_of, next_of, is_stay}
+use Rattle.monk_history.specs.declared.event.Next.{Next}
+use Rattle.monk_history.specs.declared.event.Event.{Event}
+use Rattle.monk_history.specs.declared.event.Event.TheVariants.{Enter, Act, Leave, Wait, Signal, SignalLeave, Until}
+use Rattle.monk_history.specs.declared.event.Event.TheVariants.{Resume, SignalAll, SignalWait}
 use Rattle.monk_floor.specs.View.{monitor_of}
-use Rattle.monk_world.specs.Kept.{IsKept}
-use Rattle.monk_world.specs.Sound.{left_within}
-use Rattle.monk_world.specs.State.{State, with_event}
-use Rattle.monk_world.specs.StepTable.{IsDone, IsStep, release_next, call_of, left_for, may_be_told, is_call_in_range, is_call_offered}
-use Rattle.monk_world.specs.Steps.{after_floor_in}
 use Rattle.monk_world.specs.declared.answer.Answer.TheVariants as answer
-use Rattle.monk_world.specs.declared.command.Command.{Command}
 use Rattle.monk_world.specs.declared.command.Command.TheVariants as command
-use Rattle.monk_world.specs.declared.home.Home.{Home}
 use Rattle.monk_world.specs.declared.home.Home.TheVariants as home
-use Rattle.monk_world.specs.declared.place.Place.{Place}
-use Rattle.monk_world.specs.declared.place.Place.TheVariants.{Active, Back}
-use Rattle.monk_world.specs.declared.source.Source.{Source}
 use Rattle.monk_world.proofs.PublicLaws.{IsReady}
-use Rattle.monk_hall.specs.Changes.{back_after}
-use Rattle.monk_hall.specs.Laws.{wish_of}
-use Rattle.monk_hall.specs.Tells.{IsReleaseTo}
+use Rattle.monk_world.specs.{Kept.IsKept, Sound.left_within, State.State, State.with_event, Steps.after_floor_in}
+use Rattle.monk_world.specs.StepTable.{IsDone, IsStep, release_next, call_of, left_for, may_be_told, is_call_in_range}
+use Rattle.monk_world.specs.StepTable.{is_call_offered}
+use Rattle.monk_world.specs.declared.{command.Command.Command, home.Home.Home, source.Source.Source}
+use Rattle.monk_world.specs.declared.place.Place.{Place, TheVariants.Active, TheVariants.Back}
 use Rattle.monk_hall.proofs.Frame.{step_kept, step_is}
+use Rattle.monk_hall.specs.{Changes.back_after, Laws.wish_of, Tells.IsReleaseTo}
 
 -- where the seat is after its release
 pub back_is : (i : ℕ) (to : Home) (call : Event) (x : Next) → IsReleaseTo i to call

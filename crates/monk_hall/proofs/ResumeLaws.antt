@@ -3,12 +3,9 @@ use Rattle.std.proofs.Common.{◌≡◌, ℕ, zero, suc, false, true, sym, ap, s
 use Rattle.monk_kinds.specs.declared.mode.Rules.{Rules}
 use Rattle.monk_object.specs.Object.{Object}
 use Rattle.monk_world.specs.declared.place.Place.{Place}
+use Rattle.monk_hall.specs.{Deeds.look_at, Deeds.looks_in_vain, Tokens.Token, Tokens.Holder}
 use Rattle.monk_hall.specs.Calls.{ComesAfter, HasEntered}
-use Rattle.monk_hall.specs.Deeds.{look_at, looks_in_vain}
-use Rattle.monk_hall.specs.Tokens.{Token, Holder}
-use Rattle.monk_hall.specs.declared.deed.Deed.{Deed}
-use Rattle.monk_hall.specs.declared.deed.Deed.TheVariants.{FloorOut}
-use Rattle.monk_hall.specs.declared.record.SeatRecord.{SeatRecord}
+use Rattle.monk_hall.specs.declared.{deed.Deed.Deed, deed.Deed.TheVariants.FloorOut, record.SeatRecord.SeatRecord}
 
 pub entered_same : (k : Rules) (o : Object) (p q : Token) (a : Holder) (did : List Deed) → q.hall ≡ p.hall
     → q.me ≡ record p.me { did = did } → HasEntered k o q a → HasEntered k o p a

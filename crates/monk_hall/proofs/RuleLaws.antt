@@ -1,29 +1,24 @@
 -- What holds for a hall's table if its rule does
 use Rattle.std.proofs.Common.{◌≡◌, ◌≢◌, ◌≤◌, ℕ, false, true≢false, refl, sym, ap, subst, ◌∙◌, inl, inr, arith}
+use Rattle.std.specs.Prelude.{List}
 use Rattle.monk_kinds.specs.declared.mode.Rules.{Rules}
 use Rattle.monk_object.specs.Object.{Object}
 use Rattle.monk_history.specs.declared.event.Event.{Event}
-use Rattle.std.specs.Prelude.{List}
-use Rattle.monk_world.specs.OnePlace.{IsInOnePlace}
+use Rattle.monk_world.proofs.PublicLaws.{has_right, in_one_place, well_led}
+use Rattle.monk_world.specs.{OnePlace.IsInOnePlace, State.is_quiet}
 use Rattle.monk_world.specs.Places.{HoldsRight, stage, back_turn, outside_stage, due_stage, passing_stage}
 use Rattle.monk_world.specs.Right.{Whereabouts, Nowhere, AtTicket, With, AtSeat}
-use Rattle.monk_world.specs.State.{is_quiet}
 use Rattle.monk_world.specs.declared.place.Place.{Place}
 use Rattle.monk_world.specs.declared.place.Place.TheVariants.{Idle, Ticket, Due, Active, Back, Passing, Inner}
-use Rattle.monk_world.proofs.PublicLaws.{has_right, in_one_place, well_led}
-use Rattle.monk_hall.proofs.FloorIn.{gives_at}
-use Rattle.monk_hall.proofs.FloorOut.{takes_at}
-use Rattle.monk_hall.proofs.GrantSteps.{grants_ticket_at, calls_seat_at}
-use Rattle.monk_hall.proofs.RecordLaws.{recorded, is, desk, place, with, back}
+use Rattle.monk_hall.proofs.{FloorIn.gives_at, FloorOut.takes_at, GrantSteps.grants_ticket_at, GrantSteps.calls_seat_at}
 use Rattle.monk_hall.proofs.WordSteps.{arrives_at, looks_for_ticket_at, looks_for_call_at, peeks_at, takes_off_at}
+use Rattle.monk_hall.proofs.RecordLaws.{recorded, is, desk, place, with, back}
+use Rattle.monk_hall.specs.{Rule.IsHall, declared.record.SeatRecord.SeatRecord, declared.setting.Setting.Setting}
 use Rattle.monk_hall.specs.Laws.{HallState, IsRecord, first_word, RightInOnePlace, IdleIsFree, ShowsWellLed}
-use Rattle.monk_hall.specs.Laws.{OneHasTheRight, OneIsActive}
-use Rattle.monk_hall.specs.Laws.{KnownWaits, EntryWaits, ArriveSteps, TicketLookSteps, SeatLookSteps, PeekSteps}
-use Rattle.monk_hall.specs.Laws.{FloorOutSteps, FloorInSteps, DropSteps, TicketGrantSteps, SeatGrantSteps}
+use Rattle.monk_hall.specs.Laws.{OneHasTheRight, OneIsActive, KnownWaits, EntryWaits, ArriveSteps, TicketLookSteps}
+use Rattle.monk_hall.specs.Laws.{SeatLookSteps, PeekSteps, FloorOutSteps, FloorInSteps, DropSteps, TicketGrantSteps}
+use Rattle.monk_hall.specs.Laws.{SeatGrantSteps}
 use Rattle.monk_hall.specs.Layout.{unpassed, floor_of, shown_state, shown_world}
-use Rattle.monk_hall.specs.Rule.{IsHall}
-use Rattle.monk_hall.specs.declared.record.SeatRecord.{SeatRecord}
-use Rattle.monk_hall.specs.declared.setting.Setting.{Setting}
 
 pub shows_well_led : ShowsWellLed
 shows_well_led k o c s h = let kept = h.2.kept in

@@ -1,17 +1,14 @@
 -- The lists that a schedule of steps adds up to, with one more step
 use Rattle.std.proofs.Common.{◌≡◌, ◌≢◌, ℕ, cond, Bool, true, false, List, [], ◌∷◌, ◌++◌, length, sym, refl, ap, ◌∙◌}
+use Rattle.std.proofs.{lemmas.List.Sums.sum_by-append, Math.Option.some-injective}
 use Rattle.std.proofs.Common.{arith, eq-eqb, ne_eqb, append-nil, append_assoc, length-append}
-use Rattle.std.proofs.lemmas.List.Sums.{sum_by-append}
-use Rattle.std.proofs.Math.Option.{some-injective}
 use mathlib.Core.Option.{some}
 use lib.ListN.{get_elem?}
-use Rattle.monk_history.specs.Meaning.Counts.{events_of, enters_of, is_enter}
-use Rattle.monk_history.specs.Meaning.Events.{seat_of}
+use Rattle.monk_history.specs.Meaning.{Counts.events_of, Counts.enters_of, Counts.is_enter, Events.seat_of}
 use Rattle.monk_history.specs.declared.event.Event.{Event}
-use Rattle.monk_hall.specs.Deeds.{brings, brought_home, knows_after, knows_from}
-use Rattle.monk_hall.specs.Floors.{ArePrivate}
+use Rattle.monk_hall.specs.{Floors.ArePrivate, declared.deed.Deed.Deed}
 use Rattle.monk_hall.specs.Schedules.{Step, brought, brought_in, deeds_by, deeds_in, arrivals, drew_in, entered}
-use Rattle.monk_hall.specs.declared.deed.Deed.{Deed}
+use Rattle.monk_hall.specs.Deeds.{brings, brought_home, knows_after, knows_from}
 
 pub brought_push : (xs : List Step) (x : Step) → brought (xs ++ x ∷ []) ≡ brought xs ++ brought_in x
 brought_push [] x = append-nil (brought_in x)

@@ -1,64 +1,49 @@
 -- The nine steps of a seat, each after a schedule
 use Rattle.std.proofs.Common.{◌≡◌, ℕ, ◌+◌, ◌-◌, ◌%◌, ◌==◌, ◌<◌, ◌≤◌, ◌⊎◌, Bool, true, false, List, [], ◌∷◌, ◌++◌, length, set}
 use Rattle.std.proofs.Common.{sym, refl, ap, subst, ◌∙◌, inl, inr, arith, append-nil, append_assoc, length-append}
-use Rattle.std.proofs.Common.{drop, get_or-set_same, get_or-set_other}
-use Rattle.std.proofs.Math.Seq.{drop-append_seam}
+use Rattle.std.proofs.{Common.drop, Common.get_or-set_same, Common.get_or-set_other, Math.Seq.drop-append_seam}
+use Rattle.std.proofs.{Math.Option.some-injective, lemmas.Option.none-some, lemmas.Option.same_Some}
 use Rattle.std.specs.Prelude.{Option, Some, None, slice_index}
-use Rattle.std.proofs.lemmas.Option.{none-some, same_Some}
-use Rattle.std.proofs.Math.Option.{some-injective}
 use mathlib.Core.Option.{some, none}
 use lib.ListN.{get_elem?}
 use Rattle.atomic_table.proofs.Lists.{at_last, set_here}
-use Rattle.monk_kinds.specs.Kind.{IsKind}
-use Rattle.monk_kinds.specs.declared.mode.Rules.{Rules}
+use Rattle.monk_kinds.specs.{Kind.IsKind, declared.mode.Rules.Rules}
 use Rattle.monk_object.specs.Object.{Object}
+use Rattle.monk_history.specs.Meaning.{Release.with_next, Release.choice_of, Turn.turn}
 use Rattle.monk_history.specs.Meaning.Counts.{enters_of, granted_of}
-use Rattle.monk_history.specs.Meaning.Release.{with_next, choice_of}
-use Rattle.monk_history.specs.Meaning.Turn.{turn}
-use Rattle.monk_history.specs.declared.event.Event.{Event}
-use Rattle.monk_history.specs.declared.event.Next.{Next}
-use Rattle.monk_history.specs.declared.event.Next.TheVariants.{Entry}
+use Rattle.monk_history.specs.declared.event.{Event.Event, Next.Next, Next.TheVariants.Entry}
 use Rattle.monk_floor.specs.View.{FloorView, stands_of}
-use Rattle.monk_world.specs.Places.{HoldsRight, stage, ticket, back_turn, due_to, ticketed_stage, due_stage, active_stage}
-use Rattle.monk_world.specs.Places.{passing_stage, inside_stage}
-use Rattle.monk_world.specs.State.{is_quiet}
-use Rattle.monk_world.specs.StepTable.{out_event}
-use Rattle.monk_world.specs.declared.home.Home.{Home}
-use Rattle.monk_world.specs.declared.place.Place.TheVariants.{Idle, Active, Back}
-use Rattle.monk_world.specs.declared.source.Source.{Source}
-use Rattle.monk_world.specs.declared.source.Source.TheVariants.{Free, Granted, Called}
 use Rattle.monk_world.proofs.PublicLaws.{few_drawn}
-use Rattle.monk_hall.specs.Changes.{record_after_arrive, record_after_ticket_look, record_after_seat_look}
-use Rattle.monk_hall.specs.Changes.{record_after_peek, record_after_floor_out, record_after_floor_in, record_after_drop}
-use Rattle.monk_hall.specs.Changes.{record_after_grant, source_from, home_at}
-use Rattle.monk_hall.specs.Deeds.{knows}
-use Rattle.monk_hall.specs.Laws.{HallState, IsRecord}
-use Rattle.monk_hall.specs.Layout.{tickets, unpassed, ticket_word, place_word, seat_word, floor_of, shown_state}
-use Rattle.monk_hall.specs.Rule.{IsHall}
-use Rattle.monk_hall.specs.Schedules.{Step, after_step, brought, arrivals, entered, IsLedRelease}
-use Rattle.monk_hall.specs.Tells.{Returns}
-use Rattle.monk_hall.specs.declared.deed.Deed.TheVariants.{Arrive, LookForTicket, LookForCall, Peek, FloorOut, FloorIn}
-use Rattle.monk_hall.specs.declared.deed.Deed.TheVariants.{Drop, GrantTicket, CallSeat}
-use Rattle.monk_hall.specs.declared.record.SeatRecord.{SeatRecord}
-use Rattle.monk_hall.specs.declared.setting.Setting.{Setting}
+use Rattle.monk_world.specs.{State.is_quiet, StepTable.out_event}
+use Rattle.monk_world.specs.Places.{HoldsRight, stage, ticket, back_turn, due_to, ticketed_stage, due_stage}
+use Rattle.monk_world.specs.Places.{active_stage, passing_stage, inside_stage}
+use Rattle.monk_world.specs.declared.place.Place.TheVariants.{Idle, Active, Back}
+use Rattle.monk_world.specs.declared.source.Source.{Source, TheVariants.Free, TheVariants.Granted, TheVariants.Called}
+use Rattle.monk_world.specs.declared.home.Home.{Home}
 use Rattle.monk_hall.proofs.FloorIn as floor_in
 use Rattle.monk_hall.proofs.FloorOut as floor_out
-use Rattle.monk_hall.proofs.Frame.{out_seat}
-use Rattle.monk_hall.proofs.GrantSteps.{grants_ticket_at, calls_seat_at}
-use Rattle.monk_hall.proofs.Packed.{after_draw, after_take_off}
-use Rattle.monk_hall.proofs.Releasing.{said}
-use Rattle.monk_hall.proofs.RecordLaws.{next_ticket}
-use Rattle.monk_hall.proofs.RuleLaws.{one_has_the_right, entry_waits}
-use Rattle.monk_hall.proofs.ScheduleLaws.{IsLed, IsMade, quiet, its_record, held, came_by, came_right, ticket_by}
-use Rattle.monk_hall.proofs.ScheduleLists.{AreOf, entered_append, entered_long, private_of, private_enters, same_rest}
-use Rattle.monk_hall.proofs.ScheduleLists.{next_in_order}
-use Rattle.monk_hall.proofs.Seats.{is_setting, long}
 use Rattle.monk_hall.proofs.Standing as standing
 use Rattle.monk_hall.proofs.Stepping as stepping
 use Rattle.monk_hall.proofs.WordSteps as words
+use Rattle.monk_hall.proofs.{Frame.out_seat, Releasing.said, RecordLaws.next_ticket, Seats.is_setting, Seats.long}
+use Rattle.monk_hall.proofs.GrantSteps.{grants_ticket_at, calls_seat_at}
 use Rattle.monk_hall.proofs.PlacesAfter.{held_arrived, held_looked, held_answered, held_home, held_dropped, none_held}
 use Rattle.monk_hall.proofs.PlacesAfter.{came_arrived, came_looked, came_answered, came_home, came_dropped}
 use Rattle.monk_hall.proofs.PlacesAfter.{release_enters, came_enters, came_resumes}
+use Rattle.monk_hall.proofs.Packed.{after_draw, after_take_off}
+use Rattle.monk_hall.proofs.ScheduleLists.{AreOf, entered_append, entered_long, private_of, private_enters, same_rest}
+use Rattle.monk_hall.proofs.ScheduleLists.{next_in_order}
+use Rattle.monk_hall.proofs.RuleLaws.{one_has_the_right, entry_waits}
+use Rattle.monk_hall.proofs.ScheduleLaws.{IsLed, IsMade, quiet, its_record, held, came_by, came_right, ticket_by}
+use Rattle.monk_hall.specs.{Deeds.knows, Laws.HallState, Laws.IsRecord, Rule.IsHall, Tells.Returns}
+use Rattle.monk_hall.specs.Schedules.{Step, after_step, brought, arrivals, entered, IsLedRelease}
+use Rattle.monk_hall.specs.Changes.{record_after_arrive, record_after_ticket_look, record_after_seat_look}
+use Rattle.monk_hall.specs.Changes.{record_after_peek, record_after_floor_out, record_after_floor_in, record_after_drop}
+use Rattle.monk_hall.specs.Changes.{record_after_grant, source_from, home_at}
+use Rattle.monk_hall.specs.Layout.{tickets, unpassed, ticket_word, place_word, seat_word, floor_of, shown_state}
+use Rattle.monk_hall.specs.declared.{record.SeatRecord.SeatRecord, setting.Setting.Setting}
+use Rattle.monk_hall.specs.declared.deed.Deed.TheVariants.{Arrive, LookForTicket, LookForCall, Peek, FloorOut, FloorIn}
+use Rattle.monk_hall.specs.declared.deed.Deed.TheVariants.{Drop, GrantTicket, CallSeat}
 
 module _ (k : Rules) (o : Object) (c : Setting) (kind : IsKind k) (steps : List Step) (s : HallState)
     (led : IsLed k o c steps s) (id : ℕ) (r : SeatRecord) (here : get_elem? s.views id ≡ some (r ∷ [])) where

@@ -1,13 +1,12 @@
 -- Where a seat is, by its stage
 use Rattle.std.proofs.Common.{◌≡◌, ◌≢◌, ℕ, ◌+◌, ◌-◌, ◌==◌, cond, Bool, true, false, refl, arith}
+use Rattle.monk_world.specs.declared.home.Home.TheVariants as home
 use Rattle.monk_world.specs.Places.{stage, ticket, back_turn, open_turn, place_of, ticketed_stage, due_stage}
 use Rattle.monk_world.specs.Places.{active_stage, back_stage, passing_stage, inside_stage}
 use Rattle.monk_world.specs.Steps.{place_after_arrive, place_after_ticket_look, place_after_seat_look, place_after_drop}
-use Rattle.monk_world.specs.declared.home.Home.{Home}
-use Rattle.monk_world.specs.declared.home.Home.TheVariants as home
+use Rattle.monk_world.specs.declared.{home.Home.Home, source.Source.TheVariants.Free}
 use Rattle.monk_world.specs.declared.place.Place.{Place}
 use Rattle.monk_world.specs.declared.place.Place.TheVariants.{Idle, Ticket, Due, Active, Back, Passing, Inner}
-use Rattle.monk_world.specs.declared.source.Source.TheVariants.{Free}
 use Rattle.monk_hall.specs.Changes.{source_from, home_at}
 
 pub ticket_at : (p : Place) → stage p ≡ ticketed_stage → p ≡ Ticket (ticket p)

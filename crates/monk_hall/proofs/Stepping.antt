@@ -5,34 +5,20 @@ use mathlib.Core.Option as maybe
 use mathlib.Core.Path.{Path}
 use lib.ListN.{get_elem?}
 use Rattle.atomic_table.specs.Table as table
-use Rattle.monk_kinds.specs.Kind.{IsKind}
-use Rattle.monk_kinds.specs.declared.mode.Rules.{Rules}
+use Rattle.monk_kinds.specs.{Kind.IsKind, declared.mode.Rules.Rules}
 use Rattle.monk_object.specs.Object.{Object}
 use Rattle.monk_history.specs.Meaning.Counts.{enters_of, left_of}
 use Rattle.monk_floor.specs.View.{FloorView}
-use Rattle.monk_world.specs.Kept.{IsKept}
-use Rattle.monk_world.specs.Places.{stage, active_stage}
-use Rattle.monk_world.specs.Update.{update}
-use Rattle.monk_world.specs.Sound.{IsSound}
-use Rattle.monk_world.specs.State.{State}
-use Rattle.monk_world.specs.World.{World}
-use Rattle.monk_world.specs.StepTable.{IsDone, IsStep}
-use Rattle.monk_world.specs.declared.answer.Answer.{Answer}
-use Rattle.monk_world.specs.declared.command.Command.{Command}
-use Rattle.monk_world.specs.declared.place.Place.{Place}
 use Rattle.monk_world.proofs.PublicLaws.{IsReady}
-use Rattle.monk_hall.specs.Floors.{StartsWith}
-use Rattle.monk_hall.specs.Laws.{Takes}
-use Rattle.monk_hall.specs.Layout.{shown_state, shown_world}
-use Rattle.monk_hall.specs.Records.{View}
-use Rattle.monk_hall.specs.Rule.{IsHall, IsKeptHall, AreTold, CountsCalls}
-use Rattle.monk_hall.specs.declared.record.SeatRecord.{SeatRecord}
-use Rattle.monk_hall.specs.declared.setting.Setting.{Setting}
+use Rattle.monk_world.specs.{Kept.IsKept, Places.stage, Places.active_stage, Update.update, Sound.IsSound, State.State}
+use Rattle.monk_world.specs.{World.World, StepTable.IsDone, StepTable.IsStep}
+use Rattle.monk_world.specs.declared.{answer.Answer.Answer, command.Command.Command, place.Place.Place}
 use Rattle.monk_hall.proofs.Frame as frame
-use Rattle.monk_hall.proofs.Knows.{told_moves}
 use Rattle.monk_hall.proofs.Seats as seats
-use Rattle.monk_hall.proofs.Standing.{IsApart}
-use Rattle.monk_hall.proofs.Stored.{field_update, field_stays}
+use Rattle.monk_hall.proofs.{Knows.told_moves, Standing.IsApart, Stored.field_update, Stored.field_stays}
+use Rattle.monk_hall.specs.{Floors.StartsWith, Laws.Takes, Records.View, Rule.IsHall, Rule.IsKeptHall, Rule.AreTold}
+use Rattle.monk_hall.specs.{Rule.CountsCalls, declared.record.SeatRecord.SeatRecord, declared.setting.Setting.Setting}
+use Rattle.monk_hall.specs.Layout.{shown_state, shown_world}
 
 module _ (k : Rules) (o : Object) (c : Setting) (kind : IsKind k) (s : table.State (Option FloorView) View)
     (h : IsHall k o c s) (id : ℕ) (r : SeatRecord)

@@ -1,11 +1,9 @@
 -- The world that is shown after a store of one word, or a change of one record
 use Rattle.std.proofs.Common.{◌≡◌, ◌≢◌, ℕ, ◌<◌, List, length, set, sym, refl, arith, get_or-set_same, get_or-set_other}
 use Rattle.std.specs.Prelude.{slice_index}
-use Rattle.monk_world.specs.Update.{update}
-use Rattle.monk_world.proofs.PublicLaws.{at_update}
+use Rattle.monk_world.{specs.Update.update, proofs.PublicLaws.at_update}
 use mathlib.Core.Path.{Path}
-use Rattle.monk_hall.specs.Layout.{place_word, seat_word}
-use Rattle.monk_hall.specs.declared.record.SeatRecord.{SeatRecord}
+use Rattle.monk_hall.specs.{Layout.place_word, Layout.seat_word, declared.record.SeatRecord.SeatRecord}
 
 -- a field of the records, after one record has changed
 pub field_update : {X : Type 0} (f : SeatRecord → X) (at : ℕ → SeatRecord) (i : ℕ) (w : SeatRecord)

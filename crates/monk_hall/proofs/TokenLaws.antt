@@ -4,37 +4,23 @@ use Rattle.std.proofs.Common.{length, append-nil, append_assoc, refl, sym, ap, s
 use Rattle.atomic_table.specs.Seated.{TableId}
 use Rattle.monk_kinds.specs.declared.mode.Rules.{Rules}
 use Rattle.monk_object.specs.Object.{Object}
-use Rattle.monk_history.specs.Meaning.Counts.{events_of, is_enter}
-use Rattle.monk_history.specs.Meaning.Events.{seat_of, next_of}
-use Rattle.monk_history.specs.Meaning.Legal.{IsLegal}
-use Rattle.monk_history.specs.Meaning.Reasons.{IsAllowed}
-use Rattle.monk_history.specs.Meaning.Turn.{turn, turn_by}
-use Rattle.monk_history.specs.declared.event.Event.{Event}
-use Rattle.monk_history.specs.declared.event.Turn.TheVariants.{Owned}
 use Rattle.monk_history.proofs.PublicLaws.Meaning.{legal-push, turn-push}
+use Rattle.monk_history.specs.Meaning.{Counts.events_of, Counts.is_enter, Events.seat_of, Events.next_of, Legal.IsLegal}
+use Rattle.monk_history.specs.Meaning.{Reasons.IsAllowed, Turn.turn, Turn.turn_by}
+use Rattle.monk_history.specs.declared.event.{Event.Event, Turn.TheVariants.Owned}
 use Rattle.monk_floor.specs.View.{FloorView, monitor_of}
-use Rattle.monk_world.specs.Places.{stage, due_stage}
-use Rattle.monk_world.specs.State.{with_event}
-use Rattle.monk_world.specs.StepTable.{out_event}
+use Rattle.monk_world.specs.{Places.stage, Places.due_stage, State.with_event, StepTable.out_event}
 use Rattle.monk_world.specs.Steps.{place_after_ticket_look, place_after_seat_look}
 use Rattle.monk_world.specs.declared.place.Place.{Place}
 use Rattle.monk_world.specs.declared.place.Place.TheVariants.{Idle, Ticket, Due, Active, Back, Passing, Inner}
-use Rattle.monk_world.specs.declared.source.Source.{Source}
-use Rattle.monk_world.specs.declared.source.Source.TheVariants.{Granted, Called}
-use Rattle.monk_hall.proofs.Private.{own_event}
-use Rattle.monk_hall.specs.Calls.{ComesAfter, HasEntered, HasDone, HasLooked, record_after_look}
-use Rattle.monk_hall.specs.Changes.{source_from}
-use Rattle.monk_hall.specs.Deeds.{look_at}
-use Rattle.monk_hall.specs.Floors.{GoesOn}
-use Rattle.monk_hall.specs.Layout.{floor_of}
-use Rattle.monk_hall.specs.Records.{the}
-use Rattle.monk_hall.specs.Tells.{Me}
+use Rattle.monk_world.specs.declared.source.Source.{Source, TheVariants.Granted, TheVariants.Called}
+use Rattle.monk_hall.proofs.{Private.own_event, EntrySteps.own_longer, EntrySteps.own_more}
+use Rattle.monk_hall.specs.{Changes.source_from, Deeds.look_at, Floors.GoesOn, Layout.floor_of, Records.the, Tells.Me}
 use Rattle.monk_hall.specs.Tokens.{Token, Holder, IsHolding, holder}
+use Rattle.monk_hall.specs.Calls.{ComesAfter, HasEntered, HasDone, HasLooked, record_after_look}
+use Rattle.monk_hall.specs.declared.{record.SeatRecord.SeatRecord, seat_numbers.SeatNumbers.SeatNumbers}
 use Rattle.monk_hall.specs.declared.deed.Deed.{Deed}
 use Rattle.monk_hall.specs.declared.deed.Deed.TheVariants.{LookForTicket, LookForCall, FloorOut}
-use Rattle.monk_hall.specs.declared.record.SeatRecord.{SeatRecord}
-use Rattle.monk_hall.specs.declared.seat_numbers.SeatNumbers.{SeatNumbers}
-use Rattle.monk_hall.proofs.EntrySteps.{own_longer, own_more}
 
 -- what a look doesn't change
 pub record IsAsBefore (r w : SeatRecord) : Type 0 where

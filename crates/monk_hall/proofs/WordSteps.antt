@@ -7,39 +7,30 @@ use mathlib.Core.Path.{Path}
 use lib.ListN.{get_elem?}
 use Rattle.atomic_table.specs.Table as table
 use Rattle.monk_floor.specs.View.{FloorView}
-use Rattle.monk_kinds.specs.Kind.{IsKind}
-use Rattle.monk_kinds.specs.declared.mode.Rules.{Rules}
+use Rattle.monk_kinds.specs.{Kind.IsKind, declared.mode.Rules.Rules}
 use Rattle.monk_object.specs.Object.{Object}
+use Rattle.monk_history.specs.declared.event.Next.TheVariants as next
 use Rattle.monk_history.specs.declared.event.Event.{Event}
-use Rattle.monk_world.specs.Places.{stage, ticket, back_turn, ticketed_stage, active_stage, back_stage, inside_stage}
-use Rattle.monk_world.specs.Update.{update}
-use Rattle.monk_world.specs.State.{State}
-use Rattle.monk_world.specs.StepTable.{may_be_told}
-use Rattle.monk_world.specs.Steps.{place_after_seat_look, count_after_seat_look, place_after_drop, after_arrive}
-use Rattle.monk_world.specs.Steps.{after_ticket_look, after_seat_look, after_drop}
-use Rattle.monk_world.specs.World.{World}
 use Rattle.monk_world.specs.declared.answer.Answer.TheVariants as answer
 use Rattle.monk_world.specs.declared.command.Command.TheVariants as command
-use Rattle.monk_world.specs.declared.home.Home.{Home}
-use Rattle.monk_history.specs.declared.event.Next.TheVariants as next
+use Rattle.monk_world.proofs.PublicLaws.{few_drawn, IsReady, held}
+use Rattle.monk_world.specs.{Update.update, State.State, StepTable.may_be_told, World.World}
+use Rattle.monk_world.specs.Places.{stage, ticket, back_turn, ticketed_stage, active_stage, back_stage, inside_stage}
+use Rattle.monk_world.specs.Steps.{place_after_seat_look, count_after_seat_look, place_after_drop, after_arrive}
+use Rattle.monk_world.specs.Steps.{after_ticket_look, after_seat_look, after_drop}
 use Rattle.monk_world.specs.declared.place.Place.{Place}
 use Rattle.monk_world.specs.declared.place.Place.TheVariants.{Idle, Ticket, Active, Back, Inner}
-use Rattle.monk_world.proofs.PublicLaws.{few_drawn, IsReady, held}
-use Rattle.monk_hall.specs.Changes.{record_after_arrive, record_after_ticket_look, record_after_seat_look}
-use Rattle.monk_hall.specs.Changes.{record_after_peek, record_after_drop, home_at, source_from}
-use Rattle.monk_hall.specs.Laws.{Takes}
-use Rattle.monk_hall.specs.Layout.{tickets, unpassed, shown_state, shown_world, place_word, seat_word}
-use Rattle.monk_hall.specs.Records.{View}
-use Rattle.monk_hall.specs.Rule.{IsHall}
-use Rattle.monk_hall.specs.declared.record.SeatRecord.{SeatRecord}
-use Rattle.monk_hall.specs.declared.setting.Setting.{Setting}
-use Rattle.monk_hall.proofs.Knows.{calls_stay, told_stays}
-use Rattle.monk_hall.proofs.Packed.{after_draw, after_take_off}
+use Rattle.monk_world.specs.declared.home.Home.{Home}
 use Rattle.monk_hall.proofs.Standing as standing
 use Rattle.monk_hall.proofs.Stepping as stepping
 use Rattle.monk_hall.proofs.Stored as stored
-use Rattle.monk_hall.proofs.Stored.{places_stay, seats_stay}
-use Rattle.monk_hall.specs.Rule.{CountsCalls}
+use Rattle.monk_hall.proofs.{Packed.after_draw, Packed.after_take_off, Stored.places_stay, Stored.seats_stay}
+use Rattle.monk_hall.proofs.Knows.{calls_stay, told_stays}
+use Rattle.monk_hall.specs.{Laws.Takes, Records.View, Rule.IsHall, Rule.CountsCalls}
+use Rattle.monk_hall.specs.Changes.{record_after_arrive, record_after_ticket_look, record_after_seat_look}
+use Rattle.monk_hall.specs.Changes.{record_after_peek, record_after_drop, home_at, source_from}
+use Rattle.monk_hall.specs.Layout.{tickets, unpassed, shown_state, shown_world, place_word, seat_word}
+use Rattle.monk_hall.specs.declared.{record.SeatRecord.SeatRecord, setting.Setting.Setting}
 
 -- a step of a seat that doesn't change the history and the floor
 module _ (k : Rules) (o : Object) (c : Setting) (kind : IsKind k) (s : table.State (Option FloorView) View)

@@ -1,22 +1,16 @@
 -- At most one seat waits at a word
 use Rattle.std.proofs.Common.{◌≡◌, ◌≢◌, ℕ, zero, suc, ◌+◌, ◌-◌, ◌%◌, ◌==◌, ◌<◌, ◌≤◌, ◌⊎◌, cond, Bool, sym, ap, subst, ◌∙◌}
-use Rattle.std.proofs.Common.{inl, inr, arith}
-use Rattle.std.proofs.lemmas.Bool.Decides.{eqb_tells}
+use Rattle.std.proofs.{Common.inl, Common.inr, Common.arith, lemmas.Bool.Decides.eqb_tells}
 use Rattle.atomic_table.proofs.Lists.{one_turn}
 use Rattle.monk_kinds.specs.declared.mode.Rules.{Rules}
 use Rattle.monk_object.specs.Object.{Object}
-use Rattle.monk_world.specs.Places.{stage, ticket}
-use Rattle.monk_world.specs.Right.{Waits}
-use Rattle.monk_world.specs.declared.place.Place.{Place}
-use Rattle.monk_world.specs.declared.place.Place.TheVariants.{Ticket, Inner}
-use Rattle.monk_hall.specs.Laws.{HallState, IsRecord}
-use Rattle.monk_hall.specs.Layout.{waiting_word, waiting_word_at}
-use Rattle.monk_hall.specs.NextTicket.{IsLooking, OneWaitsAtAWord}
-use Rattle.monk_hall.specs.Rule.{IsHall}
-use Rattle.monk_hall.specs.declared.record.SeatRecord.{SeatRecord}
-use Rattle.monk_hall.specs.declared.setting.Setting.{Setting}
-use Rattle.monk_hall.proofs.RecordLaws.{is, place, cases_le}
+use Rattle.monk_world.specs.{Places.stage, Places.ticket, Right.Waits}
+use Rattle.monk_world.specs.declared.place.Place.{Place, TheVariants.Ticket, TheVariants.Inner}
 use Rattle.monk_hall.proofs.Standing.{ticket_at, inner_at}
+use Rattle.monk_hall.proofs.RecordLaws.{is, place, cases_le}
+use Rattle.monk_hall.specs.{Laws.HallState, Laws.IsRecord, NextTicket.IsLooking, NextTicket.OneWaitsAtAWord}
+use Rattle.monk_hall.specs.{Rule.IsHall, declared.record.SeatRecord.SeatRecord, declared.setting.Setting.Setting}
+use Rattle.monk_hall.specs.Layout.{waiting_word, waiting_word_at}
 
 -- the number with the last place gets the place of the last number
 abbrev moved : (ℕ → ℕ) → ℕ → ℕ → ℕ → ℕ

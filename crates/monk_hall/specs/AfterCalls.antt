@@ -1,13 +1,10 @@
 -- A token that is active or parked
-use Rattle.monk_kinds.specs.declared.mode.Pick.{Pick}
-use Rattle.monk_kinds.specs.declared.mode.Rules.{Rules}
+use Rattle.monk_kinds.specs.declared.mode.{Pick.Pick, Rules.Rules}
 use Rattle.monk_object.specs.Object.{Object}
 use Rattle.monk_history.specs.declared.event.Event.{Event}
 use Rattle.monk_world.specs.declared.home.Home.TheVariants as home
-use Rattle.monk_hall.specs.Calls.{HasReleased, HasStayed, peeks_for}
-use Rattle.monk_hall.specs.Tokens.{Token, Holder}
-use Rattle.monk_hall.specs.declared.after.After.{After}
-use Rattle.monk_hall.specs.declared.after.After.TheVariants.{Active, Parked}
+use Rattle.monk_hall.specs.{Calls.HasReleased, Calls.HasStayed, Calls.peeks_for, Tokens.Token, Tokens.Holder}
+use Rattle.monk_hall.specs.declared.after.After.{After, TheVariants.Active, TheVariants.Parked}
 
 -- the first fact if the token is active, and the second if it is parked
 abbrev pub MatchAfter : {K T : Type 0} → After K T → (Holder → Type 0) → (Token → Type 0) → Type 0

@@ -1,25 +1,20 @@
 -- How each step changes the record of the seat that takes it, by what the step found
 use Rattle.std.specs.Prelude.{ℕ, ◌+◌, ◌==◌, nat_le, if◌then◌else◌, false, List, [], ◌∷◌, ◌++◌, drop, length, Option, Some, None}
 use Rattle.std.specs.List.{last_or}
-use Rattle.monk_history.specs.Meaning.Counts.{events_of}
-use Rattle.monk_history.specs.Meaning.Events.{next_of, is_way_out}
-use Rattle.monk_history.specs.declared.event.Event.{Event}
-use Rattle.monk_history.specs.declared.event.Next.{Next}
 use Rattle.monk_history.specs.declared.event.Next.TheVariants as next
+use Rattle.monk_history.specs.Meaning.{Counts.events_of, Events.next_of, Events.is_way_out}
+use Rattle.monk_history.specs.declared.event.{Event.Event, Next.Next}
+use Rattle.monk_world.specs.declared.home.Home.TheVariants as home
 use Rattle.monk_world.specs.Places.{ticket, place_of}
 use Rattle.monk_world.specs.Steps.{place_after_arrive, place_after_ticket_look, place_after_seat_look}
 use Rattle.monk_world.specs.Steps.{count_after_seat_look, place_after_drop}
-use Rattle.monk_world.specs.declared.home.Home.{Home}
-use Rattle.monk_world.specs.declared.home.Home.TheVariants as home
 use Rattle.monk_world.specs.declared.place.Place.{Place}
 use Rattle.monk_world.specs.declared.place.Place.TheVariants.{Idle, Ticket, Due, Active, Back, Passing, Inner}
-use Rattle.monk_world.specs.declared.source.Source.{Source}
-use Rattle.monk_world.specs.declared.source.Source.TheVariants.{Granted, Called}
-use Rattle.monk_hall.specs.Layout.{tickets, unpassed}
-use Rattle.monk_hall.specs.Records.{View, the, tail}
-use Rattle.monk_hall.specs.declared.deed.Deed.{Deed}
+use Rattle.monk_world.specs.declared.source.Source.{Source, TheVariants.Granted, TheVariants.Called}
+use Rattle.monk_world.specs.declared.home.Home.{Home}
 use Rattle.monk_hall.specs.declared.deed.Deed.TheVariants as deed
-use Rattle.monk_hall.specs.declared.record.SeatRecord.{SeatRecord}
+use Rattle.monk_hall.specs.{Layout.tickets, Layout.unpassed, Records.View, Records.the, Records.tail}
+use Rattle.monk_hall.specs.declared.{deed.Deed.Deed, record.SeatRecord.SeatRecord}
 
 -- how a seat gets the right that waits at this place, or how it got it if it is due or active
 abbrev pub source_from : Place → Source

@@ -2,20 +2,11 @@
 use Rattle.std.specs.Prelude.{◌≡◌, ℕ, ◌+◌, ◌*◌, length, ◌≤◌, ◌<◌, ◌⊎◌, true, false, List, [], ◌∷◌, ◌++◌}
 use Rattle.monk_kinds.specs.declared.mode.Rules.{Rules}
 use Rattle.monk_object.specs.Object.{Object}
-use Rattle.monk_history.specs.Meaning.Conditions.{condition}
-use Rattle.monk_history.specs.Meaning.Counts.{events_of}
-use Rattle.monk_history.specs.Meaning.Legal.{IsLegal}
-use Rattle.monk_history.specs.Meaning.Monitor.{data_of}
-use Rattle.monk_history.specs.Meaning.Signallers.{signallers}
-use Rattle.monk_history.specs.Meaning.Standing.{is_queued}
-use Rattle.monk_history.specs.Meaning.Untils.{untils}
-use Rattle.monk_history.specs.Meaning.Waiters.{waiters}
-use Rattle.monk_history.specs.declared.event.Event.{Event}
-use Rattle.monk_history.specs.declared.event.Event.TheVariants.{Leave}
-use Rattle.monk_history.specs.declared.event.Next.TheVariants.{Entry}
+use Rattle.monk_history.specs.Meaning.{Conditions.condition, Counts.events_of, Legal.IsLegal, Monitor.data_of}
+use Rattle.monk_history.specs.Meaning.{Signallers.signallers, Standing.is_queued, Untils.untils, Waiters.waiters}
+use Rattle.monk_history.specs.declared.event.{Event.Event, Event.TheVariants.Leave, Next.TheVariants.Entry}
 use Rattle.monk_floor.specs.View.{FloorView, monitor_of, stands_of}
-use Rattle.monk_hall.specs.Calls.{HasPeeked}
-use Rattle.monk_hall.specs.Tokens.{Holder}
+use Rattle.monk_hall.specs.{Calls.HasPeeked, Tokens.Holder}
 
 -- every queue is empty
 pub record HasNobody (f : FloorView) : Type 0 where

@@ -1,9 +1,7 @@
 -- When a history holds the calls of some seats, and nothing else
 use Rattle.std.specs.Prelude.{◌≡◌, ◌≢◌, ℕ, List, [], All, AllPairs}
-use Rattle.monk_history.specs.Meaning.Counts.{events_of}
-use Rattle.monk_history.specs.declared.event.Event.{Event}
-use Rattle.monk_hall.specs.Floors.{StartsWith}
-use Rattle.monk_hall.specs.Tokens.{Token}
+use Rattle.monk_history.specs.{Meaning.Counts.events_of, declared.event.Event.Event}
+use Rattle.monk_hall.specs.{Floors.StartsWith, Tokens.Token}
 
 -- these tokens are of different seats, and none is of the seat `seat`
 abbrev pub AreApart : ℕ → List Token → Type 0

@@ -1,8 +1,7 @@
 -- What a seat does at the table, and what follows from it
 use Rattle.std.specs.Prelude.{ℕ, zero, suc, Bool, false, List, [], ◌∷◌, ◌++◌, length, nat_le, sum_by}
 use Rattle.monk_history.specs.declared.event.Event.{Event}
-use Rattle.monk_world.specs.declared.place.Place.{Place}
-use Rattle.monk_world.specs.declared.place.Place.TheVariants.{Ticket, Inner}
+use Rattle.monk_world.specs.declared.place.Place.{Place, TheVariants.Ticket, TheVariants.Inner}
 use Rattle.monk_hall.specs.declared.deed.Deed.{Deed}
 use Rattle.monk_hall.specs.declared.deed.Deed.TheVariants.{LookForTicket, LookForCall, Peek, FloorOut, FloorIn}
 

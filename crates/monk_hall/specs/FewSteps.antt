@@ -1,20 +1,13 @@
 -- How few steps each call takes, by what its contract says that its token did
 use Rattle.std.specs.Prelude.{◌≡◌, ℕ, ◌+◌, ◌≤◌, Option, Some, None, IfSome, MatchOption}
-use Rattle.monk_kinds.specs.declared.mode.Pick.{Pick}
-use Rattle.monk_kinds.specs.declared.mode.Rules.{Rules}
+use Rattle.monk_kinds.specs.declared.mode.{Pick.Pick, Rules.Rules}
 use Rattle.monk_object.specs.Object.{Object}
-use Rattle.monk_history.specs.Meaning.Counts.{enters_of}
-use Rattle.monk_history.specs.declared.event.Event.{Event}
+use Rattle.monk_history.specs.{Meaning.Counts.enters_of, declared.event.Event.Event}
 use Rattle.monk_world.specs.declared.home.Home.{Home}
+use Rattle.monk_hall.specs.{Closing.IsBusy, Deeds.looks_of, Deeds.steps_of, Granting.Grant, Granting.HasGranted}
+use Rattle.monk_hall.specs.{Handing.seat_called_by, Layout.seat_word, Layout.ticket_word, NextTicket.IsLooking}
+use Rattle.monk_hall.specs.{Tokens.Token, Tokens.Holder, Tokens.House, declared.record.SeatRecord.SeatRecord}
 use Rattle.monk_hall.specs.Calls.{ComesAfter, HasArrived, HasReleased, HasStayed, StillWaits}
-use Rattle.monk_hall.specs.Closing.{IsBusy}
-use Rattle.monk_hall.specs.Deeds.{looks_of, steps_of}
-use Rattle.monk_hall.specs.Granting.{Grant, HasGranted}
-use Rattle.monk_hall.specs.Handing.{seat_called_by}
-use Rattle.monk_hall.specs.Layout.{seat_word, ticket_word}
-use Rattle.monk_hall.specs.NextTicket.{IsLooking}
-use Rattle.monk_hall.specs.Tokens.{Token, Holder, House}
-use Rattle.monk_hall.specs.declared.record.SeatRecord.{SeatRecord}
 
 -- from r to w the seat has looked `looked` times, and taken at most `most` steps
 pub record HasStepped (looked most : ℕ) (r w : SeatRecord) : Type 0 where

@@ -2,19 +2,14 @@
 use Rattle.std.specs.Prelude.{◌≡◌, ℕ, ◌≤◌, ◌<◌, false, List, [], ◌∷◌, ◌++◌, length}
 use Rattle.monk_kinds.specs.declared.mode.Rules.{Rules}
 use Rattle.monk_object.specs.Object.{Object}
+use Rattle.monk_history.specs.Meaning.{Legal.IsLegal, Reasons.IsAllowed, Turn.turn, Turn.turn_by}
 use Rattle.monk_history.specs.Meaning.Counts.{events_of, enters_of, left_of, is_enter}
 use Rattle.monk_history.specs.Meaning.Events.{seat_of, next_of}
-use Rattle.monk_history.specs.Meaning.Legal.{IsLegal}
-use Rattle.monk_history.specs.Meaning.Reasons.{IsAllowed}
-use Rattle.monk_history.specs.Meaning.Turn.{turn, turn_by}
-use Rattle.monk_history.specs.declared.event.Event.{Event}
-use Rattle.monk_history.specs.declared.event.Turn.TheVariants.{Owned}
+use Rattle.monk_history.specs.declared.event.{Event.Event, Turn.TheVariants.Owned}
 use Rattle.monk_floor.specs.View.{FloorView, monitor_of}
 use Rattle.monk_world.specs.StepTable.{out_event}
 use Rattle.monk_world.specs.declared.source.Source.TheVariants.{Free, Granted}
-use Rattle.monk_hall.specs.Changes.{source_from}
-use Rattle.monk_hall.specs.Layout.{floor_of}
-use Rattle.monk_hall.specs.declared.record.SeatRecord.{SeatRecord}
+use Rattle.monk_hall.specs.{Changes.source_from, Layout.floor_of, declared.record.SeatRecord.SeatRecord}
 
 -- the history h begins with g
 abbrev pub StartsWith : List Event → List Event → Type 0

@@ -2,19 +2,15 @@
 use Rattle.std.specs.Prelude.{◌≡◌, ℕ, true, List, Option, Some, None}
 use Rattle.std.specs.List.{last_or}
 use Rattle.atomic_table.specs.Seated.{TableId}
-use Rattle.monk_kinds.specs.declared.mode.Pick.{Pick}
-use Rattle.monk_kinds.specs.declared.mode.Rules.{Rules}
+use Rattle.monk_kinds.specs.declared.mode.{Pick.Pick, Rules.Rules}
 use Rattle.monk_object.specs.Object.{Object}
 use Rattle.monk_history.specs.declared.event.Event.{Event}
-use Rattle.monk_world.specs.declared.home.Home.{Home}
 use Rattle.monk_world.specs.declared.home.Home.TheVariants as home
-use Rattle.monk_hall.specs.AfterCalls.{MatchAfter}
+use Rattle.monk_world.specs.declared.home.Home.{Home}
+use Rattle.monk_hall.specs.{AfterCalls.MatchAfter, Layout.seat_word, Layout.ticket_word, Tokens.Token, Tokens.Holder}
+use Rattle.monk_hall.specs.{Tokens.House, declared.after.After.After, declared.deed.Deed.Deed}
+use Rattle.monk_hall.specs.{declared.deed.Deed.TheVariants.GrantTicket, declared.deed.Deed.TheVariants.CallSeat}
 use Rattle.monk_hall.specs.Calls.{HasReleased, HasStayed, peeks_of, peeks_for}
-use Rattle.monk_hall.specs.Layout.{seat_word, ticket_word}
-use Rattle.monk_hall.specs.Tokens.{Token, Holder, House}
-use Rattle.monk_hall.specs.declared.after.After.{After}
-use Rattle.monk_hall.specs.declared.deed.Deed.{Deed}
-use Rattle.monk_hall.specs.declared.deed.Deed.TheVariants.{GrantTicket, CallSeat}
 
 -- a grant that was stored: in which word of which table
 pub record Grant : Type 0 where

@@ -1,18 +1,13 @@
 -- A word is granted again only after the grant that is there was taken
 use Rattle.std.specs.Prelude.{◌≡◌, ℕ, true, List, [], ◌∷◌, ◌++◌, Option, Some, None}
-use Rattle.monk_kinds.specs.Kind.{IsKind}
-use Rattle.monk_kinds.specs.declared.mode.Rules.{Rules}
+use Rattle.monk_kinds.specs.{Kind.IsKind, declared.mode.Rules.Rules}
 use Rattle.monk_object.specs.Object.{Object}
 use Rattle.monk_floor.specs.Making.{make_refusal}
-use Rattle.monk_hall.specs.Deeds.{look_at}
-use Rattle.monk_hall.specs.Laws.{HallState, IsRecord}
-use Rattle.monk_hall.specs.Layout.{seat_word, ticket_word, waiting_word}
-use Rattle.monk_hall.specs.NextTicket.{IsLooking}
+use Rattle.monk_hall.specs.{Deeds.look_at, Laws.HallState, Laws.IsRecord, NextTicket.IsLooking}
 use Rattle.monk_hall.specs.Schedules.{Step, By, IsStep, IsSchedule, opening_table}
-use Rattle.monk_hall.specs.declared.deed.Deed.{Deed}
-use Rattle.monk_hall.specs.declared.deed.Deed.TheVariants.{GrantTicket, CallSeat}
-use Rattle.monk_hall.specs.declared.record.SeatRecord.{SeatRecord}
-use Rattle.monk_hall.specs.declared.setting.Setting.{Setting}
+use Rattle.monk_hall.specs.Layout.{seat_word, ticket_word, waiting_word}
+use Rattle.monk_hall.specs.declared.{record.SeatRecord.SeatRecord, setting.Setting.Setting}
+use Rattle.monk_hall.specs.declared.deed.Deed.{Deed, TheVariants.GrantTicket, TheVariants.CallSeat}
 
 -- the word in which a step stores a grant, in a hall of `seats` seats
 abbrev pub granted_word : ℕ → Step → Option ℕ

@@ -1,19 +1,16 @@
 -- The floor changes hands by a word: who takes it out has found what the seat that took it home has put there since
 use Rattle.std.specs.Prelude.{◌≡◌, ◌≢◌, ℕ, Bool, true, false, List, [], ◌∷◌, ◌++◌, Option, Some, None, slice_index}
-use Rattle.monk_kinds.specs.Kind.{IsKind}
-use Rattle.monk_kinds.specs.declared.mode.Rules.{Rules}
+use Rattle.monk_kinds.specs.{Kind.IsKind, declared.mode.Rules.Rules}
 use Rattle.monk_object.specs.Object.{Object}
 use Rattle.monk_history.specs.declared.event.Event.{Event}
 use Rattle.monk_floor.specs.Making.{make_refusal}
 use Rattle.monk_world.specs.Places.{ticket}
-use Rattle.monk_hall.specs.Laws.{HallState, IsRecord}
-use Rattle.monk_hall.specs.Layout.{seat_word, ticket_word}
+use Rattle.monk_hall.specs.{Laws.HallState, Laws.IsRecord, Layout.seat_word, Layout.ticket_word}
 use Rattle.monk_hall.specs.Schedules.{Step, By, IsStep, IsSchedule, opening_table}
+use Rattle.monk_hall.specs.declared.{record.SeatRecord.SeatRecord, setting.Setting.Setting}
 use Rattle.monk_hall.specs.declared.deed.Deed.{Deed}
-use Rattle.monk_hall.specs.declared.deed.Deed.TheVariants.{Arrive, LookForTicket, LookForCall, FloorOut, FloorIn}
-use Rattle.monk_hall.specs.declared.deed.Deed.TheVariants.{Drop, GrantTicket, CallSeat}
-use Rattle.monk_hall.specs.declared.record.SeatRecord.{SeatRecord}
-use Rattle.monk_hall.specs.declared.setting.Setting.{Setting}
+use Rattle.monk_hall.specs.declared.deed.Deed.TheVariants.{Arrive, LookForTicket, LookForCall, FloorOut, FloorIn, Drop}
+use Rattle.monk_hall.specs.declared.deed.Deed.TheVariants.{GrantTicket, CallSeat}
 
 -- the word that a step writes, in a hall of `seats` seats: by an add, a subtraction or a store. A step that isn't
 -- listed writes none

@@ -3,22 +3,16 @@ use Rattle.std.specs.Prelude.{◌≡◌, ℕ, ◌≤◌, ◌⊎◌, List, [], �
 use Rattle.atomic_table.specs.Seated.{TableId}
 use Rattle.monk_kinds.specs.declared.mode.Rules.{Rules}
 use Rattle.monk_object.specs.Object.{Object}
-use Rattle.monk_history.specs.Meaning.Counts.{enters_of}
-use Rattle.monk_history.specs.Meaning.Reasons.{IsAllowed}
-use Rattle.monk_history.specs.Meaning.Release.{with_next}
-use Rattle.monk_history.specs.declared.event.Event.{Event}
+use Rattle.monk_history.specs.Meaning.{Counts.enters_of, Reasons.IsAllowed, Release.with_next}
 use Rattle.monk_history.specs.declared.event.Next.{Next}
 use Rattle.monk_history.specs.declared.event.Next.TheVariants.{Stay, Entry, Waiter, Signaller, Until}
+use Rattle.monk_history.specs.declared.event.Event.{Event}
 use Rattle.monk_floor.specs.View.{FloorView, monitor_of}
-use Rattle.monk_world.specs.Places.{stage, place_of, active_stage}
-use Rattle.monk_world.specs.declared.home.Home.{Home}
+use Rattle.monk_world.specs.{Places.stage, Places.place_of, Places.active_stage, declared.home.Home.Home}
+use Rattle.monk_hall.specs.{Layout.word_count, Records.IsOne, Records.the, Tells.Me, Tells.Returns}
 use Rattle.monk_hall.specs.Changes.{record_after_floor_in, home_at}
-use Rattle.monk_hall.specs.Layout.{word_count}
-use Rattle.monk_hall.specs.Records.{IsOne, the}
-use Rattle.monk_hall.specs.Tells.{Me, Returns}
-use Rattle.monk_hall.specs.declared.deed.Deed.{Deed}
-use Rattle.monk_hall.specs.declared.deed.Deed.TheVariants.{Drop, GrantTicket, CallSeat}
 use Rattle.monk_hall.specs.declared.record.SeatRecord.{SeatRecord}
+use Rattle.monk_hall.specs.declared.deed.Deed.{Deed, TheVariants.Drop, TheVariants.GrantTicket, TheVariants.CallSeat}
 
 -- the seat that a choice names
 abbrev pub seat_called_by : Next → Option ℕ

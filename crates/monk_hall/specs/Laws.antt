@@ -4,40 +4,26 @@ use Rattle.std.specs.Prelude.{Option, Some, None}
 use mathlib.Core.Option.{none, some}
 use lib.ListN.{get_elem?}
 use Rattle.atomic_table.specs.Table as table
-use Rattle.monk_kinds.specs.Kind.{IsKind}
-use Rattle.monk_kinds.specs.declared.mode.Rules.{Rules}
-use Rattle.monk_kinds.specs.declared.mode.Pick.{Pick}
+use Rattle.monk_kinds.specs.{Kind.IsKind, declared.mode.Rules.Rules, declared.mode.Pick.Pick}
 use Rattle.monk_object.specs.Object.{Object}
-use Rattle.monk_history.specs.Meaning.Counts.{granted_of, events_of}
-use Rattle.monk_history.specs.Meaning.Events.{is_stay}
-use Rattle.monk_history.specs.Meaning.Legal.{IsLegal}
-use Rattle.monk_history.specs.declared.event.Event.{Event}
-use Rattle.monk_history.specs.declared.event.Next.{Next}
-use Rattle.monk_history.specs.declared.event.Next.TheVariants.{Entry}
+use Rattle.monk_history.specs.Meaning.{Counts.granted_of, Counts.events_of, Events.is_stay, Legal.IsLegal}
+use Rattle.monk_history.specs.declared.event.{Event.Event, Next.Next, Next.TheVariants.Entry}
 use Rattle.monk_floor.specs.View.{FloorView, monitor_of}
-use Rattle.monk_world.specs.OnePlace.{IsInOnePlace}
+use Rattle.monk_world.specs.declared.answer.Answer.TheVariants as answer
+use Rattle.monk_world.specs.declared.command.Command.TheVariants as command
+use Rattle.monk_world.specs.{OnePlace.IsInOnePlace, Runs.IsWellLed, State.is_quiet, StepTable.IsStep, StepTable.call_of}
 use Rattle.monk_world.specs.Places.{HoldsRight, stage, ticket, back_turn, due_to, ticketed_stage, due_stage}
 use Rattle.monk_world.specs.Places.{active_stage, passing_stage, inside_stage}
-use Rattle.monk_world.specs.Runs.{IsWellLed}
-use Rattle.monk_world.specs.State.{is_quiet}
-use Rattle.monk_world.specs.StepTable.{IsStep, call_of}
-use Rattle.monk_world.specs.declared.answer.Answer.{Answer}
-use Rattle.monk_world.specs.declared.answer.Answer.TheVariants as answer
-use Rattle.monk_world.specs.declared.command.Command.{Command}
-use Rattle.monk_world.specs.declared.command.Command.TheVariants as command
-use Rattle.monk_world.specs.declared.home.Home.{Home}
+use Rattle.monk_world.specs.declared.{answer.Answer.Answer, command.Command.Command, home.Home.Home}
 use Rattle.monk_world.specs.declared.place.Place.TheVariants.{Idle, Back}
+use Rattle.monk_hall.specs.{Floors.ArePrivate, Floors.StartsWith, Records.View, Records.In, Rule.IsHall, Tells.Returns}
 use Rattle.monk_hall.specs.Changes.{record_after_arrive, record_after_ticket_look, record_after_seat_look}
 use Rattle.monk_hall.specs.Changes.{record_after_peek, record_after_floor_out, record_after_floor_in, record_after_drop}
 use Rattle.monk_hall.specs.Changes.{record_after_grant}
-use Rattle.monk_hall.specs.Floors.{ArePrivate, StartsWith}
-use Rattle.monk_hall.specs.Layout.{tickets, unpassed, one_drawn, one_passed, ticket_word, seat_word, floor_of, shown_state, shown_world}
-use Rattle.monk_hall.specs.Records.{View, In}
-use Rattle.monk_hall.specs.Rule.{IsHall}
-use Rattle.monk_hall.specs.Tells.{Returns}
+use Rattle.monk_hall.specs.Layout.{tickets, unpassed, one_drawn, one_passed, ticket_word, seat_word, floor_of}
+use Rattle.monk_hall.specs.Layout.{shown_state, shown_world}
+use Rattle.monk_hall.specs.declared.{record.SeatRecord.SeatRecord, setting.Setting.Setting}
 use Rattle.monk_hall.specs.declared.deed.Deed.TheVariants.{GrantTicket, CallSeat}
-use Rattle.monk_hall.specs.declared.record.SeatRecord.{SeatRecord}
-use Rattle.monk_hall.specs.declared.setting.Setting.{Setting}
 
 -- the state of a hall's table
 abbrev pub HallState : Type 0

@@ -1,24 +1,16 @@
 -- Who enters next after a release that chose entry
 use Rattle.std.specs.Prelude.{◌≡◌, ℕ, ◌≤◌, ◌⊎◌, Some, None}
-use Rattle.monk_kinds.specs.declared.mode.Rules.{Rules}
-use Rattle.monk_kinds.specs.declared.mode.Pick.{Pick}
+use Rattle.monk_kinds.specs.declared.mode.{Rules.Rules, Pick.Pick}
 use Rattle.monk_object.specs.Object.{Object}
 use Rattle.monk_history.specs.Meaning.Counts.{enters_of}
-use Rattle.monk_history.specs.declared.event.Event.{Event}
-use Rattle.monk_history.specs.declared.event.Next.TheVariants.{Entry}
+use Rattle.monk_history.specs.declared.event.{Event.Event, Next.TheVariants.Entry}
 use Rattle.monk_world.specs.Places.{stage, ticketed_stage, inside_stage}
+use Rattle.monk_world.specs.declared.place.Place.{Place, TheVariants.Ticket, TheVariants.Back}
 use Rattle.monk_world.specs.declared.home.Home.{Home}
-use Rattle.monk_world.specs.declared.place.Place.{Place}
-use Rattle.monk_world.specs.declared.place.Place.TheVariants.{Ticket, Back}
-use Rattle.monk_hall.specs.Calls.{HasEntered}
-use Rattle.monk_hall.specs.Granting.{Grant, HasGranted}
-use Rattle.monk_hall.specs.Handing.{seat_called_by}
-use Rattle.monk_hall.specs.Laws.{HallState, IsRecord, first_word}
+use Rattle.monk_hall.specs.{Calls.HasEntered, Granting.Grant, Granting.HasGranted, Handing.seat_called_by}
+use Rattle.monk_hall.specs.{Laws.HallState, Laws.IsRecord, Laws.first_word, Rule.IsHall, Tokens.Token, Tokens.Holder}
+use Rattle.monk_hall.specs.{Tokens.House, declared.record.SeatRecord.SeatRecord, declared.setting.Setting.Setting}
 use Rattle.monk_hall.specs.Layout.{unpassed, ticket_word, waiting_word}
-use Rattle.monk_hall.specs.Rule.{IsHall}
-use Rattle.monk_hall.specs.Tokens.{Token, Holder, House}
-use Rattle.monk_hall.specs.declared.record.SeatRecord.{SeatRecord}
-use Rattle.monk_hall.specs.declared.setting.Setting.{Setting}
 
 -- exactly one seat waits with this ticket
 pub record OneWaits (c : Setting) (s : HallState) (t : ℕ) : Type 0 where

@@ -1,27 +1,17 @@
 -- A release that is recorded in the floor and must still go home
 use Rattle.std.specs.Prelude.{◌≡◌, ℕ, ◌<◌, Bool, false, Option}
-use Rattle.monk_kinds.specs.declared.mode.Pick.{Pick}
-use Rattle.monk_kinds.specs.declared.mode.Rules.{Rules}
+use Rattle.monk_kinds.specs.declared.mode.{Pick.Pick, Rules.Rules}
 use Rattle.monk_object.specs.Object.{Object}
-use Rattle.monk_history.specs.Meaning.Choice.{must_stay}
-use Rattle.monk_history.specs.Meaning.Counts.{left_of}
+use Rattle.monk_history.specs.Meaning.{Choice.must_stay, Counts.left_of}
 use Rattle.monk_history.specs.Meaning.Release.{MayCall, with_next, choice_of}
-use Rattle.monk_history.specs.declared.event.Event.{Event}
-use Rattle.monk_history.specs.declared.event.Next.{Next}
-use Rattle.monk_floor.specs.Grown.{IsGrown}
-use Rattle.monk_floor.specs.View.{FloorView, monitor_of, stands_of}
-use Rattle.monk_world.specs.Sound.{left_within}
-use Rattle.monk_world.specs.declared.home.Home.{Home}
+use Rattle.monk_history.specs.declared.event.{Event.Event, Next.Next}
+use Rattle.monk_floor.specs.{Grown.IsGrown, View.FloorView, View.monitor_of, View.stands_of}
 use Rattle.monk_world.specs.declared.home.Home.TheVariants as home
-use Rattle.monk_hall.specs.AfterCalls.{MatchAfter}
-use Rattle.monk_hall.specs.Calls.{is_entry_known}
-use Rattle.monk_hall.specs.Granting.{Grant, HasGranted, HasStayedAlone}
-use Rattle.monk_hall.specs.Records.{the}
-use Rattle.monk_hall.specs.Tells.{IsReleaseTo}
+use Rattle.monk_world.specs.{Sound.left_within, declared.home.Home.Home}
+use Rattle.monk_hall.specs.{AfterCalls.MatchAfter, Calls.is_entry_known, Records.the, Tells.IsReleaseTo}
 use Rattle.monk_hall.specs.Tokens.{Token, Holder, House, IsHolding, holder}
-use Rattle.monk_hall.specs.declared.after.After.{After}
-use Rattle.monk_hall.specs.declared.record.SeatRecord.{SeatRecord}
-use Rattle.monk_hall.specs.declared.release.Release.{Release}
+use Rattle.monk_hall.specs.declared.{after.After.After, record.SeatRecord.SeatRecord, release.Release.Release}
+use Rattle.monk_hall.specs.Granting.{Grant, HasGranted, HasStayedAlone}
 
 -- a release that a seat made, as it was called, and that its floor recorded. The wish rules chose
 pub record IsRelease (k : Rules) (o : Object) (r : SeatRecord) (f : FloorView) (call : Event) (wish : Pick)

@@ -1,8 +1,7 @@
 -- What the seats of the table know: views, each a list of records
 use Rattle.std.specs.Prelude.{◌≡◌, ◌≢◌, ℕ, zero, suc, ◌⊎◌, false, List, [], ◌∷◌}
 use Rattle.monk_world.specs.declared.place.Place.TheVariants.{Idle}
-use Rattle.monk_hall.specs.declared.record.SeatRecord.{SeatRecord}
-use Rattle.monk_hall.specs.declared.setting.Setting.{Setting}
+use Rattle.monk_hall.specs.declared.{record.SeatRecord.SeatRecord, setting.Setting.Setting}
 
 -- what the holder of a view knows of the seats
 abbrev pub View : Type 0

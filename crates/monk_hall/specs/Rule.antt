@@ -6,22 +6,15 @@ use lib.ListN.{get_elem?}
 use Rattle.atomic_table.specs.Table as table
 use Rattle.monk_kinds.specs.declared.mode.Rules.{Rules}
 use Rattle.monk_object.specs.Object.{Object}
-use Rattle.monk_history.specs.Meaning.Counts.{events_of, granted_of}
-use Rattle.monk_history.specs.Meaning.Legal.{IsLegal}
-use Rattle.monk_history.specs.Meaning.Turn.{turn}
+use Rattle.monk_history.specs.Meaning.{Counts.events_of, Counts.granted_of, Legal.IsLegal, Turn.turn}
 use Rattle.monk_history.specs.declared.event.Event.{Event}
 use Rattle.monk_floor.specs.View.{FloorView, monitor_of}
-use Rattle.monk_world.specs.Kept.{IsKept}
+use Rattle.monk_world.specs.{Kept.IsKept, StepTable.out_event, World.World}
 use Rattle.monk_world.specs.Places.{stage, back_turn, due_to, active_stage, back_stage}
-use Rattle.monk_world.specs.StepTable.{out_event}
-use Rattle.monk_world.specs.World.{World}
-use Rattle.monk_world.specs.declared.place.Place.TheVariants.{Active}
-use Rattle.monk_world.specs.declared.source.Source.{Source}
-use Rattle.monk_hall.specs.Floors.{StartsWith}
-use Rattle.monk_hall.specs.Layout.{word_count, shown_world, floor_of, shown_state}
+use Rattle.monk_world.specs.declared.{place.Place.TheVariants.Active, source.Source.Source}
+use Rattle.monk_hall.specs.{Floors.StartsWith, declared.record.SeatRecord.SeatRecord, declared.setting.Setting.Setting}
 use Rattle.monk_hall.specs.Records.{View, In, Distinct}
-use Rattle.monk_hall.specs.declared.record.SeatRecord.{SeatRecord}
-use Rattle.monk_hall.specs.declared.setting.Setting.{Setting}
+use Rattle.monk_hall.specs.Layout.{word_count, shown_world, floor_of, shown_state}
 
 -- a setting by its parts
 abbrev pub setting_of : List ℕ → ℕ → ℕ → ℕ → Setting

@@ -4,46 +4,31 @@ use Rattle.std.specs.Prelude.{length, replicate, set, slice_index, Some, None, i
 use mathlib.Core.Option.{none, some}
 use lib.ListN.{get_elem?}
 use Rattle.atomic_table.specs.Table as table
-use Rattle.monk_kinds.specs.Kind.{IsKind}
-use Rattle.monk_kinds.specs.declared.mode.Rules.{Rules}
-use Rattle.monk_kinds.specs.declared.mode.Pick.{Pick}
+use Rattle.monk_kinds.specs.{Kind.IsKind, declared.mode.Rules.Rules, declared.mode.Pick.Pick}
 use Rattle.monk_object.specs.Object.{Object}
+use Rattle.monk_history.specs.Meaning.{Events.seat_of, Events.is_stay, Reasons.IsAllowed, Turn.turn}
 use Rattle.monk_history.specs.Meaning.Counts.{granted_of, enters_of, events_of, left_of, is_enter}
-use Rattle.monk_history.specs.Meaning.Events.{seat_of, is_stay}
-use Rattle.monk_history.specs.Meaning.Reasons.{IsAllowed}
 use Rattle.monk_history.specs.Meaning.Release.{MayCall, with_next, choice_of}
-use Rattle.monk_history.specs.Meaning.Turn.{turn}
-use Rattle.monk_history.specs.declared.event.Event.{Event}
-use Rattle.monk_history.specs.declared.event.Next.{Next}
-use Rattle.monk_history.specs.declared.event.Next.TheVariants.{Entry}
-use Rattle.monk_floor.specs.Making.{make_refusal}
-use Rattle.monk_floor.specs.View.{FloorView, monitor_of, stands_of}
-use Rattle.monk_world.specs.OnePlace.{IsInOnePlace}
-use Rattle.monk_world.specs.Places.{stage, ticket, back_turn, due_to, ticketed_stage, due_stage}
-use Rattle.monk_world.specs.Places.{active_stage, passing_stage, inside_stage}
-use Rattle.monk_world.specs.Runs.{IsWellLed}
-use Rattle.monk_world.specs.Sound.{left_within}
-use Rattle.monk_world.specs.State.{is_quiet, with_event}
-use Rattle.monk_world.specs.StepTable.{out_event}
-use Rattle.monk_world.specs.declared.home.Home.{Home}
-use Rattle.monk_world.specs.declared.place.Place.TheVariants.{Idle, Back}
-use Rattle.monk_world.specs.declared.source.Source.{Source}
-use Rattle.monk_hall.specs.Changes.{record_after_arrive, record_after_ticket_look, record_after_seat_look}
-use Rattle.monk_hall.specs.Changes.{record_after_peek, record_after_floor_out, record_after_floor_in, record_after_drop}
-use Rattle.monk_hall.specs.Changes.{record_after_grant, view_after_join, view_after_compare, source_from}
-use Rattle.monk_hall.specs.Deeds.{brings, brought_home, knows}
+use Rattle.monk_history.specs.declared.event.{Event.Event, Next.Next, Next.TheVariants.Entry}
+use Rattle.monk_floor.specs.{Making.make_refusal, View.FloorView, View.monitor_of, View.stands_of}
+use Rattle.monk_world.specs.{OnePlace.IsInOnePlace, Runs.IsWellLed, Sound.left_within, State.is_quiet, State.with_event}
+use Rattle.monk_world.specs.{StepTable.out_event, declared.home.Home.Home, declared.place.Place.TheVariants.Idle}
+use Rattle.monk_world.specs.{declared.place.Place.TheVariants.Back, declared.source.Source.Source}
+use Rattle.monk_world.specs.Places.{stage, ticket, back_turn, due_to, ticketed_stage, due_stage, active_stage}
+use Rattle.monk_world.specs.Places.{passing_stage, inside_stage}
+use Rattle.monk_hall.specs.{Records.View, Records.first_view, Rule.IsHall, Rule.Homes, Tells.IsReleaseTo}
 use Rattle.monk_hall.specs.Floors.{StartsWith, IsPrivate, ArePrivate}
-use Rattle.monk_hall.specs.Laws.{HallState, IsRecord, IsHomeHistory, first_word}
-use Rattle.monk_hall.specs.Layout.{tickets, unpassed, one_drawn, one_passed, ticket_word, seat_word, word_count}
-use Rattle.monk_hall.specs.Layout.{floor_of, shown_state, shown_world}
-use Rattle.monk_hall.specs.Records.{View, first_view}
-use Rattle.monk_hall.specs.Rule.{IsHall, Homes}
-use Rattle.monk_hall.specs.Tells.{IsReleaseTo}
+use Rattle.monk_hall.specs.Deeds.{brings, brought_home, knows}
+use Rattle.monk_hall.specs.declared.{record.SeatRecord.SeatRecord, setting.Setting.Setting}
 use Rattle.monk_hall.specs.declared.deed.Deed.{Deed}
 use Rattle.monk_hall.specs.declared.deed.Deed.TheVariants.{Arrive, LookForTicket, LookForCall, Peek, FloorOut, FloorIn}
 use Rattle.monk_hall.specs.declared.deed.Deed.TheVariants.{Drop, GrantTicket, CallSeat, Meet}
-use Rattle.monk_hall.specs.declared.record.SeatRecord.{SeatRecord}
-use Rattle.monk_hall.specs.declared.setting.Setting.{Setting}
+use Rattle.monk_hall.specs.Changes.{record_after_arrive, record_after_ticket_look, record_after_seat_look}
+use Rattle.monk_hall.specs.Changes.{record_after_peek, record_after_floor_out, record_after_floor_in, record_after_drop}
+use Rattle.monk_hall.specs.Changes.{record_after_grant, view_after_join, view_after_compare, source_from}
+use Rattle.monk_hall.specs.Laws.{HallState, IsRecord, IsHomeHistory, first_word}
+use Rattle.monk_hall.specs.Layout.{tickets, unpassed, one_drawn, one_passed, ticket_word, seat_word, word_count}
+use Rattle.monk_hall.specs.Layout.{floor_of, shown_state, shown_world}
 
 -- a step of the table
 pub data Step : Type 0 where

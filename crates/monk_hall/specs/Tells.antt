@@ -1,34 +1,27 @@
 -- What each step tells the seat that takes it
 use Rattle.std.specs.Prelude.{◌≡◌, ℕ, ◌+◌, ◌<◌, ◌≤◌, ◌⊎◌, true, false, List, [], ◌∷◌, Option, Some, None}
-use Rattle.atomic_table.specs.Seated.{TableId}
 use Rattle.atomic_table.specs.Table as table
-use Rattle.atomic_table.specs.declared.shared.Seat.{Seat}
-use Rattle.monk_kinds.specs.declared.mode.Rules.{Rules}
-use Rattle.monk_kinds.specs.declared.Pick.{Pick}
+use Rattle.atomic_table.specs.{Seated.TableId, declared.shared.Seat.Seat}
+use Rattle.monk_kinds.specs.declared.{mode.Rules.Rules, Pick.Pick}
 use Rattle.monk_object.specs.Object.{Object}
-use Rattle.monk_history.specs.Meaning.Counts.{events_of, enters_of, left_of}
-use Rattle.monk_history.specs.Meaning.Events.{is_stay}
-use Rattle.monk_history.specs.Meaning.Legal.{IsLegal}
-use Rattle.monk_history.specs.Meaning.Release.{MayCall, with_next, choice_of}
-use Rattle.monk_history.specs.declared.event.Event.{Event}
-use Rattle.monk_history.specs.declared.event.Event.TheVariants.{Enter, Act, Leave, Wait, Signal, SignalLeave, Until, Resume}
-use Rattle.monk_history.specs.declared.event.Event.TheVariants.{SignalAll, SignalWait}
-use Rattle.monk_history.specs.declared.event.Next.{Next}
 use Rattle.monk_history.specs.declared.event.Next.TheVariants as next
+use Rattle.monk_history.specs.Meaning.{Counts.events_of, Counts.enters_of, Counts.left_of, Events.is_stay}
+use Rattle.monk_history.specs.Meaning.{Legal.IsLegal, Release.MayCall, Release.with_next, Release.choice_of}
+use Rattle.monk_history.specs.declared.event.Next.{Next}
+use Rattle.monk_history.specs.declared.event.Event.{Event}
+use Rattle.monk_history.specs.declared.event.Event.TheVariants.{Enter, Act, Leave, Wait, Signal, SignalLeave, Until}
+use Rattle.monk_history.specs.declared.event.Event.TheVariants.{Resume, SignalAll, SignalWait}
 use Rattle.monk_floor.specs.View.{FloorView, monitor_of, stands_of}
-use Rattle.monk_world.specs.Places.{ticket, back_turn, due_to}
-use Rattle.monk_world.specs.Sound.{left_within}
-use Rattle.monk_world.specs.State.{with_event}
-use Rattle.monk_world.specs.declared.home.Home.{Home}
 use Rattle.monk_world.specs.declared.home.Home.TheVariants as home
+use Rattle.monk_world.specs.{Sound.left_within, State.with_event, declared.home.Home.Home}
+use Rattle.monk_world.specs.Places.{ticket, back_turn, due_to}
+use Rattle.monk_hall.specs.{Records.View, Records.the, Records.tail, declared.deed.Deed.TheVariants.GrantTicket}
+use Rattle.monk_hall.specs.{declared.deed.Deed.TheVariants.CallSeat, declared.record.SeatRecord.SeatRecord}
 use Rattle.monk_hall.specs.Changes.{record_after_arrive, record_after_ticket_look, record_after_seat_look}
 use Rattle.monk_hall.specs.Changes.{record_after_peek, record_after_floor_out, record_after_floor_in, record_after_drop}
 use Rattle.monk_hall.specs.Changes.{record_after_grant, view_after_compare}
 use Rattle.monk_hall.specs.Floors.{StartsWith, Finds, GoesOn}
 use Rattle.monk_hall.specs.Layout.{tickets, unpassed, word_count, floor_of}
-use Rattle.monk_hall.specs.Records.{View, the, tail}
-use Rattle.monk_hall.specs.declared.deed.Deed.TheVariants.{GrantTicket, CallSeat}
-use Rattle.monk_hall.specs.declared.record.SeatRecord.{SeatRecord}
 
 -- a seat's view, and the slots that it has in its hands
 abbrev pub Me : Type 0

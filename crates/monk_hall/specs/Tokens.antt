@@ -8,13 +8,9 @@ use Rattle.monk_floor.specs.View.{FloorView}
 use Rattle.monk_world.specs.Places.{stage, active_stage}
 use Rattle.monk_world.specs.declared.place.Place.{Place}
 use Rattle.monk_world.specs.declared.place.Place.TheVariants.{Idle, Ticket, Due, Active, Back, Passing, Inner}
-use Rattle.monk_hall.specs.Floors.{GoesOn}
-use Rattle.monk_hall.specs.Layout.{word_count}
-use Rattle.monk_hall.specs.Records.{View, IsOne, the}
-use Rattle.monk_hall.specs.Tells.{Me, SeesTruly}
-use Rattle.monk_hall.specs.declared.record.SeatRecord.{SeatRecord}
-use Rattle.monk_hall.specs.declared.seat_numbers.SeatNumbers.{SeatNumbers}
-use Rattle.monk_hall.specs.declared.setting.Setting.{Setting}
+use Rattle.monk_hall.specs.{Floors.GoesOn, Layout.word_count, Records.View, Records.IsOne, Records.the, Tells.Me}
+use Rattle.monk_hall.specs.{Tells.SeesTruly, declared.record.SeatRecord.SeatRecord}
+use Rattle.monk_hall.specs.{declared.seat_numbers.SeatNumbers.SeatNumbers, declared.setting.Setting.Setting}
 
 -- a hall: which table it is, and what was fixed when it was made
 pub record House : Type 0 where

@@ -1,19 +1,14 @@
 -- Threads that wait and wake, beside the steps of the table; and that no wake is missed
 use Rattle.std.specs.Prelude.{◌≡◌, ◌≢◌, ℕ, ◌+◌, ◌==◌, ◌%◌, ◌⊎◌, if◌then◌else◌, Bool, true, false, List, [], ◌∷◌}
 use Rattle.std.specs.Prelude.{Option, Some, None, slice_index}
-use Rattle.monk_kinds.specs.Kind.{IsKind}
-use Rattle.monk_kinds.specs.declared.mode.Rules.{Rules}
+use Rattle.monk_kinds.specs.{Kind.IsKind, declared.mode.Rules.Rules}
 use Rattle.monk_object.specs.Object.{Object}
 use Rattle.monk_floor.specs.Making.{make_refusal}
 use Rattle.monk_world.specs.Places.{stage, ticket, ticketed_stage, inside_stage}
-use Rattle.monk_hall.specs.GrantsInTurn.{granted_word}
-use Rattle.monk_hall.specs.Laws.{HallState, IsRecord}
-use Rattle.monk_hall.specs.Layout.{waiting_word}
+use Rattle.monk_hall.specs.{GrantsInTurn.granted_word, Laws.HallState, Laws.IsRecord, Layout.waiting_word}
 use Rattle.monk_hall.specs.Schedules.{Step, By, IsStep, opening_table}
-use Rattle.monk_hall.specs.declared.deed.Deed.{Deed}
-use Rattle.monk_hall.specs.declared.deed.Deed.TheVariants.{LookForTicket, LookForCall}
-use Rattle.monk_hall.specs.declared.record.SeatRecord.{SeatRecord}
-use Rattle.monk_hall.specs.declared.setting.Setting.{Setting}
+use Rattle.monk_hall.specs.declared.{record.SeatRecord.SeatRecord, setting.Setting.Setting}
+use Rattle.monk_hall.specs.declared.deed.Deed.{Deed, TheVariants.LookForTicket, TheVariants.LookForCall}
 
 -- what the thread of a seat does
 pub data Wait : Type 0 where

@@ -1,12 +1,8 @@
 ghost use Rattle.std.specs.Prelude.{◌≡◌, ◌+◌, ◌<◌, ◌≤◌, length};
+ghost use Rattle.monk_history.specs.Meaning.{Conditions.condition, Counts.events_of, Legal.IsLegal, Monitor.data_of};
 ghost use Rattle.monk_history.specs.Limits.{most_lines};
-ghost use Rattle.monk_history.specs.Meaning.Conditions.{condition};
-ghost use Rattle.monk_history.specs.Meaning.Counts.{events_of};
-ghost use Rattle.monk_history.specs.Meaning.Legal.{IsLegal};
-ghost use Rattle.monk_history.specs.Meaning.Monitor.{data_of};
 ghost use Rattle.monk_floor.specs.View.{monitor_of};
-ghost use Rattle.monk_hall.specs.Calls.{HasDone};
-ghost use Rattle.monk_hall.specs.Layout.{floor_of};
+ghost use Rattle.monk_hall.specs.{Calls.HasDone, Layout.floor_of};
 
 use crate::boxed_floor::BoxedFloor;
 use crate::rule::TableSeat;

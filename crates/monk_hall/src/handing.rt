@@ -1,14 +1,11 @@
 //! How a seat takes the floor home and hands the right on.
 ghost use Rattle.std.specs.Prelude.{◌≡◌, ◌<◌, Option, Some, None, [], ◌∷◌};
-ghost use Rattle.monk_history.specs.Meaning.Events.{is_stay};
-ghost use Rattle.monk_history.specs.declared.event.Next.{Next};
-ghost use Rattle.monk_world.specs.declared.home.Home.{Home};
+ghost use Rattle.monk_history.specs.{Meaning.Events.is_stay, declared.event.Next.Next};
 ghost use Rattle.monk_world.specs.declared.place.Place.TheVariants as at;
-ghost use Rattle.monk_hall.specs.Changes.{record_after_floor_in, home_at};
-ghost use Rattle.monk_hall.specs.Granting.{granted_last};
+ghost use Rattle.monk_world.specs.declared.home.Home.{Home};
+ghost use Rattle.monk_hall.specs.{Granting.granted_last, Records.IsOne, Records.the, Tells.IsOfTable, Tells.IsSameSeat};
 ghost use Rattle.monk_hall.specs.Handing.{seat_called_by, HasRecordedRelease, HasHandedOn, HasGone};
-ghost use Rattle.monk_hall.specs.Records.{IsOne, the};
-ghost use Rattle.monk_hall.specs.Tells.{IsOfTable, IsSameSeat};
+ghost use Rattle.monk_hall.specs.Changes.{record_after_floor_in, home_at};
 
 use crate::boxed_floor::BoxedFloor;
 use crate::hall::Hall;

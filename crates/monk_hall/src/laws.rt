@@ -1,16 +1,15 @@
 //! What holds for a hall's table if its rule holds. Every step preserves the rule, so this holds at every moment. Each
 //! function does nothing: its contract is the law.
-ghost use Rattle.monk_hall.specs.Laws.{RightInOnePlace, IdleIsFree, ShowsWellLed, OneHasTheRight, OneIsActive, KnownWaits};
-ghost use Rattle.monk_hall.specs.Laws.{EntryWaits, ArriveSteps, TicketLookSteps, SeatLookSteps, PeekSteps};
+ghost use Rattle.monk_hall.specs.{GrantsInTurn.GrantsComeInTurn, Wakes.NoWakeIsMissed};
+ghost use Rattle.monk_hall.specs.{Schedules.EveryScheduleIsOneHistory};
+ghost use Rattle.monk_hall.specs.HandOver.{FloorChangesHands, NeverByReadsAlone};
+ghost use Rattle.monk_hall.specs.NextTicket.{NextTicketWaits, NoTicketWaits, GrantedEntersNext, OneWaitsAtAWord};
+ghost use Rattle.monk_hall.specs.Laws.{RightInOnePlace, IdleIsFree, ShowsWellLed, OneHasTheRight, OneIsActive};
+ghost use Rattle.monk_hall.specs.Laws.{KnownWaits, EntryWaits, ArriveSteps, TicketLookSteps, SeatLookSteps, PeekSteps};
 ghost use Rattle.monk_hall.specs.Laws.{FloorOutSteps, FloorInSteps, DropSteps, TicketGrantSteps, SeatGrantSteps};
 ghost use Rattle.monk_hall.specs.Laws.{HasHomeHistory};
-ghost use Rattle.monk_hall.specs.NextTicket.{NextTicketWaits, NoTicketWaits, GrantedEntersNext, OneWaitsAtAWord};
 ghost use Rattle.monk_hall.specs.FewSteps.{ArrivalsAreFewSteps, PollsAreFewSteps, ComesInFewSteps, ReleasesAreFewSteps};
 ghost use Rattle.monk_hall.specs.FewSteps.{StaysAreFewSteps, BusyIsFewSteps, GrantsAreSteps, UnlookedLearnsNothing};
-ghost use Rattle.monk_hall.specs.GrantsInTurn.{GrantsComeInTurn};
-ghost use Rattle.monk_hall.specs.HandOver.{FloorChangesHands, NeverByReadsAlone};
-ghost use Rattle.monk_hall.specs.Wakes.{NoWakeIsMissed};
-ghost use Rattle.monk_hall.specs.Schedules.{EveryScheduleIsOneHistory};
 
 /// For every kind, object, number of seats and schedule of the table's steps from its opening: the right to be active
 /// is in exactly one place, and at most one seat is active. All that the steps took home, in order, is one history

@@ -1,11 +1,8 @@
 //! How a hall is made: the table, and a pass for each seat.
 ghost use Rattle.std.specs.Prelude.{◌≡◌, ◌<◌, Some, None, [], ◌∷◌, IfOk, IfErr, replicate};
 ghost use Rattle.monk_floor.specs.Making.{make_refusal, IsRefused};
-ghost use Rattle.monk_hall.specs.Layout.{floor_of, word_count};
+ghost use Rattle.monk_hall.specs.{Layout.floor_of, Layout.word_count, Rule.setting_of, Tells.IsSized, Tokens.tokens};
 ghost use Rattle.monk_hall.specs.Records.{the, opening_record, first_view};
-ghost use Rattle.monk_hall.specs.Rule.{setting_of};
-ghost use Rattle.monk_hall.specs.Tells.{IsSized};
-ghost use Rattle.monk_hall.specs.Tokens.{tokens};
 
 use crate::boxed_floor::BoxedFloor;
 use crate::hall::Hall;

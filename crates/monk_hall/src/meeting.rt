@@ -1,10 +1,7 @@
 //! How two seats share what they have seen.
 ghost use Rattle.std.specs.Prelude.{◌≡◌, [], ◌∷◌, ◌++◌};
-ghost use Rattle.monk_hall.specs.Changes.{longer};
-ghost use Rattle.monk_hall.specs.Floors.{StartsWith};
-ghost use Rattle.monk_hall.specs.Tells.{AreOne, SeesTruly};
-ghost use Rattle.monk_hall.specs.Tokens.{top};
 ghost use Rattle.monk_hall.specs.declared.deed.Deed.TheVariants as deed;
+ghost use Rattle.monk_hall.specs.{Changes.longer, Floors.StartsWith, Tells.AreOne, Tells.SeesTruly, Tokens.top};
 
 use crate::hall::Hall;
 use crate::pass::Pass;

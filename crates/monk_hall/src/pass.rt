@@ -1,6 +1,5 @@
 ghost use Rattle.std.specs.Prelude.{◌≡◌, ◌+◌, ◌≤◌, length};
-ghost use Rattle.monk_hall.specs.Calls.{HasArrived};
-ghost use Rattle.monk_hall.specs.Tells.{SeesTruly};
+ghost use Rattle.monk_hall.specs.{Calls.HasArrived, Tells.SeesTruly};
 
 use crate::hall::Hall;
 use crate::parked::Parked;

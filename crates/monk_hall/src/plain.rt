@@ -6,10 +6,9 @@ ghost use Rattle.monk_history.specs.Meaning.Choice.{must_stay};
 ghost use Rattle.monk_history.specs.Meaning.Events.{has_conditions, has_signaller_queue, is_stay, returns_at_once};
 ghost use Rattle.monk_floor.specs.View.{stands_of};
 ghost use Rattle.monk_world.specs.declared.home.Home.TheVariants as home;
-ghost use Rattle.monk_hall.specs.AfterCalls.{StaysOrParks};
-ghost use Rattle.monk_hall.specs.Calls.{GoesOut, KnowsForChoice, ParksInside, is_entry_known};
+ghost use Rattle.monk_hall.specs.{AfterCalls.StaysOrParks, Recorded.HasRecorded};
 ghost use Rattle.monk_hall.specs.Granting.{GrantsInside, GrantsOut, StaysOrGrants};
-ghost use Rattle.monk_hall.specs.Recorded.{HasRecorded};
+ghost use Rattle.monk_hall.specs.Calls.{GoesOut, KnowsForChoice, ParksInside, is_entry_known};
 
 use crate::active::Active;
 use crate::after::After;

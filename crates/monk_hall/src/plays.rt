@@ -1,7 +1,6 @@
 //! The kinds of step, each with what its seat knows after it, and the two moves of seats.
 ghost use Rattle.std.specs.Prelude.{[]};
-ghost use Rattle.monk_hall.specs.Changes.{view_after_join};
-ghost use Rattle.monk_hall.specs.Records.{head, tail};
+ghost use Rattle.monk_hall.specs.{Changes.view_after_join, Records.head, Records.tail};
 ghost use Rattle.monk_hall.specs.Tells.{TellsArrive, TellsTicketLook, TellsSeatLook, TellsPeek, TellsFloorOut};
 ghost use Rattle.monk_hall.specs.Tells.{TellsFloorIn, held_history, TellsDrop, TellsCompare};
 

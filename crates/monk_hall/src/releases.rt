@@ -3,9 +3,8 @@
 ghost use Rattle.std.specs.Prelude.{◌≡◌, ◌&&◌, false, true, Some};
 ghost use Rattle.monk_history.specs.Meaning.Events.{is_stay};
 ghost use Rattle.monk_world.specs.declared.home.Home.TheVariants as home;
+ghost use Rattle.monk_hall.specs.{Granting.GrantsOut, Recorded.HasRecorded};
 ghost use Rattle.monk_hall.specs.Calls.{GoesOut, HasPeeked, is_entry_known, peeks_of, wants_entry};
-ghost use Rattle.monk_hall.specs.Granting.{GrantsOut};
-ghost use Rattle.monk_hall.specs.Recorded.{HasRecorded};
 
 use crate::active::Active;
 use crate::after::After;

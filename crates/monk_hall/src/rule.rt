@@ -1,7 +1,5 @@
 //! The rule that every step of the table keeps.
-ghost use Rattle.monk_hall.specs.Records.{first_view};
-ghost use Rattle.monk_hall.specs.Rule.{setting_of};
-ghost use Rattle.monk_hall.specs.Schedules.{IsReached};
+ghost use Rattle.monk_hall.specs.{Records.first_view, Rule.setting_of, Schedules.IsReached};
 
 use crate::boxed_floor::BoxedFloor;
 use crate::record::View;

@@ -3,19 +3,15 @@
 //! the caller has to wake.
 ghost use Rattle.std.specs.Prelude.{◌≡◌, ℕ, ◌+◌, ◌<◌, ◌≤◌, [], ◌∷◌, Some, None, length, IfOk, IfSome};
 ghost use Rattle.atomic_table.specs.Table.{Allows, Joins, Splits, opening, step};
-ghost use Rattle.monk_world.specs.Places.{stage, ticket, ticketed_stage, due_stage, active_stage};
-ghost use Rattle.monk_world.specs.Places.{inside_stage};
-ghost use Rattle.monk_history.specs.declared.event.Next.{Next};
 ghost use Rattle.monk_world.specs.declared.place.Place.TheVariants.{Idle, Back};
-ghost use Rattle.monk_hall.specs.Changes.{record_after_floor_out, record_after_floor_in, home_at};
-ghost use Rattle.monk_hall.specs.Changes.{view_after_join};
-ghost use Rattle.monk_hall.specs.Floors.{Finds};
+ghost use Rattle.monk_world.specs.Places.{stage, ticket, ticketed_stage, due_stage, active_stage, inside_stage};
+ghost use Rattle.monk_history.specs.declared.event.Next.{Next};
+ghost use Rattle.monk_hall.specs.{Floors.Finds, Rule.setting_of, Schedules.IsReached};
 ghost use Rattle.monk_hall.specs.Layout.{unpassed, ticket_word, seat_word, word_count};
 ghost use Rattle.monk_hall.specs.Records.{IsOne, the, head, tail, first_view};
-ghost use Rattle.monk_hall.specs.Rule.{setting_of};
-ghost use Rattle.monk_hall.specs.Schedules.{IsReached};
-ghost use Rattle.monk_hall.specs.Tells.{TellsArrive, TellsTicketLook, TellsSeatLook, TellsPeek, TellsDrop, Returns, IsOfTable, IsSameSeat};
-ghost use Rattle.monk_hall.specs.Tells.{TellsCompare};
+ghost use Rattle.monk_hall.specs.Tells.{TellsArrive, TellsTicketLook, TellsSeatLook, TellsPeek, TellsDrop, Returns};
+ghost use Rattle.monk_hall.specs.Tells.{IsOfTable, IsSameSeat, TellsCompare};
+ghost use Rattle.monk_hall.specs.Changes.{record_after_floor_out, record_after_floor_in, home_at, view_after_join};
 
 pub(crate) mod alone;
 mod grants;

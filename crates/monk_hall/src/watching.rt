@@ -1,8 +1,7 @@
 //! What a thread does while it waits, in the one order that misses no wake. It looks at the word where its grant will
 //! come, polls, and then sleeps on what it saw. Each stage has its own type, which only the stage before it makes.
 ghost use Rattle.std.specs.Prelude.{◌≡◌, ◌<◌, IfOk, IfErr};
-ghost use Rattle.monk_hall.specs.Calls.{ComesAfter, HasEntered, StillWaits};
-ghost use Rattle.monk_hall.specs.Layout.{waiting_word};
+ghost use Rattle.monk_hall.specs.{Calls.ComesAfter, Calls.HasEntered, Calls.StillWaits, Layout.waiting_word};
 
 use crate::active::Active;
 use crate::hall::Hall;

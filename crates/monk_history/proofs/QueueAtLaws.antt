@@ -1,8 +1,7 @@
 -- A queue of many, by its index
 use Rattle.std.proofs.Common.{◌≡◌, ℕ, ◌<◌, zero, suc, eqb, cond, List, [], ◌∷◌, ◌++◌, length, drop, get_or, refl, sym, ap, ◌∙◌, arith}
+use Rattle.std.proofs.{lemmas.List.append-nil, Math.Dec.eqb-suc-zero, Math.Dec.eqb-zero-suc, Math.Dec.eqb-suc-suc}
 use Rattle.std.specs.Prelude.{slice_set}
-use Rattle.std.proofs.lemmas.List.{append-nil}
-use Rattle.std.proofs.Math.Dec.{eqb-suc-zero, eqb-zero-suc, eqb-suc-suc}
 use Rattle.monk_history.specs.QueueAt.{seats_at}
 
 module _ {Q : Type 0} (seats : Q → List ℕ) where

@@ -1,30 +1,21 @@
 //! What holds for every history, as laws that other crates may cite.
 ghost use Rattle.std.specs.Prelude.{◌≡◌, ◌≢◌, ◌≤◌, ◌<◌, ◌↔◌, ℕ, nat_lt, IsTrue, List, [], ◌∷◌, ◌++◌};
-ghost use Rattle.monk_kinds.specs.Kind.{IsKind};
-ghost use Rattle.monk_kinds.specs.Names.{rules_named};
-ghost use Rattle.monk_kinds.specs.declared.name.KindName.{KindName};
-ghost use Rattle.monk_kinds.specs.declared.mode.Pick.{Pick};
-ghost use Rattle.monk_history.specs.declared.event.Event.{Event};
-ghost use Rattle.monk_history.specs.declared.event.From3.{From3};
-ghost use Rattle.monk_history.specs.declared.event.Event.TheVariants.{Enter, Resume};
-ghost use Rattle.monk_history.specs.declared.event.Via.TheVariants.{Free, Handed};
-ghost use Rattle.monk_kinds.specs.declared.mode.Rules.{Rules};
-ghost use Rattle.monk_object.specs.Names.{meaning_named, opening_named};
-ghost use Rattle.monk_object.specs.declared.name.ObjectName.TheVariants.{Buffer, Book, Shop, Flags};
-ghost use Rattle.monk_history.specs.Meaning.Acts.{IsRunOf, IsInOrder, ExcludesEachOther, ServesEachOne, HoldsLastSet, acts_in};
-ghost use Rattle.monk_history.specs.Meaning.Counts.{events_of};
-ghost use Rattle.monk_history.specs.Meaning.Entry.{AdmitsUnknown, IsAtDoor, IsDueFrom, IsQuiet};
-ghost use Rattle.monk_history.specs.Meaning.Legal.{IsLegal};
-ghost use Rattle.monk_history.specs.Meaning.Monitor.{Monitor, monitor, data_of};
-ghost use Rattle.monk_history.specs.Meaning.Moves.{CountsAfter, StandsAfter};
-ghost use Rattle.monk_history.specs.Meaning.Promises.{HoaresRule, NobodyComesBetween, ThePredicateHolds};
-ghost use Rattle.monk_history.specs.Meaning.Promises.{hands_over, has_hoares_rule, puts_callers_last};
-ghost use Rattle.monk_history.specs.Meaning.Reasons.{IsAllowed};
-ghost use Rattle.monk_history.specs.Meaning.Release.{MayCall, as_called};
-ghost use Rattle.monk_history.specs.Meaning.Situation.{situation};
+ghost use Rattle.monk_kinds.specs.{Kind.IsKind, Names.rules_named};
+ghost use Rattle.monk_kinds.specs.declared.{name.KindName.KindName, mode.Pick.Pick, mode.Rules.Rules};
+ghost use Rattle.monk_history.specs.declared.event.{From3.From3, Via.TheVariants.Free, Via.TheVariants.Handed};
+ghost use Rattle.monk_history.specs.declared.event.Event.{Event, TheVariants.Enter, TheVariants.Resume};
+ghost use Rattle.monk_history.specs.Meaning.{Acts.IsRunOf, Acts.IsInOrder, Acts.ExcludesEachOther, Acts.ServesEachOne};
+ghost use Rattle.monk_history.specs.Meaning.{Acts.HoldsLastSet, Acts.acts_in, Counts.events_of, Legal.IsLegal};
+ghost use Rattle.monk_history.specs.Meaning.{Monitor.Monitor, Monitor.monitor, Monitor.data_of, Moves.CountsAfter};
+ghost use Rattle.monk_history.specs.Meaning.{Moves.StandsAfter, Reasons.IsAllowed, Situation.situation, Turn.is_inside};
 ghost use Rattle.monk_history.specs.Meaning.Standing.{IsPlaced, in_queues};
-ghost use Rattle.monk_history.specs.Meaning.Turn.{is_inside};
+ghost use Rattle.monk_history.specs.Meaning.Promises.{HoaresRule, NobodyComesBetween, ThePredicateHolds, hands_over};
+ghost use Rattle.monk_history.specs.Meaning.Promises.{has_hoares_rule, puts_callers_last};
 ghost use Rattle.monk_history.specs.Meaning.Untils.{untils, untils_while_false, StaysWhereItHolds};
+ghost use Rattle.monk_history.specs.Meaning.Release.{MayCall, as_called};
+ghost use Rattle.monk_history.specs.Meaning.Entry.{AdmitsUnknown, IsAtDoor, IsDueFrom, IsQuiet};
+ghost use Rattle.monk_object.specs.declared.name.ObjectName.TheVariants.{Buffer, Book, Shop, Flags};
+ghost use Rattle.monk_object.specs.Names.{meaning_named, opening_named};
 
 /// The empty history is legal, and a legal history plus one allowed event is legal.
 pub fn history_grows()

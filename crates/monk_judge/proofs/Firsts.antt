@@ -1,9 +1,8 @@
 -- The thread that comes back first, seat by seat
 use Rattle.std.proofs.Common.{◌≡◌, ◌⊎◌, ℕ, ◌+◌, ◌<◌, ◌≤◌, inl, inr, Option, Some, None, length, get_or, arith, sym, subst}
-use Rattle.monk_judge.specs.declared.place.Place.TheVariants.{Outside, Waiting}
+use Rattle.monk_judge.proofs.{Among.here_or_below, Sleepers.sleeps_within}
 use Rattle.monk_judge.specs.Shown.{IsEarliest, IsFirstBelow, ResumesNoLater, Shown}
-use Rattle.monk_judge.proofs.Among.{here_or_below}
-use Rattle.monk_judge.proofs.Sleepers.{sleeps_within}
+use Rattle.monk_judge.specs.declared.place.Place.TheVariants.{Outside, Waiting}
 
 -- the seat doesn't sleep there
 pub first_skip : (n : ℕ) (v : Shown) (c : ℕ) (first : Option ℕ) → IsFirstBelow n v c first

@@ -2,13 +2,10 @@
 use Rattle.std.proofs.Common.{◌≡◌, ◌∙◌, ◌+◌, ◌<◌, ◌≤◌, ℕ, zero, suc, List, [], ◌∷◌, ◌++◌, length, get_or, take, drop, refl, sym, ap, ap₂, arith}
 use Rattle.std.proofs.Math.Seq.{drop-cons}
 use Rattle.std.proofs.lemmas.List.{append-nil, append_assoc, drop_all, take_all, take_more}
-use Rattle.monk_judge.specs.declared.place.Place.{Place}
-use Rattle.monk_judge.specs.declared.place.Place.TheVariants.{Outside}
-use Rattle.monk_judge.specs.declared.step.Step.{Step}
-use Rattle.monk_judge.specs.declared.step.Step.TheVariants.{Tells, RunsOut, WakesUnasked}
+use Rattle.monk_judge.specs.{Judged.after_all, Run.Setting, Run.State, Run.IsRun, Run.after}
 use Rattle.monk_judge.specs.Followed.{behind_lines, left_by, places_below, telling}
-use Rattle.monk_judge.specs.Judged.{after_all}
-use Rattle.monk_judge.specs.Run.{Setting, State, IsRun, after}
+use Rattle.monk_judge.specs.declared.place.Place.{Place, TheVariants.Outside}
+use Rattle.monk_judge.specs.declared.step.Step.{Step, TheVariants.Tells, TheVariants.RunsOut, TheVariants.WakesUnasked}
 
 -- ---- places as a list
 

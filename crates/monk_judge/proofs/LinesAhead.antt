@@ -3,11 +3,10 @@ use Rattle.std.proofs.Common.{◌≡◌, ℕ, zero, suc, ◌+◌, ◌<◌, ◌�
 use Rattle.std.proofs.lemmas.Bool.{eq-eqb, false≢true, ne_eqb}
 use Rattle.std.proofs.lemmas.List.{drop_all, get_or-set_same, get_or-set_other}
 use Rattle.monk_logs.specs.Log.{is_lapse, line_seat}
-use Rattle.monk_logs.specs.declared.text.line.LogLine.{LogLine}
-use Rattle.monk_logs.specs.declared.text.line.LogLine.TheVariants.{Enter}
+use Rattle.monk_logs.specs.declared.text.line.LogLine.{LogLine, TheVariants.Enter}
+use Rattle.monk_judge.specs.Ends.{IsEnd, ResumesBy, is_resume, lapses_next, resumes_within, runs_out}
 use Rattle.monk_judge.specs.declared.wait_end.WaitEnd.{WaitEnd}
 use Rattle.monk_judge.specs.declared.wait_end.WaitEnd.TheVariants.{Resumes, RunsOut, Never}
-use Rattle.monk_judge.specs.Ends.{IsEnd, ResumesBy, is_resume, lapses_next, resumes_within, runs_out}
 
 -- ---- past a line
 

@@ -1,7 +1,6 @@
 -- How many of the first numbers have a property, one number further on
 use Rattle.std.proofs.Common.{◌≡◌, ℕ, zero, suc, ◌<◌, ◌≤◌, ◌⊎◌, inl, inr, Option, Some, None, subst, arith}
-use Rattle.monk_judge.specs.Among.{AreMany, NamesFirst}
-use Rattle.monk_judge.proofs.Among.{SameBelow}
+use Rattle.monk_judge.{specs.Among.AreMany, specs.Among.NamesFirst, proofs.Among.SameBelow}
 
 -- ---- counting
 

@@ -4,17 +4,16 @@ use Rattle.std.proofs.lemmas.Bool.{false≢true}
 use Rattle.monk_object.specs.declared.op.Op.{Op}
 use Rattle.monk_logs.specs.Log.{line_seat}
 use Rattle.monk_logs.specs.declared.text.line.LogLine.{LogLine}
-use Rattle.monk_logs.specs.declared.text.line.LogLine.TheVariants.{Enter, Resume, Lapse, Leave, Wait, Signal, Broadcast, Until, Act}
+use Rattle.monk_logs.specs.declared.text.line.LogLine.TheVariants.{Enter, Resume, Lapse, Leave, Wait, Signal, Broadcast}
+use Rattle.monk_logs.specs.declared.text.line.LogLine.TheVariants.{Until, Act}
+use Rattle.monk_judge.proofs.{Least.elsewhere, Least.here, Sleepers.HoldersAct}
+use Rattle.monk_judge.specs.{Ends.is_resume, Holding.takes_lock, Overtaken.is_refused}
+use Rattle.monk_judge.specs.Judged.{CanStand, IsRight, after_all, running_out, steps_at, waking}
+use Rattle.monk_judge.specs.Run.{HasRunOut, Setting, State, after, takes, WakesRightly, run_out, signalled, with_place}
+use Rattle.monk_judge.specs.Run.{woken, woken_unasked}
 use Rattle.monk_judge.specs.declared.place.Place.{Place}
 use Rattle.monk_judge.specs.declared.place.Place.TheVariants.{Outside, Active, Waiting, Woken, RanOut}
 use Rattle.monk_judge.specs.declared.step.Step.TheVariants.{Tells, WakesUnasked}
-use Rattle.monk_judge.specs.Ends.{is_resume}
-use Rattle.monk_judge.specs.Holding.{takes_lock}
-use Rattle.monk_judge.specs.Overtaken.{is_refused}
-use Rattle.monk_judge.specs.Judged.{CanStand, IsRight, after_all, running_out, steps_at, waking}
-use Rattle.monk_judge.specs.Run.{HasRunOut, Setting, State, after, takes, WakesRightly, run_out, signalled, with_place, woken, woken_unasked}
-use Rattle.monk_judge.proofs.Least.{elsewhere, here}
-use Rattle.monk_judge.proofs.Sleepers.{HoldersAct}
 
 pub record Moves (x : State) (l : LogLine) (y : State) : Type 0 where
   pub free : takes_lock l ≡ true → x.lock ≡ None

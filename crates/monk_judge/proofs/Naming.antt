@@ -2,10 +2,8 @@
 use Rattle.std.proofs.Common.{◌≡◌, ℕ, ◌+◌, Bool, true, false, [], ◌∷◌, None, nat_lt, refl, sym, ap, arith, ◌∙◌}
 use Rattle.monk_logs.specs.declared.text.line.LogLine.TheVariants.{Broadcast, Wait}
 use Rattle.monk_judge.specs.declared.told.Told.TheVariants as told
+use Rattle.monk_judge.specs.{Judged.running_out, Run.Setting, Run.State, declared.step.Step.TheVariants.Tells}
 use Rattle.monk_judge.specs.Counts.{Names, one, sleepers_on}
-use Rattle.monk_judge.specs.Judged.{running_out}
-use Rattle.monk_judge.specs.Run.{Setting, State}
-use Rattle.monk_judge.specs.declared.step.Step.TheVariants.{Tells}
 
 pub wait_names : (m : Setting) (x : State) (s c : ℕ) (b : Bool)
     → Names m x (Tells (Wait s c) None ∷ running_out s b) told.Plain

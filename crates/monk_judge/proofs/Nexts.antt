@@ -1,16 +1,12 @@
 -- The next line of a thread that came back overtaken, after one more line
 use Rattle.std.proofs.Common.{◌≡◌, ℕ, ◌-◌, ◌<◌, inl, inr, List, [], ◌∷◌, ◌++◌, length, sym, ap, subst, arith, ◌∙◌}
 use Rattle.monk_logs.specs.Log.{line_seat}
-use Rattle.monk_logs.specs.declared.text.line.LogLine.{LogLine}
-use Rattle.monk_logs.specs.declared.text.line.LogLine.TheVariants.{Wait}
-use Rattle.monk_judge.specs.Ends.{is_resume}
-use Rattle.monk_judge.specs.Moments.{Moment, moment}
-use Rattle.monk_judge.specs.Overtaken.{GoesOnBy, IsNext, IsOvertaken, IsOvertakenOn, IsPassed, WaitsAgain, is_refused, seat_at}
-use Rattle.monk_judge.proofs.Among.{SameBelow, here_or_below}
-use Rattle.monk_judge.proofs.Missing.{more_many}
-use Rattle.monk_judge.proofs.Moments.{moment_kept, moment_last}
-use Rattle.monk_judge.proofs.Passing.{woken_same}
-use Rattle.monk_judge.proofs.Visits.{passed_kept, seat_kept}
+use Rattle.monk_logs.specs.declared.text.line.LogLine.{LogLine, TheVariants.Wait}
+use Rattle.monk_judge.proofs.{Among.SameBelow, Among.here_or_below, Missing.more_many, Moments.moment_kept}
+use Rattle.monk_judge.proofs.{Moments.moment_last, Passing.woken_same, Visits.passed_kept, Visits.seat_kept}
+use Rattle.monk_judge.specs.{Ends.is_resume, Moments.Moment, Moments.moment}
+use Rattle.monk_judge.specs.Overtaken.{GoesOnBy, IsNext, IsOvertaken, IsOvertakenOn, IsPassed, WaitsAgain, is_refused}
+use Rattle.monk_judge.specs.Overtaken.{seat_at}
 
 -- ---- the lines before, after one more line
 

@@ -3,16 +3,15 @@ use Rattle.std.proofs.Common.{◌≡◌, ℕ, ◌+◌, ◌-◌, ◌<◌, ◌≤�
 use Rattle.std.proofs.lemmas.Bool.{cases_Bool, eq-eqb, false≢true, ne_eqb}
 use Rattle.monk_logs.specs.LastLine.{signals_to}
 use Rattle.monk_logs.specs.declared.text.line.LogLine.{LogLine}
-use Rattle.monk_logs.specs.declared.text.line.LogLine.TheVariants.{Enter, Resume, Lapse, Leave, Wait, Signal, Broadcast, Until, Act}
-use Rattle.monk_judge.specs.declared.place.Place.{Place}
-use Rattle.monk_judge.specs.declared.place.Place.TheVariants.{Outside, Active, Waiting, Woken, RanOut}
-use Rattle.monk_judge.specs.Hints.{other_than, passed_after, passing_after, woken_on}
-use Rattle.monk_judge.specs.Holding.{takes_lock}
-use Rattle.monk_judge.specs.Moments.{Moment, moment}
-use Rattle.monk_judge.specs.Overtaken.{IsPassed, seat_at}
-use Rattle.monk_judge.specs.Run.{State}
+use Rattle.monk_logs.specs.declared.text.line.LogLine.TheVariants.{Enter, Resume, Lapse, Leave, Wait, Signal, Broadcast}
+use Rattle.monk_logs.specs.declared.text.line.LogLine.TheVariants.{Until, Act}
 use Rattle.monk_judge.proofs.Moves.{Moves}
 use Rattle.monk_judge.proofs.Visits.{IsPassing, passing_back, passing_more, passing_now}
+use Rattle.monk_judge.specs.{Holding.takes_lock, Overtaken.IsPassed, Overtaken.seat_at, Run.State}
+use Rattle.monk_judge.specs.Moments.{Moment, moment}
+use Rattle.monk_judge.specs.Hints.{other_than, passed_after, passing_after, woken_on}
+use Rattle.monk_judge.specs.declared.place.Place.{Place}
+use Rattle.monk_judge.specs.declared.place.Place.TheVariants.{Outside, Active, Waiting, Woken, RanOut}
 
 -- ---- what the tables say of one seat
 

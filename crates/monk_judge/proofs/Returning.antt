@@ -2,23 +2,16 @@
 use Rattle.std.proofs.Common.{◌≡◌, ℕ, suc, ◌+◌, ◌<◌, ◌⊎◌, inl, inr, true, List, [], ◌∷◌, ◌++◌, Option, Some, None, length, if◌then◌else◌, refl, sym, ap, subst, arith, ◌∙◌}
 use Rattle.std.proofs.lemmas.Bool.{eq-eqb, ne_eqb}
 use Rattle.monk_logs.specs.Log.{line_seat}
-use Rattle.monk_logs.specs.declared.text.line.LogLine.{LogLine}
-use Rattle.monk_logs.specs.declared.text.line.LogLine.TheVariants.{Wait}
-use Rattle.monk_judge.specs.declared.overtaking.Back.{Back}
-use Rattle.monk_judge.specs.declared.overtaking.Hints.{Hints}
+use Rattle.monk_logs.specs.declared.text.line.LogLine.{LogLine, TheVariants.Wait}
+use Rattle.monk_judge.proofs.{Among.SameBelow, Among.here_or_below, Missing.more_many, Moments.moment_kept}
+use Rattle.monk_judge.proofs.{Rivals.resume_takes, Many.first_same, Many.many_one, Many.many_same, Visits.seat_kept}
+use Rattle.monk_judge.proofs.Nexts.{HasNext, again_back, again_if_next, again_more, at_last, cond_same, goes_by}
+use Rattle.monk_judge.proofs.Nexts.{on_kept, overtaken_kept}
+use Rattle.monk_judge.specs.{Hints.without, Holding.takes_lock, Moments.Moment, Moments.moment, Run.State}
+use Rattle.monk_judge.specs.Overtaken.{CountsOvertaken, GoesOn, GoesOnBy, IsOvertaken, IsOvertakenOn, WaitsAgain}
+use Rattle.monk_judge.specs.Overtaken.{is_refused, seat_at}
+use Rattle.monk_judge.specs.declared.overtaking.{Back.Back, Hints.Hints}
 use Rattle.monk_judge.specs.Among.{AreMany, NamesFirst}
-use Rattle.monk_judge.specs.Hints.{without}
-use Rattle.monk_judge.specs.Holding.{takes_lock}
-use Rattle.monk_judge.specs.Moments.{Moment, moment}
-use Rattle.monk_judge.specs.Overtaken.{CountsOvertaken, GoesOn, GoesOnBy, IsOvertaken, IsOvertakenOn, WaitsAgain, is_refused, seat_at}
-use Rattle.monk_judge.specs.Run.{State}
-use Rattle.monk_judge.proofs.Among.{SameBelow, here_or_below}
-use Rattle.monk_judge.proofs.Missing.{more_many}
-use Rattle.monk_judge.proofs.Moments.{moment_kept}
-use Rattle.monk_judge.proofs.Rivals.{resume_takes}
-use Rattle.monk_judge.proofs.Many.{first_same, many_one, many_same}
-use Rattle.monk_judge.proofs.Nexts.{HasNext, again_back, again_if_next, again_more, at_last, cond_same, goes_by, on_kept, overtaken_kept}
-use Rattle.monk_judge.proofs.Visits.{seat_kept}
 
 -- ---- the thread that came back last
 

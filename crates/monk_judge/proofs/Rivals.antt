@@ -4,19 +4,16 @@ use Rattle.std.proofs.lemmas.Bool.{eqb-true, false≢true}
 use Rattle.monk_object.specs.declared.op.Op.{Op}
 use Rattle.monk_logs.specs.Log.{line_seat}
 use Rattle.monk_logs.specs.declared.text.line.LogLine.{LogLine}
-use Rattle.monk_logs.specs.declared.text.line.LogLine.TheVariants.{Enter, Resume, Lapse, Leave, Wait, Signal, Broadcast, Until, Act}
-use Rattle.monk_judge.specs.Ends.{is_resume}
-use Rattle.monk_judge.specs.Hints.{marked, passed_after, passed_of, unmarked}
-use Rattle.monk_judge.specs.Holding.{takes_lock}
-use Rattle.monk_judge.specs.Moments.{Moment, moment}
-use Rattle.monk_judge.specs.Overtaken.{IsOvertaken, IsOvertakenOn, IsPassed, seat_at, waits_in}
-use Rattle.monk_judge.specs.Run.{State}
-use Rattle.monk_judge.proofs.Among.{here_or_below}
-use Rattle.monk_judge.proofs.Missing.{more_many}
+use Rattle.monk_logs.specs.declared.text.line.LogLine.TheVariants.{Enter, Resume, Lapse, Leave, Wait, Signal, Broadcast}
+use Rattle.monk_logs.specs.declared.text.line.LogLine.TheVariants.{Until, Act}
+use Rattle.monk_judge.proofs.{Among.here_or_below, Missing.more_many, Moves.Moves, Moves.active_woken}
 use Rattle.monk_judge.proofs.Moments.{moment_kept, moment_last}
-use Rattle.monk_judge.proofs.Moves.{Moves, active_woken}
-use Rattle.monk_judge.proofs.Passing.{Alone, Line, Marks, MarksMore, closed_next, open_next, some_none, some_some, still_passing, still_woken, unmarked_by, unmarked_none, woken_same}
 use Rattle.monk_judge.proofs.Visits.{IsPassing, LeavesNow, passed_back, passed_kept, passed_more, passed_now, seat_kept}
+use Rattle.monk_judge.proofs.Passing.{Alone, Line, Marks, MarksMore, closed_next, open_next, some_none, some_some}
+use Rattle.monk_judge.proofs.Passing.{still_passing, still_woken, unmarked_by, unmarked_none, woken_same}
+use Rattle.monk_judge.specs.{Ends.is_resume, Holding.takes_lock, Moments.Moment, Moments.moment, Run.State}
+use Rattle.monk_judge.specs.Hints.{marked, passed_after, passed_of, unmarked}
+use Rattle.monk_judge.specs.Overtaken.{IsOvertaken, IsOvertakenOn, IsPassed, seat_at, waits_in}
 
 -- ---- who was passed
 

@@ -2,21 +2,14 @@
 use Rattle.std.proofs.Common.{◌≡◌, ℕ, zero, suc, ◌<◌, ◌==◌, false, List, [], ◌∷◌, Option, Some, None, length, arith, refl, sym, ap, subst, ◌∙◌}
 use Rattle.std.proofs.lemmas.Bool.{false≢true, ne_eqb}
 use Rattle.monk_object.specs.Object.{Object}
-use Rattle.monk_logs.specs.declared.text.line.LogLine.{LogLine}
-use Rattle.monk_logs.specs.declared.text.line.LogLine.TheVariants.{Enter, Resume, Wait}
-use Rattle.monk_judge.specs.declared.place.Place.TheVariants.{Woken}
-use Rattle.monk_judge.specs.declared.report.Report.{Report}
-use Rattle.monk_judge.specs.declared.step.Step.{Step}
-use Rattle.monk_judge.specs.declared.step.Step.TheVariants.{Tells, RunsOut, WakesUnasked}
-use Rattle.monk_judge.specs.declared.waits_for.WaitsFor.{WaitsFor}
-use Rattle.monk_judge.specs.Asked.{ComeBackAtOnce, asked, asked_by}
-use Rattle.monk_judge.specs.Counts.{sleepers, woken_ones}
-use Rattle.monk_judge.specs.Judged.{after_all}
-use Rattle.monk_judge.specs.Missed.{AllHold, Holds, IsMissedAt, NamesFirstMissed, is_from_outside}
+use Rattle.monk_logs.specs.declared.text.line.LogLine.{LogLine, TheVariants.Enter, TheVariants.Resume, TheVariants.Wait}
+use Rattle.monk_judge.specs.{Counts.sleepers, Counts.woken_ones, Judged.after_all, Reports.IsReport, Reports.fitting}
+use Rattle.monk_judge.specs.{Run.opening, Run.setting, Sleeper.ToldAsleep, Sleeper.ToldMissed, Sleeper.comes_and_waits}
 use Rattle.monk_judge.specs.Moments.{Moment, moment, moments}
-use Rattle.monk_judge.specs.Reports.{IsReport, fitting}
-use Rattle.monk_judge.specs.Run.{opening, setting}
-use Rattle.monk_judge.specs.Sleeper.{ToldAsleep, ToldMissed, comes_and_waits}
+use Rattle.monk_judge.specs.Missed.{AllHold, Holds, IsMissedAt, NamesFirstMissed, is_from_outside}
+use Rattle.monk_judge.specs.Asked.{ComeBackAtOnce, asked, asked_by}
+use Rattle.monk_judge.specs.declared.{place.Place.TheVariants.Woken, report.Report.Report, waits_for.WaitsFor.WaitsFor}
+use Rattle.monk_judge.specs.declared.step.Step.{Step, TheVariants.Tells, TheVariants.RunsOut, TheVariants.WakesUnasked}
 
 -- the steps are these two
 record AreBoth (steps : List Step) : Type 0 where

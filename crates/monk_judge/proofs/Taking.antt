@@ -1,43 +1,29 @@
 -- What holds while a judge takes the lines of a log
 use Rattle.std.proofs.Common.{◌≡◌, Bool, false, ℕ, ◌<◌, ◌≤◌, ◌+◌, ◌*◌, List, [], ◌++◌, Option, Some, None, length, get_or, refl, sym, ap, subst, arith, ◌∙◌}
 use Rattle.monk_object.specs.Object.{Object}
-use Rattle.monk_logs.specs.Crossed.{crossed_of}
-use Rattle.monk_logs.specs.Log.{line_seat}
+use Rattle.monk_logs.specs.{Crossed.crossed_of, Log.line_seat}
 use Rattle.monk_logs.specs.declared.crossed.Crossed.{Crossed}
 use Rattle.monk_logs.specs.declared.text.line.LogLine.{LogLine}
-use Rattle.monk_logs.specs.declared.text.line.LogLine.TheVariants.{Enter, Resume, Lapse, Leave, Wait, Signal, Broadcast, Until, Act}
-use Rattle.monk_judge.specs.declared.holder.Holder.{Holder}
-use Rattle.monk_judge.specs.declared.misfit.Misfit.{Misfit}
-use Rattle.monk_judge.specs.declared.missed.Missed.{Missed}
-use Rattle.monk_judge.specs.declared.overtaking.Hints.{Hints}
-use Rattle.monk_judge.specs.declared.place.Place.{Place}
-use Rattle.monk_judge.specs.declared.place.Place.TheVariants.{Outside}
-use Rattle.monk_judge.specs.declared.tally.Tally.{Tally}
-use Rattle.monk_judge.specs.declared.told.Told.{Told}
-use Rattle.monk_judge.specs.declared.wait_end.WaitEnd.{WaitEnd}
-use Rattle.monk_judge.specs.declared.waits_for.WaitsFor.{WaitsFor}
-use Rattle.monk_judge.specs.declared.wait_end.WaitEnd.TheVariants.{Resumes}
-use Rattle.monk_judge.specs.Counts.{count, is_asleep, is_woken, sleepers, woken_ones}
-use Rattle.monk_judge.specs.Ends.{AreEnds, runs_out}
-use Rattle.monk_judge.specs.Judged.{CanStand, after_all, steps_at}
-use Rattle.monk_judge.specs.Missed.{LooksAt, is_from_outside}
-use Rattle.monk_judge.specs.Hints.{ComesBack, AnswersOwn, passed_of}
-use Rattle.monk_judge.specs.Holding.{IsHolder, NamesLastTaking, holder_by}
-use Rattle.monk_judge.specs.Moments.{Moment, moments}
-use Rattle.monk_judge.specs.Reports.{IsCounted, IsReport, IsTaken, NamesFirstNeed, NamesLastUnheard, fitting}
-use Rattle.monk_judge.specs.Run.{Setting, State, opening}
-use Rattle.monk_judge.specs.declared.step.Step.{Step}
-use Rattle.monk_judge.specs.Shown.{Refuses, Shown, Takes, own_steps, setting_of, state_of, whom}
-use Rattle.monk_judge.proofs.Missing.{Known, known_next, known_opening}
-use Rattle.monk_judge.proofs.Holding.{holder_is}
-use Rattle.monk_judge.proofs.Moves.{Moves, line_moves}
-use Rattle.monk_judge.proofs.Passing.{Marks, MarksMore}
-use Rattle.monk_judge.proofs.Rivals.{marks_next}
-use Rattle.monk_judge.proofs.Returning.{Hinted}
-use Rattle.monk_judge.proofs.Hinting.{hinted_few, hinted_next}
-use Rattle.monk_judge.proofs.Moments.{line_meets}
-use Rattle.monk_judge.proofs.Reaching.{Reached, least_of, many_moments, moments_next, reached_next, reached_opening, run_all, run_stop, stands_there}
+use Rattle.monk_logs.specs.declared.text.line.LogLine.TheVariants.{Enter, Resume, Lapse, Leave, Wait, Signal, Broadcast}
+use Rattle.monk_logs.specs.declared.text.line.LogLine.TheVariants.{Until, Act}
+use Rattle.monk_judge.proofs.{Missing.Known, Missing.known_next, Missing.known_opening, Holding.holder_is, Moves.Moves}
+use Rattle.monk_judge.proofs.{Moves.line_moves, Passing.Marks, Passing.MarksMore, Rivals.marks_next, Returning.Hinted}
+use Rattle.monk_judge.proofs.{Hinting.hinted_few, Hinting.hinted_next, Moments.line_meets}
+use Rattle.monk_judge.proofs.Reaching.{Reached, least_of, many_moments, moments_next, reached_next, reached_opening}
+use Rattle.monk_judge.proofs.Reaching.{run_all, run_stop, stands_there}
 use Rattle.monk_judge.proofs.Tallies.{CountsMore, IsNothing, counted_next}
+use Rattle.monk_judge.specs.{Ends.AreEnds, Ends.runs_out, Missed.LooksAt, Missed.is_from_outside, Hints.ComesBack}
+use Rattle.monk_judge.specs.{Hints.AnswersOwn, Hints.passed_of, Moments.Moment, Moments.moments}
+use Rattle.monk_judge.specs.declared.{holder.Holder.Holder, misfit.Misfit.Misfit, missed.Missed.Missed}
+use Rattle.monk_judge.specs.declared.{overtaking.Hints.Hints, place.Place.Place, place.Place.TheVariants.Outside}
+use Rattle.monk_judge.specs.declared.{tally.Tally.Tally, told.Told.Told, waits_for.WaitsFor.WaitsFor, step.Step.Step}
+use Rattle.monk_judge.specs.declared.wait_end.WaitEnd.{WaitEnd, TheVariants.Resumes}
+use Rattle.monk_judge.specs.Holding.{IsHolder, NamesLastTaking, holder_by}
+use Rattle.monk_judge.specs.Judged.{CanStand, after_all, steps_at}
+use Rattle.monk_judge.specs.Run.{Setting, State, opening}
+use Rattle.monk_judge.specs.Reports.{IsCounted, IsReport, IsTaken, NamesFirstNeed, NamesLastUnheard, fitting}
+use Rattle.monk_judge.specs.Shown.{Refuses, Shown, Takes, own_steps, setting_of, state_of, whom}
+use Rattle.monk_judge.specs.Counts.{count, is_asleep, is_woken, sleepers, woken_ones}
 
 -- ---- the counts so far
 

@@ -1,26 +1,20 @@
 -- The counts over a run, after one more line
 use Rattle.std.proofs.Common.{◌≡◌, ℕ, ◌<◌, ◌≤◌, ◌+◌, List, [], ◌∷◌, ◌++◌, Option, Some, None, length, get_or, take, sym, ap, subst, arith, ◌∙◌}
 use Rattle.monk_object.specs.Object.{Object}
-use Rattle.monk_logs.specs.declared.text.line.LogLine.{LogLine}
-use Rattle.monk_logs.specs.declared.text.line.LogLine.TheVariants.{Enter}
-use Rattle.monk_judge.specs.declared.tally.Tally.{Tally}
-use Rattle.monk_judge.specs.Among.{NamesLast}
-use Rattle.monk_judge.specs.declared.told.Told.{Told}
+use Rattle.monk_logs.specs.declared.text.line.LogLine.{LogLine, TheVariants.Enter}
 use Rattle.monk_judge.specs.declared.told.Told.TheVariants as told
-use Rattle.monk_judge.specs.declared.wait_end.WaitEnd.{WaitEnd}
-use Rattle.monk_judge.specs.Counts.{finds_nobody, first_after, last_after, passed_in, passes, spurious_in, total, unheard_in, wakes, wakes_in}
-use Rattle.monk_judge.specs.Ends.{runs_out}
-use Rattle.monk_judge.specs.Judged.{after_all}
-use Rattle.monk_judge.specs.Moments.{Moment, moment, moments}
-use Rattle.monk_judge.specs.Reports.{IsCounted, IsUnheard, NamesFirstNeed, NamesLastUnheard}
-use Rattle.monk_judge.specs.Run.{Setting, State, IsRun, after, lines_of, opening, unasked}
-use Rattle.monk_judge.specs.declared.step.Step.{Step}
-use Rattle.monk_judge.specs.declared.step.Step.TheVariants.{Tells, RunsOut, WakesUnasked}
-use Rattle.monk_judge.specs.Shown.{Shown, Takes, own_steps, setting_of, state_of, whom}
-use Rattle.monk_judge.proofs.Among.{last_here, last_skip}
-use Rattle.monk_judge.proofs.Missing.{more_many}
-use Rattle.monk_judge.proofs.Moments.{Meets, line_meets, moment_kept, moment_last}
+use Rattle.monk_judge.proofs.{Among.last_here, Among.last_skip, Missing.more_many}
 use Rattle.monk_judge.proofs.Reaching.{Reached, many_moments, moments_next, stands_there}
+use Rattle.monk_judge.proofs.Moments.{Meets, line_meets, moment_kept, moment_last}
+use Rattle.monk_judge.specs.{Among.NamesLast, Ends.runs_out, Judged.after_all}
+use Rattle.monk_judge.specs.Moments.{Moment, moment, moments}
+use Rattle.monk_judge.specs.declared.{tally.Tally.Tally, told.Told.Told, wait_end.WaitEnd.WaitEnd}
+use Rattle.monk_judge.specs.declared.step.Step.{Step, TheVariants.Tells, TheVariants.RunsOut, TheVariants.WakesUnasked}
+use Rattle.monk_judge.specs.Run.{Setting, State, IsRun, after, lines_of, opening, unasked}
+use Rattle.monk_judge.specs.Reports.{IsCounted, IsUnheard, NamesFirstNeed, NamesLastUnheard}
+use Rattle.monk_judge.specs.Shown.{Shown, Takes, own_steps, setting_of, state_of, whom}
+use Rattle.monk_judge.specs.Counts.{finds_nobody, first_after, last_after, passed_in, passes, spurious_in, total}
+use Rattle.monk_judge.specs.Counts.{unheard_in, wakes, wakes_in}
 
 -- ---- counts of two parts of a run
 

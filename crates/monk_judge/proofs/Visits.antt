@@ -1,16 +1,11 @@
 -- Visits and those whom they overtake, after one more line
 use Rattle.std.proofs.Common.{◌≡◌, ℕ, ◌+◌, ◌<◌, ◌≤◌, ◌⊎◌, inl, inr, true, false, List, [], ◌∷◌, ◌++◌, length, refl, sym, ap, subst, arith, ◌∙◌}
-use Rattle.monk_logs.specs.LastLine.{signals_to}
-use Rattle.monk_logs.specs.Log.{line_seat}
-use Rattle.monk_logs.specs.declared.text.line.LogLine.{LogLine}
-use Rattle.monk_logs.specs.declared.text.line.LogLine.TheVariants.{Enter, Leave}
-use Rattle.monk_judge.specs.declared.place.Place.TheVariants.{Woken}
-use Rattle.monk_judge.specs.Holding.{takes_lock}
-use Rattle.monk_judge.specs.Moments.{Moment, moment}
+use Rattle.monk_logs.specs.{LastLine.signals_to, Log.line_seat}
+use Rattle.monk_logs.specs.declared.text.line.LogLine.{LogLine, TheVariants.Enter, TheVariants.Leave}
+use Rattle.monk_judge.proofs.{Among.here_or_below, Moments.moment_kept, Moments.moment_last}
+use Rattle.monk_judge.specs.{declared.place.Place.TheVariants.Woken, Holding.takes_lock, Run.State}
 use Rattle.monk_judge.specs.Overtaken.{IsPassed, IsRival, IsVisit, seat_at, waits_in}
-use Rattle.monk_judge.specs.Run.{State}
-use Rattle.monk_judge.proofs.Among.{here_or_below}
-use Rattle.monk_judge.proofs.Moments.{moment_kept, moment_last}
+use Rattle.monk_judge.specs.Moments.{Moment, moment}
 
 -- the visit from some line on may overtake the seat: since then it was woken, and nobody signalled there
 pub record IsPassing (all : List Moment) (n s c : ℕ) : Type 0 where

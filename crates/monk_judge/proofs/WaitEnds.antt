@@ -1,7 +1,6 @@
 -- Which of two waits ends earlier
 use Rattle.std.proofs.Common.{◌≡◌, ◌⊎◌, ℕ, ◌≤◌, inl, inr, true, arith, sym, subst}
-use Rattle.std.proofs.lemmas.Bool.{ltb-true}
-use Rattle.std.specs.Prelude.{nat_lt}
+use Rattle.std.{proofs.lemmas.Bool.ltb-true, specs.Prelude.nat_lt}
 use Rattle.monk_judge.specs.Ends.{ResumesBy}
 use Rattle.monk_judge.specs.declared.wait_end.WaitEnd.{WaitEnd}
 use Rattle.monk_judge.specs.declared.wait_end.WaitEnd.TheVariants.{Resumes, RunsOut, Never}

@@ -1,12 +1,11 @@
 -- Why a line can't stand: the first of the reasons that applies
 use Rattle.std.specs.Prelude.{◌≡◌, ◌<◌, Some, None}
 use Rattle.monk_logs.specs.declared.text.line.LogLine.{LogLine}
-use Rattle.monk_logs.specs.declared.text.line.LogLine.TheVariants.{Enter, Resume, Lapse, Leave, Wait, Signal, Broadcast, Until, Act}
-use Rattle.monk_judge.specs.declared.blame.Blame.{Blame}
+use Rattle.monk_logs.specs.declared.text.line.LogLine.TheVariants.{Enter, Resume, Lapse, Leave, Wait, Signal, Broadcast}
+use Rattle.monk_logs.specs.declared.text.line.LogLine.TheVariants.{Until, Act}
 use Rattle.monk_judge.specs.declared.blame.Blame.TheVariants as blame
-use Rattle.monk_judge.specs.declared.place.Place.TheVariants.{Outside}
-use Rattle.monk_judge.specs.Judged.{CanResume}
-use Rattle.monk_judge.specs.Run.{HasRunOut, MaySignal, Setting, State}
+use Rattle.monk_judge.specs.{Judged.CanResume, Run.HasRunOut, Run.MaySignal, Run.Setting, Run.State}
+use Rattle.monk_judge.specs.declared.{blame.Blame.Blame, place.Place.TheVariants.Outside}
 
 -- its seat, condition and code are the header's
 abbrev pub IsInRange : Setting → LogLine → Type 0

@@ -1,9 +1,8 @@
 -- Which logs a program on a mutex can have written
 use Rattle.std.specs.Prelude.{◌≡◌, ℕ, ◌+◌, ◌<◌, ◌≤◌, List, Option, MatchOption, length, take}
 use Rattle.monk_logs.specs.declared.text.line.LogLine.{LogLine}
-use Rattle.monk_judge.specs.declared.misfit.Misfit.{Misfit}
 use Rattle.monk_judge.specs.Run.{Setting, State, IsRun, lines_of, opening, unasked}
-use Rattle.monk_judge.specs.declared.step.Step.{Step}
+use Rattle.monk_judge.specs.declared.{misfit.Misfit.Misfit, step.Step.Step}
 
 -- some run tells these lines
 pub record IsExplainable (m : Setting) (x : State) (lines : List LogLine) : Type 0 where

@@ -2,13 +2,12 @@
 use Rattle.std.specs.Prelude.{◌≡◌, ℕ, ◌+◌, ◌*◌, ◌<◌, ◌==◌, ◌⊎◌, Bool, false, List, Option, Some, None, slice_index_or, if◌then◌else◌}
 use Rattle.monk_logs.specs.Log.{line_seat}
 use Rattle.monk_logs.specs.declared.text.line.LogLine.{LogLine}
-use Rattle.monk_logs.specs.declared.text.line.LogLine.TheVariants.{Enter, Resume, Lapse, Leave, Wait, Signal, Broadcast, Until, Act}
-use Rattle.monk_judge.specs.declared.overtaking.Back.{Back}
-use Rattle.monk_judge.specs.declared.overtaking.Hints.{Hints}
+use Rattle.monk_logs.specs.declared.text.line.LogLine.TheVariants.{Enter, Resume, Lapse, Leave, Wait, Signal, Broadcast}
+use Rattle.monk_logs.specs.declared.text.line.LogLine.TheVariants.{Until, Act}
+use Rattle.monk_judge.specs.{Holding.takes_lock, Overtaken.GoesOnBy, Overtaken.waits_in}
 use Rattle.monk_judge.specs.declared.place.Place.{Place}
 use Rattle.monk_judge.specs.declared.place.Place.TheVariants.{Outside, Active, Waiting, Woken, RanOut}
-use Rattle.monk_judge.specs.Holding.{takes_lock}
-use Rattle.monk_judge.specs.Overtaken.{GoesOnBy, waits_in}
+use Rattle.monk_judge.specs.declared.overtaking.{Back.Back, Hints.Hints}
 
 -- the condition on which a thread there was woken
 abbrev pub woken_on : Place → Option ℕ

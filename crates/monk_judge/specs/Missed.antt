@@ -3,13 +3,11 @@ use Rattle.std.specs.Prelude.{◌≡◌, ℕ, ◌<◌, ◌==◌, ◌||◌, ◌�
 use Rattle.std.specs.List.{All, Any}
 use Rattle.monk_object.specs.Object.{Object}
 use Rattle.monk_logs.specs.declared.text.line.LogLine.{LogLine}
-use Rattle.monk_logs.specs.declared.text.line.LogLine.TheVariants.{Enter, Resume, Lapse, Leave, Wait, Signal, Broadcast, Until, Act}
+use Rattle.monk_logs.specs.declared.text.line.LogLine.TheVariants.{Enter, Resume, Lapse, Leave, Wait, Signal, Broadcast}
+use Rattle.monk_logs.specs.declared.text.line.LogLine.TheVariants.{Until, Act}
+use Rattle.monk_judge.specs.{Among.NamesFirst, Moments.Moment, Moments.moment, Run.State}
+use Rattle.monk_judge.specs.declared.{missed.Missed.Missed, waits_for.WaitsFor.WaitsFor}
 use Rattle.monk_judge.specs.declared.place.Place.TheVariants.{Waiting, Woken}
-use Rattle.monk_judge.specs.declared.missed.Missed.{Missed}
-use Rattle.monk_judge.specs.declared.waits_for.WaitsFor.{WaitsFor}
-use Rattle.monk_judge.specs.Among.{NamesFirst}
-use Rattle.monk_judge.specs.Moments.{Moment, moment}
-use Rattle.monk_judge.specs.Run.{State}
 
 -- the object has the predicate, and it holds
 abbrev pub Holds : Object → List ℕ → ℕ → Type 0

@@ -1,10 +1,8 @@
 -- What each line of a run finds
 use Rattle.std.specs.Prelude.{ℕ, List, [], ◌∷◌, Option, None, slice_index_or}
-use Rattle.monk_logs.specs.declared.text.line.LogLine.{LogLine}
-use Rattle.monk_logs.specs.declared.text.line.LogLine.TheVariants.{Enter}
-use Rattle.monk_judge.specs.declared.step.Step.{Step}
-use Rattle.monk_judge.specs.declared.step.Step.TheVariants.{Tells, RunsOut, WakesUnasked}
+use Rattle.monk_logs.specs.declared.text.line.LogLine.{LogLine, TheVariants.Enter}
 use Rattle.monk_judge.specs.Run.{Setting, State, after, opening}
+use Rattle.monk_judge.specs.declared.step.Step.{Step, TheVariants.Tells, TheVariants.RunsOut, TheVariants.WakesUnasked}
 
 -- a line, the thread that its signal wakes, and the states before and after it
 pub record Moment : Type 0 where

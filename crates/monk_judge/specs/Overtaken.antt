@@ -1,15 +1,12 @@
 -- Woken threads that come back after a rival, and what they do next
 use Rattle.std.specs.Prelude.{◌≡◌, ℕ, ◌<◌, ◌≤◌, ◌==◌, ◌&&◌, Bool, true, false, List, Option, length}
 use Rattle.std.specs.List.{list_any}
-use Rattle.monk_logs.specs.LastLine.{signals_to}
-use Rattle.monk_logs.specs.Log.{line_seat}
+use Rattle.monk_logs.specs.{LastLine.signals_to, Log.line_seat}
 use Rattle.monk_logs.specs.declared.text.line.LogLine.{LogLine}
-use Rattle.monk_logs.specs.declared.text.line.LogLine.TheVariants.{Enter, Resume, Lapse, Leave, Wait, Signal, Broadcast, Until, Act}
-use Rattle.monk_judge.specs.declared.place.Place.TheVariants.{Woken}
-use Rattle.monk_judge.specs.Among.{AreMany, NamesFirst}
-use Rattle.monk_judge.specs.Ends.{is_resume}
-use Rattle.monk_judge.specs.Holding.{takes_lock}
-use Rattle.monk_judge.specs.Moments.{Moment, moment}
+use Rattle.monk_logs.specs.declared.text.line.LogLine.TheVariants.{Enter, Resume, Lapse, Leave, Wait, Signal, Broadcast}
+use Rattle.monk_logs.specs.declared.text.line.LogLine.TheVariants.{Until, Act}
+use Rattle.monk_judge.specs.{declared.place.Place.TheVariants.Woken, Among.AreMany, Among.NamesFirst, Ends.is_resume}
+use Rattle.monk_judge.specs.{Holding.takes_lock, Moments.Moment, Moments.moment}
 
 -- the seat of the line with this index
 abbrev pub seat_at : List Moment → ℕ → ℕ

@@ -1,27 +1,16 @@
 -- The report on a log
 use Rattle.std.specs.Prelude.{◌≡◌, ℕ, List, Option, Some, None, MatchOption, length, slice_index_or, take}
 use Rattle.monk_logs.specs.Crossed.{crossed_of}
-use Rattle.monk_logs.specs.declared.text.line.LogLine.{LogLine}
-use Rattle.monk_judge.specs.declared.misfit.Misfit.{Misfit}
-use Rattle.monk_judge.specs.declared.overtaking.Hints.{Hints}
-use Rattle.monk_judge.specs.declared.report.Report.{Report}
-use Rattle.monk_judge.specs.declared.step.Step.{Step}
-use Rattle.monk_judge.specs.declared.step.Step.TheVariants.{Tells}
-use Rattle.monk_judge.specs.declared.tally.Tally.{Tally}
-use Rattle.monk_judge.specs.declared.waits_for.WaitsFor.{WaitsFor}
-use Rattle.monk_logs.specs.declared.text.line.LogLine.TheVariants.{Enter}
-use Rattle.monk_judge.specs.Blamed.{IsBlamed}
-use Rattle.monk_judge.specs.Among.{NamesLast}
-use Rattle.monk_judge.specs.Asked.{ComeBackAtOnce, asked, asked_by}
+use Rattle.monk_logs.specs.declared.text.line.LogLine.{LogLine, TheVariants.Enter}
+use Rattle.monk_judge.specs.{Blamed.IsBlamed, Among.NamesLast, Asked.ComeBackAtOnce, Asked.asked, Asked.asked_by}
+use Rattle.monk_judge.specs.{Holding.IsHolder, Judged.after_all, Missed.NamesFirstMissed, Moments.Moment}
+use Rattle.monk_judge.specs.{Moments.moment, Moments.moments, Overtaken.CountsOvertaken, Shown.Shown, Shown.state_of}
 use Rattle.monk_judge.specs.Counts.{finds_nobody, is_asleep, passes, sleepers, total, wakes, woken_ones}
 use Rattle.monk_judge.specs.Explains.{IsFirstNeed, IsLeast, IsMisfit}
-use Rattle.monk_judge.specs.Holding.{IsHolder}
-use Rattle.monk_judge.specs.Judged.{after_all}
-use Rattle.monk_judge.specs.Missed.{NamesFirstMissed}
-use Rattle.monk_judge.specs.Moments.{Moment, moment, moments}
-use Rattle.monk_judge.specs.Overtaken.{CountsOvertaken}
 use Rattle.monk_judge.specs.Run.{Setting, IsRun, lines_of, opening, unasked}
-use Rattle.monk_judge.specs.Shown.{Shown, state_of}
+use Rattle.monk_judge.specs.declared.{misfit.Misfit.Misfit, overtaking.Hints.Hints, report.Report.Report}
+use Rattle.monk_judge.specs.declared.{tally.Tally.Tally, waits_for.WaitsFor.WaitsFor}
+use Rattle.monk_judge.specs.declared.step.Step.{Step, TheVariants.Tells}
 
 -- the lines before a misfit
 abbrev pub fitting : Option Misfit → List LogLine → List LogLine

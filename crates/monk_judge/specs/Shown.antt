@@ -2,21 +2,14 @@
 use Rattle.std.specs.Prelude.{◌≡◌, ◌⊎◌, ℕ, ◌<◌, List, Option, Result, MatchResult, slice_index_or, length, Some, None}
 use Rattle.monk_object.specs.Object.{Object}
 use Rattle.monk_logs.specs.declared.text.line.LogLine.{LogLine}
-use Rattle.monk_logs.specs.declared.text.line.LogLine.TheVariants.{Enter, Resume, Lapse, Leave, Wait, Signal, Broadcast, Until, Act}
-use Rattle.monk_judge.specs.declared.blame.Blame.{Blame}
-use Rattle.monk_judge.specs.declared.blame.Blame.TheVariants.{Reply}
-use Rattle.monk_judge.specs.Blamed.{IsBlamed}
-use Rattle.monk_judge.specs.declared.told.Told.{Told}
+use Rattle.monk_logs.specs.declared.text.line.LogLine.TheVariants.{Enter, Resume, Lapse, Leave, Wait, Signal, Broadcast}
+use Rattle.monk_logs.specs.declared.text.line.LogLine.TheVariants.{Until, Act}
 use Rattle.monk_judge.specs.declared.told.Told.TheVariants as told
-use Rattle.monk_judge.specs.declared.place.Place.{Place}
-use Rattle.monk_judge.specs.declared.place.Place.TheVariants.{Outside, Waiting}
-use Rattle.monk_judge.specs.declared.wait_end.WaitEnd.{WaitEnd}
-use Rattle.monk_judge.specs.declared.wait_end.WaitEnd.TheVariants.{Resumes}
-use Rattle.monk_judge.specs.Counts.{Names}
-use Rattle.monk_judge.specs.Ends.{ResumesBy, ends_after, runs_out}
-use Rattle.monk_judge.specs.Judged.{CanStand, IsRight, after_all, steps_at}
-use Rattle.monk_judge.specs.Run.{Setting, State}
-use Rattle.monk_judge.specs.declared.step.Step.{Step}
+use Rattle.monk_judge.specs.{Blamed.IsBlamed, Counts.Names, Ends.ResumesBy, Ends.ends_after, Ends.runs_out}
+use Rattle.monk_judge.specs.{Judged.CanStand, Judged.IsRight, Judged.after_all, Judged.steps_at, Run.Setting, Run.State}
+use Rattle.monk_judge.specs.declared.{blame.Blame.Blame, blame.Blame.TheVariants.Reply, told.Told.Told, step.Step.Step}
+use Rattle.monk_judge.specs.declared.place.Place.{Place, TheVariants.Outside, TheVariants.Waiting}
+use Rattle.monk_judge.specs.declared.wait_end.WaitEnd.{WaitEnd, TheVariants.Resumes}
 
 -- what a judge holds; for each waiting thread, `ends` has how its wait ends
 pub record Shown : Type 0 where

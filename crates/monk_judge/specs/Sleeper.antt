@@ -1,13 +1,9 @@
 -- The report of a log after which one thread sleeps
 use Rattle.std.specs.Prelude.{◌≡◌, ℕ, List, [], ◌∷◌, Some, None}
 use Rattle.monk_object.specs.Object.{Object}
-use Rattle.monk_logs.specs.declared.text.line.LogLine.{LogLine}
-use Rattle.monk_logs.specs.declared.text.line.LogLine.TheVariants.{Enter, Wait}
-use Rattle.monk_judge.specs.declared.report.Report.{Report}
-use Rattle.monk_judge.specs.declared.waits_for.WaitsFor.{WaitsFor}
-use Rattle.monk_judge.specs.Missed.{Holds}
-use Rattle.monk_judge.specs.Reports.{IsReport}
-use Rattle.monk_judge.specs.Run.{setting}
+use Rattle.monk_logs.specs.declared.text.line.LogLine.{LogLine, TheVariants.Enter, TheVariants.Wait}
+use Rattle.monk_judge.specs.{Missed.Holds, Reports.IsReport, Run.setting}
+use Rattle.monk_judge.specs.declared.{report.Report.Report, waits_for.WaitsFor.WaitsFor}
 
 -- a thread comes in, and waits
 abbrev pub comes_and_waits : List LogLine

@@ -1,12 +1,11 @@
 -- The steps of a line, by what it told
 use Rattle.std.specs.Prelude.{ℕ, List, [], ◌∷◌, Option, None}
 use Rattle.monk_logs.specs.declared.text.line.LogLine.{LogLine}
-use Rattle.monk_logs.specs.declared.text.line.LogLine.TheVariants.{Enter, Resume, Lapse, Leave, Wait, Signal, Broadcast, Until, Act}
-use Rattle.monk_judge.specs.declared.step.Step.{Step}
-use Rattle.monk_judge.specs.declared.step.Step.TheVariants.{Tells, WakesUnasked}
-use Rattle.monk_judge.specs.declared.told.Told.{Told}
+use Rattle.monk_logs.specs.declared.text.line.LogLine.TheVariants.{Enter, Resume, Lapse, Leave, Wait, Signal, Broadcast}
+use Rattle.monk_logs.specs.declared.text.line.LogLine.TheVariants.{Until, Act}
 use Rattle.monk_judge.specs.declared.told.Told.TheVariants as told
-use Rattle.monk_judge.specs.Shown.{whom}
+use Rattle.monk_judge.specs.{declared.step.Step.Step, declared.step.Step.TheVariants.Tells}
+use Rattle.monk_judge.specs.{declared.step.Step.TheVariants.WakesUnasked, declared.told.Told.Told, Shown.whom}
 
 -- the thread that the line woke
 abbrev pub woken_by : LogLine → Told → Option ℕ

@@ -1,13 +1,10 @@
 -- The texts of a run and of a place
 use Rattle.std.specs.Prelude.{ℕ, List, ◌++◌, Some, None, codes}
-use Rattle.std.specs.List.{join_with_byte}
-use Rattle.std.specs.Fmt.{decimal}
-use Rattle.monk_logs.specs.Log.{log_words}
-use Rattle.monk_logs.specs.declared.text.line.LogLine.{LogLine}
+use Rattle.std.specs.{List.join_with_byte, Fmt.decimal}
+use Rattle.monk_logs.specs.{Log.log_words, declared.text.line.LogLine.LogLine}
 use Rattle.monk_judge.specs.declared.place.Place.{Place}
 use Rattle.monk_judge.specs.declared.place.Place.TheVariants.{Outside, Active, Waiting, Woken, RanOut}
-use Rattle.monk_judge.specs.declared.step.Step.{Step}
-use Rattle.monk_judge.specs.declared.step.Step.TheVariants.{Tells, RunsOut, WakesUnasked}
+use Rattle.monk_judge.specs.declared.step.Step.{Step, TheVariants.Tells, TheVariants.RunsOut, TheVariants.WakesUnasked}
 
 -- a line as in its log, without its end
 abbrev pub line_text : LogLine → List ℕ

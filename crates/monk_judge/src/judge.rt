@@ -3,15 +3,13 @@
 ghost use Rattle.std.specs.Prelude.{◌≡◌, ◌⊎◌, ◌+◌, ◌<◌, ◌≤◌, ℕ, false, length, IfOk, MatchOption, MatchResult, Some, None, slice_index_or, slice_set};
 ghost use Rattle.monk_object.specs.Object.{Object};
 ghost use Rattle.monk_logs.specs.declared.text.line.LogLine.TheVariants as lines;
-ghost use Rattle.monk_judge.specs.Blamed.{IsBlamed};
-ghost use Rattle.monk_judge.specs.declared.blame.Blame.TheVariants.{Range, NoLock};
-ghost use Rattle.monk_judge.specs.Counts.{is_asleep, passing, sleepers, sleepers_on, woken_ones};
-ghost use Rattle.monk_judge.specs.Followed.{places_below};
-ghost use Rattle.monk_judge.specs.Run.{MaySignal, moved, opening, setting, woken};
-ghost use Rattle.monk_judge.specs.Shown.{Does, IsEarliest, IsFirstBelow, ResumesNoLater, setting_of, shown, state_of};
+ghost use Rattle.monk_judge.specs.{Blamed.IsBlamed, Followed.places_below};
 ghost use Rattle.monk_judge.specs.declared.place.Place.TheVariants.{Outside, Active, Waiting};
-ghost use Rattle.monk_judge.specs.declared.wait_end.WaitEnd.{WaitEnd};
-ghost use Rattle.monk_judge.specs.declared.wait_end.WaitEnd.TheVariants.{Resumes};
+ghost use Rattle.monk_judge.specs.declared.wait_end.WaitEnd.{WaitEnd, TheVariants.Resumes};
+ghost use Rattle.monk_judge.specs.declared.blame.Blame.TheVariants.{Range, NoLock};
+ghost use Rattle.monk_judge.specs.Run.{MaySignal, moved, opening, setting, woken};
+ghost use Rattle.monk_judge.specs.Counts.{is_asleep, passing, sleepers, sleepers_on, woken_ones};
+ghost use Rattle.monk_judge.specs.Shown.{Does, IsEarliest, IsFirstBelow, ResumesNoLater, setting_of, shown, state_of};
 
 mod following;
 mod lacking;

@@ -2,12 +2,9 @@
 
 ghost use Rattle.std.specs.Prelude.{◌≡◌, ◌<◌, ◌≤◌, IfOk, IfSome, length};
 ghost use Rattle.monk_history.specs.Limits.{most_lines};
-ghost use Rattle.monk_judge.specs.Ends.{AreEnds};
-ghost use Rattle.monk_judge.specs.Hints.{AreWaiters};
-ghost use Rattle.monk_judge.specs.Holding.{holder_by};
+ghost use Rattle.monk_judge.specs.{Ends.AreEnds, Hints.AreWaiters, Holding.holder_by, Shown.setting_of, Shown.state_of};
 ghost use Rattle.monk_judge.specs.Reports.{IsReport, IsTaken, fitting};
 ghost use Rattle.monk_judge.specs.Run.{opening, setting};
-ghost use Rattle.monk_judge.specs.Shown.{setting_of, state_of};
 
 use crate::ahead::look_ahead;
 use crate::holder::{Holder, last_taking};

@@ -1,9 +1,8 @@
 //! Signals that nobody sent, though somebody should have.
 
 ghost use Rattle.std.specs.Prelude.{◌≡◌};
-ghost use Rattle.monk_judge.specs.Among.{Decides};
+ghost use Rattle.monk_judge.specs.{Among.Decides, Shown.state_of};
 ghost use Rattle.monk_judge.specs.Missed.{AllHold, LacksBehind, LacksSignal, LooksAt, is_from_outside};
-ghost use Rattle.monk_judge.specs.Shown.{state_of};
 
 use crate::judge::Judge;
 use crate::waits_for::WaitsFor;

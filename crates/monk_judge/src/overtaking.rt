@@ -1,9 +1,8 @@
 //! Threads that were overtaken on their way back, and what they do next.
 
 ghost use Rattle.std.specs.Prelude.{◌≡◌, ◌<◌, ◌^◌};
-ghost use Rattle.monk_judge.specs.Among.{Decides};
+ghost use Rattle.monk_judge.specs.{Among.Decides, Overtaken.GoesOnBy, Overtaken.is_refused};
 ghost use Rattle.monk_judge.specs.Hints.{ComesBack, AnswersOwn, without};
-ghost use Rattle.monk_judge.specs.Overtaken.{GoesOnBy, is_refused};
 
 use monk_logs::LogLine;
 

@@ -1,10 +1,8 @@
 //! Where a thread is.
 
 ghost use Rattle.std.specs.Prelude.{◌≡◌, ℕ, slice_index_or};
-ghost use Rattle.monk_judge.specs.Counts.{is_asleep, is_woken, waits_on};
-ghost use Rattle.monk_judge.specs.Hints.{woken_on};
-ghost use Rattle.monk_judge.specs.Run.{run_out, woken, woken_unasked};
-ghost use Rattle.monk_judge.specs.declared.place.Place.TheVariants.{Outside};
+ghost use Rattle.monk_judge.specs.{Counts.is_asleep, Counts.is_woken, Counts.waits_on, Hints.woken_on, Run.run_out};
+ghost use Rattle.monk_judge.specs.{Run.woken, Run.woken_unasked, declared.place.Place.TheVariants.Outside};
 
 use std::fmt;
 

@@ -4,12 +4,9 @@ ghost use Rattle.std.specs.Prelude.{◌≡◌, ◌≤◌, ◌++◌, ◌∷◌, [
 ghost use Rattle.monk_object.specs.Object.{Object};
 ghost use Rattle.monk_history.specs.Limits.{most_lines};
 ghost use Rattle.monk_logs.specs.declared.text.line.LogLine.TheVariants.{Wait};
+ghost use Rattle.monk_judge.specs.{Judged.running_out, Reports.IsRunOf, Run.opening, Run.setting};
+ghost use Rattle.monk_judge.specs.{declared.step.Step.TheVariants.Tells, Steps.resume_steps, Steps.woken_by};
 ghost use Rattle.monk_judge.specs.Ends.{AreEnds, runs_out};
-ghost use Rattle.monk_judge.specs.Judged.{running_out};
-ghost use Rattle.monk_judge.specs.Reports.{IsRunOf};
-ghost use Rattle.monk_judge.specs.Run.{opening, setting};
-ghost use Rattle.monk_judge.specs.declared.step.Step.TheVariants.{Tells};
-ghost use Rattle.monk_judge.specs.Steps.{resume_steps, woken_by};
 ghost use Rattle.monk_judge.specs.Shown.{Shown, Takes, own_steps, setting_of, state_of};
 
 use crate::ahead::look_ahead;

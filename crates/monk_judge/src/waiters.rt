@@ -2,8 +2,7 @@
 
 ghost use Rattle.std.specs.Prelude.{◌≡◌, ◌+◌, ◌*◌, IfOk, List, length};
 ghost use Rattle.monk_logs.specs.declared.text.line.LogLine.{LogLine};
-ghost use Rattle.monk_judge.specs.Hints.{AreWaiters};
-ghost use Rattle.monk_judge.specs.Overtaken.{waits_in};
+ghost use Rattle.monk_judge.specs.{Hints.AreWaiters, Overtaken.waits_in};
 
 use monk_logs::{LINE_SEATS, LogLine};
 use std::alloc::{AllocError, Global};

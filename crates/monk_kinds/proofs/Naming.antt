@@ -1,9 +1,7 @@
 -- A value that is found by its word has that word.
 use Rattle.std.proofs.Common.{arith, ◌≡◌, ◌↔◌, ℕ, Bool, true, false, cond, List, [], ◌∷◌, Option, Some, refl, ap, ◌∙◌}
-use Rattle.std.specs.Str.{bytes_eq}
-use Rattle.std.proofs.lemmas.Slice.Eq.{bytes_eq-Decides}
-use Rattle.monk_kinds.specs.Names.{kind_word, kinds, with_text}
-use Rattle.monk_kinds.specs.declared.name.KindName.{KindName}
+use Rattle.std.{specs.Str.bytes_eq, proofs.lemmas.Slice.Eq.bytes_eq-Decides}
+use Rattle.monk_kinds.specs.{Names.kind_word, Names.kinds, Names.with_text, declared.name.KindName.KindName}
 
 pub some_is : {A : Type 0} (a b : A) → Option.Some a ≡ Some b → a ≡ b
 some_is a b e = cc

@@ -1,10 +1,8 @@
 //! What holds for the types and for the lists of the kinds and of the orderings. The contract of each function is
 //! the law.
 ghost use Rattle.std.specs.Prelude.{◌≡◌};
-ghost use Rattle.monk_kinds.specs.Names.{kind_word, kinds, StandsOnce};
-ghost use Rattle.monk_kinds.specs.Orderings.{ordering_text};
-ghost use Rattle.monk_kinds.specs.declared.name.KindName.{KindName};
-ghost use Rattle.monk_kinds.specs.declared.ordering.Ordering13.{Ordering13};
+ghost use Rattle.monk_kinds.specs.{Names.kind_word, Names.kinds, Names.StandsOnce, Orderings.ordering_text};
+ghost use Rattle.monk_kinds.specs.declared.{name.KindName.KindName, ordering.Ordering13.Ordering13};
 
 use crate::name::KindName;
 use crate::ordering::Ordering13;

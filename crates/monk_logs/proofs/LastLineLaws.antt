@@ -1,11 +1,9 @@
 -- The last line of a log after one more line
 use Rattle.std.proofs.Common.{◌≡◌, ℕ, suc, ◌+◌, ◌<◌, Bool, true, false, cond, List, [], ◌∷◌, ◌++◌, length, take, get_or}
 use Rattle.std.proofs.Common.{Option, Some, None, refl, sym, ap, ◌∙◌, arith, length-take}
-use Rattle.std.specs.Option.{option_or}
-use Rattle.std.proofs.lemmas.List.{take_more}
+use Rattle.std.{specs.Option.option_or, proofs.lemmas.List.take_more}
 use Rattle.monk_logs.specs.LastLine.{has, last_behind, last_line}
-use Rattle.monk_logs.specs.declared.subject.Subject.{Subject}
-use Rattle.monk_logs.specs.declared.text.line.LogLine.{LogLine}
+use Rattle.monk_logs.specs.declared.{subject.Subject.Subject, text.line.LogLine.LogLine}
 
 or_first : (b : Bool) (n : ℕ) (x y : Option ℕ) → option_or (cond b (Some n) x) y ≡ cond b (Some n) (option_or x y)
 or_first true n x y = refl

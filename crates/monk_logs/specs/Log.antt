@@ -2,16 +2,14 @@
 pub mod Reading
 pub mod Laws
 use Rattle.std.specs.Prelude.{◌-◌, ℕ, ◌≤◌, ◌^◌, Bool, true, false, List, [], ◌∷◌, ◌++◌, codes}
-use Rattle.std.specs.List.{flat_map, AllByRecursion}
-use Rattle.std.specs.Fmt.{decimal}
+use Rattle.std.specs.{List.flat_map, List.AllByRecursion, Fmt.decimal}
+use Rattle.monk_object.specs.Names.{object_word}
 use Rattle.monk_object.specs.declared.name.ObjectName.{ObjectName}
 use Rattle.monk_object.specs.declared.name.ObjectName.TheVariants.{Buffer, Book, Shop, Flags}
-use Rattle.monk_object.specs.Names.{object_word}
-use Rattle.monk_history.specs.Limits.{most_seats, most_conds}
-use Rattle.monk_history.specs.Text.Lines.{line}
-use Rattle.monk_history.specs.Text.Words.{Word}
+use Rattle.monk_history.specs.{Limits.most_seats, Limits.most_conds, Text.Lines.line, Text.Words.Word}
 use Rattle.monk_logs.specs.declared.text.line.LogLine.{LogLine}
-use Rattle.monk_logs.specs.declared.text.line.LogLine.TheVariants.{Enter, Resume, Lapse, Leave, Wait, Signal, Broadcast, Until, Act}
+use Rattle.monk_logs.specs.declared.text.line.LogLine.TheVariants.{Enter, Resume, Lapse, Leave, Wait, Signal, Broadcast}
+use Rattle.monk_logs.specs.declared.text.line.LogLine.TheVariants.{Until, Act}
 
 -- a header, as contracts see it
 pub record LogHeading : Type 0 where

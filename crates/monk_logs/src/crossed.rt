@@ -2,8 +2,7 @@
 
 ghost use Rattle.std.specs.Prelude.{◌≡◌, ◌+◌, ◌≤◌, ◌^◌, ℕ, None, false, get_or, reverse, slice_index_or, if◌then◌else◌};
 ghost use Rattle.monk_logs.specs.Crossed as crossings;
-ghost use Rattle.monk_logs.specs.LastLine.{last_line};
-ghost use Rattle.monk_logs.specs.declared.subject.Subject.TheVariants.{Seat};
+ghost use Rattle.monk_logs.specs.{LastLine.last_line, declared.subject.Subject.TheVariants.Seat};
 
 use crate::subject::Subject;
 use crate::text::line::LogLine;

@@ -1,8 +1,6 @@
 -- Cases of an operation's code, and what one operation adds to a count
 use Rattle.std.proofs.Common.{◌≡◌, ℕ, suc, zero, ◌+◌, ◌==◌, Bool, true, false, ◌&&◌, cond, List, ◌∷◌, refl, arith}
-use Rattle.std.specs.Prelude.{nat_lt}
-use Rattle.std.proofs.lemmas.Bool.{ne_eqb}
-use Rattle.std.proofs.lemmas.List.Sums.{sum_by-cons}
+use Rattle.std.{specs.Prelude.nat_lt, proofs.lemmas.Bool.ne_eqb, proofs.lemmas.List.Sums.sum_by-cons}
 use Rattle.monk_object.specs.Runs.{Answered, is_done, times_done}
 
 pub both : (a b : Bool) → (a && b) ≡ true → (a ≡ true) × (b ≡ true)

@@ -1,12 +1,10 @@
 -- A shop loses no customer
 use Rattle.std.proofs.Common.{◌≡◌, ℕ, ◌+◌, ◌-◌, ◌<◌, ◌≤◌, ◌==◌, Bool, true, false, cond, List, [], ◌∷◌, refl, sym, subst, arith}
-use Rattle.std.specs.Prelude.{nat_lt}
-use Rattle.std.proofs.lemmas.Bool.{eqb-true, ltb-true}
-use Rattle.monk_object.specs.Shop.{SIT, CALL, FINISH, DEPART, shop_meaning, shop_after, shop_reply, shop_serves, shop_served}
-use Rattle.monk_object.specs.Laws.{LosesNoCustomer}
-use Rattle.monk_object.specs.Runs.{Answered, state_after, answers_of, times_done}
-use Rattle.monk_object.specs.declared.op.Op.{Op}
+use Rattle.std.{specs.Prelude.nat_lt, proofs.lemmas.Bool.eqb-true, proofs.lemmas.Bool.ltb-true}
 use Rattle.monk_object.proofs.Codes.{both, by_code, once, once-false, counted}
+use Rattle.monk_object.specs.{Shop.SIT, Shop.CALL, Shop.FINISH, Shop.DEPART, Shop.shop_meaning, Shop.shop_after}
+use Rattle.monk_object.specs.{Shop.shop_reply, Shop.shop_serves, Shop.shop_served, Laws.LosesNoCustomer, Runs.Answered}
+use Rattle.monk_object.specs.{Runs.state_after, Runs.answers_of, Runs.times_done, declared.op.Op.Op}
 
 abbrev where_it_is : ℕ → ℕ → ℕ
 where_it_is k chair = cond (chair == k) 1 0

@@ -1,14 +1,11 @@
 -- Readers and a writer of a book exclude each other
 use Rattle.std.proofs.Common.{◌≡◌, ℕ, ◌+◌, ◌-◌, ◌<◌, ◌≤◌, ◌==◌, ◌⊎◌, inl, inr, Bool, true, false, cond, List, [], ◌∷◌}
-use Rattle.std.proofs.Common.{refl, sym, subst, arith}
+use Rattle.std.proofs.{Common.refl, Common.sym, Common.subst, Common.arith, lemmas.Bool.eqb-true, lemmas.Bool.ltb-true}
 use Rattle.std.specs.Prelude.{nat_lt}
-use Rattle.std.proofs.lemmas.Bool.{eqb-true, ltb-true}
-use Rattle.monk_object.specs.Book.{START_READ, END_READ, START_WRITE, END_WRITE, book_meaning, book_after, book_reply}
-use Rattle.monk_object.specs.Book.{book_serves, book_served}
-use Rattle.monk_object.specs.Laws.{IsExclusive}
-use Rattle.monk_object.specs.Runs.{Answered, state_after, answers_of, times_done}
-use Rattle.monk_object.specs.declared.op.Op.{Op}
 use Rattle.monk_object.proofs.Codes.{both, by_code, once, once-false, counted}
+use Rattle.monk_object.specs.{Book.START_READ, Book.END_READ, Book.START_WRITE, Book.END_WRITE, Book.book_meaning}
+use Rattle.monk_object.specs.{Book.book_after, Book.book_reply, Book.book_serves, Book.book_served, Laws.IsExclusive}
+use Rattle.monk_object.specs.{Runs.Answered, Runs.state_after, Runs.answers_of, Runs.times_done, declared.op.Op.Op}
 
 -- the state after an operation of this code, if it may be served
 record Step (size readers writers code : ℕ) (served : Bool) (next : List ℕ) : Type 0 where

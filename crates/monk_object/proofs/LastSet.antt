@@ -1,13 +1,10 @@
 -- The bits of flags are those of the last set that was done
 use Rattle.std.proofs.Common.{◌≡◌, ℕ, ◌^◌, ◌<◌, ◌==◌, Bool, true, false, ◌&&◌, cond, List, [], ◌∷◌, ◌++◌}
 use Rattle.std.proofs.Common.{map, refl, ap, ◌∙◌, pow_pos}
-use Rattle.std.specs.Prelude.{nat_lt, filter}
-use Rattle.std.proofs.lemmas.Bool.{ltb-true}
-use Rattle.monk_object.specs.Flags.{SET, flags_meaning, flags_after, flags_reply}
-use Rattle.monk_object.specs.Laws.{HoldsTheLastSet, bits_set}
-use Rattle.monk_object.specs.Runs.{Answered, state_after, answers_of, is_done}
-use Rattle.monk_object.specs.declared.op.Op.{Op}
-use Rattle.monk_object.proofs.Codes.{both}
+use Rattle.std.{specs.Prelude.nat_lt, specs.Prelude.filter, proofs.lemmas.Bool.ltb-true}
+use Rattle.monk_object.{specs.Flags.SET, specs.Flags.flags_meaning, specs.Flags.flags_after, specs.Flags.flags_reply}
+use Rattle.monk_object.{specs.Laws.HoldsTheLastSet, specs.Laws.bits_set, specs.Runs.Answered, specs.Runs.state_after}
+use Rattle.monk_object.{specs.Runs.answers_of, specs.Runs.is_done, specs.declared.op.Op.Op, proofs.Codes.both}
 
 -- from a state with these bits
 record Run (size bits : ℕ) (start : List ℕ) (ops : List Op) : Type 0 where

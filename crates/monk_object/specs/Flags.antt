@@ -1,8 +1,7 @@
 -- Flags that are set all at once: their state is the size, which is how many there are, and the bits
 use Rattle.std.specs.Prelude.{ℕ, ◌^◌, ◌==◌, nat_lt, Bool, false, ◌&&◌, List, [], ◌∷◌, if◌then◌else◌}
 use Rattle.std.specs.Int.{bit_at}
-use Rattle.monk_object.specs.Object.{Object}
-use Rattle.monk_object.specs.declared.op.Op.{Op}
+use Rattle.monk_object.specs.{Object.Object, declared.op.Op.Op}
 
 -- the code
 abbrev pub SET : ℕ

@@ -1,8 +1,6 @@
 -- The state of an object in words, for those who read it
 use Rattle.std.specs.Prelude.{ℕ, zero, suc, ◌==◌, List, [], ◌∷◌, ◌++◌, get_or, if◌then◌else◌, codes}
-use Rattle.std.specs.Fmt.{decimal}
-use Rattle.std.specs.Int.{bit_at}
-use Rattle.std.specs.List.{flat_map}
+use Rattle.std.specs.{Fmt.decimal, Int.bit_at, List.flat_map}
 use Rattle.monk_object.specs.declared.name.ObjectName.{ObjectName}
 use Rattle.monk_object.specs.declared.name.ObjectName.TheVariants.{Buffer, Book, Shop, Flags}
 

@@ -1,10 +1,8 @@
 -- What holds for every list of operations on an object made with some size
 use Rattle.std.specs.Prelude.{◌≡◌, ℕ, ◌+◌, ◌-◌, ◌^◌, ◌<◌, ◌≤◌, ◌==◌, ◌⊎◌, List, [], ◌∷◌, ◌++◌, length, map, filter, if◌then◌else◌}
+use Rattle.monk_object.specs.{Book.START_READ, Book.END_READ, Book.START_WRITE, Book.END_WRITE, Shop.SIT, Shop.CALL}
+use Rattle.monk_object.specs.{Shop.FINISH, Shop.DEPART, Flags.SET, Names.meaning_named, Names.opening_named}
 use Rattle.monk_object.specs.Buffer.{PUT, TAKE}
-use Rattle.monk_object.specs.Book.{START_READ, END_READ, START_WRITE, END_WRITE}
-use Rattle.monk_object.specs.Shop.{SIT, CALL, FINISH, DEPART}
-use Rattle.monk_object.specs.Flags.{SET}
-use Rattle.monk_object.specs.Names.{meaning_named, opening_named}
 use Rattle.monk_object.specs.Runs.{Answered, state_after, answers_of, is_done, times_done}
 use Rattle.monk_object.specs.declared.name.ObjectName.{ObjectName}
 use Rattle.monk_object.specs.declared.name.ObjectName.TheVariants.{Buffer, Book, Shop, Flags}

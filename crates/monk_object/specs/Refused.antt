@@ -1,15 +1,10 @@
 -- An operation with the reply 0 changes nothing. The objects say this about themselves, so it is
 -- here and not among the proofs.
 use Rattle.std.proofs.Common.{◌≡◌, ℕ, ◌+◌, ◌==◌, Bool, true, false, cond, List, [], ◌∷◌, ◌++◌, length, drop, refl, sym, ap, ◌∙◌, add-one}
-use Rattle.std.proofs.Math.Dec.{eqb-suc-zero}
-use Rattle.std.proofs.lemmas.Bool.{false≢true}
-use Rattle.std.specs.Prelude.{nat_lt}
+use Rattle.std.{proofs.Math.Dec.eqb-suc-zero, proofs.lemmas.Bool.false≢true, specs.Prelude.nat_lt}
+use Rattle.monk_object.specs.{Book.book_serves, Book.book_served, Shop.shop_serves, Shop.shop_served}
+use Rattle.monk_object.specs.{Flags.flags_serves, Names.meaning_named, Object.KeepsWhatItRefuses}
 use Rattle.monk_object.specs.Buffer.{PUT, TAKE, take_reply}
-use Rattle.monk_object.specs.Book.{book_serves, book_served}
-use Rattle.monk_object.specs.Shop.{shop_serves, shop_served}
-use Rattle.monk_object.specs.Flags.{flags_serves}
-use Rattle.monk_object.specs.Names.{meaning_named}
-use Rattle.monk_object.specs.Object.{KeepsWhatItRefuses}
 use Rattle.monk_object.specs.declared.name.ObjectName.{ObjectName}
 use Rattle.monk_object.specs.declared.name.ObjectName.TheVariants.{Buffer, Book, Shop, Flags}
 

@@ -1,8 +1,7 @@
 -- What a list of operations does to an object
 use Rattle.std.specs.Prelude.{ℕ, ◌==◌, Bool, ◌&&◌, nat_lt, List, [], ◌∷◌, count_by}
 use Rattle.std.specs.List.{fold}
-use Rattle.monk_object.specs.Object.{Object}
-use Rattle.monk_object.specs.declared.op.Op.{Op}
+use Rattle.monk_object.specs.{Object.Object, declared.op.Op.Op}
 
 -- an operation with the reply to it
 pub record Answered : Type 0 where

@@ -1,18 +1,12 @@
 -- The data of a log's page hold no byte that markup reads, and don't nest deeply
 use Rattle.std.proofs.Common.{◌≡◌, ℕ, true, List, arith}
 use Rattle.monk_object.specs.Object.{Object}
-use Rattle.monk_judge.specs.Blame.{blame_sentence, blame_word}
-use Rattle.monk_judge.specs.Text.{line_text, place_text, step_text}
-use Rattle.monk_judge.specs.declared.blame.Blame.{Blame}
-use Rattle.monk_judge.specs.declared.place.Place.{Place}
-use Rattle.monk_judge.specs.declared.run.Run.{Run}
-use Rattle.monk_judge.specs.declared.step.Step.{Step}
-use Rattle.monk_logs.specs.Log.{LogHeading, log_words}
-use Rattle.monk_logs.specs.declared.text.line.LogLine.{LogLine}
-use Rattle.monk_page.specs.Log.{log_json}
-use Rattle.monk_page.proofs.PlainData.{is_plain, plain_parts}
+use Rattle.monk_judge.specs.{Blame.blame_sentence, Blame.blame_word, Text.line_text, Text.place_text, Text.step_text}
+use Rattle.monk_judge.specs.declared.{blame.Blame.Blame, place.Place.Place, run.Run.Run, step.Step.Step}
+use Rattle.monk_logs.specs.{Log.LogHeading, Log.log_words, declared.text.line.LogLine.LogLine}
+use Rattle.monk_page.proofs.{PlainData.is_plain, PlainData.plain_parts, PlainWords.bare_words}
 use Rattle.monk_page.proofs.PlainTexts.{bare_append, bare_decimal, bare_join, is_bare}
-use Rattle.monk_page.proofs.PlainWords.{bare_words}
+use Rattle.monk_page.specs.Log.{log_json}
 
 line_bare : (l : LogLine) → is_bare (line_text l) ≡ true
 line_bare l = bare_join (log_words l) (grind (arith, bare_decimal))

@@ -1,10 +1,8 @@
 -- The names in a list of JSON values
 use Rattle.std.proofs.Common.{◌≡◌, ◌∙◌, ap, List, [], ◌∷◌, ℕ, Option, Some, map, refl, sym}
 use Rattle.std.specs.Prelude.{unwrap_or}
+use Rattle.serde_json.specs.{Find.as_str, View.items_view, View.view, declared.value.Value.Value}
 use Rattle.serde_json.specs.Data.{Items, no_items}
-use Rattle.serde_json.specs.Find.{as_str}
-use Rattle.serde_json.specs.View.{items_view, view}
-use Rattle.serde_json.specs.declared.value.Value.{Value}
 use Rattle.monk_page.specs.Told.{texts_of}
 
 -- the name that a value has

@@ -1,11 +1,9 @@
 -- The value of something that holds other data is the value of those data
 use Rattle.std.proofs.Common.{◌≡◌, List, Option, Some, None, option_map, ap, refl, sym}
 use Rattle.std.proofs.lemmas.Simd.{map-map}
+use Rattle.monk_tell.specs.declared.{lists.SeatList.SeatList, queues.Conditions.Conditions}
 use Rattle.monk_tell.specs.Told.{condition_lists}
-use Rattle.monk_tell.specs.declared.lists.SeatList.{SeatList}
-use Rattle.monk_tell.specs.declared.queues.Conditions.{Conditions}
-use Rattle.serde_json.specs.Data.{Data, array}
-use Rattle.serde_json.specs.View.{items_of}
+use Rattle.serde_json.specs.{Data.Data, Data.array, View.items_of}
 use Rattle.monk_page.specs.Json.{list_json, numbers_json, option_json}
 
 -- the value of an option is the value of what it holds

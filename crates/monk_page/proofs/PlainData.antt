@@ -1,16 +1,14 @@
 -- If a value's strings and keys are bare, markup shows its text unchanged
 use Rattle.std.proofs.Common.{◌≡◌, ◌&&◌, ◌≤◌, ℕ, suc, Bool, true, false, cond, List, [], ◌∷◌, ◌++◌, Option, Some, None, map, refl, arith}
-use Rattle.std.specs.Fmt.{decimal}
-use Rattle.std.specs.Option.{option_map_or}
 use Rattle.std.proofs.lemmas.Bool.{and_parts, false≢true}
-use Rattle.json.specs.Tree.{depth, items_depth, members_depth}
-use Rattle.json.specs.Print.{quoted}
-use Rattle.serde_json.specs.Data.{unsigned, Data, null, number, string, array, object}
-use Rattle.serde_json.specs.Data.{Items, no_items, item, Members, no_members, member}
-use Rattle.serde_json.specs.View.{items_of}
-use Rattle.serde_json.specs.Written.{comma_if, compact_text, items_outline, items_text, members_outline, members_text, outline}
-use Rattle.monk_page.specs.Plain.{is_plain_byte, is_plain_text}
+use Rattle.std.specs.{Fmt.decimal, Option.option_map_or}
+use Rattle.json.specs.{Tree.depth, Tree.items_depth, Tree.members_depth, Print.quoted}
+use Rattle.serde_json.specs.{View.items_of, Written.comma_if, Written.compact_text, Written.items_outline}
+use Rattle.serde_json.specs.{Written.items_text, Written.members_outline, Written.members_text, Written.outline}
+use Rattle.serde_json.specs.Data.{unsigned, Data, null, number, string, array, object, Items, no_items, item, Members}
+use Rattle.serde_json.specs.Data.{no_members, member}
 use Rattle.monk_page.proofs.PlainTexts.{all_append, bare_decimal, bare_text, is_bare}
+use Rattle.monk_page.specs.Plain.{is_plain_byte, is_plain_text}
 
 -- null, whole numbers and bare strings, in lists and in objects with bare keys, nested at most `n` deep
 abbrev mutual

@@ -1,14 +1,10 @@
 -- The data of a page hold no byte that markup reads, and don't nest deeply
 use Rattle.std.proofs.Common.{◌≡◌, ℕ, true, List}
-use Rattle.monk_history.specs.Text.{Heading}
-use Rattle.monk_history.specs.declared.event.Event.{Event}
+use Rattle.monk_history.specs.{Text.Heading, declared.event.Event.Event}
 use Rattle.monk_object.specs.declared.name.ObjectName.{ObjectName}
 use Rattle.monk_tell.specs.Steps.{ShownStep}
-use Rattle.monk_page.specs.Kinds.{kind_json}
-use Rattle.monk_page.specs.Page.{page_json}
-use Rattle.monk_page.specs.Step.{step_json}
-use Rattle.monk_page.proofs.PlainData.{is_plain, plain_parts}
-use Rattle.monk_page.proofs.PlainWords.{bare_words}
+use Rattle.monk_page.proofs.{PlainData.is_plain, PlainData.plain_parts, PlainWords.bare_words}
+use Rattle.monk_page.specs.{Kinds.kind_json, Page.page_json, Step.step_json}
 
 step_plain : (o : ObjectName) (s : ShownStep) → is_plain 4 (step_json o s) ≡ true
 unfolding step_json

@@ -1,12 +1,8 @@
 -- Texts that stay unchanged in markup and in JSON: numbers, and what is put together from such texts
 use Rattle.std.proofs.Common.{◌≡◌, ◌<◌, ◌≤◌, ◌/◌, ◌%◌, ◌==◌, ◌&&◌, ℕ, zero, suc, Bool, true, false, not, cond, List, [], ◌∷◌, ◌++◌, refl, arith, mod-lt}
-use Rattle.std.specs.Fmt.{decimal, digit_glyph, digits, digits_onto}
-use Rattle.std.specs.List.{join_with_byte, list_all}
-use Rattle.std.proofs.lemmas.Bool.Decides.{nat_tests}
-use Rattle.std.proofs.lemmas.List.Folds.{list_all-append}
-use Rattle.std.proofs.lemmas.Bool.{and_parts}
-use Rattle.json.specs.Print.{escape}
-use Rattle.json.proofs.Printed.Strings.{escape_byte_plain}
+use Rattle.std.proofs.lemmas.{Bool.and_parts, Bool.Decides.nat_tests, List.Folds.list_all-append}
+use Rattle.std.specs.{Fmt.decimal, Fmt.digit_glyph, Fmt.digits, Fmt.digits_onto, List.join_with_byte, List.list_all}
+use Rattle.json.{specs.Print.escape, proofs.Printed.Strings.escape_byte_plain}
 use Rattle.monk_page.specs.Plain.{is_plain_byte, is_plain_text}
 
 -- a byte that markup shows unchanged and that JSON writes unchanged

@@ -1,22 +1,14 @@
 -- The words and sentences of a page's data are bare
 use Rattle.std.proofs.Common.{◌≡◌, ℕ, zero, suc, true, List, [], ◌∷◌, arith, refl}
 use Rattle.monk_kinds.specs.Names.{kind_word}
-use Rattle.monk_kinds.specs.declared.mode.Mode.{Mode}
-use Rattle.monk_kinds.specs.declared.mode.Rules.{Rules}
-use Rattle.monk_kinds.specs.declared.name.KindName.{KindName}
+use Rattle.monk_kinds.specs.declared.{mode.Mode.Mode, mode.Rules.Rules, name.KindName.KindName}
+use Rattle.monk_object.specs.{Names.object_word, declared.name.ObjectName.ObjectName}
 use Rattle.monk_object.specs.InWords.{bits_below, spaced, state_in_words}
-use Rattle.monk_object.specs.Names.{object_word}
-use Rattle.monk_object.specs.declared.name.ObjectName.{ObjectName}
+use Rattle.monk_history.specs.declared.event.{Event.Event, From3.From3, Next.Next, Turn.Turn}
 use Rattle.monk_history.specs.Text.{event_words, from_word, next_words}
-use Rattle.monk_history.specs.declared.event.Event.{Event}
-use Rattle.monk_history.specs.declared.event.From3.{From3}
-use Rattle.monk_history.specs.declared.event.Next.{Next}
-use Rattle.monk_history.specs.declared.event.Turn.{Turn}
-use Rattle.monk_audit.specs.Words.{verdict_text}
-use Rattle.monk_audit.specs.declared.verdict.Verdict.{Verdict}
-use Rattle.monk_tell.specs.Why.{why_text}
+use Rattle.monk_audit.specs.{Words.verdict_text, declared.verdict.Verdict.Verdict}
+use Rattle.monk_tell.specs.{Why.why_text, declared.why.Why.Why}
 use Rattle.monk_tell.specs.Words.{event_text, mode_word, next_text, ranks_in, turn_text}
-use Rattle.monk_tell.specs.declared.why.Why.{Why}
 use Rattle.monk_page.proofs.PlainTexts.{bare_append, bare_decimal, bare_join, is_bare}
 
 pub kind_bare : (k : KindName) → is_bare (kind_word k) ≡ true

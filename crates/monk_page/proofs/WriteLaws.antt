@@ -1,23 +1,17 @@
 -- What a writer leaves: the text of the value. The value can be read from it, and an article shows it
 use Rattle.std.proofs.Common.{◌≡◌, ◌∙◌, ◌<◌, ◌≤◌, ◌^◌, arith, ◌++◌, true, List, ℕ, Some, [], ◌∷◌, map, ap, refl, sym, append_assoc, append-nil}
-use Rattle.json.proofs.Printed.Trees.{value-json_tokens}
-use Rattle.json.specs.Json.{value}
-use Rattle.json.specs.Lex.{tokens}
-use Rattle.json.specs.Print.{print}
 use Rattle.json.specs.Token as token
-use Rattle.json.specs.Token.{Token}
+use Rattle.json.proofs.Printed.Trees.{value-json_tokens}
+use Rattle.json.specs.{Json.value, Lex.tokens, Print.print, Token.Token, Written.Written}
 use Rattle.json.specs.Tree.{json_tokens, items_tokens, members_tokens}
-use Rattle.json.specs.Written.{Written}
-use Rattle.serde_json.proofs.Numbers.{number_of-decimal}
-use Rattle.serde_json.proofs.Texts.{print-outline}
-use Rattle.serde_json.specs.Data.{Data, null, boolean, number, array, object, string, Items, item, no_items, Members, member, no_members}
-use Rattle.serde_json.specs.Read.{max_depth}
-use Rattle.serde_json.specs.View.{items_of}
+use Rattle.serde_json.proofs.{Numbers.number_of-decimal, Texts.print-outline}
+use Rattle.serde_json.specs.{Read.max_depth, View.items_of}
 use Rattle.serde_json.specs.Written.{compact_text, outline, items_outline, members_outline}
-use Rattle.monk_page.specs.Html.{IsArticleOf, article}
-use Rattle.monk_page.specs.Json.{list_json, number_json}
-use Rattle.monk_page.specs.Writes.{AddsValue, Reads, with_value, with_items, with_members}
+use Rattle.serde_json.specs.Data.{Data, null, boolean, number, array, object, string, Items, item, no_items, Members}
+use Rattle.serde_json.specs.Data.{member, no_members}
 use Rattle.monk_page.proofs.PlainData.{is_plain, value_plain}
+use Rattle.monk_page.specs.{Html.IsArticleOf, Html.article, Json.list_json, Json.number_json}
+use Rattle.monk_page.specs.Writes.{AddsValue, Reads, with_value, with_items, with_members}
 
 -- a list is being written: after what is written, the values of the items `left` out of `all` are to come
 pub record WritesList {X : Type 0} (json : X → Data) (left all : List X) (old now : Written) : Type 0 where

@@ -1,12 +1,8 @@
 -- What is wrong with an event, in JSON
 use Rattle.std.specs.Prelude.{codes}
-use Rattle.monk_tell.specs.Told.{Blamed}
-use Rattle.monk_tell.specs.Why.{why_text}
-use Rattle.monk_tell.specs.declared.why.Why.{Why}
+use Rattle.monk_tell.specs.{Told.Blamed, Why.why_text, declared.why.Why.Why}
 use Rattle.serde_json.specs.Data.{Data, string, object, member, no_members}
-use Rattle.monk_page.specs.Choice.{choice_json}
-use Rattle.monk_page.specs.Json.{number_json, option_json}
-use Rattle.monk_page.specs.Step.{event_json}
+use Rattle.monk_page.specs.{Choice.choice_json, Json.number_json, Json.option_json, Step.event_json}
 
 -- the sentence that says why
 abbrev pub why_json : Why → Data

@@ -1,10 +1,7 @@
 -- What a release chooses from, and what it may choose, in JSON
 use Rattle.std.specs.Prelude.{ℕ, codes}
-use Rattle.monk_history.specs.Text.{from_word}
-use Rattle.monk_history.specs.declared.event.From3.{From3}
-use Rattle.monk_history.specs.declared.event.Next.{Next}
-use Rattle.monk_tell.specs.Told.{Chosen}
-use Rattle.monk_tell.specs.Words.{next_text}
+use Rattle.monk_history.specs.{Text.from_word, declared.event.From3.From3, declared.event.Next.Next}
+use Rattle.monk_tell.specs.{Told.Chosen, Words.next_text}
 use Rattle.serde_json.specs.Data.{Data, string, object, member, no_members}
 use Rattle.monk_page.specs.Json.{list_json, number_json, pair_json}
 

@@ -1,18 +1,13 @@
 -- The text of a page: one HTML file, with a picture and its data
 use Rattle.std.specs.Prelude.{◌≡◌, ℕ, List, ◌++◌, Option, Some, codes}
-use Rattle.monk_draw.specs.Window.{last_of, not_shown}
-use Rattle.monk_draw.specs.declared.window.Window.{Window}
-use Rattle.monk_history.specs.Text.{Heading}
-use Rattle.monk_history.specs.declared.event.Event.{Event}
+use Rattle.monk_draw.specs.{Window.last_of, Window.not_shown, declared.window.Window.Window}
+use Rattle.monk_history.specs.{Text.Heading, declared.event.Event.Event}
 use Rattle.monk_tell.specs.Told.{account, forbidden_step}
-use Rattle.serde_json.specs.Data.{Data}
-use Rattle.serde_json.specs.Read.{read}
-use Rattle.serde_json.specs.Written.{compact_text}
+use Rattle.serde_json.specs.{Data.Data, Read.read, Written.compact_text}
 use Rattle.monk_page.specs.Page.{page_json}
+use Rattle.monk_page.specs.declared.template.{front.TheConstants.FRONT, shared.TheConstants.SHARED}
 use Rattle.monk_page.specs.declared.template.article.TheConstants.{BESIDE, CLOSING, MIDDLE, OPENING}
 use Rattle.monk_page.specs.declared.template.ends.TheConstants.{HISTORY, LOG}
-use Rattle.monk_page.specs.declared.template.front.TheConstants.{FRONT}
-use Rattle.monk_page.specs.declared.template.shared.TheConstants.{SHARED}
 
 -- what is put beside a history if its program says nothing
 abbrev pub nothing_told : List ℕ

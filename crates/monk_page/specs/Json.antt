@@ -1,8 +1,7 @@
 -- Numbers, lists and what may be missing, in JSON
 use Rattle.std.specs.Prelude.{ℕ, List, [], ◌∷◌, map, Option}
 use Rattle.std.specs.Option.{option_map_or}
-use Rattle.serde_json.specs.Data.{Data, null, number, unsigned, array}
-use Rattle.serde_json.specs.View.{items_of}
+use Rattle.serde_json.specs.{Data.Data, Data.null, Data.number, Data.unsigned, Data.array, View.items_of}
 
 -- a whole number
 abbrev pub number_json : ℕ → Data

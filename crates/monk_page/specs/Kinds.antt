@@ -1,16 +1,11 @@
 -- The same events under each kind, in JSON
 use Rattle.std.specs.Prelude.{codes, List, Option}
-use Rattle.monk_kinds.specs.Names.{kind_word, kinds}
-use Rattle.monk_kinds.specs.declared.name.KindName.{KindName}
-use Rattle.monk_audit.specs.Under.{under}
-use Rattle.monk_audit.specs.Words.{verdict_text}
-use Rattle.monk_history.specs.Text.{Heading}
-use Rattle.monk_history.specs.declared.event.Event.{Event}
-use Rattle.monk_audit.specs.declared.verdict.Verdict.{Verdict}
+use Rattle.monk_kinds.specs.{Names.kind_word, Names.kinds, declared.name.KindName.KindName}
+use Rattle.monk_audit.specs.{Under.under, Words.verdict_text, declared.verdict.Verdict.Verdict}
+use Rattle.monk_history.specs.{Text.Heading, declared.event.Event.Event}
 use Rattle.monk_tell.specs.Told.{Blamed, account}
 use Rattle.serde_json.specs.Data.{Data, string, object, member, no_members}
-use Rattle.monk_page.specs.Blame.{why_json}
-use Rattle.monk_page.specs.Json.{list_json, option_json}
+use Rattle.monk_page.specs.{Blame.why_json, Json.list_json, Json.option_json}
 
 -- the verdict, and why an event is forbidden
 abbrev pub verdict_json : KindName → Verdict → Option Blamed → Data

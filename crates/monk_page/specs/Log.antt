@@ -1,22 +1,15 @@
 -- The page of a log: the picture of a run, and the run step by step
 use Rattle.std.specs.Prelude.{ℕ, ◌-◌, List, Option, codes, slice_get}
 use Rattle.std.specs.Option.{option_map_or}
-use Rattle.monk_object.specs.Names.{object_word}
-use Rattle.monk_object.specs.Object.{Object}
-use Rattle.monk_judge.specs.Blame.{blame_sentence, blame_word}
+use Rattle.monk_object.specs.{Names.object_word, Object.Object}
+use Rattle.monk_judge.specs.{Blame.blame_sentence, Blame.blame_word, Judged.after_all, Run.Setting, Run.State}
+use Rattle.monk_judge.specs.{Run.opening, Run.setting, Text.line_text, Text.place_text, Text.step_text}
 use Rattle.monk_judge.specs.Followed.{behind_lines, followed, places_below, telling}
-use Rattle.monk_judge.specs.Judged.{after_all}
-use Rattle.monk_judge.specs.Run.{Setting, State, opening, setting}
-use Rattle.monk_judge.specs.Text.{line_text, place_text, step_text}
-use Rattle.monk_judge.specs.declared.misfit.Misfit.{Misfit}
-use Rattle.monk_judge.specs.declared.place.Place.{Place}
-use Rattle.monk_judge.specs.declared.run.Run.{Run}
-use Rattle.monk_judge.specs.declared.step.Step.{Step}
-use Rattle.monk_logs.specs.Log.{LogHeading}
-use Rattle.monk_logs.specs.declared.text.line.LogLine.{LogLine}
+use Rattle.monk_judge.specs.declared.{misfit.Misfit.Misfit, place.Place.Place, run.Run.Run, step.Step.Step}
+use Rattle.monk_logs.specs.{Log.LogHeading, declared.text.line.LogLine.LogLine}
 use Rattle.serde_json.specs.Data.{Data, null, string, object, Members, member, no_members}
-use Rattle.monk_page.specs.Html.{IsPageOf, log_end}
 use Rattle.monk_page.specs.Json.{list_json, number_json, numbers_json, option_json}
+use Rattle.monk_page.specs.Html.{IsPageOf, log_end}
 
 -- ---- one step
 

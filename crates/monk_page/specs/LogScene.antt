@@ -1,23 +1,19 @@
 -- The scene of a run that tells a log: a column for each line
 use Rattle.std.specs.Prelude.{◌-◌, ℕ, List, [], ◌∷◌, length, map}
 use Rattle.std.specs.List.{flat_map, slice_range}
-use Rattle.monk_history.specs.declared.event.Event.{Event}
 use Rattle.monk_history.specs.declared.event.Event.TheVariants as event
-use Rattle.monk_history.specs.declared.event.From3.TheVariants.{Waiter}
+use Rattle.monk_history.specs.declared.event.{Event.Event, From3.TheVariants.Waiter, Via.TheVariants.Free}
 use Rattle.monk_history.specs.declared.event.Next.TheVariants.{Stay, Entry}
-use Rattle.monk_history.specs.declared.event.Via.TheVariants.{Free}
 use Rattle.monk_draw.specs.Scene.{ShownScene, arrows_below}
-use Rattle.monk_tell.specs.declared.place.SeatPlace.{SeatPlace}
 use Rattle.monk_tell.specs.declared.place.SeatPlace.TheVariants as seat
+use Rattle.monk_tell.specs.declared.place.SeatPlace.{SeatPlace}
+use Rattle.monk_judge.specs.{Judged.after_all, Run.Setting, Run.State}
 use Rattle.monk_judge.specs.Followed.{behind_lines, followed, places_below, telling}
-use Rattle.monk_judge.specs.Judged.{after_all}
-use Rattle.monk_judge.specs.Run.{Setting, State}
 use Rattle.monk_judge.specs.declared.place.Place.{Place}
 use Rattle.monk_judge.specs.declared.place.Place.TheVariants.{Outside, Active, Waiting, Woken, RanOut}
-use Rattle.monk_judge.specs.declared.step.Step.{Step}
-use Rattle.monk_judge.specs.declared.step.Step.TheVariants.{Tells, RunsOut, WakesUnasked}
-use Rattle.monk_logs.specs.declared.text.line.LogLine.{LogLine}
+use Rattle.monk_judge.specs.declared.step.Step.{Step, TheVariants.Tells, TheVariants.RunsOut, TheVariants.WakesUnasked}
 use Rattle.monk_logs.specs.declared.text.line.LogLine.TheVariants as line
+use Rattle.monk_logs.specs.declared.text.line.LogLine.{LogLine}
 
 -- a line of a log as an event: a line that lets the lock go as if the entry queue went on, a signal
 -- as if its caller stayed

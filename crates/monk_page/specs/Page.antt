@@ -4,17 +4,12 @@ use Rattle.std.specs.Option.{option_map_or}
 use Rattle.monk_kinds.specs.Names.{kind_word, rules_named}
 use Rattle.monk_object.specs.Names.{object_word}
 use Rattle.monk_audit.specs.Words.{verdict_text}
-use Rattle.monk_history.specs.Text.{Heading}
-use Rattle.monk_history.specs.declared.event.Event.{Event}
-use Rattle.monk_tell.specs.Steps.{steps_between}
+use Rattle.monk_history.specs.{Text.Heading, declared.event.Event.Event}
+use Rattle.monk_tell.specs.{Steps.steps_between, Words.mode_word, Words.ranks_text}
 use Rattle.monk_tell.specs.Told.{Account, Blamed, account}
-use Rattle.monk_tell.specs.Words.{mode_word, ranks_text}
 use Rattle.serde_json.specs.Data.{Data, null, string, object, Members, member, no_members}
-use Rattle.monk_page.specs.Blame.{blame_json}
-use Rattle.monk_page.specs.Json.{list_json, number_json}
-use Rattle.monk_page.specs.Kinds.{kinds_json}
-use Rattle.monk_page.specs.Step.{step_json}
-use Rattle.monk_page.specs.declared.told_history.ToldHistory.{ToldHistory}
+use Rattle.monk_page.specs.{Blame.blame_json, Json.list_json, Json.number_json, Kinds.kinds_json, Step.step_json}
+use Rattle.monk_page.specs.{declared.told_history.ToldHistory.ToldHistory}
 
 -- what is wrong with the forbidden event, if it is among those after `before` events, up to the last that is shown
 abbrev pub shown_blame_json : ℕ → ℕ → Blamed → Data

@@ -1,11 +1,8 @@
 -- A step of a history in JSON: the event, what it chose from, and the state of the monitor after it
 use Rattle.std.specs.Prelude.{ℕ, List, Option, codes}
 use Rattle.monk_history.specs.declared.event.Event.{Event}
-use Rattle.monk_object.specs.InWords.{state_in_words}
-use Rattle.monk_object.specs.declared.name.ObjectName.{ObjectName}
-use Rattle.monk_tell.specs.Steps.{ShownStep}
-use Rattle.monk_tell.specs.Told.{ShownStanding}
-use Rattle.monk_tell.specs.Words.{event_text, turn_text}
+use Rattle.monk_object.specs.{InWords.state_in_words, declared.name.ObjectName.ObjectName}
+use Rattle.monk_tell.specs.{Steps.ShownStep, Told.ShownStanding, Words.event_text, Words.turn_text}
 use Rattle.serde_json.specs.Data.{Data, string, object, Members, member, no_members}
 use Rattle.monk_page.specs.Choice.{choice_json}
 use Rattle.monk_page.specs.Json.{list_json, number_json, numbers_json, option_json, pair_json}

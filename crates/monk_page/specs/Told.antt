@@ -1,8 +1,7 @@
 -- The names in a text that is put beside a history
 use Rattle.std.specs.Prelude.{◌≡◌, ℕ, List, [], ◌∷◌, Some, map, option_and_then, codes, string_bytes, unwrap_or}
+use Rattle.serde_json.specs.{Find.as_array, Find.as_str, Find.get, Read.read}
 use Rattle.serde_json.specs.Data.{Data, Items, item, no_items}
-use Rattle.serde_json.specs.Find.{as_array, as_str, get}
-use Rattle.serde_json.specs.Read.{read}
 use Rattle.monk_page.specs.declared.told.ToldNames.{ToldNames}
 
 -- the texts of a list; an item that is no text counts as an empty one

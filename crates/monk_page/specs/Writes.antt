@@ -1,11 +1,10 @@
 -- What a writer of JSON has written
 use Rattle.std.specs.Prelude.{◌≡◌, ◌++◌, List, ℕ, [], ◌∷◌, Some, ⊤}
 use Rattle.json.specs.Token as token
-use Rattle.json.specs.Token.{Token}
-use Rattle.json.specs.Written.{Written}
-use Rattle.serde_json.specs.Data.{Data, null, boolean, number, array, object, string, Items, item, no_items, Members, member, no_members}
-use Rattle.serde_json.specs.Read.{of_json}
-use Rattle.serde_json.specs.Written.{number_text, outline}
+use Rattle.json.specs.{Token.Token, Written.Written}
+use Rattle.serde_json.specs.{Read.of_json, Written.number_text, Written.outline}
+use Rattle.serde_json.specs.Data.{Data, null, boolean, number, array, object, string, Items, item, no_items, Members}
+use Rattle.serde_json.specs.Data.{member, no_members}
 
 abbrev mutual
   -- the tokens, with those of the value after them

@@ -2,8 +2,7 @@
 
 ghost use Rattle.std.specs.Prelude.{◌≡◌, ◌≤◌, ◌<◌, ◌^◌, IfOk, OnOk, IsErrOf, length, string_bytes};
 ghost use Rattle.monk_object.specs.Names.{most};
-ghost use Rattle.monk_page.specs.Html.{IsArticle, IsArticleOf, history_end, page_of};
-ghost use Rattle.monk_page.specs.Page.{told_json};
+ghost use Rattle.monk_page.specs.{Html.IsArticle, Html.IsArticleOf, Html.history_end, Html.page_of, Page.told_json};
 
 use crate::in_json::JsonText;
 use crate::page_data::write_page;

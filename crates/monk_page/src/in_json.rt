@@ -1,8 +1,7 @@
 //! Things that have a JSON value, and write it.
 
 ghost use Rattle.std.specs.Prelude.{◌≡◌, [], IfOk, OnOk, string_bytes};
-ghost use Rattle.json.specs.Lex.{tokens};
-ghost use Rattle.json.specs.Print.{print};
+ghost use Rattle.json.specs.{Lex.tokens, Print.print};
 ghost use Rattle.serde_json.specs.Data.{Data, string};
 ghost use Rattle.monk_page.specs.Json.{list_json, number_json, option_json};
 ghost use Rattle.monk_page.specs.Writes.{AddsMember, AddsValue};

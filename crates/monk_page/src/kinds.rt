@@ -2,10 +2,8 @@
 
 ghost use Rattle.std.specs.Prelude.{OnOk, codes, option_map};
 ghost use Rattle.monk_tell.specs.Told.{blame_of};
-ghost use Rattle.monk_page.specs.Blame.{why_json};
-ghost use Rattle.monk_page.specs.Json.{list_json, option_json};
-ghost use Rattle.monk_page.specs.Kinds.{kind_json, verdict_json};
-ghost use Rattle.monk_page.specs.Writes.{AddsMember, AddsValue};
+ghost use Rattle.monk_page.specs.{Blame.why_json, Json.list_json, Json.option_json, Kinds.kind_json};
+ghost use Rattle.monk_page.specs.{Kinds.verdict_json, Writes.AddsMember, Writes.AddsValue};
 
 use crate::in_json::{JsonText, member};
 use crate::told_history::ToldHistory;

@@ -2,17 +2,13 @@
 //!
 //! The functions do nothing: their contracts are the laws.
 ghost use Rattle.std.specs.Prelude.{◌≡◌, true, ℕ, List, Option};
-ghost use Rattle.monk_page.specs.Plain.{is_plain_text};
+ghost use Rattle.monk_page.specs.{Plain.is_plain_text, Html.window_json, Log.log_json};
 ghost use Rattle.monk_draw.specs.declared.window.Window.{Window};
-ghost use Rattle.monk_history.specs.Text.{Heading};
-ghost use Rattle.monk_history.specs.declared.event.Event.{Event};
+ghost use Rattle.monk_history.specs.{Text.Heading, declared.event.Event.Event};
 ghost use Rattle.monk_judge.specs.declared.run.Run.{Run};
-ghost use Rattle.monk_logs.specs.Log.{LogHeading};
-ghost use Rattle.monk_logs.specs.declared.text.line.LogLine.{LogLine};
+ghost use Rattle.monk_logs.specs.{Log.LogHeading, declared.text.line.LogLine.LogLine};
 ghost use Rattle.monk_object.specs.Object.{Object};
 ghost use Rattle.serde_json.specs.Written.{compact_text};
-ghost use Rattle.monk_page.specs.Html.{window_json};
-ghost use Rattle.monk_page.specs.Log.{log_json};
 
 /// The data of a page are in it unbroken: they hold no `<`, `>` or `&` and no control character. So
 /// they hold no end of the script, and nothing else that HTML would read.

@@ -1,8 +1,7 @@
 //! Lists of numbers and of seats.
 
 ghost use Rattle.monk_tell.specs.Told.{condition_lists};
-ghost use Rattle.monk_page.specs.Json.{list_json, numbers_json};
-ghost use Rattle.monk_page.specs.Step.{wait_json};
+ghost use Rattle.monk_page.specs.{Json.list_json, Json.numbers_json, Step.wait_json};
 
 use crate::in_json::{InJson, JsonText};
 use monk_tell::{Conditions, SeatList, Waits};

@@ -3,8 +3,7 @@
 ghost use Rattle.std.specs.Prelude.{IfOk, OnOk, string_bytes};
 ghost use Rattle.serde_json.specs.Data.{no_members};
 ghost use Rattle.monk_judge.specs.Run.{IsRun, opening, setting};
-ghost use Rattle.monk_page.specs.Log.{IsLogPage, log_json, with_header};
-ghost use Rattle.monk_page.specs.Writes.{AddsMembers, AddsValue};
+ghost use Rattle.monk_page.specs.{Log.IsLogPage, Log.log_json, Log.with_header, Writes.AddsMembers, Writes.AddsValue};
 
 use crate::in_json::{JsonText, member};
 use crate::log_data::{write_misfit, write_run};

@@ -2,13 +2,10 @@
 
 ghost use Rattle.std.specs.Prelude.{◌≡◌, ◌-◌, OnOk, codes, length};
 ghost use Rattle.serde_json.specs.Data.{no_members};
+ghost use Rattle.monk_judge.specs.{Judged.after_all, Run.IsRun, Shown.setting_of, Shown.state_of};
 ghost use Rattle.monk_judge.specs.Followed.{behind_lines, followed, telling};
-ghost use Rattle.monk_judge.specs.Judged.{after_all};
-ghost use Rattle.monk_judge.specs.Run.{IsRun};
-ghost use Rattle.monk_judge.specs.Shown.{setting_of, state_of};
-ghost use Rattle.monk_page.specs.Json.{list_json};
+ghost use Rattle.monk_page.specs.{Json.list_json, Writes.AddsMember, Writes.AddsMembers, Writes.AddsValue};
 ghost use Rattle.monk_page.specs.Log.{misfit_json, place_json, state_json, told_json, with_run, with_state, wrong_json};
-ghost use Rattle.monk_page.specs.Writes.{AddsMember, AddsMembers, AddsValue};
 
 use crate::in_json::{InJson, JsonText, member, write_list};
 use monk_draw::Span;

@@ -2,8 +2,7 @@
 
 ghost use Rattle.std.specs.Prelude.{◌≡◌, ◌≤◌, ◌++◌, IfOk, OnOk, length, map};
 ghost use Rattle.monk_draw.specs.Scene.{row_of, scene_of};
-ghost use Rattle.monk_judge.specs.Run.{IsRun, opening, setting};
-ghost use Rattle.monk_judge.specs.Shown.{setting_of, state_of};
+ghost use Rattle.monk_judge.specs.{Run.IsRun, Run.opening, Run.setting, Shown.setting_of, Shown.state_of};
 ghost use Rattle.monk_page.specs.LogScene as scene;
 
 use crate::log_data::lead;

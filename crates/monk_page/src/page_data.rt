@@ -1,12 +1,10 @@
 //! The data of a page.
 
 ghost use Rattle.std.specs.Prelude.{OnOk, codes, map};
-ghost use Rattle.monk_tell.specs.Steps.{step_of};
-ghost use Rattle.monk_tell.specs.Told.{telling_of};
+ghost use Rattle.monk_tell.specs.{Steps.step_of, Told.telling_of};
 ghost use Rattle.serde_json.specs.Data.{no_members};
-ghost use Rattle.monk_page.specs.Json.{list_json};
+ghost use Rattle.monk_page.specs.{Json.list_json, Step.step_json};
 ghost use Rattle.monk_page.specs.Page.{forbidden_json, steps_json, told_json, with_counts, with_judged, with_kinds};
-ghost use Rattle.monk_page.specs.Step.{step_json};
 ghost use Rattle.monk_page.specs.Writes.{AddsMember, AddsMembers, AddsValue};
 
 use crate::in_json::{InJson, JsonText, member};

@@ -2,8 +2,7 @@
 
 ghost use Rattle.std.specs.Prelude.{OnOk};
 ghost use Rattle.serde_json.specs.Data.{no_members};
-ghost use Rattle.monk_tell.specs.Steps.{step_of};
-ghost use Rattle.monk_tell.specs.Told.{standing_of};
+ghost use Rattle.monk_tell.specs.{Steps.step_of, Told.standing_of};
 ghost use Rattle.monk_page.specs.Step.{event_json, step_json, with_event, with_queues};
 ghost use Rattle.monk_page.specs.Writes.{AddsMembers, AddsValue};
 

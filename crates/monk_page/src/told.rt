@@ -1,10 +1,7 @@
 //! What a program may say beside its history on a page, and where a text of it is at fault.
 
 ghost use Rattle.std.specs.Prelude.{◌≡◌, IfOk, OnOk, Some, map, option_and_then, option_map, string_bytes};
-ghost use Rattle.serde_json.specs.Data.{Data};
-ghost use Rattle.serde_json.specs.Read.{read};
-ghost use Rattle.serde_json.specs.View.{items_view, view};
-ghost use Rattle.serde_json.specs.Find.{as_array, get};
+ghost use Rattle.serde_json.specs.{Data.Data, Read.read, View.items_view, View.view, Find.as_array, Find.get};
 ghost use Rattle.monk_page.specs.Told.{AreNames, names_in};
 
 use serde_json::Value;

@@ -1,7 +1,6 @@
 ghost use Rattle.std.specs.Prelude.{◌≡◌, ◌≤◌, ◌^◌, length, map};
 ghost use Rattle.monk_object.specs.Names.{most};
-ghost use Rattle.monk_tell.specs.Steps.{step_of, steps_between};
-ghost use Rattle.monk_tell.specs.Told.{account, telling_of};
+ghost use Rattle.monk_tell.specs.{Steps.step_of, Steps.steps_between, Told.account, Told.telling_of};
 
 use monk_draw::Span;
 use monk_history::{Event, Header};

@@ -2,45 +2,33 @@
 use Rattle.std.proofs.Common.{◌≡◌, ℕ, suc, ◌+◌, ◌≤◌, ◌==◌, ◌&&◌, ◌||◌, not, Bool, true, false, cond, Option, Some, None}
 use Rattle.std.proofs.Common.{List, [], ◌∷◌, ◌++◌, length, length-append, map, take, append-nil, append_assoc}
 use Rattle.std.proofs.Common.{refl, sym, ap, subst, ◌∙◌, ◌⊎◌, inl, inr, arith, eq-eqb}
-use Rattle.std.specs.Prelude.{filter, slice_get}
-use Rattle.std.specs.List.{list_any}
-use Rattle.std.specs.Option.{option_map_or}
 use Rattle.std.proofs.lemmas.Bool.{false≢true, eqb-true}
-use Rattle.std.proofs.lemmas.List.{take-append-le, take_all}
-use Rattle.std.proofs.lemmas.List.Elements.{filter-append}
-use Rattle.monk_history.specs.Meaning.Counts.{events_of}
-use Rattle.monk_history.specs.Meaning.Events.{seat_of, next_of, is_stay, is_until, awaited_predicate}
-use Rattle.monk_history.specs.Meaning.Legal.{IsLegal}
-use Rattle.monk_history.specs.Meaning.Monitor.{Monitor, data_of}
-use Rattle.monk_history.specs.Meaning.Promises.{ThePredicateHolds}
-use Rattle.monk_history.specs.Meaning.Reasons.{fits_turn}
+use Rattle.std.proofs.lemmas.List.{take-append-le, take_all, Elements.filter-append}
+use Rattle.std.specs.{Prelude.filter, Prelude.slice_get, List.list_any, Option.option_map_or}
+use Rattle.monk_history.proofs.PublicLaws.Meaning.{and_left, and_right, caller_unqueued, legal_front, legal_last}
+use Rattle.monk_history.proofs.PublicLaws.Meaning.{legal_placed, length-events_of-push, legal_situation-push, resumes}
+use Rattle.monk_history.proofs.PublicLaws.Meaning.{turn-push}
+use Rattle.monk_history.specs.Meaning.{Counts.events_of, Legal.IsLegal, Promises.ThePredicateHolds, Reasons.fits_turn}
+use Rattle.monk_history.specs.Meaning.{Standing.times, Standing.has_turn, Turn.turn, Turn.turn_by, Turn.is_inside}
 use Rattle.monk_history.specs.Meaning.Situation.{Situation, situation}
-use Rattle.monk_history.specs.Meaning.Standing.{times, has_turn}
-use Rattle.monk_history.specs.Meaning.Turn.{turn, turn_by, is_inside}
+use Rattle.monk_history.specs.Meaning.Monitor.{Monitor, data_of}
+use Rattle.monk_history.specs.Meaning.Events.{seat_of, next_of, is_stay, is_until, awaited_predicate}
 use Rattle.monk_history.specs.Meaning.Untils.{untils, chooses, waits_until, StaysWhereItHolds}
-use Rattle.monk_history.specs.declared.event.Event.{Event}
-use Rattle.monk_history.specs.declared.event.Event.TheVariants.{Enter, Act, Leave, Wait, Signal, SignalLeave, Until, Resume}
-use Rattle.monk_history.specs.declared.event.Event.TheVariants.{SignalAll, SignalWait}
-use Rattle.monk_history.specs.declared.event.From3.{From3}
-use Rattle.monk_history.specs.declared.event.From3.TheVariants.{Until as FromUntil}
+use Rattle.monk_history.specs.declared.event.{From3.From3, From3.TheVariants.Until as FromUntil, Turn.TheVariants.Due}
 use Rattle.monk_history.specs.declared.event.Next.{Next}
 use Rattle.monk_history.specs.declared.event.Next.TheVariants.{Stay, Entry, Waiter, Signaller, Until as UntilSeat}
-use Rattle.monk_history.specs.declared.event.Turn.TheVariants.{Due}
-use Rattle.monk_history.proofs.PublicLaws.Meaning.{and_left, and_right, caller_unqueued, legal_front, legal_last, legal_placed}
-use Rattle.monk_kinds.specs.declared.mode.Pick.{Pick}
-use Rattle.monk_kinds.specs.declared.mode.Rules.{Rules}
+use Rattle.monk_history.specs.declared.event.Event.{Event}
+use Rattle.monk_history.specs.declared.event.Event.TheVariants.{Enter, Act, Leave, Wait, Signal, SignalLeave, Until}
+use Rattle.monk_history.specs.declared.event.Event.TheVariants.{Resume, SignalAll, SignalWait}
+use Rattle.monk_kinds.specs.declared.mode.{Pick.Pick, Rules.Rules}
 use Rattle.monk_object.specs.Object.{Object}
 use Rattle.monk_floor.specs.View.{FloorView, monitor_of}
-use Rattle.monk_world.specs.StepTable.{out_event, queue_due}
 use Rattle.monk_world.specs.declared.home.Home.TheVariants as home
-use Rattle.monk_hall.specs.AfterCalls.{MatchAfter}
+use Rattle.monk_world.specs.StepTable.{out_event, queue_due}
+use Rattle.monk_hall.specs.{AfterCalls.MatchAfter, Changes.source_from, Tokens.Token, Tokens.Holder}
 use Rattle.monk_hall.specs.Calls.{HasEntered, HasReleased, HasStayed}
-use Rattle.monk_hall.specs.Changes.{source_from}
-use Rattle.monk_hall.specs.Tokens.{Token, Holder}
-use Rattle.monk_hall.specs.declared.after.After.{After}
-use Rattle.monk_hall.specs.declared.after.After.TheVariants.{Active, Parked}
+use Rattle.monk_hall.specs.declared.after.After.{After, TheVariants.Active, TheVariants.Parked}
 use Rattle.monk_samples.specs.Styles.{Holds}
-use Rattle.monk_history.proofs.PublicLaws.Meaning.{length-events_of-push, legal_situation-push, resumes, turn-push}
 
 -- the seats of these waits
 abbrev seats_in : List (ℕ × ℕ) → List ℕ

@@ -2,25 +2,20 @@
 use Rattle.std.proofs.Common.{◌≡◌, ℕ, zero, suc, ◌+◌, ◌*◌, Bool, true, false, cond}
 use Rattle.std.proofs.Common.{◌==◌, nat_lt, ◌&&◌, Option, Some, None, List, [], ◌∷◌, ◌++◌}
 use Rattle.std.proofs.Common.{refl, sym, ap, ◌∙◌, arith}
+use Rattle.std.proofs.lemmas.{List.Sums.sum_by-append, List.Sums.sum_by-cons, Bool.lt-ltb}
 use Rattle.std.specs.List.{sum_by}
-use Rattle.std.proofs.lemmas.List.Sums.{sum_by-append, sum_by-cons}
-use Rattle.std.proofs.lemmas.Bool.{lt-ltb}
 use Rattle.monk_kinds.specs.declared.mode.Rules.{Rules}
-use Rattle.monk_object.specs.Object.{Object}
-use Rattle.monk_object.specs.Runs.{Answered, is_done}
-use Rattle.monk_object.specs.declared.op.Op.{Op}
+use Rattle.monk_object.specs.{Object.Object, Runs.Answered, Runs.is_done, declared.op.Op.Op}
 use Rattle.monk_history.specs.Meaning.Acts.{acts_in}
-use Rattle.monk_history.specs.declared.event.Event.{Event}
-use Rattle.monk_history.specs.declared.event.Event.TheVariants.{Enter, Act, Leave, Wait, Signal, SignalLeave, Until, Resume}
-use Rattle.monk_history.specs.declared.event.Event.TheVariants.{SignalAll, SignalWait}
 use Rattle.monk_history.specs.declared.event.Next.TheVariants.{Stay}
-use Rattle.monk_hall.specs.Tokens.{Token}
-use Rattle.monk_hall.specs.declared.setting.Setting.{Setting}
-use Rattle.monk_samples.specs.Rounds.{rounds_to}
-use Rattle.monk_samples.specs.Trails.{Addition, HasCalled, after, calls_in, events_in, outside}
-use Rattle.monk_samples.specs.Visits.{Plan, Guard, AreMisses, AreVisits, IsCertain, IsMiss, IsTry, IsVisit, wish_in}
-use Rattle.monk_samples.specs.declared.end.End.TheVariants.{Done}
+use Rattle.monk_history.specs.declared.event.Event.{Event}
+use Rattle.monk_history.specs.declared.event.Event.TheVariants.{Enter, Act, Leave, Wait, Signal, SignalLeave, Until}
+use Rattle.monk_history.specs.declared.event.Event.TheVariants.{Resume, SignalAll, SignalWait}
+use Rattle.monk_hall.specs.{Tokens.Token, declared.setting.Setting.Setting}
 use Rattle.monk_samples.proofs.VisitLaws.{acts_append, calls_acts, calls_out_acts, paused_acts}
+use Rattle.monk_samples.specs.{Rounds.rounds_to, declared.end.End.TheVariants.Done}
+use Rattle.monk_samples.specs.Visits.{Plan, Guard, AreMisses, AreVisits, IsCertain, IsMiss, IsTry, IsVisit, wish_in}
+use Rattle.monk_samples.specs.Trails.{Addition, HasCalled, after, calls_in, events_in, outside}
 
 -- what an operation of that code is worth, after it was done and as it is planned
 abbrev pub worth : ℕ → (Op → ℕ) → Answered → ℕ

@@ -1,22 +1,18 @@
 -- How the ends of workers add up
 use Rattle.std.proofs.Common.{◌≡◌, ℕ, Bool, All, Option, Some, None, List, [], ◌∷◌, ◌++◌, refl, sym, ap, subst, ◌∙◌}
 use Rattle.std.proofs.Common.{append_assoc, append-nil}
-use Rattle.std.specs.Prelude.{Result, Ok, Err, IsErr, IsErrAnd, IfErr, IfSome, option_to_list}
 use Rattle.std.proofs.lemmas.List.Elements.{All-cons, All-nil}
+use Rattle.std.specs.Prelude.{Result, Ok, Err, IsErr, IsErrAnd, IfErr, IfSome, option_to_list}
 use Rattle.monk_kinds.specs.declared.mode.Rules.{Rules}
 use Rattle.monk_object.specs.Object.{Object}
-use Rattle.monk_hall.specs.Tokens.{House, Token}
-use Rattle.monk_hall.specs.declared.setting.Setting.{Setting}
-use Rattle.monk_samples.specs.Crews.{IsOf, IsReady}
-use Rattle.monk_samples.specs.Ends.{HaveServed, HasEndedFirst, IsFaultOfCrew, IsWantOfRoom}
-use Rattle.monk_samples.specs.Faults.{fault_after}
-use Rattle.monk_samples.specs.Rounds.{HasDoneRounds, HasServed, HasServedToEnd, round_of, rounds_of}
-use Rattle.monk_samples.specs.declared.crew_fault.CrewFault.{CrewFault}
+use Rattle.monk_hall.specs.{Tokens.House, Tokens.Token, declared.setting.Setting.Setting}
 use Rattle.monk_samples.specs.declared.crew_fault.CrewFault.TheVariants as crew
-use Rattle.monk_samples.specs.declared.end.End.{End}
-use Rattle.monk_samples.specs.declared.end.End.TheVariants.{Done, Tired, Late}
-use Rattle.monk_samples.specs.declared.scenario.Scenario.{Scenario}
 use Rattle.monk_samples.proofs.RoundLaws.{no_round}
+use Rattle.monk_samples.specs.{Crews.IsOf, Crews.IsReady, Faults.fault_after}
+use Rattle.monk_samples.specs.Ends.{HaveServed, HasEndedFirst, IsFaultOfCrew, IsWantOfRoom}
+use Rattle.monk_samples.specs.Rounds.{HasDoneRounds, HasServed, HasServedToEnd, round_of, rounds_of}
+use Rattle.monk_samples.specs.declared.{crew_fault.CrewFault.CrewFault, scenario.Scenario.Scenario}
+use Rattle.monk_samples.specs.declared.end.End.{End, TheVariants.Done, TheVariants.Tired, TheVariants.Late}
 
 module _ (k : Rules) (o : Object) (answers : ℕ → ℕ → Bool → Type 0) (scenario : Scenario) (seats rounds : ℕ) where
   abbrev Served : House → List Token → List Token → Type 0

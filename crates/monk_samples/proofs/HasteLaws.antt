@@ -1,18 +1,17 @@
 -- What becomes of a hasty visit, try by try
-use Rattle.std.specs.Prelude.{IfOk, MatchResult}
 use Rattle.std.proofs.Common.{◌≡◌, ◌<◌, ℕ, suc, Bool, true, false, Result, Ok, Err, arith, Option, Some, [], ◌∷◌, ◌++◌, append_assoc}
 use Rattle.std.proofs.Common.{refl, sym, ap, subst, ◌∙◌}
+use Rattle.std.specs.Prelude.{IfOk, MatchResult}
 use Rattle.monk_kinds.specs.declared.mode.Rules.{Rules}
 use Rattle.monk_object.specs.Object.{Object}
 use Rattle.monk_history.specs.Meaning.Events.{has_conditions}
-use Rattle.monk_history.specs.declared.event.Event.TheVariants.{Leave}
-use Rattle.monk_history.specs.declared.event.Next.TheVariants.{Stay}
+use Rattle.monk_history.specs.declared.event.{Event.TheVariants.Leave, Next.TheVariants.Stay}
 use Rattle.monk_hall.specs.Tokens.{Token, Holder}
-use Rattle.monk_samples.specs.Asked.{IsCall}
-use Rattle.monk_samples.specs.Trails.{Addition, Trail, HasCalled, inside, outside}
-use Rattle.monk_samples.specs.Visits.{Guard, Plan, HasActed, HasLooked, HasMissed, HasPausedUntil, HasTired, IsLeftWaiting, IsMiss}
-use Rattle.monk_samples.specs.Visits.{hasty_guard, wish_in}
 use Rattle.monk_samples.proofs.TrailLaws.{called_then}
+use Rattle.monk_samples.specs.Asked.{IsCall}
+use Rattle.monk_samples.specs.Visits.{Guard, Plan, HasActed, HasLooked, HasMissed, HasPausedUntil, HasTired}
+use Rattle.monk_samples.specs.Visits.{IsLeftWaiting, IsMiss, hasty_guard, wish_in}
+use Rattle.monk_samples.specs.Trails.{Addition, Trail, HasCalled, inside, outside}
 
 -- what follows from an operation if the seat acted
 pub acted_ok : {A E : Type 0} (r : Result A E) (P R : A → Type 0) (Q : E → Type 0) → ((a : A) → P a → R a)

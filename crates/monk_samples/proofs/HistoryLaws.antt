@@ -2,17 +2,13 @@
 use Rattle.std.proofs.Common.{ℕ, ◌≤◌, Bool, List}
 use Rattle.monk_kinds.specs.declared.mode.Rules.{Rules}
 use Rattle.monk_history.specs.declared.event.Event.{Event}
-use Rattle.monk_samples.specs.Runs.{HasClosed, HasLeftHistory, run_house, run_setting}
-use Rattle.monk_samples.specs.Samples.{scenario_of, size_in}
-use Rattle.monk_samples.specs.Totals.{HasEnded, HasTotals, RefusesNothing, missed_in, totals_of}
-use Rattle.monk_samples.specs.declared.manner.Manner.{Manner}
-use Rattle.monk_samples.specs.declared.sample.Sample.{Sample}
-use Rattle.monk_samples.specs.declared.sample.Sample.TheVariants.{Buffer, Book, Shop}
-use Rattle.monk_samples.specs.declared.scenario.Scenario.{Scenario}
-use Rattle.monk_samples.proofs.MissLaws.{buffer_misses, misses_by}
+use Rattle.monk_samples.proofs.{MissLaws.buffer_misses, MissLaws.misses_by, RunEndLaws.has_left, RunLaws.law_of}
 use Rattle.monk_samples.proofs.ProductLaws.{buffer_totals, book_totals, shop_totals}
-use Rattle.monk_samples.proofs.RunEndLaws.{has_left}
-use Rattle.monk_samples.proofs.RunLaws.{law_of}
+use Rattle.monk_samples.specs.Totals.{HasEnded, HasTotals, RefusesNothing, missed_in, totals_of}
+use Rattle.monk_samples.specs.Samples.{scenario_of, size_in}
+use Rattle.monk_samples.specs.declared.{manner.Manner.Manner, scenario.Scenario.Scenario}
+use Rattle.monk_samples.specs.declared.sample.Sample.{Sample, TheVariants.Buffer, TheVariants.Book, TheVariants.Shop}
+use Rattle.monk_samples.specs.Runs.{HasClosed, HasLeftHistory, run_house, run_setting}
 
 module _ (k : Rules) (answers : ℕ → ℕ → Bool → Type 0) (seats rounds : ℕ) (some : 1 ≤ seats) (h : List Event) where
   abbrev Closed : Scenario → Type 0

@@ -1,38 +1,24 @@
 -- What stays the same for passes that meet, and what the history holds that their seats closed
 use Rattle.std.proofs.Common.{◌≡◌, ◌≢◌, ℕ, zero, suc, ◌+◌, ◌≤◌, Bool, true, List, [], ◌∷◌, ◌++◌, length, refl, sym, ap, subst, ◌∙◌, arith}
 use Rattle.std.proofs.Common.{append_assoc}
-use Rattle.std.specs.Prelude.{All, AllPairs, sum_by}
+use Rattle.std.proofs.lemmas.List.{Kept.AllPairs-cons, Sums.sum_by-append, Sums.sum_by-cons}
 use Rattle.std.proofs.lemmas.List.Elements.{All-cons, All-head, All-nil, All-tail}
-use Rattle.std.proofs.lemmas.List.Kept.{AllPairs-cons}
-use Rattle.std.proofs.lemmas.List.Sums.{sum_by-append, sum_by-cons}
+use Rattle.std.specs.Prelude.{All, AllPairs, sum_by}
 use Rattle.atomic_table.specs.Seated.{TableId}
 use Rattle.monk_kinds.specs.declared.mode.Rules.{Rules}
-use Rattle.monk_object.specs.Object.{Object}
-use Rattle.monk_object.specs.Runs.{Answered}
-use Rattle.monk_history.specs.Meaning.Acts.{act_of, acts_in}
-use Rattle.monk_history.specs.Meaning.Counts.{events_of}
-use Rattle.monk_history.specs.declared.event.Event.{Event}
-use Rattle.monk_history.specs.declared.event.Event.TheVariants.{Leave}
-use Rattle.monk_history.specs.declared.event.Next.TheVariants.{Entry}
-use Rattle.monk_history.specs.declared.event.Turn.{Turn}
+use Rattle.monk_object.specs.{Object.Object, Runs.Answered}
+use Rattle.monk_history.specs.Meaning.{Acts.act_of, Acts.acts_in, Counts.events_of}
+use Rattle.monk_history.specs.declared.event.{Event.Event, Event.TheVariants.Leave, Next.TheVariants.Entry, Turn.Turn}
 use Rattle.monk_world.specs.StepTable.{out_event}
-use Rattle.monk_world.specs.declared.source.Source.{Source}
-use Rattle.monk_world.specs.declared.source.Source.TheVariants.{Free, Granted, Called}
-use Rattle.monk_hall.specs.Complete.{AreApart, HoldsOnly}
-use Rattle.monk_hall.specs.Floors.{StartsWith}
-use Rattle.monk_hall.specs.Records.{opening_records}
-use Rattle.monk_hall.specs.declared.deed.Deed.{Deed}
-use Rattle.monk_hall.specs.Tokens.{House, Token, tokens}
-use Rattle.monk_hall.specs.declared.setting.Setting.{Setting}
+use Rattle.monk_world.specs.declared.source.Source.{Source, TheVariants.Free, TheVariants.Granted, TheVariants.Called}
 use Rattle.monk_hall.proofs.PublicLaws.{holds_sum}
-use Rattle.monk_samples.specs.Crews.{IsOf}
-use Rattle.monk_samples.specs.Ends.{HaveServed}
-use Rattle.monk_samples.specs.Styles.{IsSpent}
-use Rattle.monk_samples.specs.Trails.{is_coming}
+use Rattle.monk_hall.specs.{Floors.StartsWith, Records.opening_records, Tokens.House, Tokens.Token, Tokens.tokens}
+use Rattle.monk_hall.specs.Complete.{AreApart, HoldsOnly}
+use Rattle.monk_hall.specs.declared.{deed.Deed.Deed, setting.Setting.Setting}
+use Rattle.monk_samples.proofs.{TrailLaws.starts_here, TrailLaws.starts_then, WholeLaws.of_event, WholeLaws.acts_worth}
+use Rattle.monk_samples.specs.{Crews.IsOf, Ends.HaveServed, Styles.IsSpent, Trails.is_coming}
+use Rattle.monk_samples.specs.{declared.scenario.Scenario.Scenario}
 use Rattle.monk_samples.specs.Wholes.{IsSame, AreSame, HoldsOperationsOf, IsClosedBy, IsFirstSpent, IsLeftBy}
-use Rattle.monk_samples.specs.declared.scenario.Scenario.{Scenario}
-use Rattle.monk_samples.proofs.TrailLaws.{starts_here, starts_then}
-use Rattle.monk_samples.proofs.WholeLaws.{of_event, acts_worth}
 
 pub same_pass : (p : Token) → IsSame p p
 same_pass p = record { hall = refl; seat = refl; setting = refl; mine = refl }

@@ -1,37 +1,23 @@
 -- If no try misses, no act of a buffer is refused
 use Rattle.std.proofs.Common.{◌≡◌, ℕ, zero, suc, ◌+◌, ◌<◌, ◌/◌, ◌==◌, Bool, true, false, cond, nat_lt, Option, Some, None, List, [], ◌∷◌, ◌++◌}
 use Rattle.std.proofs.Common.{refl, sym, ap, ◌∙◌, arith}
+use Rattle.std.proofs.lemmas.{Bool.false≢true, Bool.eqb-true, List.Sums.sum_by-append}
 use Rattle.std.specs.List.{sum_by}
-use Rattle.std.proofs.lemmas.Bool.{false≢true, eqb-true}
-use Rattle.std.proofs.lemmas.List.Sums.{sum_by-append}
 use Rattle.atomic_table.specs.Seated.{TableId}
 use Rattle.monk_kinds.specs.declared.mode.Rules.{Rules}
-use Rattle.monk_object.specs.Buffer.{buffer_meaning}
-use Rattle.monk_object.specs.Object.{Object}
-use Rattle.monk_object.specs.Runs.{Answered}
-use Rattle.monk_object.specs.declared.op.Op.{Op}
-use Rattle.monk_history.specs.Meaning.Acts.{acts_in}
-use Rattle.monk_history.specs.Meaning.Events.{has_conditions}
-use Rattle.monk_history.specs.declared.event.Event.{Event}
-use Rattle.monk_hall.specs.Records.{opening_records}
+use Rattle.monk_object.specs.{Buffer.buffer_meaning, Object.Object, Runs.Answered, declared.op.Op.Op}
+use Rattle.monk_history.specs.{Meaning.Acts.acts_in, Meaning.Events.has_conditions, declared.event.Event.Event}
+use Rattle.monk_hall.specs.{Records.opening_records, declared.setting.Setting.Setting}
 use Rattle.monk_hall.specs.Tokens.{House, Token, tokens}
-use Rattle.monk_hall.specs.declared.setting.Setting.{Setting}
-use Rattle.monk_samples.specs.Ends.{HaveServed}
-use Rattle.monk_samples.specs.Rounds.{round_of, rounds_of, rounds_to}
-use Rattle.monk_samples.specs.Totals.{MissesNothing, missed_in}
-use Rattle.monk_samples.specs.Trails.{Addition, HasCalled, events_in, outside}
-use Rattle.monk_samples.specs.Visits.{AreMisses, AreVisits, Guard, IsCertain, IsVisit, Misses, MissesIn, Plan}
-use Rattle.monk_samples.specs.declared.end.End.TheVariants.{Done}
-use Rattle.monk_samples.specs.declared.manner.Manner.{Manner}
-use Rattle.monk_samples.specs.declared.manner.Manner.TheVariants.{Hasty, Patient}
-use Rattle.monk_samples.specs.declared.sample.Sample.TheVariants.{Buffer}
+use Rattle.monk_samples.proofs.{SeatSums.over, VisitLaws.acts_append, WholeLaws.shares}
 use Rattle.monk_samples.proofs.DoneLaws.{own_acts, try_acts}
-use Rattle.monk_samples.proofs.SeatSums.{over}
-use Rattle.monk_samples.specs.Members.{puts_by, takes_by}
-use Rattle.monk_samples.specs.Samples.{scenario_of}
-use Rattle.monk_samples.specs.Wholes.{HoldsOperationsOf}
-use Rattle.monk_samples.proofs.VisitLaws.{acts_append}
-use Rattle.monk_samples.proofs.WholeLaws.{shares}
+use Rattle.monk_samples.specs.{Ends.HaveServed, Trails.Addition, Trails.HasCalled, Trails.events_in, Trails.outside}
+use Rattle.monk_samples.specs.{Members.puts_by, Members.takes_by, Samples.scenario_of, Wholes.HoldsOperationsOf}
+use Rattle.monk_samples.specs.Totals.{MissesNothing, missed_in}
+use Rattle.monk_samples.specs.Visits.{AreMisses, AreVisits, Guard, IsCertain, IsVisit, Misses, MissesIn, Plan}
+use Rattle.monk_samples.specs.Rounds.{round_of, rounds_of, rounds_to}
+use Rattle.monk_samples.specs.declared.{end.End.TheVariants.Done, sample.Sample.TheVariants.Buffer}
+use Rattle.monk_samples.specs.declared.manner.Manner.{Manner, TheVariants.Hasty, TheVariants.Patient}
 
 -- a refused act counts once
 abbrev refused : Answered → ℕ

@@ -1,36 +1,25 @@
 -- The totals of a run are those of its seats and rounds
 use Rattle.std.proofs.Common.{◌≡◌, ℕ, suc, ◌+◌, ◌-◌, ◌*◌, ◌/◌, ◌≤◌, Bool, true, false, cond, List, [], ◌∷◌, ◌++◌, length}
 use Rattle.std.proofs.Common.{refl, sym, ap, ◌∙◌, arith, append-nil}
-use Rattle.std.specs.List.{sum_by, sum, count_by}
-use Rattle.std.specs.Prelude.{map, filter}
 use Rattle.std.proofs.lemmas.List.Sums.{sum_by-cons}
+use Rattle.std.specs.{List.sum_by, List.sum, List.count_by, Prelude.map, Prelude.filter}
 use Rattle.atomic_table.specs.Seated.{TableId}
 use Rattle.monk_kinds.specs.declared.mode.Rules.{Rules}
-use Rattle.monk_object.specs.Book.{book_meaning, START_READ, START_WRITE}
-use Rattle.monk_object.specs.Buffer.{buffer_meaning, PUT, TAKE}
-use Rattle.monk_object.specs.Laws.{items_put, items_taken}
-use Rattle.monk_object.specs.Object.{Object}
-use Rattle.monk_object.specs.Runs.{Answered, is_done, times_done}
-use Rattle.monk_object.specs.Shop.{shop_meaning, SIT, CALL, FINISH, DEPART}
+use Rattle.monk_object.specs.{Book.book_meaning, Book.START_READ, Book.START_WRITE, Buffer.buffer_meaning, Buffer.PUT}
+use Rattle.monk_object.specs.{Buffer.TAKE, Laws.items_put, Laws.items_taken, Object.Object, Runs.Answered, Runs.is_done}
+use Rattle.monk_object.specs.{Runs.times_done, Shop.shop_meaning, Shop.SIT, Shop.CALL, Shop.FINISH, Shop.DEPART}
 use Rattle.monk_history.specs.Meaning.Acts.{IsInOrder, ServesEachOne, acts_in}
 use Rattle.monk_history.specs.declared.event.Event.{Event}
-use Rattle.monk_hall.specs.Records.{opening_records}
+use Rattle.monk_hall.specs.{Records.opening_records, declared.setting.Setting.Setting}
 use Rattle.monk_hall.specs.Tokens.{House, Token, tokens}
-use Rattle.monk_hall.specs.declared.setting.Setting.{Setting}
-use Rattle.monk_samples.specs.Ends.{HaveServed}
-use Rattle.monk_samples.specs.Rounds.{HasServed}
-use Rattle.monk_samples.specs.Totals.{HasEnded, HasTotals, totals_of}
-use Rattle.monk_samples.specs.Samples.{scenario_of}
-use Rattle.monk_samples.specs.Wholes.{HoldsOperationsOf}
-use Rattle.monk_samples.specs.declared.end.End.TheVariants.{Done}
-use Rattle.monk_samples.specs.declared.manner.Manner.{Manner}
-use Rattle.monk_samples.specs.declared.scenario.Scenario.{Scenario}
-use Rattle.monk_samples.specs.declared.sample.Sample.TheVariants.{Buffer, Book, Shop}
-use Rattle.monk_samples.proofs.DoneLaws.{worth, sum_to}
+use Rattle.monk_samples.proofs.{DoneLaws.worth, DoneLaws.sum_to, WholeLaws.shares}
+use Rattle.monk_samples.proofs.ShareLaws.{once, item, puts_of, takes_of, items_of, reads_of, writes_of, calls_of}
+use Rattle.monk_samples.proofs.ShareLaws.{sits_of, departs_of}
 use Rattle.monk_samples.proofs.SeatSums.{over, first_half, second_half, first_items, calls_all, visits_all, sum_is}
-use Rattle.monk_samples.proofs.ShareLaws.{once, item, puts_of, takes_of, items_of, reads_of, writes_of}
-use Rattle.monk_samples.proofs.ShareLaws.{calls_of, sits_of, departs_of}
-use Rattle.monk_samples.proofs.WholeLaws.{shares}
+use Rattle.monk_samples.specs.{Ends.HaveServed, Rounds.HasServed, Samples.scenario_of, Wholes.HoldsOperationsOf}
+use Rattle.monk_samples.specs.Totals.{HasEnded, HasTotals, totals_of}
+use Rattle.monk_samples.specs.declared.{end.End.TheVariants.Done, manner.Manner.Manner, scenario.Scenario.Scenario}
+use Rattle.monk_samples.specs.declared.sample.Sample.TheVariants.{Buffer, Book, Shop}
 
 -- the sum of the items put is the sum over the puts that were done, each with its item
 put_sum : (acts : List Answered) → sum (items_put acts) ≡ sum_by (worth PUT item) acts

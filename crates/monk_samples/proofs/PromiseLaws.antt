@@ -1,11 +1,9 @@
 -- What an object promises that has the meaning of a sample's object
 use Rattle.std.proofs.Common.{◌≡◌, ℕ, ◌<◌, [], ◌∷◌, rules, sym, ap, subst, ◌∙◌}
-use Rattle.monk_object.specs.Book.{book_meaning, START_READ, START_WRITE}
 use Rattle.monk_object.specs.Book as book
+use Rattle.monk_object.specs.{Book.book_meaning, Book.START_READ, Book.START_WRITE, Object.Object, declared.op.Op.Op}
 use Rattle.monk_object.specs.Buffer.{buffer_meaning, PUT, TAKE, HAS_ROOM, HAS_ITEM}
-use Rattle.monk_object.specs.Object.{Object}
 use Rattle.monk_object.specs.Shop.{shop_meaning, SIT, CALL, DEPART, HAS_SEAT, CAN_CALL, IS_DONE}
-use Rattle.monk_object.specs.declared.op.Op.{Op}
 use Rattle.monk_samples.specs.Visits.{Promises, op_of}
 
 module _ (o b : Object) (is : o ≡ b) where

@@ -2,19 +2,15 @@
 use Rattle.std.proofs.Common.{◌≡◌, ℕ, zero, suc, ◌+◌, ◌<◌, ◌≤◌, Bool, true, false, nat_le}
 use Rattle.std.proofs.Common.{List, [], ◌∷◌, ◌++◌}
 use Rattle.std.specs.Prelude.{if◌then◌else◌, nat_lt}
-use Rattle.std.proofs.lemmas.Bool.{leb-true, leb-false, lt-ltb}
 use Rattle.std.proofs.Common.{append_assoc, refl, sym, ap, subst, ◌∙◌, arith}
+use Rattle.std.proofs.lemmas.Bool.{leb-true, leb-false, lt-ltb}
 use Rattle.monk_kinds.specs.declared.mode.Rules.{Rules}
 use Rattle.monk_object.specs.Object.{Object}
-use Rattle.monk_hall.specs.Tokens.{House, Token}
-use Rattle.monk_hall.specs.declared.setting.Setting.{Setting}
-use Rattle.monk_samples.specs.Crews.{IsOf}
-use Rattle.monk_samples.specs.Rounds.{HasDoneRounds, HasWorked, rounds_to}
-use Rattle.monk_samples.specs.Trails.{Addition, HasCalled, outside}
-use Rattle.monk_samples.specs.Visits.{Plan, AreVisits, HasVisited}
-use Rattle.monk_samples.specs.declared.end.End.{End}
-use Rattle.monk_samples.specs.declared.end.End.TheVariants.{Done, Tired, Late}
+use Rattle.monk_hall.specs.{Tokens.House, Tokens.Token, declared.setting.Setting.Setting}
 use Rattle.monk_samples.proofs.TrailLaws.{called_none, called_then}
+use Rattle.monk_samples.specs.{Crews.IsOf, Rounds.HasDoneRounds, Rounds.HasWorked, Rounds.rounds_to, Trails.Addition}
+use Rattle.monk_samples.specs.{Trails.HasCalled, Trails.outside, Visits.Plan, Visits.AreVisits, Visits.HasVisited}
+use Rattle.monk_samples.specs.declared.end.End.{End, TheVariants.Done, TheVariants.Tired, TheVariants.Late}
 
 -- a seat stays one of its hall
 pub still_of : (h : House) (p q : Token) (calls : List Addition) → HasCalled (outside p) (outside q) calls

@@ -5,20 +5,15 @@ use Rattle.atomic_table.specs.Seated.{TableId}
 use Rattle.monk_kinds.specs.declared.mode.Rules.{Rules}
 use Rattle.monk_object.specs.Names.{meaning_named}
 use Rattle.monk_history.specs.declared.event.Event.{Event}
+use Rattle.monk_hall.specs.{Tokens.House, Tokens.Token, Tokens.tokens, declared.setting.Setting.Setting}
 use Rattle.monk_hall.specs.Records.{first_view, opening_records}
-use Rattle.monk_hall.specs.Tokens.{House, Token, tokens}
-use Rattle.monk_hall.specs.declared.setting.Setting.{Setting}
-use Rattle.monk_samples.specs.Crews.{IsClosed, IsOf}
-use Rattle.monk_samples.specs.Ends.{HaveServed, HasEndedFirst, IsFaultOfCrew}
-use Rattle.monk_samples.specs.Faults.{run_fault_of}
-use Rattle.monk_samples.specs.Runs.{HasClosed, HasLeft, HasRun, HasStopped, IsFaultOfRun, run_setting}
-use Rattle.monk_samples.specs.Samples.{sample_object}
-use Rattle.monk_samples.specs.Wholes.{HoldsOperationsOf, IsFaultOfClosing, IsLeftBy}
-use Rattle.monk_samples.specs.declared.crew_fault.CrewFault.{CrewFault}
 use Rattle.monk_samples.specs.declared.crew_fault.CrewFault.TheVariants as crew
-use Rattle.monk_samples.specs.declared.end.End.{End}
-use Rattle.monk_samples.specs.declared.end.End.TheVariants.{Tired, Late}
-use Rattle.monk_samples.specs.declared.scenario.Scenario.{Scenario}
+use Rattle.monk_samples.specs.{Crews.IsClosed, Crews.IsOf, Faults.run_fault_of, Samples.sample_object}
+use Rattle.monk_samples.specs.Wholes.{HoldsOperationsOf, IsFaultOfClosing, IsLeftBy}
+use Rattle.monk_samples.specs.Ends.{HaveServed, HasEndedFirst, IsFaultOfCrew}
+use Rattle.monk_samples.specs.declared.{crew_fault.CrewFault.CrewFault, scenario.Scenario.Scenario}
+use Rattle.monk_samples.specs.declared.end.End.{End, TheVariants.Tired, TheVariants.Late}
+use Rattle.monk_samples.specs.Runs.{HasClosed, HasLeft, HasRun, HasStopped, IsFaultOfRun, run_setting}
 
 -- there is a pass
 pub some_pass : (z : TableId) (c : Setting) → 2 ≤ c.seats → 0 < length (tokens z (first_view c))

@@ -2,9 +2,8 @@
 use Rattle.std.proofs.Common.{◌≡◌, ℕ, zero, suc, ◌+◌, ◌-◌, ◌*◌, ◌/◌, ◌<◌, ◌≤◌, Bool, true, false, cond, nat_lt, nat_eq}
 use Rattle.std.proofs.Common.{refl, sym, ap, ◌∙◌, arith}
 use Rattle.std.proofs.lemmas.Bool.{eqb-true, lt-ltb, ltb-true}
-use Rattle.monk_samples.specs.Rounds.{rounds_of}
-use Rattle.monk_samples.specs.declared.sample.Sample.TheVariants.{Buffer, Shop}
-use Rattle.monk_samples.proofs.DoneLaws.{sum_to}
+use Rattle.monk_samples.{specs.Rounds.rounds_of, specs.declared.sample.Sample.TheVariants.Buffer}
+use Rattle.monk_samples.{specs.declared.sample.Sample.TheVariants.Shop, proofs.DoneLaws.sum_to}
 
 -- the sum over n seats from seat i on
 abbrev pub over : (ℕ → ℕ) → ℕ → ℕ → ℕ

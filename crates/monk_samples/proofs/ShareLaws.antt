@@ -3,23 +3,18 @@ use Rattle.std.proofs.Common.{◌≡◌, ℕ, ◌*◌, ◌/◌, Bool, true, fals
 use Rattle.std.proofs.Common.{refl, sym, ap, subst, ◌∙◌, arith}
 use Rattle.std.specs.List.{sum_by}
 use Rattle.monk_kinds.specs.declared.mode.Rules.{Rules}
-use Rattle.monk_object.specs.Object.{Object}
-use Rattle.monk_object.specs.Buffer.{PUT, TAKE}
-use Rattle.monk_object.specs.Book.{START_READ, START_WRITE}
-use Rattle.monk_object.specs.Shop.{SIT, CALL, DEPART}
-use Rattle.monk_object.specs.declared.op.Op.{Op}
+use Rattle.monk_object.specs.{Object.Object, Buffer.PUT, Buffer.TAKE, Book.START_READ, Book.START_WRITE, Shop.SIT}
+use Rattle.monk_object.specs.{Shop.CALL, Shop.DEPART, declared.op.Op.Op}
 use Rattle.monk_history.specs.Meaning.Acts.{acts_in}
 use Rattle.monk_hall.specs.Tokens.{Token}
+use Rattle.monk_samples.proofs.DoneLaws.{worth, planned, AreSure, calls_worth, rounds_worth, numbers_worth, sum_to}
+use Rattle.monk_samples.proofs.DoneLaws.{sure_rounds}
+use Rattle.monk_samples.specs.{Samples.scenario_of, Visits.Plan}
 use Rattle.monk_samples.specs.Members.{begins_to_read, ends_to_read, begins_to_write, ends_to_write, puts_by, takes_by}
 use Rattle.monk_samples.specs.Members.{sits, departs, calls, finishes}
 use Rattle.monk_samples.specs.Rounds.{HasServed, round_of, rounds_of, rounds_to}
-use Rattle.monk_samples.specs.Samples.{scenario_of}
-use Rattle.monk_samples.specs.Visits.{Plan}
-use Rattle.monk_samples.specs.declared.end.End.TheVariants.{Done}
-use Rattle.monk_samples.specs.declared.scenario.Scenario.{Scenario}
+use Rattle.monk_samples.specs.declared.{end.End.TheVariants.Done, scenario.Scenario.Scenario, manner.Manner.Manner}
 use Rattle.monk_samples.specs.declared.sample.Sample.TheVariants.{Buffer, Book, Shop}
-use Rattle.monk_samples.specs.declared.manner.Manner.{Manner}
-use Rattle.monk_samples.proofs.DoneLaws.{worth, planned, AreSure, calls_worth, rounds_worth, numbers_worth, sum_to, sure_rounds}
 
 -- each operation counts once, and an item counts as its number
 abbrev pub once : Op → ℕ

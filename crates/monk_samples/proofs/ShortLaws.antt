@@ -2,12 +2,9 @@
 use Rattle.std.proofs.Common.{◌≡◌, ℕ, ◌<◌, ◌≤◌, Bool, true, false, cond, Option, Some, None, List, ap, sym, subst, ◌∙◌, arith}
 use Rattle.monk_kinds.specs.declared.mode.Rules.{Rules}
 use Rattle.monk_object.specs.Object.{Object}
-use Rattle.monk_history.specs.Meaning.Monitor.{data_of}
-use Rattle.monk_history.specs.declared.event.Event.{Event}
+use Rattle.monk_history.specs.{Meaning.Monitor.data_of, declared.event.Event.Event}
 use Rattle.monk_floor.specs.View.{monitor_of}
-use Rattle.monk_hall.specs.Layout.{floor_of}
-use Rattle.monk_hall.specs.Tokens.{Holder}
-use Rattle.monk_hall.specs.declared.setting.Setting.{Setting}
+use Rattle.monk_hall.specs.{Layout.floor_of, Tokens.Holder, declared.setting.Setting.Setting}
 use Rattle.monk_samples.specs.Styles.{IsShort, needed_first}
 use Rattle.monk_samples.specs.Visits.{Guard, WayOut, calls_out, data_after, needed_yet}
 

@@ -1,29 +1,21 @@
 -- What becomes of the calls of each style
 use Rattle.std.proofs.Common.{◌≡◌, ℕ, ◌+◌, ◌-◌, ◌<◌, ◌≤◌, cond, [], ◌∷◌, ◌++◌, length, length-append, eq-eqb, refl, sym, ap, subst}
 use Rattle.std.proofs.Common.{◌∙◌, arith}
-use Rattle.monk_kinds.specs.declared.mode.Pick.{Pick}
-use Rattle.monk_kinds.specs.declared.mode.Pick.TheVariants.{Waiter}
-use Rattle.monk_kinds.specs.declared.mode.Mode.TheVariants.{Automatic, ImmediateReturn}
-use Rattle.monk_kinds.specs.declared.mode.Rules.{Rules}
+use Rattle.monk_kinds.specs.declared.mode.{Mode.TheVariants.Automatic, Mode.TheVariants.ImmediateReturn, Rules.Rules}
+use Rattle.monk_kinds.specs.declared.mode.Pick.{Pick, TheVariants.Waiter}
 use Rattle.monk_object.specs.Object.{Object}
-use Rattle.monk_history.specs.Meaning.Counts.{events_of}
-use Rattle.monk_history.specs.Meaning.Release.{with_next}
-use Rattle.monk_history.specs.declared.event.Event.{Event}
-use Rattle.monk_history.specs.declared.event.Event.TheVariants.{Leave, SignalLeave}
-use Rattle.monk_history.specs.declared.event.Next.TheVariants.{Stay}
 use Rattle.monk_history.proofs.PublicLaws.Meaning.{length-events_of-push}
+use Rattle.monk_history.specs.Meaning.{Counts.events_of, Release.with_next}
+use Rattle.monk_history.specs.declared.event.Next.TheVariants.{Stay}
+use Rattle.monk_history.specs.declared.event.Event.{Event, TheVariants.Leave, TheVariants.SignalLeave}
 use Rattle.monk_world.specs.declared.home.Home.{Home}
-use Rattle.monk_hall.specs.AfterCalls.{MatchAfter}
+use Rattle.monk_hall.specs.{AfterCalls.MatchAfter, Layout.floor_of, Tokens.Token, Tokens.Holder}
 use Rattle.monk_hall.specs.Calls.{HasEntered, HasReleased, HasStayed}
-use Rattle.monk_hall.specs.Layout.{floor_of}
-use Rattle.monk_hall.specs.Tokens.{Token, Holder}
 use Rattle.monk_hall.specs.declared.setting.Setting.{Setting}
-use Rattle.monk_hall.specs.declared.after.After.{After}
-use Rattle.monk_hall.specs.declared.after.After.TheVariants.{Active, Parked}
-use Rattle.monk_samples.specs.Asked.{IsCall}
-use Rattle.monk_samples.specs.Styles.{HasPaused, HasGivenUp, HasGoneBy, way_out}
-use Rattle.monk_samples.specs.Trails.{Addition, HasCalled, inside, outside}
+use Rattle.monk_hall.specs.declared.after.After.{After, TheVariants.Active, TheVariants.Parked}
 use Rattle.monk_samples.proofs.TrailLaws.{Releases, called_then, came, released, stayed}
+use Rattle.monk_samples.specs.{Asked.IsCall, Trails.Addition, Trails.HasCalled, Trails.inside, Trails.outside}
+use Rattle.monk_samples.specs.Styles.{HasPaused, HasGivenUp, HasGoneBy, way_out}
 
 -- the way out under an automatic kind, and under one whose signaller returns at once
 pub out_automatic : (k : Rules) (s c : ℕ) → k.mode ≡ Automatic → way_out k s c ≡ Leave s Stay ∷ []

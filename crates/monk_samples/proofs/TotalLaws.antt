@@ -1,16 +1,12 @@
 -- The totals, with one more event
 use Rattle.std.proofs.Common.{◌≡◌, ℕ, ◌+◌, ◌-◌, ◌≤◌, ◌<◌, ◌==◌, cond, List, [], ◌∷◌, ◌++◌, length, map, take, drop, subst}
 use Rattle.std.proofs.Common.{append-nil, slice_index_or, ap, ◌∙◌, arith}
-use Rattle.std.specs.Prelude.{filter, sum}
+use Rattle.std.proofs.lemmas.List.{map-append, take_more, take-append-drop, Elements.filter-append, Sums.sum_by-append}
 use Rattle.std.proofs.lemmas.Grind.{flat_map-append}
-use Rattle.std.proofs.lemmas.List.{map-append, take_more, take-append-drop}
-use Rattle.std.proofs.lemmas.List.Elements.{filter-append}
-use Rattle.std.proofs.lemmas.List.Sums.{sum_by-append}
+use Rattle.std.specs.Prelude.{filter, sum}
+use Rattle.monk_object.specs.{Laws.items_put, Laws.items_taken, Runs.Answered, Runs.is_done, Runs.times_done}
 use Rattle.monk_object.specs.Buffer.{PUT, TAKE}
-use Rattle.monk_object.specs.Laws.{items_put, items_taken}
-use Rattle.monk_object.specs.Runs.{Answered, is_done, times_done}
-use Rattle.monk_history.specs.Meaning.Acts.{act_of, acts_in}
-use Rattle.monk_history.specs.declared.event.Event.{Event}
+use Rattle.monk_history.specs.{Meaning.Acts.act_of, Meaning.Acts.acts_in, declared.event.Event.Event}
 use Rattle.monk_samples.specs.Totals.{count_done, missed_in, refusals_in, sum_put, sum_taken}
 
 last_act : (e : Event) → act_of e ++ [] ≡ act_of e

@@ -1,36 +1,22 @@
 -- How the steps of a seat add up to a longer trail
 use Rattle.std.proofs.Common.{◌≡◌, ℕ, Bool, false, Some, List, [], ◌∷◌, ◌++◌, append-nil, append_assoc, refl, sym, ap, subst, ◌∙◌}
-use Rattle.std.proofs.lemmas.Bool.{eqb-true}
-use Rattle.std.proofs.lemmas.Grind.{flat_map-append}
-use Rattle.std.proofs.lemmas.List.{map-append}
-use Rattle.monk_kinds.specs.declared.mode.Pick.{Pick}
-use Rattle.monk_kinds.specs.declared.mode.Rules.{Rules}
-use Rattle.monk_object.specs.Object.{Object}
-use Rattle.monk_object.specs.declared.op.Op.{Op}
-use Rattle.monk_history.specs.Meaning.Events.{next_of}
-use Rattle.monk_history.specs.Meaning.Legal.{IsLegal}
-use Rattle.monk_history.specs.Meaning.Monitor.{data_of}
-use Rattle.monk_history.specs.Meaning.Release.{with_next, choice_of}
-use Rattle.monk_history.specs.Meaning.Turn.{turn}
-use Rattle.monk_history.specs.declared.event.Event.{Event}
-use Rattle.monk_history.specs.declared.event.Event.TheVariants.{Act, SignalAll}
-use Rattle.monk_history.specs.declared.event.Next.{Next}
-use Rattle.monk_history.specs.declared.event.Next.TheVariants.{Stay}
-use Rattle.monk_history.specs.declared.event.Turn.{Turn}
+use Rattle.std.proofs.lemmas.{Bool.eqb-true, Grind.flat_map-append, List.map-append}
+use Rattle.monk_kinds.specs.declared.mode.{Pick.Pick, Rules.Rules}
+use Rattle.monk_object.specs.{Object.Object, declared.op.Op.Op}
 use Rattle.monk_history.proofs.PublicLaws.Meaning.{legal_last}
+use Rattle.monk_history.specs.Meaning.{Events.next_of, Legal.IsLegal, Monitor.data_of, Turn.turn}
+use Rattle.monk_history.specs.Meaning.Release.{with_next, choice_of}
+use Rattle.monk_history.specs.declared.event.{Next.Next, Next.TheVariants.Stay, Turn.Turn}
+use Rattle.monk_history.specs.declared.event.Event.{Event, TheVariants.Act, TheVariants.SignalAll}
 use Rattle.monk_floor.specs.View.{FloorView, monitor_of, stands_of}
 use Rattle.monk_world.specs.StepTable.{out_event}
+use Rattle.monk_world.specs.declared.source.Source.{Source, TheVariants.Free, TheVariants.Granted, TheVariants.Called}
 use Rattle.monk_world.specs.declared.home.Home.{Home}
-use Rattle.monk_world.specs.declared.source.Source.{Source}
-use Rattle.monk_world.specs.declared.source.Source.TheVariants.{Free, Granted, Called}
-use Rattle.monk_hall.specs.Changes.{source_from}
+use Rattle.monk_hall.specs.{Changes.source_from, Floors.StartsWith, Layout.floor_of, Tokens.Token, Tokens.Holder}
 use Rattle.monk_hall.specs.Calls.{HasArrived, HasEntered, HasReleased, HasStayed, HasDone, is_entry_known}
-use Rattle.monk_hall.specs.Floors.{StartsWith}
-use Rattle.monk_hall.specs.Layout.{floor_of}
-use Rattle.monk_hall.specs.Tokens.{Token, Holder}
 use Rattle.monk_samples.specs.Asked.{IsCall}
-use Rattle.monk_samples.specs.Trails.{Trail, Addition, Went, HasCalled, AreBetween, after, call_in, calls_in}
-use Rattle.monk_samples.specs.Trails.{events_in, inside, outside, is_coming}
+use Rattle.monk_samples.specs.Trails.{Trail, Addition, Went, HasCalled, AreBetween, after, call_in, calls_in, events_in}
+use Rattle.monk_samples.specs.Trails.{inside, outside, is_coming}
 
 pub starts_here : (a : List Event) → StartsWith a a
 starts_here a = ([], sym (append-nil a))

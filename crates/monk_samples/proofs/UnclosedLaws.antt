@@ -4,17 +4,11 @@ use Rattle.std.proofs.lemmas.List.Elements.{All-cons, All-head, All-nil, All-tai
 use Rattle.monk_kinds.specs.declared.mode.Rules.{Rules}
 use Rattle.monk_object.specs.Object.{Object}
 use Rattle.monk_history.specs.Meaning.Counts.{events_of}
-use Rattle.monk_history.specs.declared.event.Event.{Event}
-use Rattle.monk_history.specs.declared.event.Event.TheVariants.{Leave}
-use Rattle.monk_history.specs.declared.event.Next.TheVariants.{Entry}
-use Rattle.monk_hall.specs.Closing.{IsBusy}
-use Rattle.monk_hall.specs.Floors.{StartsWith}
-use Rattle.monk_hall.specs.Tokens.{Holder, Token}
-use Rattle.monk_samples.specs.Trails.{is_coming}
+use Rattle.monk_history.specs.declared.event.{Event.Event, Event.TheVariants.Leave, Next.TheVariants.Entry}
+use Rattle.monk_hall.specs.{Closing.IsBusy, Floors.StartsWith, Tokens.Holder, Tokens.Token}
+use Rattle.monk_samples.proofs.{MeetLaws.by_first, MeetLaws.own_back, MeetLaws.same_back, TrailLaws.starts_then}
+use Rattle.monk_samples.specs.{Trails.is_coming, declared.sample.Sample.Sample}
 use Rattle.monk_samples.specs.Wholes.{AreSame, IsUnclosable, IsWhole}
-use Rattle.monk_samples.specs.declared.sample.Sample.{Sample}
-use Rattle.monk_samples.proofs.MeetLaws.{by_first, own_back, same_back}
-use Rattle.monk_samples.proofs.TrailLaws.{starts_then}
 
 -- the history that the first seat comes in to begins with what it had seen, and so with what all had seen that it met
 pub active_begins : (at seen before own : List Event) (e : Event) (ps : List Token) → at ≡ seen ++ e ∷ []

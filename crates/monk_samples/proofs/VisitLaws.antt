@@ -1,36 +1,26 @@
 -- What becomes of a member's visit
 use Rattle.std.proofs.Common.{◌≡◌, ℕ, Bool, true, false, cond, Option, Some, None, List, [], ◌∷◌, ◌++◌}
-use Rattle.std.proofs.Common.{append-nil, append_assoc}
 use Rattle.std.proofs.Common.{refl, sym, ap, subst, ◌∙◌, inl, inr}
-use Rattle.std.proofs.lemmas.Grind.{flat_map-append}
-use Rattle.std.proofs.lemmas.List.{map-append}
-use Rattle.monk_kinds.specs.declared.mode.Pick.{Pick}
-use Rattle.monk_kinds.specs.declared.mode.Pick.TheVariants.{Waiter}
-use Rattle.monk_kinds.specs.declared.mode.Rules.{Rules}
-use Rattle.monk_object.specs.Object.{Object}
-use Rattle.monk_object.specs.declared.op.Op.{Op}
-use Rattle.monk_history.specs.Meaning.Acts.{act_of, acts_in}
+use Rattle.std.proofs.{Common.append-nil, Common.append_assoc, lemmas.Grind.flat_map-append, lemmas.List.map-append}
+use Rattle.monk_kinds.specs.declared.mode.{Pick.Pick, Pick.TheVariants.Waiter, Rules.Rules}
+use Rattle.monk_object.specs.{Object.Object, declared.op.Op.Op}
+use Rattle.monk_history.specs.Meaning.{Acts.act_of, Acts.acts_in, Release.with_next}
 use Rattle.monk_history.specs.Meaning.Events.{has_conditions, has_signaller_queue, returns_at_once}
-use Rattle.monk_history.specs.Meaning.Release.{with_next}
-use Rattle.monk_history.specs.declared.event.Event.{Event}
-use Rattle.monk_history.specs.declared.event.Event.TheVariants.{Enter, Act, Leave, Wait, Signal, SignalLeave, Until, Resume}
-use Rattle.monk_history.specs.declared.event.Event.TheVariants.{SignalAll, SignalWait}
 use Rattle.monk_history.specs.declared.event.Next.TheVariants.{Stay}
-use Rattle.monk_hall.specs.Tokens.{Token, Holder}
-use Rattle.monk_hall.specs.declared.setting.Setting.{Setting}
-use Rattle.monk_samples.specs.Asked.{AreCalls, IsCall}
+use Rattle.monk_history.specs.declared.event.Event.{Event}
+use Rattle.monk_history.specs.declared.event.Event.TheVariants.{Enter, Act, Leave, Wait, Signal, SignalLeave, Until}
+use Rattle.monk_history.specs.declared.event.Event.TheVariants.{Resume, SignalAll, SignalWait}
+use Rattle.monk_hall.specs.{Tokens.Token, Tokens.Holder, declared.setting.Setting.Setting}
+use Rattle.monk_samples.proofs.{ShortLaws.short_out, TrailLaws.called_none, TrailLaws.called_then}
 use Rattle.monk_samples.specs.Styles.{HasFinished, HasGoneOut, pause_call, way_out}
+use Rattle.monk_samples.specs.Visits.{Guard, Plan, ArePauses, HasPausedFor, IsCertain, AreMisses, HasMissed, HasTried}
+use Rattle.monk_samples.specs.Visits.{IsTried, IsVisitTo, Misses, MissesIn, wish_in, wish_of, IsUnready, AreVisits}
+use Rattle.monk_samples.specs.Visits.{HasVisited, HasTired, HasActed, WayOut, Unsignalled, Signals, SignalsAll}
+use Rattle.monk_samples.specs.Visits.{SignalsAndWaits, calls_out}
 use Rattle.monk_samples.specs.Trails.{Addition, Trail, after, events_in, inside, outside}
-use Rattle.monk_samples.specs.Visits.{Guard, Plan, ArePauses, HasPausedFor, IsCertain}
-use Rattle.monk_samples.specs.Visits.{AreMisses, HasMissed, HasTried, IsTried, IsVisitTo, Misses, MissesIn, wish_in, wish_of}
-use Rattle.monk_samples.specs.Visits.{IsUnready, AreVisits, HasVisited, HasTired, HasActed}
-use Rattle.monk_samples.specs.Visits.{WayOut, Unsignalled, Signals, SignalsAll, SignalsAndWaits, calls_out}
-use Rattle.monk_samples.specs.declared.manner.Manner.{Manner}
-use Rattle.monk_samples.specs.declared.manner.Manner.TheVariants.{Patient, Hasty}
-use Rattle.monk_samples.specs.declared.end.End.{End}
-use Rattle.monk_samples.specs.declared.end.End.TheVariants.{Done, Tired, Late}
-use Rattle.monk_samples.proofs.ShortLaws.{short_out}
-use Rattle.monk_samples.proofs.TrailLaws.{called_none, called_then}
+use Rattle.monk_samples.specs.Asked.{AreCalls, IsCall}
+use Rattle.monk_samples.specs.declared.end.End.{End, TheVariants.Done, TheVariants.Tired, TheVariants.Late}
+use Rattle.monk_samples.specs.declared.manner.Manner.{Manner, TheVariants.Patient, TheVariants.Hasty}
 
 module _ (k : Rules) (o : Object) where
   -- a call that does no operation leaves none

@@ -1,21 +1,14 @@
 -- The totals of a whole history, by what each seat of a run has done
 use Rattle.std.proofs.Common.{◌≡◌, ℕ, zero, suc, ◌+◌, Bool, List, [], ◌∷◌, refl, sym, ap, ◌∙◌}
-use Rattle.std.specs.List.{sum_by}
-use Rattle.std.proofs.lemmas.List.Sums.{sum_by-append, sum_by-cons}
+use Rattle.std.{specs.List.sum_by, proofs.lemmas.List.Sums.sum_by-append, proofs.lemmas.List.Sums.sum_by-cons}
 use Rattle.atomic_table.specs.Seated.{TableId}
 use Rattle.monk_kinds.specs.declared.mode.Rules.{Rules}
-use Rattle.monk_object.specs.Object.{Object}
-use Rattle.monk_object.specs.Runs.{Answered}
-use Rattle.monk_history.specs.Meaning.Acts.{act_of, acts_in}
-use Rattle.monk_history.specs.declared.event.Event.{Event}
-use Rattle.monk_hall.specs.Records.{opening_records}
+use Rattle.monk_object.specs.{Object.Object, Runs.Answered}
+use Rattle.monk_history.specs.{Meaning.Acts.act_of, Meaning.Acts.acts_in, declared.event.Event.Event}
+use Rattle.monk_hall.specs.{Records.opening_records, declared.setting.Setting.Setting}
 use Rattle.monk_hall.specs.Tokens.{House, Token, tokens}
-use Rattle.monk_hall.specs.declared.setting.Setting.{Setting}
-use Rattle.monk_samples.specs.Ends.{HaveServed}
-use Rattle.monk_samples.specs.Rounds.{HasServed}
-use Rattle.monk_samples.specs.declared.end.End.TheVariants.{Done}
-use Rattle.monk_samples.specs.declared.scenario.Scenario.{Scenario}
-use Rattle.monk_samples.proofs.SeatSums.{over}
+use Rattle.monk_samples.{specs.Ends.HaveServed, specs.Rounds.HasServed, specs.declared.end.End.TheVariants.Done}
+use Rattle.monk_samples.{specs.declared.scenario.Scenario.Scenario, proofs.SeatSums.over}
 
 -- what an event is worth by the operation in it
 module _ (worth : Answered → ℕ) where

@@ -1,17 +1,11 @@
 -- Which call a seat makes, and by which wish a release chooses
 use Rattle.std.specs.Prelude.{◌≡◌, Bool, List, [], ◌∷◌, Some}
-use Rattle.monk_kinds.specs.declared.mode.Pick.{Pick}
-use Rattle.monk_kinds.specs.declared.mode.Rules.{Rules}
+use Rattle.monk_kinds.specs.declared.mode.{Pick.Pick, Rules.Rules}
 use Rattle.monk_object.specs.Object.{Object}
-use Rattle.monk_history.specs.Meaning.Events.{next_of}
-use Rattle.monk_history.specs.Meaning.Release.{with_next, choice_of}
-use Rattle.monk_history.specs.declared.event.Event.{Event}
-use Rattle.monk_history.specs.declared.event.Next.{Next}
-use Rattle.monk_history.specs.declared.event.Next.TheVariants.{Stay}
+use Rattle.monk_history.specs.Meaning.{Events.next_of, Release.with_next, Release.choice_of}
+use Rattle.monk_history.specs.declared.event.{Event.Event, Next.Next, Next.TheVariants.Stay}
 use Rattle.monk_floor.specs.View.{stands_of}
-use Rattle.monk_hall.specs.Calls.{is_entry_known}
-use Rattle.monk_hall.specs.Layout.{floor_of}
-use Rattle.monk_hall.specs.declared.setting.Setting.{Setting}
+use Rattle.monk_hall.specs.{Calls.is_entry_known, Layout.floor_of, declared.setting.Setting.Setting}
 use Rattle.monk_samples.specs.Trails.{Addition}
 
 -- the call of an event: a release is written with `stay`, whatever it chose

@@ -2,13 +2,9 @@
 use Rattle.std.specs.Prelude.{◌≡◌, ◌*◌, ◌≤◌, All, List, length}
 use Rattle.monk_kinds.specs.declared.mode.Rules.{Rules}
 use Rattle.monk_object.specs.Object.{Object}
-use Rattle.monk_history.specs.Meaning.Legal.{IsLegal}
-use Rattle.monk_history.specs.Meaning.Monitor.{monitor}
-use Rattle.monk_history.specs.declared.event.Event.{Event}
-use Rattle.monk_hall.specs.Tokens.{House, Token}
-use Rattle.monk_hall.specs.declared.setting.Setting.{Setting}
-use Rattle.monk_samples.specs.Samples.{IsOfFirstVersion}
-use Rattle.monk_samples.specs.Styles.{Offers}
+use Rattle.monk_history.specs.{Meaning.Legal.IsLegal, Meaning.Monitor.monitor, declared.event.Event.Event}
+use Rattle.monk_hall.specs.{Tokens.House, Tokens.Token, declared.setting.Setting.Setting}
+use Rattle.monk_samples.specs.{Samples.IsOfFirstVersion, Styles.Offers}
 
 -- the token is of this hall
 abbrev pub IsOf : House → Token → Type 0

@@ -3,13 +3,10 @@ use Rattle.std.specs.Prelude.{◌≡◌, ℕ, Bool, All, List, [], ◌∷◌, �
 use Rattle.monk_kinds.specs.declared.mode.Rules.{Rules}
 use Rattle.monk_object.specs.Object.{Object}
 use Rattle.monk_hall.specs.Tokens.{House, Token}
-use Rattle.monk_samples.specs.Crews.{IsOf}
-use Rattle.monk_samples.specs.Rounds.{HasServed, HasServedToEnd}
-use Rattle.monk_samples.specs.declared.crew_fault.CrewFault.{CrewFault}
 use Rattle.monk_samples.specs.declared.crew_fault.CrewFault.TheVariants as crew
-use Rattle.monk_samples.specs.declared.end.End.{End}
-use Rattle.monk_samples.specs.declared.end.End.TheVariants.{Done, Tired, Late}
-use Rattle.monk_samples.specs.declared.scenario.Scenario.{Scenario}
+use Rattle.monk_samples.specs.{Crews.IsOf, Rounds.HasServed, Rounds.HasServedToEnd}
+use Rattle.monk_samples.specs.declared.{crew_fault.CrewFault.CrewFault, scenario.Scenario.Scenario}
+use Rattle.monk_samples.specs.declared.end.End.{End, TheVariants.Done, TheVariants.Tired, TheVariants.Late}
 
 module _ (k : Rules) (o : Object) (answers : ℕ → ℕ → Bool → Type 0) (s : Scenario) (seats rounds : ℕ) where
   -- each of these seats has served to its end, and has returned the pass in the second list

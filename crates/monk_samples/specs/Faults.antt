@@ -1,11 +1,9 @@
 -- Which end of a worker is a fault of its crew, and of the run
 use Rattle.std.specs.Prelude.{Option, Some, None}
-use Rattle.monk_samples.specs.declared.crew_fault.CrewFault.{CrewFault}
 use Rattle.monk_samples.specs.declared.crew_fault.CrewFault.TheVariants as crew
-use Rattle.monk_samples.specs.declared.end.End.{End}
-use Rattle.monk_samples.specs.declared.end.End.TheVariants.{Done, Tired, Late}
-use Rattle.monk_samples.specs.declared.run_fault.RunFault.{RunFault}
 use Rattle.monk_samples.specs.declared.run_fault.RunFault.TheVariants as run
+use Rattle.monk_samples.specs.declared.{crew_fault.CrewFault.CrewFault, run_fault.RunFault.RunFault}
+use Rattle.monk_samples.specs.declared.end.End.{End, TheVariants.Done, TheVariants.Tired, TheVariants.Late}
 
 -- the fault of a worker with this end, if it is one
 abbrev pub fault_of : End → Option CrewFault

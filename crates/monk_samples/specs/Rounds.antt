@@ -3,19 +3,14 @@ use Rattle.std.specs.Prelude.{ℕ, zero, suc, ◌+◌, ◌-◌, ◌*◌, ◌/◌
 use Rattle.std.specs.Prelude.{nat_lt, nat_eq, if◌then◌else◌}
 use Rattle.monk_kinds.specs.declared.mode.Rules.{Rules}
 use Rattle.monk_object.specs.Object.{Object}
-use Rattle.monk_hall.specs.Tokens.{Token}
-use Rattle.monk_hall.specs.declared.setting.Setting.{Setting}
-use Rattle.monk_samples.specs.Members.{puts_by, takes_by}
-use Rattle.monk_samples.specs.Members.{begins_to_read, ends_to_read, begins_to_write, ends_to_write}
+use Rattle.monk_hall.specs.{Tokens.Token, declared.setting.Setting.Setting}
+use Rattle.monk_samples.specs.Members.{puts_by, takes_by, begins_to_read, ends_to_read, begins_to_write, ends_to_write}
 use Rattle.monk_samples.specs.Members.{sits, departs, calls, finishes}
-use Rattle.monk_samples.specs.Trails.{Addition, HasCalled, outside}
 use Rattle.monk_samples.specs.Visits.{Plan, AreVisits, HasVisited}
-use Rattle.monk_samples.specs.declared.end.End.{End}
-use Rattle.monk_samples.specs.declared.end.End.TheVariants.{Done, Tired, Late}
-use Rattle.monk_samples.specs.declared.sample.Sample.{Sample}
-use Rattle.monk_samples.specs.declared.sample.Sample.TheVariants.{Buffer, Book, Shop}
-use Rattle.monk_samples.specs.declared.manner.Manner.{Manner}
-use Rattle.monk_samples.specs.declared.scenario.Scenario.{Scenario}
+use Rattle.monk_samples.specs.declared.{manner.Manner.Manner, scenario.Scenario.Scenario}
+use Rattle.monk_samples.specs.declared.end.End.{End, TheVariants.Done, TheVariants.Tired, TheVariants.Late}
+use Rattle.monk_samples.specs.declared.sample.Sample.{Sample, TheVariants.Buffer, TheVariants.Book, TheVariants.Shop}
+use Rattle.monk_samples.specs.Trails.{Addition, HasCalled, outside}
 
 -- how many rounds a seat has. Two halves work on a buffer or a book. In a shop the first seat is the barber, who has
 -- one for each round of every other seat

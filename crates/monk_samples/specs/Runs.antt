@@ -4,20 +4,14 @@ use Rattle.atomic_table.specs.Seated.{TableId}
 use Rattle.monk_kinds.specs.declared.mode.Rules.{Rules}
 use Rattle.monk_object.specs.Names.{meaning_named, opening_named}
 use Rattle.monk_history.specs.declared.event.Event.{Event}
-use Rattle.monk_hall.specs.Records.{first_view}
-use Rattle.monk_hall.specs.Rule.{setting_of}
+use Rattle.monk_hall.specs.{Records.first_view, Rule.setting_of, declared.setting.Setting.Setting}
 use Rattle.monk_hall.specs.Tokens.{House, Token, tokens}
-use Rattle.monk_hall.specs.declared.setting.Setting.{Setting}
-use Rattle.monk_samples.specs.Crews.{IsClosed}
-use Rattle.monk_samples.specs.Ends.{HaveServed, HasEndedFirst}
-use Rattle.monk_samples.specs.Samples.{IsHistoryOf, sample_object, size_in, conds_of, budget_of}
-use Rattle.monk_samples.specs.Totals.{RefusesNothing}
-use Rattle.monk_samples.specs.Wholes.{HoldsOperationsOf, IsFirstSpent, IsLeftBy, IsUnclosable}
-use Rattle.monk_samples.specs.declared.end.End.{End}
-use Rattle.monk_samples.specs.declared.end.End.TheVariants.{Tired, Late}
-use Rattle.monk_samples.specs.declared.run_fault.RunFault.{RunFault}
 use Rattle.monk_samples.specs.declared.run_fault.RunFault.TheVariants as run
-use Rattle.monk_samples.specs.declared.scenario.Scenario.{Scenario}
+use Rattle.monk_samples.specs.{Crews.IsClosed, Ends.HaveServed, Ends.HasEndedFirst, Totals.RefusesNothing}
+use Rattle.monk_samples.specs.Wholes.{HoldsOperationsOf, IsFirstSpent, IsLeftBy, IsUnclosable}
+use Rattle.monk_samples.specs.Samples.{IsHistoryOf, sample_object, size_in, conds_of, budget_of}
+use Rattle.monk_samples.specs.declared.{run_fault.RunFault.RunFault, scenario.Scenario.Scenario}
+use Rattle.monk_samples.specs.declared.end.End.{End, TheVariants.Tired, TheVariants.Late}
 
 -- how the hall of a run is made
 abbrev pub run_setting : Rules → Scenario → ℕ → ℕ → Setting

@@ -1,25 +1,18 @@
 -- The samples: their objects, and what a run of one leaves
 use Rattle.std.specs.Prelude.{◌≡◌, ℕ, ◌*◌, ◌+◌, ◌^◌, ◌≤◌, IsTrue, List, length, nat_le, if◌then◌else◌}
 use Rattle.std.specs.List.{list_all}
-use Rattle.monk_kinds.specs.Names.{rules_named}
-use Rattle.monk_kinds.specs.declared.mode.Rules.{Rules}
-use Rattle.monk_kinds.specs.declared.name.KindName.{KindName}
-use Rattle.monk_object.specs.Names.{meaning_named, opening_named}
-use Rattle.monk_object.specs.declared.name.ObjectName.{ObjectName}
+use Rattle.monk_kinds.specs.{Names.rules_named, declared.mode.Rules.Rules, declared.name.KindName.KindName}
 use Rattle.monk_object.specs.declared.name.ObjectName.TheVariants as object
+use Rattle.monk_object.specs.{Names.meaning_named, Names.opening_named, declared.name.ObjectName.ObjectName}
+use Rattle.monk_history.specs.Meaning.{Events.has_conditions, Legal.IsLegal, Named.named_monitor}
 use Rattle.monk_history.specs.Meaning.Acts.{IsInOrder, ExcludesEachOther, ServesEachOne, acts_in}
-use Rattle.monk_history.specs.Meaning.Events.{has_conditions}
-use Rattle.monk_history.specs.Meaning.Legal.{IsLegal}
 use Rattle.monk_history.specs.Meaning.Monitor.{Monitor, monitor, data_of}
-use Rattle.monk_history.specs.Meaning.Named.{named_monitor}
-use Rattle.monk_history.specs.Text.{Heading, first_version, heading, is_writable}
 use Rattle.monk_history.specs.declared.event.Event.{Event}
+use Rattle.monk_history.specs.Text.{Heading, first_version, heading, is_writable}
 use Rattle.monk_samples.specs.Totals.{HasTotals, totals_of}
-use Rattle.monk_samples.specs.declared.sample.Sample.{Sample}
-use Rattle.monk_samples.specs.declared.sample.Sample.TheVariants.{Buffer, Book, Shop}
-use Rattle.monk_samples.specs.declared.manner.Manner.{Manner}
-use Rattle.monk_samples.specs.declared.manner.Manner.TheVariants.{Patient, Hasty}
+use Rattle.monk_samples.specs.declared.sample.Sample.{Sample, TheVariants.Buffer, TheVariants.Book, TheVariants.Shop}
 use Rattle.monk_samples.specs.declared.scenario.Scenario.{Scenario}
+use Rattle.monk_samples.specs.declared.manner.Manner.{Manner, TheVariants.Patient, TheVariants.Hasty}
 
 -- the object of a sample
 abbrev pub sample_object : Sample → ObjectName

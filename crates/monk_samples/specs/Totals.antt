@@ -2,19 +2,14 @@
 use Rattle.std.specs.Prelude.{◌≡◌, false, ℕ, ◌+◌, ◌-◌, ◌*◌, ◌/◌, ◌==◌, Option, List, [], ◌∷◌, option_map, position, sum, if◌then◌else◌}
 use Rattle.std.specs.List.{sum_by}
 use Rattle.monk_kinds.specs.declared.mode.Rules.{Rules}
+use Rattle.monk_object.specs.{Buffer.PUT, Buffer.TAKE, Laws.items_put, Laws.items_taken, Runs.Answered, Runs.times_done}
 use Rattle.monk_object.specs.Book.{START_READ, END_READ, START_WRITE, END_WRITE}
-use Rattle.monk_object.specs.Buffer.{PUT, TAKE}
-use Rattle.monk_object.specs.Laws.{items_put, items_taken}
-use Rattle.monk_object.specs.Runs.{Answered, times_done}
 use Rattle.monk_object.specs.Shop.{SIT, CALL, FINISH, DEPART}
-use Rattle.monk_history.specs.Meaning.Acts.{acts_in, is_refused_act}
-use Rattle.monk_history.specs.Meaning.Events.{has_conditions}
+use Rattle.monk_history.specs.Meaning.{Acts.acts_in, Acts.is_refused_act, Events.has_conditions}
 use Rattle.monk_history.specs.declared.event.Event.{Event}
-use Rattle.monk_samples.specs.declared.sample.Sample.{Sample}
-use Rattle.monk_samples.specs.declared.sample.Sample.TheVariants.{Buffer, Book, Shop}
-use Rattle.monk_samples.specs.declared.manner.Manner.{Manner}
-use Rattle.monk_samples.specs.declared.manner.Manner.TheVariants.{Patient, Hasty}
+use Rattle.monk_samples.specs.declared.sample.Sample.{Sample, TheVariants.Buffer, TheVariants.Book, TheVariants.Shop}
 use Rattle.monk_samples.specs.declared.scenario.Scenario.{Scenario}
+use Rattle.monk_samples.specs.declared.manner.Manner.{Manner, TheVariants.Patient, TheVariants.Hasty}
 
 -- how often that operation was done
 abbrev pub count_done : ℕ → List Event → ℕ

@@ -2,11 +2,8 @@
 use Rattle.std.specs.Prelude.{◌≡◌, ℕ, Bool, ◌||◌, List, [], ◌∷◌, ◌++◌, map, if◌then◌else◌, is_some}
 use Rattle.std.specs.List.{flat_map}
 use Rattle.atomic_table.specs.Seated.{TableId}
-use Rattle.monk_history.specs.Meaning.Events.{via_of, source_of}
-use Rattle.monk_history.specs.declared.event.Event.{Event}
-use Rattle.monk_hall.specs.Floors.{StartsWith}
-use Rattle.monk_hall.specs.Tokens.{Token, Holder}
-use Rattle.monk_hall.specs.declared.setting.Setting.{Setting}
+use Rattle.monk_history.specs.{Meaning.Events.via_of, Meaning.Events.source_of, declared.event.Event.Event}
+use Rattle.monk_hall.specs.{Floors.StartsWith, Tokens.Token, Tokens.Holder, declared.setting.Setting.Setting}
 
 -- a seat at some moment: its hall, the longest history that it has seen, and its own events
 pub record Trail : Type 0 where

@@ -1,27 +1,20 @@
 -- What a member does in the monitor
 use Rattle.std.specs.Prelude.{◌≡◌, ℕ, zero, suc, ◌<◌, ◌≤◌, ◌⊎◌, true, false, Option, Some, None, List, [], ◌∷◌, ◌++◌, length, if◌then◌else◌}
-use Rattle.monk_kinds.specs.declared.mode.Pick.{Pick}
-use Rattle.monk_kinds.specs.declared.mode.Pick.TheVariants.{Entry, Waiter}
-use Rattle.monk_kinds.specs.declared.mode.Rules.{Rules}
-use Rattle.monk_object.specs.Object.{Object}
-use Rattle.monk_object.specs.declared.op.Op.{Op}
-use Rattle.monk_history.specs.Meaning.Events.{has_conditions}
-use Rattle.monk_history.specs.Meaning.Monitor.{data_of}
+use Rattle.monk_kinds.specs.declared.mode.{Pick.Pick, Pick.TheVariants.Entry, Pick.TheVariants.Waiter, Rules.Rules}
+use Rattle.monk_object.specs.{Object.Object, declared.op.Op.Op}
+use Rattle.monk_history.specs.Meaning.{Events.has_conditions, Monitor.data_of}
+use Rattle.monk_history.specs.declared.event.Next.TheVariants.{Stay}
 use Rattle.monk_history.specs.declared.event.Event.{Event}
 use Rattle.monk_history.specs.declared.event.Event.TheVariants.{Act, Leave, SignalAll, SignalWait}
-use Rattle.monk_history.specs.declared.event.Next.TheVariants.{Stay}
 use Rattle.monk_floor.specs.View.{monitor_of}
-use Rattle.monk_hall.specs.Layout.{floor_of}
-use Rattle.monk_hall.specs.Tells.{SeesTruly}
+use Rattle.monk_hall.specs.{Layout.floor_of, Tells.SeesTruly, declared.setting.Setting.Setting}
 use Rattle.monk_hall.specs.Tokens.{Token, Holder}
-use Rattle.monk_hall.specs.declared.setting.Setting.{Setting}
 use Rattle.monk_samples.specs.Asked.{IsCall, AreCalls}
-use Rattle.monk_samples.specs.Styles.{Holds, IsShort, IsSpent, for_handing_over, for_staying, needed_first, pause_call, way_out}
+use Rattle.monk_samples.specs.Styles.{Holds, IsShort, IsSpent, for_handing_over, for_staying, needed_first, pause_call}
+use Rattle.monk_samples.specs.Styles.{way_out}
+use Rattle.monk_samples.specs.declared.end.End.{End, TheVariants.Done, TheVariants.Tired, TheVariants.Late}
+use Rattle.monk_samples.specs.declared.manner.Manner.{Manner, TheVariants.Patient, TheVariants.Hasty}
 use Rattle.monk_samples.specs.Trails.{Addition, Trail, HasCalled, after, inside, outside}
-use Rattle.monk_samples.specs.declared.end.End.{End}
-use Rattle.monk_samples.specs.declared.end.End.TheVariants.{Done, Tired, Late}
-use Rattle.monk_samples.specs.declared.manner.Manner.{Manner}
-use Rattle.monk_samples.specs.declared.manner.Manner.TheVariants.{Patient, Hasty}
 
 -- for what a visit pauses: the condition on which it waits if the predicate is false
 pub record Guard : Type 0 where

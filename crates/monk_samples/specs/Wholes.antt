@@ -1,24 +1,13 @@
 -- A closed history that holds what some seats did, and nothing else
 use Rattle.std.specs.Prelude.{◌≡◌, ℕ, ◌⊎◌, true, All, List, [], ◌∷◌, ◌++◌, sum_by}
 use Rattle.monk_kinds.specs.declared.mode.Rules.{Rules}
-use Rattle.monk_object.specs.Object.{Object}
-use Rattle.monk_object.specs.Runs.{Answered}
-use Rattle.monk_history.specs.Meaning.Acts.{acts_in}
-use Rattle.monk_history.specs.Meaning.Counts.{events_of}
-use Rattle.monk_history.specs.declared.event.Event.{Event}
-use Rattle.monk_history.specs.declared.event.Event.TheVariants.{Leave}
-use Rattle.monk_history.specs.declared.event.Next.TheVariants.{Entry}
-use Rattle.monk_hall.specs.Closing.{IsBusy}
-use Rattle.monk_hall.specs.Complete.{HoldsOnly}
-use Rattle.monk_hall.specs.Floors.{StartsWith}
-use Rattle.monk_hall.specs.Tokens.{Holder, Token}
-use Rattle.monk_samples.specs.Samples.{IsOfFirstVersion}
-use Rattle.monk_samples.specs.Styles.{IsSpent}
-use Rattle.monk_samples.specs.Totals.{HasEnded}
-use Rattle.monk_samples.specs.Trails.{is_coming}
-use Rattle.monk_samples.specs.declared.crew_fault.CrewFault.{CrewFault}
+use Rattle.monk_object.specs.{Object.Object, Runs.Answered}
+use Rattle.monk_history.specs.Meaning.{Acts.acts_in, Counts.events_of}
+use Rattle.monk_history.specs.declared.event.{Event.Event, Event.TheVariants.Leave, Next.TheVariants.Entry}
+use Rattle.monk_hall.specs.{Closing.IsBusy, Complete.HoldsOnly, Floors.StartsWith, Tokens.Holder, Tokens.Token}
 use Rattle.monk_samples.specs.declared.crew_fault.CrewFault.TheVariants as crew
-use Rattle.monk_samples.specs.declared.sample.Sample.{Sample}
+use Rattle.monk_samples.specs.{Samples.IsOfFirstVersion, Styles.IsSpent, Totals.HasEnded, Trails.is_coming}
+use Rattle.monk_samples.specs.declared.{crew_fault.CrewFault.CrewFault, sample.Sample.Sample}
 
 -- a pass of the same seat, with the same events
 pub record IsSame (p q : Token) : Type 0 where

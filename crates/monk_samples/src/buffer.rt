@@ -1,13 +1,10 @@
 //! A bounded buffer: one task puts items, another takes them.
 ghost use Rattle.std.specs.Prelude.{◌≡◌, ◌+◌, ◌^◌, ◌<◌, ◌≤◌, IsSome, [], ◌∷◌};
 ghost use Rattle.std.specs.Option.{option_to_list};
-ghost use Rattle.monk_object.specs.Buffer.{buffer_meaning};
-ghost use Rattle.monk_object.specs.Laws.{items_taken};
+ghost use Rattle.monk_object.specs.{Buffer.buffer_meaning, Laws.items_taken};
 ghost use Rattle.monk_history.specs.Meaning.Acts.{acts_in};
+ghost use Rattle.monk_samples.specs.{Styles.Offers, Trails.events_in, Visits.HasVisited};
 ghost use Rattle.monk_samples.specs.Members.{puts, puts_and_waits, puts_by, takes, takes_by};
-ghost use Rattle.monk_samples.specs.Styles.{Offers};
-ghost use Rattle.monk_samples.specs.Trails.{events_in};
-ghost use Rattle.monk_samples.specs.Visits.{HasVisited};
 
 use crate::end::End;
 use crate::haste::act_and_finish_in_haste;

@@ -1,11 +1,9 @@
 //! How a run ends: its passes meet, and the first seat comes in once more and closes the hall.
 ghost use Rattle.std.specs.Prelude.{◌≡◌, ◌≢◌, ◌↔◌, ◌∷◌, ◌<◌, All, AllPairs, IfErr, IfOk, length, true};
-ghost use Rattle.monk_hall.specs.Complete.{AreApart, HaveSeenPart};
-ghost use Rattle.monk_hall.specs.Floors.{StartsWith};
-ghost use Rattle.monk_samples.specs.Crews.{IsOf, IsClosed};
-ghost use Rattle.monk_samples.specs.Totals.{HasEnded};
-ghost use Rattle.monk_samples.specs.Wholes.{AreSame, HoldsOperationsOf, IsFaultOfClosing, IsLeftBy, IsWhole};
+ghost use Rattle.monk_hall.specs.{Complete.AreApart, Complete.HaveSeenPart, Floors.StartsWith};
 ghost use Rattle.monk_samples.specs.declared.crew_fault.CrewFault.TheVariants as crew;
+ghost use Rattle.monk_samples.specs.{Crews.IsOf, Crews.IsClosed, Totals.HasEnded};
+ghost use Rattle.monk_samples.specs.Wholes.{AreSame, HoldsOperationsOf, IsFaultOfClosing, IsLeftBy, IsWhole};
 
 use crate::crew_fault::CrewFault;
 use crate::heading::header_of;

@@ -1,10 +1,8 @@
 //! The workers of a run, whatever its object.
 ghost use Rattle.std.specs.Prelude.{◌≡◌, ◌++◌, All, IfErr, IfOk, IfSome, map, option_to_list};
-ghost use Rattle.monk_samples.specs.Crews.{AreReady, IsReady};
-ghost use Rattle.monk_samples.specs.Ends.{HaveServed, IsFaultOfCrew};
-ghost use Rattle.monk_samples.specs.Faults.{fault_after, fault_of};
-ghost use Rattle.monk_samples.specs.Rounds.{rounds_of};
 ghost use Rattle.monk_samples.specs.declared.crew_fault.CrewFault.TheVariants as crew;
+ghost use Rattle.monk_samples.specs.{Crews.AreReady, Crews.IsReady, Ends.HaveServed, Ends.IsFaultOfCrew};
+ghost use Rattle.monk_samples.specs.{Faults.fault_after, Faults.fault_of, Rounds.rounds_of};
 
 use crate::crew_fault::CrewFault;
 use crate::duty::Shift;

@@ -1,6 +1,5 @@
 ghost use Rattle.std.specs.Prelude.{◌≡◌, IfSome};
-ghost use Rattle.monk_samples.specs.Crews.{IsOf};
-ghost use Rattle.monk_samples.specs.Rounds.{HasServed};
+ghost use Rattle.monk_samples.specs.{Crews.IsOf, Rounds.HasServed};
 
 use crate::end::End;
 use crate::gate::Gate;

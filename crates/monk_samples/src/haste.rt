@@ -2,8 +2,7 @@
 //! for may be gone when it goes on.
 ghost use Rattle.std.specs.Prelude.{◌≡◌, ◌+◌, ◌<◌, ◌≤◌, false, [], ◌∷◌, Some, IfOk, IfErr, MatchResult, length};
 ghost use Rattle.monk_history.specs.Meaning.Events.{has_conditions};
-ghost use Rattle.monk_samples.specs.Styles.{HoldsByKind, Offers};
-ghost use Rattle.monk_samples.specs.Trails.{inside, outside};
+ghost use Rattle.monk_samples.specs.{Styles.HoldsByKind, Styles.Offers, Trails.inside, Trails.outside};
 ghost use Rattle.monk_samples.specs.Visits.{HasActedInHaste, HasLooked, HasMissed, HasTried, HasVisited, IsTiredFor};
 ghost use Rattle.monk_samples.specs.Visits.{IsTiredWithin, Promises, always, hastily, hasty_guard};
 

@@ -2,17 +2,14 @@
 ghost use Rattle.std.specs.Prelude.{◌≡◌, ◌↔◌, ◌⊎◌, ◌<◌, ◌≤◌, ◌^◌, IfErr, IfOk, OnOk, IsErrOf, false, length};
 ghost use Rattle.monk_object.specs.Names.{meaning_named, opening_named};
 ghost use Rattle.monk_history.specs.Meaning.Events.{has_conditions};
-ghost use Rattle.monk_hall.specs.Records.{first_view};
-ghost use Rattle.monk_hall.specs.Rule.{setting_of};
-ghost use Rattle.monk_hall.specs.Tokens.{tokens};
-ghost use Rattle.monk_samples.specs.Crews.{AreReady};
-ghost use Rattle.monk_samples.specs.Faults.{run_fault_of};
-ghost use Rattle.monk_samples.specs.Runs.{HasLeft, HasLeftHistory, IsFaultOfRun};
-ghost use Rattle.monk_samples.specs.Samples.{IsHistoryOf, IsInRange, IsOutcome};
-ghost use Rattle.monk_samples.specs.Samples.{budget_of, conds_of, in_haste, patiently, sample_object, size_in};
-ghost use Rattle.monk_samples.specs.Totals.{HasTotals, RefusesNothing, first_missed, missed_in};
+ghost use Rattle.monk_hall.specs.{Records.first_view, Rule.setting_of, Tokens.tokens};
 ghost use Rattle.monk_samples.specs.declared.crew_fault.CrewFault.TheVariants as crew;
 ghost use Rattle.monk_samples.specs.declared.sample.Sample.TheVariants as sample;
+ghost use Rattle.monk_samples.specs.{Crews.AreReady, Faults.run_fault_of};
+ghost use Rattle.monk_samples.specs.Samples.{IsHistoryOf, IsInRange, IsOutcome, budget_of, conds_of, in_haste};
+ghost use Rattle.monk_samples.specs.Samples.{patiently, sample_object, size_in};
+ghost use Rattle.monk_samples.specs.Totals.{HasTotals, RefusesNothing, first_missed, missed_in};
+ghost use Rattle.monk_samples.specs.Runs.{HasLeft, HasLeftHistory, IsFaultOfRun};
 
 use crate::closing::close_by;
 use crate::crew::work_all;

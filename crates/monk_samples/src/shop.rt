@@ -2,9 +2,8 @@
 //! other. Each makes two visits to the shop's monitor.
 ghost use Rattle.std.specs.Prelude.{◌≡◌, [], ◌∷◌};
 ghost use Rattle.monk_object.specs.Shop.{shop_meaning};
+ghost use Rattle.monk_samples.specs.{Styles.Offers, Visits.HasVisited};
 ghost use Rattle.monk_samples.specs.Members.{sits, departs, calls, finishes};
-ghost use Rattle.monk_samples.specs.Styles.{Offers};
-ghost use Rattle.monk_samples.specs.Visits.{HasVisited};
 
 use crate::end::End;
 use crate::style::Style;

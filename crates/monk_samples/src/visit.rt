@@ -3,8 +3,7 @@
 ghost use Rattle.std.specs.Prelude.{◌≡◌, ◌+◌, ◌<◌, ◌≤◌, true, [], ◌∷◌, Some, None, IfOk, MatchResult, length};
 ghost use Rattle.monk_history.specs.Meaning.Monitor.{data_of};
 ghost use Rattle.monk_floor.specs.View.{monitor_of};
-ghost use Rattle.monk_samples.specs.Styles.{Offers};
-ghost use Rattle.monk_samples.specs.Trails.{HasCalled, inside, outside};
+ghost use Rattle.monk_samples.specs.{Styles.Offers, Trails.HasCalled, Trails.inside, Trails.outside};
 ghost use Rattle.monk_samples.specs.Visits.{HasActed, HasPausedUntil, HasStayedOut, IsTiredFor, IsTiredWithin};
 ghost use Rattle.monk_samples.specs.Visits.{HasVisited, Promises, always, guard, when};
 

@@ -2,32 +2,19 @@
 use Rattle.std.proofs.Common.{◌≡◌, ◌≢◌, ℕ, Bool, true, false, cond, not, List, []}
 use Rattle.std.proofs.Common.{◌⊎◌, ◌≤◌, ◌<◌, ◌-◌, get_or, inl, inr, length, refl, sym, take, ap, subst, arith, ◌∙◌}
 use Rattle.std.proofs.lemmas.Option.{get_or_from_slice_get, slice_get_within}
-use Rattle.monk_kinds.specs.declared.mode.Rules.{Rules}
-use Rattle.monk_kinds.specs.declared.name.KindName.{KindName}
-use Rattle.monk_object.specs.Object.{Object}
-use Rattle.monk_history.specs.declared.event.Event.{Event}
-use Rattle.monk_history.specs.declared.event.Event.TheVariants.{Enter}
-use Rattle.monk_history.specs.declared.event.Via.TheVariants.{Free}
-use Rattle.monk_history.specs.Meaning.Legal.{IsFirstFault}
-use Rattle.monk_history.specs.Meaning.Events.{seat_of, via_of}
-use Rattle.monk_history.specs.Meaning.Monitor.{Monitor, monitor}
-use Rattle.monk_history.specs.Meaning.Reasons.{fits_object, is_in_range, reason_in}
-use Rattle.monk_history.specs.Meaning.Situation.{Situation, situation}
+use Rattle.monk_kinds.specs.{declared.mode.Rules.Rules, declared.name.KindName.KindName, Names.rules_named}
+use Rattle.monk_object.specs.{Object.Object, Names.meaning_named, Names.opening_named}
 use Rattle.monk_history.proofs.PublicLaws.Meaning.{and_right}
-use Rattle.monk_object.specs.Names.{meaning_named, opening_named}
-use Rattle.monk_kinds.specs.Names.{rules_named}
 use Rattle.monk_history.specs.Text.{Heading}
-use Rattle.monk_history.specs.Meaning.Named.{named_monitor}
-use Rattle.monk_audit.specs.declared.verdict.Verdict.{Verdict}
-use Rattle.monk_audit.specs.declared.verdict.Verdict.TheVariants.{Forbidden}
-use Rattle.monk_audit.specs.declared.reason.Reason.{Reason}
+use Rattle.monk_history.specs.Meaning.{Legal.IsFirstFault, Events.seat_of, Events.via_of, Monitor.Monitor}
+use Rattle.monk_history.specs.Meaning.{Monitor.monitor, Situation.Situation, Situation.situation, Named.named_monitor}
+use Rattle.monk_history.specs.Meaning.Reasons.{fits_object, is_in_range, reason_in}
+use Rattle.monk_history.specs.declared.event.{Event.Event, Event.TheVariants.Enter, Via.TheVariants.Free}
 use Rattle.monk_audit.specs.declared.reason.Reason.TheVariants as reasons
-use Rattle.monk_audit.specs.Reasons.{number_of}
-use Rattle.monk_audit.specs.Verdict.{IsVerdict, verdict_of}
 use Rattle.monk_audit.proofs.PublicLaws.{is_verdict}
-use Rattle.monk_tell.specs.Cause.{early_cause, no_entry}
-use Rattle.monk_tell.specs.declared.why.Why.{Why}
-use Rattle.monk_tell.specs.declared.why.Why.TheVariants.{Turn}
+use Rattle.monk_audit.specs.{declared.verdict.Verdict.Verdict, declared.verdict.Verdict.TheVariants.Forbidden}
+use Rattle.monk_audit.specs.{declared.reason.Reason.Reason, Reasons.number_of, Verdict.IsVerdict, Verdict.verdict_of}
+use Rattle.monk_tell.specs.{Cause.early_cause, Cause.no_entry, declared.why.Why.Why, declared.why.Why.TheVariants.Turn}
 
 passed_first : (b : Bool) (n k : ℕ) → cond (not b) 1 n ≡ k → k ≢ 1 → b ≡ true
 passed_first true n k h other = refl

@@ -1,35 +1,29 @@
 -- Why an event is not allowed: for each reason the sentence that says it, by the state of the monitor
 use Rattle.std.specs.Prelude.{ℕ, ◌==◌, nat_le, nat_lt, Bool, false, Option, Some, None, List, slice_get}
 use Rattle.std.specs.Prelude.{map, option_map, if◌then◌else◌, is_some}
-use Rattle.std.specs.List.{position, range_with_len}
-use Rattle.std.specs.Option.{option_map_or}
-use Rattle.monk_kinds.specs.declared.mode.Rules.{Rules}
-use Rattle.monk_kinds.specs.declared.name.KindName.{KindName}
+use Rattle.std.specs.{List.position, List.range_with_len, Option.option_map_or}
+use Rattle.monk_kinds.specs.declared.{mode.Rules.Rules, name.KindName.KindName}
 use Rattle.monk_object.specs.Object.{Object}
-use Rattle.monk_history.specs.Meaning.Choice.{Queues, queues_at, must_stay}
-use Rattle.monk_history.specs.Meaning.Events.{seat_of, next_of, via_of, answered_act, awaited_predicate, steps_back, has_conditions}
-use Rattle.monk_history.specs.Meaning.Situation.{Situation}
-use Rattle.monk_history.specs.declared.event.Event.{Event}
-use Rattle.monk_history.specs.declared.event.Event.TheVariants.{Enter, Act, Leave, Wait, Signal, SignalLeave, Until, Resume}
-use Rattle.monk_history.specs.declared.event.Event.TheVariants.{SignalAll, SignalWait}
-use Rattle.monk_history.specs.declared.event.From3.{From3}
 use Rattle.monk_history.specs.declared.event.From3.TheVariants as from
-use Rattle.monk_history.specs.declared.event.Next.{Next}
 use Rattle.monk_history.specs.declared.event.Next.TheVariants as next
-use Rattle.monk_history.specs.declared.event.Turn.{Turn}
 use Rattle.monk_history.specs.declared.event.Turn.TheVariants as turn
-use Rattle.monk_history.specs.declared.event.Via.{Via}
-use Rattle.monk_history.specs.declared.event.Via.TheVariants.{Free, Handed}
+use Rattle.monk_history.specs.Meaning.{Choice.Queues, Choice.queues_at, Choice.must_stay, Situation.Situation}
+use Rattle.monk_history.specs.Meaning.Events.{seat_of, next_of, via_of, answered_act, awaited_predicate, steps_back}
+use Rattle.monk_history.specs.Meaning.Events.{has_conditions}
+use Rattle.monk_history.specs.declared.event.{From3.From3, Next.Next, Turn.Turn}
+use Rattle.monk_history.specs.declared.event.Via.{Via, TheVariants.Free, TheVariants.Handed}
+use Rattle.monk_history.specs.declared.event.Event.{Event}
+use Rattle.monk_history.specs.declared.event.Event.TheVariants.{Enter, Act, Leave, Wait, Signal, SignalLeave, Until}
+use Rattle.monk_history.specs.declared.event.Event.TheVariants.{Resume, SignalAll, SignalWait}
 use Rattle.monk_audit.specs.Replay.{has}
-use Rattle.monk_tell.specs.declared.lines.Firsts.{Firsts}
-use Rattle.monk_tell.specs.declared.why.out_of_turn.OutOfTurn.{OutOfTurn}
 use Rattle.monk_tell.specs.declared.why.out_of_turn.OutOfTurn.TheVariants as away
-use Rattle.monk_tell.specs.declared.why.staying.Staying.{Staying}
 use Rattle.monk_tell.specs.declared.why.staying.Staying.TheVariants as stay
 use Rattle.monk_tell.specs.declared.why.precedence.Precedence.TheVariants as order
+use Rattle.monk_tell.specs.declared.why.{out_of_turn.OutOfTurn.OutOfTurn, staying.Staying.Staying}
 use Rattle.monk_tell.specs.declared.why.Why.{Why}
-use Rattle.monk_tell.specs.declared.why.Why.TheVariants.{NoSeat, NoCondition, NoOperation, NoPredicate}
-use Rattle.monk_tell.specs.declared.why.Why.TheVariants.{Call, NoUntils, Turn as Away, Reply, Stay, Order}
+use Rattle.monk_tell.specs.declared.why.Why.TheVariants.{NoSeat, NoCondition, NoOperation, NoPredicate, Call, NoUntils}
+use Rattle.monk_tell.specs.declared.why.Why.TheVariants.{Turn as Away, Reply, Stay, Order}
+use Rattle.monk_tell.specs.declared.lines.Firsts.{Firsts}
 
 -- ---- 1. a number that is out of range: the first of its seats, else a number of the call itself
 

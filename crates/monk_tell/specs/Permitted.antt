@@ -1,13 +1,10 @@
 -- What a release chooses from, and what it may choose
 use Rattle.std.specs.Prelude.{ℕ, Bool, List, ◌∷◌, ◌++◌, take, map, filter}
 use Rattle.monk_kinds.specs.declared.mode.Rules.{Rules}
-use Rattle.monk_history.specs.Meaning.Choice.{Queues}
-use Rattle.monk_history.specs.Meaning.Release.{with_next}
-use Rattle.monk_history.specs.declared.event.Event.{Event}
-use Rattle.monk_history.specs.declared.event.From3.{From3}
 use Rattle.monk_history.specs.declared.event.From3.TheVariants as from
-use Rattle.monk_history.specs.declared.event.Next.{Next}
 use Rattle.monk_history.specs.declared.event.Next.TheVariants as next
+use Rattle.monk_history.specs.Meaning.{Choice.Queues, Release.with_next}
+use Rattle.monk_history.specs.declared.event.{Event.Event, From3.From3, Next.Next}
 use Rattle.monk_audit.specs.Settled.{permits}
 
 -- the first seats of the queues that aren't empty

@@ -1,16 +1,11 @@
 -- Where a seat is, in a state of the monitor
 use Rattle.std.specs.Prelude.{ℕ, ◌==◌, Bool, false, Option, Some, None, List, [], ◌++◌, if◌then◌else◌, codes}
-use Rattle.std.specs.Prelude.{option_and_then, option_map}
-use Rattle.std.specs.Fmt.{decimal}
-use Rattle.std.specs.List.{find}
-use Rattle.std.specs.Option.{option_map_or}
-use Rattle.monk_history.specs.declared.event.From3.{From3}
+use Rattle.std.specs.{Prelude.option_and_then, Prelude.option_map, Fmt.decimal, List.find, Option.option_map_or}
 use Rattle.monk_history.specs.declared.event.From3.TheVariants as from
-use Rattle.monk_history.specs.declared.event.Turn.{Turn}
-use Rattle.monk_history.specs.declared.event.Turn.TheVariants.{Open, Due, Owned}
+use Rattle.monk_history.specs.declared.event.Turn.{Turn, TheVariants.Open, TheVariants.Due, TheVariants.Owned}
+use Rattle.monk_history.specs.declared.event.From3.{From3}
 use Rattle.monk_audit.specs.Replay.{has}
-use Rattle.monk_tell.specs.Cause.{waits_at}
-use Rattle.monk_tell.specs.Told.{ShownQueues, ShownStanding}
+use Rattle.monk_tell.specs.{Cause.waits_at, Told.ShownQueues, Told.ShownStanding}
 use Rattle.monk_tell.specs.declared.place.SeatPlace.{SeatPlace}
 use Rattle.monk_tell.specs.declared.place.SeatPlace.TheVariants.{Outside, Active, Condition, Waiter, Signaller, Until}
 

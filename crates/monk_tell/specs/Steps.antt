@@ -3,18 +3,14 @@ use Rattle.std.specs.Prelude.{◌≡◌, ℕ, ◌+◌, ◌-◌, ◌==◌, min, O
 use Rattle.std.specs.List.{range_with_len}
 use Rattle.monk_kinds.specs.declared.mode.Rules.{Rules}
 use Rattle.monk_object.specs.Object.{Object}
-use Rattle.monk_history.specs.Text.{Heading}
-use Rattle.monk_history.specs.Meaning.Events.{next_of}
-use Rattle.monk_history.specs.Meaning.Monitor.{Monitor}
-use Rattle.monk_history.specs.Meaning.Named.{named_monitor}
+use Rattle.monk_history.specs.{Text.Heading, declared.event.Event.Event}
+use Rattle.monk_history.specs.Meaning.{Events.next_of, Monitor.Monitor, Named.named_monitor}
 use Rattle.monk_history.specs.Meaning.Situation.{Situation, situation}
-use Rattle.monk_history.specs.declared.event.Event.{Event}
-use Rattle.monk_audit.specs.Verdict.{verdict_of}
+use Rattle.monk_audit.specs.{Verdict.verdict_of, declared.replay.Replay.Replay}
 use Rattle.monk_audit.specs.Replay.{IsReplayOf, replay_situation}
-use Rattle.monk_audit.specs.declared.replay.Replay.{Replay}
+use Rattle.monk_tell.specs.declared.step.Step.{Step}
 use Rattle.monk_tell.specs.Told.{Chosen, ShownStanding, allowed_events, choice_of, chosen_at, event_at, events_before}
 use Rattle.monk_tell.specs.Told.{standing_in, standing_of}
-use Rattle.monk_tell.specs.declared.step.Step.{Step}
 
 -- the event that led there, what it chose from, and the state of the monitor
 pub record ShownStep : Type 0 where

@@ -2,40 +2,24 @@
 use Rattle.std.specs.Prelude.{ℕ, ◌-◌, ◌==◌, Bool, Option, Some, None, List, length, map, take}
 use Rattle.std.specs.Prelude.{filter, if◌then◌else◌, option_map, get_or}
 use Rattle.std.specs.List.{range_with_len}
-use Rattle.monk_kinds.specs.declared.mode.Mode.{Mode}
-use Rattle.monk_kinds.specs.declared.mode.Mode.TheVariants.{Blocking, NonBlocking}
-use Rattle.monk_kinds.specs.declared.mode.Mode.TheVariants.{QuasiBlocking, ImmediateReturn, Automatic}
-use Rattle.monk_kinds.specs.declared.mode.Rules.{Rules}
-use Rattle.monk_kinds.specs.declared.name.KindName.{KindName}
-use Rattle.monk_object.specs.Object.{Object}
-use Rattle.monk_object.specs.declared.name.ObjectName.{ObjectName}
-use Rattle.monk_history.specs.Text.{Heading}
-use Rattle.monk_history.specs.Meaning.Acts.{refused_steps}
-use Rattle.monk_history.specs.Meaning.Choice.{Queues as Lined, must_stay, queues_at}
-use Rattle.monk_history.specs.Meaning.Monitor.{Monitor}
-use Rattle.monk_history.specs.Meaning.Named.{named_monitor}
+use Rattle.monk_kinds.specs.declared.{mode.Mode.Mode, mode.Mode.TheVariants.Blocking, mode.Mode.TheVariants.NonBlocking}
+use Rattle.monk_kinds.specs.declared.{mode.Mode.TheVariants.QuasiBlocking, mode.Mode.TheVariants.ImmediateReturn}
+use Rattle.monk_kinds.specs.declared.{mode.Mode.TheVariants.Automatic, mode.Rules.Rules, name.KindName.KindName}
+use Rattle.monk_object.specs.{Object.Object, declared.name.ObjectName.ObjectName}
+use Rattle.monk_history.specs.Meaning.{Acts.refused_steps, Monitor.Monitor, Named.named_monitor, Untils.ready_of}
 use Rattle.monk_history.specs.Meaning.Situation.{Situation, situation}
-use Rattle.monk_history.specs.Meaning.Untils.{ready_of}
-use Rattle.monk_history.specs.declared.event.Event.{Event}
-use Rattle.monk_history.specs.declared.event.Event.TheVariants.{Enter}
-use Rattle.monk_history.specs.declared.event.Via.TheVariants.{Free}
-use Rattle.monk_history.specs.declared.event.From3.{From3}
-use Rattle.monk_history.specs.declared.event.Next.{Next}
-use Rattle.monk_history.specs.declared.event.Turn.{Turn}
+use Rattle.monk_history.specs.Meaning.Choice.{Queues as Lined, must_stay, queues_at}
+use Rattle.monk_history.specs.declared.event.{Via.TheVariants.Free, From3.From3, Next.Next, Turn.Turn}
+use Rattle.monk_history.specs.declared.event.Event.{Event, TheVariants.Enter}
+use Rattle.monk_history.specs.Text.{Heading}
 use Rattle.monk_audit.specs.Verdict.{verdict_of}
-use Rattle.monk_audit.specs.declared.verdict.Verdict.{Verdict}
-use Rattle.monk_audit.specs.declared.verdict.Verdict.TheVariants.{Legal, Forbidden}
+use Rattle.monk_audit.specs.declared.verdict.Verdict.{Verdict, TheVariants.Legal, TheVariants.Forbidden}
 use Rattle.monk_tell.specs.Cause.{cause, conditions_below, own_reply}
+use Rattle.monk_tell.specs.declared.{forbidden.ForbiddenEvent.ForbiddenEvent, choice.Choice.Choice, lines.Lines.Lines}
+use Rattle.monk_tell.specs.declared.{refused.Refused.Refused, standing.Standing.Standing, telling.Telling.Telling}
+use Rattle.monk_tell.specs.declared.{why.Why.Why}
+use Rattle.monk_tell.specs.declared.queues.{Conditions.Conditions, QueueLists.QueueLists}
 use Rattle.monk_tell.specs.Permitted.{fronts, permitted_nexts}
-use Rattle.monk_tell.specs.declared.forbidden.ForbiddenEvent.{ForbiddenEvent}
-use Rattle.monk_tell.specs.declared.choice.Choice.{Choice}
-use Rattle.monk_tell.specs.declared.lines.Lines.{Lines}
-use Rattle.monk_tell.specs.declared.queues.Conditions.{Conditions}
-use Rattle.monk_tell.specs.declared.queues.QueueLists.{QueueLists}
-use Rattle.monk_tell.specs.declared.refused.Refused.{Refused}
-use Rattle.monk_tell.specs.declared.standing.Standing.{Standing}
-use Rattle.monk_tell.specs.declared.telling.Telling.{Telling}
-use Rattle.monk_tell.specs.declared.why.Why.{Why}
 
 -- ---- the data, as lists
 

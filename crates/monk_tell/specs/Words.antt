@@ -1,17 +1,13 @@
 -- The answer for a history, in words
 use Rattle.std.specs.Prelude.{ℕ, List, ◌++◌, codes}
-use Rattle.std.specs.List.{flat_map, join_with_byte}
-use Rattle.std.specs.Fmt.{decimal}
-use Rattle.monk_kinds.specs.declared.mode.Mode.{Mode}
-use Rattle.monk_kinds.specs.declared.mode.Mode.TheVariants.{Blocking, NonBlocking, QuasiBlocking, ImmediateReturn, Automatic}
-use Rattle.monk_kinds.specs.declared.mode.Rules.{Rules}
-use Rattle.monk_object.specs.InWords.{state_in_words}
-use Rattle.monk_object.specs.declared.name.ObjectName.{ObjectName}
+use Rattle.std.specs.{List.flat_map, List.join_with_byte, Fmt.decimal}
+use Rattle.monk_kinds.specs.declared.mode.{Mode.Mode, Mode.TheVariants.Blocking, Mode.TheVariants.NonBlocking}
+use Rattle.monk_kinds.specs.declared.mode.{Mode.TheVariants.QuasiBlocking, Mode.TheVariants.ImmediateReturn}
+use Rattle.monk_kinds.specs.declared.mode.{Mode.TheVariants.Automatic, Rules.Rules}
+use Rattle.monk_object.specs.{InWords.state_in_words, declared.name.ObjectName.ObjectName}
+use Rattle.monk_history.specs.declared.event.{Event.Event, Next.Next}
+use Rattle.monk_history.specs.declared.event.Turn.{Turn, TheVariants.Open, TheVariants.Due, TheVariants.Owned}
 use Rattle.monk_history.specs.Text.{event_words, from_word, next_words}
-use Rattle.monk_history.specs.declared.event.Event.{Event}
-use Rattle.monk_history.specs.declared.event.Next.{Next}
-use Rattle.monk_history.specs.declared.event.Turn.{Turn}
-use Rattle.monk_history.specs.declared.event.Turn.TheVariants.{Open, Due, Owned}
 
 -- the word of a mode
 abbrev pub mode_word : Mode → List ℕ

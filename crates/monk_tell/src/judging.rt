@@ -1,12 +1,10 @@
 //! What is wrong with an event that is not allowed.
 
 ghost use Rattle.std.specs.Prelude.{◌≡◌, ◌<◌, [], true, All, IfOk};
-ghost use Rattle.monk_history.specs.Meaning.Monitor.{monitor};
-ghost use Rattle.monk_history.specs.Meaning.Reasons.{fits_object, reason_in};
-ghost use Rattle.monk_audit.specs.Reasons.{number_of};
-ghost use Rattle.monk_audit.specs.Replay.{replay_situation};
-ghost use Rattle.monk_tell.specs.Cause.{choice_cause, own_reply};
+ghost use Rattle.monk_history.specs.Meaning.{Monitor.monitor, Reasons.fits_object, Reasons.reason_in};
+ghost use Rattle.monk_audit.specs.{Reasons.number_of, Replay.replay_situation};
 ghost use Rattle.monk_tell.specs.Told.{blame_of, blame_of_event, choice_of, chosen_at};
+ghost use Rattle.monk_tell.specs.Cause.{choice_cause, own_reply};
 
 use crate::choice::Choice;
 use crate::forbidden::ForbiddenEvent;

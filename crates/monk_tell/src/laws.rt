@@ -1,15 +1,10 @@
 //! What holds for all answers.
 
-ghost use Rattle.std.specs.Prelude.{IsTrue, is_some};
-ghost use Rattle.std.specs.List.{Contains};
+ghost use Rattle.std.specs.{Prelude.IsTrue, Prelude.is_some, List.Contains};
 ghost use Rattle.monk_kinds.specs.declared.mode.Rules.{Rules};
 ghost use Rattle.monk_object.specs.Object.{Object};
-ghost use Rattle.monk_history.specs.declared.event.Event.{Event};
-ghost use Rattle.monk_history.specs.declared.event.Next.{Next};
-ghost use Rattle.monk_history.specs.Meaning.Choice.{is_permitted};
-ghost use Rattle.monk_history.specs.Meaning.Events.{next_of};
-ghost use Rattle.monk_history.specs.Meaning.Release.{with_next};
-ghost use Rattle.monk_history.specs.Meaning.Situation.{Situation};
+ghost use Rattle.monk_history.specs.{declared.event.Event.Event, declared.event.Next.Next, Meaning.Choice.is_permitted};
+ghost use Rattle.monk_history.specs.{Meaning.Events.next_of, Meaning.Release.with_next, Meaning.Situation.Situation};
 ghost use Rattle.monk_tell.specs.Told.{chosen_at};
 
 /// The list has exactly the choices that a release might have made. Apart from stay and entry, only

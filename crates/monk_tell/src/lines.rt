@@ -2,13 +2,10 @@
 
 ghost use Rattle.std.specs.Prelude.{◌≡◌, ◌<◌, [], true, All, IfOk};
 ghost use Rattle.monk_history.specs.Meaning.Choice as choice;
-ghost use Rattle.monk_history.specs.Meaning.Reasons.{fits_object};
+ghost use Rattle.monk_history.specs.Meaning.{Reasons.fits_object, Untils.ready_of, Waiters.serves};
 ghost use Rattle.monk_history.specs.Meaning.Signallers.{is_empty, signals};
-ghost use Rattle.monk_history.specs.Meaning.Untils.{ready_of};
-ghost use Rattle.monk_history.specs.Meaning.Waiters.{serves};
 ghost use Rattle.monk_audit.specs.Replay.{replay_situation};
-ghost use Rattle.monk_tell.specs.Cause.{firsts_of};
-ghost use Rattle.monk_tell.specs.Told.{lines_of};
+ghost use Rattle.monk_tell.specs.{Cause.firsts_of, Told.lines_of};
 
 use monk_audit::Replay;
 use monk_history::Event;

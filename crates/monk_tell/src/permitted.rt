@@ -2,9 +2,8 @@
 
 ghost use Rattle.std.specs.Prelude.{◌≡◌, IfOk, filter};
 ghost use Rattle.monk_object.specs.Object.{Object};
+ghost use Rattle.monk_history.specs.Meaning.{Release.with_next, Situation.Situation};
 ghost use Rattle.monk_history.specs.Meaning.Choice.{must_stay, queues_at};
-ghost use Rattle.monk_history.specs.Meaning.Release.{with_next};
-ghost use Rattle.monk_history.specs.Meaning.Situation.{Situation};
 ghost use Rattle.monk_audit.specs.Settled.{permits};
 ghost use Rattle.monk_tell.specs.Permitted.{candidates, fronts};
 ghost use Rattle.monk_tell.specs.Told.{choice_of, chosen_at, lines_of};

@@ -3,9 +3,8 @@
 ghost use Rattle.std.specs.Prelude.{◌≡◌, ◌==◌, Some, option_map};
 ghost use Rattle.std.specs.List.{find};
 ghost use Rattle.monk_tell.specs.Place.{condition_of, in_queues, is_in, place_in, place_text, until_of};
+ghost use Rattle.monk_tell.specs.declared.lists.{SeatList.SeatList, Waits.Waits};
 ghost use Rattle.monk_tell.specs.Told.{condition_lists, queues_of, standing_of};
-ghost use Rattle.monk_tell.specs.declared.lists.SeatList.{SeatList};
-ghost use Rattle.monk_tell.specs.declared.lists.Waits.{Waits};
 
 use crate::lists::{SeatList, Waits};
 use crate::queues::{Conditions, QueueLists, has};

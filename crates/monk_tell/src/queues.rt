@@ -3,9 +3,8 @@
 ghost use Rattle.std.specs.Prelude.{◌≡◌, ◌<◌, [], All, IfOk};
 ghost use Rattle.std.specs.List.{position};
 ghost use Rattle.monk_audit.specs.Replay.{has, replay_situation};
-ghost use Rattle.monk_tell.specs.Cause.{conditions_below, waits_at};
+ghost use Rattle.monk_tell.specs.{Cause.conditions_below, Cause.waits_at, declared.lists.SeatList.SeatList};
 ghost use Rattle.monk_tell.specs.Told.{condition_lists, queues_of, queues_shown};
-ghost use Rattle.monk_tell.specs.declared.lists.SeatList.{SeatList};
 
 use crate::lines::{inner_queues, queue_at, ready_seats};
 use crate::lists::{SeatList, Waits};

@@ -2,13 +2,11 @@
 
 ghost use Rattle.std.specs.Prelude.{◌≡◌, [], IfOk};
 ghost use Rattle.monk_history.specs.Meaning.Events.{next_of, seat_of, via_of};
-ghost use Rattle.monk_audit.specs.Reasons.{number_of};
-ghost use Rattle.monk_audit.specs.Replay.{replay_situation};
+ghost use Rattle.monk_audit.specs.{Reasons.number_of, Replay.replay_situation};
+ghost use Rattle.monk_tell.specs.Told.{condition_lists};
 ghost use Rattle.monk_tell.specs.Cause.{behind_first, call_beyond, early_cause, has_to_stay, is_first, may_not_admit};
 ghost use Rattle.monk_tell.specs.Cause.{may_not_continue, may_not_recall, may_not_stay, may_not_wake, no_entry};
-ghost use Rattle.monk_tell.specs.Cause.{number_beyond, other_choice, other_reply, other_turn, out_of_turn};
-ghost use Rattle.monk_tell.specs.Cause.{still_waits};
-ghost use Rattle.monk_tell.specs.Told.{condition_lists};
+ghost use Rattle.monk_tell.specs.Cause.{number_beyond, other_choice, other_reply, other_turn, out_of_turn, still_waits};
 
 use crate::lines::Firsts;
 use crate::queues::{Conditions, has};

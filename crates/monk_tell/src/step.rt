@@ -2,11 +2,10 @@
 
 ghost use Rattle.std.specs.Prelude.{◌≡◌, ◌<◌, ◌+◌, true, All, IfOk, OnOk, option_map};
 ghost use Rattle.monk_object.specs.Names.{meaning_named};
-ghost use Rattle.monk_history.specs.Meaning.Named.{named_monitor};
-ghost use Rattle.monk_history.specs.Meaning.Reasons.{fits_object};
+ghost use Rattle.monk_history.specs.Meaning.{Named.named_monitor, Reasons.fits_object};
 ghost use Rattle.monk_audit.specs.Replay.{replay_situation};
-ghost use Rattle.monk_tell.specs.Steps.{IsAfter, event_step, release_choice, step_of};
 ghost use Rattle.monk_tell.specs.Told.{allowed_events, choice_of};
+ghost use Rattle.monk_tell.specs.Steps.{IsAfter, event_step, release_choice, step_of};
 
 use crate::choice::Choice;
 use crate::judged::JudgedHistory;

@@ -3,8 +3,7 @@
 ghost use Rattle.std.specs.Prelude.{◌≡◌, ◌≤◌, IfOk, OnOk, map, min};
 ghost use Rattle.monk_object.specs.Names.{meaning_named};
 ghost use Rattle.monk_history.specs.Meaning.Named.{named_monitor};
-ghost use Rattle.monk_tell.specs.Steps.{IsAfter, step_of, steps_of};
-ghost use Rattle.monk_tell.specs.Told.{allowed_events};
+ghost use Rattle.monk_tell.specs.{Steps.IsAfter, Steps.step_of, Steps.steps_of, Told.allowed_events};
 
 use crate::judged::JudgedHistory;
 use crate::standing::Standing;

@@ -1,23 +1,17 @@
 -- No word grows beyond what the events allow
 use Rattle.std.proofs.Common.{◌≡◌, ◌≢◌, ℕ, zero, suc, ◌+◌, ◌==◌, ◌<◌, ◌≤◌, cond, Bool, true, false, List, [], ◌∷◌}
 use Rattle.std.proofs.Common.{◌++◌, length, map, ⊎_elim, sym, refl, ap, ◌∙◌, subst, inl, inr, arith, eq-eqb}
-use Rattle.std.proofs.Common.{length-append}
-use Rattle.std.proofs.lemmas.Bool.{cases_lt}
-use Rattle.std.proofs.lemmas.Bool.Decides.{eqb_tells}
-use Rattle.std.proofs.Math.Nat.{mul-le-mul_right}
-use Rattle.monk_history.specs.Meaning.Counts.{events_of, left_of}
-use Rattle.monk_history.specs.Meaning.Events.{seat_of}
-use Rattle.monk_history.specs.Meaning.Standing.{times}
-use Rattle.monk_history.specs.declared.event.Event.{Event}
+use Rattle.std.proofs.{Common.length-append, Math.Nat.mul-le-mul_right}
+use Rattle.std.proofs.lemmas.Bool.{cases_lt, Decides.eqb_tells}
 use Rattle.monk_history.proofs.PublicLaws.Meaning.{total_le, length_total, length-events_of, length-events_of-push}
+use Rattle.monk_history.specs.Meaning.{Counts.events_of, Counts.left_of, Events.seat_of, Standing.times}
+use Rattle.monk_history.specs.declared.event.Event.{Event}
+use Rattle.monk_world.proofs.UpdateLaws.{at_update, update_here, update_else}
+use Rattle.monk_world.specs.{Update.update, State.State, State.with_event, World.World}
 use Rattle.monk_world.specs.Kept.{comes_in, comes_back, sum_below, IsBounded}
-use Rattle.monk_world.specs.Update.{update}
-use Rattle.monk_world.specs.State.{State, with_event}
-use Rattle.monk_world.specs.World.{World}
 use Rattle.monk_world.specs.declared.place.Place.{Place}
 use Rattle.monk_world.specs.declared.place.Place.TheVariants.{Idle, Ticket, Due, Active, Back, Passing, Inner}
 use Rattle.monk_world.specs.declared.source.Source.TheVariants.{Free, Granted, Called}
-use Rattle.monk_world.proofs.UpdateLaws.{at_update, update_here, update_else}
 
 -- a sum where one number changes
 module _ {X : Type 0} (g : X → ℕ) (at : ℕ → X) (i : ℕ) (x : X) where

@@ -4,30 +4,23 @@ use Rattle.std.proofs.Common.{refl, ap, ◌∙◌, subst, append_assoc}
 use Rattle.std.specs.Prelude.{Some, nat_lt, ◌&&◌, if◌then◌else◌}
 use Rattle.monk_kinds.specs.declared.mode.Rules.{Rules}
 use Rattle.monk_object.specs.Object.{Object}
-use Rattle.monk_history.specs.Meaning.Counts.{enters_of, left_of}
-use Rattle.monk_history.specs.Meaning.Events.{is_stay}
-use Rattle.monk_history.specs.declared.event.Next.{Next}
 use Rattle.monk_history.specs.declared.event.Next.TheVariants as next
-use Rattle.monk_history.specs.declared.event.Via.{Via}
-use Rattle.monk_world.specs.Places.{place_of}
-use Rattle.monk_world.specs.Update.{update}
-use Rattle.monk_world.specs.Records.{Recorded, EntersWith, IsRecorded, HasDrawn, TicketsEnterInOrder}
-use Rattle.monk_world.specs.Runs.{opening_state}
-use Rattle.monk_world.specs.State.{State}
-use Rattle.monk_world.specs.Steps.{place_after_arrive, place_after_ticket_look, place_after_seat_look, place_after_drop, after_floor_in}
-use Rattle.monk_world.specs.StepTable.{call_of, is_call_in_range, is_call_offered, may_be_told, left_for, IsDone, IsStep}
-use Rattle.monk_world.specs.World.{World}
-use Rattle.monk_world.specs.declared.answer.Answer.{Answer}
+use Rattle.monk_history.specs.Meaning.{Counts.enters_of, Counts.left_of, Events.is_stay}
+use Rattle.monk_history.specs.declared.event.{Next.Next, Via.Via}
 use Rattle.monk_world.specs.declared.answer.Answer.TheVariants as answer
-use Rattle.monk_world.specs.declared.command.Command.{Command}
 use Rattle.monk_world.specs.declared.command.Command.TheVariants as command
-use Rattle.monk_world.specs.declared.home.Home.{Home}
 use Rattle.monk_world.specs.declared.home.Home.TheVariants as home
+use Rattle.monk_world.proofs.{UpdateLaws.at_update, RecordLaws.refused_or_done}
+use Rattle.monk_world.specs.{Places.place_of, Update.update, Runs.opening_state, State.State, World.World}
+use Rattle.monk_world.specs.StepTable.{call_of, is_call_in_range, is_call_offered, may_be_told, left_for, IsDone}
+use Rattle.monk_world.specs.StepTable.{IsStep}
+use Rattle.monk_world.specs.Records.{Recorded, EntersWith, IsRecorded, HasDrawn, TicketsEnterInOrder}
+use Rattle.monk_world.specs.Steps.{place_after_arrive, place_after_ticket_look, place_after_seat_look, place_after_drop}
+use Rattle.monk_world.specs.Steps.{after_floor_in}
+use Rattle.monk_world.specs.declared.{answer.Answer.Answer, command.Command.Command, home.Home.Home}
 use Rattle.monk_world.specs.declared.place.Place.{Place}
 use Rattle.monk_world.specs.declared.place.Place.TheVariants.{Idle, Ticket, Due, Active, Back, Passing, Inner}
 use Rattle.monk_world.specs.declared.source.Source.TheVariants.{Free, Granted, Called}
-use Rattle.monk_world.proofs.UpdateLaws.{at_update}
-use Rattle.monk_world.proofs.RecordLaws.{refused_or_done}
 
 -- a seat at this place has ticket n, and has not entered with it
 abbrev HasTicket : ℕ → Place → Type 0

@@ -1,15 +1,14 @@
 -- Who has the right, and who waits for it
 use Rattle.std.proofs.Common.{◌≡◌, ◌≢◌, ℕ, ◌≤◌, ◌⊎◌, ◌↔◌, sym, refl, ap, ◌∙◌, subst, inl, inr, arith}
 use Rattle.std.proofs.lemmas.Bool.Decides.{eqb_tells}
-use Rattle.monk_world.specs.Places.{HoldsRight, stage, ticket, place_of, ticketed_stage, due_stage, passing_stage}
-use Rattle.monk_world.specs.Update.{update}
-use Rattle.monk_world.specs.Right.{Whereabouts, Nowhere, AtTicket, With, AtSeat, KeepsRight, Waits}
-use Rattle.monk_world.specs.World.{World}
-use Rattle.monk_world.specs.declared.home.Home.{Home}
 use Rattle.monk_world.specs.declared.home.Home.TheVariants as home
+use Rattle.monk_world.proofs.UpdateLaws.{at_update, update_else}
+use Rattle.monk_world.specs.{Update.update, World.World}
+use Rattle.monk_world.specs.Places.{HoldsRight, stage, ticket, place_of, ticketed_stage, due_stage, passing_stage}
+use Rattle.monk_world.specs.Right.{Whereabouts, Nowhere, AtTicket, With, AtSeat, KeepsRight, Waits}
 use Rattle.monk_world.specs.declared.place.Place.{Place}
 use Rattle.monk_world.specs.declared.place.Place.TheVariants.{Idle, Ticket, Due, Active, Back, Passing, Inner}
-use Rattle.monk_world.proofs.UpdateLaws.{at_update, update_else}
+use Rattle.monk_world.specs.declared.home.Home.{Home}
 
 -- a seat that has the right is between due and passing
 pub has_right : (p : Place) → HoldsRight p → (due_stage ≤ stage p) × (stage p ≤ passing_stage)

@@ -3,12 +3,8 @@ use Rattle.std.proofs.Common.{◌≡◌, ℕ, List, [], ◌∷◌, ◌++◌, ref
 use Rattle.std.proofs.lemmas.List.{append-nil, map-append}
 use Rattle.monk_kinds.specs.declared.mode.Rules.{Rules}
 use Rattle.monk_object.specs.Object.{Object}
-use Rattle.monk_world.specs.Runs.{Told, IsRun}
-use Rattle.monk_world.specs.State.{State}
-use Rattle.monk_world.specs.StepTable.{IsStep}
-use Rattle.monk_world.specs.Telling.{command_of, IsLed}
-use Rattle.monk_world.specs.declared.answer.Answer.{Answer}
-use Rattle.monk_world.specs.declared.command.Command.{Command}
+use Rattle.monk_world.specs.{Runs.Told, Runs.IsRun, State.State, StepTable.IsStep, Telling.command_of, Telling.IsLed}
+use Rattle.monk_world.specs.declared.{answer.Answer.Answer, command.Command.Command}
 
 run-push : (k : Rules) (o : Object) (s t u : State) (told : List Told) (x : Told) → IsRun k o s told t
     → IsStep k o t x.seat x.command x.answer u → IsRun k o s (told ++ x ∷ []) u

@@ -1,12 +1,11 @@
 -- The right is in exactly one place, because it is where `right` says
 use Rattle.std.proofs.Common.{◌≡◌, ℕ, ◌+◌, ◌%◌, ◌<◌, sym, refl, ap, ◌∙◌, subst, arith}
-use Rattle.monk_world.specs.OnePlace.{IsInOnePlace}
+use Rattle.monk_world.proofs.RightLooks.{grant_is_there, call_is_there}
+use Rattle.monk_world.specs.{OnePlace.IsInOnePlace, World.World}
 use Rattle.monk_world.specs.Places.{stage, ticket, ticketed_stage, inside_stage}
-use Rattle.monk_world.specs.Right.{Whereabouts, AtTicket, KeepsRight, Waits}
-use Rattle.monk_world.specs.World.{World}
 use Rattle.monk_world.specs.declared.place.Place.{Place}
 use Rattle.monk_world.specs.declared.place.Place.TheVariants.{Idle, Ticket, Due, Active, Back, Passing, Inner}
-use Rattle.monk_world.proofs.RightLooks.{grant_is_there, call_is_there}
+use Rattle.monk_world.specs.Right.{Whereabouts, AtTicket, KeepsRight, Waits}
 
 is_ticket : (p : Place) (t : ℕ) → stage p ≡ ticketed_stage → ticket p ≡ t → p ≡ Ticket t
 is_ticket Idle t a b = absurd (omega arith)

@@ -1,22 +1,16 @@
 -- Each step keeps the queues of the history in agreement with where the seats are
 use Rattle.std.proofs.Common.{◌≡◌, ◌≢◌, ℕ, true, ◌+◌, ◌-◌, ◌≤◌, ◌⊎◌, sym, refl, ap, ◌∙◌, subst, inl, inr, Bool, arith}
-use Rattle.monk_history.specs.declared.event.Next.{Next}
-use Rattle.monk_history.specs.declared.event.Next.TheVariants.{Entry}
+use Rattle.monk_history.specs.declared.event.Next.{Next, TheVariants.Entry}
+use Rattle.monk_world.specs.declared.home.Home.TheVariants as home
+use Rattle.monk_world.proofs.{Holders.held, Holders.at_home, Holders.others, UpdateLaws.at_update}
+use Rattle.monk_world.specs.{Update.update, Right.Whereabouts, Right.KeepsRight, Queueing.FitsQueues, World.World}
 use Rattle.monk_world.specs.Places.{stage, source, back_turn, open_turn, turn_of_next, place_of, stays_inside}
 use Rattle.monk_world.specs.Places.{is_queued_at, due_stage, active_stage, back_stage, passing_stage, free_source}
-use Rattle.monk_world.specs.Update.{update}
-use Rattle.monk_world.specs.Right.{Whereabouts, KeepsRight}
-use Rattle.monk_world.specs.Queueing.{FitsQueues}
 use Rattle.monk_world.specs.Steps.{after_floor_out, after_floor_in, after_ticket_grant, after_seat_grant}
-use Rattle.monk_world.specs.World.{World}
-use Rattle.monk_world.specs.declared.home.Home.{Home}
-use Rattle.monk_world.specs.declared.home.Home.TheVariants as home
 use Rattle.monk_world.specs.declared.place.Place.{Place}
 use Rattle.monk_world.specs.declared.place.Place.TheVariants.{Idle, Ticket, Due, Active, Back, Passing, Inner}
-use Rattle.monk_world.specs.declared.source.Source.{Source}
-use Rattle.monk_world.specs.declared.source.Source.TheVariants.{Free, Granted, Called}
-use Rattle.monk_world.proofs.Holders.{held, at_home, others}
-use Rattle.monk_world.proofs.UpdateLaws.{at_update}
+use Rattle.monk_world.specs.declared.source.Source.{Source, TheVariants.Free, TheVariants.Granted, TheVariants.Called}
+use Rattle.monk_world.specs.declared.home.Home.{Home}
 
 -- a seat that goes home is in a queue if, and only if, it stays inside
 home_queued : (h : Home) → is_queued_at (place_of h) ≡ stays_inside h

@@ -2,54 +2,39 @@
 use Rattle.std.proofs.Common.{◌≡◌, ℕ, ◌==◌, ◌≤◌, ◌⊎◌, inl, inr, true, false, cond, Bool, List, [], ◌∷◌, ◌++◌, sym, refl}
 use Rattle.std.proofs.Common.{ap, ◌∙◌, subst, arith, append_assoc}
 use Rattle.std.specs.Prelude.{map, Some, None, not, nat_le, nat_lt, ◌&&◌, if◌then◌else◌}
-use Rattle.std.specs.List.{list_all}
 use Rattle.std.proofs.lemmas.Bool.{false≢true, le-leb, leb-true}
-use Rattle.std.proofs.lemmas.List.{append-nil}
-use Rattle.std.proofs.lemmas.List.Elements.{filter-append}
-use Rattle.std.proofs.lemmas.List.Folds.{list_all-append}
-use Rattle.monk_kinds.specs.Kind.{IsKind}
-use Rattle.monk_kinds.specs.declared.mode.Pick.{Pick}
-use Rattle.monk_kinds.specs.declared.mode.Rules.{Rules}
+use Rattle.std.proofs.lemmas.List.{append-nil, Elements.filter-append, Folds.list_all-append}
+use Rattle.std.specs.List.{list_all}
+use Rattle.monk_kinds.specs.{Kind.IsKind, declared.mode.Pick.Pick, declared.mode.Rules.Rules}
 use Rattle.monk_object.specs.Object.{Object}
-use Rattle.monk_history.specs.Meaning.Counts.{events_of, enters_of, is_enter, left_of}
-use Rattle.monk_history.specs.Meaning.Events.{seat_of, is_stay}
-use Rattle.monk_history.specs.Meaning.Release.{with_next}
-use Rattle.monk_history.specs.Meaning.Turn.{turn}
-use Rattle.monk_history.specs.Text.{first_version}
-use Rattle.monk_history.specs.declared.event.Event.{Event}
-use Rattle.monk_history.specs.declared.event.Event.TheVariants.{Enter, Leave, Wait, Signal, SignalLeave, Until, SignalAll, SignalWait}
-use Rattle.monk_history.specs.declared.event.Next.{Next}
 use Rattle.monk_history.specs.declared.event.Next.TheVariants as next
-use Rattle.monk_history.specs.declared.event.Turn.{Turn}
-use Rattle.monk_history.specs.declared.event.Via.{Via}
 use Rattle.monk_history.specs.declared.event.Via.TheVariants as via
 use Rattle.monk_history.proofs.PublicLaws.Meaning.{events_of-push}
+use Rattle.monk_history.specs.Meaning.{Events.seat_of, Events.is_stay, Release.with_next, Turn.turn}
+use Rattle.monk_history.specs.Meaning.Counts.{events_of, enters_of, is_enter, left_of}
+use Rattle.monk_history.specs.declared.event.{Next.Next, Turn.Turn, Via.Via}
+use Rattle.monk_history.specs.declared.event.Event.{Event}
+use Rattle.monk_history.specs.declared.event.Event.TheVariants.{Enter, Leave, Wait, Signal, SignalLeave, Until}
+use Rattle.monk_history.specs.declared.event.Event.TheVariants.{SignalAll, SignalWait}
+use Rattle.monk_history.specs.Text.{first_version}
 use Rattle.monk_floor.specs.View.{FloorView}
-use Rattle.monk_world.specs.Places.{stage, back_turn}
+use Rattle.monk_world.specs.declared.answer.Answer.TheVariants as answer
+use Rattle.monk_world.specs.declared.command.Command.TheVariants as command
+use Rattle.monk_world.specs.declared.home.Home.TheVariants as home
+use Rattle.monk_world.proofs.{UpdateLaws.update_here, RunLaws.well_led}
+use Rattle.monk_world.proofs.SoundSteps.{IsRelease, leaving, waiting, signalling, signal_leaving, signal_waiting}
+use Rattle.monk_world.proofs.SoundSteps.{waiting_until, step_is_sound}
+use Rattle.monk_world.specs.{Runs.Told, Runs.IsRun, Runs.IsWellLed, Sound.Sound, State.State, State.with_event}
+use Rattle.monk_world.specs.{State.is_quiet, Steps.after_floor_in, Telling.command_of, World.World}
+use Rattle.monk_world.specs.StepTable.{call_of, command_version, is_call_in_range, is_call_offered, may_be_told}
+use Rattle.monk_world.specs.StepTable.{left_for, out_event, release_next, IsReleased, IsDone, IsAnswered, IsStep}
 use Rattle.monk_world.specs.Records.{Recorded, IsOwn, EntersWith, IsTaken, IsRecorded, recorded_by, recorded_command}
 use Rattle.monk_world.specs.Records.{are_in_version, IsRecordedBy, KeepsVersion, StepsAreTaken, RunsAreRecorded}
-use Rattle.monk_world.specs.Runs.{Told, IsRun, IsWellLed}
-use Rattle.monk_world.specs.Sound.{Sound}
-use Rattle.monk_world.specs.State.{State, with_event, is_quiet}
-use Rattle.monk_world.specs.Steps.{after_floor_in}
-use Rattle.monk_world.specs.StepTable.{call_of, command_version, is_call_in_range, is_call_offered, may_be_told, left_for, out_event}
-use Rattle.monk_world.specs.StepTable.{release_next, IsReleased, IsDone, IsAnswered, IsStep}
-use Rattle.monk_world.specs.Telling.{command_of}
-use Rattle.monk_world.specs.World.{World}
-use Rattle.monk_world.specs.declared.answer.Answer.{Answer}
-use Rattle.monk_world.specs.declared.answer.Answer.TheVariants as answer
-use Rattle.monk_world.specs.declared.command.Command.{Command}
-use Rattle.monk_world.specs.declared.command.Command.TheVariants as command
-use Rattle.monk_world.specs.declared.home.Home.{Home}
-use Rattle.monk_world.specs.declared.home.Home.TheVariants as home
+use Rattle.monk_world.specs.Places.{stage, back_turn}
+use Rattle.monk_world.specs.declared.{answer.Answer.Answer, command.Command.Command, home.Home.Home}
 use Rattle.monk_world.specs.declared.place.Place.{Place}
 use Rattle.monk_world.specs.declared.place.Place.TheVariants.{Idle, Ticket, Due, Active, Back, Passing, Inner}
-use Rattle.monk_world.specs.declared.source.Source.{Source}
-use Rattle.monk_world.specs.declared.source.Source.TheVariants.{Free, Granted, Called}
-use Rattle.monk_world.proofs.UpdateLaws.{update_here}
-use Rattle.monk_world.proofs.RunLaws.{well_led}
-use Rattle.monk_world.proofs.SoundSteps.{IsRelease, leaving, waiting, signalling, signal_leaving, signal_waiting, waiting_until}
-use Rattle.monk_world.proofs.SoundSteps.{step_is_sound}
+use Rattle.monk_world.specs.declared.source.Source.{Source, TheVariants.Free, TheVariants.Granted, TheVariants.Called}
 
 -- whether the answer is that entry was chosen
 abbrev lets_in : Answer → Bool

@@ -1,15 +1,14 @@
 -- A seat that draws a ticket has the right if the monitor was free, and otherwise waits
 use Rattle.std.proofs.Common.{◌≡◌, ◌≢◌, ℕ, ◌+◌, ◌<◌, ◌≤◌, ◌↔◌, sym, refl, ap, ◌∙◌, subst, arith}
-use Rattle.monk_world.specs.Places.{HoldsRight, stage, ticket, outside_stage, ticketed_stage, due_stage, passing_stage, inside_stage}
-use Rattle.monk_world.specs.Update.{update}
-use Rattle.monk_world.specs.Right.{Whereabouts, With, KeepsRight, UsesTicket, ChoseInner, Waits, PassesNext, OwnsTicket}
-use Rattle.monk_world.specs.Right.{WasGranted, LeavesLow}
-use Rattle.monk_world.specs.World.{World}
-use Rattle.monk_world.specs.declared.place.Place.{Place}
-use Rattle.monk_world.specs.declared.place.Place.TheVariants.{Ticket, Due}
-use Rattle.monk_world.specs.declared.source.Source.TheVariants.{Free}
 use Rattle.monk_world.proofs.Holders.{held, holds, alone_with, waiter_stays, other_stage}
 use Rattle.monk_world.proofs.UpdateLaws.{at_update, update_here, update_else, all_back}
+use Rattle.monk_world.specs.{Update.update, World.World}
+use Rattle.monk_world.specs.Places.{HoldsRight, stage, ticket, outside_stage, ticketed_stage, due_stage, passing_stage}
+use Rattle.monk_world.specs.Places.{inside_stage}
+use Rattle.monk_world.specs.Right.{Whereabouts, With, KeepsRight, UsesTicket, ChoseInner, Waits, PassesNext, OwnsTicket}
+use Rattle.monk_world.specs.Right.{WasGranted, LeavesLow}
+use Rattle.monk_world.specs.declared.place.Place.{Place, TheVariants.Ticket, TheVariants.Due}
+use Rattle.monk_world.specs.declared.source.Source.TheVariants.{Free}
 
 module _ (seats : ℕ) (s : World) (right : Whereabouts) (owner : ℕ → ℕ) (r : KeepsRight seats s right owner)
     (i : ℕ) where

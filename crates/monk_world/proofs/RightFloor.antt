@@ -1,18 +1,15 @@
 -- The floor comes out to the seat that is due, and goes home from the seat that is active
 use Rattle.std.proofs.Common.{◌≡◌, ◌≢◌, ℕ, ◌≤◌, ◌↔◌, ap, ◌∙◌, arith}
 use Rattle.monk_history.specs.declared.event.Next.{Next}
-use Rattle.monk_world.specs.Places.{HoldsRight, stage, due_to, turn_of_next, due_stage, active_stage}
-use Rattle.monk_world.specs.Places.{back_stage, passing_stage, inside_stage}
-use Rattle.monk_world.specs.Update.{update}
-use Rattle.monk_world.specs.Right.{Whereabouts, With, KeepsRight, UsesTicket, ChoseInner, PassesNext, OwnsTicket, WasGranted, LeavesLow}
-use Rattle.monk_world.specs.Steps.{after_floor_out, after_floor_in}
-use Rattle.monk_world.specs.World.{World}
-use Rattle.monk_world.specs.declared.home.Home.{Home}
-use Rattle.monk_world.specs.declared.place.Place.{Place}
-use Rattle.monk_world.specs.declared.place.Place.TheVariants.{Active, Back}
-use Rattle.monk_world.specs.declared.source.Source.{Source}
 use Rattle.monk_world.proofs.Holders.{held, holds_right, waiter_stays, others, other_stage}
 use Rattle.monk_world.proofs.UpdateLaws.{at_update, update_else, all_back}
+use Rattle.monk_world.specs.{Update.update, Steps.after_floor_out, Steps.after_floor_in, World.World}
+use Rattle.monk_world.specs.Places.{HoldsRight, stage, due_to, turn_of_next, due_stage, active_stage, back_stage}
+use Rattle.monk_world.specs.Places.{passing_stage, inside_stage}
+use Rattle.monk_world.specs.declared.{home.Home.Home, source.Source.Source}
+use Rattle.monk_world.specs.declared.place.Place.{Place, TheVariants.Active, TheVariants.Back}
+use Rattle.monk_world.specs.Right.{Whereabouts, With, KeepsRight, UsesTicket, ChoseInner, PassesNext, OwnsTicket}
+use Rattle.monk_world.specs.Right.{WasGranted, LeavesLow}
 
 module _ (seats : ℕ) (s : World) (right : Whereabouts) (owner : ℕ → ℕ) (r : KeepsRight seats s right owner)
     (i : ℕ) where

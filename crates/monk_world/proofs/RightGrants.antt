@@ -1,16 +1,13 @@
 -- A seat hands the right on: it grants the next ticket, or calls the seat that it chose
 use Rattle.std.proofs.Common.{◌≡◌, ◌≢◌, ℕ, ◌+◌, ◌%◌, ◌<◌, ◌≤◌, refl, ap, ◌∙◌, subst, arith}
-use Rattle.monk_world.specs.Places.{stage, ticket, back_turn, due_to, place_of, due_stage, back_stage, passing_stage}
-use Rattle.monk_world.specs.Places.{inside_stage, ticketed_stage}
-use Rattle.monk_world.specs.Update.{update}
-use Rattle.monk_world.specs.Right.{Whereabouts, AtTicket, AtSeat, KeepsRight, IsNext, UsesTicket, ChoseInner, Waits}
-use Rattle.monk_world.specs.Right.{PassesNext, OwnsTicket, WasGranted, LeavesLow}
-use Rattle.monk_world.specs.Steps.{after_ticket_grant, after_seat_grant}
-use Rattle.monk_world.specs.World.{World}
-use Rattle.monk_world.specs.declared.home.Home.{Home}
-use Rattle.monk_world.specs.declared.place.Place.{Place}
 use Rattle.monk_world.proofs.Holders.{held, with_none, home_has_none, at_home, waiter_stays, others, other_stage}
 use Rattle.monk_world.proofs.UpdateLaws.{at_update, update_here, update_else, all_back}
+use Rattle.monk_world.specs.{Update.update, World.World, declared.home.Home.Home, declared.place.Place.Place}
+use Rattle.monk_world.specs.Places.{stage, ticket, back_turn, due_to, place_of, due_stage, back_stage, passing_stage}
+use Rattle.monk_world.specs.Places.{inside_stage, ticketed_stage}
+use Rattle.monk_world.specs.Steps.{after_ticket_grant, after_seat_grant}
+use Rattle.monk_world.specs.Right.{Whereabouts, AtTicket, AtSeat, KeepsRight, IsNext, UsesTicket, ChoseInner, Waits}
+use Rattle.monk_world.specs.Right.{PassesNext, OwnsTicket, WasGranted, LeavesLow}
 
 module _ (seats : ℕ) (s : World) (right : Whereabouts) (owner : ℕ → ℕ) (r : KeepsRight seats s right owner)
     (i : ℕ) where

@@ -1,16 +1,13 @@
 -- A seat that looks finds the right only where it is, and takes it
 use Rattle.std.proofs.Common.{◌≡◌, ◌≢◌, ℕ, true, ◌+◌, ◌%◌, ◌<◌, ◌≤◌, sym, ap, ◌∙◌, subst, inl, inr, mod-lt, arith}
-use Rattle.monk_world.specs.Places.{stage, ticket, ticketed_stage, due_stage, passing_stage, inside_stage}
-use Rattle.monk_world.specs.Update.{update}
-use Rattle.monk_world.specs.Right.{Whereabouts, AtTicket, With, AtSeat, KeepsRight, IsNext, UsesTicket, ChoseInner}
-use Rattle.monk_world.specs.Right.{PassesNext, OwnsTicket, WasGranted, LeavesLow}
-use Rattle.monk_world.specs.Steps.{after_ticket_look, after_seat_look}
-use Rattle.monk_world.specs.World.{World}
-use Rattle.monk_world.specs.declared.place.Place.{Place}
-use Rattle.monk_world.specs.declared.place.Place.TheVariants.{Due}
-use Rattle.monk_world.specs.declared.source.Source.TheVariants.{Granted, Called}
 use Rattle.monk_world.proofs.Holders.{held, called_tells, alone_with, waiter_stays}
 use Rattle.monk_world.proofs.UpdateLaws.{at_update, update_else, all_back}
+use Rattle.monk_world.specs.{Update.update, Steps.after_ticket_look, Steps.after_seat_look, World.World}
+use Rattle.monk_world.specs.Places.{stage, ticket, ticketed_stage, due_stage, passing_stage, inside_stage}
+use Rattle.monk_world.specs.Right.{Whereabouts, AtTicket, With, AtSeat, KeepsRight, IsNext, UsesTicket, ChoseInner}
+use Rattle.monk_world.specs.Right.{PassesNext, OwnsTicket, WasGranted, LeavesLow}
+use Rattle.monk_world.specs.declared.place.Place.{Place, TheVariants.Due}
+use Rattle.monk_world.specs.declared.source.Source.TheVariants.{Granted, Called}
 
 module _ (seats : ℕ) (s : World) (right : Whereabouts) (owner : ℕ → ℕ) (r : KeepsRight seats s right owner)
     (i : ℕ) where

@@ -1,38 +1,29 @@
 -- What every run leads to
 use Rattle.std.proofs.Common.{◌≡◌, ◌≢◌, ℕ, zero, suc, Bool, true, ◌≤◌, inl, inr, false, List, [], ◌∷◌, sym, refl, ap, ◌∙◌, subst, arith}
-use Rattle.std.specs.Prelude.{nat_lt}
-use Rattle.std.proofs.lemmas.Bool.{cases_eq}
-use Rattle.monk_kinds.specs.Kind.{IsKind}
-use Rattle.monk_kinds.specs.declared.mode.Rules.{Rules}
+use Rattle.std.{specs.Prelude.nat_lt, proofs.lemmas.Bool.cases_eq}
+use Rattle.monk_kinds.specs.{Kind.IsKind, declared.mode.Rules.Rules}
 use Rattle.monk_object.specs.Object.{Object}
-use Rattle.monk_history.specs.Meaning.Counts.{left_of, enters_of}
-use Rattle.monk_history.specs.Meaning.Situation.{Situation, situation}
-use Rattle.monk_history.specs.Meaning.Standing.{standing, times_in_conditions}
-use Rattle.monk_history.specs.Meaning.Step.{opening_situation}
-use Rattle.monk_history.specs.Meaning.Turn.{turn}
-use Rattle.monk_history.specs.Meaning.Untils.{ready_of}
 use Rattle.monk_history.specs.declared.event.Next.TheVariants as next
+use Rattle.monk_history.proofs.PublicLaws.Meaning.{enters_none, legal_none, situation-none}
+use Rattle.monk_history.specs.Meaning.{Situation.Situation, Situation.situation, Standing.standing}
+use Rattle.monk_history.specs.Meaning.{Standing.times_in_conditions, Step.opening_situation, Turn.turn, Untils.ready_of}
+use Rattle.monk_history.specs.Meaning.Counts.{left_of, enters_of}
 use Rattle.monk_history.specs.declared.event.Turn.{Turn}
 use Rattle.monk_history.specs.declared.event.Turn.TheVariants.{Open, Due as DueTurn, Owned}
-use Rattle.monk_history.proofs.PublicLaws.Meaning.{enters_none, legal_none, situation-none}
 use Rattle.monk_floor.specs.View.{FloorView, monitor_of, empty_floor}
-use Rattle.monk_world.specs.Enters.{used_at}
-use Rattle.monk_world.specs.Laws.{OpeningIsSound}
-use Rattle.monk_world.specs.Places.{stage, ticket, source, owned_by, due_stage, active_stage, inside_stage, granted_source}
-use Rattle.monk_world.specs.Right.{Whereabouts, Nowhere, AtTicket, With, AtSeat}
-use Rattle.monk_world.specs.Runs.{opening_state, Told, IsRun, IsWellLed, RunsAreWellLed}
-use Rattle.monk_world.specs.Sound.{IsSound, Sound, left_at}
-use Rattle.monk_world.specs.Stands.{Stands, opening_world}
-use Rattle.monk_world.specs.State.{State, is_standing, is_quiet}
-use Rattle.monk_world.specs.Turns.{FitsTurn, turn_number, turn_at}
+use Rattle.monk_world.proofs.EntersLaws as enters
+use Rattle.monk_world.proofs.{OnePlaceLaws.in_one_place, SoundSteps.step_is_sound, StepLaws.opening_stands}
+use Rattle.monk_world.proofs.{TestLaws.is_quiet-true}
+use Rattle.monk_world.specs.{Enters.used_at, Laws.OpeningIsSound, Stands.Stands, Stands.opening_world, State.State}
+use Rattle.monk_world.specs.{State.is_standing, State.is_quiet, Turns.FitsTurn, Turns.turn_number, Turns.turn_at}
 use Rattle.monk_world.specs.declared.place.Place.{Place}
 use Rattle.monk_world.specs.declared.place.Place.TheVariants.{Idle, Ticket, Due, Active, Back, Passing, Inner}
 use Rattle.monk_world.specs.declared.source.Source.TheVariants.{Free, Granted, Called}
-use Rattle.monk_world.proofs.EntersLaws as enters
-use Rattle.monk_world.proofs.OnePlaceLaws.{in_one_place}
-use Rattle.monk_world.proofs.SoundSteps.{step_is_sound}
-use Rattle.monk_world.proofs.StepLaws.{opening_stands}
-use Rattle.monk_world.proofs.TestLaws.{is_quiet-true}
+use Rattle.monk_world.specs.Right.{Whereabouts, Nowhere, AtTicket, With, AtSeat}
+use Rattle.monk_world.specs.Places.{stage, ticket, source, owned_by, due_stage, active_stage, inside_stage}
+use Rattle.monk_world.specs.Places.{granted_source}
+use Rattle.monk_world.specs.Sound.{IsSound, Sound, left_at}
+use Rattle.monk_world.specs.Runs.{opening_state, Told, IsRun, IsWellLed, RunsAreWellLed}
 
 no_times : (n j : ℕ) → times_in_conditions n j (λ c. []) ≡ 0
 no_times zero j = refl

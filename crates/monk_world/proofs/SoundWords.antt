@@ -4,33 +4,25 @@ use Rattle.std.proofs.Common.{subst, inl, inr, arith, eqb-true}
 use Rattle.std.proofs.lemmas.Bool.Decides.{eqb_tells}
 use Rattle.monk_kinds.specs.declared.mode.Rules.{Rules}
 use Rattle.monk_object.specs.Object.{Object}
-use Rattle.monk_history.specs.Meaning.Counts.{left_of, enters_of}
-use Rattle.monk_history.specs.Meaning.Turn.{turn}
-use Rattle.monk_history.specs.declared.event.Next.{Next}
-use Rattle.monk_history.specs.declared.event.Next.TheVariants.{Entry}
-use Rattle.monk_history.specs.declared.event.Turn.TheVariants.{Owned}
-use Rattle.monk_world.specs.Enters.{FitsEnters}
+use Rattle.monk_history.specs.Meaning.{Counts.left_of, Counts.enters_of, Turn.turn}
+use Rattle.monk_history.specs.declared.event.{Next.Next, Next.TheVariants.Entry, Turn.TheVariants.Owned}
+use Rattle.monk_world.specs.declared.home.Home.TheVariants as home
+use Rattle.monk_world.proofs.EntersLaws as enters
+use Rattle.monk_world.proofs.{Holders.at_home, Holders.others, RightLooks.grant_is_there, RightLooks.call_is_there}
+use Rattle.monk_world.proofs.StepLaws.{arrive_keeps_the_right, ticket_look_keeps_the_right, seat_look_keeps_the_right}
+use Rattle.monk_world.proofs.StepLaws.{drop_keeps_the_right, ticket_grant_keeps_the_right, seat_grant_keeps_the_right}
+use Rattle.monk_world.proofs.UpdateLaws.{at_update, update_same}
+use Rattle.monk_world.specs.{Enters.FitsEnters, Update.update, Sound.IsSound, Sound.Sound, Sound.left_at}
+use Rattle.monk_world.specs.{Sound.left_within, Stands.Stands, State.State, State.is_standing, State.is_quiet}
+use Rattle.monk_world.specs.{Steps.after_arrive, Steps.after_ticket_look, Steps.after_seat_look, Steps.after_drop}
+use Rattle.monk_world.specs.{Steps.after_ticket_grant, Steps.after_seat_grant, Turns.turn_number, World.World}
 use Rattle.monk_world.specs.Places.{stage, ticket, source, due_to, turn_of_next, place_of, outside_stage}
 use Rattle.monk_world.specs.Places.{ticketed_stage, due_stage, active_stage, back_stage, passing_stage, granted_source}
-use Rattle.monk_world.specs.Update.{update}
 use Rattle.monk_world.specs.Right.{Whereabouts, Nowhere, AtTicket, With, AtSeat}
-use Rattle.monk_world.specs.Sound.{IsSound, Sound, left_at, left_within}
-use Rattle.monk_world.specs.Stands.{Stands}
-use Rattle.monk_world.specs.State.{State, is_standing, is_quiet}
-use Rattle.monk_world.specs.Steps.{after_arrive, after_ticket_look, after_seat_look, after_drop, after_ticket_grant, after_seat_grant}
-use Rattle.monk_world.specs.Turns.{turn_number}
-use Rattle.monk_world.specs.World.{World}
-use Rattle.monk_world.specs.declared.home.Home.{Home}
-use Rattle.monk_world.specs.declared.home.Home.TheVariants as home
 use Rattle.monk_world.specs.declared.place.Place.{Place}
 use Rattle.monk_world.specs.declared.place.Place.TheVariants.{Idle, Ticket, Due, Back, Passing, Inner}
 use Rattle.monk_world.specs.declared.source.Source.TheVariants.{Free, Granted, Called}
-use Rattle.monk_world.proofs.EntersLaws as enters
-use Rattle.monk_world.proofs.Holders.{at_home, others}
-use Rattle.monk_world.proofs.UpdateLaws.{at_update, update_same}
-use Rattle.monk_world.proofs.RightLooks.{grant_is_there, call_is_there}
-use Rattle.monk_world.proofs.StepLaws.{arrive_keeps_the_right, ticket_look_keeps_the_right, seat_look_keeps_the_right}
-use Rattle.monk_world.proofs.StepLaws.{drop_keeps_the_right, ticket_grant_keeps_the_right, seat_grant_keeps_the_right}
+use Rattle.monk_world.specs.declared.home.Home.{Home}
 
 home_left : (h : Home) → left_at (place_of h) ≡ left_within h
 home_left home.Idle = refl

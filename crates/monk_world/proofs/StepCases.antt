@@ -4,13 +4,11 @@ use Rattle.std.specs.Prelude.{not, Option, Some, None}
 use Rattle.monk_kinds.specs.declared.mode.Rules.{Rules}
 use Rattle.monk_object.specs.Object.{Object}
 use Rattle.monk_history.specs.declared.event.Next.TheVariants as next
-use Rattle.monk_world.specs.Laws.{StepsAreAnswered, StepsAreDetermined}
-use Rattle.monk_world.specs.State.{State}
-use Rattle.monk_world.specs.StepTable.{may_be_told, refusal, IsDone, IsAnswered}
-use Rattle.monk_world.specs.declared.answer.Answer.{Answer}
 use Rattle.monk_world.specs.declared.answer.Answer.TheVariants as answer
-use Rattle.monk_world.specs.declared.command.Command.{Command}
 use Rattle.monk_world.specs.declared.command.Command.TheVariants as command
+use Rattle.monk_world.specs.{Laws.StepsAreAnswered, Laws.StepsAreDetermined, State.State}
+use Rattle.monk_world.specs.StepTable.{may_be_told, refusal, IsDone, IsAnswered}
+use Rattle.monk_world.specs.declared.{answer.Answer.Answer, command.Command.Command}
 use Rattle.monk_world.specs.declared.place.Place.{Place}
 use Rattle.monk_world.specs.declared.place.Place.TheVariants.{Idle, Ticket, Due, Active, Back, Passing, Inner}
 

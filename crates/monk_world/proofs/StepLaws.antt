@@ -1,30 +1,24 @@
 -- Each kind of step keeps a world in agreement with its history
 use Rattle.std.proofs.Common.{◌≡◌, ◌≢◌, ℕ, true, false, ◌+◌, ◌-◌, ◌%◌, ◌==◌, ◌≤◌, inl, inr, sym, refl, ap, ◌∙◌, subst}
-use Rattle.std.proofs.Common.{cond, Bool, arith, eqb-true}
-use Rattle.std.proofs.lemmas.Bool.Decides.{eqb_tells}
-use Rattle.monk_world.specs.Laws.{OpeningStands, ArriveKeeps, TicketLookKeeps, SeatLookKeeps, FloorOutKeeps}
-use Rattle.monk_world.specs.Laws.{ActiveKeeps, FloorInKeeps, DropKeeps, TicketGrantKeeps, SeatGrantKeeps}
-use Rattle.monk_world.specs.Laws.{StandsInOnePlace}
+use Rattle.std.proofs.{Common.cond, Common.Bool, Common.arith, Common.eqb-true, lemmas.Bool.Decides.eqb_tells}
+use Rattle.monk_world.proofs.QueueingLaws as queues
+use Rattle.monk_world.proofs.TurnLaws as turns
+use Rattle.monk_world.proofs.{Holders.held, OnePlaceLaws.in_one_place, UpdateLaws.update_same, RightDrops.drops_last}
+use Rattle.monk_world.proofs.{RightDrops.drops_more, RightFloor.comes_out, RightFloor.goes_home}
+use Rattle.monk_world.proofs.RightLooks.{finds_grant, finds_call, grant_is_there, call_is_there}
+use Rattle.monk_world.proofs.RightArrives.{draws_free, draws_wait}
+use Rattle.monk_world.proofs.RightGrants.{grants_ticket, calls_seat}
+use Rattle.monk_world.specs.{Update.update, Stands.Stands, Steps.after_ticket_look, Steps.after_ticket_grant}
 use Rattle.monk_world.specs.Places.{stage, ticket, back_turn, due_to, turn_of_next, place_of, is_queued_at}
 use Rattle.monk_world.specs.Places.{outside_stage, ticketed_stage, due_stage, active_stage, back_stage, passing_stage}
 use Rattle.monk_world.specs.Places.{inside_stage}
-use Rattle.monk_world.specs.Update.{update}
-use Rattle.monk_world.specs.Right.{KeepsRight, Nowhere, AtTicket, With}
-use Rattle.monk_world.specs.Stands.{Stands}
-use Rattle.monk_world.specs.Steps.{after_ticket_look, after_ticket_grant}
 use Rattle.monk_world.specs.declared.place.Place.{Place}
 use Rattle.monk_world.specs.declared.place.Place.TheVariants.{Idle, Ticket, Due, Active, Back, Passing, Inner}
 use Rattle.monk_world.specs.declared.source.Source.TheVariants.{Free}
-use Rattle.monk_world.proofs.Holders.{held}
-use Rattle.monk_world.proofs.OnePlaceLaws.{in_one_place}
-use Rattle.monk_world.proofs.UpdateLaws.{update_same}
-use Rattle.monk_world.proofs.QueueingLaws as queues
-use Rattle.monk_world.proofs.RightArrives.{draws_free, draws_wait}
-use Rattle.monk_world.proofs.RightDrops.{drops_last, drops_more}
-use Rattle.monk_world.proofs.RightFloor.{comes_out, goes_home}
-use Rattle.monk_world.proofs.RightGrants.{grants_ticket, calls_seat}
-use Rattle.monk_world.proofs.RightLooks.{finds_grant, finds_call, grant_is_there, call_is_there}
-use Rattle.monk_world.proofs.TurnLaws as turns
+use Rattle.monk_world.specs.Laws.{OpeningStands, ArriveKeeps, TicketLookKeeps, SeatLookKeeps, FloorOutKeeps}
+use Rattle.monk_world.specs.Laws.{ActiveKeeps, FloorInKeeps, DropKeeps, TicketGrantKeeps, SeatGrantKeeps}
+use Rattle.monk_world.specs.Laws.{StandsInOnePlace}
+use Rattle.monk_world.specs.Right.{KeepsRight, Nowhere, AtTicket, With}
 
 pub opening_stands : OpeningStands
 opening_stands seats = record {

@@ -1,21 +1,14 @@
 -- A stored list, read as a function of its places, after a store at one of them
 use Rattle.std.proofs.Common.{◌≡◌, ℕ, ◌<◌, Bool, true, false, cond, get_or, List, length, set, refl, ap, ◌∙◌, arith}
-use Rattle.std.proofs.Common.{get_or-set_same, get_or-set_other}
+use Rattle.std.proofs.{Common.get_or-set_same, Common.get_or-set_other, lemmas.List.get_or_read}
 use Rattle.std.specs.Prelude.{slice_index_or, Some}
-use Rattle.std.proofs.lemmas.List.{get_or_read}
-use Rattle.monk_history.specs.Meaning.Events.{is_stay}
-use Rattle.monk_history.specs.declared.event.Next.{Next}
+use Rattle.monk_history.specs.{Meaning.Events.is_stay, declared.event.Next.Next}
 use Rattle.monk_floor.specs.View.{FloorView}
-use Rattle.monk_world.specs.State.{State}
-use Rattle.monk_world.specs.Steps.{after_floor_in}
-use Rattle.monk_world.specs.declared.home.Home.{Home}
-use mathlib.Core.Path.{Path}
-use Rattle.monk_world.specs.Update.{update}
-use Rattle.monk_world.specs.WorldViews.{world_on, state_in}
-use Rattle.monk_world.specs.declared.place.Place.{Place}
-use Rattle.monk_world.specs.declared.place.Place.TheVariants.{Idle, Back}
-use Rattle.monk_world.specs.declared.words.WorldWords.{WorldWords}
 use Rattle.monk_world.proofs.UpdateLaws.{at_update, update_same}
+use Rattle.monk_world.specs.{State.State, Steps.after_floor_in, Update.update, WorldViews.world_on, WorldViews.state_in}
+use Rattle.monk_world.specs.declared.{home.Home.Home, words.WorldWords.WorldWords}
+use Rattle.monk_world.specs.declared.place.Place.{Place, TheVariants.Idle, TheVariants.Back}
+use mathlib.Core.Path.{Path}
 
 pub stored : {X : Type 0} (xs : List X) (i : ℕ) (x d : X) → i < length xs
     → Path (ℕ → X) (λ j. slice_index_or (set xs i x) j d) (update (λ j. slice_index_or xs j d) i x)

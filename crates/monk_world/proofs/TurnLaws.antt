@@ -1,20 +1,15 @@
 -- Each step keeps the turn of the history in agreement with where the right is
 use Rattle.std.proofs.Common.{◌≡◌, ◌≢◌, ℕ, ◌+◌, ◌-◌, ◌≤◌, sym, refl, ap, ◌∙◌, subst, arith}
-use Rattle.monk_history.specs.declared.event.Next.{Next}
-use Rattle.monk_history.specs.declared.event.Next.TheVariants.{Entry}
-use Rattle.monk_world.specs.Places.{stage, due_to, turn_of_next, place_of, due_stage, active_stage, passing_stage}
-use Rattle.monk_world.specs.Update.{update}
-use Rattle.monk_world.specs.Right.{Whereabouts, Nowhere, AtTicket, With, AtSeat, KeepsRight}
-use Rattle.monk_world.specs.Turns.{FitsTurn, turn_at}
+use Rattle.monk_history.specs.declared.event.Next.{Next, TheVariants.Entry}
+use Rattle.monk_world.proofs.{Holders.held, Holders.holds, UpdateLaws.update_here, UpdateLaws.update_else}
+use Rattle.monk_world.specs.{Update.update, Turns.FitsTurn, Turns.turn_at, World.World}
 use Rattle.monk_world.specs.Steps.{after_floor_out, after_floor_in, after_ticket_grant, after_seat_grant}
-use Rattle.monk_world.specs.World.{World}
-use Rattle.monk_world.specs.declared.home.Home.{Home}
 use Rattle.monk_world.specs.declared.place.Place.{Place}
 use Rattle.monk_world.specs.declared.place.Place.TheVariants.{Idle, Ticket, Due, Active, Back, Passing}
-use Rattle.monk_world.specs.declared.source.Source.{Source}
-use Rattle.monk_world.specs.declared.source.Source.TheVariants.{Free, Granted, Called}
-use Rattle.monk_world.proofs.Holders.{held, holds}
-use Rattle.monk_world.proofs.UpdateLaws.{update_here, update_else}
+use Rattle.monk_world.specs.declared.source.Source.{Source, TheVariants.Free, TheVariants.Granted, TheVariants.Called}
+use Rattle.monk_world.specs.declared.home.Home.{Home}
+use Rattle.monk_world.specs.Right.{Whereabouts, Nowhere, AtTicket, With, AtSeat, KeepsRight}
+use Rattle.monk_world.specs.Places.{stage, due_to, turn_of_next, place_of, due_stage, active_stage, passing_stage}
 
 module _ (seats : ℕ) (s : World) (right : Whereabouts) (owner : ℕ → ℕ) (r : KeepsRight seats s right owner) (turn : ℕ)
     (f : FitsTurn s right turn) (i : ℕ) where

@@ -8,20 +8,14 @@ use Rattle.monk_history.specs.Limits.{most_seats, most_conds, least_budget, most
 use Rattle.monk_history.specs.Meaning.Counts.{left_of, events_of}
 use Rattle.monk_floor.specs.Making as make
 use Rattle.monk_floor.specs.declared.fault.MakeFault.TheVariants as fault
-use Rattle.monk_world.specs.Runs.{opening_state}
-use Rattle.monk_world.specs.Stands.{opening_world}
-use Rattle.monk_world.proofs.RunLaws.{opening_is_sound}
 use Rattle.monk_floor.specs.View.{FloorView, empty_floor}
-use Rattle.monk_world.specs.Kept.{IsKept}
-use Rattle.monk_world.specs.State.{State}
-use Rattle.monk_world.specs.StepTable.{may_be_told, is_call_in_range, is_call_offered, call_of, left_for}
-use Rattle.monk_world.specs.StepTable.{refusal}
 use Rattle.monk_world.specs.Telling as telling
-use Rattle.monk_world.specs.WorldViews.{state_in}
 use Rattle.monk_world.specs.declared.answer.Answer.TheVariants as answer
-use Rattle.monk_world.specs.declared.command.Command.{Command}
 use Rattle.monk_world.specs.declared.command.Command.TheVariants as command
-use Rattle.monk_world.specs.declared.words.WorldWords.{WorldWords}
+use Rattle.monk_world.proofs.RunLaws.{opening_is_sound}
+use Rattle.monk_world.specs.{Runs.opening_state, Stands.opening_world, Kept.IsKept, State.State, WorldViews.state_in}
+use Rattle.monk_world.specs.StepTable.{may_be_told, is_call_in_range, is_call_offered, call_of, left_for, refusal}
+use Rattle.monk_world.specs.declared.{command.Command.Command, words.WorldWords.WorldWords}
 
 -- a world before any step
 

@@ -1,11 +1,9 @@
 -- The enters of the history agree with the tickets
 use Rattle.std.specs.Prelude.{◌≡◌, ℕ, ◌+◌}
-use Rattle.monk_world.specs.Right.{Whereabouts, Nowhere, AtTicket, With, AtSeat}
-use Rattle.monk_world.specs.World.{World}
+use Rattle.monk_world.specs.{Right.Whereabouts, Right.Nowhere, Right.AtTicket, Right.With, Right.AtSeat, World.World}
 use Rattle.monk_world.specs.declared.place.Place.{Place}
 use Rattle.monk_world.specs.declared.place.Place.TheVariants.{Idle, Ticket, Due, Active, Back, Passing, Inner}
-use Rattle.monk_world.specs.declared.source.Source.{Source}
-use Rattle.monk_world.specs.declared.source.Source.TheVariants.{Free, Granted, Called}
+use Rattle.monk_world.specs.declared.source.Source.{Source, TheVariants.Free, TheVariants.Granted, TheVariants.Called}
 
 -- 1 if the seat was called from a queue, and else 0
 abbrev pub used_by : Source → ℕ

@@ -2,10 +2,8 @@
 use Rattle.std.specs.Prelude.{◌≡◌, ℕ, zero, suc, ◌+◌, ◌≤◌, length}
 use Rattle.monk_kinds.specs.declared.mode.Rules.{Rules}
 use Rattle.monk_object.specs.Object.{Object}
-use Rattle.monk_history.specs.Limits.{most_seats, most_budget}
-use Rattle.monk_history.specs.Meaning.Counts.{events_of}
-use Rattle.monk_world.specs.Sound.{Sound}
-use Rattle.monk_world.specs.State.{State}
+use Rattle.monk_history.specs.{Limits.most_seats, Limits.most_budget, Meaning.Counts.events_of}
+use Rattle.monk_world.specs.{Sound.Sound, State.State}
 use Rattle.monk_world.specs.declared.place.Place.{Place}
 use Rattle.monk_world.specs.declared.place.Place.TheVariants.{Idle, Ticket, Due, Active, Back, Passing, Inner}
 use Rattle.monk_world.specs.declared.source.Source.TheVariants.{Free, Granted, Called}

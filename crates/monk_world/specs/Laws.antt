@@ -1,27 +1,18 @@
 -- What each kind of step keeps
 use Rattle.std.specs.Prelude.{◌≡◌, ◌≢◌, ℕ, ◌+◌, ◌%◌, ◌<◌, ◌≤◌, ◌==◌, ◌⊎◌, Bool, List, true, false}
-use Rattle.monk_kinds.specs.Kind.{IsKind}
-use Rattle.monk_kinds.specs.declared.mode.Rules.{Rules}
+use Rattle.monk_kinds.specs.{Kind.IsKind, declared.mode.Rules.Rules}
 use Rattle.monk_object.specs.Object.{Object}
-use Rattle.monk_history.specs.declared.event.Next.{Next}
-use Rattle.monk_history.specs.declared.event.Next.TheVariants.{Entry}
-use Rattle.monk_world.specs.OnePlace.{IsInOnePlace}
+use Rattle.monk_history.specs.declared.event.Next.{Next, TheVariants.Entry}
+use Rattle.monk_world.specs.{OnePlace.IsInOnePlace, Runs.opening_state, Sound.Sound, Stands.Stands}
+use Rattle.monk_world.specs.{Stands.opening_world, State.State, StepTable.IsStep, World.World}
 use Rattle.monk_world.specs.Places.{open_turn, due_to, turn_of_next, stays_inside}
-use Rattle.monk_world.specs.Right.{Whereabouts, Nowhere, AtTicket, AtSeat}
-use Rattle.monk_world.specs.Runs.{opening_state}
-use Rattle.monk_world.specs.Sound.{Sound}
-use Rattle.monk_world.specs.Stands.{Stands, opening_world}
 use Rattle.monk_world.specs.Steps.{after_arrive, after_ticket_look, after_seat_look, after_floor_out, after_floor_in}
 use Rattle.monk_world.specs.Steps.{after_drop, after_ticket_grant, after_seat_grant, right_after_arrive}
 use Rattle.monk_world.specs.Steps.{owner_after_arrive, right_after_look, right_after_drop}
-use Rattle.monk_world.specs.State.{State}
-use Rattle.monk_world.specs.StepTable.{IsStep}
-use Rattle.monk_world.specs.World.{World}
-use Rattle.monk_world.specs.declared.answer.Answer.{Answer}
-use Rattle.monk_world.specs.declared.command.Command.{Command}
-use Rattle.monk_world.specs.declared.home.Home.{Home}
+use Rattle.monk_world.specs.Right.{Whereabouts, Nowhere, AtTicket, AtSeat}
+use Rattle.monk_world.specs.declared.{answer.Answer.Answer, command.Command.Command, home.Home.Home}
+use Rattle.monk_world.specs.declared.{source.Source.Source}
 use Rattle.monk_world.specs.declared.place.Place.TheVariants.{Idle, Ticket, Due, Active, Back, Passing, Inner}
-use Rattle.monk_world.specs.declared.source.Source.{Source}
 
 -- what a step keeps, for every world that fits its history
 abbrev pub Kept : (ℕ → World → Whereabouts → (ℕ → ℕ) → ℕ → (ℕ → Bool) → Bool → ℕ → Type 0) → Type 0

@@ -1,8 +1,7 @@
 -- The right to be active is in exactly one place: the statement without the numbers by which it is proved
 use Rattle.std.specs.Prelude.{◌≡◌, ℕ, ◌+◌, ◌%◌, ◌<◌, ◌↔◌}
-use Rattle.monk_world.specs.Places.{HoldsRight}
+use Rattle.monk_world.specs.{Places.HoldsRight, World.World}
 use Rattle.monk_world.specs.Right.{Whereabouts, Nowhere, AtTicket, With, AtSeat}
-use Rattle.monk_world.specs.World.{World}
 use Rattle.monk_world.specs.declared.place.Place.TheVariants.{Ticket, Inner}
 
 -- the one place is `right`. Each ticket after the one in use has a seat that waits with it, and no two seats wait

@@ -2,18 +2,16 @@
 pub mod Reading
 pub mod Laws
 use Rattle.std.specs.Prelude.{◌-◌, ℕ, ◌≤◌, ◌^◌, List, [], ◌∷◌, ◌++◌, codes}
-use Rattle.std.specs.List.{flat_map, AllByRecursion}
-use Rattle.std.specs.Fmt.{decimal}
-use Rattle.monk_kinds.specs.declared.mode.Pick.{Pick}
+use Rattle.std.specs.{List.flat_map, List.AllByRecursion, Fmt.decimal}
 use Rattle.monk_kinds.specs.declared.mode.Pick.TheVariants as pick
+use Rattle.monk_kinds.specs.declared.mode.Pick.{Pick}
 use Rattle.monk_history.specs.Limits.{least_budget, most_budget}
-use Rattle.monk_history.specs.Text.{Heading, IsHeading, part_words}
-use Rattle.monk_history.specs.Text.Lines.{line}
-use Rattle.monk_history.specs.Text.Words.{Word}
+use Rattle.monk_history.specs.Text.{Heading, IsHeading, part_words, Lines.line, Words.Word}
 use Rattle.monk_world.specs.Records.{AreToldIn}
 use Rattle.monk_world.specs.declared.command.Command.{Command}
 use Rattle.monk_world.specs.declared.command.Command.TheVariants.{Arrive, Look, Out, Peek, Drop, Grant, Act, Leave}
-use Rattle.monk_world.specs.declared.command.Command.TheVariants.{Wait, Signal, SignalLeave, Until, SignalAll, SignalWait}
+use Rattle.monk_world.specs.declared.command.Command.TheVariants.{Wait, Signal, SignalLeave, Until, SignalAll}
+use Rattle.monk_world.specs.declared.command.Command.TheVariants.{SignalWait}
 
 -- ---- words
 

@@ -1,25 +1,17 @@
 -- What each step of a run adds to the history
 use Rattle.std.specs.Prelude.{◌≡◌, ℕ, ◌≤◌, ◌==◌, nat_le, ◌⊎◌, Bool, true, IsTrue, List, [], ◌∷◌, ◌++◌, map, if◌then◌else◌}
 use Rattle.std.specs.List.{list_all}
-use Rattle.monk_kinds.specs.Kind.{IsKind}
-use Rattle.monk_kinds.specs.declared.mode.Rules.{Rules}
+use Rattle.monk_kinds.specs.{Kind.IsKind, declared.mode.Rules.Rules}
 use Rattle.monk_object.specs.Object.{Object}
-use Rattle.monk_history.specs.Meaning.Counts.{enters_of, events_of}
-use Rattle.monk_history.specs.Meaning.Events.{seat_of}
-use Rattle.monk_history.specs.declared.event.Event.{Event}
-use Rattle.monk_history.specs.declared.event.Event.TheVariants.{Enter}
 use Rattle.monk_history.specs.declared.event.Next.TheVariants as next
-use Rattle.monk_history.specs.declared.event.Via.{Via}
 use Rattle.monk_history.specs.declared.event.Via.TheVariants as via
 use Rattle.monk_history.specs.Text.{first_version}
-use Rattle.monk_world.specs.Runs.{Told, IsWellLed, opening_state}
-use Rattle.monk_world.specs.Sound.{Sound}
-use Rattle.monk_world.specs.State.{State, is_quiet}
-use Rattle.monk_world.specs.StepTable.{command_version, IsStep}
-use Rattle.monk_world.specs.Telling.{command_of, IsLed}
-use Rattle.monk_world.specs.declared.answer.Answer.{Answer}
+use Rattle.monk_history.specs.Meaning.{Counts.enters_of, Counts.events_of, Events.seat_of}
+use Rattle.monk_history.specs.declared.event.{Event.Event, Event.TheVariants.Enter, Via.Via}
 use Rattle.monk_world.specs.declared.answer.Answer.TheVariants as answer
-use Rattle.monk_world.specs.declared.command.Command.{Command}
+use Rattle.monk_world.specs.{Runs.Told, Runs.IsWellLed, Runs.opening_state, Sound.Sound, State.State, State.is_quiet}
+use Rattle.monk_world.specs.{StepTable.command_version, StepTable.IsStep, Telling.command_of, Telling.IsLed}
+use Rattle.monk_world.specs.declared.{answer.Answer.Answer, command.Command.Command}
 use Rattle.monk_world.specs.declared.place.Place.{Place}
 use Rattle.monk_world.specs.declared.place.Place.TheVariants.{Idle, Ticket, Due, Active, Back, Passing, Inner}
 use Rattle.monk_world.specs.declared.source.Source.TheVariants.{Free, Granted, Called}

@@ -1,9 +1,8 @@
 -- The right to be active is in one place
 use Rattle.std.specs.Prelude.{◌≡◌, ◌≢◌, ℕ, ◌+◌, ◌%◌, ◌<◌, ◌≤◌, ◌↔◌}
+use Rattle.monk_world.specs.{World.World, declared.place.Place.Place}
 use Rattle.monk_world.specs.Places.{HoldsRight, stage, ticket, source, back_turn, due_to, ticketed_stage, due_stage}
 use Rattle.monk_world.specs.Places.{back_stage, passing_stage, inside_stage, granted_source}
-use Rattle.monk_world.specs.World.{World}
-use Rattle.monk_world.specs.declared.place.Place.{Place}
 
 -- where the right is
 pub data Whereabouts : Type 0 where

@@ -1,23 +1,16 @@
 -- Runs over lists of commands, and what they lead to
 use Rattle.std.specs.Prelude.{◌≡◌, ◌≢◌, ℕ, ◌<◌, ◌≤◌, ◌↔◌, List, [], ◌∷◌}
-use Rattle.monk_kinds.specs.Kind.{IsKind}
-use Rattle.monk_kinds.specs.declared.mode.Rules.{Rules}
+use Rattle.std.specs.Prelude.{false}
+use Rattle.monk_kinds.specs.{Kind.IsKind, declared.mode.Rules.Rules}
 use Rattle.monk_object.specs.Object.{Object}
-use Rattle.monk_history.specs.Meaning.Counts.{left_of, enters_of}
-use Rattle.monk_history.specs.Meaning.Legal.{IsLegal}
-use Rattle.monk_history.specs.Meaning.Turn.{turn}
+use Rattle.monk_history.specs.Meaning.{Counts.left_of, Counts.enters_of, Legal.IsLegal, Turn.turn}
 use Rattle.monk_history.specs.declared.event.Turn.TheVariants.{Owned}
 use Rattle.monk_floor.specs.View.{monitor_of, empty_floor}
-use Rattle.monk_world.specs.OnePlace.{IsInOnePlace}
+use Rattle.monk_world.specs.{OnePlace.IsInOnePlace, Stands.opening_world, StepTable.IsStep}
 use Rattle.monk_world.specs.Places.{stage, is_queued_at, active_stage, inside_stage}
-use Rattle.monk_world.specs.Stands.{opening_world}
 use Rattle.monk_world.specs.State.{State, is_standing}
-use Rattle.monk_world.specs.StepTable.{IsStep}
-use Rattle.monk_world.specs.declared.answer.Answer.{Answer}
-use Rattle.monk_world.specs.declared.command.Command.{Command}
-use Rattle.monk_world.specs.declared.place.Place.TheVariants.{Due}
+use Rattle.monk_world.specs.declared.{answer.Answer.Answer, command.Command.Command, place.Place.TheVariants.Due}
 use Rattle.monk_world.specs.declared.source.Source.TheVariants.{Free, Granted}
-use Rattle.std.specs.Prelude.{false}
 
 -- a world before any step, over an object with this opening state
 abbrev pub opening_state : List ℕ → ℕ → ℕ → ℕ → State

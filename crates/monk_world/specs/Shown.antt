@@ -1,15 +1,13 @@
 -- Answers and places in words, and the grant that a seat looks for
 use Rattle.std.specs.Prelude.{ℕ, ◌+◌, ◌%◌, ◌==◌, Bool, true, false, List, [], ◌∷◌, codes}
 use Rattle.std.specs.Fmt.{decimal}
-use Rattle.monk_history.specs.Text.{next_words}
-use Rattle.monk_history.specs.Text.Words.{Word}
-use Rattle.monk_world.specs.State.{State}
-use Rattle.monk_world.specs.World.{World}
-use Rattle.monk_world.specs.declared.answer.Answer.{Answer}
-use Rattle.monk_world.specs.declared.answer.Answer.TheVariants.{Arrived, Looked, Found, Now, Chose, GrantedTicket, GrantedSeat}
-use Rattle.monk_world.specs.declared.answer.Answer.TheVariants.{Reply, Woke, Range, NoCall, NotNow, Tired}
+use Rattle.monk_history.specs.Text.{next_words, Words.Word}
+use Rattle.monk_world.specs.{State.State, World.World}
 use Rattle.monk_world.specs.declared.place.Place.{Place}
 use Rattle.monk_world.specs.declared.place.Place.TheVariants.{Idle, Ticket, Due, Active, Back, Passing, Inner}
+use Rattle.monk_world.specs.declared.answer.Answer.{Answer}
+use Rattle.monk_world.specs.declared.answer.Answer.TheVariants.{Arrived, Looked, Found, Now, Chose, GrantedTicket}
+use Rattle.monk_world.specs.declared.answer.Answer.TheVariants.{GrantedSeat, Reply, Woke, Range, NoCall, NotNow, Tired}
 
 -- the words of an answer
 abbrev pub answer_words : Answer → List Word

@@ -2,21 +2,17 @@
 use Rattle.std.specs.Prelude.{◌≡◌, ℕ, ◌≤◌, true}
 use Rattle.monk_kinds.specs.declared.mode.Rules.{Rules}
 use Rattle.monk_object.specs.Object.{Object}
-use Rattle.monk_history.specs.Meaning.Counts.{left_of, enters_of}
-use Rattle.monk_history.specs.Meaning.Legal.{IsLegal}
-use Rattle.monk_history.specs.Meaning.Turn.{turn}
+use Rattle.monk_history.specs.Meaning.{Counts.left_of, Counts.enters_of, Legal.IsLegal, Turn.turn}
 use Rattle.monk_history.specs.declared.event.Turn.TheVariants.{Owned}
 use Rattle.monk_floor.specs.View.{monitor_of}
-use Rattle.monk_world.specs.Enters.{FitsEnters}
-use Rattle.monk_world.specs.Places.{stage, ticket, source, outside_stage, ticketed_stage, due_stage, active_stage, granted_source}
-use Rattle.monk_world.specs.Right.{Whereabouts}
-use Rattle.monk_world.specs.Stands.{Stands}
-use Rattle.monk_world.specs.State.{State, is_standing, is_quiet}
-use Rattle.monk_world.specs.Turns.{turn_number}
-use Rattle.monk_world.specs.declared.home.Home.{Home}
 use Rattle.monk_world.specs.declared.home.Home.TheVariants as home
+use Rattle.monk_world.specs.{Enters.FitsEnters, Right.Whereabouts, Stands.Stands, Turns.turn_number}
+use Rattle.monk_world.specs.Places.{stage, ticket, source, outside_stage, ticketed_stage, due_stage, active_stage}
+use Rattle.monk_world.specs.Places.{granted_source}
+use Rattle.monk_world.specs.State.{State, is_standing, is_quiet}
 use Rattle.monk_world.specs.declared.place.Place.{Place}
 use Rattle.monk_world.specs.declared.place.Place.TheVariants.{Idle, Ticket, Due, Active, Back, Passing, Inner}
+use Rattle.monk_world.specs.declared.home.Home.{Home}
 
 -- how many events a seat still needs inside
 abbrev pub left_within : Home → ℕ

@@ -1,10 +1,7 @@
 -- A world that fits its history
 use Rattle.std.specs.Prelude.{ℕ, Bool}
+use Rattle.monk_world.specs.{Turns.FitsTurn, Queueing.FitsQueues, World.World, declared.place.Place.TheVariants.Idle}
 use Rattle.monk_world.specs.Right.{Whereabouts, KeepsRight}
-use Rattle.monk_world.specs.Turns.{FitsTurn}
-use Rattle.monk_world.specs.Queueing.{FitsQueues}
-use Rattle.monk_world.specs.World.{World}
-use Rattle.monk_world.specs.declared.place.Place.TheVariants.{Idle}
 
 -- the right is in one place, and turn and queues agree with it
 pub record Stands (seats : ℕ) (w : World) (right : Whereabouts) (owner : ℕ → ℕ) (turn : ℕ) (queued : ℕ → Bool)

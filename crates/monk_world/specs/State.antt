@@ -2,11 +2,8 @@
 use Rattle.std.specs.Prelude.{ℕ, Bool, nat_lt, ◌&&◌, [], ◌∷◌, ◌++◌}
 use Rattle.monk_kinds.specs.declared.mode.Rules.{Rules}
 use Rattle.monk_object.specs.Object.{Object}
-use Rattle.monk_history.specs.Meaning.Monitor.{data_of}
-use Rattle.monk_history.specs.Meaning.Waiters.{waiters}
-use Rattle.monk_history.specs.Meaning.Signallers.{signallers, is_empty}
-use Rattle.monk_history.specs.Meaning.Standing.{standing}
-use Rattle.monk_history.specs.Meaning.Untils.{untils, ready_of}
+use Rattle.monk_history.specs.Meaning.{Monitor.data_of, Waiters.waiters, Signallers.signallers, Signallers.is_empty}
+use Rattle.monk_history.specs.Meaning.{Standing.standing, Untils.untils, Untils.ready_of}
 use Rattle.monk_history.specs.declared.event.Event.{Event}
 use Rattle.monk_floor.specs.View.{FloorView, monitor_of, stands_of}
 use Rattle.monk_world.specs.World.{World}

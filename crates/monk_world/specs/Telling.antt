@@ -1,14 +1,13 @@
 -- Commands in order, and the tests of a command that need no state
 use Rattle.std.specs.Prelude.{◌≡◌, ℕ, Bool, List, true, not, ◌&&◌, nat_lt, map}
-use Rattle.monk_kinds.specs.declared.mode.Mode.{Mode}
-use Rattle.monk_kinds.specs.declared.mode.Rules.{Rules}
+use Rattle.monk_kinds.specs.declared.mode.{Mode.Mode, Rules.Rules}
 use Rattle.monk_object.specs.Object.{Object}
 use Rattle.monk_history.specs.Meaning.Events.{has_conditions, has_signaller_queue, returns_at_once, is_non_blocking}
-use Rattle.monk_world.specs.Runs.{Told, IsRun}
-use Rattle.monk_world.specs.State.{State}
+use Rattle.monk_world.specs.{Runs.Told, Runs.IsRun, State.State}
 use Rattle.monk_world.specs.declared.command.Command.{Command}
 use Rattle.monk_world.specs.declared.command.Command.TheVariants.{Arrive, Look, Out, Peek, Drop, Grant, Act, Leave}
-use Rattle.monk_world.specs.declared.command.Command.TheVariants.{Wait, Signal, SignalLeave, Until, SignalAll, SignalWait}
+use Rattle.monk_world.specs.declared.command.Command.TheVariants.{Wait, Signal, SignalLeave, Until, SignalAll}
+use Rattle.monk_world.specs.declared.command.Command.TheVariants.{SignalWait}
 
 -- the condition, the predicate and the code are in range
 abbrev pub is_command_in_range : ℕ → ℕ → ℕ → Command → Bool

@@ -1,14 +1,11 @@
 -- The turn of the history agrees with where the right is
 use Rattle.std.specs.Prelude.{◌≡◌, ◌≢◌, ℕ}
-use Rattle.monk_history.specs.declared.event.Turn.{Turn}
-use Rattle.monk_history.specs.declared.event.Turn.TheVariants.{Open, Due, Owned}
-use Rattle.monk_world.specs.Places.{stage, open_turn, due_to, owned_by, turn_of_next, active_stage}
-use Rattle.monk_world.specs.Right.{Whereabouts, Nowhere, AtTicket, With, AtSeat}
-use Rattle.monk_world.specs.World.{World}
-use Rattle.monk_world.specs.declared.place.Place.{Place}
+use Rattle.monk_history.specs.declared.event.Turn.{Turn, TheVariants.Open, TheVariants.Due, TheVariants.Owned}
 use Rattle.monk_world.specs.declared.place.Place.TheVariants as at
-use Rattle.monk_world.specs.declared.source.Source.{Source}
-use Rattle.monk_world.specs.declared.source.Source.TheVariants.{Free, Granted, Called}
+use Rattle.monk_world.specs.{Right.Whereabouts, Right.Nowhere, Right.AtTicket, Right.With, Right.AtSeat, World.World}
+use Rattle.monk_world.specs.Places.{stage, open_turn, due_to, owned_by, turn_of_next, active_stage}
+use Rattle.monk_world.specs.declared.place.Place.{Place}
+use Rattle.monk_world.specs.declared.source.Source.{Source, TheVariants.Free, TheVariants.Granted, TheVariants.Called}
 
 -- the number of a turn
 abbrev pub turn_number : Turn → ℕ

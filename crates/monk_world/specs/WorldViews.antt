@@ -1,11 +1,8 @@
 -- What a world stores, read as a state
 use Rattle.std.specs.Prelude.{◌≡◌, ℕ, Bool, List, false, slice_index_or}
 use Rattle.monk_floor.specs.View.{FloorView}
-use Rattle.monk_world.specs.State.{State}
-use Rattle.monk_world.specs.World.{World}
-use Rattle.monk_world.specs.declared.place.Place.{Place}
-use Rattle.monk_world.specs.declared.place.Place.TheVariants.{Idle}
-use Rattle.monk_world.specs.declared.words.WorldWords.{WorldWords}
+use Rattle.monk_world.specs.{State.State, World.World}
+use Rattle.monk_world.specs.declared.{place.Place.Place, place.Place.TheVariants.Idle, words.WorldWords.WorldWords}
 
 -- the words: the places of tickets, what belongs to each seat, and the floor
 pub record WorldView : Type 0 where

@@ -2,11 +2,8 @@
 
 ghost use Rattle.std.specs.Prelude.{◌≡◌, ◌<◌};
 ghost use Rattle.monk_floor.specs.View.{monitor_of};
-ghost use Rattle.monk_history.specs.Meaning.Counts.{left_of};
-ghost use Rattle.monk_history.specs.Meaning.Reasons.{IsAllowed};
-ghost use Rattle.monk_history.specs.Meaning.Turn.{turn};
-ghost use Rattle.monk_world.specs.State.{with_event};
-ghost use Rattle.monk_world.specs.StepTable.{out_event};
+ghost use Rattle.monk_history.specs.Meaning.{Counts.left_of, Reasons.IsAllowed, Turn.turn};
+ghost use Rattle.monk_world.specs.{State.with_event, StepTable.out_event};
 
 use crate::source::Source;
 use monk_floor::Floor;

@@ -1,12 +1,11 @@
 ghost use Rattle.std.specs.Prelude.{◌≡◌, ◌+◌, ◌%◌, ◌^◌, ◌==◌, ◌<◌, ◌≤◌, ◌||◌, Some, false, IfOk, if◌then◌else◌, nat_le, slice_index_or};
 ghost use Rattle.monk_floor.specs.View.{FloorView};
 ghost use Rattle.monk_history.specs.Meaning.Events.{is_stay};
-ghost use Rattle.monk_world.specs.Update.{update};
-ghost use Rattle.monk_world.specs.Stands.{opening_world};
+ghost use Rattle.monk_world.specs.Steps as becomes;
+ghost use Rattle.monk_world.specs.{Update.update, Stands.opening_world};
+ghost use Rattle.monk_world.specs.WorldViews.{Shows, ShowsKnown, world_on, state_in};
 ghost use Rattle.monk_world.specs.Steps.{after_arrive, after_ticket_look, after_seat_look, after_floor_out};
 ghost use Rattle.monk_world.specs.Steps.{after_floor_in, after_drop, after_ticket_grant, after_seat_grant};
-ghost use Rattle.monk_world.specs.Steps as becomes;
-ghost use Rattle.monk_world.specs.WorldViews.{Shows, ShowsKnown, world_on, state_in};
 
 use crate::answer::Answer;
 use crate::home::Home;

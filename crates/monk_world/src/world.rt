@@ -1,14 +1,10 @@
 ghost use Rattle.std.specs.Prelude.{◌≡◌, ◌<◌, ◌≤◌, length, Option, Some, None, IfOk, IfErr};
-ghost use Rattle.monk_floor.specs.Making.{make_refusal, IsRefused};
-ghost use Rattle.monk_floor.specs.View.{monitor_of};
-ghost use Rattle.monk_history.specs.Limits.{most_lines};
-ghost use Rattle.monk_history.specs.Meaning.Legal.{IsLegal};
+ghost use Rattle.monk_floor.specs.{Making.make_refusal, Making.IsRefused, View.monitor_of};
+ghost use Rattle.monk_history.specs.{Limits.most_lines, Meaning.Legal.IsLegal};
+ghost use Rattle.monk_world.specs.{Telling.IsLed, WorldViews.state_of_view, Shown.is_granted};
+ghost use Rattle.monk_world.specs.StepTable.{IsStep, IsDone, refusal, left_for, may_be_told};
 ghost use Rattle.monk_world.specs.Records.{IsRecordedBy, IsTakenBy, KeepsVersion};
 ghost use Rattle.monk_world.specs.Runs.{IsWellLed, opening_state};
-ghost use Rattle.monk_world.specs.StepTable.{IsStep, IsDone, refusal, left_for, may_be_told};
-ghost use Rattle.monk_world.specs.Telling.{IsLed};
-ghost use Rattle.monk_world.specs.WorldViews.{state_of_view};
-ghost use Rattle.monk_world.specs.Shown.{is_granted};
 
 use crate::answer::Answer;
 use crate::command::Command;

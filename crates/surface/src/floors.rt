@@ -1,9 +1,7 @@
 //! The floor: how it is made, and the calls that are the same for every kind.
 ghost use Rattle.std.specs.Prelude.{◌<◌};
-ghost use Rattle.monk_history.specs.Meaning.Counts.{left_of};
-ghost use Rattle.monk_history.specs.Meaning.Turn.{turn};
-ghost use Rattle.monk_floor.specs.Due.{IsDueTo};
-ghost use Rattle.monk_floor.specs.Releases.{MayCallOn};
+ghost use Rattle.monk_history.specs.Meaning.{Counts.left_of, Turn.turn};
+ghost use Rattle.monk_floor.specs.{Due.IsDueTo, Releases.MayCallOn};
 
 use monk_floor::{Floor, MakeFault};
 use monk_history::{Event, From3, Via};

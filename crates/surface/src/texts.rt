@@ -1,8 +1,6 @@
 //! Histories and their texts.
 ghost use Rattle.std.specs.Prelude.{◌≡◌, ◌≤◌, false, IsTrue};
-ghost use Rattle.monk_history.specs.Limits.{most_lines};
-ghost use Rattle.monk_history.specs.Text.{is_writable};
-ghost use Rattle.monk_history.specs.Text.Device.{has_failed};
+ghost use Rattle.monk_history.specs.{Limits.most_lines, Text.is_writable, Text.Device.has_failed};
 
 use monk_history::{
     Device, Event, From3, Header, Next, ReadFault, Via, WriteFault, read, read_limited, writable,

@@ -1,8 +1,6 @@
 -- What a driver of a floor knows about it
 use Rattle.std.specs.Prelude.{◌≡◌, ℕ, ◌<◌}
-use Rattle.monk_history.specs.Meaning.Counts.{left_of}
-use Rattle.monk_history.specs.Meaning.Turn.{turn}
-use Rattle.monk_history.specs.declared.event.Turn.TheVariants.{Owned}
+use Rattle.monk_history.specs.{Meaning.Counts.left_of, Meaning.Turn.turn, declared.event.Turn.TheVariants.Owned}
 use Rattle.monk_floor.specs.View.{FloorView}
 
 -- seats and conditions are as many as before

@@ -1,8 +1,7 @@
 //! Random legal calls on a floor, in one thread.
 
 ghost use Rattle.std.specs.Prelude.{◌≡◌, ◌<◌, IfSome, not};
-ghost use Rattle.monk_history.specs.Meaning.Signallers.{is_empty};
-ghost use Rattle.monk_history.specs.Meaning.Turn.{turn};
+ghost use Rattle.monk_history.specs.Meaning.{Signallers.is_empty, Turn.turn};
 ghost use Rattle.timed_calls.specs.Calls.{IsSameSize, OwnsTurn};
 
 use crate::chance::Chance;

@@ -1,11 +1,9 @@
 use Rattle.std.proofs.Common.{◌≡◌, [], ◌∷◌, length, ap, subst, sym, ◌∙◌}
 use Rattle.monk_kinds.specs.declared.name.KindName.TheVariants.{Pb}
 use Rattle.monk_object.specs.declared.name.ObjectName.TheVariants.{Buffer}
-use Rattle.monk_history.specs.Text.{heading}
-use Rattle.monk_history.specs.Meaning.Legal.{IsLegal}
 use Rattle.monk_history.specs.Meaning.Named as named
-use Rattle.monk_floor.specs.Headed.{IsHeadedBy}
-use Rattle.monk_floor.proofs.PublicLaws.{legal_as_headed}
+use Rattle.monk_history.specs.{Text.heading, Meaning.Legal.IsLegal}
+use Rattle.monk_floor.{specs.Headed.IsHeadedBy, proofs.PublicLaws.legal_as_headed}
 use Rattle.first_monitor.proofs.audited.Goals as goal
 
 pub returns : goal.returns

@@ -3,11 +3,9 @@
 ghost use Rattle.std.specs.Prelude.{◌≡◌, ℕ, List, [], None, IfOk, OnOk};
 ghost use Rattle.monk_kinds.specs.declared.mode.Rules.{Rules};
 ghost use Rattle.monk_object.specs.Object.{Object};
-ghost use Rattle.monk_history.specs.Meaning.Monitor.{monitor};
+ghost use Rattle.monk_history.specs.Meaning.{Monitor.monitor, Step.after, Step.opening_situation};
 ghost use Rattle.monk_history.specs.Meaning.Reasons.{reason_before, reason_in};
-ghost use Rattle.monk_history.specs.Meaning.Step.{after, opening_situation};
-ghost use Rattle.monk_audit.specs.Reasons.{number_or_0};
-ghost use Rattle.monk_audit.specs.Replay.{IsReplayOf, replay_situation, seats_in};
+ghost use Rattle.monk_audit.specs.{Reasons.number_or_0, Replay.IsReplayOf, Replay.replay_situation, Replay.seats_in};
 
 use crate::reason::Reason;
 use crate::replay::Replay;

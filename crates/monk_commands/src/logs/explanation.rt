@@ -1,8 +1,7 @@
 //! A finding in sentences.
 
 ghost use Rattle.std.specs.Prelude.{IfOk, string_bytes};
-ghost use Rattle.monk_commands.specs.LogAnswered.{BeginsWith};
-ghost use Rattle.monk_commands.specs.LogFound.{finding_line};
+ghost use Rattle.monk_commands.specs.{LogAnswered.BeginsWith, LogFound.finding_line};
 
 use crate::logs::cause::put_cause;
 use crate::logs::finding::Finding;

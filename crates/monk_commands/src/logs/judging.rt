@@ -1,8 +1,7 @@
 //! A log, judged over the object that its header names.
 
 ghost use Rattle.std.specs.Prelude.{IfOk};
-ghost use Rattle.monk_commands.specs.LogFound.{IsReportOf};
-ghost use Rattle.monk_commands.specs.RunText.{IsRunOfLog};
+ghost use Rattle.monk_commands.specs.{LogFound.IsReportOf, RunText.IsRunOfLog};
 
 use crate::logs::fitting_log::FittingLog;
 use crate::objects::{book, buffer, flags, shop};

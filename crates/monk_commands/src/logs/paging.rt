@@ -4,8 +4,7 @@ ghost use Rattle.std.specs.Prelude.{◌≡◌, ◌≤◌, IfOk, length, string_b
 ghost use Rattle.monk_object.specs.Names.{meaning_named, most, opening_named};
 ghost use Rattle.monk_draw.specs.Scene.{scene_of};
 ghost use Rattle.monk_judge.specs.Run.{opening, setting};
-ghost use Rattle.monk_page.specs.Log.{IsLogPage};
-ghost use Rattle.monk_page.specs.LogScene.{run_scene};
+ghost use Rattle.monk_page.specs.{Log.IsLogPage, LogScene.run_scene};
 ghost use Rattle.monk_commands.specs.LogDrawn.{HasRun};
 
 use crate::objects::{book, buffer, flags, shop};

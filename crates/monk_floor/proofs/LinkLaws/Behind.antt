@@ -1,15 +1,11 @@
 -- The seat after another
 use Rattle.std.proofs.Common.{◌≡◌, ℕ, zero, suc, ◌<◌, ◌≤◌, ◌+◌, ◌==◌, cond, Some, None, List, [], ◌∷◌, map}
 use Rattle.std.proofs.Common.{refl, sym, ap, subst, ◌∙◌, arith, eq-eqb, get_or, add-one, ⊎_elim}
-use Rattle.std.specs.Prelude.{slice_get}
-use Rattle.std.proofs.lemmas.Bool.{cases_eq}
-use Rattle.monk_history.specs.Limits.{most_seats}
-use Rattle.monk_history.specs.Meaning.Standing.{times}
-use Rattle.monk_floor.specs.declared.chain.Chain.{Chain}
+use Rattle.std.{specs.Prelude.slice_get, proofs.lemmas.Bool.cases_eq}
+use Rattle.monk_history.specs.{Limits.most_seats, Meaning.Standing.times}
+use Rattle.monk_floor.proofs.LinkLaws.{Walks.ends_there, Chains.queue_is, Chains.in_range, Chains.at_most_once}
+use Rattle.monk_floor.specs.{declared.chain.Chain.Chain, Queues.queue_at}
 use Rattle.monk_floor.specs.Links.{most_queues, walk, seats_of, chain_at, queue_in, EndsWith, IsLinked}
-use Rattle.monk_floor.specs.Queues.{queue_at}
-use Rattle.monk_floor.proofs.LinkLaws.Walks.{ends_there}
-use Rattle.monk_floor.proofs.LinkLaws.Chains.{queue_is, in_range, at_most_once}
 
 one_of : (x s : ℕ) → x ≡ s → ◌≡◌ {A = ℕ} (cond (x == s) 1 0) 1
 one_of x s e = ap (λ b. cond b 1 0) (eq-eqb x s e)

@@ -2,13 +2,12 @@
 use Rattle.std.proofs.Common.{◌≡◌, ◌≢◌, ℕ, zero, suc, ◌<◌, ◌≤◌, ◌+◌, ◌-◌, ◌==◌, Bool, true, false, cond, List, [], ◌∷◌, ◌++◌, map}
 use Rattle.std.proofs.Common.{length, refl, sym, ap, subst, ◌∙◌, arith, eq-eqb, eqb-true, append-nil}
 use Rattle.std.specs.Prelude.{slice_set, nat_lt}
-use Rattle.monk_history.specs.Limits.{most_seats}
-use Rattle.monk_history.specs.Meaning.Standing.{times}
-use Rattle.monk_floor.specs.declared.chain.Chain.{Chain}
-use Rattle.monk_floor.specs.Links.{most_queues, walk, seats_of, chain_at, queue_in, places, EndsWith, IsLinked}
-use Rattle.monk_floor.specs.Queues.{queue_at}
+use Rattle.monk_history.specs.{Limits.most_seats, Meaning.Standing.times}
 use Rattle.monk_floor.proofs.LinkLaws.Walks.{walk-set, walk-push, ends_push}
-use Rattle.monk_floor.proofs.LinkLaws.Chains.{queue_is, linked_again, seen_again, apart, last_there, at_most_once, last_in_range}
+use Rattle.monk_floor.proofs.LinkLaws.Chains.{queue_is, linked_again, seen_again, apart, last_there, at_most_once}
+use Rattle.monk_floor.proofs.LinkLaws.Chains.{last_in_range}
+use Rattle.monk_floor.specs.{declared.chain.Chain.Chain, Queues.queue_at}
+use Rattle.monk_floor.specs.Links.{most_queues, walk, seats_of, chain_at, queue_in, places, EndsWith, IsLinked}
 
 pub some_more : (n : ℕ) → (n ≡ 0 → ⊥) → n ≡ suc (n - 1)
 some_more zero h = absurd (h refl)

@@ -1,17 +1,15 @@
 -- A seat is looked for in a queue, and taken out of it
 use Rattle.std.proofs.Common.{◌≡◌, ◌≢◌, ℕ, zero, suc, ◌<◌, ◌≤◌, ◌-◌, ◌==◌, Bool, true, false, cond, Option, Some, None, List, [], ◌∷◌, map}
 use Rattle.std.proofs.Common.{length, drop, refl, sym, ap, subst, ◌∙◌, arith, eq-eqb, eqb-true, get_or}
-use Rattle.std.specs.Prelude.{slice_set, slice_get, nat_eq, IfSome}
-use Rattle.std.specs.Option.{option_eq}
-use Rattle.monk_history.specs.Limits.{most_seats}
-use Rattle.monk_history.specs.Meaning.Standing.{times}
-use Rattle.monk_floor.specs.declared.chain.Chain.{Chain}
-use Rattle.monk_floor.specs.Links.{most_queues, walk, seats_of, chain_at, queue_in, places, EndsWith, without, seat_before, IsLinked}
-use Rattle.monk_floor.specs.Queues.{queue_at}
-use Rattle.monk_floor.proofs.LinkLaws.Walks.{walk-set}
-use Rattle.monk_floor.proofs.LinkLaws.Chains.{queue_is, linked_again, seen_again, apart, at_most_once, in_range, times_le}
-use Rattle.monk_floor.proofs.LinkLaws.Middles.{skips, times_none, times_without, before_there, seat_there}
-use Rattle.monk_floor.proofs.LinkLaws.Middles.{absent, walk-unlink, ends_without}
+use Rattle.std.specs.{Prelude.slice_set, Prelude.slice_get, Prelude.nat_eq, Prelude.IfSome, Option.option_eq}
+use Rattle.monk_history.specs.{Limits.most_seats, Meaning.Standing.times}
+use Rattle.monk_floor.proofs.LinkLaws.{Walks.walk-set, Chains.queue_is, Chains.linked_again, Chains.seen_again}
+use Rattle.monk_floor.proofs.LinkLaws.{Chains.apart, Chains.at_most_once, Chains.in_range, Chains.times_le}
+use Rattle.monk_floor.proofs.LinkLaws.Middles.{skips, times_none, times_without, before_there, seat_there, absent}
+use Rattle.monk_floor.proofs.LinkLaws.Middles.{walk-unlink, ends_without}
+use Rattle.monk_floor.specs.{declared.chain.Chain.Chain, Queues.queue_at}
+use Rattle.monk_floor.specs.Links.{most_queues, walk, seats_of, chain_at, queue_in, places, EndsWith, without}
+use Rattle.monk_floor.specs.Links.{seat_before, IsLinked}
 
 when : (b : Bool) (xs ys : List ℕ) → (b ≡ true → ⊥) → cond b xs ys ≡ ys
 when true xs ys h = absurd (h refl)

@@ -1,13 +1,10 @@
 -- The seat just before another is looked for along the links
 use Rattle.std.proofs.Common.{◌≡◌, ℕ, zero, suc, ◌<◌, ◌≤◌, ◌+◌, ◌-◌, cond, Some, None, List, map}
 use Rattle.std.proofs.Common.{refl, sym, ap, subst, ◌∙◌, arith, eq-eqb, get_or}
-use Rattle.monk_history.specs.Limits.{most_seats}
-use Rattle.monk_history.specs.Meaning.Standing.{times}
-use Rattle.monk_floor.specs.declared.chain.Chain.{Chain}
+use Rattle.monk_history.specs.{Limits.most_seats, Meaning.Standing.times}
+use Rattle.monk_floor.proofs.LinkLaws.{Chains.queue_is, Chains.in_range, Middles.later_before}
+use Rattle.monk_floor.specs.{declared.chain.Chain.Chain, Queues.queue_at}
 use Rattle.monk_floor.specs.Links.{most_queues, walk, seats_of, chain_at, queue_in, seat_before, IsLinked}
-use Rattle.monk_floor.specs.Queues.{queue_at}
-use Rattle.monk_floor.proofs.LinkLaws.Chains.{queue_is, in_range}
-use Rattle.monk_floor.proofs.LinkLaws.Middles.{later_before}
 
 -- n seats of a queue are left from b on. The one before s is found among them, or not at all
 pub record IsLeft (next : List ℕ) (s : ℕ) (all : List ℕ) (n b : ℕ) : Type 0 where

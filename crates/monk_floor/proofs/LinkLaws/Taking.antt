@@ -2,14 +2,11 @@
 use Rattle.std.proofs.Common.{◌≡◌, ℕ, zero, suc, ◌<◌, ◌≤◌, ◌+◌, ◌-◌, ◌==◌, Bool, true, false, cond, Some, None, List, [], ◌∷◌, map}
 use Rattle.std.proofs.Common.{drop, refl, sym, ap, subst, ◌∙◌, arith, eq-eqb, eqb-true, get_or}
 use Rattle.std.specs.Prelude.{slice_set, slice_get, nat_lt, nat_eq}
-use Rattle.monk_history.specs.Limits.{most_seats}
-use Rattle.monk_history.specs.Meaning.Signallers.{is_empty}
-use Rattle.monk_history.specs.Meaning.Standing.{times}
-use Rattle.monk_floor.specs.declared.chain.Chain.{Chain}
-use Rattle.monk_floor.specs.Links.{most_queues, walk, seats_of, chain_at, queue_in, places, EndsWith, IsLinked}
-use Rattle.monk_floor.specs.Queues.{queue_at}
+use Rattle.monk_history.specs.{Limits.most_seats, Meaning.Signallers.is_empty, Meaning.Standing.times}
 use Rattle.monk_floor.proofs.LinkLaws.Walks.{ends_drop}
 use Rattle.monk_floor.proofs.LinkLaws.Chains.{queue_is, linked_again, seen_again, in_range, places_one, cond_le}
+use Rattle.monk_floor.specs.{declared.chain.Chain.Chain, Queues.queue_at}
+use Rattle.monk_floor.specs.Links.{most_queues, walk, seats_of, chain_at, queue_in, places, EndsWith, IsLinked}
 
 times_drop : (s : ℕ) (xs : List ℕ) → times s (drop 1 xs) ≤ times s xs
 times_drop s [] = omega arith

@@ -1,13 +1,10 @@
 //! The releases by the path of each mode. A path asks only the queues in which the mode can have anybody.
 ghost use Rattle.std.specs.Prelude.{◌≡◌, ◌<◌, Bool, true, false, length, Some};
 ghost use Rattle.monk_kinds.specs.declared.mode.Pick.{Pick};
-ghost use Rattle.monk_history.specs.Meaning.Conditions.{condition};
-ghost use Rattle.monk_history.specs.Meaning.Counts.{left_of};
+ghost use Rattle.monk_history.specs.Meaning.{Conditions.condition, Counts.left_of, Paths.keeps_signallers};
+ghost use Rattle.monk_history.specs.Meaning.{Release.with_next};
 ghost use Rattle.monk_history.specs.Meaning.Events.{has_conditions, next_of, seat_of, steps_back};
-ghost use Rattle.monk_history.specs.Meaning.Paths.{keeps_signallers};
-ghost use Rattle.monk_history.specs.Meaning.Release.{with_next};
-ghost use Rattle.monk_floor.specs.Chosen.{IsChosen, HasChosen};
-ghost use Rattle.monk_floor.specs.Grown.{IsGrown};
+ghost use Rattle.monk_floor.specs.{Chosen.IsChosen, Chosen.HasChosen, Grown.IsGrown};
 ghost use Rattle.monk_floor.specs.Releases.{MayCallOn, IsReplyless, MakesNoSignaller, ServesNobody};
 
 use crate::choosing::{equal_choice, first_ready, must_stay, served_choice, single_choice};

@@ -1,12 +1,8 @@
 //! The calls by the general scheduler step. They serve any kind that has them.
 ghost use Rattle.std.specs.Prelude.{◌≡◌, ◌<◌, length, Some};
-ghost use Rattle.monk_history.specs.Meaning.Conditions.{condition};
-ghost use Rattle.monk_history.specs.Meaning.Counts.{left_of};
+ghost use Rattle.monk_history.specs.Meaning.{Conditions.condition, Counts.left_of, Release.with_next};
 ghost use Rattle.monk_history.specs.Meaning.Events.{next_of, seat_of};
-ghost use Rattle.monk_history.specs.Meaning.Release.{with_next};
-ghost use Rattle.monk_floor.specs.Chosen.{HasChosen};
-ghost use Rattle.monk_floor.specs.Grown.{IsGrown};
-ghost use Rattle.monk_floor.specs.Releases.{MayCallOn};
+ghost use Rattle.monk_floor.specs.{Chosen.HasChosen, Grown.IsGrown, Releases.MayCallOn};
 
 use crate::floor::Floor;
 use monk_history::{Event, Next};

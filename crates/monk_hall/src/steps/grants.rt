@@ -2,10 +2,9 @@
 ghost use Rattle.std.specs.Prelude.{◌≡◌, ◌<◌, [], ◌∷◌};
 ghost use Rattle.monk_history.specs.Meaning.Counts.{granted_of};
 ghost use Rattle.monk_world.specs.Places.{stage, ticket, back_turn, due_to, passing_stage};
-ghost use Rattle.monk_hall.specs.Changes.{record_after_grant};
 ghost use Rattle.monk_hall.specs.declared.deed.Deed.TheVariants as deed;
+ghost use Rattle.monk_hall.specs.{Changes.record_after_grant, Records.IsOne, Records.the};
 ghost use Rattle.monk_hall.specs.Layout.{ticket_word, seat_word, word_count};
-ghost use Rattle.monk_hall.specs.Records.{IsOne, the};
 ghost use Rattle.monk_hall.specs.Tells.{IsOfTable, IsSameSeat, TellsTicketGrant, TellsCall};
 
 use super::{Words, seat_word, ticket_word, word_after};

@@ -3,39 +3,26 @@ use Rattle.std.proofs.Common.{◌≡◌, ℕ, ◌+◌, ◌<◌, Bool, true, fals
 use Rattle.std.proofs.Common.{List, [], ◌∷◌, ◌++◌}
 use Rattle.std.proofs.Common.{length, get_or, ◌-◌, take, drop, refl, sym, ap, subst, ◌∙◌, arith, zero, suc}
 use Rattle.std.proofs.Common.{◌⊎◌, inl, inr, ⊎_elim}
-use Rattle.std.specs.Prelude.{nat_lt, slice_get, is_some}
-use Rattle.std.specs.Option.{option_map_or}
+use Rattle.std.proofs.lemmas.{List.Folds.list_any-append, Option.slice_get_within, Option.slice_get-get_or}
 use Rattle.std.proofs.lemmas.Bool.{false≢true, eqb-true}
-use Rattle.std.proofs.lemmas.List.Folds.{list_any-append}
-use Rattle.std.proofs.lemmas.Option.{slice_get_within, slice_get-get_or}
-use Rattle.monk_kinds.specs.declared.mode.Rules.{Rules}
+use Rattle.std.specs.{Prelude.nat_lt, Prelude.slice_get, Prelude.is_some, Option.option_map_or}
 use Rattle.monk_kinds.specs.Names.{rules_named}
 use Rattle.monk_kinds.specs.declared.name.KindName.{KindName}
 use Rattle.monk_kinds.specs.declared.name.KindName.TheVariants.{Pb, Npb, Pnb, Npnb, Pqb, Npqb, Pir, Npir, Pis, Npis}
-use Rattle.monk_history.specs.Meaning.Events.{seat_of, next_of, is_waiter, is_stay}
-use Rattle.monk_history.specs.Meaning.Events.{steps_back, via_of, source_of}
-use Rattle.monk_history.specs.Meaning.Monitor.{Monitor}
-use Rattle.monk_history.specs.Meaning.Situation.{Situation, situation}
-use Rattle.monk_history.specs.Meaning.Step.{after}
-use Rattle.monk_history.specs.Meaning.Signallers.{is_empty}
-use Rattle.monk_history.specs.Meaning.Waiters.{serves, waiters}
+use Rattle.monk_kinds.specs.declared.mode.Rules.{Rules}
+use Rattle.monk_history.proofs.MeaningLaws.{TestLaws.and_left, StepLaws.legal_situation-push}
+use Rattle.monk_history.proofs.MeaningLaws.HandOverLaws.{take_more_by_one, legal_take, due_resumes, not_same, or_left}
+use Rattle.monk_history.proofs.MeaningLaws.HandOverLaws.{or_right, by_stay}
+use Rattle.monk_history.specs.Meaning.{Monitor.Monitor, Situation.Situation, Situation.situation, Step.after}
+use Rattle.monk_history.specs.Meaning.{Signallers.is_empty, Waiters.serves, Waiters.waiters, Conditions.condition}
+use Rattle.monk_history.specs.Meaning.{Turn.turn_by, Legal.IsLegal, Promises.is_among, Promises.is_served}
+use Rattle.monk_history.specs.Meaning.{Promises.puts_callers_last, Promises.GoesOnBetween, Promises.NobodyComesBetween}
 use Rattle.monk_history.specs.Meaning.Choice.{Queues, queues_at, may_choose, may_signal, must_stay, is_front}
-use Rattle.monk_history.specs.Meaning.Conditions.{condition}
-use Rattle.monk_history.specs.Meaning.Turn.{turn_by}
 use Rattle.monk_history.specs.Meaning.Reasons.{IsAllowedIn, fits_turn, is_open, is_due, is_owned_by}
-use Rattle.monk_history.specs.Meaning.Legal.{IsLegal}
-use Rattle.monk_history.specs.Meaning.Promises.{is_among, is_served, puts_callers_last}
-use Rattle.monk_history.specs.Meaning.Promises.{GoesOnBetween, NobodyComesBetween}
-use Rattle.monk_history.specs.declared.event.Event.{Event}
-use Rattle.monk_history.specs.declared.event.Turn.TheVariants.{Due}
+use Rattle.monk_history.specs.Meaning.Events.{seat_of, next_of, is_waiter, is_stay, steps_back, via_of, source_of}
+use Rattle.monk_history.specs.declared.event.{Event.Event, Turn.TheVariants.Due, From3.TheVariants.Waiter as FromWaiter}
 use Rattle.monk_history.specs.declared.event.Next.{Next}
-use Rattle.monk_history.specs.declared.event.Next.TheVariants.{Stay, Entry, Waiter, Signaller}
-use Rattle.monk_history.specs.declared.event.Next.TheVariants.{Until as UntilSeat}
-use Rattle.monk_history.specs.declared.event.From3.TheVariants.{Waiter as FromWaiter}
-use Rattle.monk_history.proofs.MeaningLaws.TestLaws.{and_left}
-use Rattle.monk_history.proofs.MeaningLaws.StepLaws.{legal_situation-push}
-use Rattle.monk_history.proofs.MeaningLaws.HandOverLaws.{take_more_by_one, legal_take, due_resumes, not_same}
-use Rattle.monk_history.proofs.MeaningLaws.HandOverLaws.{or_left, or_right, by_stay}
+use Rattle.monk_history.specs.declared.event.Next.TheVariants.{Stay, Entry, Waiter, Signaller, Until as UntilSeat}
 
 -- seat w is in the waiter queue while some seat has the monitor, or the turn is due to it from there
 abbrev IsOnItsWay : ℕ → Situation → Type 0

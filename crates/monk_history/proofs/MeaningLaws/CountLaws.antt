@@ -1,15 +1,11 @@
 -- How one more event changes what is counted seat by seat, and how long lists of few seats are
 use Rattle.std.proofs.Common.{◌≡◌, ℕ, ◌+◌, ◌*◌, ◌<◌, ◌≤◌, zero, suc, Bool, true, false, cond, ◌==◌, List, [], ◌∷◌}
 use Rattle.std.proofs.Common.{◌++◌, length, refl, sym, ap, ◌∙◌, arith, map, ⊎_elim, eq-eqb, length-append}
-use Rattle.std.specs.Prelude.{filter}
-use Rattle.std.proofs.lemmas.Bool.{cases_lt}
-use Rattle.std.proofs.lemmas.List.Sums.{sum_by-append, count_by-le-length}
-use Rattle.std.proofs.Math.Nat.{mul-le-mul_right}
-use Rattle.monk_history.specs.Limits.{most_seats, most_budget, most_lines}
-use Rattle.monk_history.specs.Meaning.Events.{seat_of}
-use Rattle.monk_history.specs.Meaning.Standing.{times}
+use Rattle.std.{specs.Prelude.filter, proofs.lemmas.Bool.cases_lt, proofs.lemmas.List.Sums.sum_by-append}
+use Rattle.std.{proofs.lemmas.List.Sums.count_by-le-length, proofs.Math.Nat.mul-le-mul_right}
+use Rattle.monk_history.specs.{Limits.most_seats, Limits.most_budget, Limits.most_lines, declared.event.Event.Event}
+use Rattle.monk_history.specs.Meaning.{Events.seat_of, Standing.times}
 use Rattle.monk_history.specs.Meaning.Counts.{events_of, is_enter, enters_of, grants, granted_of}
-use Rattle.monk_history.specs.declared.event.Event.{Event}
 
 abbrev pub total : ℕ → (ℕ → ℕ) → ℕ
 total zero f = 0

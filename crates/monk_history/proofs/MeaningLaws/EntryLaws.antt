@@ -2,29 +2,24 @@
 use Rattle.std.proofs.Common.{◌≡◌, ◌≢◌, ℕ, ◌<◌, Bool, true, false, cond, ◌&&◌, ◌||◌, not, ◌==◌, List, [], ◌∷◌, refl}
 use Rattle.std.proofs.Common.{sym, ap, ◌∙◌, arith, eq-eqb}
 use Rattle.std.specs.Prelude.{◌↔◌, filter, nat_lt}
-use Rattle.std.specs.List.{list_any}
-use Rattle.std.proofs.lemmas.Bool.{false≢true, eqb-true}
-use Rattle.monk_history.specs.Meaning.Events.{seat_of, is_way_out}
-use Rattle.monk_history.specs.Meaning.Monitor.{Monitor, data_of}
-use Rattle.monk_history.specs.Meaning.Situation.{Situation}
-use Rattle.monk_history.specs.Meaning.Signallers.{is_empty}
-use Rattle.monk_history.specs.Meaning.Untils.{untils, ready_of}
-use Rattle.monk_history.specs.Meaning.Turn.{turn, is_enter_of, is_exit_of, inside_of, is_inside}
-use Rattle.monk_history.specs.Meaning.Reasons.{is_open, is_due, is_queue, IsAllowed, IsAllowedIn}
-use Rattle.monk_history.specs.Meaning.Counts.{events_of, is_enter}
-use Rattle.monk_history.specs.Meaning.Release.{MayCallIn, MayCall, as_called}
-use Rattle.monk_history.specs.Meaning.Entry.{IsQuiet, IsAtDoor, IsDueFrom}
-use Rattle.monk_history.specs.declared.event.Event.{Event}
-use Rattle.monk_history.specs.declared.event.Event.TheVariants.{Enter, Act, Leave, Wait, Signal, SignalLeave, Until, Resume}
-use Rattle.monk_history.specs.declared.event.Event.TheVariants.{SignalAll, SignalWait}
-use Rattle.monk_history.specs.declared.event.From3.{From3}
-use Rattle.monk_history.specs.declared.event.From3.TheVariants.{Waiter as FromWaiter, Signaller as FromSignaller, Until as FromUntil}
-use Rattle.monk_history.specs.declared.event.Turn.{Turn}
-use Rattle.monk_history.specs.declared.event.Turn.TheVariants.{Open, Due, Owned}
-use Rattle.monk_history.specs.declared.event.Via.TheVariants.{Free, Handed}
-use Rattle.monk_history.proofs.MeaningLaws.TestLaws.{and_left, and_right}
-use Rattle.monk_history.proofs.MeaningLaws.QueueSeats.{seat_in_range}
+use Rattle.std.{specs.List.list_any, proofs.lemmas.Bool.false≢true, proofs.lemmas.Bool.eqb-true}
+use Rattle.monk_history.proofs.MeaningLaws.{TestLaws.and_left, TestLaws.and_right, QueueSeats.seat_in_range}
 use Rattle.monk_history.proofs.MeaningLaws.CallLaws.{may_enter_free, may_enter_handed}
+use Rattle.monk_history.specs.Meaning.{Monitor.Monitor, Monitor.data_of, Situation.Situation, Signallers.is_empty}
+use Rattle.monk_history.specs.Meaning.{Untils.untils, Untils.ready_of, Entry.IsQuiet, Entry.IsAtDoor, Entry.IsDueFrom}
+use Rattle.monk_history.specs.Meaning.Release.{MayCallIn, MayCall, as_called}
+use Rattle.monk_history.specs.Meaning.Reasons.{is_open, is_due, is_queue, IsAllowed, IsAllowedIn}
+use Rattle.monk_history.specs.Meaning.Turn.{turn, is_enter_of, is_exit_of, inside_of, is_inside}
+use Rattle.monk_history.specs.Meaning.Counts.{events_of, is_enter}
+use Rattle.monk_history.specs.Meaning.Events.{seat_of, is_way_out}
+use Rattle.monk_history.specs.declared.event.Turn.{Turn, TheVariants.Open, TheVariants.Due, TheVariants.Owned}
+use Rattle.monk_history.specs.declared.event.Via.TheVariants.{Free, Handed}
+use Rattle.monk_history.specs.declared.event.From3.{From3}
+use Rattle.monk_history.specs.declared.event.From3.TheVariants.{Waiter as FromWaiter, Signaller as FromSignaller}
+use Rattle.monk_history.specs.declared.event.From3.TheVariants.{Until as FromUntil}
+use Rattle.monk_history.specs.declared.event.Event.{Event}
+use Rattle.monk_history.specs.declared.event.Event.TheVariants.{Enter, Act, Leave, Wait, Signal, SignalLeave, Until}
+use Rattle.monk_history.specs.declared.event.Event.TheVariants.{Resume, SignalAll, SignalWait}
 
 open_is : (t : Turn) → is_open t ≡ true → t ≡ Open
 open_is Open h = refl

@@ -3,51 +3,36 @@ use Rattle.std.proofs.Common.{◌≡◌, ℕ, ◌+◌, ◌<◌, Bool, true, fals
 use Rattle.std.proofs.Common.{List, [], ◌∷◌, ◌++◌}
 use Rattle.std.proofs.Common.{◌-◌, take, drop, refl, sym, ap, subst, ◌∙◌, arith, zero, suc, ◌⊎◌, inl, inr}
 use Rattle.std.proofs.Common.{⊎_elim, take-append-drop}
-use Rattle.std.specs.Prelude.{nat_le, nat_lt, slice_get}
-use Rattle.std.specs.Option.{option_map_or}
 use Rattle.std.proofs.lemmas.Bool.{false≢true, eqb-true}
-use Rattle.monk_kinds.specs.declared.mode.Rules.{Rules}
-use Rattle.monk_kinds.specs.declared.mode.Mode.TheVariants.{Blocking, NonBlocking, QuasiBlocking}
-use Rattle.monk_kinds.specs.declared.mode.Mode.TheVariants.{ImmediateReturn, Automatic}
-use Rattle.monk_kinds.specs.declared.mode.Mode.{Mode}
-use Rattle.monk_kinds.specs.Kind.{IsKind}
-use Rattle.monk_kinds.specs.Names.{rules_named}
+use Rattle.std.specs.{Prelude.nat_le, Prelude.nat_lt, Prelude.slice_get, Option.option_map_or}
+use Rattle.monk_kinds.specs.{Kind.IsKind, Names.rules_named}
 use Rattle.monk_kinds.specs.declared.name.KindName.{KindName}
-use Rattle.monk_kinds.specs.declared.name.KindName.TheVariants.{Pb, Npb, Pnb, Npnb, Pqb, Npqb, Pir, Npir, Pis}
-use Rattle.monk_kinds.specs.declared.name.KindName.TheVariants.{Npis}
-use Rattle.monk_history.specs.Meaning.Events.{seat_of, next_of, is_waiter, is_stay, has_conditions}
-use Rattle.monk_history.specs.Meaning.Events.{has_signaller_queue}
-use Rattle.monk_history.specs.Meaning.Events.{returns_at_once, is_non_blocking, answered_act}
-use Rattle.monk_history.specs.Meaning.Monitor.{Monitor, data_of, data_after}
-use Rattle.monk_history.specs.Meaning.Situation.{Situation, situation}
-use Rattle.monk_history.specs.Meaning.Step.{after}
-use Rattle.monk_history.specs.Meaning.Signallers.{is_empty}
-use Rattle.monk_history.specs.Meaning.Waiters.{serves, waiters}
-use Rattle.monk_history.specs.Meaning.Choice.{may_choose, may_signal}
-use Rattle.monk_history.specs.Meaning.Conditions.{condition}
-use Rattle.monk_history.specs.Meaning.Turn.{turn, turn_by}
-use Rattle.monk_history.specs.Meaning.Reasons.{IsAllowed, IsAllowedIn, fits_turn, is_queue}
-use Rattle.monk_history.specs.Meaning.Legal.{IsLegal}
-use Rattle.monk_history.specs.Meaning.Promises.{is_blocking, hands_over, has_hoares_rule}
-use Rattle.monk_history.specs.Meaning.Promises.{is_among, IsHandedTo, HoaresRule}
-use Rattle.monk_history.specs.declared.event.Event.{Event}
-use Rattle.monk_history.specs.declared.event.Event.TheVariants.{Enter, Act, Leave, Wait, Signal, SignalLeave}
-use Rattle.monk_history.specs.declared.event.Event.TheVariants.{Until, Resume}
-use Rattle.monk_history.specs.declared.event.Event.TheVariants.{SignalAll, SignalWait}
-use Rattle.monk_history.specs.declared.event.Turn.TheVariants.{Due}
-use Rattle.monk_history.specs.declared.event.Next.{Next}
-use Rattle.monk_history.specs.declared.event.Next.TheVariants.{Stay, Entry, Waiter, Signaller}
-use Rattle.monk_history.specs.declared.event.Next.TheVariants.{Until as UntilSeat}
-use Rattle.monk_history.specs.declared.event.From3.{From3}
-use Rattle.monk_history.specs.declared.event.From3.TheVariants.{Waiter as FromWaiter}
-use Rattle.monk_history.specs.declared.event.From3.TheVariants.{Signaller as FromSignaller}
-use Rattle.monk_history.specs.declared.event.From3.TheVariants.{Until as FromUntil}
-use Rattle.monk_history.proofs.MeaningLaws.HistoryLaws.{history_induction}
+use Rattle.monk_kinds.specs.declared.name.KindName.TheVariants.{Pb, Npb, Pnb, Npnb, Pqb, Npqb, Pir, Npir, Pis, Npis}
+use Rattle.monk_kinds.specs.declared.mode.{Rules.Rules, Mode.Mode, Mode.TheVariants.Blocking}
+use Rattle.monk_kinds.specs.declared.mode.{Mode.TheVariants.NonBlocking, Mode.TheVariants.QuasiBlocking}
+use Rattle.monk_kinds.specs.declared.mode.{Mode.TheVariants.ImmediateReturn, Mode.TheVariants.Automatic}
+use Rattle.monk_history.proofs.MeaningLaws.{HistoryLaws.history_induction, TurnLaws.turn-push, TurnLaws.data-push}
+use Rattle.monk_history.proofs.MeaningLaws.ModeLaws.{IsBlocking, blocking, legal_emptied, legal_unsignalled}
+use Rattle.monk_history.proofs.MeaningLaws.StepLaws.{situation-none, legal_situation-push}
 use Rattle.monk_history.proofs.MeaningLaws.TestLaws.{and_left, and_right}
 use Rattle.monk_history.proofs.MeaningLaws.LegalLaws.{legal_front, legal_last}
-use Rattle.monk_history.proofs.MeaningLaws.TurnLaws.{turn-push, data-push}
-use Rattle.monk_history.proofs.MeaningLaws.StepLaws.{situation-none, legal_situation-push}
-use Rattle.monk_history.proofs.MeaningLaws.ModeLaws.{IsBlocking, blocking, legal_emptied, legal_unsignalled}
+use Rattle.monk_history.specs.Meaning.{Situation.Situation, Situation.situation, Step.after, Signallers.is_empty}
+use Rattle.monk_history.specs.Meaning.{Waiters.serves, Waiters.waiters, Choice.may_choose, Choice.may_signal}
+use Rattle.monk_history.specs.Meaning.{Conditions.condition, Turn.turn, Turn.turn_by, Legal.IsLegal}
+use Rattle.monk_history.specs.Meaning.Events.{seat_of, next_of, is_waiter, is_stay, has_conditions, has_signaller_queue}
+use Rattle.monk_history.specs.Meaning.Events.{returns_at_once, is_non_blocking, answered_act}
+use Rattle.monk_history.specs.Meaning.Monitor.{Monitor, data_of, data_after}
+use Rattle.monk_history.specs.Meaning.Reasons.{IsAllowed, IsAllowedIn, fits_turn, is_queue}
+use Rattle.monk_history.specs.Meaning.Promises.{is_blocking, hands_over, has_hoares_rule, is_among, IsHandedTo}
+use Rattle.monk_history.specs.Meaning.Promises.{HoaresRule}
+use Rattle.monk_history.specs.declared.event.{Turn.TheVariants.Due, From3.From3, From3.TheVariants.Waiter as FromWaiter}
+use Rattle.monk_history.specs.declared.event.{From3.TheVariants.Signaller as FromSignaller}
+use Rattle.monk_history.specs.declared.event.{From3.TheVariants.Until as FromUntil}
+use Rattle.monk_history.specs.declared.event.Next.{Next}
+use Rattle.monk_history.specs.declared.event.Next.TheVariants.{Stay, Entry, Waiter, Signaller, Until as UntilSeat}
+use Rattle.monk_history.specs.declared.event.Event.{Event}
+use Rattle.monk_history.specs.declared.event.Event.TheVariants.{Enter, Act, Leave, Wait, Signal, SignalLeave, Until}
+use Rattle.monk_history.specs.declared.event.Event.TheVariants.{Resume, SignalAll, SignalWait}
 
 -- the front of a history up to an event, and that event
 take_next : {X : Type 0} (xs : List X) (i : ℕ) (x : X) → slice_get xs i ≡ Some x → take (suc i) xs ≡ take i xs ++ x ∷ []

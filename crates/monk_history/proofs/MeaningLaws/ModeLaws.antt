@@ -1,29 +1,22 @@
 -- What a mode does to the choice
 use Rattle.std.proofs.Common.{◌≡◌, ℕ, ◌<◌, ◌≤◌, Bool, true, false, cond, ◌&&◌, ◌||◌, not, ◌==◌, Some, List, [], ◌∷◌}
 use Rattle.std.proofs.Common.{◌++◌, take, drop, refl, sym, ap, subst, ◌∙◌, arith, eq-eqb}
-use Rattle.std.specs.Prelude.{nat_le}
-use Rattle.std.proofs.lemmas.Bool.{false≢true, eqb-true}
-use Rattle.monk_kinds.specs.declared.mode.Rules.{Rules}
-use Rattle.monk_kinds.specs.declared.mode.Mode.TheVariants.{Blocking, NonBlocking}
+use Rattle.std.{specs.Prelude.nat_le, proofs.lemmas.Bool.false≢true, proofs.lemmas.Bool.eqb-true}
 use Rattle.monk_kinds.specs.Kind.{IsKind, FitsMode}
+use Rattle.monk_kinds.specs.declared.mode.{Rules.Rules, Mode.TheVariants.Blocking, Mode.TheVariants.NonBlocking}
 use Rattle.monk_object.specs.Object.{Object}
+use Rattle.monk_history.proofs.MeaningLaws.{TestLaws.and_left, TestLaws.and_right, StepLaws.situation-none}
+use Rattle.monk_history.proofs.MeaningLaws.QueueSeats.{legal_induction, signals_none}
+use Rattle.monk_history.specs.Meaning.{Monitor.Monitor, Situation.Situation, Situation.situation, Step.after}
+use Rattle.monk_history.specs.Meaning.{Choice.queues_at, Choice.may_signal, Reasons.IsAllowedIn, Legal.IsLegal}
+use Rattle.monk_history.specs.Meaning.Signallers.{is_empty, signals, takes_signaller}
 use Rattle.monk_history.specs.Meaning.Events.{is_stay, is_waiter, is_signaller, has_conditions, has_signaller_queue}
 use Rattle.monk_history.specs.Meaning.Events.{returns_at_once, is_non_blocking}
-use Rattle.monk_history.specs.Meaning.Monitor.{Monitor}
-use Rattle.monk_history.specs.Meaning.Situation.{Situation, situation}
-use Rattle.monk_history.specs.Meaning.Step.{after}
-use Rattle.monk_history.specs.Meaning.Signallers.{is_empty, signals, takes_signaller}
-use Rattle.monk_history.specs.Meaning.Choice.{queues_at, may_signal}
-use Rattle.monk_history.specs.Meaning.Reasons.{IsAllowedIn}
-use Rattle.monk_history.specs.Meaning.Legal.{IsLegal}
-use Rattle.monk_history.specs.declared.event.Event.{Event}
-use Rattle.monk_history.specs.declared.event.Event.TheVariants.{Enter, Act, Leave, Wait, Signal, SignalLeave, Until, Resume}
-use Rattle.monk_history.specs.declared.event.Event.TheVariants.{SignalAll, SignalWait}
 use Rattle.monk_history.specs.declared.event.Next.{Next}
 use Rattle.monk_history.specs.declared.event.Next.TheVariants.{Stay, Entry, Waiter, Signaller, Until as UntilSeat}
-use Rattle.monk_history.proofs.MeaningLaws.TestLaws.{and_left, and_right}
-use Rattle.monk_history.proofs.MeaningLaws.StepLaws.{situation-none}
-use Rattle.monk_history.proofs.MeaningLaws.QueueSeats.{legal_induction, signals_none}
+use Rattle.monk_history.specs.declared.event.Event.{Event}
+use Rattle.monk_history.specs.declared.event.Event.TheVariants.{Enter, Act, Leave, Wait, Signal, SignalLeave, Until}
+use Rattle.monk_history.specs.declared.event.Event.TheVariants.{Resume, SignalAll, SignalWait}
 
 -- the rules of a non-blocking kind
 pub record IsNonBlocking (k : Rules) : Type 0 where

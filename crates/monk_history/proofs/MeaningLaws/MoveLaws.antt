@@ -1,39 +1,33 @@
 -- Where seats are after one more event, and what is counted
 use Rattle.std.proofs.Common.{◌≡◌, ◌≢◌, ℕ, ◌+◌, ◌≤◌, Bool, true, false, cond, ◌&&◌, ◌||◌, not, ◌==◌, Option, Some, None}
 use Rattle.std.proofs.Common.{List, [], ◌∷◌, ◌++◌, refl, sym, ap, subst, ◌∙◌, arith, eq-eqb, ⊎_elim}
-use Rattle.std.specs.Prelude.{is_some}
-use Rattle.std.specs.Option.{option_map_or}
 use Rattle.std.proofs.lemmas.Bool.{false≢true, eqb-true, cases_lt}
+use Rattle.std.specs.{Prelude.is_some, Option.option_map_or}
 use Rattle.monk_kinds.specs.declared.mode.Rules.{Rules}
-use Rattle.monk_history.specs.Meaning.Events.{seat_of, next_of, is_stay, is_way_out, has_conditions, via_of, source_of, steps_back}
-use Rattle.monk_history.specs.Meaning.Monitor.{Monitor}
-use Rattle.monk_history.specs.Meaning.Situation.{Situation, situation}
-use Rattle.monk_history.specs.Meaning.Waiters.{serves}
-use Rattle.monk_history.specs.Meaning.Signallers.{signals}
-use Rattle.monk_history.specs.Meaning.Choice.{Queues, queues_at, may_choose, may_signal, must_stay}
-use Rattle.monk_history.specs.Meaning.Turn.{turn_by, is_enter_of, is_exit_of, is_inside}
-use Rattle.monk_history.specs.Meaning.Reasons.{is_in_turn, is_owned_by, is_open, is_due, fits_object, IsAllowedIn, IsAllowed}
-use Rattle.monk_history.specs.Meaning.Legal.{IsLegal}
-use Rattle.monk_history.specs.Meaning.Counts.{chooses_seat, grants}
-use Rattle.monk_history.specs.Meaning.Standing.{times, has_turn, in_queues, IsPlaced}
+use Rattle.monk_history.proofs.MeaningLaws.{LegalLaws.legal-push, StandingLaws.legal_placed, QueueCounts.times-append}
+use Rattle.monk_history.proofs.MeaningLaws.TurnLaws.{turn-push, inside-push}
+use Rattle.monk_history.proofs.MeaningLaws.QueueSeats.{front_times, times_filter}
+use Rattle.monk_history.proofs.MeaningLaws.TestLaws.{and_left, and_right}
+use Rattle.monk_history.proofs.MeaningLaws.ReleaseLaws.{serves_times, caller_signals, caller_apart}
+use Rattle.monk_history.proofs.MeaningLaws.CountLaws.{events_of-push, length-events_of-push, enters_of-push}
+use Rattle.monk_history.proofs.MeaningLaws.CountLaws.{granted_of-push}
+use Rattle.monk_history.specs.Meaning.{Monitor.Monitor, Situation.Situation, Situation.situation, Waiters.serves}
+use Rattle.monk_history.specs.Meaning.{Signallers.signals, Legal.IsLegal, Counts.chooses_seat, Counts.grants}
+use Rattle.monk_history.specs.Meaning.Reasons.{is_in_turn, is_owned_by, is_open, is_due, fits_object, IsAllowedIn}
+use Rattle.monk_history.specs.Meaning.Reasons.{IsAllowed}
 use Rattle.monk_history.specs.Meaning.Moves.{parks, StandsAfter, CountsAfter}
-use Rattle.monk_history.specs.declared.event.Event.{Event}
-use Rattle.monk_history.specs.declared.event.Event.TheVariants.{Enter, Act, Leave, Wait, Signal, SignalLeave, Until, Resume}
-use Rattle.monk_history.specs.declared.event.Event.TheVariants.{SignalAll, SignalWait}
-use Rattle.monk_history.specs.declared.event.From3.{From3}
-use Rattle.monk_history.specs.declared.event.Via.{Via}
+use Rattle.monk_history.specs.Meaning.Standing.{times, has_turn, in_queues, IsPlaced}
+use Rattle.monk_history.specs.Meaning.Turn.{turn_by, is_enter_of, is_exit_of, is_inside}
+use Rattle.monk_history.specs.Meaning.Choice.{Queues, queues_at, may_choose, may_signal, must_stay}
+use Rattle.monk_history.specs.Meaning.Events.{seat_of, next_of, is_stay, is_way_out, has_conditions, via_of, source_of}
+use Rattle.monk_history.specs.Meaning.Events.{steps_back}
+use Rattle.monk_history.specs.declared.event.{From3.From3, Via.Via}
 use Rattle.monk_history.specs.declared.event.Next.{Next}
 use Rattle.monk_history.specs.declared.event.Next.TheVariants.{Stay, Entry, Waiter, Signaller, Until as UntilSeat}
-use Rattle.monk_history.specs.declared.event.Turn.{Turn}
-use Rattle.monk_history.specs.declared.event.Turn.TheVariants.{Open, Due, Owned}
-use Rattle.monk_history.proofs.MeaningLaws.TestLaws.{and_left, and_right}
-use Rattle.monk_history.proofs.MeaningLaws.TurnLaws.{turn-push, inside-push}
-use Rattle.monk_history.proofs.MeaningLaws.LegalLaws.{legal-push}
-use Rattle.monk_history.proofs.MeaningLaws.CountLaws.{events_of-push, length-events_of-push, enters_of-push, granted_of-push}
-use Rattle.monk_history.proofs.MeaningLaws.StandingLaws.{legal_placed}
-use Rattle.monk_history.proofs.MeaningLaws.QueueCounts.{times-append}
-use Rattle.monk_history.proofs.MeaningLaws.ReleaseLaws.{serves_times, caller_signals, caller_apart}
-use Rattle.monk_history.proofs.MeaningLaws.QueueSeats.{front_times, times_filter}
+use Rattle.monk_history.specs.declared.event.Turn.{Turn, TheVariants.Open, TheVariants.Due, TheVariants.Owned}
+use Rattle.monk_history.specs.declared.event.Event.{Event}
+use Rattle.monk_history.specs.declared.event.Event.TheVariants.{Enter, Act, Leave, Wait, Signal, SignalLeave, Until}
+use Rattle.monk_history.specs.declared.event.Event.TheVariants.{Resume, SignalAll, SignalWait}
 
 -- what one more event counts
 pub counts_after : (h : List Event) (e : Event) → CountsAfter h e

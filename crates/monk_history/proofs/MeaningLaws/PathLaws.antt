@@ -3,35 +3,30 @@ use Rattle.std.proofs.Common.{◌≡◌, ℕ, ◌<◌, ◌≤◌, Bool, true, fa
 use Rattle.std.proofs.Common.{take, refl, sym, ap, subst, ◌∙◌, arith, eq-eqb}
 use Rattle.std.specs.Prelude.{nat_le, slice_get, if◌then◌else◌}
 use Rattle.std.proofs.lemmas.Bool.{false≢true}
-use Rattle.monk_kinds.specs.declared.mode.Rules.{Rules}
-use Rattle.monk_kinds.specs.declared.mode.Mode.{Mode}
-use Rattle.monk_kinds.specs.declared.mode.Mode.TheVariants.{Blocking, NonBlocking, QuasiBlocking, ImmediateReturn, Automatic}
-use Rattle.monk_kinds.specs.declared.mode.Pick.{Pick}
-use Rattle.monk_kinds.specs.declared.mode.Pick.TheVariants.{Entry as WishEntry, Waiter as WishWaiter, Signaller as WishSignaller}
 use Rattle.monk_kinds.specs.Kind.{IsKind, FitsMode}
-use Rattle.monk_history.specs.Meaning.Events.{seat_of, has_conditions, has_signaller_queue}
-use Rattle.monk_history.specs.Meaning.Monitor.{Monitor}
-use Rattle.monk_history.specs.Meaning.Situation.{situation}
-use Rattle.monk_history.specs.Meaning.Waiters.{serves}
+use Rattle.monk_kinds.specs.declared.mode.{Rules.Rules, Mode.Mode, Mode.TheVariants.Blocking}
+use Rattle.monk_kinds.specs.declared.mode.{Mode.TheVariants.NonBlocking, Mode.TheVariants.QuasiBlocking}
+use Rattle.monk_kinds.specs.declared.mode.{Mode.TheVariants.ImmediateReturn, Mode.TheVariants.Automatic}
+use Rattle.monk_kinds.specs.declared.mode.Pick.{Pick, TheVariants.Entry as WishEntry, TheVariants.Waiter as WishWaiter}
+use Rattle.monk_kinds.specs.declared.mode.Pick.{TheVariants.Signaller as WishSignaller}
+use Rattle.monk_history.proofs.MeaningLaws.{ReleaseLaws.caller_apart, StandingLaws.legal_placed}
+use Rattle.monk_history.proofs.MeaningLaws.{QueueCounts.times-append}
+use Rattle.monk_history.proofs.MeaningLaws.ModeLaws.{IsNonBlocking, non_blocking, legal_alone, IsBlocking}
+use Rattle.monk_history.proofs.MeaningLaws.ModeLaws.{legal_emptied, legal_unsignalled}
+use Rattle.monk_history.proofs.MeaningLaws.QueueSeats.{front_absent, legal_sorted, sorted_queues}
+use Rattle.monk_history.specs.Meaning.{Monitor.Monitor, Situation.situation, Waiters.serves, Untils.ready_of}
+use Rattle.monk_history.specs.Meaning.{Standing.times, Release.MayCall, Release.choice_of, Legal.IsLegal}
 use Rattle.monk_history.specs.Meaning.Signallers.{is_empty, signals}
-use Rattle.monk_history.specs.Meaning.Untils.{ready_of}
-use Rattle.monk_history.specs.Meaning.Choice.{Queues, queues_at, is_front, must_stay}
 use Rattle.monk_history.specs.Meaning.Wish.{inner_waiters, front, waiter_choice, signaller_choice, choice_by}
 use Rattle.monk_history.specs.Meaning.Paths.{keeps_signallers, next_from, single_choice, equal_choice, served_choice}
-use Rattle.monk_history.specs.Meaning.Standing.{times}
-use Rattle.monk_history.specs.Meaning.Release.{MayCall, choice_of}
-use Rattle.monk_history.specs.Meaning.Legal.{IsLegal}
-use Rattle.monk_history.specs.declared.event.Event.{Event}
-use Rattle.monk_history.specs.declared.event.Event.TheVariants.{Signal}
-use Rattle.monk_history.specs.declared.event.From3.{From3}
-use Rattle.monk_history.specs.declared.event.From3.TheVariants.{Waiter as FromWaiter, Signaller as FromSignaller, Until as FromUntil}
+use Rattle.monk_history.specs.Meaning.Choice.{Queues, queues_at, is_front, must_stay}
+use Rattle.monk_history.specs.Meaning.Events.{seat_of, has_conditions, has_signaller_queue}
 use Rattle.monk_history.specs.declared.event.Next.{Next}
 use Rattle.monk_history.specs.declared.event.Next.TheVariants.{Stay, Entry, Waiter, Signaller, Until as UntilSeat}
-use Rattle.monk_history.proofs.MeaningLaws.ReleaseLaws.{caller_apart}
-use Rattle.monk_history.proofs.MeaningLaws.QueueSeats.{front_absent, legal_sorted, sorted_queues}
-use Rattle.monk_history.proofs.MeaningLaws.StandingLaws.{legal_placed}
-use Rattle.monk_history.proofs.MeaningLaws.QueueCounts.{times-append}
-use Rattle.monk_history.proofs.MeaningLaws.ModeLaws.{IsNonBlocking, non_blocking, legal_alone, IsBlocking, legal_emptied, legal_unsignalled}
+use Rattle.monk_history.specs.declared.event.From3.{From3}
+use Rattle.monk_history.specs.declared.event.From3.TheVariants.{Waiter as FromWaiter, Signaller as FromSignaller}
+use Rattle.monk_history.specs.declared.event.From3.TheVariants.{Until as FromUntil}
+use Rattle.monk_history.specs.declared.event.Event.{Event, TheVariants.Signal}
 
 le_no : (x y : ℕ) → y < x → nat_le x y ≡ false
 le_no x y l = grind (arith, l)

@@ -1,35 +1,26 @@
 -- Which queues a kind has, and which numbers are in them
 use Rattle.std.proofs.Common.{◌≡◌, ℕ, ◌+◌, ◌<◌, ◌≤◌, zero, suc, Bool, true, false, cond, ◌&&◌, ◌||◌, not, ◌==◌}
 use Rattle.std.proofs.Common.{List, [], ◌∷◌, ◌++◌, drop, refl, sym, ap, subst, ◌∙◌, arith, map, ⊎_elim}
-use Rattle.std.specs.Prelude.{filter, nat_lt, is_some}
 use Rattle.std.proofs.lemmas.Bool.{false≢true, cases_lt, eqb-true}
-use Rattle.monk_kinds.specs.declared.mode.Mode.{Mode}
-use Rattle.monk_kinds.specs.declared.mode.Mode.TheVariants.{Blocking, NonBlocking, QuasiBlocking, ImmediateReturn, Automatic}
-use Rattle.monk_kinds.specs.declared.mode.Rules.{Rules}
+use Rattle.std.specs.Prelude.{filter, nat_lt, is_some}
+use Rattle.monk_kinds.specs.declared.mode.{Mode.Mode, Mode.TheVariants.Blocking, Mode.TheVariants.NonBlocking}
+use Rattle.monk_kinds.specs.declared.mode.{Mode.TheVariants.QuasiBlocking, Mode.TheVariants.ImmediateReturn}
+use Rattle.monk_kinds.specs.declared.mode.{Mode.TheVariants.Automatic, Rules.Rules}
 use Rattle.monk_object.specs.Object.{Object}
-use Rattle.monk_history.specs.Meaning.Events.{seat_of, next_of, waits_on, signals_on, is_call_of}
-use Rattle.monk_history.specs.Meaning.Events.{has_conditions, has_signaller_queue, returns_at_once, is_non_blocking, is_waiter}
-use Rattle.monk_history.specs.Meaning.Events.{via_of}
-use Rattle.monk_history.specs.Meaning.Monitor.{Monitor}
-use Rattle.monk_history.specs.Meaning.Situation.{Situation, situation}
-use Rattle.monk_history.specs.Meaning.Step.{after}
-use Rattle.monk_history.specs.Meaning.Waiters.{serves}
-use Rattle.monk_history.specs.Meaning.Signallers.{signals, takes_signaller}
-use Rattle.monk_history.specs.Meaning.Untils.{waits_until, chooses, ready_of}
-use Rattle.monk_history.specs.Meaning.Choice.{queues_at, is_front}
-use Rattle.monk_history.specs.Meaning.Turn.{is_enter_of, is_exit_of}
-use Rattle.monk_history.specs.Meaning.Reasons.{is_in_range, is_condition, fits_object, is_offered}
-use Rattle.monk_history.specs.Meaning.Reasons.{IsAllowedIn}
-use Rattle.monk_history.specs.Meaning.Legal.{IsLegal}
-use Rattle.monk_history.specs.Meaning.Standing.{times, times_in_conditions}
-use Rattle.monk_history.specs.declared.event.Event.{Event}
-use Rattle.monk_history.specs.declared.event.Event.TheVariants.{Enter, Act, Leave, Wait, Signal, SignalLeave, Until, Resume}
-use Rattle.monk_history.specs.declared.event.Event.TheVariants.{SignalAll, SignalWait}
-use Rattle.monk_history.proofs.MeaningLaws.HistoryLaws.{history_induction}
-use Rattle.monk_history.proofs.MeaningLaws.LegalLaws.{legal_front, legal_last}
+use Rattle.monk_history.proofs.MeaningLaws.{HistoryLaws.history_induction, LegalLaws.legal_front, LegalLaws.legal_last}
+use Rattle.monk_history.proofs.MeaningLaws.{TestLaws.and_left, TestLaws.and_right, WishLaws.IsQueuesOf}
 use Rattle.monk_history.proofs.MeaningLaws.StepLaws.{situation-none, legal_situation-push}
-use Rattle.monk_history.proofs.MeaningLaws.TestLaws.{and_left, and_right}
-use Rattle.monk_history.proofs.MeaningLaws.WishLaws.{IsQueuesOf}
+use Rattle.monk_history.specs.Meaning.{Monitor.Monitor, Situation.Situation, Situation.situation, Step.after}
+use Rattle.monk_history.specs.Meaning.{Waiters.serves, Signallers.signals, Signallers.takes_signaller, Choice.queues_at}
+use Rattle.monk_history.specs.Meaning.{Choice.is_front, Turn.is_enter_of, Turn.is_exit_of, Legal.IsLegal}
+use Rattle.monk_history.specs.Meaning.Reasons.{is_in_range, is_condition, fits_object, is_offered, IsAllowedIn}
+use Rattle.monk_history.specs.Meaning.Standing.{times, times_in_conditions}
+use Rattle.monk_history.specs.Meaning.Events.{seat_of, next_of, waits_on, signals_on, is_call_of, has_conditions}
+use Rattle.monk_history.specs.Meaning.Events.{has_signaller_queue, returns_at_once, is_non_blocking, is_waiter, via_of}
+use Rattle.monk_history.specs.Meaning.Untils.{waits_until, chooses, ready_of}
+use Rattle.monk_history.specs.declared.event.Event.{Event}
+use Rattle.monk_history.specs.declared.event.Event.TheVariants.{Enter, Act, Leave, Wait, Signal, SignalLeave, Until}
+use Rattle.monk_history.specs.declared.event.Event.TheVariants.{Resume, SignalAll, SignalWait}
 
 -- what holds for the situation before any event, and is kept by what is allowed, holds for each legal history
 pub legal_induction : (m : Monitor) (P : Situation → Type 0) → P (situation m [])

@@ -1,31 +1,25 @@
 -- If entry is chosen, nobody could be chosen from a queue, unless somebody is known to wait for entry
 use Rattle.std.proofs.Common.{◌≡◌, ◌≢◌, ℕ, Bool, true, false, cond, not, ◌==◌, Option, Some, None, List, [], ◌∷◌, ◌++◌}
 use Rattle.std.proofs.Common.{drop, map, refl, sym, ap, ◌∙◌}
-use Rattle.std.specs.Prelude.{filter, nat_le}
-use Rattle.std.proofs.lemmas.Bool.{false≢true}
+use Rattle.std.{specs.Prelude.filter, specs.Prelude.nat_le, proofs.lemmas.Bool.false≢true}
+use Rattle.monk_kinds.specs.declared.mode.Pick.{Pick, TheVariants.Entry as WishEntry, TheVariants.Waiter as WishWaiter}
+use Rattle.monk_kinds.specs.declared.mode.Pick.{TheVariants.Signaller as WishSignaller}
 use Rattle.monk_kinds.specs.declared.mode.Rules.{Rules}
-use Rattle.monk_kinds.specs.declared.mode.Pick.{Pick}
-use Rattle.monk_kinds.specs.declared.mode.Pick.TheVariants.{Entry as WishEntry, Waiter as WishWaiter, Signaller as WishSignaller}
 use Rattle.monk_object.specs.Object.{Object}
-use Rattle.monk_history.specs.Meaning.Events.{seat_of, next_of, is_waiter, is_until, is_stay, has_conditions}
-use Rattle.monk_history.specs.Meaning.Monitor.{Monitor, data_after}
-use Rattle.monk_history.specs.Meaning.Situation.{Situation, situation}
+use Rattle.monk_history.proofs.MeaningLaws.{StepLaws.legal_situation-push, PathLaws.parts, PathLaws.parts_are}
+use Rattle.monk_history.proofs.MeaningLaws.QueueSeats.{legal_sorted, sorted_queues}
+use Rattle.monk_history.specs.Meaning.{Monitor.Monitor, Monitor.data_after, Situation.Situation, Situation.situation}
+use Rattle.monk_history.specs.Meaning.{Choice.Queues, Choice.queues_at, Choice.must_stay, Reasons.IsAllowed}
+use Rattle.monk_history.specs.Meaning.{Legal.IsLegal, Release.as_called, Entry.IsQuiet, Entry.AdmitsUnknown}
 use Rattle.monk_history.specs.Meaning.Signallers.{is_empty, takes_signaller}
-use Rattle.monk_history.specs.Meaning.Untils.{waits_until, chooses, ready_of}
-use Rattle.monk_history.specs.Meaning.Choice.{Queues, queues_at, must_stay}
 use Rattle.monk_history.specs.Meaning.Wish.{inner_waiters, front, waiter_choice, signaller_choice, choice_by}
-use Rattle.monk_history.specs.Meaning.Reasons.{IsAllowed}
-use Rattle.monk_history.specs.Meaning.Legal.{IsLegal}
-use Rattle.monk_history.specs.Meaning.Release.{as_called}
-use Rattle.monk_history.specs.Meaning.Entry.{IsQuiet, AdmitsUnknown}
-use Rattle.monk_history.specs.declared.event.Event.{Event}
-use Rattle.monk_history.specs.declared.event.Event.TheVariants.{Enter, Act, Leave, Wait, Signal, SignalLeave, Until, Resume}
-use Rattle.monk_history.specs.declared.event.Event.TheVariants.{SignalAll, SignalWait}
+use Rattle.monk_history.specs.Meaning.Events.{seat_of, next_of, is_waiter, is_until, is_stay, has_conditions}
+use Rattle.monk_history.specs.Meaning.Untils.{waits_until, chooses, ready_of}
 use Rattle.monk_history.specs.declared.event.Next.{Next}
 use Rattle.monk_history.specs.declared.event.Next.TheVariants.{Stay, Entry, Waiter, Signaller, Until as UntilSeat}
-use Rattle.monk_history.proofs.MeaningLaws.StepLaws.{legal_situation-push}
-use Rattle.monk_history.proofs.MeaningLaws.QueueSeats.{legal_sorted, sorted_queues}
-use Rattle.monk_history.proofs.MeaningLaws.PathLaws.{parts, parts_are}
+use Rattle.monk_history.specs.declared.event.Event.{Event}
+use Rattle.monk_history.specs.declared.event.Event.TheVariants.{Enter, Act, Leave, Wait, Signal, SignalLeave, Until}
+use Rattle.monk_history.specs.declared.event.Event.TheVariants.{Resume, SignalAll, SignalWait}
 
 -- both inner queues are empty
 record IsAlone (none empty : Bool) : Type 0 where

@@ -1,44 +1,33 @@
 -- A call that may be made, with the choice by the wish rules, is allowed; and which seats are in the queues
 use Rattle.std.proofs.Common.{◌≡◌, ℕ, ◌+◌, ◌<◌, ◌≤◌, Bool, true, false, cond, ◌&&◌, not, ◌==◌, Option, Some, None}
 use Rattle.std.proofs.Common.{List, [], ◌∷◌, ◌++◌, take, refl, ap, subst, arith, map, ⊎_elim}
-use Rattle.std.specs.Prelude.{nat_lt, is_some}
-use Rattle.std.specs.Option.{option_map_or}
-use Rattle.std.specs.List.{list_all}
 use Rattle.std.proofs.lemmas.Bool.{false≢true, cases_lt, eqb-true}
-use Rattle.monk_kinds.specs.declared.mode.Rules.{Rules}
-use Rattle.monk_kinds.specs.declared.mode.Pick.{Pick}
-use Rattle.monk_kinds.specs.Kind.{IsKind}
-use Rattle.monk_history.specs.Meaning.Events.{seat_of, named_seat, signals_on}
-use Rattle.monk_history.specs.Meaning.Events.{is_stay}
-use Rattle.monk_history.specs.Meaning.Events.{via_of, source_of, steps_back}
-use Rattle.monk_history.specs.Meaning.Monitor.{Monitor}
-use Rattle.monk_history.specs.Meaning.Situation.{Situation, situation}
-use Rattle.monk_history.specs.Meaning.Waiters.{served_at, serves}
-use Rattle.monk_history.specs.Meaning.Signallers.{is_empty, signals}
-use Rattle.monk_history.specs.Meaning.Choice.{Queues, queues_at, may_choose, may_signal}
-use Rattle.monk_history.specs.Meaning.Wish.{choice_by}
-use Rattle.monk_history.specs.Meaning.Reasons.{is_in_range, is_condition, fits_object, is_due, is_queue}
-use Rattle.monk_history.specs.Meaning.Reasons.{is_open, is_owned_by, is_in_turn, is_in_place, may_enter, is_right_reply, IsAllowedIn}
-use Rattle.monk_history.specs.Meaning.Legal.{IsLegal}
-use Rattle.monk_history.specs.Meaning.Standing.{times, times_in_conditions, has_turn, IsPlaced}
-use Rattle.monk_history.specs.Meaning.Release.{MayCallIn, with_next, choice_of}
-use Rattle.monk_history.specs.declared.event.Event.{Event}
-use Rattle.monk_history.specs.declared.event.Event.TheVariants.{Enter, Act, Leave, Wait, Signal, SignalLeave, Until, Resume}
-use Rattle.monk_history.specs.declared.event.Event.TheVariants.{SignalAll, SignalWait}
-use Rattle.monk_history.specs.declared.event.Next.{Next}
-use Rattle.monk_history.specs.declared.event.Next.TheVariants.{Stay, Entry, Waiter, Signaller, Until as UntilSeat}
-use Rattle.monk_history.specs.declared.event.Turn.{Turn}
-use Rattle.monk_history.specs.declared.event.Turn.TheVariants.{Open, Due, Owned}
-use Rattle.monk_history.specs.declared.event.From3.{From3}
-use Rattle.monk_history.specs.declared.event.Via.{Via}
-use Rattle.monk_history.proofs.MeaningLaws.TestLaws.{and_left, and_right}
+use Rattle.std.specs.{Prelude.nat_lt, Prelude.is_some, Option.option_map_or, List.list_all}
+use Rattle.monk_kinds.specs.{declared.mode.Rules.Rules, declared.mode.Pick.Pick, Kind.IsKind}
+use Rattle.monk_history.proofs.MeaningLaws.{TestLaws.and_left, TestLaws.and_right, StandingLaws.legal_placed}
 use Rattle.monk_history.proofs.MeaningLaws.WishLaws.{choice_permitted, signal_permitted}
-use Rattle.monk_history.proofs.MeaningLaws.StandingLaws.{legal_placed}
 use Rattle.monk_history.proofs.MeaningLaws.QueueCounts.{times-append, times_served}
 use Rattle.monk_history.proofs.MeaningLaws.QueueSeats.{IsSorted, signal_conditions, legal_sorted, sorted_queues}
-use Rattle.monk_history.proofs.MeaningLaws.QueueSeats.{IsSeated, lt_of, lt_to, seat_in_range, legal_seated}
-use Rattle.monk_history.proofs.MeaningLaws.QueueSeats.{front_times, front_absent, times_le_conditions, some_true}
-use Rattle.monk_history.proofs.MeaningLaws.QueueSeats.{cond_le_one, times_filter}
+use Rattle.monk_history.proofs.MeaningLaws.QueueSeats.{IsSeated, lt_of, lt_to, seat_in_range, legal_seated, front_times}
+use Rattle.monk_history.proofs.MeaningLaws.QueueSeats.{front_absent, times_le_conditions, some_true, cond_le_one}
+use Rattle.monk_history.proofs.MeaningLaws.QueueSeats.{times_filter}
+use Rattle.monk_history.specs.Meaning.{Monitor.Monitor, Waiters.served_at, Waiters.serves, Signallers.is_empty}
+use Rattle.monk_history.specs.Meaning.{Signallers.signals, Wish.choice_by, Legal.IsLegal}
+use Rattle.monk_history.specs.Meaning.Situation.{Situation, situation}
+use Rattle.monk_history.specs.Meaning.Release.{MayCallIn, with_next, choice_of}
+use Rattle.monk_history.specs.Meaning.Reasons.{is_in_range, is_condition, fits_object, is_due, is_queue, is_open}
+use Rattle.monk_history.specs.Meaning.Reasons.{is_owned_by, is_in_turn, is_in_place, may_enter, is_right_reply}
+use Rattle.monk_history.specs.Meaning.Reasons.{IsAllowedIn}
+use Rattle.monk_history.specs.Meaning.Standing.{times, times_in_conditions, has_turn, IsPlaced}
+use Rattle.monk_history.specs.Meaning.Choice.{Queues, queues_at, may_choose, may_signal}
+use Rattle.monk_history.specs.Meaning.Events.{seat_of, named_seat, signals_on, is_stay, via_of, source_of, steps_back}
+use Rattle.monk_history.specs.declared.event.{From3.From3, Via.Via}
+use Rattle.monk_history.specs.declared.event.Next.{Next}
+use Rattle.monk_history.specs.declared.event.Next.TheVariants.{Stay, Entry, Waiter, Signaller, Until as UntilSeat}
+use Rattle.monk_history.specs.declared.event.Turn.{Turn, TheVariants.Open, TheVariants.Due, TheVariants.Owned}
+use Rattle.monk_history.specs.declared.event.Event.{Event}
+use Rattle.monk_history.specs.declared.event.Event.TheVariants.{Enter, Act, Leave, Wait, Signal, SignalLeave, Until}
+use Rattle.monk_history.specs.declared.event.Event.TheVariants.{Resume, SignalAll, SignalWait}
 
 -- each number in the queues of a release is that of a seat
 pub record IsWithin (seats : ℕ) (q : Queues) : Type 0 where

@@ -1,13 +1,10 @@
 -- Sums over a history, seat by seat
 use Rattle.std.proofs.Common.{◌≡◌, ◌≢◌, ℕ, ◌+◌, ◌==◌, zero, suc, Bool, true, false, not, cond, List, [], ◌∷◌, length}
 use Rattle.std.proofs.Common.{refl, sym, ap, subst, ◌∙◌, arith, eq-eqb, inl, inr}
-use Rattle.std.specs.Prelude.{All, AllPairs, filter, sum_by}
 use Rattle.std.proofs.lemmas.Bool.Decides.{eqb_tells}
-use Rattle.std.proofs.lemmas.List.Elements.{All-cons, All-head, All-tail}
-use Rattle.std.proofs.lemmas.List.Sums.{sum_by-cons}
-use Rattle.monk_history.specs.Meaning.Counts.{events_of}
-use Rattle.monk_history.specs.Meaning.Events.{seat_of}
-use Rattle.monk_history.specs.declared.event.Event.{Event}
+use Rattle.std.proofs.lemmas.List.{Elements.All-cons, Elements.All-head, Elements.All-tail, Sums.sum_by-cons}
+use Rattle.std.specs.Prelude.{All, AllPairs, filter, sum_by}
+use Rattle.monk_history.specs.{Meaning.Counts.events_of, Meaning.Events.seat_of, declared.event.Event.Event}
 
 -- what all seats except this one did
 unfoldable pub others_than : ℕ → List Event → List Event

@@ -3,25 +3,14 @@
 use Rattle.std.proofs.Common.{◌≡◌, ℕ, ◌<◌, ◌-◌, Bool, true, false, ◌&&◌, not, List, [], ◌∷◌, ◌++◌, length, refl}
 use Rattle.std.proofs.Common.{sym, ap, subst, ◌∙◌, arith, length-append}
 use Rattle.std.specs.Prelude.{nat_lt, slice_get}
-use Rattle.monk_history.specs.Meaning.Legal.{IsLegal}
-use Rattle.monk_history.specs.Meaning.Monitor.{Monitor}
-use Rattle.monk_history.specs.Meaning.Release.{MayCall}
-use Rattle.monk_history.specs.Meaning.Signallers.{is_empty}
-use Rattle.monk_history.specs.Meaning.Situation.{Situation, situation}
-use Rattle.monk_history.specs.Meaning.Standing.{has_turn, is_queued}
-use Rattle.monk_history.specs.Meaning.Turn.{turn, turn_after, is_inside}
-use Rattle.monk_history.specs.Meaning.Untils.{ready_of}
-use Rattle.monk_history.specs.declared.event.Event.{Event}
-use Rattle.monk_history.specs.declared.event.Event.TheVariants.{Enter}
-use Rattle.monk_history.specs.declared.event.Turn.{Turn}
-use Rattle.monk_history.specs.declared.event.Turn.TheVariants.{Open}
-use Rattle.monk_history.specs.declared.event.Via.TheVariants.{Free, Handed}
+use Rattle.monk_history.proofs.MeaningLaws.{HistoryLaws.history_induction, LegalLaws.get_last}
+use Rattle.monk_history.proofs.MeaningLaws.{StandingLaws.legal_placed, StepLaws.situation-none, TurnLaws.turn-push}
 use Rattle.monk_history.proofs.MeaningLaws.CallLaws.{may_enter_free, may_enter_handed, queued_is}
-use Rattle.monk_history.proofs.MeaningLaws.HistoryLaws.{history_induction}
-use Rattle.monk_history.proofs.MeaningLaws.LegalLaws.{get_last}
-use Rattle.monk_history.proofs.MeaningLaws.StandingLaws.{legal_placed}
-use Rattle.monk_history.proofs.MeaningLaws.StepLaws.{situation-none}
-use Rattle.monk_history.proofs.MeaningLaws.TurnLaws.{turn-push}
+use Rattle.monk_history.specs.Meaning.{Legal.IsLegal, Monitor.Monitor, Release.MayCall, Signallers.is_empty}
+use Rattle.monk_history.specs.Meaning.{Situation.Situation, Situation.situation, Standing.has_turn, Standing.is_queued}
+use Rattle.monk_history.specs.Meaning.{Turn.turn, Turn.turn_after, Turn.is_inside, Untils.ready_of}
+use Rattle.monk_history.specs.declared.event.{Event.Event, Event.TheVariants.Enter, Turn.Turn, Turn.TheVariants.Open}
+use Rattle.monk_history.specs.declared.event.Via.TheVariants.{Free, Handed}
 
 inside_by : (a b : Bool) → (a && not (nat_lt 0 0)) ≡ b → b ≡ false → a ≡ false
 inside_by true b h e = h ∙ e

@@ -1,28 +1,24 @@
 -- An event is read from the words that it is written as, and an event that is written is read again.
 use Rattle.std.proofs.Common.{arith, ◌-◌, lit<, ◌≡◌, ℕ, ◌≤◌, ◌^◌, true, List, [], ◌∷◌, ◌++◌, Some, Ok, refl, sym, ap, subst, ◌∙◌}
-use Rattle.std.specs.Prelude.{IsTrue, nat_le}
-use Rattle.std.specs.Fmt.{decimal}
-use Rattle.std.proofs.lemmas.List.{append-nil}
-use Rattle.monk_history.specs.declared.event.Event.{Event}
-use Rattle.monk_history.specs.declared.event.Event.TheVariants.{Enter, Act, Leave, Wait, Signal, SignalLeave, Until, Resume}
-use Rattle.monk_history.specs.declared.event.Event.TheVariants.{SignalAll, SignalWait}
-use Rattle.monk_history.specs.declared.event.Via.{Via}
-use Rattle.monk_history.specs.declared.event.From3.{From3}
-use Rattle.monk_history.specs.declared.event.Next.{Next}
-use Rattle.monk_history.specs.declared.event.Next.TheVariants.{Stay, Entry, Waiter, Signaller}
+use Rattle.std.{specs.Prelude.IsTrue, specs.Prelude.nat_le, specs.Fmt.decimal, proofs.lemmas.List.append-nil}
 use Rattle.monk_history.specs.declared.event.Next.TheVariants as next
-use Rattle.monk_object.specs.declared.op.Op.{Op}
-use Rattle.monk_history.specs.declared.text.next_word.NextWord.{NextWord}
 use Rattle.monk_history.specs.declared.text.next_word.NextWord.TheVariants as word
-use Rattle.monk_history.specs.declared.text.verb.Verb.{Verb}
 use Rattle.monk_history.specs.declared.text.verb.Verb.TheVariants as verb
-use Rattle.monk_kinds.specs.Names.{with_text}
-use Rattle.monk_history.specs.Text.{via_word, from_word, next_words, event_words, first_version, NextFits, EventFits}
 use Rattle.monk_history.specs.Text.Words.{◌>>=◌, Word, number_at, one_of, end_at}
+use Rattle.monk_history.proofs.TextLaws.WordReaders.{bind_ok, ok_is, number_takes, number_again, one_of_takes}
+use Rattle.monk_history.proofs.TextLaws.WordReaders.{one_of_again, end_takes, kept_again, one_of_kept}
+use Rattle.monk_history.specs.Text.{via_word, from_word, next_words, event_words, first_version, NextFits, EventFits}
 use Rattle.monk_history.specs.Text.Reading.{vias, froms, next_word, all_next_words, next_after, next_at, verb_word}
 use Rattle.monk_history.specs.Text.Reading.{verb_version, verbs, verbs_of, cond_next_at, act_at, event_after, event_at}
-use Rattle.monk_history.proofs.TextLaws.WordReaders.{bind_ok, ok_is, number_takes, number_again, one_of_takes, one_of_again, end_takes}
-use Rattle.monk_history.proofs.TextLaws.WordReaders.{kept_again, one_of_kept}
+use Rattle.monk_history.specs.declared.event.{Via.Via, From3.From3}
+use Rattle.monk_history.specs.declared.event.Next.{Next}
+use Rattle.monk_history.specs.declared.event.Next.TheVariants.{Stay, Entry, Waiter, Signaller}
+use Rattle.monk_history.specs.declared.event.Event.{Event}
+use Rattle.monk_history.specs.declared.event.Event.TheVariants.{Enter, Act, Leave, Wait, Signal, SignalLeave, Until}
+use Rattle.monk_history.specs.declared.event.Event.TheVariants.{Resume, SignalAll, SignalWait}
+use Rattle.monk_history.specs.declared.text.{next_word.NextWord.NextWord, verb.Verb.Verb}
+use Rattle.monk_object.specs.declared.op.Op.{Op}
+use Rattle.monk_kinds.specs.Names.{with_text}
 
 pub via_again : (v : Via) → with_text via_word vias (via_word v) ≡ Some v
 via_again v = grind (arith)

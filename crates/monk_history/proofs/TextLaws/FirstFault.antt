@@ -2,19 +2,18 @@
 use Rattle.std.proofs.Common.{◌≡◌, ◌==◌, ℕ, zero, suc, ◌+◌, ◌-◌, ◌<◌, Bool, true, false, cond, List, [], ◌∷◌, ◌++◌}
 use Rattle.std.proofs.Common.{length, take, Result, Ok, Err, refl, sym, ap, subst, ◌∙◌, append_assoc, arith}
 use Rattle.std.specs.List.{onto_first, flat_map, AllByRecursion}
-use Rattle.monk_history.specs.declared.text.fault.ReadFault.{ReadFault}
 use Rattle.monk_history.specs.declared.text.fault.Flaw.TheVariants as flaw
+use Rattle.monk_history.specs.Text.Words.{◌>>=◌, Word, Taken, words_of}
+use Rattle.monk_history.proofs.TextLaws.{HistoryText.text_again, HistoryText.text_read, LineCuts.cut_at}
+use Rattle.monk_history.proofs.TextLaws.LineSteps.{last_part, one_line, some_part, too_long}
+use Rattle.monk_history.specs.Text.{heading, text, Laws.BeginsText, Laws.IsFirstFaulty, Laws.first_lines}
+use Rattle.monk_history.specs.Text.Lines.{lines_of, is_unended, items_at, item_line, after_header, header_line}
+use Rattle.monk_history.specs.Text.Lines.{lines_at, with_line_number}
+use Rattle.monk_history.specs.Text.Faults.{end_fault, header_fault, long_fault, number_fault, word_fault}
+use Rattle.monk_history.specs.Text.Reading.{event_under, header_at, history, text_at}
+use Rattle.monk_history.specs.declared.text.fault.ReadFault.{ReadFault}
 use Rattle.monk_kinds.specs.declared.name.KindName.TheVariants.{Pb}
 use Rattle.monk_object.specs.declared.name.ObjectName.TheVariants.{Buffer}
-use Rattle.monk_history.specs.Text.{heading, text}
-use Rattle.monk_history.specs.Text.Faults.{end_fault, header_fault, long_fault, number_fault, word_fault}
-use Rattle.monk_history.specs.Text.Laws.{BeginsText, IsFirstFaulty, first_lines}
-use Rattle.monk_history.specs.Text.Lines.{lines_of, is_unended, items_at, item_line, after_header, header_line, lines_at, with_line_number}
-use Rattle.monk_history.specs.Text.Reading.{event_under, header_at, history, text_at}
-use Rattle.monk_history.specs.Text.Words.{◌>>=◌, Word, Taken, words_of}
-use Rattle.monk_history.proofs.TextLaws.HistoryText.{text_again, text_read}
-use Rattle.monk_history.proofs.TextLaws.LineCuts.{cut_at}
-use Rattle.monk_history.proofs.TextLaws.LineSteps.{last_part, one_line, some_part, too_long}
 
 -- ---- the lines of the first lines of some bytes
 

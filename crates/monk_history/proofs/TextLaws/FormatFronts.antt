@@ -1,13 +1,9 @@
 -- An item whose line is at the front of some bytes, for any items that are written in words and read from them.
 use Rattle.std.proofs.Common.{ℕ, List, [], ◌∷◌, Option, Some, None, Ok, sym, ap, ◌∙◌}
-use Rattle.std.proofs.Common.{append_assoc, drop}
-use Rattle.std.specs.Prelude.{IfSome}
-use Rattle.std.specs.List.{join_with_byte}
+use Rattle.std.{proofs.Common.append_assoc, proofs.Common.drop, specs.Prelude.IfSome, specs.List.join_with_byte}
+use Rattle.monk_history.proofs.TextLaws.{LineCuts.words_of-words, LineCuts.no_end_in_join, TextFormats.IsFormat}
+use Rattle.monk_history.specs.Text.{Lines.line, Lines.taken_alone, Lines.IsReadAs, Lines.IsAtFront, Places.StandsAt}
 use Rattle.monk_history.specs.Text.Words.{Word, Taken}
-use Rattle.monk_history.specs.Text.Lines.{line, taken_alone, IsReadAs, IsAtFront}
-use Rattle.monk_history.specs.Text.Places.{StandsAt}
-use Rattle.monk_history.proofs.TextLaws.LineCuts.{words_of-words, no_end_in_join}
-use Rattle.monk_history.proofs.TextLaws.TextFormats.{IsFormat}
 
 module _ {A : Type 0} (words : A → List Word) (parse : List Word → Taken A) (Fits : A → Type 0)
     (is : IsFormat words parse Fits) where

@@ -1,21 +1,17 @@
 -- A header is read from the words that it is written as, and a header that is written is read again.
 use Rattle.std.proofs.Common.{lit<, ◌≡◌, ℕ, ◌≤◌, List, [], ◌∷◌, ◌++◌, Some, Ok, refl, sym, ap, subst, ◌∙◌, arith}
 use Rattle.std.specs.Prelude.{◌&&◌, nat_le, codes}
-use Rattle.std.specs.Fmt.{decimal}
-use Rattle.std.proofs.lemmas.Bool.{leb-true, le-leb}
-use Rattle.monk_kinds.specs.declared.name.KindName.{KindName}
-use Rattle.monk_object.specs.declared.name.ObjectName.{ObjectName}
-use Rattle.monk_kinds.specs.Names.{kind_word, with_text, kinds}
+use Rattle.std.{specs.Fmt.decimal, proofs.lemmas.Bool.leb-true, proofs.lemmas.Bool.le-leb}
 use Rattle.monk_kinds.proofs.PublicLaws.{kind_again}
-use Rattle.monk_object.specs.Names.{object_word, objects}
-use Rattle.monk_history.specs.Limits.{most_seats, most_conds}
-use Rattle.monk_history.specs.Text.{Heading, heading, object_version, last_version, part_words, header_words, IsHeading}
+use Rattle.monk_kinds.specs.{declared.name.KindName.KindName, Names.kind_word, Names.with_text, Names.kinds}
+use Rattle.monk_object.specs.{declared.name.ObjectName.ObjectName, Names.object_word, Names.objects}
 use Rattle.monk_history.specs.Text.Words.{◌>>=◌, Word, Taken, number_at, with_rest, one_of, literal_at, end_at}
-use Rattle.monk_history.specs.Text.Reading.{first_heading_of, heading_of, parts_at, header_at}
-use Rattle.monk_history.proofs.TextLaws.LineCuts.{both}
-use Rattle.monk_history.proofs.TextLaws.ObjectVersions.{none_newer}
+use Rattle.monk_history.proofs.TextLaws.{LineCuts.both, ObjectVersions.none_newer}
 use Rattle.monk_history.proofs.TextLaws.WordReaders.{bind_ok, ok_is, number_takes, number_again, one_of_takes}
 use Rattle.monk_history.proofs.TextLaws.WordReaders.{one_of_again, made_takes, literal_takes, end_takes}
+use Rattle.monk_history.specs.Limits.{most_seats, most_conds}
+use Rattle.monk_history.specs.Text.{Heading, heading, object_version, last_version, part_words, header_words, IsHeading}
+use Rattle.monk_history.specs.Text.Reading.{first_heading_of, heading_of, parts_at, header_at}
 
 pub object_again : (o : ObjectName) → with_text object_word objects (object_word o) ≡ Some o
 object_again o = grind (arith)

@@ -1,20 +1,15 @@
 -- The laws of the text of a history: what is read has that text, and what has a text is read from it.
 use Rattle.std.proofs.Common.{◌≡◌, ℕ, ◌≤◌, true, List, [], ◌∷◌, length, Result, Ok, Err, refl, ap, subst, ◌∙◌, arith}
-use Rattle.std.specs.Prelude.{IfOk, nat_le}
-use Rattle.std.specs.List.{AllByRecursion}
-use Rattle.std.specs.Global.{Vec}
-use Rattle.monk_history.specs.declared.event.Event.{Event}
-use Rattle.monk_history.specs.declared.text.fault.ReadFault.{ReadFault}
-use Rattle.monk_history.specs.Text.{Heading, text, header_words, event_words, first_version, is_writable}
-use Rattle.monk_history.specs.Text.{IsHeading, EventFits, HasText}
-use Rattle.monk_history.specs.Text.Lines.{Gives}
-use Rattle.monk_history.specs.Text.Reading.{History, history, view, header_at, event_under, text_at}
-use Rattle.monk_history.proofs.TextLaws.LineCuts.{both}
+use Rattle.std.specs.{Prelude.IfOk, Prelude.nat_le, List.AllByRecursion, Global.Vec}
 use Rattle.monk_history.proofs.TextLaws.TextFormats as formats
-use Rattle.monk_history.proofs.TextLaws.TextFormats.{IsFormat}
+use Rattle.monk_history.proofs.TextLaws.{LineCuts.both, TextFormats.IsFormat}
+use Rattle.monk_history.proofs.TextLaws.HeaderReading.{header_takes, header_again}
 use Rattle.monk_history.proofs.TextLaws.PlainWords.{event_are_words, header_are_words, some_word}
 use Rattle.monk_history.proofs.TextLaws.EventReading.{FitsVersion, event_takes, event_again}
-use Rattle.monk_history.proofs.TextLaws.HeaderReading.{header_takes, header_again}
+use Rattle.monk_history.specs.Text.{Heading, text, header_words, event_words, first_version, is_writable, IsHeading}
+use Rattle.monk_history.specs.Text.{EventFits, HasText, Lines.Gives}
+use Rattle.monk_history.specs.Text.Reading.{History, history, view, header_at, event_under, text_at}
+use Rattle.monk_history.specs.declared.{event.Event.Event, text.fault.ReadFault.ReadFault}
 
 headers : IsFormat header_words header_at IsHeading
 headers = record { takes = header_takes; again = header_again; plain = header_are_words; some = λ h. omega arith }

@@ -2,8 +2,7 @@
 use Rattle.std.proofs.Common.{◌≤◌, arith}
 use Rattle.monk_object.specs.declared.name.ObjectName.{ObjectName}
 use Rattle.monk_object.specs.declared.name.ObjectName.TheVariants.{Buffer, Book, Shop, Flags}
-use Rattle.monk_history.specs.Limits.{newest_version, all_events_version}
-use Rattle.monk_history.specs.Text.{last_version}
+use Rattle.monk_history.specs.{Limits.newest_version, Limits.all_events_version, Text.last_version}
 
 pub every_event_named : (o : ObjectName) → all_events_version ≤ last_version o
 every_event_named Buffer = omega arith

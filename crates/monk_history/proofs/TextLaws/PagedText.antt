@@ -1,14 +1,10 @@
 -- A text that goes out page by page.
 use Rattle.std.proofs.Common.{◌≡◌, ℕ, ◌+◌, ◌<◌, take, get_or, List, [], ◌∷◌, ◌++◌, Option, sym, ap, subst, ◌∙◌, length, append_assoc}
-use Rattle.std.specs.List.{AllByRecursion, flat_map}
-use Rattle.std.specs.Io.KnownBytes.{Appends}
 use Rattle.std.proofs.KnownBytes.{Appends-trans}
-use Rattle.std.proofs.lemmas.List.{append-nil}
-use Rattle.std.proofs.lemmas.List.{take_more}
-use Rattle.std.proofs.lemmas.Grind.{flat_map-append}
+use Rattle.std.proofs.lemmas.{List.append-nil, List.take_more, Grind.flat_map-append}
+use Rattle.std.specs.{List.AllByRecursion, List.flat_map, Io.KnownBytes.Appends}
+use Rattle.monk_history.specs.Text.{EventFits, Heading, IsHeading, event_words, header_words, text, Lines.line}
 use Rattle.monk_history.specs.declared.event.Event.{Event}
-use Rattle.monk_history.specs.Text.{EventFits, Heading, IsHeading, event_words, header_words, text}
-use Rattle.monk_history.specs.Text.Lines.{line}
 
 -- the writer got a part of the text, and the page has the rest
 pub record IsOnItsWay (before now : Option (List ℕ)) (page text : List ℕ) : Type 0 where

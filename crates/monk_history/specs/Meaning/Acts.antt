@@ -1,16 +1,12 @@
 -- The acts of a history, and what they mean if the monitor guards a buffer, a book, a shop or flags. This is what a
 -- reader of the history sees of the object, in the words of `monk_object`
 use Rattle.std.specs.Prelude.{◌≡◌, ℕ, ◌+◌, ◌^◌, ◌<◌, ◌≤◌, ◌==◌, ◌⊎◌, Bool, false, List, [], ◌∷◌, ◌++◌, length, map, if◌then◌else◌, option_to_list}
-use Rattle.std.specs.List.{flat_map}
-use Rattle.std.specs.Option.{option_map_or}
-use Rattle.monk_object.specs.Book.{START_READ, END_READ, START_WRITE, END_WRITE}
-use Rattle.monk_object.specs.Shop.{SIT, CALL, FINISH, DEPART}
-use Rattle.monk_object.specs.Laws.{bits_set, items_put, items_taken}
-use Rattle.monk_object.specs.Runs.{Answered, answers_of, is_refused, state_after, times_done}
-use Rattle.monk_object.specs.declared.op.Op.{Op}
+use Rattle.std.specs.{List.flat_map, Option.option_map_or}
+use Rattle.monk_object.specs.{Book.START_READ, Book.END_READ, Book.START_WRITE, Book.END_WRITE, Shop.SIT, Shop.CALL}
+use Rattle.monk_object.specs.{Shop.FINISH, Shop.DEPART, Laws.bits_set, Laws.items_put, Laws.items_taken, Runs.Answered}
+use Rattle.monk_object.specs.{Runs.answers_of, Runs.is_refused, Runs.state_after, Runs.times_done, declared.op.Op.Op}
+use Rattle.monk_history.specs.Meaning.{Events.answered_act, Monitor.Monitor, Monitor.data_of}
 use Rattle.monk_history.specs.declared.event.Event.{Event}
-use Rattle.monk_history.specs.Meaning.Events.{answered_act}
-use Rattle.monk_history.specs.Meaning.Monitor.{Monitor, data_of}
 
 -- the act of an event, with the reply in the history
 abbrev pub act_of : Event → List Answered

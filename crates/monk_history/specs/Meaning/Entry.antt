@@ -1,17 +1,10 @@
 -- When a seat may enter or resume
 use Rattle.std.specs.Prelude.{◌≡◌, ℕ, ◌<◌, false, Some, List, []}
 use Rattle.monk_kinds.specs.declared.mode.Pick.{Pick}
-use Rattle.monk_history.specs.Meaning.Events.{next_of}
-use Rattle.monk_history.specs.Meaning.Situation.{Situation}
-use Rattle.monk_history.specs.Meaning.Release.{as_called, choice_of}
-use Rattle.monk_history.specs.declared.event.Next.TheVariants.{Entry}
-use Rattle.monk_history.specs.Meaning.Monitor.{Monitor, data_of}
-use Rattle.monk_history.specs.Meaning.Waiters.{waiters}
-use Rattle.monk_history.specs.Meaning.Signallers.{signallers}
-use Rattle.monk_history.specs.Meaning.Untils.{untils, ready_of}
-use Rattle.monk_history.specs.Meaning.Turn.{turn, is_inside}
-use Rattle.monk_history.specs.declared.event.Event.{Event}
-use Rattle.monk_history.specs.declared.event.From3.{From3}
+use Rattle.monk_history.specs.Meaning.{Events.next_of, Situation.Situation, Release.as_called, Release.choice_of}
+use Rattle.monk_history.specs.Meaning.{Monitor.Monitor, Monitor.data_of, Waiters.waiters, Signallers.signallers}
+use Rattle.monk_history.specs.Meaning.{Untils.untils, Untils.ready_of, Turn.turn, Turn.is_inside}
+use Rattle.monk_history.specs.declared.event.{Next.TheVariants.Entry, Event.Event, From3.From3}
 use Rattle.monk_history.specs.declared.event.Turn.TheVariants.{Open, Due}
 
 -- nobody could be chosen from a queue

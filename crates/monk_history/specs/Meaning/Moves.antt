@@ -1,11 +1,10 @@
 -- How one more event changes where seats are, and what is counted seat by seat
 use Rattle.std.specs.Prelude.{◌≡◌, ◌≢◌, ℕ, ◌+◌, ◌==◌, Bool, true, ◌&&◌, ◌||◌, not, List, [], ◌∷◌, ◌++◌, length, if◌then◌else◌, is_some}
-use Rattle.monk_history.specs.Meaning.Events.{seat_of, next_of, is_stay, is_way_out, waits_on, awaited_predicate, steps_back}
-use Rattle.monk_history.specs.Meaning.Monitor.{Monitor}
-use Rattle.monk_history.specs.Meaning.Situation.{Situation}
-use Rattle.monk_history.specs.Meaning.Turn.{turn, turn_by}
+use Rattle.monk_history.specs.Meaning.{Monitor.Monitor, Situation.Situation, Turn.turn, Turn.turn_by}
 use Rattle.monk_history.specs.Meaning.Counts.{events_of, is_enter, enters_of, grants, granted_of}
 use Rattle.monk_history.specs.Meaning.Standing.{in_queues, standing}
+use Rattle.monk_history.specs.Meaning.Events.{seat_of, next_of, is_stay, is_way_out, waits_on, awaited_predicate}
+use Rattle.monk_history.specs.Meaning.Events.{steps_back}
 use Rattle.monk_history.specs.declared.event.Event.{Event}
 
 -- whether an event puts its own seat into a queue: a wait, and a signal or an until that does not stay

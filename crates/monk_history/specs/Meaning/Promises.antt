@@ -1,19 +1,15 @@
 -- What a signal promises to the seat that it serves, and a wait-until to the seat that goes on
 use Rattle.std.specs.Prelude.{◌≡◌, ◌<◌, ℕ, ◌+◌, ◌==◌, nat_lt, Bool, true, false, ◌&&◌, ◌||◌, IsTrue, Some, List, take, slice_get, is_some}
 use Rattle.std.specs.List.{list_any}
-use Rattle.monk_kinds.specs.declared.mode.Mode.{Mode}
-use Rattle.monk_kinds.specs.declared.mode.Mode.TheVariants.{Blocking, NonBlocking, QuasiBlocking, ImmediateReturn, Automatic}
-use Rattle.monk_kinds.specs.declared.mode.Rules.{Rules}
 use Rattle.monk_kinds.specs.declared.name.KindName.{KindName}
 use Rattle.monk_kinds.specs.declared.name.KindName.TheVariants.{Pb, Npb, Pnb, Npnb, Pqb, Npqb, Pir, Npir, Pis, Npis}
-use Rattle.monk_history.specs.Meaning.Events.{returns_at_once, via_of}
-use Rattle.monk_history.specs.Meaning.Monitor.{Monitor, data_of}
-use Rattle.monk_history.specs.Meaning.Conditions.{condition}
-use Rattle.monk_history.specs.Meaning.Waiters.{serves}
-use Rattle.monk_history.specs.Meaning.Untils.{untils}
-use Rattle.monk_history.specs.declared.event.Event.{Event}
-use Rattle.monk_history.specs.declared.event.Event.TheVariants.{Resume}
+use Rattle.monk_kinds.specs.declared.mode.{Mode.Mode, Mode.TheVariants.Blocking, Mode.TheVariants.NonBlocking}
+use Rattle.monk_kinds.specs.declared.mode.{Mode.TheVariants.QuasiBlocking, Mode.TheVariants.ImmediateReturn}
+use Rattle.monk_kinds.specs.declared.mode.{Mode.TheVariants.Automatic, Rules.Rules}
+use Rattle.monk_history.specs.Meaning.{Events.returns_at_once, Events.via_of, Monitor.Monitor, Monitor.data_of}
+use Rattle.monk_history.specs.Meaning.{Conditions.condition, Waiters.serves, Untils.untils}
 use Rattle.monk_history.specs.declared.event.From3.TheVariants.{Waiter as FromWaiter, Until as FromUntil}
+use Rattle.monk_history.specs.declared.event.Event.{Event, TheVariants.Resume}
 
 -- whether the mode is blocking: its signaller steps back for the seat that it serves
 abbrev pub is_blocking : Mode → Bool

@@ -1,20 +1,15 @@
 -- What a call asks for, before the choice and the reply are known
 use Rattle.std.specs.Prelude.{Bool, IsTrue, if◌then◌else◌}
-use Rattle.monk_kinds.specs.declared.mode.Rules.{Rules}
-use Rattle.monk_kinds.specs.declared.mode.Pick.{Pick}
-use Rattle.monk_object.specs.Object.{Object}
-use Rattle.monk_history.specs.Meaning.Events.{seat_of}
-use Rattle.monk_history.specs.Meaning.Monitor.{Monitor}
-use Rattle.monk_history.specs.Meaning.Situation.{Situation, situation}
-use Rattle.monk_history.specs.Meaning.Choice.{queues_at, must_stay}
-use Rattle.monk_history.specs.Meaning.Wish.{choice_by}
-use Rattle.monk_history.specs.Meaning.Reasons.{is_in_range, is_offered, is_in_turn, is_in_place}
-use Rattle.monk_history.specs.declared.event.Event.{Event}
-use Rattle.monk_history.specs.declared.event.Event.TheVariants.{Enter, Act, Leave, Wait, Signal, SignalLeave, Until, Resume}
-use Rattle.monk_history.specs.declared.event.Event.TheVariants.{SignalAll, SignalWait}
-use Rattle.monk_history.specs.declared.event.Next.{Next}
-use Rattle.monk_history.specs.declared.event.Next.TheVariants.{Stay}
 use Rattle.std.specs.Prelude.{List}
+use Rattle.monk_kinds.specs.declared.mode.{Rules.Rules, Pick.Pick}
+use Rattle.monk_object.specs.Object.{Object}
+use Rattle.monk_history.specs.Meaning.{Events.seat_of, Monitor.Monitor, Situation.Situation, Situation.situation}
+use Rattle.monk_history.specs.Meaning.{Choice.queues_at, Choice.must_stay, Wish.choice_by}
+use Rattle.monk_history.specs.Meaning.Reasons.{is_in_range, is_offered, is_in_turn, is_in_place}
+use Rattle.monk_history.specs.declared.event.Next.{Next, TheVariants.Stay}
+use Rattle.monk_history.specs.declared.event.Event.{Event}
+use Rattle.monk_history.specs.declared.event.Event.TheVariants.{Enter, Act, Leave, Wait, Signal, SignalLeave, Until}
+use Rattle.monk_history.specs.declared.event.Event.TheVariants.{Resume, SignalAll, SignalWait}
 
 -- whether an event is allowed, apart from its choice and its reply. It is written with `stay`
 pub record MayCallIn (m : Monitor) (t : Situation) (e : Event) : Type 0 where

@@ -1,11 +1,8 @@
 -- How histories and their texts belong together.
 use Rattle.std.specs.Prelude.{◌≡◌, ℕ, ◌-◌, ◌<◌, ◌≤◌, List, [], ◌∷◌, ◌++◌, length, take, Ok, Err}
 use Rattle.std.specs.List.{flat_map}
-use Rattle.monk_history.specs.declared.event.Event.{Event}
-use Rattle.monk_history.specs.declared.text.fault.ReadFault.{ReadFault}
-use Rattle.monk_history.specs.Text.{Heading, HasText, text}
-use Rattle.monk_history.specs.Text.Lines.{lines_of}
-use Rattle.monk_history.specs.Text.Reading.{history, text_at}
+use Rattle.monk_history.specs.Text.{Heading, HasText, text, Lines.lines_of, Reading.history, Reading.text_at}
+use Rattle.monk_history.specs.declared.{event.Event.Event, text.fault.ReadFault.ReadFault}
 
 -- no two histories have one text
 abbrev pub OneHistoryEach : Type 0

@@ -1,12 +1,9 @@
 -- The words of a line: what is read from their front is a value and the words after it, or a flaw.
 use Rattle.std.specs.Prelude.{◌≡◌, ℕ, List, [], ◌∷◌, Bool, false, not, Option, Some, None, Result, Ok, Err, nat_le}
 use Rattle.std.specs.Prelude.{◌==◌, ◌&&◌, if◌then◌else◌, filter}
-use Rattle.std.specs.List.{slice_split, list_all}
-use Rattle.std.specs.Str.{bytes_eq}
-use Rattle.std.specs.Str.Parse.{digits_value}
-use Rattle.std.specs.Fmt.{decimal}
-use Rattle.monk_history.specs.declared.text.fault.Flaw.{Flaw}
+use Rattle.std.specs.{List.slice_split, List.list_all, Str.bytes_eq, Str.Parse.digits_value, Fmt.decimal}
 use Rattle.monk_history.specs.declared.text.fault.Flaw.TheVariants as flaw
+use Rattle.monk_history.specs.declared.text.fault.Flaw.{Flaw}
 use Rattle.monk_kinds.specs.Names.{with_text}
 
 -- a word's bytes

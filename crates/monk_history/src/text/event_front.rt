@@ -3,8 +3,7 @@
 //! histories are so.
 
 ghost use Rattle.std.specs.Prelude.{◌≡◌, ◌∷◌, [], ◌+◌, ◌≤◌, IfSome, length, codes, decimal};
-ghost use Rattle.monk_history.specs.Text.{event_words, next_words, from_word, EventFits, first_version};
-ghost use Rattle.monk_history.specs.Text.Lines.{line};
+ghost use Rattle.monk_history.specs.Text.{event_words, next_words, from_word, EventFits, first_version, Lines.line};
 ghost use Rattle.monk_history.specs.Text.Places.{StandsAt};
 
 use crate::event::{Event, From3, Next, Via};

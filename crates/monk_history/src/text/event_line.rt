@@ -1,8 +1,7 @@
 //! Reads an event from the words of its line.
 
 ghost use Rattle.std.specs.Prelude.{◌-◌, ◌≤◌};
-ghost use Rattle.monk_history.specs.Text.{via_word, from_word};
-ghost use Rattle.monk_history.specs.Text.Words.{Reads, one_of};
+ghost use Rattle.monk_history.specs.Text.{via_word, from_word, Words.Reads, Words.one_of};
 ghost use Rattle.monk_history.specs.Text.Reading.{vias, froms, next_word, all_next_words, verb_word, verbs_of, next_at};
 ghost use Rattle.monk_history.specs.Text.Reading.{cond_next_at, act_at, event_after, event_at};
 

@@ -2,8 +2,7 @@
 
 ghost use Rattle.monk_kinds.specs.Names.{kind_word, kinds};
 ghost use Rattle.monk_object.specs.Names.{object_word, objects};
-ghost use Rattle.monk_history.specs.Text.Words.{Reads, one_of};
-ghost use Rattle.monk_history.specs.Text.Reading.{header_at, parts_at};
+ghost use Rattle.monk_history.specs.Text.{Words.Reads, Words.one_of, Reading.header_at, Reading.parts_at};
 
 use crate::text::fault::Flaw;
 use crate::text::header::Header;

@@ -1,11 +1,10 @@
 //! Follows a run step by step.
 
 ghost use Rattle.std.specs.Prelude.{◌≡◌, ◌<◌, length, slice_index_or, slice_set, None};
-ghost use Rattle.monk_judge.specs.Judged.{after_all};
-ghost use Rattle.monk_judge.specs.Run.{IsRun, May, Sleeps, WakesRightly, after, moved, run_out, signalled, with_place, woken_unasked};
-ghost use Rattle.monk_judge.specs.Shown.{setting_of, shown, state_of};
-ghost use Rattle.monk_judge.specs.declared.place.Place.TheVariants.{Outside};
-ghost use Rattle.monk_judge.specs.declared.step.Step.TheVariants.{Tells};
+ghost use Rattle.monk_judge.specs.{Judged.after_all, Shown.setting_of, Shown.shown, Shown.state_of};
+ghost use Rattle.monk_judge.specs.declared.{place.Place.TheVariants.Outside, step.Step.TheVariants.Tells};
+ghost use Rattle.monk_judge.specs.Run.{IsRun, May, Sleeps, WakesRightly, after, moved, run_out, signalled, with_place};
+ghost use Rattle.monk_judge.specs.Run.{woken_unasked};
 
 use crate::judge::Judge;
 use crate::place::Place;

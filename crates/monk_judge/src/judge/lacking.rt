@@ -1,8 +1,6 @@
 //! What a missing signal is judged by.
 
-ghost use Rattle.monk_judge.specs.Among.{Decides};
-ghost use Rattle.monk_judge.specs.Missed.{Holds, IsUnsignalled};
-ghost use Rattle.monk_judge.specs.Shown.{IsThere, state_of};
+ghost use Rattle.monk_judge.specs.{Among.Decides, Missed.Holds, Missed.IsUnsignalled, Shown.IsThere, Shown.state_of};
 
 use crate::judge::Judge;
 use crate::place::Place;

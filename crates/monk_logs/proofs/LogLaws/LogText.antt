@@ -1,19 +1,18 @@
 -- The laws of the text of a log: the text is that of the log that is read, and each log is read from its text.
 use Rattle.std.proofs.Common.{◌≡◌, ℕ, ◌≤◌, List, length, Result, Ok, Err, ap, subst, ◌∙◌, arith}
-use Rattle.std.specs.Prelude.{IfOk, IfSome, Option}
-use Rattle.std.specs.Global.{Vec}
-use Rattle.monk_history.specs.declared.text.fault.ReadFault.{ReadFault}
-use Rattle.monk_history.specs.Text.Lines.{Gives, IsAtFront, line}
-use Rattle.monk_history.specs.Text.Places.{StandsAt}
+use Rattle.std.specs.{Prelude.IfOk, Prelude.IfSome, Prelude.Option, Global.Vec}
 use Rattle.monk_history.proofs.PublicLaws.Formats as formats
 use Rattle.monk_history.proofs.PublicLaws.Formats.{IsFormat}
-use Rattle.monk_logs.specs.Log.{LogHeading, IsLogHeading, HasLogText, LineFits, log_header_words, log_words, log_text}
-use Rattle.monk_logs.specs.Log.Reading.{Log, log, log_view, log_header_at, line_under, log_at}
-use Rattle.monk_logs.specs.declared.text.line.LogLine.{LogLine}
-use Rattle.monk_logs.specs.declared.text.line.LogLine.TheVariants.{Enter, Resume, Lapse, Leave, Wait, Signal, Broadcast, Until, Act}
+use Rattle.monk_history.specs.Text.{Lines.Gives, Lines.IsAtFront, Lines.line, Places.StandsAt}
+use Rattle.monk_history.specs.declared.text.fault.ReadFault.{ReadFault}
 use Rattle.monk_logs.proofs.LogLaws.HeaderReading.{log_header_takes, log_header_again}
 use Rattle.monk_logs.proofs.LogLaws.LineReading.{log_line_takes, log_line_again}
 use Rattle.monk_logs.proofs.LogLaws.PlainLogs.{header_are_words, line_are_words}
+use Rattle.monk_logs.specs.Log.{LogHeading, IsLogHeading, HasLogText, LineFits, log_header_words, log_words, log_text}
+use Rattle.monk_logs.specs.Log.Reading.{Log, log, log_view, log_header_at, line_under, log_at}
+use Rattle.monk_logs.specs.declared.text.line.LogLine.{LogLine}
+use Rattle.monk_logs.specs.declared.text.line.LogLine.TheVariants.{Enter, Resume, Lapse, Leave, Wait, Signal, Broadcast}
+use Rattle.monk_logs.specs.declared.text.line.LogLine.TheVariants.{Until, Act}
 
 headers : IsFormat log_header_words log_header_at IsLogHeading
 headers =

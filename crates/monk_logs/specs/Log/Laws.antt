@@ -1,8 +1,7 @@
 -- How logs and their texts belong together.
 use Rattle.std.specs.Prelude.{◌≡◌, List}
+use Rattle.monk_logs.specs.Log.{LogHeading, HasLogText, log_text, Reading.log}
 use Rattle.monk_logs.specs.declared.text.line.LogLine.{LogLine}
-use Rattle.monk_logs.specs.Log.{LogHeading, HasLogText, log_text}
-use Rattle.monk_logs.specs.Log.Reading.{log}
 
 -- no two logs have the same text
 abbrev pub OneLogEach : Type 0

@@ -1,18 +1,16 @@
 -- How the first line and the others of a log are read from their words, and the whole log from its text.
 use Rattle.std.specs.Prelude.{ℕ, List, [], ◌∷◌, ◌==◌, ◌&&◌, Option, Some, None, Result, Ok, nat_le, if◌then◌else◌, codes}
 use Rattle.std.specs.Global.{Vec}
-use Rattle.monk_object.specs.declared.name.ObjectName.{ObjectName}
-use Rattle.monk_object.specs.Names.{object_word, objects}
-use Rattle.monk_history.specs.Limits.{most_seats, most_conds}
-use Rattle.monk_history.specs.declared.text.fault.ReadFault.{ReadFault}
-use Rattle.monk_history.specs.Text.Lines.{lines_of, lines_at}
-use Rattle.monk_history.specs.Text.Reading.{act_at}
+use Rattle.monk_object.specs.{declared.name.ObjectName.ObjectName, Names.object_word, Names.objects}
 use Rattle.monk_history.specs.Text.Words.{◌>>=◌, Word, Taken, number_at, one_of, literal_at, end_at, with_rest}
+use Rattle.monk_history.specs.{Limits.most_seats, Limits.most_conds, declared.text.fault.ReadFault.ReadFault}
+use Rattle.monk_history.specs.Text.{Lines.lines_of, Lines.lines_at, Reading.act_at}
+use Rattle.monk_logs.specs.declared.text.verb.LineVerb.TheVariants as verb
 use Rattle.monk_logs.specs.Log.{LogHeading, log_heading, log_version}
 use Rattle.monk_logs.specs.declared.text.line.LogLine.{LogLine}
-use Rattle.monk_logs.specs.declared.text.line.LogLine.TheVariants.{Enter, Resume, Lapse, Leave, Wait, Signal, Broadcast, Until, Act}
+use Rattle.monk_logs.specs.declared.text.line.LogLine.TheVariants.{Enter, Resume, Lapse, Leave, Wait, Signal, Broadcast}
+use Rattle.monk_logs.specs.declared.text.line.LogLine.TheVariants.{Until, Act}
 use Rattle.monk_logs.specs.declared.text.verb.LineVerb.{LineVerb}
-use Rattle.monk_logs.specs.declared.text.verb.LineVerb.TheVariants as verb
 
 -- ---- a line
 

@@ -3,8 +3,7 @@
 //! two digits. Recorders write such lines.
 
 ghost use Rattle.std.specs.Prelude.{◌∷◌, [], ◌+◌, ◌≤◌, IfSome, length, codes, decimal};
-ghost use Rattle.monk_history.specs.Text.Lines.{line};
-ghost use Rattle.monk_history.specs.Text.Places.{StandsAt};
+ghost use Rattle.monk_history.specs.Text.{Lines.line, Places.StandsAt};
 ghost use Rattle.monk_logs.specs.Log.{LineFits, log_words};
 
 use crate::text::line::LogLine;

@@ -2,9 +2,8 @@
 
 ghost use Rattle.std.specs.Prelude.{◌≡◌, ◌≤◌, ◌∷◌, [], List, length, IfOk, MatchOption, None, Ok};
 ghost use Rattle.monk_history.specs.Limits.{most_lines};
-ghost use Rattle.monk_logs.specs.Log.{LogHeading, HasLogText, log_text};
-ghost use Rattle.monk_logs.specs.Log.Reading.{log, log_at};
 ghost use Rattle.monk_logs.specs.declared.text.line.LogLine.{LogLine};
+ghost use Rattle.monk_logs.specs.Log.{LogHeading, HasLogText, log_text, Reading.log, Reading.log_at};
 
 use crate::text::header::LogHeader;
 use crate::text::line::LogLine;

@@ -1,12 +1,9 @@
 //! The header and the lines of a log, read from its text, or the text's first fault.
 
 ghost use Rattle.std.specs.Prelude.{◌≡◌, ◌≤◌, List, length, IfOk, Ok};
-ghost use Rattle.monk_history.specs.Limits.{most_lines};
-ghost use Rattle.monk_history.specs.Text.Lines.{Gives};
-ghost use Rattle.monk_logs.specs.declared.text.line.LogLine.{LogLine};
-ghost use Rattle.monk_logs.specs.Log.{LogHeading, HasLogText, log_text};
-ghost use Rattle.monk_logs.specs.Log.Laws.{OneLogEach};
-ghost use Rattle.monk_logs.specs.Log.Reading.{log, log_view, log_at};
+ghost use Rattle.monk_history.specs.{Limits.most_lines, Text.Lines.Gives};
+ghost use Rattle.monk_logs.specs.{declared.text.line.LogLine.LogLine, Log.LogHeading, Log.HasLogText, Log.log_text};
+ghost use Rattle.monk_logs.specs.{Log.Laws.OneLogEach, Log.Reading.log, Log.Reading.log_view, Log.Reading.log_at};
 
 use crate::text::header::LogHeader;
 use crate::text::line::LogLine;

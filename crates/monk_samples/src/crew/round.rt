@@ -1,16 +1,11 @@
 //! What a seat of a run does in a round, by the sample. The object may have any type with the meaning of the sample's
 //! object. So the threads of a run are the same for every sample.
 ghost use Rattle.std.specs.Prelude.{◌≡◌, ℕ, [], ◌∷◌};
-ghost use Rattle.monk_object.specs.Book.{book_meaning};
-ghost use Rattle.monk_object.specs.Buffer.{buffer_meaning};
-ghost use Rattle.monk_object.specs.Names.{meaning_named};
-ghost use Rattle.monk_object.specs.Shop.{shop_meaning};
-ghost use Rattle.monk_samples.specs.Crews.{IsOf, IsReady};
+ghost use Rattle.monk_object.specs.{Book.book_meaning, Buffer.buffer_meaning, Names.meaning_named, Shop.shop_meaning};
+ghost use Rattle.monk_samples.specs.declared.sample.Sample.TheVariants as sample;
+ghost use Rattle.monk_samples.specs.{Crews.IsOf, Crews.IsReady, Samples.sample_object, Visits.HasVisited};
 ghost use Rattle.monk_samples.specs.Members.{begins_to_read, begins_to_write, ends_to_read, ends_to_write};
 ghost use Rattle.monk_samples.specs.Rounds.{round_of, visits_of};
-ghost use Rattle.monk_samples.specs.Samples.{sample_object};
-ghost use Rattle.monk_samples.specs.Visits.{HasVisited};
-ghost use Rattle.monk_samples.specs.declared.sample.Sample.TheVariants as sample;
 
 use crate::book::{begin_read, begin_write, end_read, end_write};
 use crate::buffer::{put_hastily, put_into, take_from, take_hastily};

@@ -1,11 +1,9 @@
 //! The threads of a run, whatever its object: each seat works its rounds in its own thread.
 ghost use Rattle.std.specs.Prelude.{◌≡◌, All, IfErr, IfOk, IfSome, map};
 ghost use Rattle.monk_object.specs.Names.{meaning_named};
-ghost use Rattle.monk_samples.specs.Crews.{AreReady, IsOf, IsReady};
-ghost use Rattle.monk_samples.specs.Ends.{HaveServed, IsFaultOfCrew, IsWantOfRoom};
-ghost use Rattle.monk_samples.specs.Rounds.{HasServed};
-ghost use Rattle.monk_samples.specs.Samples.{sample_object};
 ghost use Rattle.monk_samples.specs.declared.crew_fault.CrewFault.TheVariants as crew;
+ghost use Rattle.monk_samples.specs.{Crews.AreReady, Crews.IsOf, Crews.IsReady, Ends.HaveServed, Ends.IsFaultOfCrew};
+ghost use Rattle.monk_samples.specs.{Ends.IsWantOfRoom, Rounds.HasServed, Samples.sample_object};
 
 use crate::crew::round::do_round;
 use crate::crew::{join_all, part_idle, with_idle, workers};

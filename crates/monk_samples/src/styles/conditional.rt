@@ -1,8 +1,6 @@
 //! The kinds with condition variables.
 ghost use Rattle.std.specs.Prelude.{◌≡◌, ◌<◌, true, not, MatchResult};
-ghost use Rattle.monk_history.specs.Meaning.Conditions.{condition};
-ghost use Rattle.monk_history.specs.Meaning.Events.{has_conditions};
-ghost use Rattle.monk_history.specs.Meaning.Signallers.{is_empty};
+ghost use Rattle.monk_history.specs.Meaning.{Conditions.condition, Events.has_conditions, Signallers.is_empty};
 ghost use Rattle.monk_samples.specs.Styles.{HasPaused, HasGivenUp, for_handing_over};
 
 use monk_hall::{Active, Hall, Pass};

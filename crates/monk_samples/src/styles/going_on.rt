@@ -1,6 +1,5 @@
 ghost use Rattle.std.specs.Prelude.{◌≡◌};
-ghost use Rattle.monk_hall.specs.AfterCalls.{MatchAfter};
-ghost use Rattle.monk_hall.specs.Calls.{HasEntered};
+ghost use Rattle.monk_hall.specs.{AfterCalls.MatchAfter, Calls.HasEntered};
 
 use monk_hall::{Active, After, Hall};
 use monk_kinds::Kind;

@@ -1,23 +1,21 @@
 -- A command is read from the words that it is written as, and a command that is written is read again.
 use Rattle.std.proofs.Common.{arith, ◌-◌, lit<, ◌≡◌, ℕ, ◌≤◌, ◌^◌, true, List, [], ◌∷◌, ◌++◌, Some, Ok, refl, sym, ap, subst, ◌∙◌}
-use Rattle.std.specs.Prelude.{IsTrue, nat_le}
-use Rattle.std.specs.Fmt.{decimal}
-use Rattle.std.proofs.lemmas.List.{append-nil}
-use Rattle.monk_kinds.specs.Names.{with_text}
-use Rattle.monk_kinds.specs.declared.mode.Pick.{Pick}
+use Rattle.std.{specs.Prelude.IsTrue, specs.Prelude.nat_le, specs.Fmt.decimal, proofs.lemmas.List.append-nil}
+use Rattle.monk_kinds.specs.{Names.with_text, declared.mode.Pick.Pick}
 use Rattle.monk_object.specs.declared.op.Op.{Op}
 use Rattle.monk_history.specs.Text.Words.{◌>>=◌, Word, Taken, number_at, one_of, end_at}
 use Rattle.monk_history.proofs.PublicLaws.Texts.{bind_ok, ok_is, number_takes, number_again, one_of_takes, one_of_again}
 use Rattle.monk_history.proofs.PublicLaws.Texts.{end_takes, kept_again, one_of_kept}
+use Rattle.monk_world.specs.declared.play.verb.CommandVerb.TheVariants as verb
+use Rattle.monk_world.specs.StepTable.{command_version}
+use Rattle.monk_world.specs.Play.{pick_word, action_words, command_words, ActionFits, CommandFits}
+use Rattle.monk_world.specs.Play.Reading.{picks, play_verb_version, play_verb_word, play_verbs, play_verbs_of, op_at}
+use Rattle.monk_world.specs.Play.Reading.{cond_pick_at, action_after, command_at}
+use Rattle.monk_world.specs.declared.play.verb.CommandVerb.{CommandVerb}
 use Rattle.monk_world.specs.declared.command.Command.{Command}
 use Rattle.monk_world.specs.declared.command.Command.TheVariants.{Arrive, Look, Out, Peek, Drop, Grant, Act, Leave}
-use Rattle.monk_world.specs.declared.command.Command.TheVariants.{Wait, Signal, SignalLeave, Until, SignalAll, SignalWait}
-use Rattle.monk_world.specs.declared.play.verb.CommandVerb.{CommandVerb}
-use Rattle.monk_world.specs.declared.play.verb.CommandVerb.TheVariants as verb
-use Rattle.monk_world.specs.Play.{pick_word, action_words, command_words, ActionFits, CommandFits}
-use Rattle.monk_world.specs.Play.Reading.{picks, play_verb_version, play_verb_word, play_verbs, play_verbs_of}
-use Rattle.monk_world.specs.Play.Reading.{op_at, cond_pick_at, action_after, command_at}
-use Rattle.monk_world.specs.StepTable.{command_version}
+use Rattle.monk_world.specs.declared.command.Command.TheVariants.{Wait, Signal, SignalLeave, Until, SignalAll}
+use Rattle.monk_world.specs.declared.command.Command.TheVariants.{SignalWait}
 
 pick_again : (p : Pick) → with_text pick_word picks (pick_word p) ≡ Some p
 pick_again p = grind (arith)

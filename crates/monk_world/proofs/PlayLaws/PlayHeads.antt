@@ -1,18 +1,15 @@
 -- A play's first line is read from the words that it is written as, and one that is written is read again.
 use Rattle.std.proofs.Common.{lit<, ◌≡◌, ℕ, ◌≤◌, Bool, true, false, cond, List, [], ◌∷◌, ◌++◌, Some, None, Ok, refl, sym, ap, subst}
 use Rattle.std.proofs.Common.{◌∙◌, arith}
-use Rattle.std.specs.Prelude.{nat_le, codes}
-use Rattle.std.specs.Fmt.{decimal}
 use Rattle.std.proofs.lemmas.Bool.{leb-true, le-leb}
-use Rattle.monk_history.specs.Text.{Heading, IsHeading, part_words}
-use Rattle.monk_history.specs.Text.Reading.{parts_at}
+use Rattle.std.specs.{Prelude.nat_le, Prelude.codes, Fmt.decimal}
 use Rattle.monk_history.specs.Text.Words.{◌>>=◌, Word, Taken, number_at, with_rest, literal_at, end_at}
-use Rattle.monk_history.proofs.PublicLaws.Texts.{parts_take, parts_again, bind_ok, ok_is}
-use Rattle.monk_history.proofs.PublicLaws.Texts.{none_newer, number_takes, number_again, literal_takes, end_takes}
-use Rattle.monk_world.specs.declared.play.head.PlayHead.{PlayHead}
+use Rattle.monk_history.proofs.PublicLaws.Texts.{parts_take, parts_again, bind_ok, ok_is, none_newer, number_takes}
+use Rattle.monk_history.proofs.PublicLaws.Texts.{number_again, literal_takes, end_takes}
 use Rattle.monk_history.specs.Limits.{least_budget, most_budget}
-use Rattle.monk_world.specs.Play.{play_words}
-use Rattle.monk_world.specs.Play.Reading.{play_head, play_head_of, play_head_at}
+use Rattle.monk_history.specs.Text.{Heading, IsHeading, part_words, Reading.parts_at}
+use Rattle.monk_world.specs.Play.{play_words, Reading.play_head, Reading.play_head_of, Reading.play_head_at}
+use Rattle.monk_world.specs.declared.play.head.PlayHead.{PlayHead}
 
 pub record HeadFits (h : PlayHead) : Type 0 where
   pub header_fits : IsHeading h.header

@@ -1,9 +1,7 @@
 -- How plays and their texts belong together.
 use Rattle.std.specs.Prelude.{◌≡◌, ℕ, List}
 use Rattle.monk_history.specs.Text.{Heading}
-use Rattle.monk_world.specs.declared.command.Command.{Command}
-use Rattle.monk_world.specs.Play.{HasPlayText, playtext}
-use Rattle.monk_world.specs.Play.Reading.{play}
+use Rattle.monk_world.specs.{declared.command.Command.Command, Play.HasPlayText, Play.playtext, Play.Reading.play}
 
 -- no two plays have one text
 abbrev pub OnePlayEach : Type 0

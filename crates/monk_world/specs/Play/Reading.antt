@@ -2,22 +2,19 @@
 -- text.
 use Rattle.std.specs.Prelude.{◌-◌, ◌^◌, ℕ, List, [], ◌∷◌, Option, Some, None, Result, Ok, Err, nat_le, if◌then◌else◌, codes}
 use Rattle.std.specs.Global.{Vec}
-use Rattle.monk_kinds.specs.declared.mode.Pick.{Pick}
 use Rattle.monk_kinds.specs.declared.mode.Pick.TheVariants as pick
+use Rattle.monk_kinds.specs.declared.mode.Pick.{Pick}
 use Rattle.monk_object.specs.declared.op.Op.{Op}
-use Rattle.monk_history.specs.declared.text.fault.ReadFault.{ReadFault}
-use Rattle.monk_history.specs.Text.{Heading}
-use Rattle.monk_history.specs.Text.Lines.{lines_of, lines_at}
-use Rattle.monk_history.specs.Text.Reading.{parts_at}
 use Rattle.monk_history.specs.Text.Words.{◌>>=◌, Word, Taken, number_at, one_of, in_version, literal_at, end_at, with_rest}
+use Rattle.monk_history.specs.{declared.text.fault.ReadFault.ReadFault, Limits.least_budget, Limits.most_budget}
+use Rattle.monk_history.specs.Text.{Heading, Lines.lines_of, Lines.lines_at, Reading.parts_at}
+use Rattle.monk_world.specs.declared.play.verb.CommandVerb.TheVariants as verb
+use Rattle.monk_world.specs.Play.{pick_word}
+use Rattle.monk_world.specs.declared.play.{head.PlayHead.PlayHead, verb.CommandVerb.CommandVerb}
 use Rattle.monk_world.specs.declared.command.Command.{Command}
 use Rattle.monk_world.specs.declared.command.Command.TheVariants.{Arrive, Look, Out, Peek, Drop, Grant, Act, Leave}
-use Rattle.monk_world.specs.declared.command.Command.TheVariants.{Wait, Signal, SignalLeave, Until, SignalAll, SignalWait}
-use Rattle.monk_world.specs.declared.play.head.PlayHead.{PlayHead}
-use Rattle.monk_world.specs.declared.play.verb.CommandVerb.{CommandVerb}
-use Rattle.monk_world.specs.declared.play.verb.CommandVerb.TheVariants as verb
-use Rattle.monk_history.specs.Limits.{least_budget, most_budget}
-use Rattle.monk_world.specs.Play.{pick_word}
+use Rattle.monk_world.specs.declared.command.Command.TheVariants.{Wait, Signal, SignalLeave, Until, SignalAll}
+use Rattle.monk_world.specs.declared.command.Command.TheVariants.{SignalWait}
 
 -- ---- a command
 

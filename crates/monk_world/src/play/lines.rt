@@ -1,11 +1,9 @@
 //! The commands of a play's text, read one after the other.
 
 ghost use Rattle.std.specs.Prelude.{◌≡◌, ◌≤◌, ◌∷◌, [], ℕ, List, length, IfOk, MatchOption, None, Ok};
-ghost use Rattle.monk_history.specs.Limits.{most_lines};
-ghost use Rattle.monk_history.specs.Text.{Heading};
+ghost use Rattle.monk_history.specs.{Limits.most_lines, Text.Heading};
 ghost use Rattle.monk_world.specs.declared.command.Command.{Command};
-ghost use Rattle.monk_world.specs.Play.{HasPlayText, playtext};
-ghost use Rattle.monk_world.specs.Play.Reading.{play, play_at};
+ghost use Rattle.monk_world.specs.Play.{HasPlayText, playtext, Reading.play, Reading.play_at};
 
 use crate::command::Command;
 use crate::play::head::PlayHead;

@@ -1,12 +1,9 @@
 //! Reads the header, the budget and the commands of a play's text, or finds its first fault.
 
 ghost use Rattle.std.specs.Prelude.{◌≡◌, ◌≤◌, ℕ, List, length, IfOk, Ok};
-ghost use Rattle.monk_history.specs.Limits.{most_lines};
-ghost use Rattle.monk_history.specs.Text.{Heading};
-ghost use Rattle.monk_history.specs.Text.Lines.{Gives};
+ghost use Rattle.monk_history.specs.{Limits.most_lines, Text.Heading, Text.Lines.Gives};
 ghost use Rattle.monk_world.specs.declared.command.Command.{Command};
-ghost use Rattle.monk_world.specs.Play.{HasPlayText, playtext};
-ghost use Rattle.monk_world.specs.Play.Laws.{OnePlayEach};
+ghost use Rattle.monk_world.specs.Play.{HasPlayText, playtext, Laws.OnePlayEach};
 ghost use Rattle.monk_world.specs.Play.Reading.{play, play_view, play_at};
 
 use crate::command::Command;

@@ -1,15 +1,12 @@
 use Rattle.std.proofs.Common.{◌≡◌, ◌∙◌, [], Some, Ok, ap, arith}
-use Rattle.monk_history.specs.Meaning.Monitor.{monitor}
-use Rattle.monk_history.specs.Meaning.Reasons.{reason_in}
-use Rattle.monk_history.specs.Text.Reading.{event_under}
-use Rattle.monk_history.specs.Text.Pieces.{items_with}
-use Rattle.monk_audit.specs.Replay.{replay_situation}
-use Rattle.monk_audit.proofs.ReadingLaws.{judged_more, reason_there}
-use Rattle.monk_audit.proofs.PieceLaws.{piece_forbidden, piece_item_found, said_of_item}
-use Rattle.monk_audit.specs.Reasons.{number_or_0}
-use Rattle.monk_audit.proofs.ReasonLaws.{number_found, number_there}
+use Rattle.monk_history.specs.Meaning.{Monitor.monitor, Reasons.reason_in}
+use Rattle.monk_history.specs.Text.{Reading.event_under, Pieces.items_with}
 use Rattle.monk_audit.proofs.course.judge_lines.Goals as goal
+use Rattle.monk_audit.proofs.PieceLaws.{piece_forbidden, piece_item_found, said_of_item}
+use Rattle.monk_audit.proofs.ReadingLaws.{judged_more, reason_there}
+use Rattle.monk_audit.proofs.ReasonLaws.{number_found, number_there}
 use Rattle.monk_audit.proofs.course.judge_lines.Goals.{In_ok-found, In-Ok-Some}
+use Rattle.monk_audit.specs.{Replay.replay_situation, Reasons.number_or_0}
 
 pub judge-requires-clause-seats : goal.judge-requires-clause-seats
 judge-requires-clause-seats g c = omega (arith, c.loop-event.invariant.seats, c.requires.few_seats)

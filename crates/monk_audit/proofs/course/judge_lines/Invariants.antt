@@ -1,11 +1,7 @@
 use Rattle.std.proofs.Common.{◌≡◌, ◌<◌, ◌+◌, ◌^◌, ◌++◌, ℕ, List, [], All, length}
-use Rattle.monk_history.specs.Meaning.Monitor.{monitor}
-use Rattle.monk_history.specs.Text.Pieces.{items_with}
-use Rattle.monk_history.specs.Text.Reading.{event_under}
-use Rattle.monk_audit.specs.Replay.{replay_situation}
-use Rattle.monk_audit.specs.Reading.{verdict_read}
-use Rattle.monk_audit.specs.Pieces.{verdict_from_here}
+use Rattle.monk_history.specs.{Meaning.Monitor.monitor, Text.Pieces.items_with, Text.Reading.event_under}
 use Rattle.monk_audit.proofs.course.judge_lines.Given as goal
+use Rattle.monk_audit.specs.{Replay.replay_situation, Reading.verdict_read, Pieces.verdict_from_here}
 
 abbrev pub invariant-loop-event : goal.invariant-loop-event
 invariant-loop-event g l =

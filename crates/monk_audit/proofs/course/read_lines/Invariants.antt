@@ -1,9 +1,7 @@
 use Rattle.std.proofs.Common.{◌≡◌, ◌+◌, ◌≤◌, ◌^◌, ◌++◌, ℕ, List}
-use Rattle.monk_history.specs.Text.Pieces.{items_with}
-use Rattle.monk_history.specs.Text.Reading.{event_under}
-use Rattle.monk_audit.specs.Reading.{read_through}
-use Rattle.monk_audit.specs.Pieces.{events_from}
+use Rattle.monk_history.specs.Text.{Pieces.items_with, Reading.event_under}
 use Rattle.monk_audit.proofs.course.read_lines.Given as goal
+use Rattle.monk_audit.specs.{Reading.read_through, Pieces.events_from}
 
 abbrev pub invariant-loop-event : goal.invariant-loop-event
 invariant-loop-event l = record {

@@ -1,8 +1,7 @@
 use Rattle.std.proofs.Common.{◌++◌, ◌∙◌, sym, ap}
 use Rattle.monk_history.proofs.PublicLaws.Queues.{seats_at-get}
-use Rattle.monk_audit.specs.QueueAt.{seats_of}
-use Rattle.monk_audit.proofs.QueueLaws.{emptied_at}
 use Rattle.monk_audit.proofs.queues.move_all.Goals as goal
+use Rattle.monk_audit.{specs.QueueAt.seats_of, proofs.QueueLaws.emptied_at}
 
 pub returns-clause-served : goal.returns-clause-served
 returns-clause-served c =

@@ -1,10 +1,8 @@
 use Rattle.std.proofs.Common.{◌∙◌, Result, subst}
-use Rattle.monk_history.specs.Text.Lines.{Gives}
-use Rattle.monk_history.specs.declared.text.fault.ReadFault.{ReadFault}
-use Rattle.monk_audit.specs.Reading.{same}
-use Rattle.monk_audit.specs.declared.text_verdict.TextVerdict.{TextVerdict}
-use Rattle.monk_audit.proofs.PieceLaws.{owed_opening}
+use Rattle.monk_history.specs.{Text.Lines.Gives, declared.text.fault.ReadFault.ReadFault}
 use Rattle.monk_audit.proofs.reading.audit_text.Goals as goal
+use Rattle.monk_audit.proofs.PieceLaws.{owed_opening}
+use Rattle.monk_audit.specs.{Reading.same, declared.text_verdict.TextVerdict.TextVerdict}
 
 pub returns-clause-verdict : goal.returns-clause-verdict
 returns-clause-verdict c =

@@ -1,10 +1,9 @@
 use Rattle.std.proofs.Common.{◌≡◌, refl}
 use Rattle.std.specs.Option.{option_map}
 use Rattle.monk_audit.specs.declared.stage.Stage.TheVariants as stage
-use Rattle.monk_audit.specs.declared.text_verdict.TextVerdict.TheVariants.{Judged}
-use Rattle.monk_audit.proofs.PieceLaws.{judged_step}
-use Rattle.monk_audit.proofs.stage.judge_stage.Goals.{in-Some, in-None}
 use Rattle.monk_audit.proofs.stage.judge_stage.Goals as goal
+use Rattle.monk_audit.proofs.{PieceLaws.judged_step, stage.judge_stage.Goals.in-Some, stage.judge_stage.Goals.in-None}
+use Rattle.monk_audit.specs.declared.text_verdict.TextVerdict.TheVariants.{Judged}
 
 pub returns-clause-step : goal.returns-clause-step
 returns-clause-step g c =

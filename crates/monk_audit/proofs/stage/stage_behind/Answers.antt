@@ -1,15 +1,12 @@
 use Rattle.std.proofs.Common.{◌<◌, ◌≤◌, ap, arith}
-use Rattle.monk_object.specs.Buffer.{buffer_meaning}
-use Rattle.monk_object.specs.Book.{book_meaning}
-use Rattle.monk_object.specs.Shop.{shop_meaning}
-use Rattle.monk_object.specs.Flags.{flags_meaning}
-use Rattle.monk_object.specs.Names.{most}
-use Rattle.monk_object.specs.declared.name.ObjectName.TheVariants as name
-use Rattle.monk_audit.specs.Pieces.{events_from}
-use Rattle.monk_audit.specs.declared.text_verdict.TextVerdict.TheVariants.{TooBig}
-use Rattle.monk_audit.proofs.PieceLaws.{begun, owed_book, owed_buffer, owed_flags, owed_found, owed_shop, too_big_verdict}
-use Rattle.monk_audit.proofs.stage.stage_behind.Goals as goal
 use Rattle.std.proofs.Common.{◌∙◌}
+use Rattle.monk_object.specs.declared.name.ObjectName.TheVariants as name
+use Rattle.monk_object.specs.{Buffer.buffer_meaning, Book.book_meaning, Shop.shop_meaning, Flags.flags_meaning}
+use Rattle.monk_object.specs.{Names.most}
+use Rattle.monk_audit.proofs.stage.stage_behind.Goals as goal
+use Rattle.monk_audit.proofs.PieceLaws.{begun, owed_book, owed_buffer, owed_flags, owed_found, owed_shop}
+use Rattle.monk_audit.proofs.PieceLaws.{too_big_verdict}
+use Rattle.monk_audit.specs.{Pieces.events_from, declared.text_verdict.TextVerdict.TheVariants.TooBig}
 
 pub returns-then-size-greatest_size-clause-verdict : goal.returns-then-size-greatest_size-clause-verdict
 returns-then-size-greatest_size-clause-verdict c =

@@ -1,5 +1,4 @@
-use Rattle.std.proofs.Common.{ap, arith}
-use Rattle.std.proofs.lemmas.Grind.{common_steps}
+use Rattle.std.proofs.{Common.ap, Common.arith, lemmas.Grind.common_steps}
 use Rattle.monk_hall.specs.declared.setting.Setting.{Setting}
 use Rattle.monk_c.proofs.deal.headed.Goals as goal
 

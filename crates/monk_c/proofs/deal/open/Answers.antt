@@ -1,8 +1,7 @@
 use Rattle.std.proofs.Common.{subst, sym}
-use Rattle.monk_c.proofs.Dealing.{are_passes, as_many, is_made}
-use Rattle.monk_c.specs.Dealing.{ArePasses, IsMadeOf}
-use Rattle.monk_c.specs.Stands.{RoomView}
 use Rattle.monk_c.proofs.deal.open.Goals as goal
+use Rattle.monk_c.proofs.Dealing.{are_passes, as_many, is_made}
+use Rattle.monk_c.specs.{Dealing.ArePasses, Dealing.IsMadeOf, Stands.RoomView}
 
 pub returns-in-Some-clause-made : goal.returns-in-Some-clause-made
 returns-in-Some-clause-made g c =

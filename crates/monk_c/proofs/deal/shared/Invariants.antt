@@ -1,6 +1,5 @@
 use Rattle.std.proofs.Common.{◌≡◌, ◌≤◌, ◌-◌, length}
-use Rattle.std.specs.Prelude.{All}
-use Rattle.std.specs.Arc.{arc_value}
+use Rattle.std.specs.{Prelude.All, Arc.arc_value}
 use Rattle.monk_c.proofs.deal.shared.Given as goal
 
 abbrev pub invariant-loop-rooms : goal.invariant-loop-rooms

@@ -1,8 +1,6 @@
 use Rattle.std.proofs.Common.{◌≡◌, ◌≤◌, ◌<◌, ℕ, length, slice_index_or}
-use Rattle.monk_c.specs.Deals.{deal_in, kind_dealt}
-use Rattle.monk_c.specs.Making.{AreFresh}
-use Rattle.monk_c.specs.declared.handle.MonkSeat.{MonkSeat}
 use Rattle.monk_c.proofs.making.seat_all.Given as goal
+use Rattle.monk_c.specs.{Deals.deal_in, Deals.kind_dealt, Making.AreFresh, declared.handle.MonkSeat.MonkSeat}
 
 abbrev pub invariant-loop-at : goal.invariant-loop-at
 invariant-loop-at l =

@@ -1,11 +1,10 @@
 use Rattle.std.proofs.Common.{◌≡◌, ◌∙◌, ap, arith, subst}
-use Rattle.std.specs.Prelude.{string_bytes}
-use Rattle.std.proofs.lemmas.Result.{IfOk-weaker}
+use Rattle.std.{specs.Prelude.string_bytes, proofs.lemmas.Result.IfOk-weaker}
 use Rattle.monk_object.specs.Names.{most}
 use Rattle.monk_history.specs.Text.{Heading}
 use Rattle.monk_tell.specs.Told.{Account, account}
-use Rattle.monk_commands.specs.Explained.{IsTold}
 use Rattle.monk_commands.proofs.explaining.explained.Goals as goal
+use Rattle.monk_commands.specs.Explained.{IsTold}
 
 pub returns-in-Ok : goal.returns-in-Ok
 returns-in-Ok c =

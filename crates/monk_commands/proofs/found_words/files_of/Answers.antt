@@ -1,10 +1,8 @@
 use Rattle.std.proofs.Common.{◌∙◌, ap, codes, map, sym}
 use Rattle.std.specs.Prelude.{string_bytes}
-use Rattle.clap.specs.Words.{found_of}
-use Rattle.clap.proofs.WalkLemmas.{raw_values-rows}
-use Rattle.monk_commands.specs.Request.{words_or_none}
-use Rattle.monk_commands.proofs.Requests.{found_words, texts}
+use Rattle.clap.{specs.Words.found_of, proofs.WalkLemmas.raw_values-rows}
 use Rattle.monk_commands.proofs.found_words.files_of.Goals as goal
+use Rattle.monk_commands.{specs.Request.words_or_none, proofs.Requests.found_words, proofs.Requests.texts}
 
 pub returns-in_ok-kept-in-Some : goal.returns-in_ok-kept-in-Some
 returns-in_ok-kept-in-Some c =

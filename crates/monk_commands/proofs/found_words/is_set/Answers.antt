@@ -1,6 +1,5 @@
 use Rattle.std.proofs.Common.{◌∙◌}
-use Rattle.clap.specs.Words.{found_of}
-use Rattle.clap.proofs.WalkLemmas.{one_text-rows}
+use Rattle.clap.{specs.Words.found_of, proofs.WalkLemmas.one_text-rows}
 use Rattle.monk_commands.proofs.found_words.is_set.Goals as goal
 
 pub returns : goal.returns

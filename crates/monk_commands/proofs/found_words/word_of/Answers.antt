@@ -1,6 +1,5 @@
 use Rattle.std.proofs.Common.{◌∙◌, sym}
-use Rattle.clap.specs.Words.{found_of}
-use Rattle.clap.proofs.WalkLemmas.{first_value-rows}
+use Rattle.clap.{specs.Words.found_of, proofs.WalkLemmas.first_value-rows}
 use Rattle.monk_commands.proofs.found_words.word_of.Goals as goal
 
 pub returns : goal.returns

@@ -1,7 +1,5 @@
 use Rattle.std.proofs.Common.{List, sym, subst}
-use Rattle.monk_history.specs.Meaning.Legal.{IsLegal}
-use Rattle.monk_history.specs.Meaning.Named.{named_monitor}
-use Rattle.monk_history.specs.declared.event.Event.{Event}
+use Rattle.monk_history.specs.{Meaning.Legal.IsLegal, Meaning.Named.named_monitor, declared.event.Event.Event}
 use Rattle.monk_commands.proofs.hasty_running.put_hasty.Goals as goal
 
 pub audited-requires-clause-legal : goal.audited-requires-clause-legal

@@ -1,8 +1,7 @@
 use Rattle.std.proofs.Common.{◌≡◌, ◌+◌, ◌^◌, ◌<◌, ◌≤◌, length, false}
 use Rattle.monk_history.specs.Text.Device.{inner_of, has_failed, reads_of, bytes_of}
-use Rattle.monk_commands.specs.Streams.{IsYoung}
-use Rattle.monk_commands.proofs.Taken.{IsTold}
 use Rattle.monk_commands.proofs.input.hand_on.Given as goal
+use Rattle.monk_commands.{specs.Streams.IsYoung, proofs.Taken.IsTold}
 
 abbrev pub invariant-loop : goal.invariant-loop
 invariant-loop g l = record {

@@ -1,7 +1,6 @@
 use Rattle.std.proofs.Common.{take}
-use Rattle.monk_commands.specs.Request.{AreMeanings}
-use Rattle.monk_commands.proofs.Requests.{texts}
 use Rattle.monk_commands.proofs.judging_words.meanings.Given as goal
+use Rattle.monk_commands.{specs.Request.AreMeanings, proofs.Requests.texts}
 
 -- the words so far have these meanings
 abbrev pub invariant-loop-word : goal.invariant-loop-word

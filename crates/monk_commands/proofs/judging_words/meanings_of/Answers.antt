@@ -1,9 +1,8 @@
 use Rattle.std.proofs.Common.{◌∙◌, [], List, ap, codes, subst, sym}
 use Rattle.std.proofs.lemmas.Result.{IfOk-weaker}
-use Rattle.clap.specs.Words.{Text, found_of}
-use Rattle.clap.proofs.WalkLemmas.{raw_values-rows}
-use Rattle.monk_commands.specs.Request.{AreMeanings, words_or_none}
+use Rattle.clap.{specs.Words.Text, specs.Words.found_of, proofs.WalkLemmas.raw_values-rows}
 use Rattle.monk_commands.proofs.judging_words.meanings_of.Goals as goal
+use Rattle.monk_commands.specs.Request.{AreMeanings, words_or_none}
 
 pub returns-in-Some : goal.returns-in-Some
 returns-in-Some c =

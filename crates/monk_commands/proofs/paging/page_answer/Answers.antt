@@ -1,9 +1,7 @@
 use Rattle.std.proofs.Common.{◌≡◌, ◌∙◌, ◌+◌, ◌++◌, ℕ, List, Option, suc, ap, arith, rules, subst, sym}
-use Rattle.std.specs.Prelude.{string_bytes}
-use Rattle.std.proofs.lemmas.Option.{slice_get-get_or}
-use Rattle.monk_commands.specs.Paged.{ArePaged, IsPartOf}
-use Rattle.monk_commands.specs.declared.paging.Paged.{Paged}
+use Rattle.std.{specs.Prelude.string_bytes, proofs.lemmas.Option.slice_get-get_or}
 use Rattle.monk_commands.proofs.paging.page_answer.Goals as goal
+use Rattle.monk_commands.specs.{Paged.ArePaged, Paged.IsPartOf, declared.paging.Paged.Paged}
 
 pub loop-history-init : goal.loop-history-init
 loop-history-init c = record { articles = c.new-articles.ensures.bytes; status = omega arith }

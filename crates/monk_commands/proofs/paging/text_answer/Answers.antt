@@ -1,20 +1,14 @@
 use Rattle.std.proofs.Common.{◌≡◌, ◌≤◌, List, ℕ, Bool, true, false, ltb, Option, Result, Ok, Err, arith, refl, ltb-false, ltb-true}
-use Rattle.std.specs.Prelude.{string_bytes}
-use Rattle.std.proofs.lemmas.Result.{IfOk-weaker}
-use Rattle.monk_draw.specs.Window.{is_behind}
-use Rattle.monk_draw.specs.declared.window.Window.{Window}
-use Rattle.monk_history.specs.Meaning.Named.{named_monitor}
-use Rattle.monk_history.specs.Text.Reading.{History}
-use Rattle.monk_history.specs.declared.text.fault.ReadFault.{ReadFault}
+use Rattle.std.{specs.Prelude.string_bytes, proofs.lemmas.Result.IfOk-weaker}
+use Rattle.monk_draw.specs.{Window.is_behind, declared.window.Window.Window}
+use Rattle.monk_history.specs.{Meaning.Named.named_monitor, Text.Reading.History}
+use Rattle.monk_history.specs.{declared.text.fault.ReadFault.ReadFault}
 use Rattle.monk_object.specs.Names.{most}
 use Rattle.monk_audit.specs.Verdict.{verdict_of}
-use Rattle.monk_commands.specs.Answer.{IsReading}
-use Rattle.monk_commands.specs.Paged.{IsReadArticle}
-use Rattle.monk_commands.specs.Shown.{IsAnsweredBy, IsShown, IsShownAs, last_shown}
-use Rattle.monk_commands.specs.declared.paging.Paged.{Paged}
-use Rattle.monk_commands.specs.declared.show.HistoryForm.{HistoryForm}
-use Rattle.monk_commands.specs.declared.show.HistoryForm.TheVariants.{Article}
 use Rattle.monk_commands.proofs.paging.text_answer.Goals as goal
+use Rattle.monk_commands.specs.{Answer.IsReading, Paged.IsReadArticle, declared.paging.Paged.Paged}
+use Rattle.monk_commands.specs.{declared.show.HistoryForm.HistoryForm, declared.show.HistoryForm.TheVariants.Article}
+use Rattle.monk_commands.specs.Shown.{IsAnsweredBy, IsShown, IsShownAs, last_shown}
 
 -- with status 0 or 1 a history is shown
 module _ (f : HistoryForm) (w : Option Window) (x : History) (status : ℕ) (text : List ℕ) (few : status ≤ 1) where

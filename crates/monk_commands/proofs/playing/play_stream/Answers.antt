@@ -1,8 +1,7 @@
 use Rattle.std.proofs.lemmas.Result.{IfOk-weaker}
-use Rattle.monk_commands.specs.Played.{IsPlayed}
-use Rattle.monk_commands.proofs.Known.{on_known}
-use Rattle.monk_commands.proofs.PlayExact.{answer_of, exactly}
 use Rattle.monk_commands.proofs.playing.play_stream.Goals as goal
+use Rattle.monk_commands.proofs.{Known.on_known, PlayExact.answer_of, PlayExact.exactly}
+use Rattle.monk_commands.specs.Played.{IsPlayed}
 
 pub returns-clause-played : goal.returns-clause-played
 returns-clause-played g c =

@@ -1,18 +1,10 @@
 use Rattle.std.proofs.Common.{◌≡◌, ◌∙◌, ℕ, List, sym, ap, subst}
-use Rattle.std.proofs.lemmas.Result.{on_ok_weaker}
-use Rattle.std.specs.Io.KnownBytes.{Appends}
-use Rattle.monk_history.specs.Text.{Heading}
-use Rattle.monk_history.specs.Text.Device.{inner_of}
-use Rattle.monk_history.specs.Meaning.Monitor.{monitor}
-use Rattle.monk_world.specs.WorldViews.{state_of_view}
-use Rattle.monk_world.specs.Runs.{opening_state}
-use Rattle.monk_world.specs.State.{State}
-use Rattle.monk_commands.specs.Traced.{AreTraced}
-use Rattle.monk_commands.specs.Played.{IsPlayedBy}
-use Rattle.monk_commands.specs.Reported.{IsReportedBy, report_with}
-use Rattle.monk_commands.specs.declared.report.Report.{Report}
-use Rattle.monk_commands.proofs.PlayExact.{led_to}
+use Rattle.std.{proofs.lemmas.Result.on_ok_weaker, specs.Io.KnownBytes.Appends}
+use Rattle.monk_history.specs.{Text.Heading, Text.Device.inner_of, Meaning.Monitor.monitor}
+use Rattle.monk_world.specs.{WorldViews.state_of_view, Runs.opening_state, State.State}
 use Rattle.monk_commands.proofs.reporting.play_as.Goals as goal
+use Rattle.monk_commands.{specs.Traced.AreTraced, specs.Played.IsPlayedBy, specs.Reported.IsReportedBy}
+use Rattle.monk_commands.{specs.Reported.report_with, specs.declared.report.Report.Report, proofs.PlayExact.led_to}
 
 pub returns-in-Ok-write-clause-played : goal.returns-in-Ok-write-clause-played
 returns-in-Ok-write-clause-played g c =

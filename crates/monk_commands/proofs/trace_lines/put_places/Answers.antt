@@ -1,11 +1,10 @@
 use Rattle.std.proofs.Common.{List, ℕ, ◌+◌, ◌++◌, ap, ◌∙◌}
 use Rattle.std.specs.Prelude.{string_bytes}
 use Rattle.monk_world.specs.WorldViews.{state_of_view}
-use Rattle.monk_tell.specs.Place.{in_queues}
-use Rattle.monk_tell.specs.Told.{queues_of}
-use Rattle.monk_commands.specs.Traced.{places_text, seat_text}
-use Rattle.monk_commands.proofs.Traces.{places_more, with_seat}
+use Rattle.monk_tell.specs.{Place.in_queues, Told.queues_of}
 use Rattle.monk_commands.proofs.trace_lines.put_places.Goals as goal
+use Rattle.monk_commands.proofs.Traces.{places_more, with_seat}
+use Rattle.monk_commands.specs.Traced.{places_text, seat_text}
 
 pub loop-seat-preserved : goal.loop-seat-preserved
 loop-seat-preserved g c =

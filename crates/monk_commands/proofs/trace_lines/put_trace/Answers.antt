@@ -1,13 +1,11 @@
 use Rattle.std.proofs.Common.{◌≡◌, ◌∙◌, ℕ, [], sym, ap, subst}
-use Rattle.monk_history.specs.Meaning.Monitor.{monitor}
-use Rattle.monk_history.specs.Meaning.Situation.{situation}
-use Rattle.monk_history.specs.Meaning.Step.{opening_situation}
-use Rattle.monk_history.specs.Text.{Heading}
 use Rattle.monk_history.proofs.PublicLaws.Meaning.{situation-none}
+use Rattle.monk_history.specs.Meaning.{Monitor.monitor, Situation.situation, Step.opening_situation}
+use Rattle.monk_history.specs.Text.{Heading}
 use Rattle.monk_audit.specs.Replay.{IsReplayOf, replay_situation}
 use Rattle.monk_floor.specs.View.{FloorView, monitor_of}
-use Rattle.monk_commands.specs.Following.{IsBehind}
 use Rattle.monk_commands.proofs.trace_lines.put_trace.Goals as goal
+use Rattle.monk_commands.specs.Following.{IsBehind}
 
 pub write_lines-requires-clause-behind : goal.write_lines-requires-clause-behind
 write_lines-requires-clause-behind g c κs within =

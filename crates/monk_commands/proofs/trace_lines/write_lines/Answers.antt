@@ -1,15 +1,12 @@
 use Rattle.std.proofs.Common.{◌≡◌, ◌∙◌, ℕ, ◌+◌, ◌++◌, List, [], length, ap, arith}
-use Rattle.std.proofs.lemmas.Result.{on_ok_weaker}
-use Rattle.std.specs.Prelude.{string_bytes}
-use Rattle.monk_history.specs.Meaning.Monitor.{Monitor, monitor}
-use Rattle.monk_history.specs.Meaning.Situation.{situation}
+use Rattle.std.{proofs.lemmas.Result.on_ok_weaker, specs.Prelude.string_bytes}
+use Rattle.monk_history.specs.Meaning.{Monitor.Monitor, Monitor.monitor, Situation.situation}
 use Rattle.monk_history.specs.Text.Device.{inner_of}
 use Rattle.monk_floor.specs.View.{monitor_of}
-use Rattle.monk_world.specs.WorldViews.{state_of_view}
-use Rattle.monk_world.specs.declared.command.Command.{Command}
-use Rattle.monk_commands.specs.Traced.{AreTraced, trace_line}
-use Rattle.monk_commands.proofs.Traces.{goes_on, traced_all, traced_on}
+use Rattle.monk_world.specs.{WorldViews.state_of_view, declared.command.Command.Command}
 use Rattle.monk_commands.proofs.trace_lines.write_lines.Goals as goal
+use Rattle.monk_commands.proofs.Traces.{goes_on, traced_all, traced_on}
+use Rattle.monk_commands.specs.Traced.{AreTraced, trace_line}
 
 pub loop-seat-preserved : goal.loop-seat-preserved
 loop-seat-preserved g c =

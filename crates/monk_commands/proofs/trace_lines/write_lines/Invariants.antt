@@ -3,10 +3,8 @@ use Rattle.std.specs.Prelude.{false, string_bytes}
 use Rattle.monk_history.specs.Text.Device.{has_failed, inner_of}
 use Rattle.monk_floor.specs.View.{monitor_of}
 use Rattle.monk_world.specs.WorldViews.{state_of_view}
-use Rattle.monk_commands.specs.Following.{IsBehind}
-use Rattle.monk_commands.specs.Traced.{AreTraced}
-use Rattle.monk_commands.proofs.Traces.{IsOnItsWay}
 use Rattle.monk_commands.proofs.trace_lines.write_lines.Given as goal
+use Rattle.monk_commands.{specs.Following.IsBehind, specs.Traced.AreTraced, proofs.Traces.IsOnItsWay}
 
 -- the lines come before those of the commands that are left, and the replay follows the world
 abbrev pub invariant-loop-seat : goal.invariant-loop-seat

@@ -1,9 +1,7 @@
-use Rattle.std.proofs.lemmas.Result.{IfOk-weaker}
-use Rattle.std.specs.Io.KnownBytes.{Appends}
+use Rattle.std.{proofs.lemmas.Result.IfOk-weaker, specs.Io.KnownBytes.Appends}
 use Rattle.monk_history.specs.Text.Device.{inner_of}
-use Rattle.monk_commands.proofs.Known.{on_known}
-use Rattle.monk_commands.proofs.Upgrades.{again, exactly, statuses, upgraded}
 use Rattle.monk_commands.proofs.upgrading.upgrade_stream.Goals as goal
+use Rattle.monk_commands.proofs.{Known.on_known, Upgrades.again, Upgrades.exactly, Upgrades.statuses, Upgrades.upgraded}
 
 pub returns-clause-histories : goal.returns-clause-histories
 returns-clause-histories g c =

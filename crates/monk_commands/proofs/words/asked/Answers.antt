@@ -1,8 +1,7 @@
-use Rattle.std.proofs.Common.{rules, sym}
-use Rattle.std.proofs.lemmas.Result.{IfOk-weaker}
+use Rattle.std.proofs.{Common.rules, Common.sym, lemmas.Result.IfOk-weaker}
 use Rattle.clap.specs.Words.{found_of, rows_of, subcommand_rows_of}
-use Rattle.monk_commands.proofs.Requests.{asked_in}
 use Rattle.monk_commands.proofs.words.asked.Goals as goal
+use Rattle.monk_commands.proofs.Requests.{asked_in}
 
 pub returns-in-Some : goal.returns-in-Some
 returns-in-Some c =

@@ -1,10 +1,8 @@
 use Rattle.std.proofs.Common.{◌≡◌, ℕ, ◌+◌, ◌<◌, List, length, get_or, drop, add-one, map, refl}
-use Rattle.std.specs.Prelude.{fold}
-use Rattle.std.proofs.Math.Seq.{drop-cons}
+use Rattle.std.{specs.Prelude.fold, proofs.Math.Seq.drop-cons}
 use Rattle.clap.specs.Words.{App, Rule, with_rule}
-use Rattle.monk_commands.specs.Request.{word_rule}
-use Rattle.monk_commands.specs.declared.word.Word.{Word}
 use Rattle.monk_commands.proofs.words.command.Goals as goal
+use Rattle.monk_commands.specs.{Request.word_rule, declared.word.Word.Word}
 
 -- with one more word
 words_more : (a b new : App) (rule : Rule) (ws : List Word) (i : ℕ) (w : Word) → i < length ws

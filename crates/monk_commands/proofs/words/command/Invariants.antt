@@ -1,9 +1,8 @@
 use Rattle.std.proofs.Common.{◌≡◌, drop, false, map}
 use Rattle.std.specs.Prelude.{fold}
-use Rattle.clap.specs.Words.{app_of, with_rule}
-use Rattle.clap.specs.declared.builder.command.Command.TheViews.{out-Command}
-use Rattle.monk_commands.specs.Request.{command_app, word_rule}
+use Rattle.clap.specs.{Words.app_of, Words.with_rule, declared.builder.command.Command.TheViews.out-Command}
 use Rattle.monk_commands.proofs.words.command.Given as goal
+use Rattle.monk_commands.specs.Request.{command_app, word_rule}
 
 -- with the words that are left it is the command
 abbrev pub invariant-loop-word : goal.invariant-loop-word

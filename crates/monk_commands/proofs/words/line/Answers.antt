@@ -1,9 +1,8 @@
 use Rattle.std.proofs.Common.{◌∙◌, ap, subst}
 use Rattle.std.proofs.lemmas.Result.{IfOk-weaker}
 use Rattle.clap.specs.Words.{app_of, is_simple}
-use Rattle.monk_commands.specs.Request.{IsAsked}
-use Rattle.monk_commands.proofs.Requests.{monk_is_simple}
 use Rattle.monk_commands.proofs.words.line.Goals as goal
+use Rattle.monk_commands.{specs.Request.IsAsked, proofs.Requests.monk_is_simple}
 
 pub returns-in-Ok : goal.returns-in-Ok
 returns-in-Ok c =

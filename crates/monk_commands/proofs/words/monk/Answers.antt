@@ -1,5 +1,4 @@
-use Rattle.std.proofs.Common.{rules}
-use Rattle.std.proofs.lemmas.Result.{IfOk-weaker}
+use Rattle.std.proofs.{Common.rules, lemmas.Result.IfOk-weaker}
 use Rattle.monk_commands.proofs.words.monk.Goals as goal
 
 pub returns : goal.returns

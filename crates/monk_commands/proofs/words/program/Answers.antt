@@ -1,9 +1,8 @@
 use Rattle.std.proofs.Common.{◌≡◌, ℕ, ◌+◌, ◌<◌, List, length, get_or, drop, add-one}
 use Rattle.std.proofs.Math.Seq.{drop-cons}
 use Rattle.clap.specs.Words.{App, with_subcommand}
-use Rattle.monk_commands.specs.Request.{command_app, with_commands}
-use Rattle.monk_commands.specs.declared.commands.CommandWords.{CommandWords}
 use Rattle.monk_commands.proofs.words.program.Goals as goal
+use Rattle.monk_commands.specs.{Request.command_app, Request.with_commands, declared.commands.CommandWords.CommandWords}
 
 -- with one more command
 commands_more : (a b new : App) (cs : List CommandWords) (i : ℕ) (c : CommandWords) → i < length cs

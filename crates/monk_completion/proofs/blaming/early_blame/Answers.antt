@@ -1,13 +1,11 @@
 use Rattle.std.proofs.Common.{◌≡◌, ◌∙◌, ℕ, Bool, true, false, cond, not, Some, None, refl, ap, []}
-use Rattle.monk_history.specs.declared.event.Event.{Event}
-use Rattle.monk_history.specs.Meaning.Monitor.{Monitor, monitor}
+use Rattle.monk_history.specs.Meaning.{Monitor.Monitor, Monitor.monitor, Situation.Situation}
 use Rattle.monk_history.specs.Meaning.Reasons.{is_in_place, is_in_range, is_in_turn, is_offered, reason_before}
-use Rattle.monk_history.specs.Meaning.Situation.{Situation}
+use Rattle.monk_history.specs.declared.event.Event.{Event}
 use Rattle.monk_audit.specs.Replay.{replay_situation}
-use Rattle.monk_completion.specs.Blame.{early_blame, early_blame_of}
-use Rattle.monk_completion.specs.Stand.{monitor_in}
-use Rattle.monk_completion.specs.declared.blame.Blame.TheVariants.{Range, Call}
 use Rattle.monk_completion.proofs.blaming.early_blame.Goals as goal
+use Rattle.monk_completion.specs.{Blame.early_blame, Blame.early_blame_of, Stand.monitor_in}
+use Rattle.monk_completion.specs.declared.blame.Blame.TheVariants.{Range, Call}
 
 of_four : (a b c d : Bool) → early_blame_of (cond (not a) 1 (cond (not b) 2 (cond (not c) 3 (cond (not d) 4 0))))
     ≡ cond (not a) (Some Range) (cond (not b) (Some Call) None)

@@ -1,7 +1,6 @@
 use Rattle.monk_audit.specs.Replay.{replay_situation}
-use Rattle.monk_completion.specs.Stand.{monitor_in}
-use Rattle.monk_completion.proofs.Tests.{called_fits}
 use Rattle.monk_completion.proofs.blaming.late_blame.Goals as goal
+use Rattle.monk_completion.{specs.Stand.monitor_in, proofs.Tests.called_fits}
 
 pub must_stay-stays-requires-clause-object : goal.must_stay-stays-requires-clause-object
 must_stay-stays-requires-clause-object g c κs within =

@@ -1,9 +1,8 @@
 use Rattle.std.proofs.Common.{◌≡◌, ◌∙◌, ◌||◌, ◌++◌, ℕ, Bool, List, [], sym, ap}
-use Rattle.monk_history.specs.Just.{just}
-use Rattle.monk_history.specs.Meaning.Choice.{queues_at}
+use Rattle.monk_history.specs.{Just.just, Meaning.Choice.queues_at}
 use Rattle.monk_audit.specs.Replay.{has, replay_situation}
-use Rattle.monk_completion.proofs.FrontLaws.{one_served, one_steps_back}
 use Rattle.monk_completion.proofs.blaming.stands_in.Goals as goal
+use Rattle.monk_completion.proofs.FrontLaws.{one_served, one_steps_back}
 use Rattle.monk_completion.proofs.blaming.stands_in.Goals.{After-is_among, After-is_among-2}
 
 waits : (g : _) (c : After-is_among g)

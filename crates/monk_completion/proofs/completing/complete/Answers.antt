@@ -1,8 +1,7 @@
-use Rattle.std.proofs.Common.{sym, subst}
-use Rattle.std.proofs.lemmas.Result.{IfOk-weaker}
-use Rattle.monk_completion.specs.Verdict.{FitsExactly, MisfitsExactly, log_monitor}
-use Rattle.monk_completion.proofs.Exactly.{kind_fits, kind_misfits}
+use Rattle.std.proofs.{Common.sym, Common.subst, lemmas.Result.IfOk-weaker}
 use Rattle.monk_completion.proofs.completing.complete.Goals as goal
+use Rattle.monk_completion.proofs.Exactly.{kind_fits, kind_misfits}
+use Rattle.monk_completion.specs.Verdict.{FitsExactly, MisfitsExactly, log_monitor}
 
 pub returns-clause-fits : goal.returns-clause-fits
 returns-clause-fits c =

@@ -1,13 +1,10 @@
-use Rattle.std.proofs.Common.{List, sym, subst}
-use Rattle.std.specs.Prelude.{Result, OnOk}
-use Rattle.monk_history.specs.declared.event.Event.{Event}
-use Rattle.monk_history.specs.Meaning.Monitor.{monitor}
+use Rattle.std.{proofs.Common.List, proofs.Common.sym, proofs.Common.subst, specs.Prelude.Result, specs.Prelude.OnOk}
+use Rattle.monk_history.specs.{declared.event.Event.Event, Meaning.Monitor.monitor}
 use Rattle.monk_audit.specs.Replay.{IsReplayOf, replay_situation}
-use Rattle.monk_completion.specs.declared.blame.Blame.{Blame}
-use Rattle.monk_completion.specs.declared.pending.Pending.{Pending}
-use Rattle.monk_completion.specs.declared.pending.Pending.TheVariants.{Settled}
-use Rattle.monk_completion.proofs.Lines.{Follows, ends, fits, goes, misfits, opens}
 use Rattle.monk_completion.proofs.completing.follow.Goals as goal
+use Rattle.monk_completion.proofs.Lines.{Follows, ends, fits, goes, misfits, opens}
+use Rattle.monk_completion.specs.declared.blame.Blame.{Blame}
+use Rattle.monk_completion.specs.declared.pending.Pending.{Pending, TheVariants.Settled}
 
 pub loop-i-init : goal.loop-i-init
 loop-i-init g c =

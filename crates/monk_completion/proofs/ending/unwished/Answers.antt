@@ -1,12 +1,9 @@
 use Rattle.std.proofs.Common.{◌∙◌, ℕ, Bool, cond, sym, ap}
+use Rattle.monk_history.specs.Meaning.{Choice.Queues, Choice.queues_at, Events.seat_of, Wish.unwished_choice}
 use Rattle.monk_history.specs.declared.event.Next.TheVariants.{Stay}
-use Rattle.monk_history.specs.Meaning.Choice.{Queues, queues_at}
-use Rattle.monk_history.specs.Meaning.Events.{seat_of}
-use Rattle.monk_history.specs.Meaning.Wish.{unwished_choice}
 use Rattle.monk_audit.specs.Replay.{replay_situation}
-use Rattle.monk_completion.specs.Fronts.{shown}
-use Rattle.monk_completion.proofs.FrontLaws.{unwished_same}
 use Rattle.monk_completion.proofs.ending.unwished.Goals as goal
+use Rattle.monk_completion.{specs.Fronts.shown, proofs.FrontLaws.unwished_same}
 
 pub returns-then-must_stay : goal.returns-then-must_stay
 returns-then-must_stay g c =

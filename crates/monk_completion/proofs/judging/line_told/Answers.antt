@@ -1,28 +1,19 @@
 -- After the release gets the choice that the line shows, the line is judged as one with all known before it
 use Rattle.std.proofs.Common.{◌≡◌, ◌∙◌, Bool, true, false, cond, not, ◌&&◌, List, Some, None, refl, sym, ap, subst}
 use Rattle.std.specs.Prelude.{◌==◌, Result, Ok, Err, IfOk, OnOk}
-use Rattle.monk_history.specs.declared.event.Event.{Event}
 use Rattle.monk_history.specs.declared.event.Event.TheVariants as event
-use Rattle.monk_history.specs.declared.event.Next.{Next}
-use Rattle.monk_history.specs.declared.event.Next.TheVariants.{Stay}
-use Rattle.monk_history.specs.Meaning.Choice.{queues_at}
-use Rattle.monk_history.specs.Meaning.Events.{answered_act, next_of}
-use Rattle.monk_history.specs.Meaning.Monitor.{Monitor}
-use Rattle.monk_history.specs.Meaning.Reasons.{reason_in}
-use Rattle.monk_history.specs.Meaning.Release.{with_next}
-use Rattle.monk_history.specs.Meaning.Situation.{Situation}
-use Rattle.monk_history.specs.Meaning.Step.{after}
+use Rattle.monk_history.specs.Meaning.{Choice.queues_at, Events.answered_act, Events.next_of, Monitor.Monitor}
+use Rattle.monk_history.specs.Meaning.{Reasons.reason_in, Release.with_next, Situation.Situation, Step.after}
+use Rattle.monk_history.specs.declared.event.{Event.Event, Next.Next, Next.TheVariants.Stay}
 use Rattle.monk_logs.specs.declared.text.line.LogLine.{LogLine}
 use Rattle.monk_audit.specs.Replay.{IsReplayOf, replay_situation}
-use Rattle.monk_completion.specs.Blame.{release_blame}
-use Rattle.monk_completion.specs.Stand.{Stand, line_settled, line_told, monitor_in, stand_or}
-use Rattle.monk_completion.specs.Told.{is_lapse, told_next, told_release}
-use Rattle.monk_completion.specs.declared.blame.Blame.{Blame}
-use Rattle.monk_completion.specs.declared.pending.Pending.{Pending}
-use Rattle.monk_completion.proofs.ToldLaws.{told_goes, told_more}
 use Rattle.monk_completion.proofs.judging.line_told.Goals as goal
 use Rattle.monk_completion.proofs.judging.line_told.Goals.{then-is_lapse-via-then-is_lapse}
 use Rattle.monk_completion.proofs.judging.line_told.Goals.{then-is_lapse-via-else-is_lapse+then-refuses}
+use Rattle.monk_completion.proofs.ToldLaws.{told_goes, told_more}
+use Rattle.monk_completion.specs.{Blame.release_blame, declared.blame.Blame.Blame, declared.pending.Pending.Pending}
+use Rattle.monk_completion.specs.Stand.{Stand, line_settled, line_told, monitor_in, stand_or}
+use Rattle.monk_completion.specs.Told.{is_lapse, told_next, told_release}
 
 -- a release is no act, whatever it chooses
 no_act : (x : Next) (e : Event) → next_of e ≡ Some Stay → answered_act (with_next x e) ≡ None

@@ -1,13 +1,8 @@
 use Rattle.std.proofs.Common.{◌∙◌, ℕ, Bool, not, [], sym, ap}
-use Rattle.monk_history.specs.Meaning.Choice.{Queues, queues_at}
-use Rattle.monk_history.specs.Meaning.Monitor.{monitor}
-use Rattle.monk_history.specs.Meaning.Reasons.{reason_before}
-use Rattle.monk_audit.specs.Replay.{replay_situation}
-use Rattle.monk_audit.specs.Settled.{permits}
-use Rattle.monk_completion.specs.Stand.{monitor_in}
-use Rattle.monk_completion.proofs.FrontLaws.{permits_same}
-use Rattle.monk_completion.proofs.Tests.{permitted_only}
+use Rattle.monk_history.specs.Meaning.{Choice.Queues, Choice.queues_at, Monitor.monitor, Reasons.reason_before}
+use Rattle.monk_audit.specs.{Replay.replay_situation, Settled.permits}
 use Rattle.monk_completion.proofs.judging.refuses.Goals as goal
+use Rattle.monk_completion.{specs.Stand.monitor_in, proofs.FrontLaws.permits_same, proofs.Tests.permitted_only}
 
 pub returns-in-None : goal.returns-in-None
 returns-in-None g c =

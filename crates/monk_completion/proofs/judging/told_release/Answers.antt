@@ -1,11 +1,9 @@
 use Rattle.std.proofs.Common.{◌∙◌, ap}
+use Rattle.monk_history.specs.Meaning.{Choice.Queues, Choice.queues_at, Release.with_next}
 use Rattle.monk_history.specs.declared.event.Next.{Next}
-use Rattle.monk_history.specs.Meaning.Choice.{Queues, queues_at}
-use Rattle.monk_history.specs.Meaning.Release.{with_next}
 use Rattle.monk_audit.specs.Replay.{replay_situation}
-use Rattle.monk_completion.specs.Told.{told_next}
-use Rattle.monk_completion.proofs.FrontLaws.{told_same}
 use Rattle.monk_completion.proofs.judging.told_release.Goals as goal
+use Rattle.monk_completion.{specs.Told.told_next, proofs.FrontLaws.told_same}
 
 pub returns : goal.returns
 returns g c =

@@ -1,10 +1,9 @@
 use Rattle.std.proofs.Common.{◌≡◌, arith, refl, sym, ap, subst, ◌∙◌}
 use Rattle.atomic_table.specs.Seated.{TableId}
 use Rattle.monk_floor.specs.View.{FloorView}
-use Rattle.monk_hall.specs.Closing.{HasSomebody, IsUnqueued}
-use Rattle.monk_hall.specs.Tokens.{Holder, House}
-use Rattle.monk_hall.proofs.ClosingLaws.{unqueued_all, ended_peeked, busy_unlooked}
 use Rattle.monk_hall.proofs.closing.close.Goals as goal
+use Rattle.monk_hall.proofs.ClosingLaws.{unqueued_all, ended_peeked, busy_unlooked}
+use Rattle.monk_hall.specs.{Closing.HasSomebody, Closing.IsUnqueued, Tokens.Holder, Tokens.House}
 
 pub end-requires-clause-unqueued : goal.end-requires-clause-unqueued
 end-requires-clause-unqueued g c κs within =

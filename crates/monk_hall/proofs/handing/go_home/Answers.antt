@@ -1,32 +1,21 @@
 use Rattle.std.proofs.Common.{◌≡◌, ℕ, ◌<◌, Bool, true, ◌&&◌, Option, Some, ◌∷◌, refl, sym, ap}
 use Rattle.std.proofs.Common.{subst, ◌∙◌, arith, rules}
-use Rattle.std.specs.Prelude.{nat_lt}
-use Rattle.std.specs.List.{list_all}
+use Rattle.std.specs.{Prelude.nat_lt, List.list_all}
 use Rattle.monk_kinds.specs.declared.mode.Rules.{Rules}
 use Rattle.monk_object.specs.Object.{Object}
 use Rattle.atomic_table.specs.Seated.{TableId}
-use Rattle.monk_history.specs.declared.event.Event.{Event}
-use Rattle.monk_history.specs.declared.event.Next.{Next}
-use Rattle.monk_history.specs.Meaning.Counts.{granted_of}
-use Rattle.monk_history.specs.Meaning.Events.{named_seat, next_of, seat_of}
-use Rattle.monk_history.specs.Meaning.Reasons.{is_in_range}
-use Rattle.monk_history.specs.Meaning.Release.{with_next}
-use Rattle.monk_world.specs.declared.home.Home.{Home}
 use Rattle.monk_history.specs.declared.event.Next.TheVariants as next
-use Rattle.monk_floor.specs.View.{FloorView}
+use Rattle.monk_history.specs.Meaning.{Counts.granted_of, Reasons.is_in_range, Release.with_next}
+use Rattle.monk_history.specs.Meaning.Events.{named_seat, next_of, seat_of}
+use Rattle.monk_history.specs.declared.event.{Event.Event, Next.Next}
 use Rattle.monk_world.specs.Places.{back_turn, due_to}
-use Rattle.monk_world.specs.declared.place.Place.TheVariants.{Back}
-use Rattle.monk_hall.specs.Changes.{home_at}
-use Rattle.monk_hall.specs.Granting.{granted_last}
-use Rattle.monk_hall.specs.Layout.{word_count}
-use Rattle.monk_hall.specs.Handing.{seat_called_by, HasRecordedRelease}
-use Rattle.monk_hall.specs.Records.{IsOne, the}
-use Rattle.monk_hall.specs.Tells.{Me}
-use Rattle.monk_hall.specs.Tokens.{House}
-use Rattle.monk_hall.specs.declared.deed.Deed.TheVariants.{CallSeat}
-use Rattle.monk_hall.proofs.HandingLaws.{chosen_due, chosen_entry, grants_by}
-use Rattle.monk_hall.proofs.Releasing.{said}
+use Rattle.monk_world.specs.declared.{home.Home.Home, place.Place.TheVariants.Back}
+use Rattle.monk_floor.specs.View.{FloorView}
 use Rattle.monk_hall.proofs.handing.go_home.Goals as goal
+use Rattle.monk_hall.proofs.{HandingLaws.chosen_due, HandingLaws.chosen_entry, HandingLaws.grants_by, Releasing.said}
+use Rattle.monk_hall.specs.{Changes.home_at, Granting.granted_last, Layout.word_count, Records.IsOne, Records.the}
+use Rattle.monk_hall.specs.{Tells.Me, Tokens.House, declared.deed.Deed.TheVariants.CallSeat}
+use Rattle.monk_hall.specs.Handing.{seat_called_by, HasRecordedRelease}
 
 -- ---- the seat that a release chose is one of the hall's
 

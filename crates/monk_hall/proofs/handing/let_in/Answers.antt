@@ -1,10 +1,8 @@
 use Rattle.std.proofs.Common.{Some, sym, ap, ◌∙◌}
-use Rattle.monk_hall.specs.Granting.{granted_last}
-use Rattle.monk_hall.specs.Records.{the}
-use Rattle.monk_hall.specs.Tells.{Me}
-use Rattle.monk_hall.specs.declared.deed.Deed.TheVariants.{Drop, GrantTicket}
-use Rattle.monk_hall.proofs.HandingLaws.{grants_by}
 use Rattle.monk_hall.proofs.handing.let_in.Goals as goal
+use Rattle.monk_hall.proofs.HandingLaws.{grants_by}
+use Rattle.monk_hall.specs.{Granting.granted_last, Records.the, Tells.Me}
+use Rattle.monk_hall.specs.declared.deed.Deed.TheVariants.{Drop, GrantTicket}
 
 pub returns-then-waiting-eq1-clause-granted : goal.returns-then-waiting-eq1-clause-granted
 returns-then-waiting-eq1-clause-granted g c = let z = c.args.words.now.table.shared.table_id in let seats =

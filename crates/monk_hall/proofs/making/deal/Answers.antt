@@ -1,11 +1,8 @@
 use Rattle.std.proofs.Common.{arith, ◌≡◌, ◌<◌, ℕ, ◌+◌, ◌++◌, ◌∷◌, [], refl, sym, ap, subst, ◌∙◌}
-use Rattle.monk_hall.specs.Records.{View, opening_record, opening_records, the, head, tail}
-use Rattle.monk_hall.specs.Rule.{setting_of}
-use Rattle.monk_hall.specs.Tokens.{tokens}
-use Rattle.monk_hall.specs.declared.setting.Setting.{Setting}
-use Rattle.monk_hall.proofs.Dealing.{fresh_next, tokens_more}
-use Rattle.monk_hall.proofs.Reached.{deals_next}
 use Rattle.monk_hall.proofs.making.deal.Goals as goal
+use Rattle.monk_hall.proofs.{Dealing.fresh_next, Dealing.tokens_more, Reached.deals_next}
+use Rattle.monk_hall.specs.{Rule.setting_of, Tokens.tokens, declared.setting.Setting.Setting}
+use Rattle.monk_hall.specs.Records.{View, opening_record, opening_records, the, head, tail}
 
 pub deal-seat-requires-after_bounds : goal.deal-seat-requires-after_bounds
 deal-seat-requires-after_bounds g c κs within =

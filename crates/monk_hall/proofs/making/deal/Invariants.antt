@@ -1,8 +1,6 @@
 use Rattle.std.proofs.Common.{◌-◌, ◌≡◌, ◌≤◌, []}
-use Rattle.monk_hall.specs.Records.{opening_records}
-use Rattle.monk_hall.specs.Rule.{setting_of}
-use Rattle.monk_hall.specs.Tokens.{tokens}
 use Rattle.monk_hall.proofs.making.deal.Given as goal
+use Rattle.monk_hall.specs.{Records.opening_records, Rule.setting_of, Tokens.tokens}
 
 abbrev pub invariant-loop-dealt : goal.invariant-loop-dealt
 invariant-loop-dealt g l =

@@ -1,11 +1,9 @@
 use Rattle.std.proofs.Common.{◌≡◌, ◌∷◌, [], List, refl, sym, ap, subst, ◌∙◌}
 use Rattle.atomic_table.specs.Seated.{TableId}
 use Rattle.monk_world.specs.declared.place.Place.TheVariants.{Idle}
-use Rattle.monk_hall.specs.Records.{View, the}
-use Rattle.monk_hall.specs.Tokens.{IsResting, top}
-use Rattle.monk_hall.specs.declared.seat_numbers.SeatNumbers.{SeatNumbers}
-use Rattle.monk_hall.proofs.Dealing.{fresh_rests}
 use Rattle.monk_hall.proofs.making.fresh_pass.Goals as goal
+use Rattle.monk_hall.{specs.Records.View, specs.Records.the, specs.Tokens.IsResting, specs.Tokens.top}
+use Rattle.monk_hall.{specs.declared.seat_numbers.SeatNumbers.SeatNumbers, proofs.Dealing.fresh_rests}
 
 pub invariant_of-result : goal.invariant_of-result
 invariant_of-result g c =

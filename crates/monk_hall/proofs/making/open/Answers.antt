@@ -2,13 +2,9 @@ use Rattle.std.proofs.Common.{◌≡◌, ℕ, ◌+◌, ◌*◌, ◌++◌, ◌∷
 use Rattle.std.specs.Prelude.{Option}
 use Rattle.atomic_table.specs.Table.{opening}
 use Rattle.monk_floor.specs.View.{FloorView}
-use Rattle.monk_hall.specs.Layout.{floor_of}
-use Rattle.monk_hall.specs.Records.{first_view}
-use Rattle.monk_hall.specs.Rule.{setting_of}
-use Rattle.monk_hall.specs.Schedules.{IsReached}
-use Rattle.monk_hall.specs.declared.setting.Setting.{Setting}
-use Rattle.monk_hall.proofs.Reached.{opens}
 use Rattle.monk_hall.proofs.making.open.Goals as goal
+use Rattle.monk_hall.{specs.Layout.floor_of, specs.Records.first_view, specs.Rule.setting_of, specs.Schedules.IsReached}
+use Rattle.monk_hall.{specs.declared.setting.Setting.Setting, proofs.Reached.opens}
 
 pub new-requires-after_bounds : goal.new-requires-after_bounds
 new-requires-after_bounds g c κs within =

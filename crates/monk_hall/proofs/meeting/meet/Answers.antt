@@ -1,14 +1,10 @@
 use Rattle.std.proofs.Common.{arith, ◌≡◌, List, ◌∷◌, ◌++◌, [], refl, sym, ap, subst, ◌∙◌}
-use Rattle.monk_hall.specs.Changes.{view_after_join, view_after_compare}
-use Rattle.monk_hall.specs.Records.{View, IsOne, the, head, tail}
-use Rattle.monk_hall.specs.Rule.{setting_of}
-use Rattle.monk_hall.specs.Tells.{SeesTruly}
-use Rattle.monk_hall.specs.Tokens.{top}
-use Rattle.monk_hall.specs.declared.deed.Deed.TheVariants.{Meet}
-use Rattle.monk_hall.specs.declared.record.SeatRecord.{SeatRecord}
+use Rattle.monk_hall.proofs.meeting.meet.Goals as goal
 use Rattle.monk_hall.proofs.MeetLaws.{has_learned, met_rests}
 use Rattle.monk_hall.proofs.Reached.{IsTwo, meets, compares, parts_again}
-use Rattle.monk_hall.proofs.meeting.meet.Goals as goal
+use Rattle.monk_hall.specs.{Changes.view_after_join, Changes.view_after_compare, Rule.setting_of, Tells.SeesTruly}
+use Rattle.monk_hall.specs.{Tokens.top, declared.deed.Deed.TheVariants.Meet, declared.record.SeatRecord.SeatRecord}
+use Rattle.monk_hall.specs.Records.{View, IsOne, the, head, tail}
 
 pub join-requires-after_bounds : goal.join-requires-after_bounds
 join-requires-after_bounds g c κs within =

@@ -1,7 +1,6 @@
 use Rattle.std.proofs.Common.{arith}
-use Rattle.monk_hall.specs.Rule.{setting_of}
-use Rattle.monk_hall.proofs.Reached.{arrives}
 use Rattle.monk_hall.proofs.steps.arrive.Goals as goal
+use Rattle.monk_hall.{specs.Rule.setting_of, proofs.Reached.arrives}
 
 pub fetch_add-requires : goal.fetch_add-requires
 fetch_add-requires g c =

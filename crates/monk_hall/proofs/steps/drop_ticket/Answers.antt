@@ -1,7 +1,6 @@
 use Rattle.std.proofs.Common.{arith}
-use Rattle.monk_hall.specs.Rule.{setting_of}
-use Rattle.monk_hall.proofs.Reached.{takes_off}
 use Rattle.monk_hall.proofs.steps.drop_ticket.Goals as goal
+use Rattle.monk_hall.{specs.Rule.setting_of, proofs.Reached.takes_off}
 
 pub fetch_sub-requires : goal.fetch_sub-requires
 fetch_sub-requires g c =

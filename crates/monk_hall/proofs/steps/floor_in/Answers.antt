@@ -1,11 +1,9 @@
 use Rattle.std.proofs.Common.{arith, sym, subst, ap, ◌∙◌, Some, ◌∷◌}
 use Rattle.atomic_table.specs.Table.{rest}
 use Rattle.monk_world.specs.Places.{stage}
-use Rattle.monk_hall.specs.Records.{IsOne, the}
-use Rattle.monk_hall.specs.Rule.{setting_of}
-use Rattle.monk_hall.specs.Tells.{Returns}
-use Rattle.monk_hall.proofs.Reached.{gives_floor}
 use Rattle.monk_hall.proofs.steps.floor_in.Goals as goal
+use Rattle.monk_hall.proofs.Reached.{gives_floor}
+use Rattle.monk_hall.specs.{Records.IsOne, Records.the, Rule.setting_of, Tells.Returns}
 
 pub load-requires : goal.load-requires
 load-requires g c =

@@ -1,10 +1,8 @@
 use Rattle.std.proofs.Common.{arith, ℕ, sym, subst, ap, ◌∙◌, Some, ◌∷◌}
 use Rattle.atomic_table.specs.Table.{rest, Allows}
-use Rattle.monk_hall.specs.Rule.{setting_of}
-use Rattle.monk_hall.specs.Schedules.{IsReached}
-use Rattle.monk_hall.specs.Tells.{TellsFloorOut}
-use Rattle.monk_hall.proofs.Reached.{takes_floor}
 use Rattle.monk_hall.proofs.steps.floor_out.Goals as goal
+use Rattle.monk_hall.proofs.Reached.{takes_floor}
+use Rattle.monk_hall.specs.{Rule.setting_of, Schedules.IsReached, Tells.TellsFloorOut}
 
 pub load-requires : goal.load-requires
 load-requires g c =

@@ -1,7 +1,6 @@
 use Rattle.std.proofs.Common.{arith}
-use Rattle.monk_hall.specs.Rule.{setting_of}
-use Rattle.monk_hall.proofs.Reached.{peeks}
 use Rattle.monk_hall.proofs.steps.peek.Goals as goal
+use Rattle.monk_hall.{specs.Rule.setting_of, proofs.Reached.peeks}
 
 pub load-requires : goal.load-requires
 load-requires g c =

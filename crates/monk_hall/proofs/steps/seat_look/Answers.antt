@@ -1,12 +1,8 @@
 use Rattle.std.proofs.Common.{arith, ℕ, ◌≡◌, sym, ap, subst, ◌∙◌}
 use Rattle.atomic_table.specs.Table.{Allows}
-use Rattle.monk_hall.specs.Layout.{seat_word}
-use Rattle.monk_hall.specs.Records.{the}
-use Rattle.monk_hall.specs.Rule.{setting_of}
-use Rattle.monk_hall.specs.Schedules.{IsReached}
-use Rattle.monk_hall.specs.Tells.{TellsSeatLook}
-use Rattle.monk_hall.proofs.Reached.{looks_for_call}
 use Rattle.monk_hall.proofs.steps.seat_look.Goals as goal
+use Rattle.monk_hall.proofs.Reached.{looks_for_call}
+use Rattle.monk_hall.specs.{Layout.seat_word, Records.the, Rule.setting_of, Schedules.IsReached, Tells.TellsSeatLook}
 
 pub load-requires : goal.load-requires
 load-requires g c =

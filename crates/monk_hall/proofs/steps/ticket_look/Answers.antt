@@ -1,13 +1,9 @@
 use Rattle.std.proofs.Common.{arith, ℕ, ◌%◌, ◌<◌, ◌≡◌, sym, subst, ◌∙◌, mod-lt}
 use Rattle.atomic_table.specs.Table.{Allows}
 use Rattle.monk_world.specs.Places.{ticket}
-use Rattle.monk_hall.specs.Layout.{place_word}
-use Rattle.monk_hall.specs.Records.{the}
-use Rattle.monk_hall.specs.Rule.{setting_of}
-use Rattle.monk_hall.specs.Schedules.{IsReached}
-use Rattle.monk_hall.specs.Tells.{TellsTicketLook}
-use Rattle.monk_hall.proofs.Reached.{looks_for_ticket}
 use Rattle.monk_hall.proofs.steps.ticket_look.Goals as goal
+use Rattle.monk_hall.proofs.Reached.{looks_for_ticket}
+use Rattle.monk_hall.specs.{Layout.place_word, Records.the, Rule.setting_of, Schedules.IsReached, Tells.TellsTicketLook}
 
 pub load-requires : goal.load-requires
 load-requires g c =

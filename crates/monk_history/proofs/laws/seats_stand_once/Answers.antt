@@ -1,6 +1,5 @@
-use Rattle.monk_history.proofs.MeaningLaws.MoveLaws.{queued_once}
-use Rattle.monk_history.proofs.MeaningLaws.StandingLaws.{legal_placed}
 use Rattle.monk_history.proofs.laws.seats_stand_once.Goals as goal
+use Rattle.monk_history.proofs.MeaningLaws.{MoveLaws.queued_once, StandingLaws.legal_placed}
 
 pub returns-clause-placed : goal.returns-clause-placed
 returns-clause-placed c = legal_placed

@@ -1,9 +1,7 @@
 //! Numbers as words.
 
 ghost use Rattle.std.specs.Prelude.{◌≡◌, ◌≤◌, ◌<◌, ◌+◌, ◌*◌, ◌-◌, IfSome, IsTrue, ◌↔◌, slice_index, length};
-ghost use Rattle.std.specs.Option.{SomeIff};
-ghost use Rattle.std.specs.Char.{digit_value};
-ghost use Rattle.std.specs.Str.Parse.{AllDigits, digits_value};
+ghost use Rattle.std.specs.{Option.SomeIff, Char.digit_value, Str.Parse.AllDigits, Str.Parse.digits_value};
 ghost use Rattle.monk_history.specs.Text.Words.{number_in};
 
 /// Returns the number that the word writes, if it is written as numbers are and is at most `most`.

@@ -1,9 +1,8 @@
 //! The lines of a text that comes in pieces.
 
 ghost use Rattle.std.specs.Prelude.{◌≡◌, ◌≤◌, ◌+◌, Ok, None, true, IfOk, IfSome, MatchOption};
-ghost use Rattle.monk_history.specs.Limits.{most_lines};
-ghost use Rattle.monk_history.specs.Text.Lines.{is_unended};
-ghost use Rattle.monk_history.specs.Text.Pieces.{IsHeadOf, IsNextOfPiece, items_with, piece_left};
+ghost use Rattle.monk_history.specs.{Limits.most_lines, Text.Lines.is_unended, Text.Pieces.IsHeadOf};
+ghost use Rattle.monk_history.specs.{Text.Pieces.IsNextOfPiece, Text.Pieces.items_with, Text.Pieces.piece_left};
 
 use crate::text::fault::ReadFault;
 use crate::text::lines::left::header_of;

@@ -1,8 +1,6 @@
 use Rattle.std.proofs.Common.{◌≡◌, ℕ, ◌<◌, ◌≤◌, length, get_or, drop}
-use Rattle.monk_judge.specs.declared.wait_end.WaitEnd.TheVariants.{Resumes}
-use Rattle.monk_judge.specs.Ends.{IsEnd}
-use Rattle.monk_judge.proofs.LinesAhead.{IsEndAt}
 use Rattle.monk_judge.proofs.ahead.look_ahead.Given as goal
+use Rattle.monk_judge.{specs.declared.wait_end.WaitEnd.TheVariants.Resumes, specs.Ends.IsEnd, proofs.LinesAhead.IsEndAt}
 
 abbrev pub invariant-loop-index : goal.invariant-loop-index
 invariant-loop-index l = record {

@@ -1,11 +1,7 @@
 use Rattle.std.proofs.Common.{◌≡◌, subst}
-use Rattle.monk_judge.specs.declared.report.Report.{Report}
-use Rattle.monk_judge.specs.Holding.{NamesLastTaking}
-use Rattle.monk_judge.specs.Reports.{IsReport}
-use Rattle.monk_judge.specs.Run.{setting}
-use Rattle.monk_judge.specs.Shown.{setting_of}
-use Rattle.monk_judge.proofs.Taking.{report_is}
 use Rattle.monk_judge.proofs.judging.judge_log.Goals as goal
+use Rattle.monk_judge.{specs.declared.report.Report.Report, specs.Holding.NamesLastTaking, specs.Reports.IsReport}
+use Rattle.monk_judge.{specs.Run.setting, specs.Shown.setting_of, proofs.Taking.report_is}
 
 pub returns : goal.returns
 returns g c =

@@ -1,12 +1,10 @@
 use Rattle.std.proofs.Common.{◌≡◌, ◌∙◌, ◌<◌, ◌≤◌, None, get_or, length, refl, ap, arith, subst, sym}
 use Rattle.monk_logs.specs.declared.text.line.LogLine.TheVariants.{Enter}
-use Rattle.monk_judge.specs.Hints.{passing_after}
-use Rattle.monk_judge.specs.declared.place.Place.TheVariants.{Outside}
-use Rattle.monk_judge.specs.Shown.{setting_of, state_of}
-use Rattle.monk_judge.proofs.Returning.{hinted_opening}
-use Rattle.monk_judge.proofs.Rivals.{marks_opening}
-use Rattle.monk_judge.proofs.Taking.{hints_few, taken_all, taken_next, taken_opening, taken_stop}
 use Rattle.monk_judge.proofs.judging.take_lines.Goals as goal
+use Rattle.monk_judge.proofs.{Returning.hinted_opening, Rivals.marks_opening}
+use Rattle.monk_judge.proofs.Taking.{hints_few, taken_all, taken_next, taken_opening, taken_stop}
+use Rattle.monk_judge.specs.{Hints.passing_after, declared.place.Place.TheVariants.Outside}
+use Rattle.monk_judge.specs.Shown.{setting_of, state_of}
 
 pub loop-index-init : goal.loop-index-init
 loop-index-init g c =

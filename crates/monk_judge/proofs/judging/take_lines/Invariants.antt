@@ -1,6 +1,5 @@
-use Rattle.monk_judge.specs.Shown.{setting_of}
-use Rattle.monk_judge.proofs.Taking.{Taken}
 use Rattle.monk_judge.proofs.judging.take_lines.Given as goal
+use Rattle.monk_judge.{specs.Shown.setting_of, proofs.Taking.Taken}
 
 abbrev pub invariant-loop-index : goal.invariant-loop-index
 invariant-loop-index g l =

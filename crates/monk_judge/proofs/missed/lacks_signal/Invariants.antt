@@ -1,8 +1,6 @@
 use Rattle.std.proofs.Common.{ℕ, ◌<◌, get_or}
-use Rattle.monk_judge.specs.declared.waits_for.WaitsFor.{WaitsFor}
-use Rattle.monk_judge.specs.Missed.{AllHold, IsUnsignalled}
-use Rattle.monk_judge.specs.Shown.{state_of}
 use Rattle.monk_judge.proofs.missed.lacks_signal.Given as goal
+use Rattle.monk_judge.specs.{declared.waits_for.WaitsFor.WaitsFor, Missed.AllHold, Missed.IsUnsignalled, Shown.state_of}
 
 abbrev pub invariant-loop-waits : goal.invariant-loop-waits
 invariant-loop-waits g l = (k : ℕ) (d : WaitsFor) → k < l.waits-index

@@ -1,8 +1,7 @@
 use Rattle.std.proofs.Common.{◌≡◌, ◌∙◌, ℕ, get_or, set, get_or-set_same, get_or-set_other, ap, arith}
 use borrow.Author.Count.{below_more}
-use Rattle.monk_judge.specs.declared.place.Place.TheVariants.{Outside}
-use Rattle.monk_judge.specs.Run.{woken}
 use Rattle.monk_judge.proofs.place.mark_woken.Goals as goal
+use Rattle.monk_judge.specs.{declared.place.Place.TheVariants.Outside, Run.woken}
 
 pub loop-place-preserved : goal.loop-place-preserved
 loop-place-preserved c =

@@ -1,7 +1,6 @@
 use Rattle.std.proofs.Common.{◌≡◌, ℕ, ◌<◌, ◌≤◌, get_or}
-use Rattle.monk_judge.specs.declared.place.Place.TheVariants.{Outside}
-use Rattle.monk_judge.specs.Run.{woken}
 use Rattle.monk_judge.proofs.place.mark_woken.Given as goal
+use Rattle.monk_judge.specs.{declared.place.Place.TheVariants.Outside, Run.woken}
 
 abbrev pub invariant-loop-place : goal.invariant-loop-place
 invariant-loop-place l = record {

@@ -1,6 +1,5 @@
-use Rattle.monk_judge.specs.Shown.{setting_of}
-use Rattle.monk_judge.proofs.Reaching.{Reached}
 use Rattle.monk_judge.proofs.running.take_steps.Given as goal
+use Rattle.monk_judge.{specs.Shown.setting_of, proofs.Reaching.Reached}
 
 abbrev pub invariant-loop-index : goal.invariant-loop-index
 invariant-loop-index g l =

@@ -1,8 +1,7 @@
 use Rattle.std.proofs.Common.{◌∙◌, None, ⊎_elim, ap, arith, reverse, sym}
-use Rattle.monk_logs.specs.Crossed.{crossing_at}
-use Rattle.monk_logs.specs.declared.text.line.LogLine.TheVariants.{Enter}
-use Rattle.monk_logs.proofs.CrossedLaws.{crossing_front, crossing_told, no_crossing, told_within}
 use Rattle.monk_logs.proofs.crossed.crossing_of.Goals as goal
+use Rattle.monk_logs.proofs.CrossedLaws.{crossing_front, crossing_told, no_crossing, told_within}
+use Rattle.monk_logs.specs.{Crossed.crossing_at, declared.text.line.LogLine.TheVariants.Enter}
 
 pub returns-in_err-number : goal.returns-in_err-number
 returns-in_err-number c = λ s is.

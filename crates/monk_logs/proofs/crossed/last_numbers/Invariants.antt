@@ -1,7 +1,6 @@
 use Rattle.std.proofs.Common.{◌≡◌, ℕ, None, get_or, length, take}
-use Rattle.monk_logs.specs.LastLine.{last_line}
-use Rattle.monk_logs.specs.declared.subject.Subject.TheVariants.{Seat}
 use Rattle.monk_logs.proofs.crossed.last_numbers.Given as goal
+use Rattle.monk_logs.specs.{LastLine.last_line, declared.subject.Subject.TheVariants.Seat}
 
 abbrev pub invariant-loop-line : goal.invariant-loop-line
 invariant-loop-line l = record {

@@ -1,14 +1,12 @@
 use Rattle.std.proofs.Common.{◌≡◌, ◌∙◌, ℕ, List, Option, ap, ap₂, length, string_bytes, subst}
 use Rattle.monk_draw.specs.Window.{last_of, not_shown, showable, shown_last}
 use Rattle.monk_draw.specs.declared.window.Window.{Window}
-use Rattle.monk_history.specs.Text.{Heading}
-use Rattle.monk_history.specs.declared.event.Event.{Event}
+use Rattle.monk_history.specs.{Text.Heading, declared.event.Event.Event}
 use Rattle.monk_audit.specs.declared.verdict.Verdict.{Verdict}
 use Rattle.monk_tell.specs.Told.{account, forbidden_step}
 use Rattle.serde_json.specs.Data.{Data}
-use Rattle.monk_page.specs.Html.{IsArticleOf, window_json}
-use Rattle.monk_page.specs.Page.{page_json}
 use Rattle.monk_page.proofs.html.article.Goals as goal
+use Rattle.monk_page.specs.{Html.IsArticleOf, Html.window_json, Page.page_json}
 
 -- the data of that span are those of the window
 same_data : (h : Heading) (es : List Event) (w : Option Window) (v : Verdict) (fault : Option ℕ) (count before last : ℕ)

@@ -1,9 +1,7 @@
 use Rattle.std.proofs.Common.{◌∙◌, arith}
 use Rattle.std.proofs.lemmas.Result.{IfOk-weaker}
-use Rattle.monk_page.specs.Page.{told_json}
-use Rattle.monk_page.proofs.WriteLaws.{article_of}
-use Rattle.monk_page.proofs.PlainLaws.{page_plain}
 use Rattle.monk_page.proofs.html.article_told.Goals as goal
+use Rattle.monk_page.{specs.Page.told_json, proofs.WriteLaws.article_of, proofs.PlainLaws.page_plain}
 
 pub returns : goal.returns
 returns c =

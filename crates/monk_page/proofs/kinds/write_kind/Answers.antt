@@ -2,13 +2,11 @@ use Rattle.std.proofs.Common.{◌≡◌, ◌∙◌, List, ap, refl, rules, subst
 use Rattle.std.proofs.lemmas.Result.{on_ok_weaker}
 use Rattle.monk_kinds.specs.declared.name.KindName.{KindName}
 use Rattle.monk_audit.specs.Under.{under}
-use Rattle.monk_history.specs.Text.{Heading}
-use Rattle.monk_history.specs.declared.event.Event.{Event}
+use Rattle.monk_history.specs.{Text.Heading, declared.event.Event.Event}
 use Rattle.monk_tell.specs.Told.{Account, account}
 use Rattle.serde_json.specs.Data.{Data}
-use Rattle.monk_page.specs.Kinds.{kind_json, verdict_json}
-use Rattle.monk_page.specs.Writes.{AddsValue}
 use Rattle.monk_page.proofs.kinds.write_kind.Goals as goal
+use Rattle.monk_page.specs.{Kinds.kind_json, Kinds.verdict_json, Writes.AddsValue}
 
 -- the answer under a history's own kind is the answer for the history
 own_kind : (h : Heading) (es : List Event) (k : KindName) → k ≡ h.kind → account h es ≡ account (under k h) es

@@ -1,7 +1,6 @@
 use Rattle.std.proofs.Common.{drop}
-use Rattle.monk_page.specs.Kinds.{kind_json}
-use Rattle.monk_page.proofs.WriteLaws.{WritesList}
 use Rattle.monk_page.proofs.kinds.write_kinds.Given as goal
+use Rattle.monk_page.{specs.Kinds.kind_json, proofs.WriteLaws.WritesList}
 
 abbrev pub invariant-loop-kind : goal.invariant-loop-kind
 invariant-loop-kind l =

@@ -1,9 +1,7 @@
 use Rattle.monk_draw.specs.Window.{last_of, not_shown}
 use Rattle.monk_tell.specs.Told.{account, forbidden_step}
-use Rattle.monk_page.specs.Html.{window_json}
-use Rattle.monk_page.proofs.PlainData.{value_plain}
-use Rattle.monk_page.proofs.PlainLaws.{page_plain}
 use Rattle.monk_page.proofs.laws.data_are_unbroken.Goals as goal
+use Rattle.monk_page.{specs.Html.window_json, proofs.PlainData.value_plain, proofs.PlainLaws.page_plain}
 
 pub returns : goal.returns
 returns c h es w =

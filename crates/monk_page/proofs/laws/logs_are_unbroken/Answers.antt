@@ -1,7 +1,5 @@
-use Rattle.monk_page.specs.Log.{log_json}
-use Rattle.monk_page.proofs.LogPlain.{log_plain}
-use Rattle.monk_page.proofs.PlainData.{value_plain}
 use Rattle.monk_page.proofs.laws.logs_are_unbroken.Goals as goal
+use Rattle.monk_page.{specs.Log.log_json, proofs.LogPlain.log_plain, proofs.PlainData.value_plain}
 
 pub returns : goal.returns
 returns c h o d run lines before last =

@@ -1,10 +1,8 @@
 use Rattle.std.proofs.Common.{◌∙◌, arith}
 use Rattle.std.proofs.lemmas.Result.{IfOk-weaker}
-use Rattle.monk_page.specs.Html.{log_end, nothing_told}
-use Rattle.monk_page.specs.Log.{log_json}
-use Rattle.monk_page.proofs.LogPlain.{log_plain}
-use Rattle.monk_page.proofs.WriteLaws.{article_of}
 use Rattle.monk_page.proofs.log.log_page.Goals as goal
+use Rattle.monk_page.proofs.{LogPlain.log_plain, WriteLaws.article_of}
+use Rattle.monk_page.specs.{Html.log_end, Html.nothing_told, Log.log_json}
 
 pub returns : goal.returns
 unfolding log_end

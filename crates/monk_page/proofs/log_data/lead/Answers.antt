@@ -1,10 +1,7 @@
 use Rattle.std.proofs.Common.{◌≡◌, ◌∙◌, ℕ, List, ap, subst, sym}
 use Rattle.monk_judge.proofs.PublicLaws.{run_cut}
-use Rattle.monk_judge.specs.Followed.{behind_lines, telling}
-use Rattle.monk_judge.specs.Judged.{after_all}
-use Rattle.monk_judge.specs.Run.{IsRun, Setting, State}
-use Rattle.monk_judge.specs.Shown.{setting_of, state_of}
-use Rattle.monk_judge.specs.declared.step.Step.{Step}
+use Rattle.monk_judge.specs.{Followed.behind_lines, Followed.telling, Judged.after_all, Run.IsRun, Run.Setting}
+use Rattle.monk_judge.specs.{Run.State, Shown.setting_of, Shown.state_of, declared.step.Step.Step}
 use Rattle.monk_page.proofs.log_data.lead.Goals as goal
 
 -- the steps that are shown are a run from the state after the steps before them

@@ -1,10 +1,7 @@
 use Rattle.std.proofs.Common.{◌≡◌, drop}
-use Rattle.monk_judge.specs.Followed.{followed}
-use Rattle.monk_judge.specs.Run.{IsRun}
-use Rattle.monk_judge.specs.Shown.{setting_of, state_of}
-use Rattle.monk_page.specs.Log.{told_json}
-use Rattle.monk_page.proofs.WriteLaws.{WritesList}
+use Rattle.monk_judge.specs.{Followed.followed, Run.IsRun, Shown.setting_of, Shown.state_of}
 use Rattle.monk_page.proofs.log_data.write_steps.Given as goal
+use Rattle.monk_page.{specs.Log.told_json, proofs.WriteLaws.WritesList}
 
 -- the remaining steps are a run from the state in which the judge is
 abbrev pub invariant-loop-step : goal.invariant-loop-step

@@ -1,11 +1,9 @@
 use Rattle.std.proofs.Common.{◌≡◌, ◌++◌, map, drop}
 use Rattle.std.specs.List.{flat_map}
 use Rattle.monk_draw.specs.Scene.{row_of}
-use Rattle.monk_judge.specs.Followed.{followed}
-use Rattle.monk_judge.specs.Run.{IsRun}
-use Rattle.monk_judge.specs.Shown.{setting_of, state_of}
-use Rattle.monk_page.specs.LogScene.{rows, rows_behind}
+use Rattle.monk_judge.specs.{Followed.followed, Run.IsRun, Shown.setting_of, Shown.state_of}
 use Rattle.monk_page.proofs.log_scene.rows.Given as goal
+use Rattle.monk_page.specs.LogScene.{rows, rows_behind}
 
 -- the rows so far and the rows of the remaining steps, which are a run, are the rows of all steps
 abbrev pub invariant-loop-step : goal.invariant-loop-step

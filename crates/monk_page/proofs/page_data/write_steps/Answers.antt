@@ -3,10 +3,8 @@ use Rattle.std.proofs.lemmas.Result.{on_ok_weaker}
 use Rattle.monk_object.specs.declared.name.ObjectName.{ObjectName}
 use Rattle.monk_tell.specs.Steps.{ShownStep}
 use Rattle.serde_json.specs.Data.{Data}
-use Rattle.monk_page.specs.Json.{list_json}
-use Rattle.monk_page.specs.Step.{step_json}
-use Rattle.monk_page.specs.Writes.{AddsValue}
 use Rattle.monk_page.proofs.page_data.write_steps.Goals as goal
+use Rattle.monk_page.specs.{Json.list_json, Step.step_json, Writes.AddsValue}
 
 pub returns : goal.returns
 returns c =

@@ -1,10 +1,8 @@
 use Rattle.std.proofs.Common.{◌≡◌, ◌∙◌, Some, ap, map, rules}
-use Rattle.std.proofs.lemmas.List.{take_all}
-use Rattle.std.specs.Prelude.{option_and_then}
-use Rattle.serde_json.specs.Find.{as_array, get}
-use Rattle.serde_json.specs.View.{items_view, view}
-use Rattle.monk_page.proofs.NameLaws.{names_there, text_in}
+use Rattle.std.{proofs.lemmas.List.take_all, specs.Prelude.option_and_then}
+use Rattle.serde_json.specs.{Find.as_array, Find.get, View.items_view, View.view}
 use Rattle.monk_page.proofs.told.names_at.Goals as goal
+use Rattle.monk_page.proofs.NameLaws.{names_there, text_in}
 
 pub returns : goal.returns
 returns c =

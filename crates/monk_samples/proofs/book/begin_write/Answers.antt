@@ -1,13 +1,10 @@
 use Rattle.std.proofs.Common.{arith}
 use Rattle.monk_kinds.specs.declared.mode.Pick.TheVariants.{Waiter}
 use Rattle.monk_object.specs.Book.{book_meaning}
-use Rattle.monk_samples.specs.Members.{begins_to_write}
-use Rattle.monk_samples.specs.declared.end.End.TheVariants.{Done}
-use Rattle.monk_samples.specs.Visits.{op_of}
-use Rattle.monk_samples.proofs.PromiseLaws.{has_code, has_pred, promises, write_promised}
-use Rattle.monk_samples.proofs.StyleLaws.{left}
-use Rattle.monk_samples.proofs.VisitLaws.{tired, visited}
 use Rattle.monk_samples.proofs.book.begin_write.Goals as goal
+use Rattle.monk_samples.proofs.{StyleLaws.left, VisitLaws.tired, VisitLaws.visited}
+use Rattle.monk_samples.proofs.PromiseLaws.{has_code, has_pred, promises, write_promised}
+use Rattle.monk_samples.specs.{Members.begins_to_write, declared.end.End.TheVariants.Done, Visits.op_of}
 
 pub returns-in-Ok : goal.returns-in-Ok
 returns-in-Ok g c =

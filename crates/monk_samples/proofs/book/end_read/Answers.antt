@@ -1,16 +1,14 @@
 use Rattle.std.proofs.Common.{◌≡◌, true, false, ◌&&◌, sym, ap, ◌∙◌, arith}
 use Rattle.monk_object.specs.Book as book
-use Rattle.monk_object.specs.Book.{book_meaning}
-use Rattle.monk_object.specs.Object.{Object}
+use Rattle.monk_object.specs.{Book.book_meaning, Object.Object}
 use Rattle.monk_history.specs.Meaning.Monitor.{data_of}
 use Rattle.monk_floor.specs.View.{monitor_of}
-use Rattle.monk_samples.specs.Members.{ends_to_read, CAN_READ, CAN_WRITE}
-use Rattle.monk_samples.specs.Styles.{has_waiting}
-use Rattle.monk_samples.specs.Visits.{data_after}
-use Rattle.monk_samples.proofs.PromiseLaws.{has_code, has_pred}
-use Rattle.monk_samples.proofs.VisitLaws.{finished_by, tired, visited}
 use Rattle.monk_samples.proofs.book.end_read.Goals as goal
+use Rattle.monk_samples.proofs.PromiseLaws.{has_code, has_pred}
 use Rattle.monk_samples.proofs.book.end_read.Goals.{then-holds, else-holds, then-writes, else-writes}
+use Rattle.monk_samples.proofs.VisitLaws.{finished_by, tired, visited}
+use Rattle.monk_samples.specs.{Styles.has_waiting, Visits.data_after}
+use Rattle.monk_samples.specs.Members.{ends_to_read, CAN_READ, CAN_WRITE}
 
 pub returns-after-writes : goal.returns-after-writes
 returns-after-writes g c =

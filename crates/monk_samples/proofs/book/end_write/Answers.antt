@@ -1,11 +1,9 @@
 use Rattle.std.proofs.Common.{◌≡◌, true, false, arith}
 use Rattle.monk_object.specs.Book.{book_meaning}
-use Rattle.monk_samples.specs.Members.{ends_to_write, CAN_READ, CAN_WRITE}
-use Rattle.monk_samples.specs.Styles.{has_waiting}
-use Rattle.monk_samples.proofs.PromiseLaws.{has_code}
-use Rattle.monk_samples.proofs.VisitLaws.{finished_by, tired, visited}
 use Rattle.monk_samples.proofs.book.end_write.Goals as goal
-use Rattle.monk_samples.proofs.book.end_write.Goals.{then-waits, else-waits}
+use Rattle.monk_samples.proofs.{PromiseLaws.has_code, book.end_write.Goals.then-waits, book.end_write.Goals.else-waits}
+use Rattle.monk_samples.proofs.VisitLaws.{finished_by, tired, visited}
+use Rattle.monk_samples.specs.{Members.ends_to_write, Members.CAN_READ, Members.CAN_WRITE, Styles.has_waiting}
 
 pub returns-after-waits : goal.returns-after-waits
 returns-after-waits g c =

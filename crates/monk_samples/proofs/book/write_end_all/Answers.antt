@@ -1,11 +1,10 @@
 use Rattle.std.proofs.Common.{◌≡◌, Bool, true, false, cond, sym, subst, ◌∙◌}
 use Rattle.monk_kinds.specs.declared.mode.Pick.TheVariants.{Waiter}
 use Rattle.monk_object.specs.Book.{book_meaning}
-use Rattle.monk_samples.specs.Members.{ends_to_write_for_all, CAN_READ, CAN_WRITE}
-use Rattle.monk_samples.specs.Styles.{HasGoneOut, has_waiting, way_out}
-use Rattle.monk_samples.specs.Visits.{Signals, SignalsAll, calls_out}
-use Rattle.monk_samples.proofs.VisitLaws.{finished, tired, visited_out}
 use Rattle.monk_samples.proofs.book.write_end_all.Goals as goal
+use Rattle.monk_samples.proofs.VisitLaws.{finished, tired, visited_out}
+use Rattle.monk_samples.specs.{Members.ends_to_write_for_all, Members.CAN_READ, Members.CAN_WRITE, Styles.HasGoneOut}
+use Rattle.monk_samples.specs.{Styles.has_waiting, Styles.way_out, Visits.Signals, Visits.SignalsAll, Visits.calls_out}
 
 pub returns-then-waits : goal.returns-then-waits
 returns-then-waits g c =

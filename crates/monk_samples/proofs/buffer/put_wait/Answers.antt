@@ -1,7 +1,6 @@
 use Rattle.monk_object.specs.Buffer.{buffer_meaning}
-use Rattle.monk_samples.specs.Members.{puts_and_waits}
-use Rattle.monk_samples.proofs.VisitLaws.{tired, visited_out}
 use Rattle.monk_samples.proofs.buffer.put_wait.Goals as goal
+use Rattle.monk_samples.{specs.Members.puts_and_waits, proofs.VisitLaws.tired, proofs.VisitLaws.visited_out}
 
 pub returns-in-Ok : goal.returns-in-Ok
 returns-in-Ok g c = visited_out g.K.Kind.rules buffer_meaning c.args.pass (puts_and_waits c.args.item) _ c.in-Ok.active

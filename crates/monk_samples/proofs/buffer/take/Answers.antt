@@ -1,11 +1,9 @@
 use Rattle.std.proofs.Common.{◌≡◌, ℕ, ◌+◌, ◌-◌, true, [], ◌∷◌, refl, ap, ◌∙◌, arith}
-use Rattle.std.specs.Prelude.{nat_lt}
-use Rattle.std.proofs.lemmas.Bool.{lt-ltb}
-use Rattle.monk_object.specs.Buffer.{buffer_meaning}
-use Rattle.monk_object.specs.Laws.{items_taken}
-use Rattle.monk_samples.specs.Members.{takes}
-use Rattle.monk_samples.proofs.VisitLaws.{tired, tired_tells, visited_telling}
+use Rattle.std.{specs.Prelude.nat_lt, proofs.lemmas.Bool.lt-ltb}
+use Rattle.monk_object.specs.{Buffer.buffer_meaning, Laws.items_taken}
 use Rattle.monk_samples.proofs.buffer.take.Goals as goal
+use Rattle.monk_samples.proofs.VisitLaws.{tired, tired_tells, visited_telling}
+use Rattle.monk_samples.specs.Members.{takes}
 
 -- a take with this reply took this item
 took : (reply item : ℕ) → reply ≡ item + 1 → items_taken (record { op = takes.op; reply = reply } ∷ []) ≡ item ∷ []

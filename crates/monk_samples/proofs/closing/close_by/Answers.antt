@@ -1,25 +1,17 @@
 use Rattle.std.proofs.Common.{◌≡◌, inl, inr, refl, ap, sym, subst, ◌∙◌, List, [], ◌∷◌, ◌++◌}
-use Rattle.std.proofs.lemmas.Bool.{false≢true}
-use Rattle.monk_history.specs.declared.event.Event.{Event}
-use Rattle.monk_history.specs.declared.event.Event.TheVariants.{Leave}
-use Rattle.monk_history.specs.declared.event.Next.TheVariants.{Entry}
-use Rattle.monk_history.specs.Meaning.Counts.{events_of}
+use Rattle.std.{proofs.lemmas.Bool.false≢true, specs.Prelude.All}
+use Rattle.monk_history.specs.Meaning.{Counts.events_of, Turn.turn}
+use Rattle.monk_history.specs.declared.event.{Event.Event, Event.TheVariants.Leave, Next.TheVariants.Entry}
 use Rattle.monk_world.specs.StepTable.{out_event}
-use Rattle.monk_history.specs.Meaning.Turn.{turn}
-use Rattle.monk_hall.specs.Changes.{source_from}
-use Rattle.monk_hall.specs.Complete.{AreApart}
-use Rattle.monk_hall.specs.Floors.{StartsWith}
-use Rattle.monk_hall.specs.Tokens.{House, Holder, Token}
+use Rattle.monk_hall.specs.{Changes.source_from, Complete.AreApart, Floors.StartsWith, Tokens.House, Tokens.Holder}
+use Rattle.monk_hall.specs.{Tokens.Token, declared.record.SeatRecord.SeatRecord}
 use Rattle.monk_floor.specs.View.{FloorView}
-use Rattle.monk_hall.specs.declared.record.SeatRecord.{SeatRecord}
-use Rattle.std.specs.Prelude.{All}
-use Rattle.monk_samples.proofs.MeetLaws.{apart_from, still_differ, closed_begins, closed_own, first_able, first_is_of, holds_operations}
-use Rattle.monk_samples.proofs.MeetLaws.{came_comes, closed_ends, left_by, nothing_done, only_here}
-use Rattle.monk_samples.proofs.RunLaws.{closed_by}
-use Rattle.monk_samples.proofs.UnclosedLaws.{active_begins, crowded, torn, whole_here}
-use Rattle.monk_samples.specs.Samples.{IsOfFirstVersion}
-use Rattle.monk_samples.specs.Totals.{HasEnded}
 use Rattle.monk_samples.proofs.closing.close_by.Goals as goal
+use Rattle.monk_samples.proofs.MeetLaws.{apart_from, still_differ, closed_begins, closed_own, first_able, first_is_of}
+use Rattle.monk_samples.proofs.MeetLaws.{holds_operations, came_comes, closed_ends, left_by, nothing_done, only_here}
+use Rattle.monk_samples.proofs.UnclosedLaws.{active_begins, crowded, torn, whole_here}
+use Rattle.monk_samples.proofs.RunLaws.{closed_by}
+use Rattle.monk_samples.specs.{Samples.IsOfFirstVersion, Totals.HasEnded}
 
 pub resume-active-requires-after_bounds : goal.resume-active-requires-after_bounds
 resume-active-requires-after_bounds g c κs within =

@@ -1,10 +1,8 @@
 use Rattle.std.specs.Prelude.{◌≡◌, All, List, ◌∷◌, ◌++◌, vec_items}
 use Rattle.std.specs.Vec.Iter.{into_iter_items}
-use Rattle.monk_hall.specs.Floors.{StartsWith}
-use Rattle.monk_hall.specs.Tokens.{Token}
-use Rattle.monk_samples.specs.Crews.{IsOf}
-use Rattle.monk_samples.specs.Wholes.{IsSame, AreSame}
+use Rattle.monk_hall.specs.{Floors.StartsWith, Tokens.Token}
 use Rattle.monk_samples.proofs.closing.meet_all.Given as goal
+use Rattle.monk_samples.specs.{Crews.IsOf, Wholes.IsSame, Wholes.AreSame}
 
 -- the passes that have met, and those still to come
 abbrev pub invariant-loop-pass : goal.invariant-loop-pass

@@ -1,17 +1,12 @@
 use Rattle.std.proofs.Common.{◌≡◌, List, [], ◌∷◌, ◌++◌, map, append_assoc, append-nil, sym, ap, subst, ◌∙◌}
-use Rattle.std.specs.Prelude.{Option, None, vec_items}
-use Rattle.std.specs.Vec.Iter.{into_iter_items}
 use Rattle.std.proofs.lemmas.List.{nil_from_length}
+use Rattle.std.specs.{Prelude.Option, Prelude.None, Prelude.vec_items, Vec.Iter.into_iter_items}
 use Rattle.monk_hall.specs.Tokens.{House, Token}
-use Rattle.monk_samples.specs.Rounds.{HasServed}
-use Rattle.monk_samples.specs.Crews.{IsOf}
-use Rattle.monk_samples.specs.Ends.{HaveServed, IsFaultOfCrew}
-use Rattle.monk_samples.specs.Faults.{fault_after}
-use Rattle.monk_samples.specs.declared.crew_fault.CrewFault.{CrewFault}
-use Rattle.monk_samples.specs.declared.rota.Rota.{Rota}
+use Rattle.monk_samples.proofs.crew.join_all.Goals as goal
 use Rattle.monk_samples.proofs.EndLaws.{HaveJoined, joined_then, wants_memory, if_err}
 use Rattle.monk_samples.proofs.RunLaws.{first_of, rest_of, same_all}
-use Rattle.monk_samples.proofs.crew.join_all.Goals as goal
+use Rattle.monk_samples.specs.{Rounds.HasServed, Crews.IsOf, Ends.HaveServed, Ends.IsFaultOfCrew, Faults.fault_after}
+use Rattle.monk_samples.specs.declared.{crew_fault.CrewFault.CrewFault, rota.Rota.Rota}
 
 pub loop-shift-init : goal.loop-shift-init
 loop-shift-init g c =

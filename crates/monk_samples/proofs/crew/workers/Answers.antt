@@ -1,12 +1,10 @@
 use Rattle.std.proofs.Common.{◌≡◌, ◌++◌, map, refl, sym, ap, ◌∙◌, append-nil}
-use Rattle.std.specs.Prelude.{vec_items}
-use Rattle.std.specs.Vec.Iter.{into_iter_items}
-use Rattle.std.proofs.lemmas.List.{nil_from_length}
-use Rattle.monk_samples.specs.Crews.{IsReady}
+use Rattle.std.{specs.Prelude.vec_items, specs.Vec.Iter.into_iter_items, proofs.lemmas.List.nil_from_length}
 use Rattle.monk_samples.specs.declared.crew_fault.CrewFault.TheVariants as crew
+use Rattle.monk_samples.proofs.crew.workers.Goals as goal
 use Rattle.monk_samples.proofs.EndLaws.{if_err}
 use Rattle.monk_samples.proofs.RunLaws.{one_more, first_of, rest_of, same_all, none_yet, mapped_more}
-use Rattle.monk_samples.proofs.crew.workers.Goals as goal
+use Rattle.monk_samples.specs.Crews.{IsReady}
 
 pub loop-pass-init : goal.loop-pass-init
 loop-pass-init g c =

@@ -1,8 +1,7 @@
 use Rattle.std.proofs.Common.{suc}
-use Rattle.monk_samples.specs.Visits.{always, hastily}
-use Rattle.monk_samples.proofs.HasteLaws.{missed_then}
-use Rattle.monk_samples.proofs.VisitLaws.{none_missed, visited_by}
 use Rattle.monk_samples.proofs.haste.act_and_finish_in_haste.Goals as goal
+use Rattle.monk_samples.proofs.{HasteLaws.missed_then, VisitLaws.none_missed, VisitLaws.visited_by}
+use Rattle.monk_samples.specs.Visits.{always, hastily}
 
 pub loop-done-init : goal.loop-done-init
 loop-done-init g c = (

@@ -2,11 +2,10 @@ use Rattle.std.proofs.Common.{ℕ, ◌<◌, Some, subst, sym}
 use Rattle.std.proofs.lemmas.Result.{MatchResult-weaker}
 use Rattle.monk_history.specs.Meaning.Monitor.{data_of}
 use Rattle.monk_floor.specs.View.{monitor_of}
-use Rattle.monk_samples.specs.Trails.{outside}
-use Rattle.monk_samples.specs.Visits.{hasty_guard}
-use Rattle.monk_samples.proofs.HasteLaws.{acted_ok, looked_since, tired_since}
-use Rattle.monk_samples.proofs.PauseLaws.{acted_looked, stayed_out, tired_inside, unready}
 use Rattle.monk_samples.proofs.haste.act_in_haste.Goals as goal
+use Rattle.monk_samples.proofs.PauseLaws.{acted_looked, stayed_out, tired_inside, unready}
+use Rattle.monk_samples.proofs.HasteLaws.{acted_ok, looked_since, tired_since}
+use Rattle.monk_samples.specs.{Trails.outside, Visits.hasty_guard}
 
 pub returns-in-Err-clause-acted : goal.returns-in-Err-clause-acted
 returns-in-Err-clause-acted g c =

@@ -2,13 +2,10 @@ use Rattle.std.proofs.Common.{◌≡◌, false, Some}
 use Rattle.std.proofs.lemmas.Result.{MatchResult-weaker}
 use Rattle.monk_history.specs.Meaning.Monitor.{data_of}
 use Rattle.monk_floor.specs.View.{monitor_of}
-use Rattle.monk_samples.specs.Styles.{Holds}
-use Rattle.monk_samples.specs.Trails.{inside}
-use Rattle.monk_samples.specs.Visits.{hasty_guard}
-use Rattle.monk_samples.proofs.ShortLaws.{still_pauses}
-use Rattle.monk_samples.proofs.TrailLaws.{called_none}
-use Rattle.monk_samples.proofs.PauseLaws.{left_after, looked_first, looked_none, paused_none}
 use Rattle.monk_samples.proofs.haste.pause_once.Goals as goal
+use Rattle.monk_samples.proofs.{ShortLaws.still_pauses, TrailLaws.called_none}
+use Rattle.monk_samples.proofs.PauseLaws.{left_after, looked_first, looked_none, paused_none}
+use Rattle.monk_samples.specs.{Styles.Holds, Trails.inside, Visits.hasty_guard}
 
 pub returns-then-holds-clause-paused : goal.returns-then-holds-clause-paused
 returns-then-holds-clause-paused g c = let a = c.args.active in

@@ -1,13 +1,9 @@
 use Rattle.std.proofs.Common.{ℕ, refl, subst, arith, ◌≡◌, ◌<◌}
 use Rattle.monk_kinds.specs.declared.mode.Pick.TheVariants.{Entry}
-use Rattle.monk_history.specs.declared.event.Event.TheVariants.{Leave}
-use Rattle.monk_history.specs.declared.event.Next.TheVariants.{Stay}
-use Rattle.monk_samples.specs.Trails.{outside}
-use Rattle.monk_samples.specs.Visits.{HasActedInHaste, always, hastily}
-use Rattle.monk_samples.proofs.HasteLaws.{missed_once, signalled}
-use Rattle.monk_samples.proofs.TrailLaws.{released}
-use Rattle.monk_samples.proofs.VisitLaws.{tried_in}
+use Rattle.monk_history.specs.declared.event.{Event.TheVariants.Leave, Next.TheVariants.Stay}
 use Rattle.monk_samples.proofs.haste.try_once.Goals as goal
+use Rattle.monk_samples.proofs.{HasteLaws.missed_once, HasteLaws.signalled, TrailLaws.released, VisitLaws.tried_in}
+use Rattle.monk_samples.specs.{Trails.outside, Visits.HasActedInHaste, Visits.always, Visits.hastily}
 
 some : (n : ℕ) → (n ≡ 0 → ⊥) → 0 < n
 some n nonzero = omega (arith, nonzero)

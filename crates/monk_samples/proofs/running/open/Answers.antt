@@ -1,9 +1,7 @@
 use Rattle.std.proofs.Common.{ap, sym, subst, ◌∙◌}
-use Rattle.monk_hall.specs.Tokens.{House}
-use Rattle.monk_hall.specs.declared.setting.Setting.{Setting}
-use Rattle.monk_samples.specs.Crews.{AreReady}
-use Rattle.monk_samples.proofs.RunLaws.{passes_ready}
+use Rattle.monk_hall.specs.{Tokens.House, declared.setting.Setting.Setting}
 use Rattle.monk_samples.proofs.running.open.Goals as goal
+use Rattle.monk_samples.{specs.Crews.AreReady, proofs.RunLaws.passes_ready}
 
 pub returns-in-Ok-clause-ready : goal.returns-in-Ok-clause-ready
 returns-in-Ok-clause-ready g c =

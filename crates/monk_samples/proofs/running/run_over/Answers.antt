@@ -1,17 +1,11 @@
 use Rattle.std.proofs.Common.{ap, sym, subst, ◌∙◌, ◌<◌, ◌≤◌, List, ℕ, length, arith}
 use Rattle.monk_object.specs.Object.{Object}
-use Rattle.monk_hall.specs.Rule.{setting_of}
-use Rattle.monk_hall.specs.Tokens.{Token}
-use Rattle.monk_hall.specs.declared.setting.Setting.{Setting}
-use Rattle.monk_samples.specs.Crews.{IsClosed}
-use Rattle.monk_samples.specs.Ends.{HaveServed}
-use Rattle.monk_samples.specs.Samples.{conds_of, budget_of}
-use Rattle.monk_samples.proofs.MeetLaws.{seats_differ}
-use Rattle.monk_samples.proofs.RunEndLaws.{some_pass, back_of, some_back, has_closed, close_fault}
-use Rattle.monk_samples.specs.Wholes.{IsFaultOfClosing}
-use Rattle.monk_samples.proofs.HistoryLaws.{left_history}
-use Rattle.monk_samples.proofs.RunLaws.{if_fault, if_four}
+use Rattle.monk_hall.specs.{Rule.setting_of, Tokens.Token, declared.setting.Setting.Setting}
 use Rattle.monk_samples.proofs.running.run_over.Goals as goal
+use Rattle.monk_samples.proofs.{MeetLaws.seats_differ, HistoryLaws.left_history, RunLaws.if_fault, RunLaws.if_four}
+use Rattle.monk_samples.proofs.RunEndLaws.{some_pass, back_of, some_back, has_closed, close_fault}
+use Rattle.monk_samples.specs.{Crews.IsClosed, Ends.HaveServed, Wholes.IsFaultOfClosing}
+use Rattle.monk_samples.specs.Samples.{conds_of, budget_of}
 
 pub close_by-requires-clause-of : goal.close_by-requires-clause-of
 close_by-requires-clause-of g c κs within =

@@ -1,9 +1,8 @@
 use Rattle.std.proofs.Common.{arith}
 use Rattle.monk_object.specs.Shop.{shop_meaning}
-use Rattle.monk_samples.specs.Members.{finishes}
-use Rattle.monk_samples.proofs.PromiseLaws.{has_code}
-use Rattle.monk_samples.proofs.VisitLaws.{tired, visited}
 use Rattle.monk_samples.proofs.shop.finish_cut.Goals as goal
+use Rattle.monk_samples.proofs.{PromiseLaws.has_code, VisitLaws.tired, VisitLaws.visited}
+use Rattle.monk_samples.specs.Members.{finishes}
 
 pub returns-in-Ok : goal.returns-in-Ok
 returns-in-Ok g c = visited g.K.Kind.rules g.T.Guarded.meaning c.args.pass finishes _ c.in-Ok.active c.finish.result.0

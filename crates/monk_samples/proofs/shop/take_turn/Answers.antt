@@ -1,11 +1,9 @@
 use Rattle.std.proofs.Common.{[], ◌∷◌, subst, arith}
 use Rattle.monk_object.specs.Shop.{shop_meaning}
-use Rattle.monk_samples.specs.Members.{calls, finishes}
-use Rattle.monk_samples.specs.Visits.{HasVisited}
-use Rattle.monk_samples.specs.declared.end.End.{End}
+use Rattle.monk_samples.proofs.shop.take_turn.Goals as goal
 use Rattle.monk_samples.proofs.PromiseLaws.{has_code, has_pred, promises, call_promised}
 use Rattle.monk_samples.proofs.VisitLaws.{visited_once, visited_twice}
-use Rattle.monk_samples.proofs.shop.take_turn.Goals as goal
+use Rattle.monk_samples.specs.{Members.calls, Members.finishes, Visits.HasVisited, declared.end.End.End}
 
 pub returns-in-Done : goal.returns-in-Done
 returns-in-Done g c =

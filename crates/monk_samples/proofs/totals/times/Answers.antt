@@ -1,7 +1,6 @@
 use Rattle.std.proofs.Common.{cond, arith, ap, ◌∙◌}
-use Rattle.monk_samples.proofs.TotalLaws.{done_next}
-use Rattle.monk_samples.proofs.totals.times.Goals.{then-is_done, else-is_done}
 use Rattle.monk_samples.proofs.totals.times.Goals as goal
+use Rattle.monk_samples.proofs.{TotalLaws.done_next, totals.times.Goals.then-is_done, totals.times.Goals.else-is_done}
 
 pub loop-event-preserved : goal.loop-event-preserved
 loop-event-preserved c =

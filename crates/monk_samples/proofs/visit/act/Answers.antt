@@ -1,9 +1,8 @@
 use Rattle.std.proofs.Common.{arith, ◌<◌, ◌+◌, length, None}
-use Rattle.monk_samples.specs.Trails.{inside}
-use Rattle.monk_samples.proofs.StyleLaws.{given_up}
-use Rattle.monk_samples.proofs.TrailLaws.{called_none, replied}
-use Rattle.monk_samples.proofs.PauseLaws.{acted_now, left_after, paused_none}
 use Rattle.monk_samples.proofs.visit.act.Goals as goal
+use Rattle.monk_samples.proofs.{StyleLaws.given_up, PauseLaws.acted_now, PauseLaws.left_after, PauseLaws.paused_none}
+use Rattle.monk_samples.proofs.TrailLaws.{called_none, replied}
+use Rattle.monk_samples.specs.Trails.{inside}
 
 pub returns-then-left-lt2-clause-acted : goal.returns-then-left-lt2-clause-acted
 returns-then-left-lt2-clause-acted g c =

@@ -1,6 +1,5 @@
-use Rattle.monk_samples.specs.Visits.{always, when}
-use Rattle.monk_samples.proofs.VisitLaws.{tired, visited}
 use Rattle.monk_samples.proofs.visit.act_and_finish.Goals as goal
+use Rattle.monk_samples.{specs.Visits.always, specs.Visits.when, proofs.VisitLaws.tired, proofs.VisitLaws.visited}
 
 pub returns-in-Ok : goal.returns-in-Ok
 returns-in-Ok g c = visited g.K.Kind.rules g.T.Guarded.meaning c.args.pass

@@ -1,8 +1,7 @@
-use Rattle.std.proofs.Common.{None}
-use Rattle.std.proofs.lemmas.Result.{MatchResult-weaker}
-use Rattle.monk_samples.specs.Trails.{outside}
-use Rattle.monk_samples.proofs.PauseLaws.{acted_after, paused_none, stayed_out, tired_after, unready}
+use Rattle.std.proofs.{Common.None, lemmas.Result.MatchResult-weaker}
 use Rattle.monk_samples.proofs.visit.act_now.Goals as goal
+use Rattle.monk_samples.proofs.PauseLaws.{acted_after, paused_none, stayed_out, tired_after, unready}
+use Rattle.monk_samples.specs.Trails.{outside}
 
 pub returns-in-Ok : goal.returns-in-Ok
 returns-in-Ok g c =

@@ -2,10 +2,9 @@ use Rattle.std.proofs.Common.{ℕ, ◌<◌, Some, subst, sym}
 use Rattle.std.proofs.lemmas.Result.{MatchResult-weaker}
 use Rattle.monk_history.specs.Meaning.Monitor.{data_of}
 use Rattle.monk_floor.specs.View.{monitor_of}
-use Rattle.monk_samples.specs.Trails.{outside}
-use Rattle.monk_samples.specs.Visits.{guard}
-use Rattle.monk_samples.proofs.PauseLaws.{acted_after, tired_inside, unready}
 use Rattle.monk_samples.proofs.visit.act_when.Goals as goal
+use Rattle.monk_samples.proofs.PauseLaws.{acted_after, tired_inside, unready}
+use Rattle.monk_samples.specs.{Trails.outside, Visits.guard}
 
 pub returns-in-Ok-clause-acted : goal.returns-in-Ok-clause-acted
 returns-in-Ok-clause-acted g c =

@@ -1,9 +1,7 @@
-use Rattle.std.proofs.Common.{refl, Some}
-use Rattle.std.proofs.lemmas.Result.{MatchResult-weaker}
-use Rattle.monk_samples.specs.Trails.{outside}
-use Rattle.monk_samples.specs.Visits.{guard}
-use Rattle.monk_samples.proofs.PauseLaws.{paused_none, paused_then, stayed_out, tired_after, unready}
+use Rattle.std.proofs.{Common.refl, Common.Some, lemmas.Result.MatchResult-weaker}
 use Rattle.monk_samples.proofs.visit.come_in_when.Goals as goal
+use Rattle.monk_samples.proofs.PauseLaws.{paused_none, paused_then, stayed_out, tired_after, unready}
+use Rattle.monk_samples.specs.{Trails.outside, Visits.guard}
 
 pub returns-in-Ok : goal.returns-in-Ok
 returns-in-Ok g c =

@@ -1,12 +1,10 @@
 use Rattle.std.proofs.Common.{◌≡◌, false, refl, Some}
 use Rattle.monk_history.specs.Meaning.Monitor.{data_of}
 use Rattle.monk_floor.specs.View.{monitor_of}
-use Rattle.monk_samples.specs.Trails.{inside}
-use Rattle.monk_samples.specs.Visits.{guard}
-use Rattle.monk_samples.proofs.ShortLaws.{still_pauses}
-use Rattle.monk_samples.proofs.TrailLaws.{called_none}
-use Rattle.monk_samples.proofs.PauseLaws.{left_after, paused_none, paused_once}
 use Rattle.monk_samples.proofs.visit.pause_until.Goals as goal
+use Rattle.monk_samples.proofs.{ShortLaws.still_pauses, TrailLaws.called_none}
+use Rattle.monk_samples.proofs.PauseLaws.{left_after, paused_none, paused_once}
+use Rattle.monk_samples.specs.{Trails.inside, Visits.guard}
 
 pub loop-active-init : goal.loop-active-init
 loop-active-init g c = let a = c.args.active in

@@ -1,7 +1,6 @@
 use Rattle.std.proofs.Common.{◌-◌, Some, length}
-use Rattle.monk_samples.specs.Trails.{inside}
-use Rattle.monk_samples.specs.Visits.{HasPausedUntil, guard}
 use Rattle.monk_samples.proofs.visit.pause_until.Given as goal
+use Rattle.monk_samples.specs.{Trails.inside, Visits.HasPausedUntil, Visits.guard}
 
 abbrev pub invariant-loop-active : goal.invariant-loop-active
 invariant-loop-active g l =

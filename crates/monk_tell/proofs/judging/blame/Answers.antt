@@ -1,9 +1,8 @@
 use Rattle.std.proofs.Common.{◌∙◌, ap, sym, [], arith}
 use Rattle.monk_history.specs.Meaning.Monitor.{monitor}
-use Rattle.monk_audit.specs.Reasons.{number_of}
-use Rattle.monk_audit.specs.Replay.{replay_situation}
-use Rattle.monk_tell.proofs.TellLaws.{in_range_fits}
+use Rattle.monk_audit.specs.{Reasons.number_of, Replay.replay_situation}
 use Rattle.monk_tell.proofs.judging.blame.Goals as goal
+use Rattle.monk_tell.proofs.TellLaws.{in_range_fits}
 
 pub choice-requires-clause-fits : goal.choice-requires-clause-fits
 choice-requires-clause-fits g c κs within =

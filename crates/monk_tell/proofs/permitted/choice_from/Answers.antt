@@ -1,10 +1,9 @@
 use Rattle.std.proofs.Common.{◌∙◌, List, ap}
 use Rattle.std.specs.Prelude.{filter}
-use Rattle.monk_history.specs.Meaning.Release.{with_next}
-use Rattle.monk_history.specs.declared.event.Next.{Next}
+use Rattle.monk_history.specs.{Meaning.Release.with_next, declared.event.Next.Next}
 use Rattle.monk_audit.specs.Settled.{permits}
-use Rattle.monk_tell.specs.Told.{chosen_from, lines_of}
 use Rattle.monk_tell.proofs.permitted.choice_from.Goals as goal
+use Rattle.monk_tell.specs.Told.{chosen_from, lines_of}
 
 pub returns : goal.returns
 returns c o t lined stay =

@@ -1,8 +1,7 @@
 use Rattle.std.proofs.Common.{◌∙◌, ◌==◌, ℕ, List, Option, ap, option_map, sym}
 use Rattle.std.specs.List.{find}
-use Rattle.monk_tell.specs.Place.{until_of}
-use Rattle.monk_tell.specs.declared.lists.Waits.{Waits}
 use Rattle.monk_tell.proofs.place.until_of.Goals as goal
+use Rattle.monk_tell.specs.{Place.until_of, declared.lists.Waits.Waits}
 
 pub returns-in-Some : goal.returns-in-Some
 returns-in-Some c =

@@ -1,12 +1,11 @@
 use Rattle.std.proofs.Common.{◌∙◌, ℕ, true, false, List, take, sym, ap, arith}
 use Rattle.std.proofs.lemmas.List.{append-nil}
-use Rattle.monk_history.specs.declared.event.Event.TheVariants.{Enter}
-use Rattle.monk_history.specs.declared.event.Via.TheVariants.{Free}
 use Rattle.monk_history.specs.Meaning.Acts.{refused_from, refused_steps}
-use Rattle.monk_tell.specs.Told.{told_steps}
-use Rattle.monk_tell.proofs.RefusedLaws.{refused_more, shown}
+use Rattle.monk_history.specs.declared.event.{Event.TheVariants.Enter, Via.TheVariants.Free}
 use Rattle.monk_tell.proofs.refused.refused_acts.Goals as goal
+use Rattle.monk_tell.proofs.RefusedLaws.{refused_more, shown}
 use Rattle.monk_tell.proofs.refused.refused_acts.Goals.{then-is_refused+in_ok-note, else-is_refused}
+use Rattle.monk_tell.specs.Told.{told_steps}
 
 pub loop-index-init : goal.loop-index-init
 unfolding refused_from

@@ -1,12 +1,10 @@
 use Rattle.std.proofs.Common.{◌≡◌, ◌∙◌, ap, sym, ℕ, List, []}
 use Rattle.monk_history.specs.Meaning.Events.{seat_of, via_of}
-use Rattle.monk_audit.specs.Reasons.{number_of}
-use Rattle.monk_audit.specs.Replay.{replay_situation}
-use Rattle.monk_audit.specs.declared.reason.Reason.{Reason}
+use Rattle.monk_audit.specs.{Reasons.number_of, Replay.replay_situation, declared.reason.Reason.Reason}
+use Rattle.monk_tell.proofs.sentences.early.Goals as goal
+use Rattle.monk_tell.proofs.TellLaws.{place_caused}
 use Rattle.monk_tell.specs.Cause.{conditions_below, early_cause, no_entry, out_of_turn, waits_at}
 use Rattle.monk_tell.specs.declared.why.Why.TheVariants.{Turn}
-use Rattle.monk_tell.proofs.TellLaws.{place_caused}
-use Rattle.monk_tell.proofs.sentences.early.Goals as goal
 
 pub returns-in_ok-conditions-in-Turn : goal.returns-in_ok-conditions-in-Turn
 returns-in_ok-conditions-in-Turn c =

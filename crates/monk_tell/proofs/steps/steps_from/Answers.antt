@@ -1,9 +1,8 @@
 use Rattle.std.proofs.Common.{◌≡◌, ◌∙◌, ◌+◌, ℕ, List, ap, arith, map, subst}
 use Rattle.monk_history.specs.Meaning.Named.{named_monitor}
-use Rattle.monk_tell.specs.Steps.{IsAfter, step_of}
-use Rattle.monk_tell.specs.declared.step.Step.{Step}
-use Rattle.monk_tell.proofs.StepLaws.{step_told}
 use Rattle.monk_tell.proofs.steps.steps_from.Goals as goal
+use Rattle.monk_tell.proofs.StepLaws.{step_told}
+use Rattle.monk_tell.specs.{Steps.IsAfter, Steps.step_of, declared.step.Step.Step}
 
 pub loop-index-preserved : goal.loop-index-preserved
 loop-index-preserved g c =

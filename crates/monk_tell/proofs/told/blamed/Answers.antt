@@ -1,15 +1,11 @@
 use Rattle.std.proofs.Common.{◌∙◌, ◌-◌, Some, ap, get_or, sym, take}
 use Rattle.monk_kinds.specs.Names.{rules_named}
-use Rattle.monk_history.specs.Meaning.Named.{named_monitor}
-use Rattle.monk_history.specs.Meaning.Situation.{situation}
-use Rattle.monk_history.specs.declared.event.Event.TheVariants.{Enter}
-use Rattle.monk_history.specs.declared.event.Via.TheVariants.{Free}
-use Rattle.monk_audit.specs.Reasons.{number_of}
-use Rattle.monk_audit.specs.declared.verdict.Verdict.{Verdict}
-use Rattle.monk_audit.proofs.PublicLaws.{fault_again}
-use Rattle.monk_tell.specs.Told.{allowed_events, blame_by, blame_of_event}
-use Rattle.monk_tell.proofs.TellLaws.{fault_reason, fault_there, judged_fault}
+use Rattle.monk_history.specs.Meaning.{Named.named_monitor, Situation.situation}
+use Rattle.monk_history.specs.declared.event.{Event.TheVariants.Enter, Via.TheVariants.Free}
+use Rattle.monk_audit.{specs.Reasons.number_of, specs.declared.verdict.Verdict.Verdict, proofs.PublicLaws.fault_again}
 use Rattle.monk_tell.proofs.told.blamed.Goals as goal
+use Rattle.monk_tell.proofs.TellLaws.{fault_reason, fault_there, judged_fault}
+use Rattle.monk_tell.specs.Told.{allowed_events, blame_by, blame_of_event}
 
 pub overflow_sub-fault : goal.overflow_sub-fault
 overflow_sub-fault g c =

@@ -1,13 +1,10 @@
 use Rattle.std.proofs.Common.{◌∙◌, ap, min, sym}
 use Rattle.monk_kinds.specs.Names.{rules_named}
 use Rattle.monk_object.specs.Names.{meaning_named}
-use Rattle.monk_history.specs.Meaning.Monitor.{monitor}
-use Rattle.monk_history.specs.Meaning.Named.{named_monitor}
-use Rattle.monk_history.specs.Meaning.Step.{opening_situation}
 use Rattle.monk_history.proofs.PublicLaws.Meaning.{situation-none}
-use Rattle.monk_tell.specs.Steps.{steps_of}
-use Rattle.monk_tell.specs.Told.{allowed_events}
+use Rattle.monk_history.specs.Meaning.{Monitor.monitor, Named.named_monitor, Step.opening_situation}
 use Rattle.monk_tell.proofs.told.tell_over.Goals as goal
+use Rattle.monk_tell.specs.{Steps.steps_of, Told.allowed_events}
 
 pub follow-requires-clause-begins : goal.follow-requires-clause-begins
 follow-requires-clause-begins g c κs within =

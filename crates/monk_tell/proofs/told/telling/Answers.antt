@@ -1,11 +1,10 @@
 use Rattle.std.proofs.Common.{◌∙◌, ℕ, ap, arith, sym, take}
 use Rattle.std.proofs.lemmas.List.{length-take-le}
 use Rattle.monk_kinds.specs.Names.{rules_named}
-use Rattle.monk_history.specs.Meaning.Acts.{refused_steps}
-use Rattle.monk_history.specs.Meaning.Named.{named_monitor}
-use Rattle.monk_tell.specs.Told.{account_by, shown_standing, told_steps}
-use Rattle.monk_tell.proofs.StepLaws.{judged_there}
+use Rattle.monk_history.specs.Meaning.{Acts.refused_steps, Named.named_monitor}
 use Rattle.monk_tell.proofs.told.telling.Goals as goal
+use Rattle.monk_tell.proofs.StepLaws.{judged_there}
+use Rattle.monk_tell.specs.Told.{account_by, shown_standing, told_steps}
 
 pub slice_bounds-past-end : goal.slice_bounds-past-end
 slice_bounds-past-end g c =

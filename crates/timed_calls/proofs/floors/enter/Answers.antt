@@ -1,8 +1,6 @@
 use Rattle.std.proofs.Common.{◌∙◌, ◌≡◌, false, true, not, sym, rules}
-use Rattle.monk_history.specs.Meaning.Signallers.{is_empty}
-use Rattle.monk_history.specs.Meaning.Turn.{turn}
-use Rattle.monk_history.specs.declared.event.Turn.TheVariants.{Open}
 use Rattle.monk_history.proofs.PublicLaws.Meaning.{may_enter_begun, may_enter_first}
+use Rattle.monk_history.specs.{Meaning.Signallers.is_empty, Meaning.Turn.turn, declared.event.Turn.TheVariants.Open}
 use Rattle.timed_calls.proofs.floors.enter.Goals as goal
 
 pub enter-requires-clause-call : goal.enter-requires-clause-call

@@ -1,6 +1,5 @@
 use Rattle.std.proofs.Common.{◌∙◌, ap}
-use Rattle.monk_history.specs.Meaning.Turn.{turn_after}
-use Rattle.monk_history.proofs.PublicLaws.Meaning.{turn_at_last}
+use Rattle.monk_history.{specs.Meaning.Turn.turn_after, proofs.PublicLaws.Meaning.turn_at_last}
 use Rattle.timed_calls.proofs.floors.turn_of.Goals as goal
 
 pub returns-in-None : goal.returns-in-None

@@ -1,10 +1,8 @@
 use Rattle.std.proofs.Common.{◌≡◌, ℕ, ◌<◌, List, [], ◌∷◌, ◌++◌, length, get_or, refl, sym, ap, subst, ◌∙◌, length-append, arith, rules}
 use Rattle.std.specs.Arc.{arc_value}
 use Rattle.monk_hall.specs.Tokens.{Token}
-use Rattle.monk_c.specs.Dealing.{ArePasses, fresh_pass}
-use Rattle.monk_c.specs.Stands.{IsAtHome, RoomView}
-use Rattle.monk_c.specs.Stands.At.{Outside}
 use Rattle.monk_c.proofs.deal.Deal.deal.Goals as goal
+use Rattle.monk_c.specs.{Dealing.ArePasses, Dealing.fresh_pass, Stands.IsAtHome, Stands.RoomView, Stands.At.Outside}
 
 -- the last item of a list
 last : {A : Type 0} (qs : List A) (x d : A) → get_or (qs ++ (x ∷ [])) (length qs) d ≡ x

@@ -1,5 +1,6 @@
 -- `held` lends what is in the place that the pointer names, and the handle follows it: a walk.
 use Rattle.std.proofs.Common.{List, [], ◌∷◌, ◌++◌, refl, sym, ap, ◌∙◌, subst}
+use Rattle.std.proofs.{raw_atomic.Walks.proved_at, VecSteps.Shapes.after}
 use denote.Exit.{no}
 use base.Fraction.{full_share}
 use base.Logic.{ent, sep, id⊢}
@@ -25,15 +26,11 @@ use denote.Struct.Struct.{Struct}
 use denote.Follow.{follows, Part, lends_Part}
 use denote.Steps.{nothing, opens, peeks}
 use denote.Triple.Walked.{Stays, walk_of, says, stay_dropped, Goes-spent_ref, ends_at}
-use Rattle.std.proofs.raw_atomic.Walks.{proved_at}
-use Rattle.std.proofs.VecSteps.Shapes.{after}
-use Rattle.monk_c.specs.Lending.{with_has}
 use Rattle.monk_c.specs.contracts.handle.MonkSeat.held as f
-use Rattle.monk_c.proofs.handle.MonkSeat.held.Statement.{statement}
 use Rattle.monk_c.proofs.handle.MonkSeat.held.Code as code
-use Rattle.monk_c.specs.contracts.handle.MonkSeat.{the_row as S, the_type}
-use Rattle.monk_c.proofs.handle.MonkSeat.TheLaws.{lowers}
-use Rattle.monk_c.specs.contracts.any_seat.AnySeat.{the_row as R}
+use Rattle.monk_c.proofs.handle.MonkSeat.{held.Statement.statement, TheLaws.lowers}
+use Rattle.monk_c.specs.{Lending.with_has, contracts.handle.MonkSeat.the_row as S, contracts.handle.MonkSeat.the_type}
+use Rattle.monk_c.specs.{contracts.any_seat.AnySeat.the_row as R}
 
 abbrev stayed : Stays f.ended.signature.params f.ended.kept
 stayed = (stay_dropped (mut_ref_to (0 ∷ []) tt (plain (λ _. S))) no, tt)

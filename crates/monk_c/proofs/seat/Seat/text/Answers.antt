@@ -1,9 +1,7 @@
 use Rattle.std.proofs.Common.{ap, rules, sym, subst, ◌∙◌}
-use Rattle.monk_c.proofs.Texts.{is_text}
-use Rattle.monk_c.specs.Stands.{At, IsAtHome}
-use Rattle.monk_c.specs.Texts.{HasTextAt}
-use Rattle.monk_c.specs.Tokens.{at_of}
 use Rattle.monk_c.proofs.seat.Seat.text.Goals as goal
+use Rattle.monk_c.proofs.Texts.{is_text}
+use Rattle.monk_c.specs.{Stands.At, Stands.IsAtHome, Texts.HasTextAt, Tokens.at_of}
 
 pub returns-in-Ok-clause-text : goal.returns-in-Ok-clause-text
 returns-in-Ok-clause-text g c =

@@ -1,13 +1,10 @@
 use Rattle.std.proofs.Common.{◌∙◌, ℕ, [], subst, get_or}
-use Rattle.monk_history.specs.declared.event.Event.TheVariants.{Enter}
-use Rattle.monk_history.specs.declared.event.Via.TheVariants.{Free}
-use Rattle.monk_history.specs.Meaning.Monitor.{monitor}
-use Rattle.monk_history.specs.Meaning.Reasons.{reason_in}
-use Rattle.monk_audit.specs.Reasons.{number_or_0}
-use Rattle.monk_audit.specs.Replay.{IsReplayOf, replay_situation, seats_in}
+use Rattle.monk_history.specs.Meaning.{Monitor.monitor, Reasons.reason_in}
+use Rattle.monk_history.specs.declared.event.{Event.TheVariants.Enter, Via.TheVariants.Free}
 use Rattle.monk_audit.proofs.PublicLaws.{none_by_number}
-use Rattle.monk_commands.proofs.Followed.{followed_more}
+use Rattle.monk_audit.specs.{Reasons.number_or_0, Replay.IsReplayOf, Replay.replay_situation, Replay.seats_in}
 use Rattle.monk_commands.proofs.following.Follower.follow.Goals as goal
+use Rattle.monk_commands.proofs.Followed.{followed_more}
 
 pub loop-index-preserved : goal.loop-index-preserved
 loop-index-preserved g c =

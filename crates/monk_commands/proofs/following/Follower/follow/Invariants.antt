@@ -1,7 +1,5 @@
 use Rattle.std.proofs.Common.{◌≡◌, List, ℕ, take}
-use Rattle.monk_history.specs.Meaning.Legal.{IsLegal}
-use Rattle.monk_history.specs.Meaning.Monitor.{monitor}
-use Rattle.monk_history.specs.Meaning.Situation.{situation}
+use Rattle.monk_history.specs.Meaning.{Legal.IsLegal, Monitor.monitor, Situation.situation}
 use Rattle.monk_audit.specs.Replay.{IsReplayOf, replay_situation, seats_in}
 use Rattle.monk_commands.proofs.following.Follower.follow.Given as goal
 

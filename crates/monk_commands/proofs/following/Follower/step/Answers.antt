@@ -1,9 +1,7 @@
 use Rattle.std.proofs.Common.{◌≡◌, ◌∙◌, ◌++◌, ℕ, List, ap, length, subst, sym, take}
 use Rattle.std.proofs.Math.Seq.{take-append_seam}
+use Rattle.monk_history.specs.Meaning.{Legal.IsLegal, Monitor.Monitor, Monitor.monitor, Situation.situation}
 use Rattle.monk_history.specs.declared.event.Event.{Event}
-use Rattle.monk_history.specs.Meaning.Legal.{IsLegal}
-use Rattle.monk_history.specs.Meaning.Monitor.{Monitor, monitor}
-use Rattle.monk_history.specs.Meaning.Situation.{situation}
 use Rattle.monk_audit.specs.Replay.{IsReplayOf, seats_in}
 use Rattle.monk_floor.specs.View.{FloorView, monitor_of}
 use Rattle.monk_world.specs.WorldViews.{state_of_view}

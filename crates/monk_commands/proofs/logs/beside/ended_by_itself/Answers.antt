@@ -1,6 +1,5 @@
 use Rattle.std.proofs.Common.{◌==◌, codes, rules, tests}
-use Rattle.std.proofs.lemmas.Iterator.Search.{any_from_yields_List}
-use Rattle.std.proofs.lemmas.Iterator.Splits.{YieldsList-from_slice_split}
+use Rattle.std.proofs.lemmas.Iterator.{Search.any_from_yields_List, Splits.YieldsList-from_slice_split}
 use Rattle.std.specs.Str.{bytes_eq}
 use Rattle.monk_commands.proofs.logs.beside.ended_by_itself.Goals as goal
 

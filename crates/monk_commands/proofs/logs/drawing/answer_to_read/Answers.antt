@@ -1,9 +1,8 @@
-use Rattle.std.proofs.Common.{List, rules, subst}
+use Rattle.std.proofs.{Common.List, Common.rules, Common.subst, lemmas.Result.IfOk-weaker}
 use Rattle.std.specs.Prelude.{string_bytes}
-use Rattle.std.proofs.lemmas.Result.{IfOk-weaker}
 use Rattle.monk_logs.specs.declared.text.line.LogLine.{LogLine}
-use Rattle.monk_commands.specs.LogDrawn.{IsRunShown}
 use Rattle.monk_commands.proofs.logs.drawing.answer_to_read.Goals as goal
+use Rattle.monk_commands.specs.LogDrawn.{IsRunShown}
 
 pub returns : goal.returns
 returns c =

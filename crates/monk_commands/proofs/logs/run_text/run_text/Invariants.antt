@@ -1,8 +1,7 @@
 use Rattle.std.proofs.Common.{◌≡◌, ◌++◌, drop}
-use Rattle.std.specs.Prelude.{string_bytes}
-use Rattle.std.specs.List.{flat_map}
-use Rattle.monk_commands.specs.RunText.{run_text, step_line}
+use Rattle.std.specs.{Prelude.string_bytes, List.flat_map}
 use Rattle.monk_commands.proofs.logs.run_text.run_text.Given as goal
+use Rattle.monk_commands.specs.RunText.{run_text, step_line}
 
 -- with the lines of the steps that are left it is the text
 abbrev pub invariant-loop-step : goal.invariant-loop-step

@@ -1,11 +1,10 @@
 use Rattle.std.proofs.Common.{◌<◌, sym, subst}
 use Rattle.std.specs.Prelude.{vec_capacity}
-use Rattle.monk_history.specs.Meaning.Monitor.{monitor}
-use Rattle.monk_history.specs.declared.event.Event.TheVariants.{Act}
-use Rattle.monk_floor.specs.Kept.{KeepsHistory}
-use Rattle.monk_floor.proofs.KeptLaws.{is_ready, has_room, kept_push, call_here, left_here}
-use Rattle.monk_floor.proofs.ChoiceLaws.{kept_act}
+use Rattle.monk_history.specs.{Meaning.Monitor.monitor, declared.event.Event.TheVariants.Act}
 use Rattle.monk_floor.proofs.floor.Floor.act.Goals as goal
+use Rattle.monk_floor.proofs.ChoiceLaws.{kept_act}
+use Rattle.monk_floor.proofs.KeptLaws.{is_ready, has_room, kept_push, call_here, left_here}
+use Rattle.monk_floor.specs.Kept.{KeepsHistory}
 
 pub note-requires : goal.note-requires
 note-requires g c =

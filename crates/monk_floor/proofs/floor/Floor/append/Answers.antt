@@ -1,10 +1,9 @@
 use Rattle.std.proofs.Common.{◌<◌, sym, subst}
 use Rattle.std.specs.Prelude.{vec_capacity}
-use Rattle.monk_history.specs.Meaning.Events.{seat_of}
-use Rattle.monk_floor.specs.Kept.{KeepsHistory}
-use Rattle.monk_history.specs.Meaning.Monitor.{monitor}
-use Rattle.monk_floor.proofs.KeptLaws.{is_ready, has_room, kept_push, allowed_here, left_here}
+use Rattle.monk_history.specs.Meaning.{Events.seat_of, Monitor.monitor}
 use Rattle.monk_floor.proofs.floor.Floor.append.Goals as goal
+use Rattle.monk_floor.proofs.KeptLaws.{is_ready, has_room, kept_push, allowed_here, left_here}
+use Rattle.monk_floor.specs.Kept.{KeepsHistory}
 
 pub note-requires : goal.note-requires
 note-requires g c =

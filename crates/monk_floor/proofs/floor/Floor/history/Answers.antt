@@ -1,9 +1,7 @@
 use Rattle.std.proofs.Common.{subst, length, ◌≤◌}
-use Rattle.monk_history.specs.Limits.{most_lines}
-use Rattle.monk_history.specs.Meaning.Legal.{IsLegal}
-use Rattle.monk_floor.specs.View.{FloorView, monitor_of}
-use Rattle.monk_floor.proofs.KeptLaws.{within_lines}
+use Rattle.monk_history.specs.{Limits.most_lines, Meaning.Legal.IsLegal}
 use Rattle.monk_floor.proofs.floor.Floor.history.Goals as goal
+use Rattle.monk_floor.{specs.View.FloorView, specs.View.monitor_of, proofs.KeptLaws.within_lines}
 
 pub returns-clause-legal : goal.returns-clause-legal
 returns-clause-legal g c =

@@ -1,11 +1,8 @@
 use Rattle.std.proofs.Common.{ap, sym, subst, ◌∙◌}
-use Rattle.monk_history.specs.declared.event.Event.{Event}
-use Rattle.monk_history.specs.declared.event.Event.TheVariants.{Signal}
-use Rattle.monk_history.specs.declared.event.Next.TheVariants.{Stay}
-use Rattle.monk_floor.specs.Chosen.{IsChosen}
-use Rattle.monk_floor.specs.Releases.{MayCallOn}
-use Rattle.monk_floor.proofs.CallLaws.{serves_nobody, signal_is}
+use Rattle.monk_history.specs.declared.event.{Event.Event, Event.TheVariants.Signal, Next.TheVariants.Stay}
 use Rattle.monk_floor.proofs.floor.Floor.next_blocking.Goals as goal
+use Rattle.monk_floor.proofs.CallLaws.{serves_nobody, signal_is}
+use Rattle.monk_floor.specs.{Chosen.IsChosen, Releases.MayCallOn}
 
 pub next_served-requires-clause-call : goal.next_served-requires-clause-call
 next_served-requires-clause-call g c κs within =

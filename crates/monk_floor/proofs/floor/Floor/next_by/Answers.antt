@@ -1,6 +1,5 @@
-use Rattle.monk_floor.proofs.ChoiceLaws.{kept_next}
-use Rattle.monk_floor.proofs.PathLaws.{stay_here, chosen_here}
 use Rattle.monk_floor.proofs.floor.Floor.next_by.Goals as goal
+use Rattle.monk_floor.proofs.{ChoiceLaws.kept_next, PathLaws.stay_here, PathLaws.chosen_here}
 
 pub returns-then-must_stay : goal.returns-then-must_stay
 returns-then-must_stay g c =

@@ -1,12 +1,9 @@
 use Rattle.std.proofs.Common.{ap, sym, subst, ◌∙◌}
 use Rattle.monk_history.specs.Meaning.Events.{has_conditions}
-use Rattle.monk_history.specs.declared.event.Event.{Event}
-use Rattle.monk_history.specs.declared.event.Event.TheVariants.{Signal}
-use Rattle.monk_history.specs.declared.event.Next.TheVariants.{Stay}
-use Rattle.monk_floor.specs.Chosen.{IsChosen}
-use Rattle.monk_floor.specs.Releases.{MayCallOn}
-use Rattle.monk_floor.proofs.CallLaws.{makes_no_signaller, signal_is}
+use Rattle.monk_history.specs.declared.event.{Event.Event, Event.TheVariants.Signal, Next.TheVariants.Stay}
 use Rattle.monk_floor.proofs.floor.Floor.next_non_blocking.Goals as goal
+use Rattle.monk_floor.proofs.CallLaws.{makes_no_signaller, signal_is}
+use Rattle.monk_floor.specs.{Chosen.IsChosen, Releases.MayCallOn}
 
 pub next_staying-requires-clause-call : goal.next_staying-requires-clause-call
 next_staying-requires-clause-call g c κs within =

@@ -1,13 +1,9 @@
 use Rattle.std.proofs.Common.{◌<◌, ◌++◌, ◌∷◌, [], ap, sym, subst, ◌∙◌}
-use Rattle.monk_history.specs.Meaning.Counts.{left_of}
-use Rattle.monk_history.specs.Meaning.Events.{seat_of}
-use Rattle.monk_history.specs.Meaning.Monitor.{data_after}
-use Rattle.monk_history.specs.Meaning.Reasons.{IsAllowed}
-use Rattle.monk_history.specs.Meaning.Release.{choice_of}
-use Rattle.monk_history.specs.declared.event.Event.{Event}
-use Rattle.monk_floor.specs.View.{monitor_of, stands_of}
-use Rattle.monk_floor.proofs.CallLaws.{as_it_was, keeps_data, replyless, same_seat}
+use Rattle.monk_history.specs.{Meaning.Counts.left_of, Meaning.Events.seat_of, Meaning.Monitor.data_after}
+use Rattle.monk_history.specs.{Meaning.Reasons.IsAllowed, Meaning.Release.choice_of, declared.event.Event.Event}
 use Rattle.monk_floor.proofs.floor.Floor.plain_release.Goals as goal
+use Rattle.monk_floor.proofs.CallLaws.{as_it_was, keeps_data, replyless, same_seat}
+use Rattle.monk_floor.specs.View.{monitor_of, stands_of}
 
 pub append-requires-clause-allowed : goal.append-requires-clause-allowed
 append-requires-clause-allowed g c κs within =

@@ -1,11 +1,9 @@
 use Rattle.std.proofs.Common.{◌∙◌, ap, not, ◌&&◌}
 use Rattle.std.specs.Prelude.{nat_lt, slice_index_or, false}
-use Rattle.monk_history.specs.Meaning.Monitor.{monitor}
-use Rattle.monk_history.specs.Meaning.Situation.{situation}
-use Rattle.monk_history.specs.Meaning.Standing.{has_turn, is_queued}
 use Rattle.monk_history.proofs.PublicLaws.Meaning.{legal_placed, queued_is}
-use Rattle.monk_floor.specs.View.{FloorView, monitor_of}
+use Rattle.monk_history.specs.Meaning.{Monitor.monitor, Situation.situation, Standing.has_turn, Standing.is_queued}
 use Rattle.monk_floor.proofs.floor.Floor.queued.Goals as goal
+use Rattle.monk_floor.specs.View.{FloorView, monitor_of}
 
 pub returns : goal.returns
 returns g c =

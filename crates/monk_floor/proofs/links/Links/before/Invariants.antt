@@ -1,6 +1,5 @@
-use Rattle.monk_floor.specs.Links.{queue_in}
-use Rattle.monk_floor.proofs.LinkLaws.Searching.{IsSought}
 use Rattle.monk_floor.proofs.links.Links.before.Given as goal
+use Rattle.monk_floor.{specs.Links.queue_in, proofs.LinkLaws.Searching.IsSought}
 
 abbrev pub invariant-loop : goal.invariant-loop
 invariant-loop l =

@@ -1,9 +1,7 @@
 use Rattle.std.proofs.Common.{◌∙◌, sym, ap}
 use Rattle.monk_history.specs.Meaning.Signallers.{is_empty}
-use Rattle.monk_floor.specs.Links.{chain_at}
-use Rattle.monk_floor.proofs.LinkLaws.Chains.{queue_is}
-use Rattle.monk_floor.proofs.LinkLaws.Taking.{nobody}
 use Rattle.monk_floor.proofs.links.Links.is_empty.Goals as goal
+use Rattle.monk_floor.{specs.Links.chain_at, proofs.LinkLaws.Chains.queue_is, proofs.LinkLaws.Taking.nobody}
 
 pub returns : goal.returns
 returns c =

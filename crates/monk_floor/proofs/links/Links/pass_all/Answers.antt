@@ -1,8 +1,7 @@
-use Rattle.monk_floor.proofs.LinkLaws.Chains.{few}
-use Rattle.monk_floor.proofs.LinkLaws.Joining.{last_is_seat}
+use Rattle.monk_floor.proofs.links.Links.pass_all.Goals as goal
+use Rattle.monk_floor.proofs.LinkLaws.{Chains.few, Joining.last_is_seat}
 use Rattle.monk_floor.proofs.LinkLaws.Passing.{nobody_passed, alone_linked, alone_seen, both_linked, both_seen}
 use Rattle.std.proofs.Common.{arith}
-use Rattle.monk_floor.proofs.links.Links.pass_all.Goals as goal
 
 pub returns-then-passed-eq0 : goal.returns-then-passed-eq0
 returns-then-passed-eq0 c =

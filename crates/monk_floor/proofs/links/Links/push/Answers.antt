@@ -1,10 +1,9 @@
-use Rattle.std.specs.Prelude.{slice_set}
-use Rattle.monk_floor.specs.Links.{seats_of, IsLinked}
-use Rattle.monk_floor.specs.Queues.{queue_at}
 use Rattle.std.proofs.Common.{ap, subst, sym, ◌∙◌, map, arith}
-use Rattle.monk_floor.proofs.LinkLaws.Joining.{first_linked, first_seen, behind_linked, behind_seen, last_is_seat, seen_none}
-use Rattle.monk_floor.proofs.LinkLaws.Chains.{few}
+use Rattle.std.specs.Prelude.{slice_set}
 use Rattle.monk_floor.proofs.links.Links.push.Goals as goal
+use Rattle.monk_floor.proofs.LinkLaws.{Joining.first_linked, Joining.first_seen, Joining.behind_linked}
+use Rattle.monk_floor.proofs.LinkLaws.{Joining.behind_seen, Joining.last_is_seat, Joining.seen_none, Chains.few}
+use Rattle.monk_floor.specs.{Links.seats_of, Links.IsLinked, Queues.queue_at}
 
 pub bounds-self-inside-chain : goal.bounds-self-inside-chain
 bounds-self-inside-chain c =

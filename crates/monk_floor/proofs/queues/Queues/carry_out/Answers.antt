@@ -1,8 +1,7 @@
 use Rattle.std.proofs.Common.{not}
-use Rattle.monk_history.specs.Meaning.Events.{seat_of}
-use Rattle.monk_history.specs.Meaning.Untils.{chooses}
-use Rattle.monk_floor.proofs.QueueLaws.{still_apart}
+use Rattle.monk_history.specs.Meaning.{Events.seat_of, Untils.chooses}
 use Rattle.monk_floor.proofs.queues.Queues.carry_out.Goals as goal
+use Rattle.monk_floor.proofs.QueueLaws.{still_apart}
 
 pub join-requires-clause-apart : goal.join-requires-clause-apart
 join-requires-clause-apart c =

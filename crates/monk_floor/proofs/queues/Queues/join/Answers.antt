@@ -1,12 +1,11 @@
 use Rattle.std.proofs.Common.{◌≡◌, ◌<◌, true, ap, subst, sym, ◌∙◌, arith}
 use Rattle.std.specs.Prelude.{slice_set}
 use Rattle.monk_history.specs.Limits.{most_seats, most_conds}
-use Rattle.monk_history.specs.Meaning.Reasons.{is_condition}
-use Rattle.monk_history.specs.Meaning.Signallers.{is_empty}
-use Rattle.monk_history.specs.Meaning.Events.{seat_of, signals_on}
-use Rattle.monk_floor.specs.Queues.{queue_at, lists_of, in_lists, IsServed}
-use Rattle.monk_floor.proofs.ShownLaws.{places_none, passed_apart, waiting, signalling, leaving, serving_all, serving_waiting, until}
+use Rattle.monk_history.specs.Meaning.{Reasons.is_condition, Signallers.is_empty, Events.seat_of, Events.signals_on}
 use Rattle.monk_floor.proofs.queues.Queues.join.Goals as goal
+use Rattle.monk_floor.proofs.ShownLaws.{places_none, passed_apart, waiting, signalling, leaving, serving_all}
+use Rattle.monk_floor.proofs.ShownLaws.{serving_waiting, until}
+use Rattle.monk_floor.specs.Queues.{queue_at, lists_of, in_lists, IsServed}
 
 pub push-requires-clause-apart : goal.push-requires-clause-apart
 push-requires-clause-apart c =

@@ -1,12 +1,9 @@
 use Rattle.std.proofs.Common.{ℕ, ◌+◌, ◌≤◌, length, refl, sym, subst}
 use Rattle.monk_history.specs.declared.event.Event.TheVariants.{Act}
-use Rattle.monk_floor.specs.Grown.{IsGrown}
-use Rattle.monk_floor.specs.View.{FloorView}
-use Rattle.monk_hall.specs.Calls.{HasDone}
-use Rattle.monk_hall.specs.Records.{the}
-use Rattle.monk_hall.specs.Tokens.{Holder, holder}
-use Rattle.monk_hall.proofs.TokenLaws.{grown_holds, grown_does}
+use Rattle.monk_floor.specs.{Grown.IsGrown, View.FloorView}
 use Rattle.monk_hall.proofs.active.Active.act.Goals as goal
+use Rattle.monk_hall.proofs.TokenLaws.{grown_holds, grown_does}
+use Rattle.monk_hall.specs.{Calls.HasDone, Records.the, Tokens.Holder, Tokens.holder}
 
 pub invariant_of-self : goal.invariant_of-self
 invariant_of-self g c =

@@ -1,10 +1,8 @@
 use Rattle.std.proofs.Common.{◌≡◌, refl, sym, ap, subst, ◌∙◌}
-use Rattle.monk_history.specs.Meaning.Counts.{events_of}
-use Rattle.monk_history.specs.Meaning.Legal.{IsLegal}
+use Rattle.monk_history.specs.Meaning.{Counts.events_of, Legal.IsLegal}
 use Rattle.monk_floor.specs.View.{FloorView, monitor_of}
-use Rattle.monk_hall.specs.Tokens.{Holder}
-use Rattle.monk_hall.proofs.ClosingLaws.{ended}
 use Rattle.monk_hall.proofs.active.Active.end.Goals as goal
+use Rattle.monk_hall.{specs.Tokens.Holder, proofs.ClosingLaws.ended}
 
 pub returns : goal.returns
 returns g c =

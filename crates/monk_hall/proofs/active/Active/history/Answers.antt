@@ -1,9 +1,8 @@
 use Rattle.std.proofs.Common.{◌≡◌, refl, subst}
-use Rattle.monk_history.specs.Meaning.Counts.{events_of}
-use Rattle.monk_history.specs.Meaning.Legal.{IsLegal}
+use Rattle.monk_history.specs.Meaning.{Counts.events_of, Legal.IsLegal}
 use Rattle.monk_floor.specs.View.{FloorView, monitor_of}
-use Rattle.monk_hall.specs.Tokens.{Holder}
 use Rattle.monk_hall.proofs.active.Active.history.Goals as goal
+use Rattle.monk_hall.specs.Tokens.{Holder}
 
 pub returns-clause-legal : goal.returns-clause-legal
 returns-clause-legal g c =

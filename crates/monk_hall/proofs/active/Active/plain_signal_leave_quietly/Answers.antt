@@ -1,10 +1,8 @@
 use Rattle.std.proofs.Common.{true}
-use Rattle.monk_history.specs.declared.event.Event.TheVariants.{SignalLeave}
-use Rattle.monk_history.specs.declared.event.Next.TheVariants.{Stay}
+use Rattle.monk_history.specs.declared.event.{Event.TheVariants.SignalLeave, Next.TheVariants.Stay}
 use Rattle.monk_world.specs.declared.home.Home.TheVariants as home
-use Rattle.monk_hall.specs.Calls.{peeks_of}
-use Rattle.monk_hall.proofs.ReleaseLaws.{released_after}
 use Rattle.monk_hall.proofs.active.Active.plain_signal_leave_quietly.Goals as goal
+use Rattle.monk_hall.{specs.Calls.peeks_of, proofs.ReleaseLaws.released_after}
 
 pub returns : goal.returns
 returns g c =

@@ -1,10 +1,8 @@
 use Rattle.std.proofs.Common.{ap, subst}
-use Rattle.monk_history.specs.declared.event.Event.TheVariants.{Signal}
-use Rattle.monk_history.specs.declared.event.Next.TheVariants.{Stay}
+use Rattle.monk_history.specs.declared.event.{Event.TheVariants.Signal, Next.TheVariants.Stay}
 use Rattle.monk_world.specs.declared.home.Home.TheVariants as home
-use Rattle.monk_hall.specs.Calls.{HasPeeked, peeks_of}
-use Rattle.monk_hall.proofs.ReleaseLaws.{after_peeked}
 use Rattle.monk_hall.proofs.active.Active.plain_signal_quietly.Goals as goal
+use Rattle.monk_hall.{specs.Calls.HasPeeked, specs.Calls.peeks_of, proofs.ReleaseLaws.after_peeked}
 
 pub returns : goal.returns
 returns g c =

@@ -1,9 +1,8 @@
 use Rattle.monk_history.proofs.PublicLaws.Meaning.{may_leave}
 use Rattle.monk_floor.specs.View.{monitor_of}
-use Rattle.monk_hall.proofs.Boxed.{shown_apart}
-use Rattle.monk_hall.proofs.ReleaseChosen.{leave_goes}
-use Rattle.monk_hall.proofs.ReleaseLaws.{is_near, leaves, owns}
 use Rattle.monk_hall.proofs.active.Active.record_leave.Goals as goal
+use Rattle.monk_hall.proofs.{Boxed.shown_apart, ReleaseChosen.leave_goes}
+use Rattle.monk_hall.proofs.ReleaseLaws.{is_near, leaves, owns}
 
 pub leave-release-requires-clause-call : goal.leave-release-requires-clause-call
 leave-release-requires-clause-call g c κs within =

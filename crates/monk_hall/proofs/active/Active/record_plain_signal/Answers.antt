@@ -1,10 +1,9 @@
-use Rattle.monk_history.specs.declared.event.Event.TheVariants.{Signal}
-use Rattle.monk_history.specs.declared.event.Next.TheVariants.{Stay}
 use Rattle.monk_history.proofs.PublicLaws.Meaning.{may_signal_on}
+use Rattle.monk_history.specs.declared.event.{Event.TheVariants.Signal, Next.TheVariants.Stay}
 use Rattle.monk_floor.specs.View.{monitor_of}
-use Rattle.monk_hall.proofs.Boxed.{shown_apart}
-use Rattle.monk_hall.proofs.ReleaseLaws.{has_cond, is_near, must_known, owns, signals}
 use Rattle.monk_hall.proofs.active.Active.record_plain_signal.Goals as goal
+use Rattle.monk_hall.proofs.ReleaseLaws.{has_cond, is_near, must_known, owns, signals}
+use Rattle.monk_hall.proofs.Boxed.{shown_apart}
 
 pub plain_signal-release-requires-clause-call : goal.plain_signal-release-requires-clause-call
 plain_signal-release-requires-clause-call g c κs within =

@@ -1,9 +1,8 @@
 use Rattle.monk_history.proofs.PublicLaws.Meaning.{may_signal_leave}
 use Rattle.monk_floor.specs.View.{monitor_of}
-use Rattle.monk_hall.proofs.Boxed.{shown_apart}
-use Rattle.monk_hall.proofs.ReleaseChosen.{signal_leave_goes}
-use Rattle.monk_hall.proofs.ReleaseLaws.{has_cond, is_near, owns, signals_and_leaves}
 use Rattle.monk_hall.proofs.active.Active.record_plain_signal_leave.Goals as goal
+use Rattle.monk_hall.proofs.{Boxed.shown_apart, ReleaseChosen.signal_leave_goes}
+use Rattle.monk_hall.proofs.ReleaseLaws.{has_cond, is_near, owns, signals_and_leaves}
 
 pub plain_signal_leave-release-requires-clause-call : goal.plain_signal_leave-release-requires-clause-call
 plain_signal_leave-release-requires-clause-call g c κs within =

@@ -1,11 +1,10 @@
 use Rattle.std.proofs.Common.{◌<◌, not, sym, ap, subst}
-use Rattle.monk_history.specs.declared.event.Event.TheVariants.{Until}
-use Rattle.monk_history.specs.declared.event.Next.TheVariants.{Stay}
 use Rattle.monk_history.proofs.PublicLaws.Meaning.{may_until}
+use Rattle.monk_history.specs.declared.event.{Event.TheVariants.Until, Next.TheVariants.Stay}
 use Rattle.monk_floor.specs.View.{monitor_of}
-use Rattle.monk_hall.proofs.Boxed.{shown_apart}
-use Rattle.monk_hall.proofs.ReleaseLaws.{is_near, must_known, owns, waits_until}
 use Rattle.monk_hall.proofs.active.Active.record_plain_until.Goals as goal
+use Rattle.monk_hall.proofs.ReleaseLaws.{is_near, must_known, owns, waits_until}
+use Rattle.monk_hall.proofs.Boxed.{shown_apart}
 
 pub plain_until-release-requires-clause-call : goal.plain_until-release-requires-clause-call
 plain_until-release-requires-clause-call g c κs within =

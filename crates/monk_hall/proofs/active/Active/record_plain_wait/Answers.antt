@@ -1,9 +1,8 @@
 use Rattle.monk_history.proofs.PublicLaws.Meaning.{may_wait}
 use Rattle.monk_floor.specs.View.{monitor_of}
-use Rattle.monk_hall.proofs.Boxed.{shown_apart}
-use Rattle.monk_hall.proofs.ReleaseChosen.{wait_goes}
-use Rattle.monk_hall.proofs.ReleaseLaws.{has_cond, is_near, owns, waits}
 use Rattle.monk_hall.proofs.active.Active.record_plain_wait.Goals as goal
+use Rattle.monk_hall.proofs.{Boxed.shown_apart, ReleaseChosen.wait_goes}
+use Rattle.monk_hall.proofs.ReleaseLaws.{has_cond, is_near, owns, waits}
 
 pub plain_wait-release-requires-clause-call : goal.plain_wait-release-requires-clause-call
 plain_wait-release-requires-clause-call g c κs within =

@@ -1,17 +1,12 @@
 use Rattle.std.proofs.Common.{◌≡◌, ℕ, ◌+◌, ◌≤◌, false, length, refl, sym, ap, subst, ◌∙◌}
-use Rattle.monk_history.specs.Meaning.Legal.{IsLegal}
-use Rattle.monk_history.specs.declared.event.Event.TheVariants.{Signal}
-use Rattle.monk_history.specs.declared.event.Next.{Next}
-use Rattle.monk_history.specs.declared.event.Next.TheVariants.{Stay}
 use Rattle.monk_history.proofs.PublicLaws.Meaning.{non_blocking, signal_stays}
+use Rattle.monk_history.specs.Meaning.Legal.{IsLegal}
+use Rattle.monk_history.specs.declared.event.{Event.TheVariants.Signal, Next.Next, Next.TheVariants.Stay}
 use Rattle.monk_kinds.specs.declared.mode.Pick.TheVariants.{Signaller}
-use Rattle.monk_floor.specs.Grown.{IsGrown}
-use Rattle.monk_floor.specs.View.{FloorView, monitor_of}
-use Rattle.monk_hall.specs.Calls.{HasDone}
-use Rattle.monk_hall.specs.Records.{the}
-use Rattle.monk_hall.specs.Tokens.{Holder, holder}
-use Rattle.monk_hall.proofs.TokenLaws.{grown_holds, grown_does}
+use Rattle.monk_floor.specs.{Grown.IsGrown, View.FloorView, View.monitor_of}
 use Rattle.monk_hall.proofs.active.Active.signal_stay.Goals as goal
+use Rattle.monk_hall.proofs.TokenLaws.{grown_holds, grown_does}
+use Rattle.monk_hall.specs.{Calls.HasDone, Records.the, Tokens.Holder, Tokens.holder}
 
 pub invariant_of-self : goal.invariant_of-self
 invariant_of-self g c =

@@ -1,13 +1,10 @@
 use Rattle.std.proofs.Common.{◌≡◌, ap, subst, ◌∙◌}
 use Rattle.monk_history.specs.Meaning.Turn.{turn}
 use Rattle.monk_floor.specs.View.{FloorView}
-use Rattle.monk_world.specs.State.{with_event}
-use Rattle.monk_world.specs.StepTable.{out_event}
-use Rattle.monk_hall.specs.Calls.{HasEntered}
-use Rattle.monk_hall.specs.Records.{the}
-use Rattle.monk_hall.specs.Tokens.{Token, holder}
-use Rattle.monk_hall.proofs.EntrySteps.{entry, entry_holds}
+use Rattle.monk_world.specs.{State.with_event, StepTable.out_event}
 use Rattle.monk_hall.proofs.parked.Parked.come_in.Goals as goal
+use Rattle.monk_hall.proofs.EntrySteps.{entry, entry_holds}
+use Rattle.monk_hall.specs.{Calls.HasEntered, Records.the, Tokens.Token, Tokens.holder}
 
 pub invariant_of-result : goal.invariant_of-result
 invariant_of-result g c =

@@ -1,7 +1,6 @@
 use Rattle.std.proofs.Common.{sym, ap, ◌∙◌}
-use Rattle.monk_hall.specs.Tokens.{Token}
-use Rattle.monk_hall.proofs.TokenLaws.{entry_looked, comes_by_look}
 use Rattle.monk_hall.proofs.parked.Parked.poll.Goals as goal
+use Rattle.monk_hall.{specs.Tokens.Token, proofs.TokenLaws.entry_looked, proofs.TokenLaws.comes_by_look}
 
 pub returns-in-Due-clause-active : goal.returns-in-Due-clause-active
 returns-in-Due-clause-active g c =

@@ -1,10 +1,8 @@
 use Rattle.std.proofs.Common.{refl, zero, suc, false, sym, ap, subst, ◌∙◌, ◌++◌, append-nil}
-use Rattle.monk_hall.specs.Calls.{ComesAfter, HasEntered}
-use Rattle.monk_hall.specs.Deeds.{look_at}
-use Rattle.monk_hall.specs.Tokens.{Token}
-use Rattle.monk_hall.specs.declared.record.SeatRecord.{SeatRecord}
-use Rattle.monk_hall.proofs.ResumeLaws.{entered_same, looks_again, comes_later}
 use Rattle.monk_hall.proofs.parked.Parked.resume.Goals as goal
+use Rattle.monk_hall.proofs.ResumeLaws.{entered_same, looks_again, comes_later}
+use Rattle.monk_hall.specs.{Deeds.look_at, Tokens.Token, declared.record.SeatRecord.SeatRecord}
+use Rattle.monk_hall.specs.Calls.{ComesAfter, HasEntered}
 
 pub loop-init : goal.loop-init
 loop-init g c = (refl, (zero, λ i. record c.args.self.me { did = sym (append-nil c.args.self.me.did) i }))

@@ -1,7 +1,6 @@
 use Rattle.std.proofs.Common.{ap, ◌∙◌}
-use Rattle.monk_hall.specs.Tokens.{Token}
-use Rattle.monk_hall.proofs.EntrySteps.{ticket_look_rests}
 use Rattle.monk_hall.proofs.parked.Parked.ticket_look.Goals as goal
+use Rattle.monk_hall.{specs.Tokens.Token, proofs.EntrySteps.ticket_look_rests}
 
 pub invariant_of-result : goal.invariant_of-result
 invariant_of-result g c =

@@ -1,9 +1,7 @@
 use Rattle.std.proofs.Common.{◌+◌, ◌≤◌, length, sym, ap, subst, ◌∙◌}
-use Rattle.monk_hall.specs.Calls.{HasArrived}
-use Rattle.monk_hall.specs.Records.{the}
-use Rattle.monk_hall.specs.Tokens.{Token, top}
-use Rattle.monk_hall.proofs.EntrySteps.{token, arrival, arrival_rests}
 use Rattle.monk_hall.proofs.pass.Pass.arrive.Goals as goal
+use Rattle.monk_hall.proofs.EntrySteps.{token, arrival, arrival_rests}
+use Rattle.monk_hall.specs.{Calls.HasArrived, Records.the, Tokens.Token, Tokens.top}
 
 pub invariant_of-result : goal.invariant_of-result
 invariant_of-result g c =

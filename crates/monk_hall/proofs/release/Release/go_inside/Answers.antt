@@ -1,14 +1,11 @@
 use Rattle.std.proofs.Common.{sym, ap, subst, ◌∙◌}
 use Rattle.monk_history.specs.Meaning.Counts.{left_of}
 use Rattle.monk_floor.specs.View.{FloorView}
-use Rattle.monk_world.specs.declared.home.Home.{Home}
 use Rattle.monk_world.specs.declared.home.Home.TheVariants as home
-use Rattle.monk_hall.specs.Handing.{HasGone}
-use Rattle.monk_hall.specs.Records.{the}
-use Rattle.monk_hall.proofs.HandingLaws.{gone_rests, home_is}
-use Rattle.monk_hall.proofs.ReleaseChosen.{has_released}
-use Rattle.monk_hall.proofs.ReleaseLaws.{released_of}
+use Rattle.monk_world.specs.declared.home.Home.{Home}
 use Rattle.monk_hall.proofs.release.Release.go_inside.Goals as goal
+use Rattle.monk_hall.{specs.Handing.HasGone, specs.Records.the, proofs.HandingLaws.gone_rests}
+use Rattle.monk_hall.{proofs.HandingLaws.home_is, proofs.ReleaseChosen.has_released, proofs.ReleaseLaws.released_of}
 
 pub go_home-granted-requires-clause-released : goal.go_home-granted-requires-clause-released
 go_home-granted-requires-clause-released g c κs within = let x = c.requires.recorded.recorded in

@@ -1,18 +1,12 @@
 use Rattle.std.proofs.Common.{◌≡◌, ◌∷◌, [], List, refl, sym, ap, subst, ◌∙◌}
 use Rattle.monk_history.specs.Meaning.Counts.{left_of}
 use Rattle.monk_floor.specs.View.{FloorView}
-use Rattle.monk_world.specs.declared.home.Home.{Home}
 use Rattle.monk_world.specs.declared.home.Home.TheVariants as home
-use Rattle.monk_world.specs.declared.place.Place.TheVariants.{Idle}
-use Rattle.monk_hall.specs.Granting.{granted_last}
-use Rattle.monk_hall.specs.Handing.{HasGone}
-use Rattle.monk_hall.specs.Records.{View, the}
-use Rattle.monk_hall.specs.Tells.{SeesTruly}
-use Rattle.monk_hall.specs.Tokens.{IsResting, top}
-use Rattle.monk_hall.proofs.HandingLaws.{gone_rests, home_is}
-use Rattle.monk_hall.proofs.ReleaseChosen.{has_released}
-use Rattle.monk_hall.proofs.ReleaseLaws.{released_of}
+use Rattle.monk_world.specs.declared.{home.Home.Home, place.Place.TheVariants.Idle}
 use Rattle.monk_hall.proofs.release.Release.go_outside.Goals as goal
+use Rattle.monk_hall.{specs.Granting.granted_last, specs.Handing.HasGone, specs.Records.View, specs.Records.the}
+use Rattle.monk_hall.{specs.Tells.SeesTruly, specs.Tokens.IsResting, specs.Tokens.top, proofs.HandingLaws.gone_rests}
+use Rattle.monk_hall.{proofs.HandingLaws.home_is, proofs.ReleaseChosen.has_released, proofs.ReleaseLaws.released_of}
 
 pub go_home-granted-requires-clause-released : goal.go_home-granted-requires-clause-released
 go_home-granted-requires-clause-released g c κs within = let x = c.requires.recorded.recorded in

@@ -1,9 +1,8 @@
 use Rattle.std.proofs.Common.{◌≡◌, ◌∷◌, [], refl, sym, ap, subst, ◌∙◌}
 use Rattle.monk_world.specs.Places.{stage}
-use Rattle.monk_hall.specs.Records.{View, IsOne, the, head, tail}
-use Rattle.monk_hall.specs.Rule.{setting_of}
-use Rattle.monk_hall.proofs.Reached.{IsTwo, deals_next, never_joined, never_both}
 use Rattle.monk_hall.proofs.steps.Words.never.Goals as goal
+use Rattle.monk_hall.proofs.Reached.{IsTwo, deals_next, never_joined, never_both}
+use Rattle.monk_hall.specs.{Records.View, Records.IsOne, Records.the, Records.head, Records.tail, Rule.setting_of}
 
 pub split_seat-other-requires : goal.split_seat-other-requires
 split_seat-other-requires g c =

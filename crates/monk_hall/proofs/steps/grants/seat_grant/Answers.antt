@@ -1,13 +1,9 @@
 use Rattle.std.proofs.Common.{arith, ◌≡◌, ℕ, [], ◌∷◌, sym, ap, subst, ◌∙◌}
 use Rattle.atomic_table.specs.Table.{Allows}
-use Rattle.monk_hall.specs.Changes.{record_after_grant}
-use Rattle.monk_hall.specs.Records.{the}
-use Rattle.monk_hall.specs.Rule.{setting_of}
-use Rattle.monk_hall.specs.Schedules.{IsReached}
-use Rattle.monk_hall.specs.Tells.{TellsCall}
-use Rattle.monk_hall.specs.declared.deed.Deed.TheVariants.{CallSeat}
-use Rattle.monk_hall.proofs.Reached.{calls_seat}
 use Rattle.monk_hall.proofs.steps.grants.seat_grant.Goals as goal
+use Rattle.monk_hall.proofs.Reached.{calls_seat}
+use Rattle.monk_hall.specs.{Changes.record_after_grant, Records.the, Rule.setting_of, Schedules.IsReached}
+use Rattle.monk_hall.specs.{Tells.TellsCall, declared.deed.Deed.TheVariants.CallSeat}
 
 pub store-requires : goal.store-requires
 store-requires g c =

@@ -1,15 +1,10 @@
 use Rattle.std.proofs.Common.{arith, ℕ, ◌+◌, ◌%◌, ◌<◌, ◌≡◌, [], ◌∷◌, sym, ap, subst, ◌∙◌, mod-lt}
 use Rattle.atomic_table.specs.Table.{Allows}
 use Rattle.monk_world.specs.Places.{ticket}
-use Rattle.monk_hall.specs.Changes.{record_after_grant}
-use Rattle.monk_hall.specs.Layout.{place_word}
-use Rattle.monk_hall.specs.Records.{the}
-use Rattle.monk_hall.specs.Rule.{setting_of}
-use Rattle.monk_hall.specs.Schedules.{IsReached}
-use Rattle.monk_hall.specs.Tells.{TellsTicketGrant}
-use Rattle.monk_hall.specs.declared.deed.Deed.TheVariants.{GrantTicket}
-use Rattle.monk_hall.proofs.Reached.{grants_ticket}
 use Rattle.monk_hall.proofs.steps.grants.ticket_grant.Goals as goal
+use Rattle.monk_hall.proofs.Reached.{grants_ticket}
+use Rattle.monk_hall.specs.{Changes.record_after_grant, Layout.place_word, Records.the, Rule.setting_of}
+use Rattle.monk_hall.specs.{Schedules.IsReached, Tells.TellsTicketGrant, declared.deed.Deed.TheVariants.GrantTicket}
 
 pub store-requires : goal.store-requires
 store-requires g c =

@@ -1,7 +1,6 @@
 use Rattle.std.proofs.Common.{◌≡◌, false, length}
-use Rattle.monk_history.specs.Text.Device.{inner_of, has_failed}
-use Rattle.monk_history.proofs.TextLaws.PagedText.{IsWritten}
 use Rattle.monk_history.proofs.text.writing.write_lines.Given as goal
+use Rattle.monk_history.{specs.Text.Device.inner_of, specs.Text.Device.has_failed, proofs.TextLaws.PagedText.IsWritten}
 
 abbrev pub invariant-loop-event : goal.invariant-loop-event
 invariant-loop-event g l = record {

@@ -1,7 +1,6 @@
 use Rattle.std.proofs.Common.{◌≡◌, ◌≤◌}
-use Rattle.monk_judge.specs.Counts.{sleepers}
-use Rattle.monk_judge.specs.Shown.{state_of}
 use Rattle.monk_judge.proofs.judge.Judge.asleep.Given as goal
+use Rattle.monk_judge.specs.{Counts.sleepers, Shown.state_of}
 
 abbrev pub invariant-loop-place : goal.invariant-loop-place
 invariant-loop-place g l = record {

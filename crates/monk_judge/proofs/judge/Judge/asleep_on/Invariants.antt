@@ -1,7 +1,6 @@
 use Rattle.std.proofs.Common.{◌≡◌, ◌≤◌}
-use Rattle.monk_judge.specs.Counts.{sleepers_on}
-use Rattle.monk_judge.specs.Shown.{state_of}
 use Rattle.monk_judge.proofs.judge.Judge.asleep_on.Given as goal
+use Rattle.monk_judge.specs.{Counts.sleepers_on, Shown.state_of}
 
 abbrev pub invariant-loop-place : goal.invariant-loop-place
 invariant-loop-place g l = record {

@@ -1,8 +1,6 @@
 use Rattle.std.proofs.Common.{◌≡◌, drop}
-use Rattle.monk_judge.specs.Judged.{after_all}
-use Rattle.monk_judge.specs.Run.{IsRun}
-use Rattle.monk_judge.specs.Shown.{setting_of, state_of}
 use Rattle.monk_judge.proofs.judge.Judge.follow_all.Given as goal
+use Rattle.monk_judge.specs.{Judged.after_all, Run.IsRun, Shown.setting_of, Shown.state_of}
 
 -- the remaining steps are a run, and lead where all steps lead
 abbrev pub invariant-loop-step : goal.invariant-loop-step

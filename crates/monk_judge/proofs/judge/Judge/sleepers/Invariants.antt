@@ -1,7 +1,6 @@
 use Rattle.std.proofs.Common.{◌≡◌, ℕ, ◌<◌, ◌≤◌, false, length, get_or}
-use Rattle.monk_judge.specs.Counts.{is_asleep}
-use Rattle.monk_judge.specs.declared.place.Place.TheVariants.{Outside}
 use Rattle.monk_judge.proofs.judge.Judge.sleepers.Given as goal
+use Rattle.monk_judge.specs.{Counts.is_asleep, declared.place.Place.TheVariants.Outside}
 
 abbrev pub invariant-loop-seat : goal.invariant-loop-seat
 invariant-loop-seat g l = record {

@@ -1,13 +1,10 @@
 use Rattle.std.proofs.Common.{◌∙◌, ◌∷◌, None, sym, ap, arith}
 use Rattle.std.proofs.Math.ListN.{set}
 use Rattle.monk_logs.specs.declared.text.line.LogLine.TheVariants as lines
-use Rattle.monk_judge.specs.declared.step.Step.TheVariants.{Tells}
-use Rattle.monk_judge.specs.Judged.{after_all, running_out}
-use Rattle.monk_judge.specs.Ends.{runs_out}
-use Rattle.monk_judge.specs.Shown.{setting_of, state_of}
-use Rattle.monk_judge.proofs.Naming.{wait_names}
-use Rattle.monk_judge.proofs.Shows.{ran_out_setting, ran_out_state}
 use Rattle.monk_judge.proofs.judge.Judge.wait.Goals as goal
+use Rattle.monk_judge.proofs.{Naming.wait_names, Shows.ran_out_setting, Shows.ran_out_state}
+use Rattle.monk_judge.specs.{declared.step.Step.TheVariants.Tells, Ends.runs_out, Shown.setting_of, Shown.state_of}
+use Rattle.monk_judge.specs.Judged.{after_all, running_out}
 
 pub returns-in-RunsOut : goal.returns-in-RunsOut
 returns-in-RunsOut g c =

@@ -1,7 +1,6 @@
 use Rattle.std.proofs.Common.{◌≡◌, ◌≤◌}
-use Rattle.monk_judge.specs.Counts.{woken_ones}
-use Rattle.monk_judge.specs.Shown.{state_of}
 use Rattle.monk_judge.proofs.judge.Judge.woken.Given as goal
+use Rattle.monk_judge.specs.{Counts.woken_ones, Shown.state_of}
 
 abbrev pub invariant-loop-place : goal.invariant-loop-place
 invariant-loop-place g l = record {

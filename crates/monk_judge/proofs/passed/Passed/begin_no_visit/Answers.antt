@@ -1,5 +1,4 @@
-use Rattle.std.proofs.Common.{None}
-use Rattle.std.proofs.lemmas.List.{get_or-replicate}
+use Rattle.std.proofs.{Common.None, lemmas.List.get_or-replicate}
 use Rattle.monk_judge.proofs.passed.Passed.begin_no_visit.Goals as goal
 
 pub returns-clause-passing : goal.returns-clause-passing

@@ -1,7 +1,6 @@
 use Rattle.std.proofs.Common.{◌≡◌, ℕ, ◌<◌, None, length, get_or}
-use Rattle.monk_judge.specs.Hints.{woken_on}
-use Rattle.monk_judge.specs.declared.place.Place.TheVariants.{Outside}
 use Rattle.monk_judge.proofs.passed.Passed.begin_visit.Given as goal
+use Rattle.monk_judge.specs.{Hints.woken_on, declared.place.Place.TheVariants.Outside}
 
 abbrev pub invariant-loop-seat : goal.invariant-loop-seat
 invariant-loop-seat l = record {

@@ -1,7 +1,6 @@
-use Rattle.std.proofs.Common.{subst, sym}
-use Rattle.std.specs.Fmt.{HasWritten}
-use Rattle.monk_judge.specs.Text.{line_text}
+use Rattle.std.{proofs.Common.subst, proofs.Common.sym, specs.Fmt.HasWritten}
 use Rattle.monk_judge.proofs.step.LineWordsDisplay.fmt.Goals as goal
+use Rattle.monk_judge.specs.Text.{line_text}
 
 pub returns-in-Enter-clause-writes : goal.returns-in-Enter-clause-writes
 returns-in-Enter-clause-writes g c = λ plain ok.

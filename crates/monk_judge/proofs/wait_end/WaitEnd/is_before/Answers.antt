@@ -1,8 +1,6 @@
-use Rattle.std.proofs.Common.{arith, sym, subst}
-use Rattle.std.proofs.lemmas.Bool.{true≢false}
-use Rattle.monk_judge.specs.Ends.{ResumesBy}
-use Rattle.monk_judge.proofs.WaitEnds.{resumes_later, resumes_never}
+use Rattle.std.proofs.{Common.arith, Common.sym, Common.subst, lemmas.Bool.true≢false}
 use Rattle.monk_judge.proofs.wait_end.WaitEnd.is_before.Goals as goal
+use Rattle.monk_judge.{specs.Ends.ResumesBy, proofs.WaitEnds.resumes_later, proofs.WaitEnds.resumes_never}
 
 pub returns-in-Resumes-other-clause-strictly : goal.returns-in-Resumes-other-clause-strictly
 returns-in-Resumes-other-clause-strictly c = λ less no.

@@ -1,7 +1,6 @@
-use Rattle.std.proofs.Common.{take}
-use Rattle.std.specs.Fmt.{HasWritten, IsPlainFormatter}
-use Rattle.monk_object.specs.InWords.{spaced}
+use Rattle.std.{proofs.Common.take, specs.Fmt.HasWritten, specs.Fmt.IsPlainFormatter}
 use Rattle.monk_object.proofs.in_words.ItemsDisplay.fmt.Given as goal
+use Rattle.monk_object.specs.InWords.{spaced}
 
 abbrev pub invariant-loop-item : goal.invariant-loop-item
 invariant-loop-item g l =

@@ -1,11 +1,10 @@
 use Rattle.std.proofs.Common.{◌≡◌, ◌∙◌, ℕ, sym, subst, arith, refl, true, false}
-use Rattle.std.proofs.Output.{has_written_append, has_written_of_eq}
-use Rattle.std.proofs.lemmas.List.{append-nil}
+use Rattle.std.proofs.{Output.has_written_append, Output.has_written_of_eq, lemmas.List.append-nil}
 use Rattle.std.specs.Fmt.{HasWritten}
-use Rattle.monk_object.specs.InWords.{bits_below}
-use Rattle.monk_object.proofs.Printed.{bits_more}
 use Rattle.monk_object.proofs.in_words.SetBitsDisplay.fmt.Goals as goal
 use Rattle.monk_object.proofs.in_words.SetBitsDisplay.fmt.Goals.{then-is_set+in_ok-write, else-is_set}
+use Rattle.monk_object.proofs.Printed.{bits_more}
+use Rattle.monk_object.specs.InWords.{bits_below}
 
 pub loop-place-preserved : goal.loop-place-preserved
 loop-place-preserved g c = λ plain.

@@ -1,10 +1,8 @@
 use Rattle.std.proofs.Common.{sym, ap, subst, ◌∙◌}
 use Rattle.monk_object.specs.Names.{meaning_named}
-use Rattle.monk_samples.specs.Rounds.{visits_of}
-use Rattle.monk_samples.specs.Samples.{sample_object}
-use Rattle.monk_samples.specs.Visits.{HasVisited}
-use Rattle.monk_samples.specs.declared.sample.Sample.{Sample}
 use Rattle.monk_samples.proofs.crew.round.do_round.Goals as goal
+use Rattle.monk_samples.specs.{Rounds.visits_of, Samples.sample_object, Visits.HasVisited}
+use Rattle.monk_samples.specs.{declared.sample.Sample.Sample}
 
 pub trade-requires-clause-object : goal.trade-requires-clause-object
 trade-requires-clause-object g c κs within =

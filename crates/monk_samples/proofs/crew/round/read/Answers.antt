@@ -1,10 +1,7 @@
 use Rattle.std.proofs.Common.{[], ◌∷◌, subst}
-use Rattle.monk_samples.specs.Members.{begins_to_read, ends_to_read}
-use Rattle.monk_samples.specs.Visits.{HasVisited}
-use Rattle.monk_samples.specs.declared.end.End.{End}
-use Rattle.monk_samples.proofs.RoundLaws.{still_of}
-use Rattle.monk_samples.proofs.VisitLaws.{visited_once, visited_twice}
 use Rattle.monk_samples.proofs.crew.round.read.Goals as goal
+use Rattle.monk_samples.proofs.{RoundLaws.still_of, VisitLaws.visited_once, VisitLaws.visited_twice}
+use Rattle.monk_samples.specs.{Members.begins_to_read, Members.ends_to_read, Visits.HasVisited, declared.end.End.End}
 
 pub returns-in-Done : goal.returns-in-Done
 returns-in-Done g c =

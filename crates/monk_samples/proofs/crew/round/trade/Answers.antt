@@ -1,9 +1,7 @@
 use Rattle.std.proofs.Common.{sym, subst}
-use Rattle.monk_samples.specs.Rounds.{visits_of}
-use Rattle.monk_samples.specs.Visits.{HasVisited}
-use Rattle.monk_samples.specs.declared.manner.Manner.{Manner}
-use Rattle.monk_samples.specs.declared.sample.Sample.TheVariants.{Buffer}
 use Rattle.monk_samples.proofs.crew.round.trade.Goals as goal
+use Rattle.monk_samples.specs.{Rounds.visits_of, Visits.HasVisited}
+use Rattle.monk_samples.specs.declared.{manner.Manner.Manner, sample.Sample.TheVariants.Buffer}
 
 pub returns-in-Patient-clause-visited : goal.returns-in-Patient-clause-visited
 returns-in-Patient-clause-visited g c =

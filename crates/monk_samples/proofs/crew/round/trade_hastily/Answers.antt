@@ -1,9 +1,8 @@
 use Rattle.std.proofs.Common.{◌/◌, List, [], ◌∷◌, subst}
-use Rattle.monk_samples.specs.Members.{puts_by, takes_by}
-use Rattle.monk_samples.specs.declared.manner.Manner.TheVariants.{Hasty}
-use Rattle.monk_samples.specs.Visits.{Plan, HasVisited}
-use Rattle.monk_samples.proofs.RoundLaws.{in_first_half, in_other_half}
 use Rattle.monk_samples.proofs.crew.round.trade_hastily.Goals as goal
+use Rattle.monk_samples.proofs.RoundLaws.{in_first_half, in_other_half}
+use Rattle.monk_samples.specs.{declared.manner.Manner.TheVariants.Hasty, Visits.Plan, Visits.HasVisited}
+use Rattle.monk_samples.specs.Members.{puts_by, takes_by}
 
 pub returns-then-seat-rota-clause-visited : goal.returns-then-seat-rota-clause-visited
 returns-then-seat-rota-clause-visited g c =

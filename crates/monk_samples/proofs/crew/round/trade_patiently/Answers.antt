@@ -1,8 +1,7 @@
 use Rattle.std.proofs.Common.{◌/◌, List, [], ◌∷◌, subst}
-use Rattle.monk_samples.specs.Members.{puts, takes}
-use Rattle.monk_samples.specs.Visits.{Plan, HasVisited}
-use Rattle.monk_samples.proofs.RoundLaws.{in_first_half, in_other_half}
 use Rattle.monk_samples.proofs.crew.round.trade_patiently.Goals as goal
+use Rattle.monk_samples.proofs.RoundLaws.{in_first_half, in_other_half}
+use Rattle.monk_samples.specs.{Members.puts, Members.takes, Visits.Plan, Visits.HasVisited}
 
 pub returns-then-seat-rota-clause-visited : goal.returns-then-seat-rota-clause-visited
 returns-then-seat-rota-clause-visited g c =

@@ -2,13 +2,11 @@ use Rattle.std.proofs.Common.{◌≡◌, ℕ, zero, suc, false, nat_eq, List, []
 use Rattle.std.specs.Prelude.{if◌then◌else◌}
 use Rattle.monk_kinds.specs.declared.mode.Rules.{Rules}
 use Rattle.monk_hall.specs.declared.setting.Setting.{Setting}
-use Rattle.monk_samples.specs.Members.{sits, departs, calls, finishes}
-use Rattle.monk_samples.specs.Rounds.{visits_of}
-use Rattle.monk_samples.specs.Visits.{Plan, HasVisited}
-use Rattle.monk_samples.specs.declared.manner.Manner.{Manner}
-use Rattle.monk_samples.specs.declared.sample.Sample.TheVariants.{Shop}
-use Rattle.monk_samples.proofs.RoundLaws.{still_of}
 use Rattle.monk_samples.proofs.crew.round.visit_shop.Goals as goal
+use Rattle.monk_samples.proofs.RoundLaws.{still_of}
+use Rattle.monk_samples.specs.{Rounds.visits_of, declared.manner.Manner.Manner, declared.sample.Sample.TheVariants.Shop}
+use Rattle.monk_samples.specs.Members.{sits, departs, calls, finishes}
+use Rattle.monk_samples.specs.Visits.{Plan, HasVisited}
 
 module _ (m : Manner) (k : Rules) (c : Setting) (seats seat round : ℕ) where
   -- the round of the barber

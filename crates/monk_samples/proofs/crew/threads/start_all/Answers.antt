@@ -1,11 +1,9 @@
 use Rattle.std.proofs.Common.{◌≡◌, ◌∷◌, ◌++◌, map, sym, ap, ◌∙◌, append-nil}
-use Rattle.std.specs.Prelude.{vec_items}
-use Rattle.std.specs.Vec.Iter.{into_iter_items}
-use Rattle.std.proofs.lemmas.List.{nil_from_length}
-use Rattle.monk_samples.specs.Crews.{IsReady}
+use Rattle.std.{specs.Prelude.vec_items, specs.Vec.Iter.into_iter_items, proofs.lemmas.List.nil_from_length}
+use Rattle.monk_samples.proofs.crew.threads.start_all.Goals as goal
 use Rattle.monk_samples.proofs.EndLaws.{if_err, is_memory, is_thread}
 use Rattle.monk_samples.proofs.RunLaws.{one_more, first_of, rest_of, same_all, none_yet, mapped_more}
-use Rattle.monk_samples.proofs.crew.threads.start_all.Goals as goal
+use Rattle.monk_samples.specs.Crews.{IsReady}
 
 pub loop-worker-init : goal.loop-worker-init
 loop-worker-init g c =

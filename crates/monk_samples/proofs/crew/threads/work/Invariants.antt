@@ -1,6 +1,5 @@
-use Rattle.monk_samples.specs.Crews.{IsOf}
-use Rattle.monk_samples.specs.Rounds.{HasDoneRounds, round_of}
 use Rattle.monk_samples.proofs.crew.threads.work.Given as goal
+use Rattle.monk_samples.specs.{Crews.IsOf, Rounds.HasDoneRounds, Rounds.round_of}
 
 abbrev pub invariant-loop-done : goal.invariant-loop-done
 invariant-loop-done g l = let k = g.K.Kind.rules in let p = l.initial.pass in

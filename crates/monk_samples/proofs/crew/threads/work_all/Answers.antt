@@ -1,12 +1,9 @@
-use Rattle.std.proofs.Common.{List, sym, subst}
+use Rattle.std.proofs.{Common.List, Common.sym, Common.subst, lemmas.List.Elements.All-pop}
 use Rattle.std.specs.Prelude.{option_to_list}
-use Rattle.std.proofs.lemmas.List.Elements.{All-pop}
 use Rattle.monk_hall.specs.Tokens.{Token}
-use Rattle.monk_samples.specs.Crews.{IsReady}
-use Rattle.monk_samples.specs.Ends.{HaveServed, IsFaultOfCrew}
-use Rattle.monk_samples.proofs.EndLaws.{all_served, fault_then, if_err}
-use Rattle.monk_samples.proofs.RunLaws.{if_ok}
 use Rattle.monk_samples.proofs.crew.threads.work_all.Goals as goal
+use Rattle.monk_samples.proofs.{EndLaws.all_served, EndLaws.fault_then, EndLaws.if_err, RunLaws.if_ok}
+use Rattle.monk_samples.specs.{Crews.IsReady, Ends.HaveServed, Ends.IsFaultOfCrew}
 
 pub workers-requires-after_bounds : goal.workers-requires-after_bounds
 workers-requires-after_bounds g c κs within =

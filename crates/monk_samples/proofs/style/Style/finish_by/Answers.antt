@@ -1,11 +1,9 @@
 use Rattle.std.proofs.Common.{◌≡◌, List, refl, sym, subst}
 use Rattle.monk_kinds.specs.declared.mode.Mode.TheVariants.{Automatic, ImmediateReturn}
-use Rattle.monk_history.specs.declared.event.Event.{Event}
-use Rattle.monk_history.specs.declared.event.Event.TheVariants.{SignalLeave}
-use Rattle.monk_history.specs.declared.event.Next.TheVariants.{Stay}
-use Rattle.monk_samples.specs.Styles.{HasGoneBy}
-use Rattle.monk_samples.proofs.StyleLaws.{gone, left, out_at_once, out_automatic}
+use Rattle.monk_history.specs.declared.event.{Event.Event, Event.TheVariants.SignalLeave, Next.TheVariants.Stay}
 use Rattle.monk_samples.proofs.style.Style.finish_by.Goals as goal
+use Rattle.monk_samples.proofs.StyleLaws.{gone, left, out_at_once, out_automatic}
+use Rattle.monk_samples.specs.Styles.{HasGoneBy}
 
 pub returns-in-Automatic : goal.returns-in-Automatic
 returns-in-Automatic g c =

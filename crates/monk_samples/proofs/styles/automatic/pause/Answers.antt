@@ -1,9 +1,7 @@
 use Rattle.std.proofs.Common.{arith, ◌<◌, ◌+◌, ◌≤◌, length, refl}
-use Rattle.monk_history.specs.declared.event.Event.TheVariants.{Until}
-use Rattle.monk_history.specs.declared.event.Next.TheVariants.{Stay}
-use Rattle.monk_samples.proofs.StyleLaws.{went_on, given_up, paused}
-use Rattle.monk_samples.proofs.AwaitLaws.{until_held}
+use Rattle.monk_history.specs.declared.event.{Event.TheVariants.Until, Next.TheVariants.Stay}
 use Rattle.monk_samples.proofs.styles.automatic.pause.Goals as goal
+use Rattle.monk_samples.proofs.{StyleLaws.went_on, StyleLaws.given_up, StyleLaws.paused, AwaitLaws.until_held}
 
 pub returns-then-left-lt3-clause-paused : goal.returns-then-left-lt3-clause-paused
 returns-then-left-lt3-clause-paused g c =

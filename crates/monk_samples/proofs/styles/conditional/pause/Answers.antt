@@ -1,8 +1,7 @@
 use Rattle.std.proofs.Common.{arith, ◌<◌, ◌+◌, ◌≤◌, length, refl}
-use Rattle.monk_history.specs.declared.event.Event.TheVariants.{Wait}
-use Rattle.monk_history.specs.declared.event.Next.TheVariants.{Stay}
-use Rattle.monk_samples.proofs.StyleLaws.{came_back, given_up, paused}
+use Rattle.monk_history.specs.declared.event.{Event.TheVariants.Wait, Next.TheVariants.Stay}
 use Rattle.monk_samples.proofs.styles.conditional.pause.Goals as goal
+use Rattle.monk_samples.proofs.StyleLaws.{came_back, given_up, paused}
 
 pub returns-then-left-lt3 : goal.returns-then-left-lt3
 returns-then-left-lt3 g c =

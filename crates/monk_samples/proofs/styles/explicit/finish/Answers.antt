@@ -1,8 +1,7 @@
 use Rattle.std.proofs.Common.{arith, ◌<◌, ◌+◌, length, refl}
-use Rattle.monk_history.specs.declared.event.Event.TheVariants.{Signal}
-use Rattle.monk_history.specs.declared.event.Next.TheVariants.{Stay}
-use Rattle.monk_samples.proofs.StyleLaws.{went_on, given_up, called_out}
+use Rattle.monk_history.specs.declared.event.{Event.TheVariants.Signal, Next.TheVariants.Stay}
 use Rattle.monk_samples.proofs.styles.explicit.finish.Goals as goal
+use Rattle.monk_samples.proofs.StyleLaws.{went_on, given_up, called_out}
 
 pub returns-then-left-lt3 : goal.returns-then-left-lt3
 returns-then-left-lt3 g c =

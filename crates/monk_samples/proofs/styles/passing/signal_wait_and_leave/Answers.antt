@@ -1,9 +1,8 @@
 use Rattle.std.proofs.Common.{arith, ◌<◌, ◌+◌, length, refl}
 use Rattle.monk_kinds.specs.declared.mode.Pick.TheVariants.{Waiter}
-use Rattle.monk_history.specs.declared.event.Event.TheVariants.{SignalWait}
-use Rattle.monk_history.specs.declared.event.Next.TheVariants.{Stay}
-use Rattle.monk_samples.proofs.StyleLaws.{called_out, came_back, given_up}
+use Rattle.monk_history.specs.declared.event.{Event.TheVariants.SignalWait, Next.TheVariants.Stay}
 use Rattle.monk_samples.proofs.styles.passing.signal_wait_and_leave.Goals as goal
+use Rattle.monk_samples.proofs.StyleLaws.{called_out, came_back, given_up}
 
 pub returns-then-left-lt3 : goal.returns-then-left-lt3
 returns-then-left-lt3 g c =

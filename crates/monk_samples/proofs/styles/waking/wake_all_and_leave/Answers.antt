@@ -1,9 +1,8 @@
 use Rattle.std.proofs.Common.{arith, ◌<◌, ◌+◌, length}
 use Rattle.monk_kinds.specs.declared.mode.Pick.TheVariants.{Waiter}
 use Rattle.monk_history.specs.declared.event.Event.TheVariants.{SignalAll}
-use Rattle.monk_samples.proofs.StyleLaws.{called_out, given_up}
-use Rattle.monk_samples.proofs.TrailLaws.{woke}
 use Rattle.monk_samples.proofs.styles.waking.wake_all_and_leave.Goals as goal
+use Rattle.monk_samples.proofs.{StyleLaws.called_out, StyleLaws.given_up, TrailLaws.woke}
 
 pub returns-then-left-lt2 : goal.returns-then-left-lt2
 returns-then-left-lt2 g c =

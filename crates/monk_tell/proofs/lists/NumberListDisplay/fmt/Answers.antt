@@ -1,8 +1,7 @@
 use Rattle.std.proofs.Common.{◌++◌, refl, codes}
-use Rattle.std.proofs.Output.{has_written_append, has_written_of_eq}
-use Rattle.std.specs.Fmt.{decimal}
-use Rattle.monk_tell.proofs.ListLaws.{printed_more}
+use Rattle.std.{proofs.Output.has_written_append, proofs.Output.has_written_of_eq, specs.Fmt.decimal}
 use Rattle.monk_tell.proofs.lists.NumberListDisplay.fmt.Goals as goal
+use Rattle.monk_tell.proofs.ListLaws.{printed_more}
 
 pub loop-number-preserved : goal.loop-number-preserved
 loop-number-preserved g c = λ plain.

@@ -1,7 +1,6 @@
-use Rattle.std.proofs.Common.{take}
-use Rattle.std.specs.Fmt.{HasWritten, IsPlainFormatter}
-use Rattle.monk_tell.specs.Words.{numbers_text}
+use Rattle.std.{proofs.Common.take, specs.Fmt.HasWritten, specs.Fmt.IsPlainFormatter}
 use Rattle.monk_tell.proofs.lists.NumberListDisplay.fmt.Given as goal
+use Rattle.monk_tell.specs.Words.{numbers_text}
 
 abbrev pub invariant-loop-number : goal.invariant-loop-number
 invariant-loop-number g l =

@@ -1,9 +1,8 @@
 use Rattle.std.proofs.Common.{◌∙◌, List, ap}
 use Rattle.std.specs.List.{position}
 use Rattle.monk_audit.specs.Replay.{has}
-use Rattle.monk_tell.specs.declared.lists.SeatList.{SeatList}
-use Rattle.monk_tell.proofs.LineLaws.{waits_of_lists}
 use Rattle.monk_tell.proofs.queues.Conditions.of_seat.Goals as goal
+use Rattle.monk_tell.{specs.declared.lists.SeatList.SeatList, proofs.LineLaws.waits_of_lists}
 
 pub returns : goal.returns
 returns c =

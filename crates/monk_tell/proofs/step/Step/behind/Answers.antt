@@ -1,14 +1,11 @@
 use Rattle.std.proofs.Common.{◌∙◌, [], Some, ap, arith, get_or, refl}
 use Rattle.monk_kinds.specs.Names.{rules_named}
-use Rattle.monk_history.specs.declared.event.Event.TheVariants.{Enter}
-use Rattle.monk_history.specs.declared.event.Via.TheVariants.{Free}
-use Rattle.monk_history.specs.Meaning.Monitor.{monitor}
-use Rattle.monk_history.specs.Meaning.Named.{named_monitor}
+use Rattle.monk_history.specs.Meaning.{Monitor.monitor, Named.named_monitor}
+use Rattle.monk_history.specs.declared.event.{Event.TheVariants.Enter, Via.TheVariants.Free}
 use Rattle.monk_audit.specs.Replay.{replay_situation}
-use Rattle.monk_tell.specs.Steps.{step_by}
-use Rattle.monk_tell.proofs.StepLaws.{event_told, judged_before, next_allowed}
-use Rattle.monk_tell.proofs.TellLaws.{in_range_fits}
 use Rattle.monk_tell.proofs.step.Step.behind.Goals as goal
+use Rattle.monk_tell.proofs.{StepLaws.event_told, StepLaws.judged_before, StepLaws.next_allowed, TellLaws.in_range_fits}
+use Rattle.monk_tell.specs.Steps.{step_by}
 
 pub bounds-history-before : goal.bounds-history-before
 bounds-history-before g c =

@@ -1,8 +1,7 @@
-use Rattle.std.specs.Prelude.{Ok, Err}
-use Rattle.std.proofs.lemmas.Result.{err_from_is_err_and}
-use Rattle.monk_world.specs.declared.play.reading.TheConstants.{MOST_COMMANDS}
-use Rattle.monk_world.proofs.PlayLaws.PlayText.{play_read, is_exact, is_fault, is_only}
+use Rattle.std.{specs.Prelude.Ok, specs.Prelude.Err, proofs.lemmas.Result.err_from_is_err_and}
 use Rattle.monk_world.proofs.play.reading.read_play.Goals as goal
+use Rattle.monk_world.proofs.PlayLaws.PlayText.{play_read, is_exact, is_fault, is_only}
+use Rattle.monk_world.specs.declared.play.reading.TheConstants.{MOST_COMMANDS}
 
 pub returns-in_err-head-clause-only : goal.returns-in_err-head-clause-only
 returns-in_err-head-clause-only c =

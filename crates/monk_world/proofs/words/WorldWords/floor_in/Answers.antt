@@ -1,10 +1,9 @@
 use Rattle.std.proofs.Common.{cond, refl, ap, ◌∙◌}
-use Rattle.monk_world.specs.declared.place.Place.{Place}
-use Rattle.monk_world.specs.declared.place.Place.TheVariants.{Back}
-use Rattle.monk_world.proofs.StoredLaws.{settled, place_read}
-use Rattle.monk_world.proofs.words.WorldWords.floor_in.Goals as goal
-use Rattle.monk_history.specs.Meaning.Events.{is_stay}
 use Rattle.std.specs.Prelude.{Some}
+use Rattle.monk_world.proofs.words.WorldWords.floor_in.Goals as goal
+use Rattle.monk_world.proofs.StoredLaws.{settled, place_read}
+use Rattle.monk_world.specs.declared.place.Place.{Place, TheVariants.Back}
+use Rattle.monk_history.specs.Meaning.Events.{is_stay}
 
 pub returns-clause-shows : goal.returns-clause-shows
 returns-clause-shows c =

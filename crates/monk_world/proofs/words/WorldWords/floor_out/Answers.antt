@@ -1,11 +1,9 @@
 use Rattle.std.proofs.Common.{ℕ, set, Bool, false, refl, ap, ◌∙◌}
 use Rattle.std.specs.Prelude.{slice_index_or}
-use Rattle.monk_world.specs.Update.{update}
-use Rattle.monk_world.specs.WorldViews.{world_on, state_in}
-use Rattle.monk_world.specs.declared.place.Place.{Place}
-use Rattle.monk_world.specs.declared.place.Place.TheVariants.{Active}
-use Rattle.monk_world.proofs.StoredLaws.{place_stored, known_stored}
 use Rattle.monk_world.proofs.words.WorldWords.floor_out.Goals as goal
+use Rattle.monk_world.proofs.StoredLaws.{place_stored, known_stored}
+use Rattle.monk_world.specs.{Update.update, declared.place.Place.Place, declared.place.Place.TheVariants.Active}
+use Rattle.monk_world.specs.WorldViews.{world_on, state_in}
 
 pub returns-clause-shows : goal.returns-clause-shows
 returns-clause-shows c =

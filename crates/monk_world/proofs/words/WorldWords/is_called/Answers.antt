@@ -1,7 +1,6 @@
 use Rattle.std.proofs.Common.{ℕ, ◌+◌, ◌==◌, ap, ◌∙◌}
-use Rattle.monk_world.specs.WorldViews.{world_on}
-use Rattle.monk_world.proofs.StoredLaws.{call_read, count_read}
 use Rattle.monk_world.proofs.words.WorldWords.is_called.Goals as goal
+use Rattle.monk_world.{specs.WorldViews.world_on, proofs.StoredLaws.call_read, proofs.StoredLaws.count_read}
 
 pub returns : goal.returns
 returns c =

@@ -1,8 +1,7 @@
 use Rattle.std.proofs.Common.{ℕ, ◌||◌, Bool, false, refl, ap, ◌∙◌}
 use Rattle.std.specs.Prelude.{nat_le, slice_index_or}
-use Rattle.monk_world.specs.WorldViews.{state_in}
-use Rattle.monk_world.proofs.StoredLaws.{known_stored, known_read}
 use Rattle.monk_world.proofs.words.WorldWords.peek.Goals as goal
+use Rattle.monk_world.{specs.WorldViews.state_in, proofs.StoredLaws.known_stored, proofs.StoredLaws.known_read}
 
 pub returns-clause-shows : goal.returns-clause-shows
 returns-clause-shows c =

@@ -1,11 +1,9 @@
 use Rattle.std.proofs.Common.{ℕ, ◌+◌, set, refl, ap, ◌∙◌}
 use Rattle.std.specs.Prelude.{slice_index_or}
-use Rattle.monk_world.specs.Update.{update}
-use Rattle.monk_world.specs.Places.{place_of}
-use Rattle.monk_world.specs.WorldViews.{world_on, state_in}
-use Rattle.monk_world.specs.declared.place.Place.{Place}
-use Rattle.monk_world.proofs.StoredLaws.{place_stored, call_stored, call_read}
 use Rattle.monk_world.proofs.words.WorldWords.seat_grant.Goals as goal
+use Rattle.monk_world.proofs.StoredLaws.{place_stored, call_stored, call_read}
+use Rattle.monk_world.specs.{Update.update, Places.place_of, declared.place.Place.Place}
+use Rattle.monk_world.specs.WorldViews.{world_on, state_in}
 
 pub returns-clause-shows : goal.returns-clause-shows
 returns-clause-shows c =

@@ -1,11 +1,9 @@
 use Rattle.std.proofs.Common.{◌≡◌, ℕ, ◌+◌, ◌==◌, set, Bool, refl, ap, ◌∙◌}
 use Rattle.std.specs.Prelude.{slice_index_or}
-use Rattle.monk_world.specs.Update.{update}
-use Rattle.monk_world.specs.Steps.{place_after_seat_look, count_after_seat_look}
-use Rattle.monk_world.specs.WorldViews.{world_on, state_in}
-use Rattle.monk_world.specs.declared.place.Place.{Place}
-use Rattle.monk_world.proofs.StoredLaws.{place_stored, count_stored, count_read}
 use Rattle.monk_world.proofs.words.WorldWords.seat_look.Goals as goal
+use Rattle.monk_world.proofs.StoredLaws.{place_stored, count_stored, count_read}
+use Rattle.monk_world.specs.{Update.update, WorldViews.world_on, WorldViews.state_in, declared.place.Place.Place}
+use Rattle.monk_world.specs.Steps.{place_after_seat_look, count_after_seat_look}
 
 pub returns-clause-shows : goal.returns-clause-shows
 returns-clause-shows c =

@@ -1,9 +1,7 @@
 use Rattle.std.proofs.Common.{ℕ, ◌+◌, ◌%◌, ◌==◌, Bool, refl, ap, ◌∙◌}
-use Rattle.monk_world.specs.Steps.{place_after_ticket_look}
-use Rattle.monk_world.specs.WorldViews.{world_on, state_in}
-use Rattle.monk_world.specs.declared.place.Place.{Place}
-use Rattle.monk_world.proofs.StoredLaws.{place_stored}
 use Rattle.monk_world.proofs.words.WorldWords.ticket_look.Goals as goal
+use Rattle.monk_world.{specs.Steps.place_after_ticket_look, specs.WorldViews.world_on, specs.WorldViews.state_in}
+use Rattle.monk_world.{specs.declared.place.Place.Place, proofs.StoredLaws.place_stored}
 
 pub returns-clause-shows : goal.returns-clause-shows
 returns-clause-shows c =

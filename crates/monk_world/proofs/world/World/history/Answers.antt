@@ -1,12 +1,9 @@
 use Rattle.std.proofs.Common.{subst, length, ◌≤◌}
 use Rattle.monk_world.proofs.world.World.history.Goals as goal
-use Rattle.monk_history.specs.Limits.{most_lines}
-use Rattle.monk_history.specs.Meaning.Legal.{IsLegal}
+use Rattle.monk_world.proofs.{BoundLaws.few_events, RunLaws.well_led}
+use Rattle.monk_world.specs.{Runs.IsWellLed, WorldViews.WorldView, WorldViews.state_of_view, WorldViews.view_in}
+use Rattle.monk_history.specs.{Limits.most_lines, Meaning.Legal.IsLegal}
 use Rattle.monk_floor.specs.View.{monitor_of}
-use Rattle.monk_world.specs.Runs.{IsWellLed}
-use Rattle.monk_world.specs.WorldViews.{WorldView, state_of_view, view_in}
-use Rattle.monk_world.proofs.BoundLaws.{few_events}
-use Rattle.monk_world.proofs.RunLaws.{well_led}
 
 pub returns-clause-legal : goal.returns-clause-legal
 returns-clause-legal g c =

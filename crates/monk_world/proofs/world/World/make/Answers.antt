@@ -1,9 +1,7 @@
 use Rattle.std.proofs.Common.{ℕ, sym, subst}
 use Rattle.monk_world.proofs.WorldLaws as world
 use Rattle.monk_world.proofs.world.World.make.Goals as goal
-use Rattle.monk_world.specs.Kept.{IsKept}
-use Rattle.monk_world.specs.State.{State}
-use Rattle.monk_world.specs.WorldViews.{state_in}
+use Rattle.monk_world.specs.{Kept.IsKept, State.State, WorldViews.state_in}
 
 pub invariant_of-result : goal.invariant_of-result
 invariant_of-result g c =

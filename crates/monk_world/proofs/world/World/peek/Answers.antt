@@ -1,10 +1,9 @@
 use Rattle.std.proofs.Common.{sym, ap, ◌∙◌}
+use Rattle.std.specs.Prelude.{◌==◌}
 use Rattle.monk_world.specs.declared.command.Command.TheVariants as command
 use Rattle.monk_world.proofs.StateSteps as world
 use Rattle.monk_world.proofs.world.World.peek.Goals as goal
-use Rattle.std.specs.Prelude.{◌==◌}
-use Rattle.monk_world.specs.Places.{stage, active_stage}
-use Rattle.monk_world.specs.declared.place.Place.{Place}
+use Rattle.monk_world.specs.{Places.stage, Places.active_stage, declared.place.Place.Place}
 
 pub invariant_of-self : goal.invariant_of-self
 invariant_of-self g c =

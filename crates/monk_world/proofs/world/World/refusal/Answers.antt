@@ -1,18 +1,16 @@
 use Rattle.std.proofs.Common.{rules, ◌≡◌, ℕ, ◌≤◌, true, refl, sym, ap, ◌∙◌, arith}
+use Rattle.std.specs.Prelude.{slice_index_or, nat_lt, ◌&&◌, false}
 use Rattle.monk_kinds.specs.declared.mode.Rules.{Rules}
 use Rattle.monk_object.specs.Object.{Object}
 use Rattle.monk_floor.specs.View.{FloorView}
 use Rattle.monk_history.specs.Meaning.Counts.{left_of}
-use Rattle.monk_world.specs.declared.command.Command.{Command}
-use Rattle.monk_world.specs.StepTable.{may_be_told, is_call_in_range, is_call_offered, call_of, left_for}
 use Rattle.monk_world.specs.declared.command.Command.TheVariants as command
 use Rattle.monk_world.specs.declared.place.Place.TheVariants as place
 use Rattle.monk_world.proofs.WorldLaws as world
 use Rattle.monk_world.proofs.world.World.refusal.Goals as goal
 use Rattle.monk_world.specs.Telling as telling
-use Rattle.std.specs.Prelude.{slice_index_or, nat_lt, ◌&&◌, false}
-use Rattle.monk_world.specs.WorldViews.{state_of_view}
-use Rattle.monk_world.specs.declared.place.Place.{Place}
+use Rattle.monk_world.specs.{declared.command.Command.Command, declared.place.Place.Place, WorldViews.state_of_view}
+use Rattle.monk_world.specs.StepTable.{may_be_told, is_call_in_range, is_call_offered, call_of, left_for}
 
 reach : (o : Object) (f : FloorView) (seat : ℕ) (c : Command) (conds codes predicates : ℕ) → nat_lt seat f.seats ≡ true
     → conds ≡ f.conds → o.codes ≡ codes → o.predicates ≡ predicates

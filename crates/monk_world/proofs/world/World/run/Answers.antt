@@ -1,14 +1,10 @@
 use Rattle.std.proofs.Common.{ℕ, List, sym, subst, take, get_or}
 use Rattle.std.proofs.lemmas.List.{take_all, take_more}
-use Rattle.monk_world.specs.Telling.{IsLed}
-use Rattle.monk_world.specs.Sound.{Sound}
-use Rattle.monk_world.specs.WorldViews.{WorldView, state_of_view}
-use Rattle.monk_world.specs.declared.command.Command.{Command}
-use Rattle.monk_world.specs.declared.command.Command.TheVariants.{Arrive}
-use Rattle.monk_world.proofs.LedLaws.{led_more}
-use Rattle.monk_world.proofs.RecordLaws.{keeps_version, runs_are_recorded}
-use Rattle.monk_world.proofs.RunLaws.{run_is_sound, well_led}
 use Rattle.monk_world.proofs.world.World.run.Goals as goal
+use Rattle.monk_world.proofs.{LedLaws.led_more, RunLaws.run_is_sound, RunLaws.well_led}
+use Rattle.monk_world.proofs.RecordLaws.{keeps_version, runs_are_recorded}
+use Rattle.monk_world.specs.{Telling.IsLed, Sound.Sound, WorldViews.WorldView, WorldViews.state_of_view}
+use Rattle.monk_world.specs.declared.command.Command.{Command, TheVariants.Arrive}
 
 pub loop-seat-preserved : goal.loop-seat-preserved
 loop-seat-preserved g c =

@@ -1,7 +1,6 @@
 use Rattle.std.proofs.Common.{take}
-use Rattle.monk_world.specs.Telling.{IsLed}
-use Rattle.monk_world.specs.WorldViews.{state_of_view}
 use Rattle.monk_world.proofs.world.World.run.Given as goal
+use Rattle.monk_world.specs.{Telling.IsLed, WorldViews.state_of_view}
 
 abbrev pub invariant-loop-seat : goal.invariant-loop-seat
 invariant-loop-seat g l =

@@ -1,10 +1,8 @@
 use Rattle.std.proofs.Common.{subst}
-use Rattle.monk_world.specs.Sound.{Sound}
-use Rattle.monk_world.specs.WorldViews.{WorldView, state_of_view}
-use Rattle.monk_world.proofs.LedLaws.{so_far_all, so_far_more}
-use Rattle.monk_world.proofs.RecordLaws.{keeps_version, runs_are_recorded}
-use Rattle.monk_world.proofs.RunLaws.{run_is_sound, well_led}
 use Rattle.monk_world.proofs.world.World.run_lines.Goals as goal
+use Rattle.monk_world.proofs.{LedLaws.so_far_all, LedLaws.so_far_more, RunLaws.run_is_sound, RunLaws.well_led}
+use Rattle.monk_world.proofs.RecordLaws.{keeps_version, runs_are_recorded}
+use Rattle.monk_world.specs.{Sound.Sound, WorldViews.WorldView, WorldViews.state_of_view}
 
 pub loop-told-preserved : goal.loop-told-preserved
 loop-told-preserved g c =

@@ -1,7 +1,6 @@
 use Rattle.std.proofs.Common.{length}
-use Rattle.monk_world.specs.WorldViews.{state_of_view}
-use Rattle.monk_world.proofs.LedLaws.{IsLedSoFar}
 use Rattle.monk_world.proofs.world.World.run_lines.Given as goal
+use Rattle.monk_world.{specs.WorldViews.state_of_view, proofs.LedLaws.IsLedSoFar}
 
 abbrev pub invariant-loop-told : goal.invariant-loop-told
 invariant-loop-told g l =

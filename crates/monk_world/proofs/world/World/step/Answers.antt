@@ -1,8 +1,7 @@
 use Rattle.std.proofs.Common.{subst}
-use Rattle.monk_world.specs.Sound.{Sound}
-use Rattle.monk_world.specs.WorldViews.{WorldView, state_of_view}
-use Rattle.monk_world.proofs.RecordLaws.{steps_are_taken}
 use Rattle.monk_world.proofs.world.World.step.Goals as goal
+use Rattle.monk_world.proofs.RecordLaws.{steps_are_taken}
+use Rattle.monk_world.specs.{Sound.Sound, WorldViews.WorldView, WorldViews.state_of_view}
 
 pub returns-clause-taken : goal.returns-clause-taken
 returns-clause-taken g c =

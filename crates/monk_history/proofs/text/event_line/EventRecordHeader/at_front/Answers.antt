@@ -1,8 +1,7 @@
 use Rattle.std.proofs.Common.{◌≤◌, ℕ, subst}
 use Rattle.std.specs.Prelude.{IfSome}
-use Rattle.monk_history.specs.Text.{first_version}
-use Rattle.monk_history.proofs.TextLaws.FrontLaws.{event_read}
 use Rattle.monk_history.proofs.text.event_line.EventRecordHeader.at_front.Goals as goal
+use Rattle.monk_history.{specs.Text.first_version, proofs.TextLaws.FrontLaws.event_read}
 
 pub returns : goal.returns
 returns g c =

@@ -1,7 +1,6 @@
 use Rattle.std.proofs.Common.{◌∙◌, ap}
-use Rattle.monk_history.specs.Text.Reading.{heading_of}
-use Rattle.monk_history.proofs.TextLaws.HeaderReading.{first_is}
 use Rattle.monk_history.proofs.text.header.Header.new.Goals as goal
+use Rattle.monk_history.{specs.Text.Reading.heading_of, proofs.TextLaws.HeaderReading.first_is}
 
 pub returns : goal.returns
 returns c =

@@ -1,8 +1,6 @@
 use Rattle.std.proofs.Common.{arith}
-use Rattle.monk_history.specs.Limits.{all_events_version}
-use Rattle.monk_history.specs.Text.{heading}
-use Rattle.monk_history.proofs.TextLaws.Upgrading.{all_writable}
 use Rattle.monk_history.proofs.text.header.Header.upgraded.Goals as goal
+use Rattle.monk_history.{specs.Limits.all_events_version, specs.Text.heading, proofs.TextLaws.Upgrading.all_writable}
 
 pub returns-then-self-ge-ALL_EVENTS_VERSION-clause-all : goal.returns-then-self-ge-ALL_EVENTS_VERSION-clause-all
 returns-then-self-ge-ALL_EVENTS_VERSION-clause-all c =

@@ -1,6 +1,5 @@
-use Rattle.monk_history.specs.Text.Lines.{items_left}
-use Rattle.monk_history.proofs.TextLaws.LineSteps.{IsBehind}
 use Rattle.monk_history.proofs.text.lines.checked.check_items.Given as goal
+use Rattle.monk_history.{specs.Text.Lines.items_left, proofs.TextLaws.LineSteps.IsBehind}
 
 abbrev pub invariant-loop : goal.invariant-loop
 invariant-loop g l =

@@ -1,7 +1,6 @@
 use Rattle.std.proofs.Common.{List, ℕ, ap, ◌∙◌}
-use Rattle.monk_history.specs.Text.Words.{words_of, is_next}
-use Rattle.monk_history.proofs.TextLaws.NextWords.{is_next-other}
 use Rattle.monk_history.proofs.text.lines.front.left_behind_word.Goals as goal
+use Rattle.monk_history.{specs.Text.Words.words_of, specs.Text.Words.is_next, proofs.TextLaws.NextWords.is_next-other}
 
 pub returns-in_err-behind : goal.returns-in_err-behind
 returns-in_err-behind c =

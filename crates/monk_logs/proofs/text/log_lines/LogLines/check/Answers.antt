@@ -1,9 +1,8 @@
 use Rattle.std.proofs.Common.{sym, ap, ◌∙◌}
 use Rattle.std.proofs.lemmas.Result.{err_from_is_err_and}
-use Rattle.monk_logs.specs.declared.text.reading.TheConstants.{MOST_LOG_LINES}
-use Rattle.monk_logs.specs.Log.Reading.{log_at}
-use Rattle.monk_logs.proofs.LogLaws.LogText.{log_again, log_read}
 use Rattle.monk_logs.proofs.text.log_lines.LogLines.check.Goals as goal
+use Rattle.monk_logs.proofs.LogLaws.LogText.{log_again, log_read}
+use Rattle.monk_logs.specs.{declared.text.reading.TheConstants.MOST_LOG_LINES, Log.Reading.log_at}
 
 pub returns-in_err-lines-clause-only : goal.returns-in_err-lines-clause-only
 returns-in_err-lines-clause-only c =

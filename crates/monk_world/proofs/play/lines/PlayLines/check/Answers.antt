@@ -1,9 +1,8 @@
 use Rattle.std.proofs.Common.{sym, ap, ◌∙◌}
 use Rattle.std.proofs.lemmas.Result.{err_from_is_err_and}
-use Rattle.monk_world.specs.declared.play.reading.TheConstants.{MOST_COMMANDS}
-use Rattle.monk_world.specs.Play.Reading.{play_at}
-use Rattle.monk_world.proofs.PlayLaws.PlayText.{is_exact, is_fault, play_again, play_read}
 use Rattle.monk_world.proofs.play.lines.PlayLines.check.Goals as goal
+use Rattle.monk_world.proofs.PlayLaws.PlayText.{is_exact, is_fault, play_again, play_read}
+use Rattle.monk_world.specs.{declared.play.reading.TheConstants.MOST_COMMANDS, Play.Reading.play_at}
 
 pub returns-in_err-lines-clause-only : goal.returns-in_err-lines-clause-only
 returns-in_err-lines-clause-only c =

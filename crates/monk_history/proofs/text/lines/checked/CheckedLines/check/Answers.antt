@@ -1,8 +1,7 @@
-use Rattle.std.proofs.Common.{sym, subst}
-use Rattle.std.proofs.lemmas.Result.{err_from_is_err_and}
-use Rattle.monk_history.specs.Text.Lines.{AreSound, LinesLeft, items_left, items_or_none, lines_of}
-use Rattle.monk_history.proofs.TextLaws.LineSteps.{not_opened, no_items, both_parts}
+use Rattle.std.proofs.{Common.sym, Common.subst, lemmas.Result.err_from_is_err_and}
 use Rattle.monk_history.proofs.text.lines.checked.CheckedLines.check.Goals as goal
+use Rattle.monk_history.proofs.TextLaws.LineSteps.{not_opened, no_items, both_parts}
+use Rattle.monk_history.specs.Text.Lines.{AreSound, LinesLeft, items_left, items_or_none, lines_of}
 
 pub returns-in_err-header : goal.returns-in_err-header
 returns-in_err-header g c =
