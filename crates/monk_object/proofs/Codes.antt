@@ -1,11 +1,12 @@
 -- Cases of an operation's code, and what one operation adds to a count
-use Rattle.std.proofs.Common.{◌≡◌, ℕ, suc, zero, ◌+◌, ◌==◌, Bool, true, false, ◌&&◌, cond, List, ◌∷◌, refl, arith}
+use Rattle.std.proofs.Common.{◌≡◌, ℕ, suc, zero, ◌+◌, ◌==◌, Bool, true, false, ◌&&◌, cond, List, ◌∷◌, arith}
 use Rattle.std.{specs.Prelude.nat_lt, proofs.lemmas.Bool.ne_eqb, proofs.lemmas.List.Sums.sum_by-cons}
 use Rattle.monk_object.specs.Runs.{Answered, is_done, times_done}
+use Rattle.std.proofs.lemmas.Bool.Decides.{nat_tests}
+use Rattle.std.proofs.Common.{rules}
 
 pub both : (a b : Bool) → (a && b) ≡ true → (a ≡ true) × (b ≡ true)
-both true b e = (refl, e)
-both false b e = absurd cc
+both a b e = grind (arith, nat_tests)
 
 pub by_code : (P : ℕ → Type 0) → P 0 → P 1 → P 2 → P 3
     → ((c : ℕ) → (c == 0) ≡ false → (c == 1) ≡ false → (c == 2) ≡ false → (c == 3) ≡ false → P c) → (c : ℕ) → P c
@@ -23,11 +24,7 @@ abbrev pub once : ℕ → ℕ → Bool → ℕ
 once k code served = cond (code == k && nat_lt 0 (cond served 1 0)) 1 0
 
 pub once-false : (k code : ℕ) → once k code false ≡ 0
-once-false k code = by (code == k)
-  where
-    by : (b : Bool) → ◌≡◌ {A = ℕ} (cond (b && nat_lt 0 (cond false 1 0)) 1 0) 0
-    by true = refl
-    by false = refl
+once-false k code = grind (arith, nat_tests)
 
 times_done-cons : (code : ℕ) (act : Answered) (acts : List Answered)
     → times_done code (act ∷ acts) ≡ cond (is_done code act) 1 0 + times_done code acts
@@ -43,7 +40,4 @@ pub counted : (came went : ℕ) (act : Answered) (acts : List Answered) (before 
     → cond (is_done came act) 1 0 + before ≡ cond (is_done went act) 1 0 + between
     → times_done came acts + between ≡ times_done went acts + after
     → times_done came (act ∷ acts) + before ≡ times_done went (act ∷ acts) + after
-counted came went act acts before between after one more =
-    rw (times_done-cons came act acts, times_done-cons went act acts)
-    (joined (cond (is_done came act) 1 0) (cond (is_done went act) 1 0) (times_done came acts) (times_done went acts)
-    before between after one more)
+counted came went act acts before between after one more = search (rules, times_done-cons, joined, cond)

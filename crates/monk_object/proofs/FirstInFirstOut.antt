@@ -6,6 +6,7 @@ use Rattle.std.specs.Prelude.{nat_lt, filter}
 use Rattle.monk_object.specs.{Runs.Answered, Runs.state_after, Runs.answers_of, Runs.is_done, declared.op.Op.Op}
 use Rattle.monk_object.specs.Buffer.{PUT, TAKE, buffer_meaning, items_after, items_reply, take_reply}
 use Rattle.monk_object.specs.Laws.{IsFirstInFirstOut, items_put, items_taken}
+use Rattle.std.proofs.lemmas.Bool.Decides.{nat_tests}
 
 -- from tests for a put, a take and room: the reply, the items after, and the items put and taken
 abbrev reply_by : Bool → Bool → Bool → List ℕ → ℕ
@@ -23,30 +24,17 @@ taken_by take reply = cond (take && nat_lt 0 reply) ((reply - 1) ∷ []) []
 step_by : (put take room : Bool) (items : List ℕ) (arg : ℕ) → (put ≡ true → take ≡ false)
     → items ++ put_by put (reply_by put take room items) arg ≡ taken_by take (reply_by put take room items)
     ++ after_by put take room items arg
-step_by true true room items arg one = let f : true ≡ false = one refl in absurd cc
-step_by true false true items arg one = refl
-step_by true false false items arg one = append-nil items
-step_by false true room [] arg one = refl
-step_by false true room (x ∷ xs) arg one =
-    let above : nat_lt 0 (x + 1) ≡ true = lt-ltb 0 (x + 1) (omega arith) in
-    let item : x + 1 - 1 ≡ x = omega arith in
-    rw (above, item) (append-nil (x ∷ xs))
-step_by false false room items arg one = append-nil items
+step_by put take room items arg one = grind (arith, nat_tests, append-nil, lt-ltb)
 
 fits_by : (size : ℕ) (put take room : Bool) (items : List ℕ) (arg : ℕ) → length items ≤ size
     → (room ≡ true → length items < size)
     → length (after_by put take room items arg) ≤ size
-fits_by size true take true items arg fits less = omega (arith, less refl, length-append items (arg ∷ []))
-fits_by size true take false items arg fits less = fits
-fits_by size false true room [] arg fits less = fits
-fits_by size false true room (x ∷ xs) arg fits less = omega arith
-fits_by size false false room items arg fits less = fits
+fits_by size put take room items arg fits less = grind (arith, nat_tests, length-append)
 
 -- a list with one more operation in front
 mapped : (f : Answered → ℕ) (b : Bool) (act : Answered) (acts : List Answered)
     → map f (cond b (act ∷ acts) acts) ≡ cond b (f act ∷ []) [] ++ map f acts
-mapped f true act acts = refl
-mapped f false act acts = refl
+mapped f b act acts = grind (arith, nat_tests)
 
 not_both : (code : ℕ) → (code == PUT) ≡ true → (code == TAKE) ≡ false
 not_both code e = ne_eqb code TAKE (λ h. let z : code ≡ 0 = eqb-true code 0 e in omega arith)

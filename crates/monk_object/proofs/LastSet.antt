@@ -1,10 +1,11 @@
 -- The bits of flags are those of the last set that was done
-use Rattle.std.proofs.Common.{◌≡◌, ℕ, ◌^◌, ◌<◌, ◌==◌, Bool, true, false, ◌&&◌, cond, List, [], ◌∷◌, ◌++◌}
+use Rattle.std.proofs.Common.{◌≡◌, ℕ, ◌^◌, ◌<◌, ◌==◌, Bool, true, false, ◌&&◌, cond, List, [], ◌∷◌, ◌++◌, arith}
 use Rattle.std.proofs.Common.{map, refl, ap, ◌∙◌, pow_pos}
 use Rattle.std.{specs.Prelude.nat_lt, specs.Prelude.filter, proofs.lemmas.Bool.ltb-true}
 use Rattle.monk_object.{specs.Flags.SET, specs.Flags.flags_meaning, specs.Flags.flags_after, specs.Flags.flags_reply}
 use Rattle.monk_object.{specs.Laws.HoldsTheLastSet, specs.Laws.bits_set, specs.Runs.Answered, specs.Runs.state_after}
 use Rattle.monk_object.{specs.Runs.answers_of, specs.Runs.is_done, specs.declared.op.Op.Op, proofs.Codes.both}
+use Rattle.std.proofs.lemmas.Bool.Decides.{nat_tests}
 
 -- from a state with these bits
 record Run (size bits : ℕ) (start : List ℕ) (ops : List Op) : Type 0 where
@@ -23,18 +24,15 @@ bits_by served arg bits = cond served arg bits
 
 front : (b : Bool) (act : Answered) (acts : List Answered)
     → map (λ a. a.op.arg) (cond b (act ∷ acts) acts) ≡ cond b (act.op.arg ∷ []) [] ++ map (λ a. a.op.arg) acts
-front true act acts = refl
-front false act acts = refl
+front b act acts = grind (arith, nat_tests)
 
 next_state : (served : Bool) (size bits arg : ℕ)
     → cond served (size ∷ arg ∷ []) (size ∷ bits ∷ []) ≡ size ∷ bits_by served arg bits ∷ []
-next_state true size bits arg = refl
-next_state false size bits arg = refl
+next_state served size bits arg = grind (arith, nat_tests)
 
 next_within : (served : Bool) (size bits arg : ℕ) → bits < 2 ^ size → (served ≡ true → arg < 2 ^ size)
     → bits_by served arg bits < 2 ^ size
-next_within true size bits arg within less = less refl
-next_within false size bits arg within less = within
+next_within served size bits arg within less = grind (arith, nat_tests)
 
 -- the bits before, those set by the operation and those set later
 record Goes (bits : ℕ) (set later : List ℕ) (last : ℕ) : Type 0 where

@@ -1,10 +1,11 @@
 -- What a loop that prints has written after one more item
 use Rattle.std.proofs.Common.{◌≡◌, ℕ, ◌+◌, ◌<◌, Bool, cond, suc, List, [], ◌∷◌, ◌++◌, length, take, get_or}
-use Rattle.std.proofs.Common.{sym, ap, subst, arith, ◌∙◌, append_assoc}
+use Rattle.std.proofs.Common.{sym, ap, arith, ◌∙◌, append_assoc}
 use Rattle.std.specs.Prelude.{◌==◌, codes}
 use Rattle.std.proofs.lemmas.List.{append-nil, take_more}
 use Rattle.std.specs.{Fmt.decimal, Int.bit_at, List.flat_map}
 use Rattle.monk_object.specs.InWords.{bits_below}
+use Rattle.std.proofs.lemmas.Bool.Decides.{nat_tests}
 
 one_more : {X : Type 0} (f : X → List ℕ) (xs : List X) (x : X) → flat_map f (xs ++ x ∷ []) ≡ flat_map f xs ++ f x
 one_more f [] x = append-nil (f x)
@@ -24,7 +25,4 @@ bits_next bits i b is = ap (λ (c : Bool). bits_below bits i ++ cond c (codes " 
 -- the bits below a place, and the one there
 pub bits_more : (bits i : ℕ) (b : Bool) → (bit_at bits i == 1) ≡ b
     → bits_below bits (i + 1) ≡ bits_below bits i ++ cond b (codes " " ++ decimal i) []
-bits_more bits i b is =
-    let e : suc i ≡ i + 1 = omega arith in
-    subst (λ (n : ℕ). bits_below bits n ≡ bits_below bits i ++ cond b (codes " " ++ decimal i) []) e
-    (bits_next bits i b is)
+bits_more bits i b is = grind (arith, nat_tests, ℕ, cond, bits_next)

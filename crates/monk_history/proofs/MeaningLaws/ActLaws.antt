@@ -1,7 +1,6 @@
 -- The acts of a legal history are a run of its object, so the laws of the object hold for them
-use Rattle.std.proofs.Common.{◌≡◌, ℕ, true, Option, Some, None, ◌==◌, List, [], ◌∷◌, ◌++◌, map, refl, sym, ap, subst, ◌∙◌}
-use Rattle.std.proofs.lemmas.{Bool.eqb-true, Grind.flat_map-append, List.map-append, List.Sums.fold-append}
-use Rattle.std.specs.Option.{option_map_or, option_to_list}
+use Rattle.std.proofs.Common.{◌≡◌, ℕ, true, List, [], ◌∷◌, ◌++◌, map, refl, sym, ap, subst, ◌∙◌}
+use Rattle.std.proofs.lemmas.{Grind.flat_map-append, List.map-append, List.Sums.fold-append}
 use Rattle.monk_kinds.specs.declared.mode.Rules.{Rules}
 use Rattle.monk_object.proofs.PublicLaws.{first_in_first_out, exclusive, customers, last_set}
 use Rattle.monk_object.specs.{Object.Object, Runs.Answered, Runs.answers_of, Runs.state_after}
@@ -11,11 +10,13 @@ use Rattle.monk_object.specs.declared.name.ObjectName.TheVariants.{Buffer, Book,
 use Rattle.monk_object.specs.declared.op.Op.{Op}
 use Rattle.monk_history.proofs.MeaningLaws.{HistoryLaws.history_induction, TurnLaws.data-push}
 use Rattle.monk_history.proofs.MeaningLaws.LegalLaws.{legal_front, legal_last}
-use Rattle.monk_history.specs.Meaning.{Events.answered_act, Legal.IsLegal, Reasons.is_right_reply}
+use Rattle.monk_history.specs.Meaning.{Legal.IsLegal, Reasons.is_right_reply}
 use Rattle.monk_history.specs.Meaning.Acts.{act_of, acts_in, ops_in, IsRunOf, IsInOrder, ExcludesEachOther}
 use Rattle.monk_history.specs.Meaning.Acts.{ServesEachOne, HoldsLastSet}
 use Rattle.monk_history.specs.Meaning.Monitor.{Monitor, monitor, data_after, data_of}
 use Rattle.monk_history.specs.declared.event.Event.{Event}
+use Rattle.std.proofs.lemmas.Bool.Decides.{nat_tests}
+use Rattle.std.proofs.Common.{arith}
 
 abbrev ops : List Answered → List Op
 ops acts = map (λ act. act.op) acts
@@ -33,21 +34,11 @@ ops-push : (h : List Event) (e : Event) → ops_in (h ++ e ∷ []) ≡ ops_in h 
 ops-push h e = ap ops (acts-push h e) ∙ map-append (λ (act : Answered). act.op) (acts_in h) (acts_in (e ∷ []))
 
 data_by : (o : Object) (d : List ℕ) (e : Event) → state_after o d (ops_in (e ∷ [])) ≡ data_after o d e
-data_by o d e = one (answered_act e)
-  where
-    one : (a : Option Answered)
-        → state_after o d (ops (option_to_list a ++ [])) ≡ option_map_or (λ act. o.after d act.op) a d
-    one None = refl
-    one (Some act) = refl
+data_by o d e = grind (arith, nat_tests)
 
 reply_by : (o : Object) (d : List ℕ) (e : Event) → is_right_reply o d e ≡ true
     → answers_of o d (ops_in (e ∷ [])) ≡ acts_in (e ∷ [])
-reply_by o d e = one (answered_act e)
-  where
-    one : (a : Option Answered) → option_map_or (λ act. act.reply == o.reply d act.op) a true ≡ true
-        → answers_of o d (ops (option_to_list a ++ [])) ≡ option_to_list a ++ []
-    one None h = refl
-    one (Some act) h = ap (λ n. record { op = act.op; reply = n } ∷ []) (sym (eqb-true act.reply (o.reply d act.op) h))
+reply_by o d e h = grind (arith, nat_tests)
 
 data_none : (m : Monitor) → state_after m.object m.opening (ops_in []) ≡ data_of m []
 unfolding data_of

@@ -1,15 +1,14 @@
 -- A seat that goes on from a wait-until waits for what holds
 use Rattle.std.proofs.Common.{◌≡◌, ℕ, ◌+◌, ◌<◌, Bool, true, false, cond, ◌&&◌, ◌==◌, Option, Some, None, List}
 use Rattle.std.proofs.Common.{[], ◌∷◌, ◌++◌}
-use Rattle.std.proofs.Common.{length, get_or, ◌-◌, take, refl, sym, ap, subst, ◌∙◌, arith, eq-eqb}
-use Rattle.std.proofs.lemmas.{Bool.false≢true, Bool.eqb-true, Option.slice_get_within, Option.slice_get-get_or}
+use Rattle.std.proofs.Common.{length, get_or, ◌-◌, take, refl, sym, ap, ◌∙◌, arith, eq-eqb}
+use Rattle.std.proofs.lemmas.{Bool.false≢true, Option.slice_get_within, Option.slice_get-get_or}
 use Rattle.std.specs.{List.list_any, Option.option_map_or}
 use Rattle.std.specs.Prelude.{slice_get, is_some, filter, map}
 use Rattle.monk_kinds.specs.declared.mode.Rules.{Rules}
 use Rattle.monk_object.specs.Object.{Object}
-use Rattle.monk_history.proofs.MeaningLaws.HandOverLaws.{take_more_by_one, same_queue, or_left, or_right, both, by_stay}
+use Rattle.monk_history.proofs.MeaningLaws.HandOverLaws.{take_more_by_one, or_left, or_right, both, by_stay}
 use Rattle.monk_history.proofs.MeaningLaws.TurnLaws.{turn-push, data-push}
-use Rattle.monk_history.proofs.MeaningLaws.TestLaws.{and_left, and_right}
 use Rattle.monk_history.specs.Meaning.{Situation.situation, Reasons.is_due, Legal.IsLegal, Promises.AwaitsWhatHolds}
 use Rattle.monk_history.specs.Meaning.{Promises.ThePredicateHolds, Untils.untils, Untils.ready_of}
 use Rattle.monk_history.specs.Meaning.Choice.{Queues, queues_at, may_choose, may_signal, must_stay, is_front}
@@ -18,11 +17,11 @@ use Rattle.monk_history.specs.Meaning.Turn.{turn, turn_by}
 use Rattle.monk_history.specs.Meaning.Events.{seat_of, next_of, is_stay, steps_back, answered_act}
 use Rattle.monk_history.specs.declared.event.From3.{From3, TheVariants.Until as FromUntil}
 use Rattle.monk_history.specs.declared.event.Next.{Next}
-use Rattle.monk_history.specs.declared.event.Next.TheVariants.{Stay, Entry, Waiter, Signaller, Until as UntilSeat}
-use Rattle.monk_history.specs.declared.event.Turn.{Turn, TheVariants.Open, TheVariants.Due, TheVariants.Owned}
+use Rattle.monk_history.specs.declared.event.Next.TheVariants.{Until as UntilSeat}
+use Rattle.monk_history.specs.declared.event.Turn.{Turn, TheVariants.Due}
 use Rattle.monk_history.specs.declared.event.Event.{Event}
-use Rattle.monk_history.specs.declared.event.Event.TheVariants.{Enter, Act, Leave, Wait, Signal, SignalLeave, Until}
-use Rattle.monk_history.specs.declared.event.Event.TheVariants.{Resume, SignalAll, SignalWait}
+use Rattle.monk_history.specs.declared.event.Event.TheVariants.{Resume}
+use Rattle.std.proofs.lemmas.Bool.Decides.{nat_tests}
 
 -- seat s is among these waits, with a predicate that holds
 abbrev AwaitsAmong : Object → List ℕ → ℕ → List (ℕ × ℕ) → Type 0
@@ -51,43 +50,18 @@ ready_front o d s (u ∷ us) h = ready_by o d s u us (o.holds d u.1) refl (λ g.
 -- a seat that was chosen from the waits-until was the first of the ready seats
 until_chosen : (k : Rules) (q : Queues) (s : ℕ) (b : Bool) (x : Option Next) (j : ℕ) → x ≡ Some (UntilSeat j)
     → option_map_or (λ n. cond b (may_signal k q s n) (may_choose k q s n)) x true ≡ true → is_front j q.ready ≡ true
-until_chosen k q s b None j e p = absurd (cc)
-until_chosen k q s b (Some Stay) j e p = absurd (cc)
-until_chosen k q s b (Some Entry) j e p = absurd (cc)
-until_chosen k q s b (Some (Waiter i)) j e p = absurd (cc)
-until_chosen k q s b (Some (Signaller i)) j e p = absurd (cc)
-until_chosen k q s true (Some (UntilSeat i)) j e p = let same : i ≡ j = cc in
-    subst (λ z. is_front z q.ready ≡ true) same (and_right _ _ p)
-until_chosen k q s false (Some (UntilSeat i)) j e p = let same : i ≡ j = cc in
-    subst (λ z. is_front z q.ready ≡ true) same (and_right _ _ p)
+until_chosen k q s b x j e p = grind (arith, nat_tests)
 
 -- if the turn is due from the waits-until, the event chose that
 due_from_until : (s j : ℕ) (x : Option Next) → turn_by s x ≡ Due j FromUntil → x ≡ Some (UntilSeat j)
-due_from_until s j None e = absurd (cc)
-due_from_until s j (Some Stay) e = absurd (cc)
-due_from_until s j (Some Entry) e = absurd (cc)
-due_from_until s j (Some (Waiter i)) e = absurd (cc)
-due_from_until s j (Some (Signaller i)) e = absurd (cc)
-due_from_until s j (Some (UntilSeat i)) e = let same : i ≡ j = cc in ap (λ z. Some (UntilSeat z)) same
+due_from_until s j x e = grind (arith, nat_tests)
 
 -- an event that chooses does nothing on the object
 choice_without_act : (e : Event) (x : Next) → next_of e ≡ Some x → answered_act e ≡ None
-choice_without_act (Enter s via) x h = refl
-choice_without_act (Act s op r) x h = absurd (cc)
-choice_without_act (Leave s y) x h = refl
-choice_without_act (Wait s c y) x h = refl
-choice_without_act (Signal s c y) x h = refl
-choice_without_act (SignalLeave s c y) x h = refl
-choice_without_act (Until s p y) x h = refl
-choice_without_act (Resume s q) x h = refl
-choice_without_act (SignalAll s c) x h = refl
-choice_without_act (SignalWait s c d y) x h = refl
+choice_without_act e x h = grind (arith, nat_tests)
 
 resume_is_due : (s : ℕ) (q : From3) (t : Turn) → is_due s q t ≡ true → t ≡ Due s q
-resume_is_due s q Open h = absurd (false≢true h)
-resume_is_due s q (Due j r) h =
-    ap (λ z. Due z r) (eqb-true j s (and_left _ _ h)) ∙ ap (Due s) (sym (same_queue q r (and_right _ _ h)))
-resume_is_due s q (Owned j) h = absurd (false≢true h)
+resume_is_due s q t h = grind (arith, nat_tests)
 
 awaits_what_holds : (m : Monitor) (h : List Event) (i s : ℕ) (e : Event) → IsLegal m h → slice_get h i ≡ Some e
     → slice_get h (i + 1) ≡ Some (Resume s FromUntil) → (p : ℕ) × AwaitsWhatHolds m h i s p

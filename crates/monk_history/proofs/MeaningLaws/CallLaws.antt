@@ -11,6 +11,7 @@ use Rattle.monk_history.specs.declared.event.Turn.{Turn, TheVariants.Open, TheVa
 use Rattle.monk_history.specs.declared.event.Event.{Event}
 use Rattle.monk_history.specs.declared.event.Event.TheVariants.{Enter, Leave, Wait, Signal, SignalLeave, Until}
 use Rattle.monk_history.specs.declared.event.Event.TheVariants.{SignalWait}
+use Rattle.std.proofs.lemmas.Bool.Decides.{nat_tests}
 
 owned : (s : ℕ) (t : Turn) → t ≡ Owned s → is_owned_by s t ≡ true
 owned s t e = ap (is_owned_by s) e ∙ eq-eqb s s refl
@@ -19,29 +20,19 @@ lt_is : (x n : ℕ) → x < n → nat_lt x n ≡ true
 lt_is x n h = grind (arith, h)
 
 one_seat : (a : Bool) → a ≡ true → (a && true && true && true && true) ≡ true
-one_seat true h = refl
-one_seat false h = h
+one_seat a h = cc
 
 seat_and : (a b : Bool) → a ≡ true → b ≡ true → (a && true && b && true && true) ≡ true
-seat_and true true h k = refl
-seat_and true false h k = k
-seat_and false b h k = h
+seat_and a b h k = cc
 
 seat_then : (a b : Bool) → a ≡ true → b ≡ true → (a && true && true && b && true) ≡ true
-seat_then true true h k = refl
-seat_then true false h k = k
-seat_then false b h k = h
+seat_then a b h k = cc
 
 seat_both : (a b c : Bool) → a ≡ true → b ≡ true → c ≡ true → (a && true && b && c && true) ≡ true
-seat_both true true true h k l = refl
-seat_both true true false h k l = l
-seat_both true false c h k l = k
-seat_both false b c h k l = h
+seat_both a b c h k l = cc
 
 seat_last : (a b : Bool) → a ≡ true → b ≡ true → (a && true && true && true && b) ≡ true
-seat_last true true h k = refl
-seat_last true false h k = k
-seat_last false b h k = h
+seat_last a b h k = cc
 
 -- the seat that owns the turn may call
 pub may_leave : (m : Monitor) (h : List Event) (s : ℕ) → turn h ≡ Owned s → s < m.seats → MayCall m h (Leave s Stay)
@@ -104,8 +95,7 @@ may_until m h s p t l k o =
     }
 
 queued_by : (b : Bool) (x y : ℕ) → x + y ≡ cond b 1 0 → (b && not (nat_lt 0 y)) ≡ nat_lt 0 x
-queued_by true x y h = grind (arith, h)
-queued_by false x y h = grind (arith, h)
+queued_by b x y h = grind (arith, nat_tests)
 
 -- a seat is in a queue if, and only if, it is inside and doesn't have the turn
 pub queued_is : (n s : ℕ) (t : Situation) → IsPlaced n t
@@ -116,8 +106,7 @@ opened : (t : Turn) → t ≡ Open → is_open t ≡ true
 opened t e = ap is_open e
 
 both_true : (a b : Bool) → a ≡ true → b ≡ true → (a && b) ≡ true
-both_true true b h k = k
-both_true false b h k = h
+both_true a b h k = cc
 
 -- a seat that is outside may enter if the turn is open
 pub may_enter_handed : (m : Monitor) (h : List Event) (s : ℕ) → turn h ≡ Open → s < m.seats → is_inside s h ≡ false

@@ -6,6 +6,7 @@ use Rattle.std.{proofs.lemmas.List.Sums.count_by-le-length, proofs.Math.Nat.mul-
 use Rattle.monk_history.specs.{Limits.most_seats, Limits.most_budget, Limits.most_lines, declared.event.Event.Event}
 use Rattle.monk_history.specs.Meaning.{Events.seat_of, Standing.times}
 use Rattle.monk_history.specs.Meaning.Counts.{events_of, is_enter, enters_of, grants, granted_of}
+use Rattle.std.proofs.lemmas.Bool.Decides.{nat_tests}
 
 abbrev pub total : ℕ → (ℕ → ℕ) → ℕ
 total zero f = 0
@@ -61,8 +62,7 @@ length_total n (x ∷ xs) h =
     (cases_lt x n)
 
 filter_one : (b : Bool) (e : Event) (es ds : List Event) → cond b (e ∷ (es ++ ds)) (es ++ ds) ≡ cond b (e ∷ es) es ++ ds
-filter_one true e es ds = refl
-filter_one false e es ds = refl
+filter_one b e es ds = grind (arith, nat_tests)
 
 filter-push : (p : Event → Bool) (h : List Event) (e : Event)
     → filter p (h ++ e ∷ []) ≡ filter p h ++ cond (p e) (e ∷ []) []
@@ -76,14 +76,11 @@ unfolding events_of
 events_of-push h e s = filter-push (λ x. seat_of x == s) h e
 
 one_or_none : (b : Bool) (e : Event) → length (cond b (e ∷ []) []) ≡ cond b 1 0
-one_or_none true e = refl
-one_or_none false e = refl
+one_or_none b e = grind (arith, nat_tests)
 
 pub length-events_of-push : (h : List Event) (e : Event) (s : ℕ)
     → length (events_of (h ++ e ∷ []) s) ≡ length (events_of h s) + cond (seat_of e == s) 1 0
-length-events_of-push h e s = ap length (events_of-push h e s)
-    ∙ (length-append (events_of h s) (cond (seat_of e == s) (e ∷ []) [])
-    ∙ ap (λ n. length (events_of h s) + n) (one_or_none (seat_of e == s) e))
+length-events_of-push h e s = grind (arith, nat_tests, events_of-push, length-append, one_or_none)
 
 pub enters_of-push : (h : List Event) (e : Event) → enters_of (h ++ e ∷ []) ≡ enters_of h + cond (is_enter e) 1 0
 unfolding enters_of
@@ -95,8 +92,7 @@ unfolding granted_of
 granted_of-push h e s = sum_by-append (λ x. cond (grants s x) 1 0) h (e ∷ []) ∙ omega arith
 
 one_more : (b : Bool) (e : Event) (es : List Event) → length (cond b (e ∷ es) es) ≡ cond b 1 0 + length es
-one_more true e es = omega arith
-one_more false e es = omega arith
+one_more b e es = grind (arith, nat_tests)
 
 -- a seat has as many events as it comes up among the seats of all events
 pub length-events_of : (h : List Event) (s : ℕ) → length (events_of h s) ≡ times s (map seat_of h)

@@ -1,6 +1,6 @@
 -- How often a seat is in the queues, before and after an event
-use Rattle.std.proofs.Common.{◌≡◌, ◌≢◌, ℕ, ◌+◌, ◌<◌, ◌≤◌, zero, suc, Bool, true, false, cond, ◌&&◌, ◌||◌, not, eqb}
-use Rattle.std.proofs.Common.{◌==◌, Option, Some, None, List, [], ◌∷◌, ◌++◌, length, drop, refl, sym, ap, subst}
+use Rattle.std.proofs.Common.{◌≡◌, ◌≢◌, ℕ, ◌+◌, ◌<◌, ◌≤◌, zero, suc, Bool, true, false, cond, ◌&&◌, ◌||◌, not}
+use Rattle.std.proofs.Common.{◌==◌, Option, Some, None, List, [], ◌∷◌, ◌++◌, length, drop, refl, ap}
 use Rattle.std.proofs.Common.{◌∙◌, arith, map, ⊎_elim, eq-eqb, ◌⊎◌}
 use Rattle.std.proofs.lemmas.Bool.{false≢true, cases_lt, eqb-true, Decides.eqb_tells}
 use Rattle.std.specs.Prelude.{filter}
@@ -17,7 +17,8 @@ use Rattle.monk_history.specs.Meaning.Events.{has_conditions}
 use Rattle.monk_history.specs.declared.event.{From3.From3, Event.Event}
 use Rattle.monk_history.specs.declared.event.Next.{Next}
 use Rattle.monk_history.specs.declared.event.Next.TheVariants.{Stay, Entry, Waiter, Signaller, Until as UntilSeat}
-use Rattle.monk_history.specs.declared.event.Turn.{Turn, TheVariants.Open, TheVariants.Due, TheVariants.Owned}
+use Rattle.monk_history.specs.declared.event.Turn.{Turn}
+use Rattle.std.proofs.lemmas.Bool.Decides.{nat_tests}
 
 pub times-append : (s : ℕ) (xs ys : List ℕ) → times s (xs ++ ys) ≡ times s xs + times s ys
 times-append s [] ys = omega arith
@@ -25,8 +26,7 @@ times-append s (x ∷ xs) ys = omega (arith, times-append s xs ys)
 
 -- the front goes
 pub times_front : (s j : ℕ) (xs : List ℕ) → is_front j xs ≡ true → cond (j == s) 1 0 + times s (drop 1 xs) ≡ times s xs
-times_front s j [] h = absurd (false≢true h)
-times_front s j (x ∷ xs) h = ap (λ n. cond (n == s) 1 0 + times s xs) (sym (eqb-true x j h))
+times_front s j xs h = grind (arith, nat_tests)
 
 -- those served leave the queue
 pub times_served : (s : ℕ) (e : Event) (q : List ℕ)
@@ -36,12 +36,10 @@ times_served s e q =
 
 times_when : (s : ℕ) (b : Bool) (e : Event) (q : List ℕ)
     → times s (drop (length (cond b (served_of e q) [])) q) + cond b (times s (served_of e q)) 0 ≡ times s q
-times_when s true e q = times_served s e q
-times_when s false e q = omega arith
+times_when s b e q = grind (arith, nat_tests, times_served)
 
 times_cond : (s : ℕ) (b : Bool) (x : ℕ) → times s (cond b (x ∷ []) []) ≡ cond b (cond (x == s) 1 0) 0
-times_cond s true x = omega arith
-times_cond s false x = refl
+times_cond s b x = grind (arith, nat_tests)
 
 -- the value of f at the condition that an option names, as a sum over all conditions
 abbrev pub sum_at : ℕ → Option ℕ → (ℕ → ℕ) → ℕ
@@ -77,8 +75,7 @@ sum_one (suc n) c f l =
     (cases_lt c n)
 
 sum_is : (n : ℕ) (o : Option ℕ) (f : ℕ → ℕ) → is_condition n o ≡ true → sum_at n o f ≡ value_at o f
-sum_is n None f h = sum_none n f
-sum_is n (Some c) f h = sum_one n c f (grind (arith, h))
+sum_is n o f h = grind (arith, nat_tests, sum_none, sum_one)
 
 -- over all conditions: those served are gone, and the seat that waits has joined
 conditions_move : (n s : ℕ) (e : Event) (q : ℕ → List ℕ)
@@ -97,22 +94,14 @@ conditions_move (suc n) s e q =
 
 serves_value : (s : ℕ) (o : Option ℕ) (e : Event) (q : ℕ → List ℕ)
     → times s (served_at q o e) ≡ value_at o (λ c. times s (served_of e (q c)))
-serves_value s None e q = refl
-serves_value s (Some c) e q = refl
+serves_value s o e q = grind (arith, nat_tests)
 
 -- the same, if both conditions are in range
 pub conditions_total : (n s : ℕ) (e : Event) (q : ℕ → List ℕ) → is_condition n (signals_on e) ≡ true
     → is_condition n (waits_on e) ≡ true
     → times_in_conditions n s (λ c. drop (length (served_by c e (q c))) (q c) ++ waiting_by c e) + times s
     (serves q e) ≡ times_in_conditions n s q + value_at (waits_on e) (λ c. cond (seat_of e == s) 1 0)
-conditions_total n s e q h k =
-    omega (
-      arith,
-      conditions_move n s e q,
-      sum_is n (signals_on e) (λ c. times s (served_of e (q c))) h,
-      sum_is n (waits_on e) (λ c. cond (seat_of e == s) 1 0) k,
-      serves_value s (signals_on e) e q,
-    )
+conditions_total n s e q h k = grind (arith, nat_tests, conditions_move, sum_is, serves_value)
 
 pub untils_kept : (s : ℕ) (us : List (ℕ × ℕ))
     → times s (map (λ w. w.0) (filter (λ w. true) us)) ≡ times s (map (λ w. w.0) us)
@@ -122,12 +111,10 @@ untils_kept s (w ∷ us) = omega (arith, untils_kept s us)
 filter_step : (s : ℕ) (w : ℕ × ℕ) (us vs : List (ℕ × ℕ)) (b : Bool)
     → times s (map (λ u. u.0) (cond (not b) (w ∷ us) vs)) ≡ cond b (times s (map (λ u. u.0) vs))
     (cond (w.0 == s) 1 0 + times s (map (λ u. u.0) us))
-filter_step s w us vs true = refl
-filter_step s w us vs false = refl
+filter_step s w us vs b = grind (arith, nat_tests)
 
 cond_both : (b : Bool) (x y z : ℕ) → (b ≡ true → x ≡ z) → (b ≡ false → y ≡ z) → cond b x y ≡ z
-cond_both true x y z f g = f refl
-cond_both false x y z f g = g refl
+cond_both b x y z f g = grind (arith, nat_tests)
 
 -- a chosen seat leaves the waits-until, and every other stays
 untils_other : (s j : ℕ) (us : List (ℕ × ℕ)) → j ≢ s
@@ -151,8 +138,7 @@ untils_gone s (w ∷ us) =
 ready_case : (o : Object) (d : List ℕ) (w : ℕ × ℕ) (us : List (ℕ × ℕ)) (j : ℕ) (b : Bool)
     → is_front j (map (λ v. v.0) (cond b (w ∷ filter (λ v. o.holds d v.1) us) (filter (λ v. o.holds d v.1) us))) ≡ true
     → (is_front j (ready_of o d us) ≡ true → 1 ≤ times j (map (λ w. w.0) us)) → 1 ≤ times j (map (λ w. w.0) (w ∷ us))
-ready_case o d w us j true h f = omega (arith, cond_true (w.0 == j) 1 h)
-ready_case o d w us j false h f = omega (arith, f h)
+ready_case o d w us j b h f = grind (arith, nat_tests)
 
 pub ready_there : (o : Object) (d : List ℕ) (us : List (ℕ × ℕ)) (j : ℕ) → is_front j (ready_of o d us) ≡ true
     → 1 ≤ times j (map (λ w. w.0) us)
@@ -163,16 +149,7 @@ ready_there o d (w ∷ us) j h = ready_case o d w us j (o.holds d w.1) h (ready_
 untils_chosen : (s j : ℕ) (us : List (ℕ × ℕ)) → times j (map (λ w. w.0) us) ≡ 1
     → times s (map (λ w. w.0) (filter (λ w. not (j == w.0)) us)) + cond (j == s) 1 0 ≡ times s (map (λ w. w.0) us)
 untils_chosen s j us h =
-    ⊎_elim
-    (λ e. let f : j ≡ s = eqb-true j s e.0 in
-    subst (λ i. times i (map (λ w. w.0) (filter (λ w. not (j == w.0)) us)) + cond (j == i) 1 0
-    ≡ times i (map (λ w. w.0) us)) f
-    (omega (arith, untils_gone j us, cond_true (j == j) 1 (eq-eqb j j refl), h)))
-    (λ e. omega (arith, untils_other s j us e.1, cond_false (j == s) 1 e.0))
-    (eqb_tells_both j s)
-  where
-    eqb_tells_both : (a b : ℕ) → ((eqb a b ≡ true) × (a ≡ b)) ⊎ ((eqb a b ≡ false) × (a ≢ b))
-    eqb_tells_both a b = eqb_tells a b
+    grind (arith, nat_tests, eqb-true, untils_gone, cond_true, eq-eqb, untils_other, cond_false, eqb_tells)
 
 -- the chosen seat moves from its queue to the turn
 pub release : (k : Rules) (ws ss rs : List ℕ) (us : List (ℕ × ℕ)) (v : ℕ) (x : Next) (b : Bool) (s : ℕ)
@@ -198,40 +175,25 @@ untils_total s [] vs = omega arith
 untils_total s (w ∷ us) vs = omega (arith, untils_total s us vs)
 
 pub at_most_one : (b : Bool) → cond b 1 0 ≤ 1
-at_most_one true = omega arith
-at_most_one false = omega arith
+at_most_one b = grind (arith, nat_tests)
 
 pub open_turn : (s : ℕ) (t : Turn) → is_open t ≡ true → has_turn s t ≡ 0
-open_turn s Open h = refl
-open_turn s (Due j q) h = absurd (false≢true h)
-open_turn s (Owned j) h = absurd (false≢true h)
+open_turn s t h = grind (arith, nat_tests)
 
 pub owned_turn : (s v : ℕ) (t : Turn) → is_owned_by v t ≡ true → has_turn s t ≡ cond (v == s) 1 0
-owned_turn s v Open h = absurd (false≢true h)
-owned_turn s v (Due j q) h = absurd (false≢true h)
-owned_turn s v (Owned j) h = ap (λ i. cond (i == s) 1 0) (eqb-true j v h)
+owned_turn s v t h = grind (arith, nat_tests)
 
 pub due_turn : (s v : ℕ) (q : From3) (t : Turn) → is_due v q t ≡ true → has_turn s t ≡ cond (v == s) 1 0
-due_turn s v q Open h = absurd (false≢true h)
-due_turn s v q (Due j r) h = ap (λ i. cond (i == s) 1 0) (eqb-true j v (and_left _ _ h))
-due_turn s v q (Owned j) h = absurd (false≢true h)
+due_turn s v q t h = grind (arith, nat_tests)
 
 pub count_in : (b c : Bool) → (c ≡ true → b ≡ false) → cond ((b && true) || c) 1 0 ≡ cond b 1 0 + cond c 1 0
-count_in true true f = absurd (false≢true (sym (f refl)))
-count_in true false f = omega arith
-count_in false true f = omega arith
-count_in false false f = omega arith
+count_in b c f = grind (arith, nat_tests)
 
 pub count_out : (b c : Bool) → cond c 1 0 ≤ cond b 1 0 → cond ((b && not c) || false) 1 0 + cond c 1 0 ≡ cond b 1 0
-count_out true true l = omega arith
-count_out true false l = omega arith
-count_out false true l = absurd (omega arith)
-count_out false false l = omega arith
+count_out b c l = grind (arith, nat_tests)
 
 pub count_same : (b : Bool) → cond {A = ℕ} ((b && true) || false) 1 0 ≡ cond {A = ℕ} b 1 0
-count_same true = refl
-count_same false = refl
+count_same b = grind (arith, nat_tests)
 
 pub not_true : (b : Bool) → not b ≡ true → b ≡ false
-not_true true h = absurd (false≢true h)
-not_true false h = refl
+not_true b h = grind (arith, nat_tests)

@@ -1,85 +1,44 @@
 -- If entry is chosen, nobody could be chosen from a queue, unless somebody is known to wait for entry
-use Rattle.std.proofs.Common.{◌≡◌, ◌≢◌, ℕ, Bool, true, false, cond, not, ◌==◌, Option, Some, None, List, [], ◌∷◌, ◌++◌}
-use Rattle.std.proofs.Common.{drop, map, refl, sym, ap, ◌∙◌}
-use Rattle.std.{specs.Prelude.filter, specs.Prelude.nat_le, proofs.lemmas.Bool.false≢true}
-use Rattle.monk_kinds.specs.declared.mode.Pick.{Pick, TheVariants.Entry as WishEntry, TheVariants.Waiter as WishWaiter}
-use Rattle.monk_kinds.specs.declared.mode.Pick.{TheVariants.Signaller as WishSignaller}
+use Rattle.std.proofs.Common.{◌≡◌, ◌≢◌, ℕ, Bool, true, false, cond, not, Option, Some, None, List, [], ◌∷◌, ◌++◌}
+use Rattle.std.proofs.Common.{drop, map, refl, sym, ap, ◌∙◌, arith}
+use Rattle.std.{specs.Prelude.filter, proofs.lemmas.Bool.false≢true}
+use Rattle.monk_kinds.specs.declared.mode.Pick.{Pick}
 use Rattle.monk_kinds.specs.declared.mode.Rules.{Rules}
 use Rattle.monk_object.specs.Object.{Object}
-use Rattle.monk_history.proofs.MeaningLaws.{StepLaws.legal_situation-push, PathLaws.parts, PathLaws.parts_are}
+use Rattle.monk_history.proofs.MeaningLaws.{StepLaws.legal_situation-push}
 use Rattle.monk_history.proofs.MeaningLaws.QueueSeats.{legal_sorted, sorted_queues}
 use Rattle.monk_history.specs.Meaning.{Monitor.Monitor, Monitor.data_after, Situation.Situation, Situation.situation}
 use Rattle.monk_history.specs.Meaning.{Choice.Queues, Choice.queues_at, Choice.must_stay, Reasons.IsAllowed}
 use Rattle.monk_history.specs.Meaning.{Legal.IsLegal, Release.as_called, Entry.IsQuiet, Entry.AdmitsUnknown}
 use Rattle.monk_history.specs.Meaning.Signallers.{is_empty, takes_signaller}
-use Rattle.monk_history.specs.Meaning.Wish.{inner_waiters, front, waiter_choice, signaller_choice, choice_by}
-use Rattle.monk_history.specs.Meaning.Events.{seat_of, next_of, is_waiter, is_until, is_stay, has_conditions}
+use Rattle.monk_history.specs.Meaning.Wish.{inner_waiters, choice_by}
+use Rattle.monk_history.specs.Meaning.Events.{next_of, is_waiter, is_until, is_stay, has_conditions}
 use Rattle.monk_history.specs.Meaning.Untils.{waits_until, chooses, ready_of}
 use Rattle.monk_history.specs.declared.event.Next.{Next}
-use Rattle.monk_history.specs.declared.event.Next.TheVariants.{Stay, Entry, Waiter, Signaller, Until as UntilSeat}
+use Rattle.monk_history.specs.declared.event.Next.TheVariants.{Stay, Entry}
 use Rattle.monk_history.specs.declared.event.Event.{Event}
 use Rattle.monk_history.specs.declared.event.Event.TheVariants.{Enter, Act, Leave, Wait, Signal, SignalLeave, Until}
 use Rattle.monk_history.specs.declared.event.Event.TheVariants.{Resume, SignalAll, SignalWait}
+use Rattle.std.proofs.lemmas.Bool.Decides.{nat_tests}
 
 -- both inner queues are empty
 record IsAlone (none empty : Bool) : Type 0 where
   waiters : none ≡ true
   signallers : empty ≡ true
 
-alone : (we se sw ws none empty : Bool) (next other : Next) (wish : Pick)
-    → parts we se sw ws none next empty other false wish ≡ Entry → next ≢ Entry → other ≢ Entry → IsAlone none empty
-alone we se sw ws true true next other wish h n o = record { waiters = refl; signallers = refl }
-alone we se sw ws true false next other WishEntry h n o = absurd (o h)
-alone we se sw ws true false next other WishWaiter h n o = absurd (o h)
-alone we se sw ws true false next other WishSignaller h n o = absurd (o h)
-alone we se sw ws false true next other WishEntry h n o = absurd (n h)
-alone we se sw ws false true next other WishWaiter h n o = absurd (n h)
-alone we se sw ws false true next other WishSignaller h n o = absurd (n h)
-alone we se true ws false false next other WishEntry h n o = absurd (n h)
-alone we se false ws false false next other WishEntry h n o = absurd (o h)
-alone we se true ws false false next other WishWaiter h n o = absurd (n h)
-alone we se false ws false false next other WishWaiter h n o = absurd (o h)
-alone we se sw true false false next other WishSignaller h n o = absurd (o h)
-alone we se true false false false next other WishSignaller h n o = absurd (n h)
-alone we se false false false false next other WishSignaller h n o = absurd (o h)
-
-waiter_not_entry : (b : Bool) (i j : ℕ) → cond b (Waiter i) (UntilSeat j) ≢ Entry
-waiter_not_entry true i j e = cc
-waiter_not_entry false i j e = cc
-
-signaller_not_entry : (b : Bool) (i : ℕ) → cond b Stay (Signaller i) ≢ Entry
-signaller_not_entry true i e = cc
-signaller_not_entry false i e = cc
-
 chosen_alone : (k : Rules) (q : Queues) (s : ℕ) (wish : Pick) → choice_by k q s false wish ≡ Entry
     → IsAlone (is_empty (inner_waiters k q)) (is_empty q.signallers)
-chosen_alone k q s wish h =
-    alone (nat_le k.waiter k.entry) (nat_le k.signaller k.entry) (nat_le k.signaller k.waiter)
-    (nat_le k.waiter k.signaller) (is_empty (inner_waiters k q)) (is_empty q.signallers) (waiter_choice k q)
-    (signaller_choice q s) wish
-    (sym (parts_are k q s false wish) ∙ h)
-    (waiter_not_entry (has_conditions k.mode) (front q.waiters) (front q.ready))
-    (signaller_not_entry (front q.signallers == s) (front q.signallers))
+chosen_alone k q s wish h = grind (arith, nat_tests)
 
 empty_is : {X : Type 0} (xs : List X) → is_empty xs ≡ true → xs ≡ []
 empty_is [] h = refl
 empty_is (x ∷ xs) h = absurd (false≢true h)
 
 drop_empty : (b : Bool) (xs : List ℕ) → xs ≡ [] → drop (cond b 1 0) xs ≡ []
-drop_empty true xs h = ap (drop 1) h
-drop_empty false xs h = h
+drop_empty b xs h = grind (arith, nat_tests)
 
 same_queues : (o : Object) (t : Situation) (e : Event) → queues_at o t (as_called e) ≡ queues_at o t e
-same_queues o t (Enter s via) = refl
-same_queues o t (Act s op r) = refl
-same_queues o t (Leave s x) = refl
-same_queues o t (Wait s c x) = refl
-same_queues o t (Signal s c x) = refl
-same_queues o t (SignalLeave s c x) = refl
-same_queues o t (Until s p x) = refl
-same_queues o t (Resume s q) = refl
-same_queues o t (SignalAll s c) = refl
-same_queues o t (SignalWait s c d x) = refl
+same_queues o t e = grind (arith, nat_tests)
 
 -- if nobody was ready, nobody is, when nobody is chosen and nobody ready joins
 some_ready : (o : Object) (d : List ℕ) (w : ℕ × ℕ) (us vs : List (ℕ × ℕ)) (b : Bool)
@@ -87,8 +46,7 @@ some_ready : (o : Object) (d : List ℕ) (w : ℕ × ℕ) (us vs : List (ℕ × 
     → (map (λ (u : ℕ × ℕ). u.0) (filter (λ u. o.holds d u.1) us) ≡ []
     → map (λ (u : ℕ × ℕ). u.0) (filter (λ u. o.holds d u.1) vs) ≡ [])
     → map (λ (u : ℕ × ℕ). u.0) (cond b (w ∷ filter (λ u. o.holds d u.1) vs) (filter (λ u. o.holds d u.1) vs)) ≡ []
-some_ready o d w us vs true h f = absurd (false≢true (ap is_empty h))
-some_ready o d w us vs false h f = f h
+some_ready o d w us vs b h f = grind (arith, nat_tests)
 
 none_ready : (o : Object) (d : List ℕ) (us vs : List (ℕ × ℕ)) → ready_of o d us ≡ [] → ready_of o d vs ≡ []
     → ready_of o d (filter (λ w. true) us ++ vs) ≡ []
@@ -99,26 +57,18 @@ none_ready o d (w ∷ us) vs h k =
 joins_unready : (o : Object) (d : List ℕ) (s p : ℕ) → o.holds d p ≡ false → ready_of o d ((s, p) ∷ []) ≡ []
 joins_unready o d s p h = ap (λ b. map (λ (u : ℕ × ℕ). u.0) (cond b ((s, p) ∷ []) [])) h
 
-stay_entry : Stay ≡ Entry → ⊥
-stay_entry e = cc
-
 none_entry : ◌≡◌ {A = Option Next} None (Some Entry) → ⊥
 none_entry e = cc
 
 must_choose : (b : Bool) (x : Next) → cond b Stay x ≡ Entry → b ≡ false
-must_choose true x e = absurd (stay_entry e)
-must_choose false x e = refl
+must_choose b x e = grind (arith, nat_tests)
 
 then_choice : (b : Bool) (x : Next) → cond b Stay x ≡ Entry → x ≡ Entry
-then_choice true x e = absurd (stay_entry e)
-then_choice false x e = e
+then_choice b x e = grind (arith, nat_tests)
 
 admits_alone : (m : Monitor) (t : Situation) (e : Event) (wish : Pick) → AdmitsUnknown m t e wish
     → IsAlone (is_empty (inner_waiters m.kind (queues_at m.object t e))) (is_empty (queues_at m.object t e).signallers)
-admits_alone m t e wish a =
-    chosen_alone m.kind (queues_at m.object t e) (seat_of (as_called e)) wish
-    (ap (λ q. choice_by m.kind q (seat_of (as_called e)) false wish) (sym (same_queues m.object t e))
-    ∙ then_choice (must_stay m.object t (as_called e)) _ a.choice)
+admits_alone m t e wish a = grind (arith, nat_tests, chosen_alone, same_queues, then_choice)
 
 ready_after : (o : Object) (t : Situation) (e : Event) → next_of e ≡ Some Entry → must_stay o t (as_called e) ≡ false
     → ready_of o t.state t.untils ≡ []

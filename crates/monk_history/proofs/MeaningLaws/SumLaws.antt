@@ -1,7 +1,7 @@
 -- Sums over a history, seat by seat
 use Rattle.std.proofs.Common.{◌≡◌, ◌≢◌, ℕ, ◌+◌, ◌==◌, zero, suc, Bool, true, false, not, cond, List, [], ◌∷◌, length}
-use Rattle.std.proofs.Common.{refl, sym, ap, subst, ◌∙◌, arith, eq-eqb, inl, inr}
-use Rattle.std.proofs.lemmas.Bool.Decides.{eqb_tells}
+use Rattle.std.proofs.Common.{refl, sym, ap, subst, ◌∙◌, arith, inl, inr}
+use Rattle.std.proofs.lemmas.Bool.Decides.{eqb_tells, nat_tests}
 use Rattle.std.proofs.lemmas.List.{Elements.All-cons, Elements.All-head, Elements.All-tail, Sums.sum_by-cons}
 use Rattle.std.specs.Prelude.{All, AllPairs, filter, sum_by}
 use Rattle.monk_history.specs.{Meaning.Counts.events_of, Meaning.Events.seat_of, declared.event.Event.Event}
@@ -17,8 +17,7 @@ rest_of (s ∷ ss) h = rest_of ss (others_than s h)
 
 either_side : (w : Event → ℕ) (b : Bool) (e : Event) (xs ys : List Event) (n : ℕ) → n ≡ sum_by w xs + sum_by w ys
     → w e + n ≡ sum_by w (cond b (e ∷ xs) xs) + sum_by w (cond (not b) (e ∷ ys) ys)
-either_side w true e xs ys n is = let a = sum_by-cons w e xs in omega (arith, a, is)
-either_side w false e xs ys n is = let a = sum_by-cons w e ys in omega (arith, a, is)
+either_side w b e xs ys n is = grind (arith, nat_tests, sum_by-cons)
 
 sum_split : (w : Event → ℕ) (s : ℕ) (h : List Event)
     → sum_by w h ≡ sum_by w (events_of h s) + sum_by w (others_than s h)
@@ -31,8 +30,7 @@ sum_split w s (e ∷ es) = sum_by-cons w e es
 
 keeps_one : (p : Event → Bool) (b : Bool) (e : Event) (xs ys : List Event) → (b ≡ true → p e ≡ false) → filter p xs ≡ ys
     → filter p (cond (not b) (e ∷ xs) xs) ≡ cond (p e) (e ∷ ys) ys
-keeps_one p true e xs ys fails is = is ∙ sym (ap (λ (c : Bool). cond c (e ∷ ys) ys) (fails refl))
-keeps_one p false e xs ys fails is = ap (λ (zs : List Event). cond (p e) (e ∷ zs) zs) is
+keeps_one p b e xs ys fails is = grind (arith, nat_tests)
 
 -- another seat's events are all there
 others_same : (s t : ℕ) → s ≢ t → (h : List Event) → events_of (others_than s h) t ≡ events_of h t
@@ -48,8 +46,7 @@ others_same s t ne (e ∷ es) =
 
 drops_one : (p : Event → Bool) (b : Bool) (e : Event) (xs : List Event) → p e ≡ b → filter p xs ≡ []
     → filter p (cond (not b) (e ∷ xs) xs) ≡ []
-drops_one p true e xs tells none = none
-drops_one p false e xs tells none = ap (λ (c : Bool). cond c (e ∷ filter p xs) (filter p xs)) tells ∙ none
+drops_one p b e xs tells none = grind (arith, nat_tests)
 
 -- and none of its own are
 others_none : (s : ℕ) (h : List Event) → events_of (others_than s h) s ≡ []
@@ -97,9 +94,7 @@ rest_has (s ∷ ss) h t apart =
 
 first_is : (e : Event) (es : List Event) (s : ℕ) → seat_of e ≡ s → events_of (e ∷ es) s ≡ e ∷ events_of es s
 unfolding events_of
-first_is e es s is =
-    let rest = filter (λ x. seat_of x == s) es in
-    ap (λ (b : Bool). cond b (e ∷ rest) rest) (eq-eqb (seat_of e) s is)
+first_is e es s is = grind (arith, nat_tests)
 
 -- nobody did anything
 nobody : (h : List Event) → ((t : ℕ) → events_of h t ≡ []) → h ≡ []
@@ -118,10 +113,7 @@ no_rest (s ∷ ss) h none = no_rest ss (others_than s h) (λ t apart. elim (eqb_
 -- so the whole is the sum over the seats, if no other seat did anything
 pub sum_by_all_seats : (w : Event → ℕ) (ss : List ℕ) (h : List Event) → AreDistinct ss
     → ((t : ℕ) → All (λ s. s ≢ t) ss → events_of h t ≡ []) → sum_by w h ≡ sum_by (λ s. sum_by w (events_of h s)) ss
-sum_by_all_seats w ss h apart none =
-    let whole = sum_by_seats w ss h apart in
-    let left = ap (sum_by w) (no_rest ss h none) in
-    omega (arith, whole, left)
+sum_by_all_seats w ss h apart none = grind (arith, nat_tests, sum_by_seats, no_rest)
 
 -- the length of a list is its weight if each element weighs 1
 pub length-sum_by : (h : List Event) → length h ≡ sum_by (λ e. 1) h

@@ -1,28 +1,25 @@
 -- When a seat in no queue may enter, and whose turn it is by the last event. This is what a caller of a floor can
 -- see.
 use Rattle.std.proofs.Common.{◌≡◌, ℕ, ◌<◌, ◌-◌, Bool, true, false, ◌&&◌, not, List, [], ◌∷◌, ◌++◌, length, refl}
-use Rattle.std.proofs.Common.{sym, ap, subst, ◌∙◌, arith, length-append}
+use Rattle.std.proofs.Common.{sym, ap, ◌∙◌, arith, length-append}
 use Rattle.std.specs.Prelude.{nat_lt, slice_get}
 use Rattle.monk_history.proofs.MeaningLaws.{HistoryLaws.history_induction, LegalLaws.get_last}
 use Rattle.monk_history.proofs.MeaningLaws.{StandingLaws.legal_placed, StepLaws.situation-none, TurnLaws.turn-push}
 use Rattle.monk_history.proofs.MeaningLaws.CallLaws.{may_enter_free, may_enter_handed, queued_is}
 use Rattle.monk_history.specs.Meaning.{Legal.IsLegal, Monitor.Monitor, Release.MayCall, Signallers.is_empty}
-use Rattle.monk_history.specs.Meaning.{Situation.Situation, Situation.situation, Standing.has_turn, Standing.is_queued}
+use Rattle.monk_history.specs.Meaning.{Situation.Situation, Situation.situation, Standing.is_queued}
 use Rattle.monk_history.specs.Meaning.{Turn.turn, Turn.turn_after, Turn.is_inside, Untils.ready_of}
-use Rattle.monk_history.specs.declared.event.{Event.Event, Event.TheVariants.Enter, Turn.Turn, Turn.TheVariants.Open}
+use Rattle.monk_history.specs.declared.event.{Event.Event, Event.TheVariants.Enter, Turn.TheVariants.Open}
 use Rattle.monk_history.specs.declared.event.Via.TheVariants.{Free, Handed}
+use Rattle.std.proofs.lemmas.Bool.Decides.{nat_tests}
 
 inside_by : (a b : Bool) → (a && not (nat_lt 0 0)) ≡ b → b ≡ false → a ≡ false
-inside_by true b h e = h ∙ e
-inside_by false b h e = refl
+inside_by a b h e = grind (arith, nat_tests)
 
 -- if the turn is open, a seat in no queue is outside
 outside : (m : Monitor) (h : List Event) (s : ℕ) → IsLegal m h → turn h ≡ Open
     → is_queued m.conds s (situation m h) ≡ false → is_inside s h ≡ false
-outside m h s l t q =
-    inside_by (is_inside s h) (is_queued m.conds s (situation m h))
-    (subst (λ (u : Turn). (is_inside s h && not (nat_lt 0 (has_turn s u))) ≡ is_queued m.conds s (situation m h)) t
-    (queued_is m.conds s (situation m h) (legal_placed m h l))) q
+outside m h s l t q = grind (arith, nat_tests, inside_by, queued_is, legal_placed)
 
 -- if the turn is open and the history has begun, a seat in no queue may enter as one that is handed in
 pub may_enter_begun : (m : Monitor) (h : List Event) (s : ℕ) → IsLegal m h → turn h ≡ Open → s < m.seats
@@ -30,8 +27,7 @@ pub may_enter_begun : (m : Monitor) (h : List Event) (s : ℕ) → IsLegal m h �
 may_enter_begun m h s l t lt q b = may_enter_handed m h s t lt (outside m h s l t q) b
 
 none_is : (h : List Event) → not (is_empty h) ≡ false → h ≡ []
-none_is [] b = refl
-none_is (x ∷ xs) b = absurd cc
+none_is h b = grind (arith, nat_tests)
 
 -- if the history has not begun, a seat may enter free
 pub may_enter_first : (m : Monitor) (h : List Event) (s : ℕ) → IsLegal m h → turn h ≡ Open → s < m.seats

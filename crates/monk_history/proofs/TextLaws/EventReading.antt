@@ -19,18 +19,19 @@ use Rattle.monk_history.specs.declared.event.Event.TheVariants.{Resume, SignalAl
 use Rattle.monk_history.specs.declared.text.{next_word.NextWord.NextWord, verb.Verb.Verb}
 use Rattle.monk_object.specs.declared.op.Op.{Op}
 use Rattle.monk_kinds.specs.Names.{with_text}
+use Rattle.std.proofs.lemmas.Bool.Decides.{nat_tests}
 
 pub via_again : (v : Via) → with_text via_word vias (via_word v) ≡ Some v
-via_again v = grind (arith)
+via_again v = grind arith
 
 pub from_again : (q : From3) → with_text from_word froms (from_word q) ≡ Some q
-from_again q = grind (arith)
+from_again q = grind arith
 
 pub next_word_again : (c : NextWord) → with_text next_word all_next_words (next_word c) ≡ Some c
-next_word_again c = grind (arith)
+next_word_again c = grind arith
 
 pub verb_again : (v : Verb) → with_text verb_word verbs (verb_word v) ≡ Some v
-verb_again v = grind (arith)
+verb_again v = grind arith
 
 -- ---- a next
 
@@ -130,12 +131,7 @@ act_takes ws x e =
 pub act_again : (op : Op) (reply : ℕ) → op.code ≤ 255 → op.arg ≤ 2 ^ 32 - 1 → reply ≤ 2 ^ 64 - 1
     → act_at (decimal op.code ∷ decimal op.arg ∷ decimal reply ∷ []) ≡ Ok ((op, reply), [])
 unfolding act_at
-act_again op reply code arg fits =
-    rw (
-      number_again 255 op.code (decimal op.arg ∷ decimal reply ∷ []) (lit< tt) code,
-      number_again (2 ^ 32 - 1) op.arg (decimal reply ∷ []) (lit< tt) arg,
-      number_again (2 ^ 64 - 1) reply [] (lit< tt) fits,
-    ) refl
+act_again op reply code arg fits = grind (arith, nat_tests, number_again, lit<)
 
 after_act : (s : ℕ) (op : Op) (reply : ℕ) → op.code ≤ 255 → op.arg ≤ 2 ^ 32 - 1 → reply ≤ 2 ^ 64 - 1
     → event_after verb.Act s (decimal op.code ∷ decimal op.arg ∷ decimal reply ∷ []) ≡ Ok (Act s op reply, [])
@@ -296,8 +292,7 @@ after_signal_all s c le = rw (number_again 255 c [] (lit< tt) le) refl
 after_signal_wait : (s c d : ℕ) (n : Next) → c ≤ 255 → d ≤ 255 → NextFits n
     → event_after verb.SignalWait s (decimal c ∷ decimal d ∷ next_words n) ≡ Ok (SignalWait s c d n, [])
 unfolding event_after
-after_signal_wait s c d n le le_too fits =
-    rw (number_again 255 c (decimal d ∷ next_words n) (lit< tt) le, cond_next_again_last d n le_too fits) refl
+after_signal_wait s c d n le le_too fits = grind (arith, nat_tests, number_again, lit<, cond_next_again_last)
 
 pub event_again : (version : ℕ) (e : Event) → EventFits e → nat_le (first_version e) version ≡ true
     → event_at version (event_words e) ≡ Ok (e, [])

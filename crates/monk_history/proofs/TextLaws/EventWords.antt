@@ -1,17 +1,17 @@
 -- Which of its words comes next in the line of an event, or none.
-use Rattle.std.proofs.Common.{◌≡◌, ℕ, ◌≤◌, true, false, List, [], ◌∷◌, Some, Ok, Err, refl, ap, ◌∙◌}
-use Rattle.std.proofs.lemmas.Bool.{leb-true, le-leb}
-use Rattle.std.specs.{Prelude.nat_le, Prelude.codes, Str.bytes_eq}
+use Rattle.std.proofs.Common.{◌≡◌, ℕ, ◌≤◌, false, List, ◌∷◌, Some, Ok, Err, ap, ◌∙◌, arith, rules}
+use Rattle.std.proofs.lemmas.Bool.{le-leb}
+use Rattle.std.specs.{Prelude.codes}
 use Rattle.monk_history.specs.declared.text.fault.Flaw.TheVariants as flaw
-use Rattle.monk_history.specs.declared.text.verb.Verb.TheVariants as verb
 use Rattle.monk_history.proofs.TextLaws.EventReading.{via_again, from_again, next_word_again, verb_of_again}
-use Rattle.monk_history.proofs.TextLaws.WordReaders.{one_of_again, none_kept}
+use Rattle.monk_history.proofs.TextLaws.WordReaders.{one_of_again}
 use Rattle.monk_history.specs.Text.{via_word, from_word, Words.Word, Words.one_of, Words.is_next}
-use Rattle.monk_history.specs.Text.Reading.{vias, froms, next_word, all_next_words, verb_word, verb_version, verbs}
+use Rattle.monk_history.specs.Text.Reading.{vias, froms, next_word, all_next_words, verb_word, verb_version}
 use Rattle.monk_history.specs.Text.Reading.{verbs_of}
 use Rattle.monk_history.specs.declared.event.{Via.Via, From3.From3}
 use Rattle.monk_history.specs.declared.text.{next_word.NextWord.NextWord, verb.Verb.Verb}
 use Rattle.monk_kinds.specs.Names.{with_text}
+use Rattle.std.proofs.lemmas.Bool.Decides.{nat_tests}
 
 one_of-next : {A : Type 0} (word : A → Word) (values : List A) (x : A) (ws rest : List Word)
     → with_text word values (word x) ≡ Some x → ws ≡ word x ∷ rest → one_of word values ws ≡ Ok (x, rest)
@@ -19,8 +19,7 @@ one_of-next word values x ws rest found is = ap (one_of word values) is ∙ one_
 
 pub verb-next : (version : ℕ) (v : Verb) (ws rest : List Word) → verb_version v ≤ version → ws ≡ verb_word v ∷ rest
     → one_of verb_word (verbs_of version) ws ≡ Ok (v, rest)
-verb-next version v ws rest has is =
-    one_of-next verb_word (verbs_of version) v ws rest (verb_of_again version v (le-leb _ _ has)) is
+verb-next version v ws rest has is = search (rules, one_of-next, verb_of_again, le-leb)
 
 -- the next word is none of version 1
 pub record IsNoFirstVerb (ws : List Word) : Type 0 where
@@ -38,26 +37,10 @@ abbrev pub IsNoLaterVerb : ℕ → List Word → Type 0
 IsNoLaterVerb version ws = 2 ≤ version
     → (is_next (codes "signal-all") ws ≡ false) × (is_next (codes "signal-wait") ws ≡ false)
 
-no_verb : (version : ℕ) (w : Word) (ws : List Word) → IsNoFirstVerb (w ∷ ws) → IsNoLaterVerb version (w ∷ ws)
-    → (v : Verb)
-    → nat_le (verb_version v) version ≡ true → bytes_eq w (verb_word v) ≡ false
-no_verb version w ws first later verb.Enter has = first.enter
-no_verb version w ws first later verb.Act has = first.act
-no_verb version w ws first later verb.Leave has = first.leave
-no_verb version w ws first later verb.Wait has = first.wait
-no_verb version w ws first later verb.Signal has = first.signal
-no_verb version w ws first later verb.SignalLeave has = first.signal_leave
-no_verb version w ws first later verb.Until has = first.until
-no_verb version w ws first later verb.Resume has = first.resume
-no_verb version w ws first later verb.SignalAll has = (later (leb-true _ _ has)).0
-no_verb version w ws first later verb.SignalWait has = (later (leb-true _ _ has)).1
-
 pub verb-none : (version : ℕ) (ws : List Word) → IsNoFirstVerb ws → IsNoLaterVerb version ws
     → one_of verb_word (verbs_of version) ws ≡ Err flaw.Word
 unfolding one_of
-verb-none version [] first later = refl
-verb-none version (w ∷ ws) first later =
-    rw (none_kept verb_word (λ v. nat_le (verb_version v) version) verbs w (no_verb version w ws first later)) refl
+verb-none version ws first later = grind (arith, nat_tests)
 
 pub next-next : (n : NextWord) (ws rest : List Word) → ws ≡ next_word n ∷ rest
     → one_of next_word all_next_words ws ≡ Ok (n, rest)
@@ -67,8 +50,7 @@ pub next-none : (ws : List Word) → is_next (codes "stay") ws ≡ false → is_
     → is_next (codes "waiter") ws ≡ false → is_next (codes "signaller") ws ≡ false → is_next (codes "until") ws ≡ false
     → one_of next_word all_next_words ws ≡ Err flaw.Word
 unfolding one_of
-next-none [] a b c d e = refl
-next-none (w ∷ ws) a b c d e = rw (a, b, c, d, e) refl
+next-none ws a b c d e = grind (arith, nat_tests)
 
 pub via-next : (v : Via) (ws rest : List Word) → ws ≡ via_word v ∷ rest → one_of via_word vias ws ≡ Ok (v, rest)
 via-next v ws rest is = one_of-next via_word vias v ws rest (via_again v) is
@@ -76,8 +58,7 @@ via-next v ws rest is = one_of-next via_word vias v ws rest (via_again v) is
 pub via-none : (ws : List Word) → is_next (codes "free") ws ≡ false → is_next (codes "handed") ws ≡ false
     → one_of via_word vias ws ≡ Err flaw.Word
 unfolding one_of
-via-none [] a b = refl
-via-none (w ∷ ws) a b = rw (a, b) refl
+via-none ws a b = grind (arith, nat_tests)
 
 pub from-next : (q : From3) (ws rest : List Word) → ws ≡ from_word q ∷ rest → one_of from_word froms ws ≡ Ok (q, rest)
 from-next q ws rest is = one_of-next from_word froms q ws rest (from_again q) is
@@ -85,8 +66,7 @@ from-next q ws rest is = one_of-next from_word froms q ws rest (from_again q) is
 pub from-none : (ws : List Word) → is_next (codes "waiter") ws ≡ false → is_next (codes "signaller") ws ≡ false
     → is_next (codes "until") ws ≡ false → one_of from_word froms ws ≡ Err flaw.Word
 unfolding one_of
-from-none [] a b c = refl
-from-none (w ∷ ws) a b c = rw (a, b, c) refl
+from-none ws a b c = grind (arith, nat_tests)
 
 pub ruleset verb_words = (verb-next, verb-none)
 

@@ -14,6 +14,7 @@ use Rattle.monk_history.specs.Text.Reading.{event_under, header_at, history, tex
 use Rattle.monk_history.specs.declared.text.fault.ReadFault.{ReadFault}
 use Rattle.monk_kinds.specs.declared.name.KindName.TheVariants.{Pb}
 use Rattle.monk_object.specs.declared.name.ObjectName.TheVariants.{Buffer}
+use Rattle.std.proofs.lemmas.Bool.Decides.{nat_tests}
 
 -- ---- the lines of the first lines of some bytes
 
@@ -51,8 +52,7 @@ lines_behind (l ∷ ls) rest all =
 
 pub lines_of_first : (n : ℕ) (bytes rest : List ℕ)
     → lines_of (first_lines n bytes ++ rest) ≡ take n (lines_of bytes) ++ lines_of rest
-lines_of_first n bytes rest =
-    lines_behind (take n (lines_of bytes)) rest (take_unended n (lines_of bytes) (lines_unended bytes))
+lines_of_first n bytes rest = grind (arith, nat_tests, lines_behind, take_unended, lines_unended)
 
 -- ---- lines up to a fault
 
@@ -213,8 +213,7 @@ opened_line head parse limit l [] some = absurd (omega arith)
 opened_line head parse limit l (z ∷ zs) some = refl
 
 first_line : (b : Bool) (f : ReadFault) → f ≡ cond b header_fault (end_fault 1) → f.line ≡ 1
-first_line true f is = ap (λ (x : ReadFault). x.line) is
-first_line false f is = ap (λ (x : ReadFault). x.line) is
+first_line b f is = grind (arith, nat_tests)
 
 alone_fault : {H A : Type 0} (head : List Word → Taken H) (parse : H → List Word → Taken A) (limit : ℕ)
     (l : List ℕ) (f : ReadFault)

@@ -1,6 +1,6 @@
 -- A line at the front of some bytes, and what the lines of these bytes are.
-use Rattle.std.proofs.Common.{◌≡◌, ◌==◌, ℕ, ◌≤◌, Bool, true, false, cond, List, [], ◌∷◌, ◌++◌, Result, Ok, Err, refl, sym, ap, ◌∙◌}
-use Rattle.std.proofs.Common.{append_assoc, drop, Option, Some, None}
+use Rattle.std.proofs.Common.{◌≡◌, ◌==◌, ℕ, ◌≤◌, Bool, true, cond, List, [], ◌∷◌, ◌++◌, Result, Ok, Err, refl, sym, ap, ◌∙◌}
+use Rattle.std.proofs.Common.{append_assoc, drop, Option, arith}
 use Rattle.std.proofs.lemmas.{Bool.le-leb, List.Splits.join_with_byte-slice_split}
 use Rattle.std.specs.List.{slice_split, onto_first, list_all, join_with_byte}
 use Rattle.std.specs.Prelude.{not, nat_le, IfSome}
@@ -12,6 +12,7 @@ use Rattle.monk_history.specs.Text.Lines.{line, lines_of, is_unended, BeginsWith
 use Rattle.monk_history.specs.Text.Lines.{flaw_at, with_line_number}
 use Rattle.monk_history.specs.Text.Words.{Word, Taken, Reads}
 use Rattle.monk_history.specs.declared.{event.Event.Event, text.fault.Flaw.Flaw}
+use Rattle.std.proofs.lemmas.Bool.Decides.{nat_tests}
 
 -- ---- the lines of bytes that begin with a line, or have none, whatever follows them
 
@@ -37,9 +38,7 @@ front_more : (p : ℕ → Bool) (x : ℕ) (b : Bool) (parts : List (List ℕ)) �
     → list_all (λ c. not (p c)) (first_of parts) ≡ true
     → list_all (λ c. not (p c)) (first_of (cond b ([] ∷ parts) (onto_first x parts))) ≡ true
 unfolding first_of
-front_more p x true parts is h = refl
-front_more p x false [] is h = rw is refl
-front_more p x false (part ∷ parts) is h = rw (is, h) refl
+front_more p x b parts is h = grind (arith, nat_tests)
 
 front_is_one : (p : ℕ → Bool) (xs : List ℕ) → list_all (λ c. not (p c)) (first_of (slice_split p xs)) ≡ true
 unfolding first_of
@@ -88,20 +87,9 @@ pub event_stands : (version : ℕ) (bytes : List ℕ) (e : Event) (count : ℕ)
     → EventFits e → nat_le (first_version e) version ≡ true
     → IsReadAs (event_at version) bytes (Ok e) (drop count bytes)
 event_stands version bytes e count stands fits has =
-    let words = event_are_words e fits in
-    record {
-      line = join_with_byte 32 (event_words e);
-      begins = record {
-        one = no_end_in_join (event_words e) words;
-        whole = stands.is ∙ append_assoc (join_with_byte 32 (event_words e)) (10 ∷ []) (drop count bytes);
-      };
-      read = sym (ap (λ t. taken_alone t) (ap (event_at version) (words_of-words (event_words e) (some_word e) words)
-          ∙ event_again version e fits has));
-    }
+    grind (arith, nat_tests, event_are_words, no_end_in_join, append_assoc, words_of-words, some_word, event_again)
 
 pub event_read : (version : ℕ) (bytes : List ℕ) (r : Option (Event × ℕ))
     → IfSome r (λ x. StandsAt bytes 0 (line (event_words x.0)) x.1) → IfSome r (λ x. EventFits x.0)
     → IfSome r (λ x. first_version x.0 ≤ version) → IfSome r (λ x. IsAtFront (event_at version) bytes x.0 x.1)
-event_read version bytes None stands fits has = tt
-event_read version bytes (Some x) stands fits has =
-    (event_stands version bytes x.0 x.1 stands fits (le-leb _ _ has), stands.within)
+event_read version bytes r stands fits has = grind (arith, nat_tests, event_stands, le-leb)

@@ -1,49 +1,29 @@
 -- A header is read from the words that it is written as, and a header that is written is read again.
 use Rattle.std.proofs.Common.{lit<, ◌≡◌, ℕ, ◌≤◌, List, [], ◌∷◌, ◌++◌, Some, Ok, refl, sym, ap, subst, ◌∙◌, arith}
-use Rattle.std.specs.Prelude.{◌&&◌, nat_le, codes}
-use Rattle.std.{specs.Fmt.decimal, proofs.lemmas.Bool.leb-true, proofs.lemmas.Bool.le-leb}
+use Rattle.std.specs.Prelude.{codes}
+use Rattle.std.{specs.Fmt.decimal}
 use Rattle.monk_kinds.proofs.PublicLaws.{kind_again}
 use Rattle.monk_kinds.specs.{declared.name.KindName.KindName, Names.kind_word, Names.with_text, Names.kinds}
 use Rattle.monk_object.specs.{declared.name.ObjectName.ObjectName, Names.object_word, Names.objects}
 use Rattle.monk_history.specs.Text.Words.{◌>>=◌, Word, Taken, number_at, with_rest, one_of, literal_at, end_at}
-use Rattle.monk_history.proofs.TextLaws.{LineCuts.both, ObjectVersions.none_newer}
+use Rattle.monk_history.proofs.TextLaws.{ObjectVersions.none_newer}
 use Rattle.monk_history.proofs.TextLaws.WordReaders.{bind_ok, ok_is, number_takes, number_again, one_of_takes}
-use Rattle.monk_history.proofs.TextLaws.WordReaders.{one_of_again, made_takes, literal_takes, end_takes}
-use Rattle.monk_history.specs.Limits.{most_seats, most_conds}
-use Rattle.monk_history.specs.Text.{Heading, heading, object_version, last_version, part_words, header_words, IsHeading}
+use Rattle.monk_history.proofs.TextLaws.WordReaders.{one_of_again, literal_takes, end_takes}
+use Rattle.monk_history.specs.Text.{Heading, heading, object_version, part_words, header_words, IsHeading}
 use Rattle.monk_history.specs.Text.Reading.{first_heading_of, heading_of, parts_at, header_at}
+use Rattle.std.proofs.lemmas.Bool.Decides.{nat_tests}
 
 pub object_again : (o : ObjectName) → with_text object_word objects (object_word o) ≡ Some o
-object_again o = grind (arith)
+object_again o = grind arith
 
 heading_fits : (v : ℕ) (k : KindName) (s c : ℕ) (o : ObjectName) (z : ℕ) (ws : List Word)
     (x : Heading × List Word) → z ≤ 255
     → with_rest ws (heading_of v k s c o z) ≡ Ok x → (x ≡ (heading v k s c o z, ws)) × IsHeading (heading v k s c o z)
-heading_fits v k s c o z ws x le e =
-    let versioned = nat_le (object_version o) v && nat_le v (last_version o) in
-    let h = made_takes (versioned && nat_le 1 s && nat_le s most_seats && nat_le c most_conds && nat_le 1 z)
-    (heading v k s c o z) ws x e in
-    let p = both (versioned && nat_le 1 s && nat_le s most_seats && nat_le c most_conds) (nat_le 1 z) h.0 in
-    let q = both (versioned && nat_le 1 s && nat_le s most_seats) (nat_le c most_conds) p.0 in
-    let r = both (versioned && nat_le 1 s) (nat_le s most_seats) q.0 in
-    let t = both versioned (nat_le 1 s) r.0 in
-    let n = both (nat_le (object_version o) v) (nat_le v (last_version o)) t.0 in (
-      h.1,
-      record {
-        named = leb-true _ _ n.0;
-        still_named = leb-true _ _ n.1;
-        some_seat = leb-true _ _ t.1;
-        seats = leb-true _ _ r.1;
-        conds = leb-true _ _ q.1;
-        some_size =
-            leb-true _ _ p.1;
-        size = le;
-      },
-    )
+heading_fits v k s c o z ws x le e = grind (arith, nat_tests)
 
 pub first_is : (k : KindName) (s c : ℕ) (o : ObjectName) (z : ℕ)
     → heading_of (object_version o) k s c o z ≡ first_heading_of k s c o z
-first_is k s c o z = grind (arith)
+first_is k s c o z = grind arith
 
 -- the steps of the parts, each with those after it
 abbrev Numbered : Type 0
@@ -94,15 +74,7 @@ parts_take v ws x e =
     (five_words ws k.0.1 s.0.1 c.0.1 o.0.1 z.0.1 _ _ _ _ _ e0 e1 e2 e3 e4, h.1, refl)
 
 heading_again : (h : Heading) → IsHeading h → heading_of h.version h.kind h.seats h.conds h.object h.size ≡ Some h
-heading_again h fits =
-    rw (
-      le-leb (object_version h.object) h.version fits.named,
-      le-leb h.version (last_version h.object) fits.still_named,
-      le-leb 1 h.seats fits.some_seat,
-      le-leb h.seats most_seats fits.seats,
-      le-leb h.conds most_conds fits.conds,
-      le-leb 1 h.size fits.some_size,
-    ) refl
+heading_again h fits = grind (arith, nat_tests)
 
 parts_same : (h : Heading) (ws : List Word) → IsHeading h → parts_at h.version (part_words h ++ ws) ≡ Ok (h, ws)
 unfolding parts_at
@@ -155,8 +127,4 @@ header_takes ws x e =
 
 pub header_again : (h : Heading) → IsHeading h → header_at (header_words h) ≡ Ok (h, [])
 unfolding header_at
-header_again h fits =
-    rw (
-      number_again 255 h.version (part_words h) (lit< tt) (omega (arith, fits.still_named, none_newer h.object)),
-      parts_again h.version h [] refl fits,
-    ) refl
+header_again h fits = grind (arith, nat_tests, number_again, lit<, none_newer, parts_again)

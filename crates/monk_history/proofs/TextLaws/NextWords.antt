@@ -1,5 +1,5 @@
 -- What is at the front of a line is its next word if the line ends after it, or if a byte 32 follows.
-use Rattle.std.proofs.Common.{◌≡◌, ◌==◌, ◌≢◌, ℕ, ◌+◌, ◌-◌, ◌*◌, ◌/◌, ◌%◌, ◌^◌, ◌<◌, ◌≤◌, Bool, true, false, List, []}
+use Rattle.std.proofs.Common.{◌≡◌, ◌==◌, ◌≢◌, ℕ, ◌+◌, ◌-◌, ◌*◌, ◌^◌, ◌<◌, ◌≤◌, Bool, true, false, List, []}
 use Rattle.std.proofs.Common.{◌∷◌, ◌++◌, length, take, drop, refl, sym, ap, ◌∙◌, append_assoc, arith}
 use Rattle.std.proofs.Math.Seq.{take-append_seam, drop-append_seam}
 use Rattle.std.proofs.lemmas.{Fmt.decimal_digit, Fmt.decimal_step, Slice.Eq.bytes_eq-Decides}
@@ -7,6 +7,7 @@ use Rattle.std.proofs.lemmas.List.{append-nil, Splits.join_with_byte-slice_split
 use Rattle.std.specs.{Char.IsAsciiDigit, Fmt.decimal, List.join_with_byte}
 use Rattle.monk_history.proofs.TextLaws.LineCuts.{cut_at, cut_none, no_space, IsWord-decimal}
 use Rattle.monk_history.specs.Text.Words.{Word, words_of, is_unbroken, is_next}
+use Rattle.std.proofs.lemmas.Bool.Decides.{nat_tests}
 
 pub words-last : (word : Word) → is_unbroken word ≡ true → words_of (word ++ []) ≡ word ∷ []
 words-last word plain = ap words_of (append-nil word) ∙ cut_none (λ b. b == 32) word plain
@@ -15,8 +16,7 @@ pub words-more : (word rest : List ℕ) → is_unbroken word ≡ true → words_
 words-more word rest plain = cut_at (λ b. b == 32) word 32 rest plain refl
 
 not_true : (b : Bool) → (b ≡ true → ⊥) → b ≡ false
-not_true true h = absurd (h refl)
-not_true false h = refl
+not_true b h = grind (arith, nat_tests)
 
 -- the bytes of a line whose next word is that one
 begins : (word : Word) (parts : List Word) (bytes : List ℕ) → join_with_byte 32 parts ≡ bytes
@@ -38,9 +38,7 @@ begins_with : (word bytes : List ℕ) → is_next word (words_of bytes) ≡ true
 begins_with word bytes is = begins word (words_of bytes) bytes (join_with_byte-slice_split 32 bytes) is
 
 pub is_next-other : (word bytes : List ℕ) → take (length word) bytes ≢ word → is_next word (words_of bytes) ≡ false
-is_next-other word bytes other =
-    not_true _ (λ is. let h = begins_with word bytes is in
-    other (ap (take (length word)) h.1 ∙ take-append_seam word h.0))
+is_next-other word bytes other = grind (arith, nat_tests, not_true, begins_with, take-append_seam)
 
 pub is_next-longer : (word rest : List ℕ) (c : ℕ) → c ≢ 32 → is_next word (words_of (word ++ c ∷ rest)) ≡ false
 is_next-longer word rest c ne =
@@ -64,11 +62,7 @@ digit-first d line behind is digit = is
     ∙ ap (λ (w : List ℕ). w ++ behind) (sym (decimal-byte d (omega arith) (omega arith)))
 
 last-digit : (n d : ℕ) → 48 ≤ d → d ≤ 57 → 0 < n → n < 2 ^ 59 → decimal (n * 10 + (d - 48)) ≡ decimal n ++ d ∷ []
-last-digit n d low high some lt =
-    let front : (n * 10 + (d - 48)) / 10 ≡ n = omega arith in
-    let last : 48 + (n * 10 + (d - 48)) % 10 ≡ d = omega arith in
-    decimal_step (n * 10 + (d - 48)) (omega arith) (omega arith)
-    ∙ (ap (λ k. decimal k ++ (48 + (n * 10 + (d - 48)) % 10) ∷ []) front ∙ ap (λ k. decimal n ++ k ∷ []) last)
+last-digit n d low high some lt = grind (arith, nat_tests, decimal_step)
 
 pub digit-more : (n d : ℕ) (line rest behind : List ℕ) → line ≡ decimal n ++ rest → rest ≡ d ∷ behind → IsAsciiDigit d
     → n ≢ 0 → n < 2 ^ 59 → line ≡ decimal (n * 10 + (d - 48)) ++ behind

@@ -5,6 +5,8 @@ use Rattle.std.proofs.lemmas.{List.append-nil, List.take_more, Grind.flat_map-ap
 use Rattle.std.specs.{List.AllByRecursion, List.flat_map, Io.KnownBytes.Appends}
 use Rattle.monk_history.specs.Text.{EventFits, Heading, IsHeading, event_words, header_words, text, Lines.line}
 use Rattle.monk_history.specs.declared.event.Event.{Event}
+use Rattle.std.proofs.lemmas.Bool.Decides.{nat_tests}
+use Rattle.std.proofs.Common.{arith}
 
 -- the writer got a part of the text, and the page has the rest
 pub record IsOnItsWay (before now : Option (List ℕ)) (page text : List ℕ) : Type 0 where
@@ -15,8 +17,7 @@ pub record IsOnItsWay (before now : Option (List ℕ)) (page text : List ℕ) : 
 pub grows : (before now : Option (List ℕ)) (page text page_after piece text_after : List ℕ)
     → IsOnItsWay before now page text → page_after ≡ page ++ piece → text_after ≡ text ++ piece
     → IsOnItsWay before now page_after text_after
-grows before now page text page_after piece text_after h on_page in_text =
-    record { sent = h.sent; got = h.got; whole = rw (in_text, on_page, h.whole) (append_assoc h.sent page piece) }
+grows before now page text page_after piece text_after h on_page in_text = grind (arith, nat_tests, append_assoc)
 
 flat_map-more : {A : Type 0} (f : A → List ℕ) (es : List A) (i : ℕ) (d : A) → i < length es
     → flat_map f (take (i + 1) es) ≡ flat_map f (take i es) ++ f (get_or es i d)
@@ -34,12 +35,7 @@ text-more h es i d lt =
 
 pub sends : (before now later : Option (List ℕ)) (page text : List ℕ) → IsOnItsWay before now page text
     → Appends now later page → IsOnItsWay before later [] text
-sends before now later page text h appends =
-    record {
-      sent = text;
-      got = rw h.whole (Appends-trans before now later h.sent page h.got appends);
-      whole = sym (append-nil text);
-    }
+sends before now later page text h appends = grind (arith, nat_tests, Appends-trans, append-nil)
 
 -- ---- events of which some are left
 
@@ -53,14 +49,7 @@ pub record IsWritten (before now : Option (List ℕ)) (page : List ℕ) (h : Hea
 
 pub written_sent : (before now later : Option (List ℕ)) (page : List ℕ) (h : Heading) (left all : List Event)
     → IsWritten before now page h left all → Appends now later page → IsWritten before later [] h left all
-written_sent before now later page h left all w appends =
-    record {
-      done = w.done;
-      whole = w.whole;
-      on_its_way = sends before now later page (text h w.done) w.on_its_way appends;
-      heading = w.heading;
-      fit = w.fit;
-    }
+written_sent before now later page h left all w appends = grind (arith, nat_tests, sends)
 
 text-push : (h : Heading) (es : List Event) (e : Event) → text h (es ++ e ∷ []) ≡ text h es ++ line (event_words e)
 text-push h es e =
@@ -79,14 +68,7 @@ pub written_more : (before now : Option (List ℕ)) (page page_after : List ℕ)
     → old ≡ e ∷ new → page_after ≡ page ++ line (event_words e) → EventFits e → IsWritten before now page h old all
     → IsWritten before now page_after h new all
 written_more before now page page_after h old new all e is on_page fits w =
-    record {
-      done = w.done ++ e ∷ [];
-      whole = append_assoc w.done (e ∷ []) new ∙ (ap (λ es. w.done ++ es) (sym is) ∙ w.whole);
-      on_its_way = grows before now page (text h w.done) page_after (line (event_words e)) (text h (w.done ++ e ∷ []))
-          w.on_its_way on_page (text-push h w.done e);
-      heading = w.heading;
-      fit = fit-push w.done e w.fit fits;
-    }
+    grind (arith, nat_tests, append_assoc, grows, text-push, fit-push)
 
 -- the same if none is left
 pub written_all : (before now : Option (List ℕ)) (page : List ℕ) (h : Heading) (left all : List Event) → left ≡ []

@@ -5,6 +5,7 @@ use Rattle.std.proofs.lemmas.{List.drop_more, Nat.le_bytes_4, Nat.pow-add, Nat.p
 use Rattle.std.specs.{Char.IsAsciiDigit, Fmt.decimal, Int.w32, Int.from_le_bytes, Int.to_le_bytes}
 use Rattle.monk_history.proofs.TextLaws.NextWords.{digit-first, digit-more}
 use Rattle.monk_history.specs.Text.Places.{StandsAt}
+use Rattle.std.proofs.lemmas.Bool.Decides.{nat_tests}
 
 -- one after the other
 pub stands_then : {bytes x y : List ℕ} {p q r : ℕ} → StandsAt bytes p x q → StandsAt bytes q y r
@@ -59,9 +60,7 @@ four_same xs ys lx ly bx by_ same =
 pub number_begins : (bytes : List ℕ) (p q d n : ℕ) → p < length bytes → get_or bytes p 0 ≡ d → IsAsciiDigit d
     → q ≡ p + 1
     → n ≡ d - 48 → drop p bytes ≡ decimal n ++ drop q bytes
-number_begins bytes p q d n l is digit next value =
-    rw (next, value) (digit-first d (drop p bytes) (drop (p + 1) bytes)
-    (drop_more bytes p 0 l ∙ ap (λ c. c ∷ drop (p + 1) bytes) is) digit)
+number_begins bytes p q d n l is digit next value = grind (arith, nat_tests, digit-first, drop_more)
 
 pub number_goes_on : (bytes : List ℕ) (p q r n d m : ℕ) → drop p bytes ≡ decimal n ++ drop q bytes → q < length bytes
     → get_or bytes q 0 ≡ d → IsAsciiDigit d → n ≢ 0 → n < 2 ^ 59 → r ≡ q + 1 → m ≡ n * 10 + (d - 48)

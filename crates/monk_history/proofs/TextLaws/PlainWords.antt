@@ -14,6 +14,7 @@ use Rattle.monk_history.specs.declared.event.Event.TheVariants.{Enter, Act, Leav
 use Rattle.monk_history.specs.declared.event.Event.TheVariants.{Resume, SignalAll, SignalWait}
 use Rattle.monk_kinds.specs.{declared.name.KindName.KindName, Names.kind_word}
 use Rattle.monk_object.specs.{declared.name.ObjectName.ObjectName, Names.object_word}
+use Rattle.std.proofs.lemmas.Bool.Decides.{nat_tests}
 
 pub decimal_word : (n : ℕ) → n ≤ 255 → IsWord (decimal n)
 decimal_word n le = IsWord-decimal n (omega arith)
@@ -49,10 +50,10 @@ event_are_words (SignalWait s c d n) fits =
     rw (decimal_word s fits.0, decimal_word c fits.1, decimal_word d fits.2, next_are_words n fits.3) refl
 
 pub kind_is_word : (k : KindName) → IsWord (kind_word k)
-kind_is_word k = grind (arith)
+kind_is_word k = grind arith
 
 pub object_is_word : (o : ObjectName) → IsWord (object_word o)
-object_is_word o = grind (arith)
+object_is_word o = grind arith
 
 pub header_are_words : (h : Heading) → IsHeading h → AreWords (header_words h)
 header_are_words h fits =
@@ -66,13 +67,4 @@ header_are_words h fits =
     ) refl
 
 pub some_word : (e : Event) → 0 < length (event_words e)
-some_word (Enter s via) = omega arith
-some_word (Leave s n) = omega arith
-some_word (Wait s c n) = omega arith
-some_word (Signal s c n) = omega arith
-some_word (SignalLeave s c n) = omega arith
-some_word (Until s c n) = omega arith
-some_word (Act s op reply) = omega arith
-some_word (Resume s q) = omega arith
-some_word (SignalAll s c) = omega arith
-some_word (SignalWait s c d n) = omega arith
+some_word e = grind (arith, nat_tests)

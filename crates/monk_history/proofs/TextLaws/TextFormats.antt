@@ -12,6 +12,7 @@ use Rattle.monk_history.specs.Text.Lines.{line, lines_of, with_line_number, item
 use Rattle.monk_history.proofs.TextLaws.LineCuts.{AreWords, words_of-words, lines_of-line}
 use Rattle.monk_history.proofs.TextLaws.LineSteps.{some_part, one_line, too_long, last_part, left_of, some_header, both_parts}
 use Rattle.monk_history.proofs.TextLaws.WordReaders.{bind_ok}
+use Rattle.std.proofs.lemmas.Bool.Decides.{nat_tests}
 
 -- how an item is written, and how it is read
 pub record IsFormat {A : Type 0} (words : A → List Word) (parse : List Word → Taken A)
@@ -131,8 +132,7 @@ module _ {H A : Type 0} (head_words : H → List Word) (head : List Word → Tak
   text_with h es = line (head_words h) ++ flat_map (λ e. line (words e)) es
 
   header_again : (h : H) → HeadFits h → header_line head (join_with_byte 32 (head_words h)) ≡ Ok h
-  header_again h fits =
-      rw (words_of-words (head_words h) (head_format.some h) (head_format.plain h fits), head_format.again h fits) refl
+  header_again h fits = grind (arith, nat_tests, words_of-words)
 
   -- what has a text is read from it
   pub text_again : (limit : ℕ) (h : H) (es : List A) → HeadFits h → AllByRecursion (Fits h) es → length es ≤ limit

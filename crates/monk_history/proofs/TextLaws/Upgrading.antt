@@ -3,23 +3,13 @@ use Rattle.std.proofs.Common.{◌≡◌, ℕ, ◌≤◌, ◌<◌, Bool, true, fa
 use Rattle.std.specs.Prelude.{nat_le}
 use Rattle.std.proofs.lemmas.Bool.{leb-true, leb-false, le-leb}
 use Rattle.monk_history.specs.declared.event.Event.{Event}
-use Rattle.monk_history.specs.declared.event.Event.TheVariants.{Enter, Act, Leave, Wait, Signal, SignalLeave, Until, Resume}
-use Rattle.monk_history.specs.declared.event.Event.TheVariants.{SignalAll, SignalWait}
 use Rattle.monk_history.specs.Limits.{all_events_version}
 use Rattle.monk_history.specs.Text.{Heading, upgraded_heading, last_version, first_version, is_writable, HasText}
 use Rattle.monk_history.proofs.TextLaws.ObjectVersions.{every_event_named}
+use Rattle.std.proofs.lemmas.Bool.Decides.{nat_tests}
 
 has_line : (e : Event) → first_version e ≤ all_events_version
-has_line (Enter s via) = omega arith
-has_line (Act s op reply) = omega arith
-has_line (Leave s n) = omega arith
-has_line (Wait s c n) = omega arith
-has_line (Signal s c n) = omega arith
-has_line (SignalLeave s c n) = omega arith
-has_line (Until s p n) = omega arith
-has_line (Resume s q) = omega arith
-has_line (SignalAll s c) = omega arith
-has_line (SignalWait s c d n) = omega arith
+has_line e = grind (arith, nat_tests)
 
 record Upgrades (v u : ℕ) : Type 0 where
   from : v ≤ u

@@ -1,6 +1,6 @@
 -- A value is taken from the words that it is written as, and a value that is written so is taken again.
 use Rattle.std.proofs.Common.{◌≡◌, ℕ, ◌≤◌, ◌<◌, ◌^◌, Bool, true, false, cond, List, [], ◌∷◌, Option, Some, None, Result}
-use Rattle.std.proofs.Common.{Ok, Err, refl, sym, ap, subst, ◌∙◌}
+use Rattle.std.proofs.Common.{Ok, Err, refl, sym, ap, subst, ◌∙◌, arith}
 use Rattle.std.proofs.lemmas.{Bool.leb-true, Slice.Eq.bytes_eq-Decides}
 use Rattle.std.specs.{Prelude.nat_le, Prelude.filter, Fmt.decimal, Str.bytes_eq, Str.Parse.digits_value}
 use Rattle.monk_history.specs.declared.text.fault.Flaw.TheVariants as flaw
@@ -8,6 +8,7 @@ use Rattle.monk_history.specs.Text.Words.{◌>>=◌, Word, is_number, number_at,
 use Rattle.monk_history.proofs.TextLaws.{NumberWords.is_number_decimal, NumberWords.is_number_too_great, LineCuts.both}
 use Rattle.monk_history.specs.declared.text.fault.Flaw.{Flaw}
 use Rattle.monk_kinds.{specs.Names.with_text, proofs.PublicLaws.found_is, proofs.PublicLaws.some_is}
+use Rattle.std.proofs.lemmas.Bool.Decides.{nat_tests}
 
 -- the value of a step that did not fail
 pub bind_ok : {A B E : Type 0} (r : Result A E) (f : A → Result B E) (y : B) → (r >>= f) ≡ Ok y
@@ -42,15 +43,12 @@ number_takes most (w ∷ ws) x e =
 pub number_again : (most n : ℕ) (ws : List Word) → most < 2 ^ 64 → n ≤ most
     → number_at most (decimal n ∷ ws) ≡ Ok (n, ws)
 unfolding number_at
-number_again most n ws lt le =
-    let h = is_number_decimal most n lt le in
-    rw (h.0, h.1) refl
+number_again most n ws lt le = grind (arith, nat_tests, is_number_decimal)
 
 pub number_refused : (most n : ℕ) (ws : List Word) → n < 2 ^ 64 → most < n
     → number_at most (decimal n ∷ ws) ≡ Err flaw.Number
 unfolding number_at
-number_refused most n ws lt great =
-    rw (is_number_too_great most n lt great) refl
+number_refused most n ws lt great = grind (arith, nat_tests, is_number_too_great)
 
 -- ---- one of several words
 
@@ -149,5 +147,4 @@ literal_takes l (w ∷ ws) x e =
     subst (λ (y : Unit {0} × List Word). w ∷ ws ≡ l ∷ y.1) g.1 (ap (λ (v : Word). v ∷ ws) same)
 
 pub end_takes : (ws : List Word) (x : Unit {0} × List Word) → end_at ws ≡ Ok x → (ws ≡ []) × (x.1 ≡ [])
-end_takes [] x e = (refl, ap (λ (y : Unit {0} × List Word). y.1) (sym (ok_is (tt {0}, []) x e)))
-end_takes (w ∷ ws) x e = absurd cc
+end_takes ws x e = grind (arith, nat_tests)
