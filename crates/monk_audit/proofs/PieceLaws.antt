@@ -1,14 +1,14 @@
 -- What is owed to a text that comes in pieces, stage by stage.
-use Rattle.std.proofs.Common.{◌≡◌, ◌≢◌, ◌+◌, ◌-◌, ◌^◌, ◌<◌, ◌≤◌, ◌==◌, ℕ, cond, List, [], ◌∷◌, ◌++◌, length}
+use Rattle.std.proofs.Common.{◌≡◌, ◌≢◌, ◌+◌, ◌-◌, ◌^◌, ◌<◌, ◌≤◌, ◌==◌, ℕ, cond, List, [], ◌∷◌, ◌++◌, length, rules}
 use Rattle.std.proofs.Common.{refl, sym, ap, subst, ◌∙◌, arith, true, false}
 use Rattle.std.specs.Prelude.{◌⊎◌, IfOk, IfSome}
 use Rattle.std.proofs.Common.{Option, Some, None, Result, Ok, Err}
-use Rattle.std.proofs.lemmas.{Bool.eqb-false, Bool.eqb-true, Bool.le-ltb, Bool.lt-ltb, Bool.ne_eqb, List.append-nil}
+use Rattle.std.proofs.lemmas.{Bool.eqb-false, Bool.eqb-true, Bool.ne_eqb, List.append-nil}
 use Rattle.std.specs.Option.{option_map}
 use mathlib.Core.Logic.{inl, inr}
 use Rattle.monk_history.specs.Text.Words.{◌>>=◌}
 use Rattle.monk_history.proofs.PublicLaws.Texts.{head_missing, head_opens, head_refused, items_end, items_unfinished}
-use Rattle.monk_history.specs.Meaning.{Monitor.Monitor, Monitor.monitor, Situation.Situation, Step.after}
+use Rattle.monk_history.specs.Meaning.{Monitor.Monitor, Monitor.monitor, Situation.Situation}
 use Rattle.monk_history.specs.Meaning.{Step.opening_situation, Named.named_monitor, Reasons.reason_in}
 use Rattle.monk_history.specs.declared.{event.Event.Event, text.fault.ReadFault.ReadFault}
 use Rattle.monk_history.specs.Text.{Heading, Faults.end_fault, Faults.header_fault, Faults.memory}
@@ -23,7 +23,7 @@ use Rattle.monk_audit.specs.{Reading.read_through, Reading.verdict_at, Reading.v
 use Rattle.monk_audit.specs.{Reading.text_verdict, Reading.MakesNoObject, Reading.same, Replay.replay_situation}
 use Rattle.monk_audit.specs.Pieces.{events_from, found_from, judged_from_here, monitor_of, owed_verdict}
 use Rattle.monk_audit.specs.Pieces.{verdict_from_here, stages_left, AsksForNone, IsCarried, IsCourseStep, IsFaulty}
-use Rattle.monk_audit.specs.Pieces.{IsJudgedStep, IsLast, IsSound, IsSoundCourse, IsStageStep}
+use Rattle.monk_audit.specs.Pieces.{IsJudgedStep, IsSound, IsSoundCourse, IsStageStep}
 use Rattle.monk_audit.specs.declared.{course.Course.Course, stage.Stage.Stage}
 use Rattle.monk_audit.specs.declared.verdict.Verdict.{Verdict, TheVariants.Forbidden, TheVariants.Legal}
 use Rattle.monk_audit.specs.declared.text_verdict.TextVerdict.{TextVerdict, TheVariants.Judged, TheVariants.TooBig}
@@ -31,15 +31,14 @@ use Rattle.monk_kinds.specs.{declared.mode.Rules.Rules, Names.rules_named}
 use Rattle.monk_object.specs.{Object.Object, Buffer.buffer_meaning, Book.book_meaning, Shop.shop_meaning}
 use Rattle.monk_object.specs.{Flags.flags_meaning, declared.name.ObjectName.ObjectName}
 use Rattle.monk_object.specs.Names.{meaning_named, most, opening_named}
+use Rattle.std.proofs.lemmas.Bool.Decides.{nat_tests}
 
 -- and what is left of them comes after the events that were read
 pub piece_ends : (h : Heading) (count : ℕ) (p : PieceLeft) (rest : List ℕ) → p.number ≡ count + 2
     → count + p.room ≡ 2 ^ 25
     → rest ≡ p.bytes
     → (more : List ℕ) → items_with (event_under h) p more ≡ events_from h count (rest ++ more)
-piece_ends h count p rest number room is more =
-    let left : p.room ≡ 2 ^ 25 - count = omega arith in
-    rw (number, left, is) refl
+piece_ends h count p rest number room is more = grind (arith, nat_tests)
 
 -- what the next line of a piece gave
 pub piece_item_found : (r : Result (Option Event) ReadFault) (old new : List ℕ → Result (List Event) ReadFault)
@@ -98,30 +97,22 @@ owed_found h n v x = refl
 
 pub too_big_verdict : (h : Heading) (read : Result (List Event) ReadFault) → most h.object < h.size
     → (read_through read >>= λ _. Ok TooBig) ≡ lines_verdict h read
-too_big_verdict h (Ok es) big = rw (lt-ltb _ _ big) refl
-too_big_verdict h (Err f) big = refl
+too_big_verdict h read big = grind (arith, nat_tests)
 
 judged_verdict : (h : Heading) (read : Result (List Event) ReadFault) → h.size ≤ most h.object
     → (verdict_of_reading (named_monitor h) read >>= λ v. Ok (Judged v)) ≡ lines_verdict h read
-judged_verdict h (Ok es) fits = rw (le-ltb _ _ fits) refl
-judged_verdict h (Err f) fits = refl
+judged_verdict h read fits = grind (arith, nat_tests)
 
 -- the verdict on what is still to come doesn't depend on the opening state
 opening_apart : (k : Rules) (seats conds : ℕ) (o : Object) (d : List ℕ) (n : ℕ) (t : Situation) (es : List Event)
     → verdict_at (monitor k seats conds o []) n t es ≡ verdict_at (monitor k seats conds o d) n t es
 unfolding verdict_at
-opening_apart k seats conds o d n t [] = refl
-opening_apart k seats conds o d n t (e ∷ es) =
-    rw (reason_opening k seats conds o d t e)
-    (ap (λ v. cond (reason_in (monitor k seats conds o d) t e == 0) v
-    (Forbidden (n + 1) (reason_in (monitor k seats conds o d) t e)))
-    (opening_apart k seats conds o d (n + 1) (after o t e) es))
+opening_apart k seats conds o d n t es = grind (arith, nat_tests, reason_opening)
 
 opening_apart_read : (k : Rules) (seats conds : ℕ) (o : Object) (d : List ℕ) (n : ℕ) (t : Situation)
     (read : Result (List Event) ReadFault)
     → verdict_read (monitor k seats conds o []) n t read ≡ verdict_read (monitor k seats conds o d) n t read
-opening_apart_read k seats conds o d n t (Ok es) = ap (λ v. Ok v) (opening_apart k seats conds o d n t es)
-opening_apart_read k seats conds o d n t (Err f) = refl
+opening_apart_read k seats conds o d n t read = grind (arith, nat_tests, Ok, opening_apart, Err)
 
 begun_at : (h : Heading) (t : Situation) (name : ObjectName) (d : List ℕ) (read : Result (List Event) ReadFault)
     → t ≡ opening_situation (monitor (rules_named h.kind) h.seats h.conds (meaning_named name) d)
@@ -143,9 +134,7 @@ pub begun : (h : Heading) (c : Course) (name : ObjectName) (d x : List ℕ) → 
     (monitor (rules_named h.kind) h.seats h.conds (meaning_named name) d)
     → name ≡ h.object → d ≡ opening_named name h.size → h.size ≤ most h.object
     → judged_from_here (meaning_named name) c d x ≡ lines_verdict h (events_from h 0 x)
-begun h c name d x header rules count opening is state fits =
-    rw (rules, header, count) (begun_at h (replay_situation c.replay d) name d
-    (events_from h 0 x) opening is state fits)
+begun h c name d x header rules count opening is state fits = grind (arith, nat_tests, begun_at)
 
 -- ---- the header's line
 
@@ -159,9 +148,7 @@ opened_from bytes rest h s is behind more =
 
 pub refused_from : (bytes rest : List ℕ) (f : ReadFault) → IsHeadOf header_at bytes (Err f) rest
     → (more : List ℕ) → owed_verdict stage.Opening (bytes ++ more) ≡ Err f
-refused_from bytes rest f is more =
-    owed_opening (bytes ++ more)
-    ∙ not_opened_text (bytes ++ more) f (head_refused header_at (2 ^ 25) bytes rest f is more)
+refused_from bytes rest f is more = search (rules, owed_opening, not_opened_text, head_refused)
 
 pub no_object : (bytes rest : List ℕ) (h : Heading) → IsHeadOf header_at bytes (Ok h) rest
     → MakesNoObject bytes → most h.object < h.size
@@ -184,8 +171,7 @@ end_judged o c d =
     (verdict_from_here o c d []) (items_end (event_under c.header) [] (c.count + 2) (2 ^ 25 - c.count) refl refl) refl)
 
 pub end_found : (h : Heading) (n : ℕ) (v : TextVerdict) → found_from v h n [] ≡ Ok v
-end_found h n v =
-    ap (λ r. read_through r >>= λ _. Ok v) (items_end (event_under h) [] (n + 2) (2 ^ 25 - n) refl refl)
+end_found h n v = search (rules, Ok, items_end)
 
 pub unfinished_opening : (x : List ℕ) → is_unended x ≡ true → length x ≢ 0
     → owed_verdict stage.Opening x ≡ Err (end_fault 1)
@@ -196,16 +182,11 @@ unfinished_opening x one some =
 
 pub unfinished_judged : (o : Object) (c : Course) (d x : List ℕ) → is_unended x ≡ true → length x ≢ 0
     → judged_from_here o c d x ≡ Err (end_fault (c.count + 2))
-unfinished_judged o c d x one some =
-    ap (λ r. r >>= λ v. Ok (Judged v))
-    (judged_fault (monitor_of o c) c.count (replay_situation c.replay d) (events_from c.header c.count x)
-    (verdict_from_here o c d x) (end_fault (c.count + 2))
-    (items_unfinished (event_under c.header) x (c.count + 2) (2 ^ 25 - c.count) one some) refl)
+unfinished_judged o c d x one some = grind (arith, nat_tests, Ok, judged_fault, items_unfinished)
 
 pub unfinished_found : (h : Heading) (n : ℕ) (v : TextVerdict) (x : List ℕ) → is_unended x ≡ true → length x ≢ 0
     → found_from v h n x ≡ Err (end_fault (n + 2))
-unfinished_found h n v x one some =
-    ap (λ r. read_through r >>= λ _. Ok v) (items_unfinished (event_under h) x (n + 2) (2 ^ 25 - n) one some)
+unfinished_found h n v x one some = grind (arith, nat_tests, Ok, items_unfinished)
 
 -- ---- one step of a stage that judges, as a step of the whole
 
@@ -231,41 +212,12 @@ judged_step (Some v) next o c e d f bytes rest step few is =
     found_judged (Ok es) v = refl
     found_judged (Err g) v = refl
 
-last_left : (s : Stage) → IsLast s → stages_left s ≡ 0
-last_left stage.Opening last = absurd last
-last_left (stage.Buffer c object) last = absurd last
-last_left (stage.Book c object) last = absurd last
-last_left (stage.Shop c object) last = absurd last
-last_left (stage.Flags c object) last = absurd last
-last_left (stage.Found h count found) last = refl
-
-pub stage_step : (next : Option Stage) (old new : Stage) (total left : List ℕ → Result TextVerdict ReadFault)
-    (bytes rest : List ℕ)
-    → ((x : List ℕ) → owed_verdict old x ≡ total x) → ((x : List ℕ) → owed_verdict new x ≡ left x)
-    → IsSound new → stages_left old ≡ 1
-    → ((x : List ℕ) → AsksForNone old x → ⊥)
-    → IsJudgedStep next bytes rest total left → IsStageStep next bytes rest old new
-stage_step None old new total left bytes rest was is sound one asks step =
-    (λ more. was (bytes ++ more) ∙ (step.0 more ∙ sym (is (rest ++ more))), step.1, sound)
-stage_step (Some s) old new total left bytes rest was is sound one asks step = (
-  λ more. was (bytes ++ more) ∙ step.0 more,
-  step.1,
-  omega (arith, last_left s step.2, one),
-  λ none. absurd (asks bytes none),
-)
-
 pub found_step : (old new : Stage) (h : Heading) (n k : ℕ) (v : TextVerdict) (bytes rest : List ℕ)
     → old ≡ stage.Found h n v
     → new ≡ stage.Found h k v
     → IsCarried (λ x. read_through (events_from h n x)) bytes (λ x. read_through (events_from h k x)) rest
     → is_unended rest ≡ true → k ≤ 2 ^ 25 → IsStageStep None bytes rest old new
-found_step old new h n k v bytes rest was is carried ended few =
-    rw (was, is) (
-      λ more. owed_found h n v (bytes ++ more)
-          ∙ (ap (λ r. r >>= λ _. Ok v) (carried more) ∙ sym (owed_found h k v (rest ++ more))),
-      ended,
-      few,
-    )
+found_step old new h n k v bytes rest was is carried ended few = grind (arith, nat_tests, owed_found, Ok)
 
 pub gives_same : (r x : Result TextVerdict ReadFault) → r ≡ x → Gives same r x
 gives_same (Ok v) x is = sym is
@@ -335,28 +287,18 @@ pub judging_step : (make : Course → List ℕ → Stage) (o : Object) → Judge
     (c e : Course) (d f bytes rest : List ℕ) → old ≡ make c d → new ≡ make e f → IsSoundCourse o.predicates e
     → IsJudgedStep next bytes rest (judged_from_here o c d) (judged_from_here o e f)
     → IsStageStep next bytes rest old new
-judging_step make o j next old new c e d f bytes rest was is sound step =
-    subst (λ (s : Stage). IsStageStep next bytes rest s new) (sym was)
-    (subst (λ (s : Stage). IsStageStep next bytes rest (make c d) s) (sym is)
-    (stage_step next (make c d) (make e f) (judged_from_here o c d) (judged_from_here o e f) bytes rest
-    (j.owes c d) (j.owes e f)
-    (j.sound e f sound) (j.one c d) (j.asks c d) step))
+judging_step make o j next old new c e d f bytes rest was is sound step = grind (arith, nat_tests)
 
 pub judging_faulty : (make : Course → List ℕ → Stage) (o : Object) → Judges make o
     → (s : Stage) (c : Course) (d bytes : List ℕ)
     (f : ReadFault) → s ≡ make c d → (f ≢ memory → IsFaulty (judged_from_here o c d) bytes f)
     → (f ≢ memory) ⊎ AsksForNone s bytes → IsFaulty (owed_verdict s) bytes f
-judging_faulty make o j s c d bytes f is faulty (inl n) =
-    λ more. ap (λ t. owed_verdict t (bytes ++ more)) is ∙ (j.owes c d (bytes ++ more) ∙ faulty n more)
-judging_faulty make o j s c d bytes f is faulty (inr none) =
-    absurd (j.asks c d bytes (subst (λ (t : Stage). AsksForNone t bytes) is none))
+judging_faulty make o j s c d bytes f is faulty h = grind (arith, nat_tests)
 
 pub found_faulty : (s : Stage) (h : Heading) (n : ℕ) (v : TextVerdict) (bytes : List ℕ) (f : ReadFault)
     → s ≡ stage.Found h n v
     → IsFaulty (λ x. read_through (events_from h n x)) bytes f → IsFaulty (owed_verdict s) bytes f
-found_faulty s h n v bytes f is faulty more =
-    ap (λ t. owed_verdict t (bytes ++ more)) is
-    ∙ (owed_found h n v (bytes ++ more) ∙ ap (λ r. r >>= λ _. Ok v) (faulty more))
+found_faulty s h n v bytes f h' h'' = grind (arith, nat_tests, owed_found, Ok)
 
 -- ---- the end of a text after its last line
 
@@ -367,12 +309,10 @@ no_bytes (x ∷ xs) e = absurd (omega (arith, eqb-true (length (x ∷ xs)) 0 e))
 pub whole_ended : (r : Result TextVerdict ReadFault) (s t : Stage) (bytes rest : List ℕ)
     → IsCarried (owed_verdict s) bytes (owed_verdict t) rest → (length rest == 0) ≡ true
     → r ≡ owed_verdict t [] → r ≡ owed_verdict s bytes
-whole_ended r s t bytes rest carried empty is =
-    is ∙ sym (at_end s t bytes rest carried ∙ ap (owed_verdict t) (no_bytes rest empty))
+whole_ended r s t bytes rest carried empty is = grind (arith, nat_tests, at_end, no_bytes)
 
 pub whole_unfinished : (s t : Stage) (bytes rest : List ℕ) (f : ReadFault)
     → IsCarried (owed_verdict s) bytes (owed_verdict t) rest
     → is_unended rest ≡ true → (length rest == 0) ≡ false
     → ((x : List ℕ) → is_unended x ≡ true → length x ≢ 0 → owed_verdict t x ≡ Err f) → owed_verdict s bytes ≡ Err f
-whole_unfinished s t bytes rest f carried ended some is =
-    at_end s t bytes rest carried ∙ is rest ended (eqb-false _ _ some)
+whole_unfinished s t bytes rest f carried ended some is = grind (arith, nat_tests, at_end, eqb-false)

@@ -1,8 +1,7 @@
 -- Judging events as they are read, one after the other, as a loop does
-use Rattle.std.proofs.Common.{◌≡◌, ◌≢◌, ◌==◌, ◌+◌, ℕ, Bool, true, false, cond, List, [], ◌∷◌, ◌++◌, length}
+use Rattle.std.proofs.Common.{◌≡◌, ◌≢◌, ◌==◌, ◌+◌, ℕ, Bool, cond, List, [], ◌∷◌, ◌++◌, length, arith}
 use Rattle.std.proofs.Common.{Result, Ok, Err, refl, sym, ap, ◌∙◌, length-append}
 use Rattle.std.specs.Prelude.{◌^◌}
-use Rattle.std.proofs.lemmas.Bool.{eqb-true}
 use Rattle.monk_kinds.specs.declared.mode.Rules.{Rules}
 use Rattle.monk_object.specs.Object.{Object}
 use Rattle.monk_history.specs.Text.Words.{◌>>=◌}
@@ -19,6 +18,7 @@ use Rattle.monk_audit.proofs.AuditLaws.{reason_opening}
 use Rattle.monk_audit.specs.{Verdict.verdict_from, Verdict.verdict_of, Reading.verdict_at, Reading.verdict_read}
 use Rattle.monk_audit.specs.{Reading.read_through, Reading.history_verdict, Reading.lines_verdict, Reading.text_verdict}
 use Rattle.monk_audit.specs.declared.verdict.Verdict.{Verdict, TheVariants.Legal, TheVariants.Forbidden}
+use Rattle.std.proofs.lemmas.Bool.Decides.{nat_tests}
 
 more_count : (past : List Event) (e : Event) → length past + 1 ≡ length (past ++ e ∷ [])
 more_count past e = sym (length-append past (e ∷ []))
@@ -27,8 +27,7 @@ by_reason : (m : Monitor) (past es : List Event) (e : Event) (b : Bool) (u v : V
     → (reason_of m past e ≡ 0 → u ≡ v)
     → cond b u (Forbidden (length past + 1) (reason_of m past e))
     ≡ cond b v (Forbidden (length past + 1) (reason_of m past e))
-by_reason m past es e true u v is f = f (eqb-true _ _ is)
-by_reason m past es e false u v is f = refl
+by_reason m past es e b u v is f = grind (arith, nat_tests)
 
 from_here : (m : Monitor) (past es : List Event) → IsLegal m past
     → verdict_from m past es ≡ verdict_at m (length past) (situation m past) es
@@ -51,8 +50,7 @@ verdict_of_reading m read = read >>= λ es. Ok (verdict_of m es)
 
 pub judged_is : (m : Monitor) (read : Result (List Event) ReadFault)
     → verdict_read m 0 (opening_situation m) read ≡ verdict_of_reading m read
-judged_is m (Ok es) = ap (λ v. Ok v) (sym (verdict_at_is m es))
-judged_is m (Err f) = refl
+judged_is m read = grind (arith, nat_tests, Ok, verdict_at_is, Err)
 
 -- ---- the steps and the ends of the loop; what is to be judged is `total`
 
@@ -73,62 +71,42 @@ allowed_verdict m n t e es zero_is = rw zero_is refl
 allowed_read : (m : Monitor) (n : ℕ) (t : Situation) (e : Event) (new : Result (List Event) ReadFault)
     → reason_in m t e ≡ 0 → verdict_read m n t (new >>= λ es. Ok (e ∷ es)) ≡ verdict_read m (n + 1) (after m.object t e)
     new
-allowed_read m n t e (Ok es) zero_is = ap (λ v. Ok v) (allowed_verdict m n t e es zero_is)
-allowed_read m n t e (Err f) zero_is = refl
+allowed_read m n t e new zero_is = grind (arith, nat_tests, Ok, allowed_verdict, Err)
 
 pub judged_more : (m : Monitor) (n r : ℕ) (t u : Situation) (e : Event) (read new : Result (List Event) ReadFault)
     (total : Result Verdict ReadFault) → read ≡ (new >>= λ es. Ok (e ∷ es)) → r ≡ reason_in m t e → r ≡ 0
     → u ≡ after m.object t e
     → verdict_read m n t read ≡ total → verdict_read m (n + 1) u new ≡ total
-judged_more m n r t u e read new total more is zero_is step so_far =
-    ap (λ x. verdict_read m (n + 1) x new) step
-    ∙ (sym (allowed_read m n t e new (sym is ∙ zero_is)) ∙ (ap (verdict_read m n t) (sym more) ∙ so_far))
-
-forbidden_verdict : (m : Monitor) (n : ℕ) (t : Situation) (e : Event) (es : List Event) (b : Bool)
-    → (reason_in m t e == 0) ≡ b → reason_in m t e ≢ 0
-    → cond b (verdict_at m (n + 1) (after m.object t e) es) (Forbidden (n + 1) (reason_in m t e)) ≡ Forbidden (n + 1)
-    (reason_in m t e)
-forbidden_verdict m n t e es true is some = absurd (some (eqb-true _ _ is))
-forbidden_verdict m n t e es false is some = refl
+judged_more m n r t u e read new total more is zero_is step so_far = grind (arith, nat_tests, allowed_read)
 
 forbidden_read : (m : Monitor) (n : ℕ) (t : Situation) (e : Event) (new : Result (List Event) ReadFault)
     → reason_in m t e ≢ 0
     → verdict_read m n t (new >>= λ es. Ok (e ∷ es)) ≡ (read_through new >>= λ _. Ok
     (Forbidden (n + 1) (reason_in m t e)))
 unfolding verdict_at
-forbidden_read m n t e (Ok es) some = ap (λ v. Ok v) (forbidden_verdict m n t e es (reason_in m t e == 0) refl some)
-forbidden_read m n t e (Err f) some = refl
+forbidden_read m n t e new some = grind (arith, nat_tests)
 
 pub forbidden_then : (m : Monitor) (n r : ℕ) (t : Situation) (e : Event) (read new : Result (List Event) ReadFault)
     (total : Result Verdict ReadFault) → read ≡ (new >>= λ es. Ok (e ∷ es)) → r ≡ reason_in m t e → r ≢ 0
     → verdict_read m n t read ≡ total → total ≡ (read_through new >>= λ _. Ok (Forbidden (n + 1) r))
-forbidden_then m n r t e read new total more is some so_far =
-    sym so_far ∙ (ap (verdict_read m n t) more
-    ∙ (forbidden_read m n t e new (λ z. some (is ∙ z))
-    ∙ ap (λ x. read_through new >>= λ _. Ok (Forbidden (n + 1) x)) (sym is)))
+forbidden_then m n r t e read new total more is some so_far = grind (arith, nat_tests, forbidden_read, Ok)
 
 -- the reason that a replay gives is the reason of the monitor
 pub reason_there : (k : Rules) (seats n conds : ℕ) (o : Object) (d : List ℕ) (t : Situation) (e : Event) (r : ℕ)
     → n ≡ seats → r ≡ reason_in (monitor k n conds o []) t e → r ≡ reason_in (monitor k seats conds o d) t e
-reason_there k seats n conds o d t e r a b = b
-    ∙ (ap (λ x. reason_in (monitor k x conds o []) t e) a ∙ reason_opening k seats conds o d t e)
+reason_there k seats n conds o d t e r a b = grind (arith, nat_tests, reason_opening)
 
 -- ---- the whole text
 
 behind_verdict : (h : Heading) (read : Result (List Event) ReadFault)
     → ((read >>= λ es. Ok (h, es)) >>= λ x. Ok (history_verdict x)) ≡ lines_verdict h read
-behind_verdict h (Ok es) = refl
-behind_verdict h (Err f) = refl
+behind_verdict h read = grind (arith, nat_tests)
 
 pub opened_text : (bytes : List ℕ) (h : Heading) (left : LinesLeft)
     → Ok (h, left) ≡ opened_at header_at (2 ^ 25) (lines_of bytes)
     → text_verdict bytes ≡ lines_verdict h (items_left (event_under h) left)
-opened_text bytes h left opened =
-    ap (λ r. r >>= λ x. Ok (history_verdict x)) (lines_behind header_at event_under (2 ^ 25) (lines_of bytes)
-    ∙ ap (behind event_under) (sym opened)) ∙ behind_verdict h (items_left (event_under h) left)
+opened_text bytes h left opened = grind (arith, nat_tests, Ok, lines_behind, behind, behind_verdict)
 
 pub not_opened_text : (bytes : List ℕ) (f : ReadFault) → Err f ≡ opened_at header_at (2 ^ 25) (lines_of bytes)
     → text_verdict bytes ≡ Err f
-not_opened_text bytes f bad =
-    ap (λ r. r >>= λ x. Ok (history_verdict x)) (lines_behind header_at event_under (2 ^ 25) (lines_of bytes)
-    ∙ ap (behind event_under) (sym bad))
+not_opened_text bytes f bad = grind (arith, nat_tests, Ok, lines_behind, behind)

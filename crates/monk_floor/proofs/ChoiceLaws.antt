@@ -1,6 +1,6 @@
 -- The choice by the fronts of the queues is that by the whole queues
-use Rattle.std.proofs.Common.{◌≡◌, ℕ, Bool, true, false, cond, not, ◌&&◌, ◌||◌, ◌==◌, Option, List, [], ◌∷◌, ◌++◌, refl}
-use Rattle.std.proofs.Common.{sym, ap, subst, ◌∙◌, eq-eqb}
+use Rattle.std.proofs.Common.{◌≡◌, ℕ, Bool, true, false, cond, not, ◌&&◌, ◌||◌, ◌==◌, Option, List, ◌++◌, refl}
+use Rattle.std.proofs.Common.{sym, ap, subst, ◌∙◌, arith}
 use Rattle.std.specs.Prelude.{slice_get, nat_le, if◌then◌else◌}
 use Rattle.monk_kinds.specs.Kind.{IsKind}
 use Rattle.monk_kinds.specs.declared.mode.Pick.{Pick, TheVariants.Entry as WishEntry, TheVariants.Waiter as WishWaiter}
@@ -12,14 +12,15 @@ use Rattle.monk_history.specs.Just.{just}
 use Rattle.monk_history.specs.Meaning.{Monitor.Monitor, Situation.Situation, Situation.situation, Waiters.serves}
 use Rattle.monk_history.specs.Meaning.{Signallers.is_empty, Signallers.signals, Untils.ready_of, Release.MayCall}
 use Rattle.monk_history.specs.Meaning.{Release.with_next, Release.choice_of, Reasons.is_right_reply, Reasons.IsAllowed}
-use Rattle.monk_history.specs.Meaning.Choice.{Queues, queues_at, must_stay}
-use Rattle.monk_history.specs.Meaning.Events.{seat_of, has_conditions}
+use Rattle.monk_history.specs.Meaning.Choice.{Queues, must_stay}
+use Rattle.monk_history.specs.Meaning.Events.{seat_of}
 use Rattle.monk_history.specs.Meaning.Wish.{inner_waiters, front, waiter_choice, choice_by}
 use Rattle.monk_history.specs.declared.event.{Event.Event, Event.TheVariants.Act, Turn.Turn}
 use Rattle.monk_history.specs.declared.event.Next.{Next}
-use Rattle.monk_history.specs.declared.event.Next.TheVariants.{Stay, Entry, Waiter, Signaller, Until as UntilSeat}
+use Rattle.monk_history.specs.declared.event.Next.TheVariants.{Stay, Entry, Signaller}
 use Rattle.monk_floor.{specs.Queues.QueueLists, specs.Queues.queue_at, specs.Kept.shown_situation}
 use Rattle.monk_floor.{specs.Kept.KeepsHistory, specs.Ready.stays_by, proofs.KeptLaws.in_order}
+use Rattle.std.proofs.lemmas.Bool.Decides.{nat_tests}
 
 -- a choice by what it reads of the queues
 abbrev parts : Rules → Bool → Next → Bool → ℕ → ℕ → Bool → Pick → Next
@@ -42,22 +43,17 @@ parts k none next empty first s known WishSignaller =
 parts_are : (k : Rules) (q : Queues) (s : ℕ) (known : Bool) (wish : Pick)
     → choice_by k q s known wish ≡ parts k (is_empty (inner_waiters k q)) (waiter_choice k q) (is_empty q.signallers)
     (front q.signallers) s known wish
-parts_are k q s known WishEntry = refl
-parts_are k q s known WishWaiter = refl
-parts_are k q s known WishSignaller = refl
+parts_are k q s known wish = cc
 
 empty_first : (xs : List ℕ) → is_empty (just (slice_get xs 0)) ≡ is_empty xs
-empty_first [] = refl
-empty_first (x ∷ xs) = refl
+empty_first xs = grind (arith, nat_tests)
 
 front_first : (xs : List ℕ) → front (just (slice_get xs 0)) ≡ front xs
-front_first [] = refl
-front_first (x ∷ xs) = refl
+front_first xs = grind (arith, nat_tests)
 
 inner_first : (b : Bool) (ws rs : List ℕ)
     → is_empty (cond b (just (slice_get ws 0)) (just (slice_get rs 0))) ≡ is_empty (cond b ws rs)
-inner_first true ws rs = empty_first ws
-inner_first false ws rs = empty_first rs
+inner_first b ws rs = grind (arith, nat_tests)
 
 choice_first : (k : Rules) (ws ss rs : List ℕ) (s : ℕ) (known : Bool) (wish : Pick)
     → choice_by k (record {
@@ -67,24 +63,14 @@ choice_first : (k : Rules) (ws ss rs : List ℕ) (s : ℕ) (known : Bool) (wish 
           just (slice_get rs 0);
     }) s known wish ≡ choice_by k (record { waiters = ws; signallers = ss; ready = rs }) s known
     wish
-choice_first k ws ss rs s known wish =
-    parts_are k (record {
-      waiters = just (slice_get ws 0);
-      signallers = just (slice_get ss 0);
-      ready = just (slice_get rs 0);
-    }) s known wish
-    ∙ ((λ i. parts k (inner_first (has_conditions k.mode) ws rs i)
-    (cond (has_conditions k.mode) (Waiter (front_first ws i)) (UntilSeat (front_first rs i))) (empty_first ss i)
-    (front_first ss i) s known wish)
-    ∙ sym (parts_are k (record { waiters = ws; signallers = ss; ready = rs }) s known wish))
+choice_first k ws ss rs s known wish = grind (arith, nat_tests, parts_are, inner_first, front_first, empty_first)
 
 pub stays_is : (o : Object) (t : Situation) (e : Event) → stays_by o t.condition t.state e ≡ must_stay o t e
 stays_is o t e = refl
 
 chosen_stay : (k : Rules) (o : Object) (t : Situation) (e : Event) (known : Bool) (wish : Pick) (b : Bool)
     → b ≡ stays_by o t.condition t.state e → b ≡ true → Stay ≡ choice_of k o t e known wish
-chosen_stay k o t e known wish b f h = ap (λ z. cond z Stay (choice_by k (queues_at o t e) (seat_of e) known wish))
-    (sym h ∙ (f ∙ stays_is o t e))
+chosen_stay k o t e known wish b f h = cc
 
 chosen_next : (k : Rules) (o : Object) (t : Situation) (e : Event) (known : Bool) (wish : Pick) (b : Bool)
     → b ≡ stays_by o t.condition t.state e → b ≡ false
@@ -92,13 +78,7 @@ chosen_next : (k : Rules) (o : Object) (t : Situation) (e : Event) (known : Bool
     → s ≡ slice_get (t.signallers ++ signals t.condition e) 0 → r ≡ slice_get (ready_of o t.state t.untils) 0
     → n ≡ choice_by k (record { waiters = just w; signallers = just s; ready = just r }) (seat_of e) known wish
     → n ≡ choice_of k o t e known wish
-chosen_next k o t e known wish b f h w s r n x y z c =
-    c
-    ∙ (ap (λ q. choice_by k q (seat_of e) known wish)
-    (λ i. record { waiters = just (x i); signallers = just (y i); ready = just (z i) })
-    ∙ (choice_first k (t.waiters ++ serves t.condition e) (t.signallers ++ signals t.condition e)
-    (ready_of o t.state t.untils) (seat_of e) known wish
-    ∙ ap (λ v. cond v Stay (choice_by k (queues_at o t e) (seat_of e) known wish)) (sym h ∙ (f ∙ stays_is o t e))))
+chosen_next k o t e known wish b f h w s r n x y z c = grind (arith, nat_tests, choice_first, stays_is)
 
 module _ {m : Monitor} {budget : ℕ} {h : List Event} {capacity : ℕ} {q : QueueLists} {state : List ℕ} {turn : Turn}
     {inside : List Bool} {spent granted : List ℕ} {entered : ℕ} where
@@ -140,11 +120,4 @@ module _ {m : Monitor} {budget : ℕ} {h : List Event} {capacity : ℕ} {q : Que
   pub kept_act : KeepsHistory m budget h capacity q state turn inside spent granted entered
       → (s : ℕ) (op : Op) (reply : ℕ) → MayCall m h (Act s op 0) → reply ≡ m.object.reply state op
       → IsAllowed m h (Act s op reply)
-  kept_act kept s op reply c r = record {
-    in_range = c.in_range;
-    offered = c.offered;
-    in_turn = c.in_turn;
-    in_place = c.in_place;
-    right_reply = eq-eqb reply _ (r ∙ ap (λ t. m.object.reply t.state op) kept.stands);
-    permitted = refl;
-  }
+  kept_act kept s op reply c r = grind (arith, nat_tests)

@@ -1,6 +1,6 @@
 -- What a floor keeps, before an event and after it
 use Rattle.std.proofs.Common.{◌≡◌, ℕ, ◌+◌, ◌-◌, ◌*◌, ◌<◌, ◌≤◌, zero, suc, Bool, true, false, cond, ◌&&◌, ◌||◌, not}
-use Rattle.std.proofs.Common.{◌==◌, All, List, [], ◌∷◌, ◌++◌, length, refl, sym, ap, subst, ◌∙◌, arith, Option, Some, None, drop, ⊎_elim}
+use Rattle.std.proofs.Common.{◌==◌, All, List, [], ◌∷◌, ◌++◌, length, refl, sym, ap, subst, ◌∙◌, arith, Option, drop, ⊎_elim}
 use Rattle.std.proofs.Math.Nat.{mul-le-mul_right}
 use Rattle.std.proofs.lemmas.{Bool.eqb-true, Bool.cases_lt, List.Elements.All-nil}
 use Rattle.std.specs.{Prelude.nat_lt, Prelude.slice_index_or, List.list_all}
@@ -18,17 +18,17 @@ use Rattle.monk_history.specs.Meaning.{Step.opening_situation, Signallers.is_emp
 use Rattle.monk_history.specs.Meaning.Reasons.{is_in_range, is_condition, fits_object, IsAllowed}
 use Rattle.monk_history.specs.Meaning.Standing.{times, times_in_conditions, in_queues}
 use Rattle.monk_history.specs.Meaning.Turn.{turn_by, is_enter_of, is_exit_of}
-use Rattle.monk_history.specs.Meaning.Conditions.{is_at, waiting_by, served_by}
+use Rattle.monk_history.specs.Meaning.Conditions.{waiting_by, served_by}
 use Rattle.monk_history.specs.Meaning.Counts.{events_of, left_of, grants, granted_of, is_enter, enters_of}
 use Rattle.monk_history.specs.Meaning.Events.{seat_of, next_of, named_seat, waits_on, signals_on}
 use Rattle.monk_history.specs.declared.event.{Event.Event, Turn.Turn, Turn.TheVariants.Open}
 use Rattle.monk_floor.specs.{View.FloorView, View.monitor_of, Kept.shown_situation, Kept.KeepsHistory, Ready.HasRoomFor}
 use Rattle.monk_floor.specs.Queues.{QueueLists, queue_at, in_lists, IsMoved}
+use Rattle.std.proofs.lemmas.Bool.Decides.{nat_tests}
 
 range_waits : (m : Monitor) (e : Event) → is_in_range m.seats m.conds m.object.codes m.object.predicates e ≡ true
     → is_condition m.conds (waits_on e) ≡ true
-range_waits m e h = and_right _ _
-    (and_left _ (is_condition m.conds (signals_on e)) (and_left _ (fits_object m.object.codes m.object.predicates e) h))
+range_waits m e h = grind (arith, nat_tests)
 
 range_signals : (m : Monitor) (e : Event) → is_in_range m.seats m.conds m.object.codes m.object.predicates e ≡ true
     → is_condition m.conds (signals_on e) ≡ true
@@ -36,11 +36,7 @@ range_signals m e h = and_right _ _ (and_left _ (fits_object m.object.codes m.ob
 
 named_in_range : (m : Monitor) (e : Event) → is_in_range m.seats m.conds m.object.codes m.object.predicates e ≡ true
     → list_all (λ j. nat_lt j m.seats) (named_seat (next_of e)) ≡ true
-named_in_range m e h =
-    and_right (nat_lt (seat_of e) m.seats) _
-    (and_left _ (is_condition m.conds (waits_on e))
-    (and_left _ (is_condition m.conds (signals_on e))
-    (and_left _ (fits_object m.object.codes m.object.predicates e) h)))
+named_in_range m e h = grind (arith, nat_tests)
 
 range_object : (m : Monitor) (e : Event) → is_in_range m.seats m.conds m.object.codes m.object.predicates e ≡ true
     → fits_object m.object.codes m.object.predicates e ≡ true
@@ -48,25 +44,15 @@ range_object m e h = and_right _ _ h
 
 -- a condition of a monitor with fewer is one of a monitor with more
 wider : (n m : ℕ) (o : Option ℕ) → n ≤ m → is_condition n o ≡ true → is_condition m o ≡ true
-wider n m None l h = refl
-wider n m (Some c) l h = grind (arith, l, h)
+wider n m o l h = grind (arith, nat_tests)
 
 -- nobody waits on a condition that doesn't exist
 nobody_waits : (n c : ℕ) (e : Event) → n ≤ c → is_condition n (waits_on e) ≡ true → waiting_by c e ≡ []
-nobody_waits n c e l h = ap (λ b. cond b (seat_of e ∷ []) []) (past (waits_on e) h)
-  where
-    past : (o : Option ℕ) → is_condition n o ≡ true → is_at c o ≡ false
-    past None h = refl
-    past (Some d) h = grind (arith, l, h)
+nobody_waits n c e l h = grind (arith, nat_tests)
 
 still_unused : (c : ℕ) (e : Event) (xs : List ℕ) → xs ≡ [] → waiting_by c e ≡ []
     → drop (length (served_by c e xs)) xs ++ waiting_by c e ≡ []
-still_unused c e xs n w =
-    (λ i. drop (length (served_by c e xs)) (n i) ++ w i) ∙ none (length (served_by c e xs))
-  where
-    none : (n : ℕ) → ◌≡◌ {A = List ℕ} (drop n [] ++ []) []
-    none zero = refl
-    none (suc n) = refl
+still_unused c e xs n w = grind (arith, nat_tests)
 
 -- a seat is in no queue of a condition that doesn't exist
 times_unused : (s n m : ℕ) (q : ℕ → List ℕ) → n ≤ m → ((c : ℕ) → n ≤ c → q c ≡ [])
@@ -79,8 +65,7 @@ times_unused s n (suc m) q l h =
     (cases_lt m n)
 
 one_within : (b : Bool) (x n : ℕ) → (b ≡ true → x < n) → x ≤ n → x + cond b 1 0 ≤ n
-one_within true x n f l = let k = f refl in omega (arith, k)
-one_within false x n f l = omega (arith, l)
+one_within b x n f l = grind (arith, nat_tests)
 
 past_none : (xs : List ℕ) (i : ℕ) → length xs ≤ i → slice_index_or xs i 0 ≡ 0
 past_none [] i l = refl
@@ -105,12 +90,7 @@ module _ {m : Monitor} {budget : ℕ} {h : List Event} {capacity : ℕ} {q : Que
 
   few_kept : KeepsHistory m budget h capacity q state turn inside spent granted entered → (e : Event) → IsAllowed m h e
       → length (events_of h (seat_of e)) < budget → length h < 33554432
-  few_kept kept e a l =
-      let s = seat_in_range m.seats m.conds m.object.codes m.object.predicates e a.in_range in
-      let low = kept.low in
-      few_events m.seats budget (length h) kept.few (grind (arith, low))
-      (room_left m.seats budget (seat_of e) h s
-      (λ j n. sym (kept.counts j) ∙ past_none spent j (omega (arith, n, kept.spent_seats))) kept.within l)
+  few_kept kept e a l = grind (arith, nat_tests, seat_in_range, few_events, room_left, past_none)
 
   pub is_ready : KeepsHistory m budget h capacity q state turn inside spent granted entered → IsKind m.kind
       → (e : Event) → IsAllowed m h e → length (events_of h (seat_of e)) < budget
@@ -136,27 +116,17 @@ module _ {m : Monitor} {budget : ℕ} {h : List Event} {capacity : ℕ} {q : Que
   -- the history is no longer than the budgets of all seats
   pub within_budgets : KeepsHistory m budget h capacity q state turn inside spent granted entered
       → length h ≤ m.seats * budget
-  within_budgets kept =
-      history_few m.seats budget h (λ j n. sym (kept.counts j) ∙ past_none spent j (omega (arith, n, kept.spent_seats)))
-      kept.within
+  within_budgets kept = grind (arith, nat_tests, history_few, past_none)
 
   -- so a text has lines for all of it
   pub within_lines : KeepsHistory m budget h capacity q state turn inside spent granted entered
       → length h ≤ most_lines
-  within_lines kept =
-      let n = within_budgets kept in
-      let low = kept.low in
-      let c = mul-le-mul_right budget kept.few in
-      omega (arith, n, low, c)
+  within_lines kept = grind (arith, nat_tests, within_budgets, mul-le-mul_right)
 
   -- and there is room in the history
   pub has_room : KeepsHistory m budget h capacity q state turn inside spent granted entered → (e : Event)
       → IsAllowed m h e → length (events_of h (seat_of e)) < budget → length h < capacity
-  has_room kept e a l =
-      let s = seat_in_range m.seats m.conds m.object.codes m.object.predicates e a.in_range in
-      let r = room_left m.seats budget (seat_of e) h s
-      (λ j n. sym (kept.counts j) ∙ past_none spent j (omega (arith, n, kept.spent_seats))) kept.within l in
-      let c = kept.room in omega (arith, r, c)
+  has_room kept e a l = grind (arith, nat_tests, seat_in_range, room_left, past_none)
 
   -- what is kept after an event that is allowed
   pub kept_push : KeepsHistory m budget h capacity q state turn inside spent granted entered → (e : Event)
@@ -207,9 +177,6 @@ module _ {m : Monitor} {budget : ℕ} {h : List Event} {capacity : ℕ} {q : Que
       begun [] = refl
       begun (x ∷ xs) = refl
 
-pub some_left : (n b : ℕ) → 0 < b - n → n < b
-some_left n b h = omega (arith, h)
-
 -- what holds for a floor's value holds for the equal value before
 pub allowed_here : (k : Rules) (o : Object) (f g : FloorView) (e : Event) → g ≡ f
     → IsAllowed (monitor_of k o f) f.history e → IsAllowed (monitor_of k o g) g.history e
@@ -221,8 +188,7 @@ call_here k o f g e s a = subst (λ x. MayCall (monitor_of k o x) x.history e) (
 
 pub left_here : (f g : FloorView) (s : ℕ) → g ≡ f → 0 < left_of f.budget f.history s
     → length (events_of g.history s) < g.budget
-left_here f g s e l = subst (λ (x : FloorView). length (events_of x.history s) < x.budget) (sym e)
-    (some_left (length (events_of f.history s)) f.budget l)
+left_here f g s e l = grind (arith, nat_tests)
 
 none_kept : (h : List Event) → h ≡ [] → not (is_empty h) ≡ false
 none_kept h e = ap (λ x. not (is_empty x)) e

@@ -1,5 +1,5 @@
 -- The choice by the path of a mode, with what a floor keeps
-use Rattle.std.proofs.Common.{◌≡◌, ℕ, Bool, true, false, not, Option, List, ◌++◌, refl, sym, ap, subst, ◌∙◌}
+use Rattle.std.proofs.Common.{◌≡◌, ℕ, Bool, true, false, Option, List, ◌++◌, refl, sym, ap, subst, ◌∙◌, arith}
 use Rattle.std.specs.Prelude.{slice_get, nat_le}
 use Rattle.monk_kinds.specs.Kind.{IsKind}
 use Rattle.monk_kinds.specs.declared.mode.{Rules.Rules, Pick.Pick}
@@ -7,7 +7,7 @@ use Rattle.monk_kinds.specs.declared.mode.Mode.TheVariants.{Blocking, NonBlockin
 use Rattle.monk_history.proofs.PublicLaws.Meaning.{non_blocking, blocking, quasi_blocking, waiter_path, ready_path}
 use Rattle.monk_history.proofs.PublicLaws.Meaning.{signaller_path, served_path, equal_path, signal_stays}
 use Rattle.monk_history.specs.Meaning.{Events.seat_of, Events.has_conditions, Monitor.Monitor, Situation.situation}
-use Rattle.monk_history.specs.Meaning.{Waiters.serves, Signallers.is_empty, Signallers.signals, Untils.ready_of}
+use Rattle.monk_history.specs.Meaning.{Waiters.serves, Signallers.signals, Untils.ready_of}
 use Rattle.monk_history.specs.Meaning.{Choice.must_stay, Release.MayCall, Release.choice_of}
 use Rattle.monk_history.specs.Meaning.Paths.{keeps_signallers, single_choice, equal_choice, served_choice}
 use Rattle.monk_history.specs.declared.event.{Next.Next, Next.TheVariants.Stay, Turn.Turn}
@@ -17,7 +17,9 @@ use Rattle.monk_history.specs.declared.event.Event.{Event, TheVariants.Signal}
 use Rattle.monk_floor.proofs.ChoiceLaws.{kept_stay, kept_allowed, stays_is}
 use Rattle.monk_floor.specs.{Chosen.IsChosen, Queues.QueueLists, Queues.queue_at, Ready.stays_by, Releases.IsReplyless}
 use Rattle.monk_floor.specs.{Releases.MakesNoSignaller, Releases.ServesNobody, View.FloorView, View.monitor_of}
-use Rattle.monk_floor.specs.Kept.{shown_situation, KeepsHistory}
+use Rattle.monk_floor.specs.Kept.{KeepsHistory}
+use Rattle.std.proofs.lemmas.Bool.Decides.{nat_tests}
+use Rattle.std.proofs.Common.{rules}
 
 abbrev pub view : Monitor → ℕ → List Event → FloorView
 view m budget h = record { opening = m.opening; seats = m.seats; conds = m.conds; budget = budget; history = h }
@@ -40,14 +42,11 @@ module _ {m : Monitor} {budget : ℕ} {h : List Event} {capacity : ℕ} {q : Que
       → MayCall (monitor_of m.kind m.object f) f.history e → IsReplyless m.object e → (b : Bool)
       → b ≡ stays_by m.object (queue_at q.conditions) state e → b ≡ true
       → IsChosen m.kind m.object f e known wish Stay
-  stay_here kept k f v e known wish a r b x y =
-      chosen_here kept k f v e known wish Stay a r (kept_stay kept e known wish b x y)
+  stay_here kept k f v e known wish a r b x y = search (rules, chosen_here, kept_stay)
 
   goes_on : KeepsHistory m budget h capacity q state turn inside spent granted entered → (e : Event) (b : Bool)
       → b ≡ stays_by m.object (queue_at q.conditions) state e → b ≡ false → must_stay m.object (situation m h) e ≡ false
-  goes_on kept e b x y =
-      ap (λ t. must_stay m.object t e) (sym kept.stands)
-      ∙ (sym (stays_is m.object (shown_situation q state turn inside (not (is_empty h))) e) ∙ (sym x ∙ y))
+  goes_on kept e b x y = grind (arith, nat_tests, stays_is)
 
   pub waiter_here : KeepsHistory m budget h capacity q state turn inside spent granted entered → IsKind m.kind
       → (f : FloorView) → view m budget h ≡ f → (e : Event) (known : Bool) (wish : Pick)
@@ -124,6 +123,4 @@ module _ {m : Monitor} {budget : ℕ} {h : List Event} {capacity : ℕ} {q : Que
       → (f : FloorView) → view m budget h ≡ f → (s c : ℕ) (known : Bool) (wish : Pick)
       → MayCall (monitor_of m.kind m.object f) f.history (Signal s c Stay) → m.kind.mode ≡ NonBlocking
       → IsChosen m.kind m.object f (Signal s c Stay) known wish Stay
-  staying_here kept i f v s c known wish a x =
-      chosen_here kept i f v (Signal s c Stay) known wish Stay a (λ y. refl)
-      (signal_stays m h s c Stay known wish (non_blocking m.kind i x) kept.legal)
+  staying_here kept i f v s c known wish a x = search (rules, chosen_here, signal_stays, non_blocking)

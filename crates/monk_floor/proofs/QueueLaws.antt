@@ -1,7 +1,7 @@
 -- How an event changes the queues
-use Rattle.std.proofs.Common.{◌≡◌, ℕ, ◌≤◌, Bool, true, false, cond, List, [], ◌∷◌, filter, sym, ap, subst, arith}
-use Rattle.monk_history.specs.{Limits.most_conds, Meaning.Standing.times, Meaning.Standing.times_in_conditions}
+use Rattle.std.proofs.Common.{◌≡◌, ℕ, ◌≤◌, Bool, true, false, cond, List, [], ◌∷◌, filter, arith}
 use Rattle.monk_floor.specs.Queues.{QueueLists, queue_at, times_in_waits, in_lists}
+use Rattle.std.proofs.lemmas.Bool.Decides.{nat_tests}
 
 times_fewer : (s : ℕ) (p : ℕ × ℕ → Bool) (us : List (ℕ × ℕ)) → times_in_waits s (filter p us) ≤ times_in_waits s us
 times_fewer s p [] = omega arith
@@ -18,9 +18,4 @@ pub still_apart : (s : ℕ) (old left : QueueLists) (p : ℕ × ℕ → Bool)
     → left.waiters ≡ old.waiters → left.signallers ≡ old.signallers → left.untils ≡ filter p old.untils
     → in_lists s old ≡ 0
     → in_lists s left ≡ 0
-still_apart s old left p c w g u h =
-    let same : queue_at left.conditions ≡ queue_at old.conditions = λ i x. c x i in
-    let conditions = ap (times_in_conditions most_conds s) same in
-    let fewer : times_in_waits s left.untils ≤ times_in_waits s old.untils =
-    subst (λ us. times_in_waits s us ≤ times_in_waits s old.untils) (sym u) (times_fewer s p old.untils) in
-    omega (arith, h, conditions, fewer, ap (times s) w, ap (times s) g)
+still_apart s old left p c w g u h = grind (arith, nat_tests, times_fewer)

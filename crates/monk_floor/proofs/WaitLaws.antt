@@ -1,10 +1,11 @@
 -- The waits-until, one after another
-use Rattle.std.proofs.Common.{◌≡◌, ℕ, zero, suc, ◌<◌, ◌≤◌, ◌+◌, ◌==◌, true, false, cond, Option, Some, None, List, [], ◌∷◌, map, All}
-use Rattle.std.proofs.Common.{length, drop, filter, refl, sym, ap, subst, ◌∙◌, arith, eq-eqb, get_or, add-one}
+use Rattle.std.proofs.Common.{◌≡◌, ℕ, zero, suc, ◌<◌, ◌≤◌, ◌+◌, ◌==◌, true, false, cond, Option, Some, None, List, [], ◌∷◌, All}
+use Rattle.std.proofs.Common.{length, drop, refl, sym, ap, subst, ◌∙◌, arith, eq-eqb, get_or, add-one}
 use Rattle.std.specs.Prelude.{slice_get}
 use Rattle.monk_object.specs.Object.{Object}
 use Rattle.monk_history.specs.Meaning.{Standing.times, Untils.ready_of}
 use Rattle.monk_floor.{specs.Queues.waits_in, specs.Queues.times_in_waits, proofs.ShownLaws.seats_back}
+use Rattle.std.proofs.lemmas.Bool.Decides.{nat_tests}
 
 pub times_back : (s : ℕ) (p xs : List ℕ) → times_in_waits s (waits_in p xs) ≡ times s xs
 times_back s p xs = ap (times s) (seats_back p xs)
@@ -88,18 +89,11 @@ module _ (o : Object) (d : List ℕ) (us : List (ℕ × ℕ)) (i : ℕ) where
 
   pub ready_here : none_ready → (s r : ℕ) → slice_get us i ≡ Some (s, r) → o.holds d r ≡ true
       → Some s ≡ slice_get (ready_of o d us) 0
-  ready_here k s r h t =
-      sym (ap (λ xs. slice_get xs 0)
-      (sym k ∙ (ap (ready_of o d) (drop_at us i (s, r) h)
-      ∙ ap (λ b. map (λ (w : ℕ × ℕ). w.0) (cond b ((s, r) ∷ filter (λ w. o.holds d w.1) (drop (i + 1) us))
-      (filter (λ w. o.holds d w.1) (drop (i + 1) us)))) t)))
+  ready_here k s r h t = grind (arith, nat_tests, drop_at)
 
   pub ready_later : none_ready → (s r : ℕ) → slice_get us i ≡ Some (s, r) → o.holds d r ≡ false
       → ready_of o d (drop (i + 1) us) ≡ ready_of o d us
-  ready_later k s r h t =
-      sym (ap (ready_of o d) (drop_at us i (s, r) h)
-      ∙ ap (λ b. map (λ (w : ℕ × ℕ). w.0) (cond b ((s, r) ∷ filter (λ w. o.holds d w.1) (drop (i + 1) us))
-      (filter (λ w. o.holds d w.1) (drop (i + 1) us)))) t) ∙ k
+  ready_later k s r h t = grind (arith, nat_tests, drop_at)
 
   pub ready_never : none_ready → slice_get us i ≡ None → None ≡ slice_get (ready_of o d us) 0
   ready_never k h = ap (λ xs. slice_get xs 0) (sym (ap (ready_of o d) (drop_past us i h)) ∙ k)

@@ -11,8 +11,8 @@ use Rattle.monk_logs.specs.{Log.line_seat, LastLine.has, LastLine.last_behind, L
 use Rattle.monk_logs.specs.Crossed.{begins, crossed_below, crosses, crossing, crossing_at, crossing_in, with_seat}
 use Rattle.monk_logs.specs.declared.{crossed.Crossed.Crossed, subject.Subject.TheVariants.Seat}
 use Rattle.monk_logs.specs.declared.text.line.LogLine.{LogLine}
-use Rattle.monk_logs.specs.declared.text.line.LogLine.TheVariants.{Enter, Resume, Lapse, Leave, Wait, Signal, Broadcast}
-use Rattle.monk_logs.specs.declared.text.line.LogLine.TheVariants.{Until, Act}
+use Rattle.monk_logs.specs.declared.text.line.LogLine.TheVariants.{Wait}
+use Rattle.std.proofs.lemmas.Bool.Decides.{nat_tests}
 
 -- the lines before a line, and that line
 before_more : (log : List LogLine) (i : ℕ) (l : LogLine) → i < length log
@@ -56,8 +56,7 @@ crossing_by log d (Some n) = crossing_at (get_or log (n - 1) d) (reverse (take (
 
 by_more : (log : List LogLine) (d : LogLine) (i : ℕ)
     → crossing_by log d (Some (i + 1)) ≡ crossing_at (get_or log i d) (reverse (take i log))
-by_more log d i =
-    ap (λ n. crossing_at (get_or log n d) (reverse (take n log))) (omega arith)
+by_more log d i = grind (arith, nat_tests)
 
 crossing_take : (s : ℕ) (log : List LogLine) (d : LogLine) (i : ℕ) → i ≤ length log
     → crossing s (reverse (take i log)) ≡ crossing_by log d (last_line (Seat s) (take i log))
@@ -92,9 +91,7 @@ crossing_told s log d number is =
 
 or_within : (n k : ℕ) (b : Bool) (o : Option ℕ) → IfSome o (λ m. (suc n < m) × (m ≤ suc n + k))
     → IfSome (option_or o (cond b (Some (suc n)) None)) (λ m. (n < m) × (m ≤ n + suc k))
-or_within n k true None w = (omega arith, omega arith)
-or_within n k false None w = w
-or_within n k b (Some m) w = let low = w.0 in let high = w.1 in (omega arith, omega arith)
+or_within n k b o w = grind (arith, nat_tests)
 
 pub last_within : (p : LogLine → Bool) (n : ℕ) (log : List LogLine)
     → IfSome (last_behind p n log) (λ m. (n < m) × (m ≤ n + length log))
@@ -109,11 +106,7 @@ pub crossing_more : (s c : ℕ) (log : List LogLine) (n at : ℕ) (l : LogLine) 
     ≡ (if crosses s c (get_or log n l) then Some at
     else if begins s (get_or log n l) then None else crossing_in s c (reverse (take n log)))
 unfolding crossing_in
-crossing_more s c log n at l is lt =
-    ap (λ k. crossing_in s c (reverse (take k log))) is ∙ ap (crossing_in s c) (before_more log n l lt)
-    ∙ ap (λ k. if crosses s c (get_or log n l) then Some k
-    else if begins s (get_or log n l) then None else crossing_in s c (reverse (take n log)))
-    (let long = length-reverse (take n log) in let taken = length-take n log in omega (arith, lt, is, long, taken))
+crossing_more s c log n at l is lt = grind (arith, nat_tests, before_more, length-reverse, length-take)
 
 -- the last line is a signal to the condition by another seat
 pub found_crossing : (s c : ℕ) (log : List LogLine) (n at : ℕ) (l : LogLine) (whole : Option ℕ) → at ≡ n + 1
@@ -147,8 +140,7 @@ crossing_before s c log n at l whole is lt crossed begun same =
 pub crossing_none : (s c : ℕ) (log : List LogLine) (at : ℕ) (whole : Option ℕ) → at ≡ 0
     → crossing_in s c (reverse (take at log)) ≡ whole → None ≡ whole
 unfolding crossing_in
-crossing_none s c log at whole is same =
-    sym (ap (λ k. crossing_in s c (reverse (take k log))) is) ∙ same
+crossing_none s c log at whole is same = cc
 
 -- ---- the line that is found
 
@@ -178,15 +170,7 @@ crossing_front s log front before line n is taken parts =
 
 -- no signal crossed a line that isn't a wait
 pub no_crossing : (l : LogLine) (before : List LogLine) → ((s c : ℕ) → l ≡ Wait s c → ⊥) → None ≡ crossing_at l before
-no_crossing (Enter s) before other = refl
-no_crossing (Resume s) before other = refl
-no_crossing (Lapse s) before other = refl
-no_crossing (Leave s) before other = refl
-no_crossing (Wait s c) before other = absurd (other s c refl)
-no_crossing (Signal s c) before other = refl
-no_crossing (Broadcast s c) before other = refl
-no_crossing (Until s p) before other = refl
-no_crossing (Act s op r) before other = refl
+no_crossing l before other = grind (arith, nat_tests)
 
 -- ---- one seat more
 
@@ -198,7 +182,4 @@ pub seat_more : (sleeps : ℕ → Bool) (before : List LogLine) (s : ℕ) (signa
     → signal ≡ (if sleeps s then crossing s before else None) → found ≡ crossed_below sleeps before s
     → with_seat signal found ≡ crossed_below sleeps before (s + 1)
 unfolding crossed_below
-seat_more sleeps before s signal found is so_far =
-    ap (λ n. with_seat n found) is
-    ∙ ap (with_seat (if sleeps s then crossing s before else None)) so_far
-    ∙ ap (crossed_below sleeps before) (let on : suc s ≡ s + 1 = omega arith in on)
+seat_more sleeps before s signal found is so_far = grind (arith, nat_tests)

@@ -1,13 +1,13 @@
 -- The last line of a log after one more line
-use Rattle.std.proofs.Common.{◌≡◌, ℕ, suc, ◌+◌, ◌<◌, Bool, true, false, cond, List, [], ◌∷◌, ◌++◌, length, take, get_or}
+use Rattle.std.proofs.Common.{◌≡◌, ℕ, suc, ◌+◌, ◌<◌, Bool, cond, List, [], ◌∷◌, ◌++◌, length, take, get_or}
 use Rattle.std.proofs.Common.{Option, Some, None, refl, sym, ap, ◌∙◌, arith, length-take}
 use Rattle.std.{specs.Option.option_or, proofs.lemmas.List.take_more}
 use Rattle.monk_logs.specs.LastLine.{has, last_behind, last_line}
 use Rattle.monk_logs.specs.declared.{subject.Subject.Subject, text.line.LogLine.LogLine}
+use Rattle.std.proofs.lemmas.Bool.Decides.{nat_tests}
 
 or_first : (b : Bool) (n : ℕ) (x y : Option ℕ) → option_or (cond b (Some n) x) y ≡ cond b (Some n) (option_or x y)
-or_first true n x y = refl
-or_first false n x y = refl
+or_first b n x y = grind (arith, nat_tests)
 
 last_append : (p : LogLine → Bool) (n : ℕ) (log : List LogLine) (l : LogLine)
     → last_behind p n (log ++ l ∷ []) ≡ cond (p l) (Some (suc (n + length log))) (last_behind p n log)

@@ -1,5 +1,5 @@
 -- No word grows beyond what the events allow
-use Rattle.std.proofs.Common.{◌≡◌, ◌≢◌, ℕ, zero, suc, ◌+◌, ◌==◌, ◌<◌, ◌≤◌, cond, Bool, true, false, List, [], ◌∷◌}
+use Rattle.std.proofs.Common.{◌≡◌, ◌≢◌, ℕ, zero, suc, ◌+◌, ◌<◌, ◌≤◌, Bool, List, [], ◌∷◌}
 use Rattle.std.proofs.Common.{◌++◌, length, map, ⊎_elim, sym, refl, ap, ◌∙◌, subst, inl, inr, arith, eq-eqb}
 use Rattle.std.proofs.{Common.length-append, Math.Nat.mul-le-mul_right}
 use Rattle.std.proofs.lemmas.Bool.{cases_lt, Decides.eqb_tells}
@@ -10,8 +10,7 @@ use Rattle.monk_world.proofs.UpdateLaws.{at_update, update_here, update_else}
 use Rattle.monk_world.specs.{Update.update, State.State, State.with_event, World.World}
 use Rattle.monk_world.specs.Kept.{comes_in, comes_back, sum_below, IsBounded}
 use Rattle.monk_world.specs.declared.place.Place.{Place}
-use Rattle.monk_world.specs.declared.place.Place.TheVariants.{Idle, Ticket, Due, Active, Back, Passing, Inner}
-use Rattle.monk_world.specs.declared.source.Source.TheVariants.{Free, Granted, Called}
+use Rattle.std.proofs.lemmas.Bool.Decides.{nat_tests}
 
 -- a sum where one number changes
 module _ {X : Type 0} (g : X → ℕ) (at : ℕ → X) (i : ℕ) (x : X) where
@@ -41,24 +40,10 @@ sum_few zero f h = omega arith
 sum_few (suc n) f h = omega (arith, h n, sum_few n f h)
 
 pub comes_once : (p : Place) → comes_in p ≤ 1
-comes_once Idle = omega arith
-comes_once (Ticket t) = omega arith
-comes_once (Due q) = omega arith
-comes_once (Active q) = omega arith
-comes_once (Back next home) = omega arith
-comes_once (Passing t home) = omega arith
-comes_once Inner = omega arith
+comes_once p = grind (arith, nat_tests)
 
 pub called_once : (p : Place) → comes_back p ≤ 1
-called_once Idle = omega arith
-called_once (Ticket t) = omega arith
-called_once (Due (Free t)) = omega arith
-called_once (Due (Granted t)) = omega arith
-called_once (Due Called) = omega arith
-called_once (Active q) = omega arith
-called_once (Back next home) = omega arith
-called_once (Passing t home) = omega arith
-called_once Inner = omega arith
+called_once p = grind (arith, nat_tests)
 
 length_seats : (h : List Event) → length (map seat_of h) ≡ length h
 length_seats [] = refl
@@ -75,13 +60,7 @@ module _ (s : State) (b : IsBounded s) where
       omega (arith, long, most, product, length_seats h, b.low)
 
   pub few_drawn : s.world.drawn < 2147483648
-  few_drawn = omega (
-    arith,
-    few_events,
-    b.drawn,
-    b.few,
-    sum_few s.floor.seats (λ j. comes_in (s.world.place j)) (λ j. comes_once (s.world.place j)),
-  )
+  few_drawn = grind (arith, nat_tests, few_events, sum_few, comes_once)
 
   -- seat i goes to p, and nothing is recorded
   pub bounded_words : (i : ℕ) → i < s.floor.seats → (w : World) (known : ℕ → Bool) (p : Place)
@@ -104,17 +83,11 @@ module _ (s : State) (b : IsBounded s) where
 
   one_more : (e : Event) (j : ℕ) → j ≢ seat_of e
       → length (events_of (s.floor.history ++ e ∷ []) j) ≡ length (events_of s.floor.history j)
-  one_more e j ne = length-events_of-push s.floor.history e j ∙ other (seat_of e == j) (λ z. ne (grind (arith, z)))
-    where
-      other : (c : Bool) → (c ≡ true → ⊥)
-          → length (events_of s.floor.history j) + cond c 1 0 ≡ length (events_of s.floor.history j)
-      other true h = absurd (h refl)
-      other false h = omega arith
+  one_more e j ne = grind (arith, nat_tests, length-events_of-push)
 
   own_more : (e : Event)
       → length (events_of (s.floor.history ++ e ∷ []) (seat_of e)) ≡ length (events_of s.floor.history (seat_of e)) + 1
-  own_more e = length-events_of-push s.floor.history e (seat_of e)
-      ∙ ap (λ c. length (events_of s.floor.history (seat_of e)) + cond c 1 0) (eq-eqb (seat_of e) (seat_of e) refl)
+  own_more e = grind (arith, nat_tests, length-events_of-push, eq-eqb)
 
   pub no_less : (e : Event) (j : ℕ)
       → length (events_of s.floor.history j) ≤ length (events_of (s.floor.history ++ e ∷ []) j)
@@ -177,7 +150,4 @@ module _ (s : State) (b : IsBounded s) where
   -- it counts a call, and is on its way back
   pub count_looks : (i c : ℕ) (p : Place) → c ≤ length (events_of s.floor.history i) + comes_back p → (j : ℕ)
       → update s.world.count i c j ≤ length (events_of s.floor.history j) + comes_back (update s.world.place i p j)
-  count_looks i c p most = at_update s.world.place i p
-      (λ j y. update s.world.count i c j ≤ length (events_of s.floor.history j) + comes_back y)
-      (omega (arith, update_here s.world.count i c, most))
-      (λ j ne. omega (arith, update_else s.world.count i c j ne, b.counted j))
+  count_looks i c p h j = grind (arith, nat_tests, at_update, update_here, update_else)

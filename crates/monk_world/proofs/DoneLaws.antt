@@ -1,7 +1,6 @@
 -- A step that is carried out keeps what a world keeps
-use Rattle.std.proofs.Common.{◌≡◌, ℕ, ◌+◌, ◌%◌, ◌==◌, ◌<◌, ◌≤◌, cond, Bool, true, false, ◌&&◌, length, sym, refl, ap, ◌∙◌, subst, arith}
-use Rattle.std.proofs.lemmas.Bool.{ltb-true}
-use Rattle.std.specs.Prelude.{not, nat_lt, Option, Some, None}
+use Rattle.std.proofs.Common.{◌≡◌, ℕ, ◌+◌, ◌%◌, ◌==◌, ◌<◌, ◌≤◌, cond, Bool, true, false, length, sym, refl, ap, ◌∙◌, subst, arith}
+use Rattle.std.specs.Prelude.{Option, Some, None}
 use Rattle.monk_kinds.specs.{Kind.IsKind, declared.mode.Rules.Rules}
 use Rattle.monk_object.specs.Object.{Object}
 use Rattle.monk_history.specs.declared.event.Next.TheVariants as next
@@ -12,7 +11,6 @@ use Rattle.monk_history.specs.declared.event.Event.{Event}
 use Rattle.monk_history.specs.declared.event.Event.TheVariants.{Act, Leave, Wait, Signal, SignalLeave, Until, SignalAll}
 use Rattle.monk_history.specs.declared.event.Event.TheVariants.{SignalWait}
 use Rattle.monk_floor.specs.View.{monitor_of}
-use Rattle.monk_world.specs.declared.answer.Answer.TheVariants as answer
 use Rattle.monk_world.specs.declared.command.Command.TheVariants as command
 use Rattle.monk_world.specs.declared.home.Home.TheVariants as home
 use Rattle.monk_world.proofs.{UpdateLaws.update_same, SoundSteps.step_is_sound}
@@ -27,9 +25,10 @@ use Rattle.monk_world.specs.Steps.{after_seat_grant}
 use Rattle.monk_world.specs.declared.{answer.Answer.Answer, command.Command.Command, home.Home.Home}
 use Rattle.monk_world.specs.declared.place.Place.{Place}
 use Rattle.monk_world.specs.declared.place.Place.TheVariants.{Idle, Ticket, Due, Active, Back, Passing, Inner}
-use Rattle.monk_world.specs.declared.source.Source.{Source, TheVariants.Free, TheVariants.Granted, TheVariants.Called}
+use Rattle.monk_world.specs.declared.source.Source.{Source, TheVariants.Free}
 use Rattle.monk_world.specs.Kept.{comes_in, comes_back, IsBounded, IsKept}
 use Rattle.monk_world.specs.Sound.{IsSound, left_at}
+use Rattle.std.proofs.lemmas.Bool.Decides.{nat_tests}
 
 -- what holds if no refusal applies
 pub record IsReady (k : Rules) (o : Object) (s : State) (i : ℕ) (c : Command) : Type 0 where
@@ -39,63 +38,20 @@ pub record IsReady (k : Rules) (o : Object) (s : State) (i : ℕ) (c : Command) 
   pub told : may_be_told (s.world.place i) c ≡ true
   pub left : left_for c ≤ left_of s.floor.budget s.floor.history i
 
-record AreTold (reach offered told tired : Bool) : Type 0 where
-  reaches : reach ≡ true
-  offers : offered ≡ true
-  tells : told ≡ true
-  rested : tired ≡ false
-
-none_applies : (reach offered told tired : Bool)
-    → cond (not reach) (Some answer.Range)
-    (cond (not offered) (Some answer.NoCall)
-    (cond (not told) (Some answer.NotNow) (cond tired (Some answer.Tired) None))) ≡ None
-    → AreTold reach offered told tired
-none_applies false offered told tired e = absurd cc
-none_applies true false told tired e = absurd cc
-none_applies true true false tired e = absurd cc
-none_applies true true true true e = absurd cc
-none_applies true true true false e = record { reaches = refl; offers = refl; tells = refl; rested = refl }
-
-left_conjunct : (a b : Bool) → (a && b) ≡ true → a ≡ true
-left_conjunct true b e = refl
-left_conjunct false b e = absurd cc
-
-right_conjunct : (a b : Bool) → (a && b) ≡ true → b ≡ true
-right_conjunct true b e = e
-right_conjunct false b e = absurd cc
-
-not_less : (n m : ℕ) → nat_lt n m ≡ false → m ≤ n
-not_less n m e = grind (arith, e)
-
 pub ready : (k : Rules) (o : Object) (s : State) (i : ℕ) (c : Command) → refusal k o s i c ≡ None → IsReady k o s i c
-ready k o s i c e =
-    let r = none_applies (nat_lt i s.floor.seats && is_call_in_range o s.floor (call_of i c))
-    (is_call_offered k (call_of i c)) (may_be_told (s.world.place i) c)
-    (nat_lt (left_of s.floor.budget s.floor.history i) (left_for c)) e in
-    record {
-      near = ltb-true _ _ (left_conjunct (nat_lt i s.floor.seats) (is_call_in_range o s.floor (call_of i c)) r.reaches);
-      range = right_conjunct (nat_lt i s.floor.seats) (is_call_in_range o s.floor (call_of i c)) r.reaches;
-      offered = r.offers;
-      told = r.tells;
-      left = not_less (left_of s.floor.budget s.floor.history i) (left_for c) r.rested;
-    }
+ready k o s i c e = grind (arith, nat_tests)
 
 arrives_in : (b : Bool) (t : ℕ) → comes_in (cond b (Due (Free t)) (Ticket t)) ≡ 1
-arrives_in true t = refl
-arrives_in false t = refl
+arrives_in b t = grind (arith, nat_tests)
 
 looks_in : (b : Bool) (t : ℕ) → comes_in (place_after_ticket_look t b) ≡ 1
-looks_in true t = refl
-looks_in false t = refl
+looks_in b t = grind (arith, nat_tests)
 
 looks_back : (b : Bool) (n m : ℕ) → n ≤ m → count_after_seat_look n b ≤ m + comes_back (place_after_seat_look b)
-looks_back true n m l = omega (arith, l)
-looks_back false n m l = omega (arith, l)
+looks_back b n m l = grind (arith, nat_tests)
 
 out_seat : (i : ℕ) (q : Source) (u : Turn) → seat_of (out_event i q u) ≡ i
-out_seat i (Free t) u = refl
-out_seat i (Granted t) u = refl
-out_seat i Called u = refl
+out_seat i q u = grind (arith, nat_tests)
 
 module _ (k : Rules) (o : Object) (s : State) (right : Whereabouts) (owner : ℕ → ℕ) (h : IsSound k o s right owner)
     (b : IsBounded s) (i : ℕ) (near : i < s.floor.seats) where

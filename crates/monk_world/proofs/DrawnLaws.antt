@@ -1,6 +1,6 @@
 -- A seat that has a ticket has drawn it
-use Rattle.std.proofs.Common.{◌≡◌, ℕ, ◌+◌, ◌-◌, ◌==◌, ◌⊎◌, inl, inr, true, false, cond, Bool, List, [], ◌∷◌, ◌++◌, sym}
-use Rattle.std.proofs.Common.{refl, ap, ◌∙◌, subst, append_assoc}
+use Rattle.std.proofs.Common.{◌≡◌, ℕ, ◌+◌, ◌⊎◌, inl, inr, true, false, cond, Bool, List, [], ◌∷◌, ◌++◌, sym}
+use Rattle.std.proofs.Common.{refl, ap, ◌∙◌, subst, append_assoc, arith}
 use Rattle.std.specs.Prelude.{Some, nat_lt, ◌&&◌, if◌then◌else◌}
 use Rattle.monk_kinds.specs.declared.mode.Rules.{Rules}
 use Rattle.monk_object.specs.Object.{Object}
@@ -21,6 +21,7 @@ use Rattle.monk_world.specs.declared.{answer.Answer.Answer, command.Command.Comm
 use Rattle.monk_world.specs.declared.place.Place.{Place}
 use Rattle.monk_world.specs.declared.place.Place.TheVariants.{Idle, Ticket, Due, Active, Back, Passing, Inner}
 use Rattle.monk_world.specs.declared.source.Source.TheVariants.{Free, Granted, Called}
+use Rattle.std.proofs.lemmas.Bool.Decides.{nat_tests}
 
 -- a seat at this place has ticket n, and has not entered with it
 abbrev HasTicket : ℕ → Place → Type 0
@@ -51,30 +52,19 @@ abbrev HasJustDrawn : ℕ → ℕ → ℕ → Answer → Type 0
 HasJustDrawn i j n a = (i ≡ j) × ((found : ℕ) × (a ≡ answer.Arrived n found))
 
 no_ticket_home : (n : ℕ) (to : Home) → HasTicket n (place_of to) → ⊥
-no_ticket_home n home.Idle e = e
-no_ticket_home n home.Inner e = e
+no_ticket_home n to e = grind (arith, nat_tests)
 
 no_ticket_dropped : (n t m : ℕ) (to : Home) → HasTicket n (place_after_drop t m to) → ⊥
-no_ticket_dropped n t m to = by (m == 1)
-  where
-    by : (b : Bool) → HasTicket n (cond b (place_of to) (Passing (t - m + 1) to)) → ⊥
-    by true e = no_ticket_home n to e
-    by false e = e
+no_ticket_dropped n t m to h = grind (arith, nat_tests)
 
 drawn_at : (n t m : ℕ) → HasTicket n (place_after_arrive t m) → t ≡ n
-drawn_at n t m = by (m == 0)
-  where
-    by : (b : Bool) → HasTicket n (cond b (Due (Free t)) (Ticket t)) → t ≡ n
-    by true e = e
-    by false e = e
+drawn_at n t m h = grind (arith, nat_tests)
 
 looked_at : (n t : ℕ) (found : Bool) → HasTicket n (place_after_ticket_look t found) → t ≡ n
-looked_at n t true e = e
-looked_at n t false e = e
+looked_at n t found e = grind (arith, nat_tests)
 
 no_ticket_called : (n : ℕ) (found : Bool) → HasTicket n (place_after_seat_look found) → ⊥
-no_ticket_called n true e = e
-no_ticket_called n false e = e
+no_ticket_called n found e = grind (arith, nat_tests)
 
 module _ (k : Rules) (o : Object) (s : State) (i j n : ℕ) where
   abbrev Before : Answer → Type 0

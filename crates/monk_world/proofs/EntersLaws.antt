@@ -11,6 +11,7 @@ use Rattle.monk_world.specs.declared.source.Source.{Source, TheVariants.Free, Th
 use Rattle.monk_world.specs.declared.home.Home.{Home}
 use Rattle.monk_world.specs.Enters.{FitsEnters, used_at, used_by, used_in}
 use Rattle.monk_world.specs.Places.{stage, place_of, due_stage, active_stage, passing_stage}
+use Rattle.std.proofs.lemmas.Bool.Decides.{nat_tests}
 
 module _ (seats : ℕ) (s : World) (right : Whereabouts) (owner : ℕ → ℕ) (r : KeepsRight seats s right owner)
     (entered : ℕ) (f : FitsEnters s right entered) (i : ℕ) where
@@ -21,24 +22,16 @@ module _ (seats : ℕ) (s : World) (right : Whereabouts) (owner : ℕ → ℕ) (
   -- the right is with seat i
   pub entered_here : (p : Place) → s.place i ≡ p → due_stage ≤ stage p → stage p ≤ passing_stage
       → entered + s.unpassed ≡ s.drawn + used_at p
-  entered_here p at low high =
-      let z : stage (s.place i) ≡ stage p = ap stage at in
-      subst (λ (y : Place). entered + s.unpassed ≡ s.drawn + used_at y) at
-      (entered_where (With i) (held r i (omega arith) (omega arith)))
+  entered_here p at low high = grind (arith, nat_tests)
 
   -- some ticket is not passed on if seat i has the right
   some_left : (p : Place) → s.place i ≡ p → due_stage ≤ stage p → stage p ≤ passing_stage → s.unpassed ≢ 0
-  some_left p at low high e =
-      let z : stage (s.place i) ≡ stage p = ap stage at in
-      let mine = held r i (omega arith) (omega arith) in
-      let a = r.holder.free.0 e in
-      cc
+  some_left p h h' h'' = grind (arith, nat_tests)
 
   -- seat i has the right after its step
   taken : (t n entered_new : ℕ) (p : Place) → entered_new + n ≡ t + used_at p
       → entered_new + n ≡ t + used_at (update s.place i p i)
-  taken t n entered_new p agrees =
-      subst (λ (y : Place). entered_new + n ≡ t + used_at y) (sym (update_here s.place i p)) agrees
+  taken t n entered_new p agrees = grind (arith, nat_tests, update_here)
 
   pub arrives_free : s.unpassed ≡ 0
       → FitsEnters (record s {

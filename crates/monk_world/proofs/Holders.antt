@@ -1,24 +1,18 @@
 -- Who has the right, and who waits for it
-use Rattle.std.proofs.Common.{◌≡◌, ◌≢◌, ℕ, ◌≤◌, ◌⊎◌, ◌↔◌, sym, refl, ap, ◌∙◌, subst, inl, inr, arith}
-use Rattle.std.proofs.lemmas.Bool.Decides.{eqb_tells}
+use Rattle.std.proofs.Common.{◌≡◌, ◌≢◌, ℕ, ◌≤◌, ◌↔◌, sym, refl, ap, ◌∙◌, subst, arith}
+use Rattle.std.proofs.lemmas.Bool.Decides.{nat_tests}
 use Rattle.monk_world.specs.declared.home.Home.TheVariants as home
 use Rattle.monk_world.proofs.UpdateLaws.{at_update, update_else}
 use Rattle.monk_world.specs.{Update.update, World.World}
 use Rattle.monk_world.specs.Places.{HoldsRight, stage, ticket, place_of, ticketed_stage, due_stage, passing_stage}
-use Rattle.monk_world.specs.Right.{Whereabouts, Nowhere, AtTicket, With, AtSeat, KeepsRight, Waits}
+use Rattle.monk_world.specs.Right.{Whereabouts, With, KeepsRight, Waits}
 use Rattle.monk_world.specs.declared.place.Place.{Place}
 use Rattle.monk_world.specs.declared.place.Place.TheVariants.{Idle, Ticket, Due, Active, Back, Passing, Inner}
 use Rattle.monk_world.specs.declared.home.Home.{Home}
 
 -- a seat that has the right is between due and passing
 pub has_right : (p : Place) → HoldsRight p → (due_stage ≤ stage p) × (stage p ≤ passing_stage)
-has_right Idle h = absurd h
-has_right (Ticket t) h = absurd h
-has_right (Due q) h = (omega arith, omega arith)
-has_right (Active q) h = (omega arith, omega arith)
-has_right (Back next home) h = (omega arith, omega arith)
-has_right (Passing t home) h = (omega arith, omega arith)
-has_right Inner h = absurd h
+has_right p h = grind (arith, nat_tests)
 
 pub holds_right : (p : Place) → due_stage ≤ stage p → stage p ≤ passing_stage → HoldsRight p
 holds_right Idle a b = absurd (omega arith)
@@ -30,25 +24,13 @@ holds_right (Passing t home) a b = tt
 holds_right Inner a b = absurd (omega arith)
 
 pub at_home : (h : Home) (m : ℕ) → 1 ≤ m → m ≤ 5 → stage (place_of h) ≢ m
-at_home home.Idle m a b e = absurd (omega arith)
-at_home home.Inner m a b e = absurd (omega arith)
+at_home h m h' h'' = grind (arith, nat_tests)
 
 pub home_has_none : (h : Home) → HoldsRight (place_of h) → ⊥
-home_has_none home.Idle a = a
-home_has_none home.Inner a = a
+home_has_none h a = grind (arith, nat_tests)
 
 pub other_stage : (place : ℕ → Place) (i j : ℕ) → stage (place i) ≢ stage (place j) → j ≢ i
 other_stage place i j ne e = ne (sym (ap (λ (k : ℕ). stage (place k)) e))
-
--- the right is in the place of a seat, or not
-pub called_tells : (x : Whereabouts) (j : ℕ) → (x ≡ AtSeat j) ⊎ (x ≢ AtSeat j)
-called_tells Nowhere j = inr (λ e. cc)
-called_tells (AtTicket t) j = inr (λ e. cc)
-called_tells (With k) j = inr (λ e. cc)
-called_tells (AtSeat k) j = elim (eqb_tells k j) [
-  | inl h ↦ inl (ap AtSeat h.1)
-  | inr h ↦ inr (λ e. h.1 cc)
-]
 
 module _ (place : ℕ → Place) (i : ℕ) (to : Place) (none : (j : ℕ) → j ≢ i → due_stage ≤ stage (place j)
     → stage (place j) ≤ passing_stage → ⊥) where

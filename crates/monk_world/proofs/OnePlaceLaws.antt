@@ -1,29 +1,18 @@
 -- The right is in exactly one place, because it is where `right` says
-use Rattle.std.proofs.Common.{◌≡◌, ℕ, ◌+◌, ◌%◌, ◌<◌, sym, refl, ap, ◌∙◌, subst, arith}
+use Rattle.std.proofs.Common.{◌≡◌, ℕ, ◌+◌, ◌%◌, ◌<◌, sym, ap, ◌∙◌, subst, arith}
 use Rattle.monk_world.proofs.RightLooks.{grant_is_there, call_is_there}
 use Rattle.monk_world.specs.{OnePlace.IsInOnePlace, World.World}
 use Rattle.monk_world.specs.Places.{stage, ticket, ticketed_stage, inside_stage}
 use Rattle.monk_world.specs.declared.place.Place.{Place}
-use Rattle.monk_world.specs.declared.place.Place.TheVariants.{Idle, Ticket, Due, Active, Back, Passing, Inner}
+use Rattle.monk_world.specs.declared.place.Place.TheVariants.{Ticket, Inner}
 use Rattle.monk_world.specs.Right.{Whereabouts, AtTicket, KeepsRight, Waits}
+use Rattle.std.proofs.lemmas.Bool.Decides.{nat_tests}
 
 is_ticket : (p : Place) (t : ℕ) → stage p ≡ ticketed_stage → ticket p ≡ t → p ≡ Ticket t
-is_ticket Idle t a b = absurd (omega arith)
-is_ticket (Ticket k) t a b = ap Ticket b
-is_ticket (Due q) t a b = absurd (omega arith)
-is_ticket (Active q) t a b = absurd (omega arith)
-is_ticket (Back next home) t a b = absurd (omega arith)
-is_ticket (Passing k home) t a b = absurd (omega arith)
-is_ticket Inner t a b = absurd (omega arith)
+is_ticket p t a b = grind (arith, nat_tests)
 
 is_inner : (p : Place) → stage p ≡ inside_stage → p ≡ Inner
-is_inner Idle a = absurd (omega arith)
-is_inner (Ticket k) a = absurd (omega arith)
-is_inner (Due q) a = absurd (omega arith)
-is_inner (Active q) a = absurd (omega arith)
-is_inner (Back next home) a = absurd (omega arith)
-is_inner (Passing k home) a = absurd (omega arith)
-is_inner Inner a = refl
+is_inner p a = grind (arith, nat_tests)
 
 module _ (seats : ℕ) (s : World) (right : Whereabouts) (owner : ℕ → ℕ) (r : KeepsRight seats s right owner) where
   taker : (t : ℕ) → Waits s.place owner t → (j : ℕ) × (s.place j ≡ Ticket t)

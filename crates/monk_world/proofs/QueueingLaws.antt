@@ -11,19 +11,17 @@ use Rattle.monk_world.specs.declared.place.Place.{Place}
 use Rattle.monk_world.specs.declared.place.Place.TheVariants.{Idle, Ticket, Due, Active, Back, Passing, Inner}
 use Rattle.monk_world.specs.declared.source.Source.{Source, TheVariants.Free, TheVariants.Granted, TheVariants.Called}
 use Rattle.monk_world.specs.declared.home.Home.{Home}
+use Rattle.std.proofs.lemmas.Bool.Decides.{nat_tests}
 
 -- a seat that goes home is in a queue if, and only if, it stays inside
 home_queued : (h : Home) → is_queued_at (place_of h) ≡ stays_inside h
-home_queued home.Idle = refl
-home_queued home.Inner = refl
+home_queued h = grind (arith, nat_tests)
 
 weaker : (quiet : Bool) (n : ℕ) → (quiet ≡ true) ⊎ (2 ≤ n) → (quiet ≡ true) ⊎ (2 ≤ n + 1)
-weaker quiet n (inl e) = inl e
-weaker quiet n (inr e) = inr (omega arith)
+weaker quiet n h = grind (arith, nat_tests)
 
 sure : (quiet : Bool) (n : ℕ) → n ≡ 1 → (quiet ≡ true) ⊎ (2 ≤ n) → quiet ≡ true
-sure quiet n one (inl e) = e
-sure quiet n one (inr e) = absurd (omega arith)
+sure quiet n one h = grind (arith, nat_tests)
 
 abbrev InQueue : (ℕ → Bool) → ℕ → Place → Type 0
 InQueue queued j p = stage p ≢ active_stage → queued j ≡ is_queued_at p

@@ -2,7 +2,7 @@
 use Rattle.std.proofs.Common.{◌≡◌, ℕ, ◌==◌, ◌≤◌, ◌⊎◌, inl, inr, true, false, cond, Bool, List, [], ◌∷◌, ◌++◌, sym, refl}
 use Rattle.std.proofs.Common.{ap, ◌∙◌, subst, arith, append_assoc}
 use Rattle.std.specs.Prelude.{map, Some, None, not, nat_le, nat_lt, ◌&&◌, if◌then◌else◌}
-use Rattle.std.proofs.lemmas.Bool.{false≢true, le-leb, leb-true}
+use Rattle.std.proofs.lemmas.Bool.{le-leb, leb-true}
 use Rattle.std.proofs.lemmas.List.{append-nil, Elements.filter-append, Folds.list_all-append}
 use Rattle.std.specs.List.{list_all}
 use Rattle.monk_kinds.specs.{Kind.IsKind, declared.mode.Pick.Pick, declared.mode.Rules.Rules}
@@ -35,6 +35,7 @@ use Rattle.monk_world.specs.declared.{answer.Answer.Answer, command.Command.Comm
 use Rattle.monk_world.specs.declared.place.Place.{Place}
 use Rattle.monk_world.specs.declared.place.Place.TheVariants.{Idle, Ticket, Due, Active, Back, Passing, Inner}
 use Rattle.monk_world.specs.declared.source.Source.{Source, TheVariants.Free, TheVariants.Granted, TheVariants.Called}
+use Rattle.std.proofs.lemmas.Bool.Decides.{nat_tests}
 
 -- whether the answer is that entry was chosen
 abbrev lets_in : Answer → Bool
@@ -57,8 +58,7 @@ lets_in answer.NotNow = false
 lets_in answer.Tired = false
 
 another : (a r : Answer) → a ≡ r → lets_in r ≡ false → a ≡ answer.Chose next.Entry → ⊥
-another a r is differs entry = let z : false ≡ true = sym differs ∙ (ap lets_in (sym is) ∙ ap lets_in entry) in
-    absurd cc
+another a r is differs entry = cc
 
 -- a refusal, or a step
 pub refused_or_done : (k : Rules) (o : Object) (s : State) (i : ℕ) (c : Command) (a : Answer) (t : State)
@@ -68,21 +68,13 @@ pub refused_or_done : (k : Rules) (o : Object) (s : State) (i : ℕ) (c : Comman
     (cond (not offered) (Some answer.NoCall)
     (cond (not told) (Some answer.NotNow) (cond tired (Some answer.Tired) None)))) a t
     → ((r : Answer) × ((a ≡ r) × (lets_in r ≡ false) × (t ≡ s))) ⊎ IsDone k o s i (s.world.place i) c a t
-refused_or_done k o s i c a t false offered told tired d = inl (answer.Range, (d.0, refl, d.1))
-refused_or_done k o s i c a t true false told tired d = inl (answer.NoCall, (d.0, refl, d.1))
-refused_or_done k o s i c a t true true false tired d = inl (answer.NotNow, (d.0, refl, d.1))
-refused_or_done k o s i c a t true true true true d = inl (answer.Tired, (d.0, refl, d.1))
-refused_or_done k o s i c a t true true true false d = inr d
+refused_or_done k o s i c a t in_reach offered told tired d = grind (arith, nat_tests)
 
 out_seat : (i : ℕ) (q : Source) (u : Turn) → seat_of (out_event i q u) ≡ i
-out_seat i (Free t) u = refl
-out_seat i (Granted t) u = refl
-out_seat i Called u = refl
+out_seat i q u = grind (arith, nat_tests)
 
 out_version : (i : ℕ) (q : Source) (u : Turn) → first_version (out_event i q u) ≤ 1
-out_version i (Free t) u = omega arith
-out_version i (Granted t) u = omega arith
-out_version i Called u = omega arith
+out_version i q u = grind (arith, nat_tests)
 
 one_in_version : (e : Event) (v : ℕ) → first_version e ≤ v → are_in_version v (e ∷ []) ≡ true
 one_in_version e v l = ap (λ b. b && true) (le-leb (first_version e) v l)
@@ -230,8 +222,7 @@ module _ (k : Rules) (o : Object) (s : State) (kind : IsKind k) (h : Sound k o s
 -- the events of a seat are those that its own steps appended
 
 nothing_either_way : (b : Bool) → ◌≡◌ {A = List Event} [] (cond b [] [])
-nothing_either_way true = refl
-nothing_either_way false = refl
+nothing_either_way b = grind (arith, nat_tests)
 
 none_of : (j : ℕ) → events_of [] j ≡ []
 unfolding events_of
@@ -273,8 +264,7 @@ run_recorded k o s (x ∷ xs) t kind h run =
 -- a version that has all the commands has all the events that they append
 
 versions_split : (a b : Bool) → (a && b) ≡ true → (a ≡ true) × (b ≡ true)
-versions_split true b h = (refl, h)
-versions_split false b h = absurd (false≢true h)
+versions_split a b h = grind (arith, nat_tests)
 
 versions_join : (a b : Bool) → a ≡ true → b ≡ true → (a && b) ≡ true
 versions_join a b h l = ap (λ x. x && b) h ∙ l

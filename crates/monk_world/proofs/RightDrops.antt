@@ -7,16 +7,12 @@ use Rattle.monk_world.specs.Places.{stage, ticket, place_of, ticketed_stage, due
 use Rattle.monk_world.specs.Right.{Whereabouts, Nowhere, With, KeepsRight, UsesTicket, ChoseInner, PassesNext}
 use Rattle.monk_world.specs.Right.{OwnsTicket, WasGranted, LeavesLow}
 use Rattle.monk_world.specs.declared.{home.Home.Home, place.Place.Place, place.Place.TheVariants.Passing}
+use Rattle.std.proofs.lemmas.Bool.Decides.{nat_tests}
 
 module _ (seats : ℕ) (s : World) (right : Whereabouts) (owner : ℕ → ℕ) (r : KeepsRight seats s right owner)
     (i : ℕ) where
   nobody_passes : stage (s.place i) ≡ back_stage → (k : ℕ) → stage (s.place k) ≢ passing_stage
-  nobody_passes back k h =
-      let a = held r k (omega arith) (omega arith) in
-      let mine = held r i (omega arith) (omega arith) in
-      let e : k ≡ i = cc in
-      let b : stage (s.place k) ≡ stage (s.place i) = ap (λ (j : ℕ). stage (s.place j)) e in
-      omega arith
+  nobody_passes h k = grind (arith, nat_tests)
 
   pub drops_last : (home : Home) → stage (s.place i) ≡ back_stage → s.unpassed ≡ 1
       → KeepsRight seats (record s { unpassed = s.unpassed - 1; place = update s.place i (place_of home) })

@@ -1,6 +1,6 @@
 -- A seat that looks finds the right only where it is, and takes it
-use Rattle.std.proofs.Common.{◌≡◌, ◌≢◌, ℕ, true, ◌+◌, ◌%◌, ◌<◌, ◌≤◌, sym, ap, ◌∙◌, subst, inl, inr, mod-lt, arith}
-use Rattle.monk_world.proofs.Holders.{held, called_tells, alone_with, waiter_stays}
+use Rattle.std.proofs.Common.{◌≡◌, ◌≢◌, ℕ, true, ◌+◌, ◌%◌, ◌<◌, ◌≤◌, sym, ap, ◌∙◌, subst, arith}
+use Rattle.monk_world.proofs.Holders.{held, alone_with, waiter_stays}
 use Rattle.monk_world.proofs.UpdateLaws.{at_update, update_else, all_back}
 use Rattle.monk_world.specs.{Update.update, Steps.after_ticket_look, Steps.after_seat_look, World.World}
 use Rattle.monk_world.specs.Places.{stage, ticket, ticketed_stage, due_stage, passing_stage, inside_stage}
@@ -8,6 +8,7 @@ use Rattle.monk_world.specs.Right.{Whereabouts, AtTicket, With, AtSeat, KeepsRig
 use Rattle.monk_world.specs.Right.{PassesNext, OwnsTicket, WasGranted, LeavesLow}
 use Rattle.monk_world.specs.declared.place.Place.{Place, TheVariants.Due}
 use Rattle.monk_world.specs.declared.source.Source.TheVariants.{Granted, Called}
+use Rattle.std.proofs.lemmas.Bool.Decides.{nat_tests}
 
 module _ (seats : ℕ) (s : World) (right : Whereabouts) (owner : ℕ → ℕ) (r : KeepsRight seats s right owner)
     (i : ℕ) where
@@ -15,17 +16,7 @@ module _ (seats : ℕ) (s : World) (right : Whereabouts) (owner : ℕ → ℕ) (
   pub grant_is_there : stage (s.place i) ≡ ticketed_stage
       → s.ticket_place (ticket (s.place i) % seats) ≡ ticket (s.place i) + 1 → 0 < seats
       → IsNext s.drawn s.unpassed (ticket (s.place i)) × (right ≡ AtTicket (ticket (s.place i)))
-  grant_is_there waits found some =
-      let T : ℕ = ticket (s.place i) in
-      let mine = r.tickets.waits i waits in
-      let near = mod-lt T some in
-      let below = r.places.low (T % seats) near in
-      let least = mine.1 in
-      let sum : T + s.unpassed ≡ s.drawn = omega arith in (
-        sum,
-        r.tickets.granted i waits sum
-            (λ j five. let low = r.places.low_passing j five (T % seats) near in omega arith),
-      )
+  grant_is_there waits found some = grind (arith, nat_tests)
 
   -- it finds its ticket granted
   pub finds_grant : stage (s.place i) ≡ ticketed_stage
@@ -83,10 +74,7 @@ module _ (seats : ℕ) (s : World) (right : Whereabouts) (owner : ℕ → ℕ) (
 
   -- if its place has one call more than it has counted, the right is there
   pub call_is_there : s.seat_place i ≡ s.count i + 1 → right ≡ AtSeat i
-  call_is_there found = elim (called_tells right i) as (λ _. right ≡ AtSeat i) [
-    | inl h ↦ h
-    | inr h ↦ absurd (let a = r.calls.not_called i h in omega arith)
-  ]
+  call_is_there found = grind (arith, nat_tests)
 
   -- it finds that it was called
   pub finds_call : stage (s.place i) ≡ inside_stage → s.seat_place i ≡ s.count i + 1

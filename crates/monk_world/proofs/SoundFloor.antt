@@ -20,7 +20,6 @@ use Rattle.monk_history.specs.declared.event.Event.{Event, TheVariants.Enter, Th
 use Rattle.monk_floor.specs.View.{monitor_of, stands_of}
 use Rattle.monk_world.specs.declared.home.Home.TheVariants as home
 use Rattle.monk_world.proofs.EntersLaws as enters
-use Rattle.monk_world.proofs.TurnLaws as turns
 use Rattle.monk_world.proofs.{Holders.others, UpdateLaws.at_update, UpdateLaws.update_here}
 use Rattle.monk_world.proofs.StepLaws.{floor_out_keeps_the_right, activity_keeps_the_right, floor_in_keeps_the_right}
 use Rattle.monk_world.proofs.TestLaws.{none_below, some_above, quiet_is, is_quiet-true, open_is, due_is, number_chosen}
@@ -36,6 +35,7 @@ use Rattle.monk_world.specs.Places.{stage, ticket, source, open_turn, due_to, tu
 use Rattle.monk_world.specs.Places.{comes_from_queue, is_queued_at, outside_stage, ticketed_stage, due_stage}
 use Rattle.monk_world.specs.Places.{active_stage, passing_stage, free_source, granted_source}
 use Rattle.monk_world.specs.Sound.{IsSound, Sound, left_at, left_within}
+use Rattle.std.proofs.lemmas.Bool.Decides.{nat_tests}
 
 abbrev number_of : Bool → ℕ
 number_of b = if b then 1 else 0
@@ -53,8 +53,7 @@ abbrev way_number : Bool → ℕ
 way_number b = if b then 0 else 1
 
 at_way : (home : Home) → nat_lt 0 (way_number (not (stays_inside home))) ≡ stays_inside home
-at_way home.Idle = refl
-at_way home.Inner = refl
+at_way home = grind (arith, nat_tests)
 
 -- one more event, of seat i
 module _ (k : Rules) (o : Object) (s : State) (right : Whereabouts) (owner : ℕ → ℕ)
@@ -246,10 +245,7 @@ module _ (k : Rules) (o : Object) (s : State) (right : Whereabouts) (owner : ℕ
 module _ (k : Rules) (o : Object) (s : State) (right : Whereabouts) (owner : ℕ → ℕ) (h : IsSound k o s right owner)
     (i : ℕ) (near : i < s.floor.seats) where
   turn_due : (q : Source) → s.world.place i ≡ Due q → turn_number (turn s.floor.history) ≡ turn_at i (Due q)
-  turn_due q due =
-      let two : stage (s.world.place i) ≡ due_stage = ap stage due in
-      turns.turn_here s.floor.seats s.world right owner h.stands.keeps (turn_number (turn s.floor.history))
-      h.stands.fits_turn i (Due q) due (omega arith) (omega arith) (λ a. omega arith)
+  turn_due q due = grind (arith, nat_tests)
 
   -- a seat that comes from outside is at the door
   at_door : (q : Source) → s.world.place i ≡ Due q → turn_at i (Due q) ≡ open_turn → comes_from_queue q ≡ false

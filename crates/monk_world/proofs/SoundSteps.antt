@@ -34,20 +34,16 @@ use Rattle.monk_world.specs.declared.{answer.Answer.Answer, command.Command.Comm
 use Rattle.monk_world.specs.declared.{source.Source.Source}
 use Rattle.monk_world.specs.declared.place.Place.{Place}
 use Rattle.monk_world.specs.declared.place.Place.TheVariants.{Idle, Ticket, Due, Active, Back, Passing, Inner}
+use Rattle.std.proofs.lemmas.Bool.Decides.{nat_tests}
 
 pub stay_is : (x : Next) → is_stay (Some x) ≡ true → x ≡ next.Stay
-stay_is next.Stay e = refl
-stay_is next.Entry e = absurd cc
-stay_is (next.Waiter j) e = absurd cc
-stay_is (next.Signaller j) e = absurd cc
-stay_is (next.Until j) e = absurd cc
+stay_is x e = grind (arith, nat_tests)
 
 seen_two : (n : ℕ) → nat_le 2 n ≡ true → 2 ≤ n
 seen_two n e = grind (arith, e)
 
 either : (a b : Bool) → (a || b) ≡ true → (a ≡ true) ⊎ (b ≡ true)
-either true b e = inl refl
-either false b e = inr e
+either a b e = grind (arith, nat_tests)
 
 -- a call that releases
 pub record IsRelease (e : Event) (i : ℕ) (to : Home) : Type 0 where
@@ -165,70 +161,22 @@ module _ (k : Rules) (o : Object) (s : State) (right : Whereabouts) (owner : ℕ
 
 -- the six calls that release
 pub leaving : (i : ℕ) → IsRelease (Leave i next.Stay) i home.Idle
-leaving i = record {
-  seat = λ x. refl;
-  no_enter = λ x. refl;
-  chooses = λ x. refl;
-  called = λ x. refl;
-  way =
-      λ x. refl;
-  no_reply = λ o d. refl;
-}
+leaving i = grind (arith, nat_tests)
 
 pub waiting : (i c : ℕ) → IsRelease (Wait i c next.Stay) i home.Inner
-waiting i c = record {
-  seat = λ x. refl;
-  no_enter = λ x. refl;
-  chooses = λ x. refl;
-  called = λ x. refl;
-  way =
-      λ x. refl;
-  no_reply = λ o d. refl;
-}
+waiting i c = grind (arith, nat_tests)
 
 pub signalling : (i c : ℕ) → IsRelease (Signal i c next.Stay) i home.Inner
-signalling i c = record {
-  seat = λ x. refl;
-  no_enter = λ x. refl;
-  chooses = λ x. refl;
-  called = λ x. refl;
-  way =
-      λ x. refl;
-  no_reply = λ o d. refl;
-}
+signalling i c = grind (arith, nat_tests)
 
 pub signal_leaving : (i c : ℕ) → IsRelease (SignalLeave i c next.Stay) i home.Idle
-signal_leaving i c = record {
-  seat = λ x. refl;
-  no_enter = λ x. refl;
-  chooses = λ x. refl;
-  called = λ x. refl;
-  way =
-      λ x. refl;
-  no_reply = λ o d. refl;
-}
+signal_leaving i c = grind (arith, nat_tests)
 
 pub signal_waiting : (i c d : ℕ) → IsRelease (SignalWait i c d next.Stay) i home.Inner
-signal_waiting i c d = record {
-  seat = λ x. refl;
-  no_enter = λ x. refl;
-  chooses = λ x. refl;
-  called = λ x. refl;
-  way =
-      λ x. refl;
-  no_reply = λ o e. refl;
-}
+signal_waiting i c d = grind (arith, nat_tests)
 
 pub waiting_until : (i p : ℕ) → IsRelease (Until i p next.Stay) i home.Inner
-waiting_until i p = record {
-  seat = λ x. refl;
-  no_enter = λ x. refl;
-  chooses = λ x. refl;
-  called = λ x. refl;
-  way =
-      λ x. refl;
-  no_reply = λ o d. refl;
-}
+waiting_until i p = grind (arith, nat_tests)
 
 module _ (k : Rules) (o : Object) (s : State) (right : Whereabouts) (owner : ℕ → ℕ) (kind : IsKind k)
     (h : IsSound k o s right owner) (i : ℕ) (near : i < s.floor.seats) where
@@ -335,18 +283,13 @@ split : (k : Rules) (o : Object) (s : State) (i : ℕ) (c : Command) (a : Answer
     (cond (not offered) (Some answer.NoCall)
     (cond (not told) (Some answer.NotNow) (cond tired (Some answer.Tired) None)))) a t
     → (t ≡ s) ⊎ ((in_reach ≡ true) × (offered ≡ true) × (tired ≡ false) × IsDone k o s i (s.world.place i) c a t)
-split k o s i c a t false offered told tired d = inl d.1
-split k o s i c a t true false told tired d = inl d.1
-split k o s i c a t true true false tired d = inl d.1
-split k o s i c a t true true true true d = inl d.1
-split k o s i c a t true true true false d = inr (refl, refl, refl, d)
+split k o s i c a t in_reach offered told tired d = grind (arith, nat_tests)
 
 not_less : (n m : ℕ) → nat_lt n m ≡ false → m ≤ n
 not_less n m e = grind (arith, e)
 
 pub conjuncts : (a b : Bool) → (a && b) ≡ true → (a ≡ true) × (b ≡ true)
-conjuncts true b e = (refl, e)
-conjuncts false b e = absurd cc
+conjuncts a b e = grind (arith, nat_tests)
 
 pub step_is_sound : (k : Rules) (o : Object) (s : State) (i : ℕ) (c : Command) (a : Answer) (t : State) → IsKind k
     → Sound k o s → IsStep k o s i c a t → Sound k o t

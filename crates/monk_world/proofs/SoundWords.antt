@@ -1,14 +1,14 @@
 -- A step of a seat on the words, which doesn't change the floor, keeps a state sound
 use Rattle.std.proofs.Common.{◌≡◌, ◌≢◌, ℕ, ◌+◌, ◌-◌, ◌%◌, ◌==◌, ◌<◌, ◌≤◌, true, false, cond, Bool, sym, refl, ap, ◌∙◌}
 use Rattle.std.proofs.Common.{subst, inl, inr, arith, eqb-true}
-use Rattle.std.proofs.lemmas.Bool.Decides.{eqb_tells}
+use Rattle.std.proofs.lemmas.Bool.Decides.{eqb_tells, nat_tests}
 use Rattle.monk_kinds.specs.declared.mode.Rules.{Rules}
 use Rattle.monk_object.specs.Object.{Object}
 use Rattle.monk_history.specs.Meaning.{Counts.left_of, Counts.enters_of, Turn.turn}
 use Rattle.monk_history.specs.declared.event.{Next.Next, Next.TheVariants.Entry, Turn.TheVariants.Owned}
 use Rattle.monk_world.specs.declared.home.Home.TheVariants as home
 use Rattle.monk_world.proofs.EntersLaws as enters
-use Rattle.monk_world.proofs.{Holders.at_home, Holders.others, RightLooks.grant_is_there, RightLooks.call_is_there}
+use Rattle.monk_world.proofs.{Holders.at_home, RightLooks.grant_is_there, RightLooks.call_is_there}
 use Rattle.monk_world.proofs.StepLaws.{arrive_keeps_the_right, ticket_look_keeps_the_right, seat_look_keeps_the_right}
 use Rattle.monk_world.proofs.StepLaws.{drop_keeps_the_right, ticket_grant_keeps_the_right, seat_grant_keeps_the_right}
 use Rattle.monk_world.proofs.UpdateLaws.{at_update, update_same}
@@ -25,8 +25,7 @@ use Rattle.monk_world.specs.declared.source.Source.TheVariants.{Free, Granted, C
 use Rattle.monk_world.specs.declared.home.Home.{Home}
 
 home_left : (h : Home) → left_at (place_of h) ≡ left_within h
-home_left home.Idle = refl
-home_left home.Inner = refl
+home_left h = grind (arith, nat_tests)
 
 module _ (k : Rules) (o : Object) (s : State) (right : Whereabouts) (owner : ℕ → ℕ) (h : IsSound k o s right owner)
     (i : ℕ) (near : i < s.floor.seats) where
@@ -167,8 +166,7 @@ module _ (k : Rules) (o : Object) (s : State) (right : Whereabouts) (owner : ℕ
   -- if seat i has the right, no other is active
   alone : due_stage ≤ stage (s.world.place i) → stage (s.world.place i) ≤ passing_stage → (n : ℕ) (j : ℕ) → j ≢ i
       → stage (s.world.place j) ≡ active_stage → 2 ≤ s.world.unpassed → 2 ≤ n
-  alone low high n j ne a b =
-      absurd (others s.floor.seats s.world right owner h.stands.keeps i low high j ne (omega arith) (omega arith))
+  alone low high n j ne a b = grind (arith, nat_tests)
 
   pub sound_drop : (home : Home) → s.world.place i ≡ Back Entry home
       → Sound k o (record s { world = after_drop s.world i home })

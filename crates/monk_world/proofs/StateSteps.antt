@@ -27,36 +27,21 @@ use Rattle.monk_world.specs.declared.{source.Source.Source, words.WorldWords.Wor
 use Rattle.monk_world.specs.declared.place.Place.{Place}
 use Rattle.monk_world.specs.declared.place.Place.TheVariants.{Idle, Ticket, Due, Active, Back, Passing, Inner}
 use Rattle.monk_world.specs.WorldViews.{WorldView, state_of_view, view_in, state_in, world_on, Shows, ShowsKnown}
-use Rattle.monk_world.specs.Places.{stage, ticket, back_turn, turn_of_next, due_to, outside_stage, active_stage}
+use Rattle.monk_world.specs.Places.{stage, back_turn, turn_of_next, due_to, outside_stage, active_stage}
+use Rattle.std.proofs.lemmas.Bool.Decides.{nat_tests}
 
 idle_is : (p : Place) → (stage p == outside_stage) ≡ true → p ≡ Idle
-idle_is Idle e = refl
-idle_is (Ticket t) e = absurd cc
-idle_is (Due q) e = absurd cc
-idle_is (Active q) e = absurd cc
-idle_is (Back x to) e = absurd cc
-idle_is (Passing t to) e = absurd cc
-idle_is Inner e = absurd cc
+idle_is p e = grind (arith, nat_tests)
 
 pub record IsActive (p : Place) : Type 0 where
   pub source : Source
   pub is : p ≡ Active source
 
 pub active_is : (p : Place) → (stage p == active_stage) ≡ true → IsActive p
-active_is Idle e = absurd cc
-active_is (Ticket t) e = absurd cc
-active_is (Due q) e = absurd cc
-active_is (Active q) e = record { source = q; is = refl }
-active_is (Back x to) e = absurd cc
-active_is (Passing t to) e = absurd cc
-active_is Inner e = absurd cc
+active_is p e = grind (arith, nat_tests)
 
 entry_of : (x : Next) (to : Home) → names_entry x ≡ true → Back x to ≡ Back next.Entry to
-entry_of next.Stay to e = absurd cc
-entry_of next.Entry to e = refl
-entry_of (next.Waiter j) to e = absurd cc
-entry_of (next.Signaller j) to e = absurd cc
-entry_of (next.Until j) to e = absurd cc
+entry_of x to e = grind (arith, nat_tests)
 
 -- if it may drop, it chose entry
 pub entry_is : (p : Place) (x : Next) (to : Home) → p ≡ Back x to → is_back names_entry p ≡ true
@@ -73,8 +58,7 @@ module _ (k : Rules) (o : Object) (w : WorldWords) (f : FloorView) (v : WorldVie
 
   pub returned : (c : Command) (a : Answer) (t : State) → IsDone k o s i (s.world.place i) c a t
       → IsDone k o (state_of_view v) i ((state_of_view v).world.place i) c a t
-  returned c a t d =
-      subst (λ (u : WorldView). IsDone k o (state_of_view u) i ((state_of_view u).world.place i) c a t) is d
+  returned c a t d = grind (arith, nat_tests)
 
   pub kept : (c : Command) (a : Answer) (new : WorldWords) (g : FloorView) (conds : ℕ) → IsKind k
       → IsKept k o w.seats conds s → refusal k o (state_of_view v) i c ≡ None → new.seats ≡ w.seats
@@ -271,17 +255,11 @@ module _ (k : Rules) (o : Object) (w : WorldWords) (f : FloorView) (v : WorldVie
   drawn_here conds old = few_drawn s old.bounded
 
   pub ticket_here : (n conds : ℕ) → IsKept k o w.seats conds s → s.world.place i ≡ Ticket n → n < 2147483648
-  ticket_here n conds old at =
-      let r = old.sound.is_sound.stands.keeps in
-      let mine = r.tickets.waits i (ap stage at) in
-      omega (arith, mine.0, ap ticket at, drawn_here conds old)
+  ticket_here n conds old at = grind (arith, nat_tests, drawn_here)
 
   pub passing_here : (n : ℕ) (to : Home) (conds : ℕ) → IsKept k o w.seats conds s
       → s.world.place i ≡ Passing n to → n < 2147483648
-  passing_here n to conds old at =
-      let r = old.sound.is_sound.stands.keeps in
-      let mine = r.tickets.passing i (ap stage at) in
-      omega (arith, mine.0, ap ticket at, drawn_here conds old)
+  passing_here n to conds old at = grind (arith, nat_tests, drawn_here)
 
   pub called_here : (x : Next) (to : Home) (j conds : ℕ) → IsKept k o w.seats conds s → s.world.place i ≡ Back x to
       → turn_of_next x ≡ due_to j → j < w.seats

@@ -1,5 +1,5 @@
 -- Each command has exactly one answer and one next state
-use Rattle.std.proofs.Common.{◌≡◌, ℕ, true, false, cond, Bool, sym, refl, ◌∙◌}
+use Rattle.std.proofs.Common.{◌≡◌, ℕ, true, false, cond, Bool, sym, refl, ◌∙◌, arith}
 use Rattle.std.specs.Prelude.{not, Option, Some, None}
 use Rattle.monk_kinds.specs.declared.mode.Rules.{Rules}
 use Rattle.monk_object.specs.Object.{Object}
@@ -11,6 +11,7 @@ use Rattle.monk_world.specs.StepTable.{may_be_told, refusal, IsDone, IsAnswered}
 use Rattle.monk_world.specs.declared.{answer.Answer.Answer, command.Command.Command}
 use Rattle.monk_world.specs.declared.place.Place.{Place}
 use Rattle.monk_world.specs.declared.place.Place.TheVariants.{Idle, Ticket, Due, Active, Back, Passing, Inner}
+use Rattle.std.proofs.lemmas.Bool.Decides.{nat_tests}
 
 module _ (k : Rules) (o : Object) (s : State) (i : ℕ) where
   abbrev HasStep : Place → Command → Type 0
@@ -78,8 +79,7 @@ module _ (k : Rules) (o : Object) (s : State) (i : ℕ) where
 
   same_answered : (c : Command) (r : Option Answer) (a b : Answer) (t u : State) → IsAnswered k o s i c r a t
       → IsAnswered k o s i c r b u → (a ≡ b) × (t ≡ u)
-  same_answered c None a b t u d e = same_done (s.world.place i) c a b t u d e
-  same_answered c (Some r) a b t u d e = (d.0 ∙ sym e.0, d.1 ∙ sym e.1)
+  same_answered c r a b t u d e = grind (arith, nat_tests, same_done)
 
 pub steps_answered : StepsAreAnswered
 steps_answered k o s i c = answered k o s i c _ _ (may_be_told (s.world.place i) c) _ refl

@@ -13,12 +13,13 @@ use Rattle.monk_world.specs.Places.{stage, ticket, back_turn, due_to, turn_of_ne
 use Rattle.monk_world.specs.Places.{outside_stage, ticketed_stage, due_stage, active_stage, back_stage, passing_stage}
 use Rattle.monk_world.specs.Places.{inside_stage}
 use Rattle.monk_world.specs.declared.place.Place.{Place}
-use Rattle.monk_world.specs.declared.place.Place.TheVariants.{Idle, Ticket, Due, Active, Back, Passing, Inner}
+use Rattle.monk_world.specs.declared.place.Place.TheVariants.{Ticket, Due, Passing, Inner}
 use Rattle.monk_world.specs.declared.source.Source.TheVariants.{Free}
 use Rattle.monk_world.specs.Laws.{OpeningStands, ArriveKeeps, TicketLookKeeps, SeatLookKeeps, FloorOutKeeps}
 use Rattle.monk_world.specs.Laws.{ActiveKeeps, FloorInKeeps, DropKeeps, TicketGrantKeeps, SeatGrantKeeps}
 use Rattle.monk_world.specs.Laws.{StandsInOnePlace}
 use Rattle.monk_world.specs.Right.{KeepsRight, Nowhere, AtTicket, With}
+use Rattle.std.proofs.lemmas.Bool.Decides.{nat_tests}
 
 pub opening_stands : OpeningStands
 opening_stands seats = record {
@@ -141,13 +142,7 @@ activity_keeps_the_right seats w right owner turn queued quiet i h q turn_new qu
 -- a seat in a queue that doesn't have the right is parked inside
 parked : (p : Place) → is_queued_at p ≡ true → (due_stage ≤ stage p → stage p ≤ passing_stage → ⊥)
     → stage p ≡ inside_stage
-parked Idle e none = absurd cc
-parked (Ticket t) e none = absurd cc
-parked (Due q) e none = absurd (none (omega arith) (omega arith))
-parked (Active q) e none = absurd (none (omega arith) (omega arith))
-parked (Back next home) e none = absurd (none (omega arith) (omega arith))
-parked (Passing t home) e none = absurd (none (omega arith) (omega arith))
-parked Inner e none = refl
+parked p e none = grind (arith, nat_tests)
 
 pub floor_in_keeps_the_right : FloorInKeeps
 floor_in_keeps_the_right seats w right owner turn queued quiet i h q next home queued_new quiet_new active

@@ -10,6 +10,7 @@ use Rattle.monk_world.specs.declared.source.Source.{Source, TheVariants.Free, Th
 use Rattle.monk_world.specs.declared.home.Home.{Home}
 use Rattle.monk_world.specs.Right.{Whereabouts, Nowhere, AtTicket, With, AtSeat, KeepsRight}
 use Rattle.monk_world.specs.Places.{stage, due_to, turn_of_next, place_of, due_stage, active_stage, passing_stage}
+use Rattle.std.proofs.lemmas.Bool.Decides.{nat_tests}
 
 module _ (seats : ℕ) (s : World) (right : Whereabouts) (owner : ℕ → ℕ) (r : KeepsRight seats s right owner) (turn : ℕ)
     (f : FitsTurn s right turn) (i : ℕ) where
@@ -20,10 +21,7 @@ module _ (seats : ℕ) (s : World) (right : Whereabouts) (owner : ℕ → ℕ) (
   -- the turn if seat i has the right and is not active
   pub turn_here : (p : Place) → s.place i ≡ p → due_stage ≤ stage p → stage p ≤ passing_stage
       → stage p ≢ active_stage → turn ≡ turn_at i p
-  turn_here p at low high ne =
-      let z : stage (s.place i) ≡ stage p = ap stage at in
-      subst (λ (y : Place). stage y ≢ active_stage → turn ≡ turn_at i y) at
-      (turn_where (With i) (held r i (omega arith) (omega arith))) ne
+  turn_here p at low high ne = grind (arith, nat_tests)
 
   -- seat i has the right after its step
   taken : (p : Place) (turn_new : ℕ) → (stage p ≢ active_stage → turn_new ≡ turn_at i p)

@@ -1,10 +1,11 @@
 -- Queues with nobody in them
-use Rattle.std.proofs.Common.{◌≡◌, ℕ, zero, suc, List, [], ◌∷◌, map, refl, sym, ap, subst, ◌∙◌, arith, length}
+use Rattle.std.proofs.Common.{◌≡◌, ℕ, zero, suc, List, [], ◌∷◌, map, refl, ap, ◌∙◌, arith, length}
 use Rattle.monk_history.specs.Meaning.Standing.{times, times_in_conditions}
 use Rattle.monk_floor.specs.declared.chain.Chain.{Chain}
-use Rattle.monk_floor.specs.Links.{most_queues, walk, seats_of, empty_chain, chain_at, queue_in, places, EndsWith, IsLinked}
+use Rattle.monk_floor.specs.Links.{most_queues, walk, seats_of, empty_chain, chain_at, queue_in, places, IsLinked}
 use Rattle.monk_floor.specs.Queues.{queue_at}
 use Rattle.monk_floor.proofs.LinkLaws.Chains.{queue_is}
+use Rattle.std.proofs.lemmas.Bool.Decides.{nat_tests}
 
 abbrev empty_chains : ℕ → List Chain
 empty_chains zero = []
@@ -35,13 +36,7 @@ unfolding places
 no_places s q h = no_times most_queues s q h
 
 none_linked : (next : List ℕ) (n : ℕ) → n ≡ most_queues → IsLinked next (empty_chains n)
-none_linked next n e = record {
-  count = count_is n ∙ e;
-  last = λ c. subst (λ xs. EndsWith xs (chain_at (empty_chains n) c).last) (sym (empty_in next n c)) tt;
-  once = λ s. let no : places s (queue_in next (empty_chains n)) ≡ 0 =
-      no_places s (queue_in next (empty_chains n)) (empty_in next n) in
-      omega (arith, no);
-}
+none_linked next n e = grind (arith, nat_tests, count_is, empty_in, no_places)
 
 none_shown : (next : List ℕ) (n c : ℕ) → queue_at (map (seats_of next) (empty_chains n)) c ≡ []
 none_shown next n c = queue_is next (empty_chains n) _ refl c ∙ empty_in next n c

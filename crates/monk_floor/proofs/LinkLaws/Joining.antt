@@ -1,6 +1,6 @@
 -- A seat joins the back of a queue
-use Rattle.std.proofs.Common.{◌≡◌, ◌≢◌, ℕ, zero, suc, ◌<◌, ◌≤◌, ◌+◌, ◌-◌, ◌==◌, Bool, true, false, cond, List, [], ◌∷◌, ◌++◌, map}
-use Rattle.std.proofs.Common.{length, refl, sym, ap, subst, ◌∙◌, arith, eq-eqb, eqb-true, append-nil}
+use Rattle.std.proofs.Common.{◌≡◌, ◌≢◌, ℕ, suc, ◌<◌, ◌≤◌, ◌+◌, ◌-◌, ◌==◌, Bool, true, cond, List, [], ◌∷◌, ◌++◌, map}
+use Rattle.std.proofs.Common.{length, refl, sym, ap, subst, ◌∙◌, arith, eq-eqb, eqb-true, append-nil, rules}
 use Rattle.std.specs.Prelude.{slice_set, nat_lt}
 use Rattle.monk_history.specs.{Limits.most_seats, Meaning.Standing.times}
 use Rattle.monk_floor.proofs.LinkLaws.Walks.{walk-set, walk-push, ends_push}
@@ -8,10 +8,10 @@ use Rattle.monk_floor.proofs.LinkLaws.Chains.{queue_is, linked_again, seen_again
 use Rattle.monk_floor.proofs.LinkLaws.Chains.{last_in_range}
 use Rattle.monk_floor.specs.{declared.chain.Chain.Chain, Queues.queue_at}
 use Rattle.monk_floor.specs.Links.{most_queues, walk, seats_of, chain_at, queue_in, places, EndsWith, IsLinked}
+use Rattle.std.proofs.lemmas.Bool.Decides.{nat_tests}
 
 pub some_more : (n : ℕ) → (n ≡ 0 → ⊥) → n ≡ suc (n - 1)
-some_more zero h = absurd (h refl)
-some_more (suc n) h = omega arith
+some_more n h = omega arith
 
 pub times_push : (x : ℕ) (xs : List ℕ) (s : ℕ) → times x (xs ++ s ∷ []) ≡ times x xs + cond (s == x) 1 0
 times_push x [] s = omega arith
@@ -20,12 +20,10 @@ times_push x (y ∷ ys) s = omega (arith, times_push x ys s)
 joins_once : (b : Bool) (s x n : ℕ) → (b ≡ true → s ≡ x) → (s ≡ x → n ≡ 0) → s < most_seats
     → n ≤ cond (nat_lt x most_seats) 1 0
     → n + cond b 1 0 ≤ cond (nat_lt x most_seats) 1 0
-joins_once true s x n h none l o = let e = h refl in let z = none e in grind (arith, e, z, l)
-joins_once false s x n h none l o = omega (arith, o)
+joins_once b s x n h none l o = grind (arith, nat_tests)
 
 when : (b : Bool) (xs : List ℕ) (s : ℕ) → (b ≡ true → ⊥) → xs ++ cond b (s ∷ []) [] ≡ xs
-when true xs s h = absurd (h refl)
-when false xs s h = append-nil xs
+when b xs s h = grind (arith, nat_tests, append-nil)
 
 module _ {next : List ℕ} {chains : List Chain} (k : IsLinked next chains) (a s : ℕ) (l : a < most_queues) where
   -- one more seat in a queue
@@ -86,9 +84,7 @@ module _ {next : List ℕ} {chains : List Chain} (k : IsLinked next chains) (a s
 
   others_stay : (n : ℕ) → (chain_at chains a).length ≡ suc n → (c : ℕ) → a ≢ c
       → seats_of (slice_set next (chain_at chains a).last s) (chain_at chains c) ≡ queue_in next chains c
-  others_stay n e c d =
-      walk-set next (chain_at chains c).length (chain_at chains c).first (chain_at chains a).last s
-      (apart k a c (chain_at chains a).last l d (last_there k a n e))
+  others_stay n e c d = search (rules, walk-set, apart, last_there)
 
   abbrev longer : Chain
   longer = record { first = (chain_at chains a).first; last = s; length = (chain_at chains a).length + 1 }

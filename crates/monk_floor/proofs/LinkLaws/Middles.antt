@@ -5,16 +5,13 @@ use Rattle.std.{specs.Prelude.slice_set, proofs.lemmas.Bool.cases_eq}
 use Rattle.monk_history.specs.Meaning.Standing.{times}
 use Rattle.monk_floor.proofs.LinkLaws.Walks.{walk-set, ends_there, other, rest, behind}
 use Rattle.monk_floor.specs.Links.{walk, EndsWith, without, seat_before}
+use Rattle.std.proofs.lemmas.Bool.Decides.{nat_tests}
 
 one_of : (x s : ℕ) → x ≡ s → ◌≡◌ {A = ℕ} (cond (x == s) 1 0) 1
 one_of x s e = ap (λ b. cond b 1 0) (eq-eqb x s e)
 
 pub keeps : (s x : ℕ) (xs : List ℕ) → (x ≡ s → ⊥) → without s (x ∷ xs) ≡ x ∷ without s xs
-keeps s x xs h = kept (s == x) (λ e. h (sym (eqb-true s x e)))
-  where
-    kept : (b : Bool) → (b ≡ true → ⊥) → cond (not b) (x ∷ without s xs) (without s xs) ≡ x ∷ without s xs
-    kept true k = absurd (k refl)
-    kept false k = refl
+keeps s x xs h = grind (arith, nat_tests)
 
 pub skips : (s x : ℕ) (xs : List ℕ) → x ≡ s → without s (x ∷ xs) ≡ without s xs
 skips s x xs e = ap (λ b. cond (not b) (x ∷ without s xs) (without s xs)) (eq-eqb s x (sym e))
@@ -39,11 +36,7 @@ first_before : (s x y : ℕ) (ys : List ℕ) → y ≡ s → seat_before s (x �
 first_before s x y ys e = ap (λ b. cond b (Some x) (seat_before s (y ∷ ys))) (eq-eqb y s e)
 
 pub later_before : (s x y : ℕ) (ys : List ℕ) → (y ≡ s → ⊥) → seat_before s (x ∷ y ∷ ys) ≡ seat_before s (y ∷ ys)
-later_before s x y ys h = when_not (y == s) (λ e. h (eqb-true y s e))
-  where
-    when_not : (b : Bool) → (b ≡ true → ⊥) → cond b (Some x) (seat_before s (y ∷ ys)) ≡ seat_before s (y ∷ ys)
-    when_not true k = absurd (k refl)
-    when_not false k = refl
+later_before s x y ys h = grind (arith, nat_tests)
 
 same_some : (x y : ℕ) → Some x ≡ Some y → x ≡ y
 same_some x y e = cc

@@ -1,6 +1,6 @@
 -- All seats of a queue go to the back of another, in order
-use Rattle.std.proofs.Common.{◌≡◌, ◌≢◌, ℕ, zero, suc, ◌<◌, ◌≤◌, ◌+◌, ◌-◌, ◌==◌, Bool, true, false, cond, List, [], ◌∷◌, ◌++◌, map}
-use Rattle.std.proofs.Common.{length, refl, sym, ap, subst, ◌∙◌, arith, eq-eqb, eqb-true, append-nil}
+use Rattle.std.proofs.Common.{◌≡◌, ◌≢◌, ℕ, zero, suc, ◌<◌, ◌≤◌, ◌+◌, ◌-◌, ◌==◌, Bool, true, cond, List, [], ◌∷◌, ◌++◌, map}
+use Rattle.std.proofs.Common.{length, refl, sym, ap, subst, ◌∙◌, arith, eq-eqb, eqb-true, append-nil, rules}
 use Rattle.std.proofs.Common.{get_or, get_or-set_same, get_or-set_other}
 use Rattle.std.specs.Prelude.{slice_set, nat_lt}
 use Rattle.monk_history.specs.{Limits.most_seats, Meaning.Standing.times}
@@ -11,6 +11,7 @@ use Rattle.monk_floor.proofs.LinkLaws.Taking.{none_here, some_here, none_seen}
 use Rattle.monk_floor.specs.{declared.chain.Chain.Chain, Queues.queue_at}
 use Rattle.monk_floor.specs.Links.{most_queues, walk, seats_of, empty_chain, chain_at, queue_in, places, EndsWith}
 use Rattle.monk_floor.specs.Links.{IsLinked}
+use Rattle.std.proofs.lemmas.Bool.Decides.{nat_tests}
 
 -- two lists, one after the other
 pub times_both : (s : ℕ) (xs ys : List ℕ) → times s (xs ++ ys) ≡ times s xs + times s ys
@@ -40,14 +41,10 @@ walk-join next (suc n) m f g l e o z b all h =
     ∙ walk-join next n m (get_or next f 0) g l e (omega (arith, o)) z b (all - 1) (omega (arith, h)))
 
 when_not : (b : Bool) (xs ys : List ℕ) → (b ≡ true → ⊥) → cond b xs ys ≡ ys
-when_not true xs ys h = absurd (h refl)
-when_not false xs ys h = refl
+when_not b xs ys h = grind (arith, nat_tests)
 
 none_passed : (x y : Bool) (xs ys : List ℕ) → ys ≡ [] → (x ≡ true → xs ≡ []) → xs ≡ cond x [] xs ++ cond y ys []
-none_passed true true xs ys h f = f refl ∙ sym h
-none_passed true false xs ys h f = f refl
-none_passed false true xs ys h f = sym (ap (λ zs. xs ++ zs) h ∙ append-nil xs)
-none_passed false false xs ys h f = sym (append-nil xs)
+none_passed x y xs ys h f = grind (arith, nat_tests, append-nil)
 
 module _ {next : List ℕ} {chains : List Chain} (k : IsLinked next chains) (a b : ℕ) (l : a < most_queues)
     (m : b < most_queues)
@@ -57,8 +54,7 @@ module _ {next : List ℕ} {chains : List Chain} (k : IsLinked next chains) (a b
   emptied = slice_set chains a empty_chain
 
   emptied_here : queue_in next emptied a ≡ []
-  emptied_here =
-      ap (seats_of next) (get_or-set_same chains a empty_chain empty_chain (omega (arith, l, k.count))) ∙ none next
+  emptied_here = grind (arith, nat_tests, get_or-set_same, none)
 
   emptied_other : (c : ℕ) → a ≢ c → queue_in next emptied c ≡ queue_in next chains c
   emptied_other c x = ap (seats_of next) (get_or-set_other chains a c empty_chain empty_chain (λ e. x (sym e)))
@@ -114,15 +110,11 @@ module _ {next : List ℕ} {chains : List Chain} (k : IsLinked next chains) (a b
   -- nobody was there to pass
   pub nobody_passed : (v : List (List ℕ)) → map (seats_of next) chains ≡ v → (chain_at chains a).length ≡ 0
       → (c : ℕ) → queue_at v c ≡ cond (a == c) [] (queue_at v c) ++ cond (b == c) (queue_at v a) []
-  nobody_passed v e z c =
-      none_passed (a == c) (b == c) (queue_at v c) (queue_at v a) (none_seen next chains a v e z)
-      (λ x. subst (λ y. queue_at v y ≡ []) (eqb-true a c x) (none_seen next chains a v e z))
+  nobody_passed v e z c = grind (arith, nat_tests, none_passed, none_seen, eqb-true)
 
   -- the other queue is empty
   alone_is : (chain_at chains b).length ≡ 0 → queue_in next chains a ≡ queue_in next chains b ++ queue_in next chains a
-  alone_is z =
-      ap (λ xs. xs ++ queue_in next chains a)
-      (sym (none_here next (chain_at chains b).length (chain_at chains b).first z))
+  alone_is z = grind (arith, nat_tests, none_here)
 
   pub alone_linked : (chain_at chains b).length ≡ 0 → IsLinked next (slice_set emptied b (chain_at chains a))
   alone_linked z = passed_linked next (chain_at chains a) (alone_is z) (k.last a) (λ c x. refl)
@@ -169,11 +161,7 @@ module _ {next : List ℕ} {chains : List Chain} (k : IsLinked next chains) (a b
 
   others_stay : (n : ℕ) → (chain_at chains b).length ≡ suc n → (c : ℕ) → b ≢ c
       → seats_of links (chain_at emptied c) ≡ queue_in next emptied c
-  others_stay n e c x =
-      walk-set next (chain_at emptied c).length (chain_at emptied c).first (chain_at chains b).last
-      (chain_at chains a).first
-      (apart emptied_linked b c (chain_at chains b).last m x
-      (subst (λ xs. 1 ≤ times (chain_at chains b).last xs) (sym (emptied_other b d)) (last_there k b n e)))
+  others_stay n e c x = search (rules, walk-set, apart, emptied_linked, emptied_other, last_there)
 
   pub both_linked : ((chain_at chains b).length ≡ 0 → ⊥) → length next ≡ most_seats
       → ((chain_at chains a).length ≡ 0 → ⊥)

@@ -1,6 +1,6 @@
 -- A seat is looked for in a queue, and taken out of it
-use Rattle.std.proofs.Common.{◌≡◌, ◌≢◌, ℕ, zero, suc, ◌<◌, ◌≤◌, ◌-◌, ◌==◌, Bool, true, false, cond, Option, Some, None, List, [], ◌∷◌, map}
-use Rattle.std.proofs.Common.{length, drop, refl, sym, ap, subst, ◌∙◌, arith, eq-eqb, eqb-true, get_or}
+use Rattle.std.proofs.Common.{◌≡◌, ◌≢◌, ℕ, ◌<◌, ◌≤◌, ◌-◌, ◌==◌, Bool, true, false, cond, Option, Some, None, List, [], ◌∷◌, map}
+use Rattle.std.proofs.Common.{length, drop, refl, sym, ap, subst, ◌∙◌, arith, eq-eqb, eqb-true, get_or, rules}
 use Rattle.std.specs.{Prelude.slice_set, Prelude.slice_get, Prelude.nat_eq, Prelude.IfSome, Option.option_eq}
 use Rattle.monk_history.specs.{Limits.most_seats, Meaning.Standing.times}
 use Rattle.monk_floor.proofs.LinkLaws.{Walks.walk-set, Chains.queue_is, Chains.linked_again, Chains.seen_again}
@@ -10,15 +10,14 @@ use Rattle.monk_floor.proofs.LinkLaws.Middles.{walk-unlink, ends_without}
 use Rattle.monk_floor.specs.{declared.chain.Chain.Chain, Queues.queue_at}
 use Rattle.monk_floor.specs.Links.{most_queues, walk, seats_of, chain_at, queue_in, places, EndsWith, without}
 use Rattle.monk_floor.specs.Links.{seat_before, IsLinked}
+use Rattle.std.proofs.lemmas.Bool.Decides.{nat_tests}
 
 when : (b : Bool) (xs ys : List ℕ) → (b ≡ true → ⊥) → cond b xs ys ≡ ys
-when true xs ys h = absurd (h refl)
-when false xs ys h = refl
+when b xs ys h = grind (arith, nat_tests)
 
 nobody_before : (next : List ℕ) (n f s b : ℕ) → n ≡ 0 → seat_before s (walk next n f) ≡ Some b → ⊥
 unfolding walk
-nobody_before next zero f s b e h = absurd (cc)
-nobody_before next (suc n) f s b e h = absurd (omega (arith, e))
+nobody_before next n f s b e h = cc
 
 module _ (next : List ℕ) (chains : List Chain) (k : IsLinked next chains) (a s b : ℕ) (l : a < most_queues)
     (v : List (List ℕ)) (e : map (seats_of next) chains ≡ v) (h : seat_before s (queue_at v a) ≡ Some b) where
@@ -32,8 +31,7 @@ module _ (next : List ℕ) (chains : List Chain) (k : IsLinked next chains) (a s
   before_in_range = in_range k a b l (before_there s b (queue_in next chains a) found)
 
   pub not_empty : 1 ≤ (chain_at chains a).length
-  not_empty = let some : (chain_at chains a).length ≢ 0 = (λ z. nobody_before next (chain_at chains a).length
-      (chain_at chains a).first s b z found) in omega (arith, some)
+  not_empty = grind (arith, nat_tests, nobody_before, found)
 
   abbrev links : List ℕ
   links = slice_set next b (get_or next s 0)
@@ -42,20 +40,10 @@ module _ (next : List ℕ) (chains : List Chain) (k : IsLinked next chains) (a s
   chain last = record { first = (chain_at chains a).first; last = last; length = (chain_at chains a).length - 1 }
 
   unlinked : length next ≡ most_seats → (last : ℕ) → seats_of links (chain last) ≡ without s (queue_in next chains a)
-  unlinked c last =
-      let n = (chain_at chains a).length - 1 in
-      let f = (chain_at chains a).first in
-      let more : (chain_at chains a).length ≡ suc n = omega (arith, not_empty) in
-      let low = before_in_range in
-      walk-unlink next n f s b (subst (λ x. seat_before s (walk next x f) ≡ Some b) more found)
-      (subst (λ x. times b (walk next x f) ≤ 1) more (at_most_once k a b l))
-      (subst (λ x. times s (walk next x f) ≤ 1) more (at_most_once k a s l)) (omega (arith, low, c))
-      ∙ ap (λ x. without s (walk next x f)) (sym more)
+  unlinked c last = grind (arith, nat_tests, not_empty, before_in_range, walk-unlink, found, at_most_once)
 
   others_stay : (c : ℕ) → a ≢ c → seats_of links (chain_at chains c) ≡ queue_in next chains c
-  others_stay c d =
-      walk-set next (chain_at chains c).length (chain_at chains c).first b (get_or next s 0)
-      (apart k a c b l d (before_there s b (queue_in next chains a) found))
+  others_stay c d = search (rules, walk-set, apart, before_there, found)
 
   pub unlinked_linked : length next ≡ most_seats → (last : ℕ)
       → last ≡ cond ((chain_at chains a).last == s) b (chain_at chains a).last
@@ -85,17 +73,13 @@ module _ (next : List ℕ) (chains : List Chain) (k : IsLinked next chains) (a s
 
   pub unlinked_others : length next ≡ most_seats → (last c : ℕ) → a ≢ c
       → queue_at (map (seats_of links) (slice_set chains a (chain last))) c ≡ queue_at v c
-  unlinked_others x last c d =
-      seen x last c ∙ when (a == c) (without s (queue_at v c)) (queue_at v c) (λ z. d (eqb-true a c z))
+  unlinked_others x last c d = grind (arith, nat_tests, seen, when, eqb-true)
 
 -- if the seat is the front
 front_taken : (s : ℕ) (xs ys : List ℕ) → true ≡ option_eq nat_eq (slice_get xs 0) (Some s) → ys ≡ drop 1 xs
     → times s ys ≡ 0
     → ys ≡ without s xs
-front_taken s [] ys h d n = absurd (cc)
-front_taken s (x ∷ xs) ys h d n =
-    let same : x ≡ s = eqb-true x s (sym h) in
-    sym (skips s x xs same ∙ (ap (without s) (sym d) ∙ times_none s ys n))
+front_taken s xs ys h d n = grind (arith, nat_tests, eqb-true, skips, times_none)
 
 some_is : (r : Option ℕ) (s : ℕ) (P : ℕ → Type 0) → true ≡ option_eq nat_eq r (Some s) → IfSome r P → P s
 some_is None s P h p = absurd (cc)
@@ -104,20 +88,12 @@ some_is (Some x) s P h p = subst P (eqb-true x s (sym h)) p
 pub removed_front : (a s : ℕ) (v w : List (List ℕ)) (r : Option ℕ) → a < most_queues → r ≡ slice_get (queue_at v a) 0
     → true ≡ option_eq nat_eq r (Some s) → ((c : ℕ) → queue_at w c ≡ drop (cond (a == c) 1 0) (queue_at v c))
     → IfSome r (λ x. places x (queue_at w) ≡ 0) → queue_at w a ≡ without s (queue_at v a)
-removed_front a s v w r l e h m p =
-    let none = some_is r s (λ x. places x (queue_at w) ≡ 0) h p in
-    let few = times_le a s (queue_at w) l in
-    front_taken s (queue_at v a) (queue_at w a) (h ∙ ap (λ o. option_eq nat_eq o (Some s)) e)
-    (m a ∙ ap (λ z. drop (cond z 1 0) (queue_at v a)) (eq-eqb a a refl)) (omega (arith, few, none))
+removed_front a s v w r l e h m p = grind (arith, nat_tests, some_is, times_le, front_taken, eq-eqb)
 
 pub others_stay_here : (a : ℕ) (v w : List (List ℕ))
     → ((c : ℕ) → queue_at w c ≡ drop (cond (a == c) 1 0) (queue_at v c))
     → (c : ℕ) → a ≢ c → queue_at w c ≡ queue_at v c
-others_stay_here a v w m c d = m c ∙ none_dropped (a == c) (queue_at v c) (λ z. d (eqb-true a c z))
-  where
-    none_dropped : (z : Bool) (xs : List ℕ) → (z ≡ true → ⊥) → drop (cond z 1 0) xs ≡ xs
-    none_dropped true xs h = absurd (h refl)
-    none_dropped false xs h = refl
+others_stay_here a v w m c d = grind (arith, nat_tests)
 
 -- if the seat is not there
 pub not_there : (s : ℕ) (xs : List ℕ) (r : Option ℕ) → r ≡ slice_get xs 0 → false ≡ option_eq nat_eq r (Some s)

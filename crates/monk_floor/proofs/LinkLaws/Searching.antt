@@ -1,10 +1,11 @@
 -- The seat just before another is looked for along the links
-use Rattle.std.proofs.Common.{◌≡◌, ℕ, zero, suc, ◌<◌, ◌≤◌, ◌+◌, ◌-◌, cond, Some, None, List, map}
+use Rattle.std.proofs.Common.{◌≡◌, ℕ, suc, ◌<◌, ◌≤◌, ◌+◌, ◌-◌, cond, Some, None, List, map}
 use Rattle.std.proofs.Common.{refl, sym, ap, subst, ◌∙◌, arith, eq-eqb, get_or}
 use Rattle.monk_history.specs.{Limits.most_seats, Meaning.Standing.times}
-use Rattle.monk_floor.proofs.LinkLaws.{Chains.queue_is, Chains.in_range, Middles.later_before}
+use Rattle.monk_floor.proofs.LinkLaws.{Chains.queue_is, Chains.in_range}
 use Rattle.monk_floor.specs.{declared.chain.Chain.Chain, Queues.queue_at}
 use Rattle.monk_floor.specs.Links.{most_queues, walk, seats_of, chain_at, queue_in, seat_before, IsLinked}
+use Rattle.std.proofs.lemmas.Bool.Decides.{nat_tests}
 
 -- n seats of a queue are left from b on. The one before s is found among them, or not at all
 pub record IsLeft (next : List ℕ) (s : ℕ) (all : List ℕ) (n b : ℕ) : Type 0 where
@@ -24,22 +25,16 @@ one_further : (next : List ℕ) (s : ℕ) (all : List ℕ) (n b : ℕ) → IsLef
     → (get_or next b 0 ≡ s → ⊥)
     → IsLeft next s all (suc n) (get_or next b 0)
 unfolding walk
-one_further next s all n b k d = record {
-  same = sym (later_before s b (get_or next b 0) (walk next n (get_or next (get_or next b 0) 0)) d) ∙ k.same;
-  within = λ x. let more = k.within x in omega (arith, more);
-}
+one_further next s all n b k d = grind (arith, nat_tests)
 
 found_here : (next : List ℕ) (s : ℕ) (n b : ℕ) → get_or next b 0 ≡ s
     → Some b ≡ seat_before s (walk next (suc (suc n)) b)
 unfolding walk
-found_here next s n b e =
-    sym (ap (λ z. cond z (Some b) (seat_before s (walk next (suc n) (get_or next b 0)))) (eq-eqb (get_or next b 0) s e))
+found_here next s n b e = grind (arith, nat_tests)
 
 found_nowhere : (next : List ℕ) (s n b : ℕ) → n ≤ 1 → None ≡ seat_before s (walk next n b)
 unfolding walk
-found_nowhere next s zero b l = refl
-found_nowhere next s (suc zero) b l = refl
-found_nowhere next s (suc (suc n)) b l = absurd (omega (arith, l))
+found_nowhere next s n b l = grind (arith, nat_tests)
 
 module _ (next : List ℕ) (chains : List Chain) (a s : ℕ) where
   abbrev left : ℕ → ℕ → Type 0

@@ -1,45 +1,36 @@
 -- The front of a queue is read, and taken
-use Rattle.std.proofs.Common.{◌≡◌, ℕ, zero, suc, ◌<◌, ◌≤◌, ◌+◌, ◌-◌, ◌==◌, Bool, true, false, cond, Some, None, List, [], ◌∷◌, map}
-use Rattle.std.proofs.Common.{drop, refl, sym, ap, subst, ◌∙◌, arith, eq-eqb, eqb-true, get_or}
+use Rattle.std.proofs.Common.{◌≡◌, ℕ, ◌<◌, ◌≤◌, ◌+◌, ◌-◌, ◌==◌, Bool, true, cond, Some, None, List, [], ◌∷◌, map}
+use Rattle.std.proofs.Common.{drop, refl, sym, ap, subst, ◌∙◌, arith, eq-eqb, eqb-true, get_or, rules}
 use Rattle.std.specs.Prelude.{slice_set, slice_get, nat_lt, nat_eq}
 use Rattle.monk_history.specs.{Limits.most_seats, Meaning.Signallers.is_empty, Meaning.Standing.times}
 use Rattle.monk_floor.proofs.LinkLaws.Walks.{ends_drop}
 use Rattle.monk_floor.proofs.LinkLaws.Chains.{queue_is, linked_again, seen_again, in_range, places_one, cond_le}
 use Rattle.monk_floor.specs.{declared.chain.Chain.Chain, Queues.queue_at}
 use Rattle.monk_floor.specs.Links.{most_queues, walk, seats_of, chain_at, queue_in, places, EndsWith, IsLinked}
+use Rattle.std.proofs.lemmas.Bool.Decides.{nat_tests}
 
 times_drop : (s : ℕ) (xs : List ℕ) → times s (drop 1 xs) ≤ times s xs
-times_drop s [] = omega arith
-times_drop s (x ∷ xs) = omega arith
+times_drop s xs = grind (arith, nat_tests)
 
 drop_none : (b : Bool) (xs : List ℕ) → (b ≡ true → xs ≡ []) → xs ≡ drop (cond b 1 0) xs
-drop_none true xs h = h refl ∙ sym (ap (drop 1) (h refl))
-drop_none false xs h = refl
+drop_none b xs h = grind (arith, nat_tests)
 
 drop_when : (b : Bool) (xs : List ℕ) → (b ≡ true → ⊥) → drop (cond b 1 0) xs ≡ xs
-drop_when true xs h = absurd (h refl)
-drop_when false xs h = refl
+drop_when b xs h = grind (arith, nat_tests)
 
 pub none_here : (next : List ℕ) (n f : ℕ) → n ≡ 0 → walk next n f ≡ []
 unfolding walk
-none_here next zero f e = refl
-none_here next (suc n) f e = absurd (omega (arith, e))
+none_here next n f e = cc
 
 pub some_here : (next : List ℕ) (n f : ℕ) → (n ≡ 0 → ⊥) → walk next n f ≡ f ∷ walk next (n - 1) (get_or next f 0)
 unfolding walk
-some_here next zero f e = absurd (e refl)
-some_here next (suc n) f e =
-    ap (λ m. f ∷ walk next m (get_or next f 0)) (let less : n ≡ suc n - 1 = omega arith in less)
+some_here next n f e = grind (arith, nat_tests)
 
 times_front : (x : ℕ) (xs : List ℕ) → 1 ≤ times x (x ∷ xs)
 times_front x xs = omega (arith, ap {B = ℕ} (λ b. cond b 1 0) (eq-eqb x x refl))
 
 times_first : (x : ℕ) (xs ys : List ℕ) {zs : List ℕ} → xs ≡ x ∷ zs → ys ≡ drop 1 xs → times x xs ≡ 1 + times x ys
-times_first x xs ys {zs} e d =
-    let rest : ys ≡ zs = d ∙ ap (drop 1) e in
-    let one : ◌≡◌ {A = ℕ} (cond (x == x) 1 0) 1 = ap (λ b. cond b 1 0) (eq-eqb x x refl) in
-    let all : times x xs ≡ cond (x == x) 1 0 + times x zs = ap (times x) e in
-    omega (arith, one, all, ap (times x) rest)
+times_first x xs ys h h' = grind (arith, nat_tests)
 
 module _ (next : List ℕ) (chains : List Chain) (a : ℕ) where
   -- the queue has nobody in it
@@ -62,16 +53,11 @@ module _ (next : List ℕ) (chains : List Chain) (a : ℕ) where
 
   pub front_in_range : IsLinked next chains → a < most_queues → ((chain_at chains a).length ≡ 0 → ⊥)
       → (chain_at chains a).first < most_seats
-  front_in_range k l z =
-      in_range k a (chain_at chains a).first l
-      (subst (λ xs. 1 ≤ times (chain_at chains a).first xs)
-      (sym (some_here next (chain_at chains a).length (chain_at chains a).first z))
-      (times_front (chain_at chains a).first _))
+  front_in_range k l z = search (rules, in_range, some_here, times_front)
 
   pub taken_none : (v : List (List ℕ)) → map (seats_of next) chains ≡ v → (chain_at chains a).length ≡ 0
       → (c : ℕ) → queue_at v c ≡ drop (cond (a == c) 1 0) (queue_at v c)
-  taken_none v e z c = drop_none (a == c) (queue_at v c)
-      (λ b. subst (λ x. queue_at v x ≡ []) (eqb-true a c b) (none_seen v e z))
+  taken_none v e z c = grind (arith, nat_tests, drop_none, eqb-true, none_seen)
 
   -- the front is taken: the queue begins at the next one
   abbrev shorter : Chain
@@ -126,5 +112,4 @@ module _ (next : List ℕ) (chains : List Chain) (a : ℕ) where
 -- whether there is a front, and which seat it is
 pub nobody : (next : List ℕ) (n f : ℕ) → nat_eq n 0 ≡ is_empty (walk next n f)
 unfolding walk
-nobody next zero f = refl
-nobody next (suc n) f = let other : nat_eq (suc n) 0 ≡ false = grind arith in other
+nobody next n f = grind (arith, nat_tests)

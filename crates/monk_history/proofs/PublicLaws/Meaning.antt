@@ -35,8 +35,6 @@ pub use Rattle.monk_history.proofs.MeaningLaws.QueueSeats.{IsSeated}
 pub use Rattle.monk_history.proofs.MeaningLaws.ReleaseLaws.{chosen_allowed, legal_order}
 pub use Rattle.monk_history.proofs.MeaningLaws.QueueSeats.{legal_seated}
 pub use Rattle.monk_history.proofs.MeaningLaws.QueueSeats.{seat_in_range, times_le_conditions}
--- The front of the signaller queue
-pub use Rattle.monk_history.proofs.MeaningLaws.SignallerLaws.{front_is_taken}
 -- Where the seats of a legal history are
 pub use Rattle.monk_history.proofs.MeaningLaws.StandingLaws.{legal_placed}
 -- The situation after one more event

@@ -19,7 +19,7 @@ pub use Rattle.monk_history.proofs.TextLaws.PieceLaws.{head_missing, head_opens,
 -- No word of an event or of a header has a byte 32 or 10.
 pub use Rattle.monk_history.proofs.TextLaws.PlainWords.{decimal_word, kind_is_word, object_is_word}
 -- A value is taken from the words that it is written as, and a value that is written so is taken again.
-pub use Rattle.monk_history.proofs.TextLaws.WordReaders.{bind_ok, end_takes, literal_takes, made_takes, number_again}
+pub use Rattle.monk_history.proofs.TextLaws.WordReaders.{bind_ok, end_takes, literal_takes, number_again}
 pub use Rattle.monk_history.proofs.TextLaws.WordReaders.{number_takes, ok_is, one_of_again, one_of_takes}
 -- The same for one of the values that a version has.
 pub use Rattle.monk_history.proofs.TextLaws.WordReaders.{kept_again, one_of_kept}

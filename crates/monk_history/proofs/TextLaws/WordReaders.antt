@@ -58,12 +58,6 @@ rest_taken None word w ws x h e = absurd cc
 rest_taken {A = A} (Some y) word w ws x h e = subst (λ (z : A × List Word). w ∷ ws ≡ word z.0 ∷ z.1) (ok_is (y, ws) x e)
     (ap (λ (v : Word). v ∷ ws) (h y refl))
 
--- a value that is made if a test holds is taken only if it holds
-pub made_takes : {A : Type 0} (holds : Bool) (made : A) (ws : List Word) (x : A × List Word)
-    → with_rest ws (cond holds (Some made) None) ≡ Ok x → (holds ≡ true) × (x ≡ (made, ws))
-made_takes true made ws x e = (refl, sym (ok_is (made, ws) x e))
-made_takes false made ws x e = absurd cc
-
 pub one_of_takes : {A : Type 0} (word : A → Word) (values : List A) (ws : List Word) (x : A × List Word)
     → one_of word values ws ≡ Ok x → ws ≡ word x.0 ∷ x.1
 unfolding one_of

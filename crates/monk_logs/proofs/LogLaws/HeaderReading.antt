@@ -1,18 +1,17 @@
 -- A log's first line is read from the words that it is written as, and one that is written is read again.
-use Rattle.std.proofs.Common.{lit<, ◌≡◌, ℕ, ◌≤◌, ◌==◌, Bool, true, false, cond, List, [], ◌∷◌, Option, Some, None, Ok}
+use Rattle.std.proofs.Common.{lit<, ◌≡◌, ℕ, ◌≤◌, ◌==◌, Bool, true, cond, List, [], ◌∷◌, Option, Some, None, Ok}
 use Rattle.std.proofs.Common.{refl, sym, subst, arith}
-use Rattle.std.specs.Prelude.{nat_le, ◌&&◌, codes}
+use Rattle.std.specs.Prelude.{codes}
 use Rattle.std.specs.Fmt.{decimal}
-use Rattle.std.proofs.lemmas.Bool.{eqb-true, eq-eqb, leb-true, le-leb}
+use Rattle.std.proofs.lemmas.Bool.{eqb-true, eq-eqb}
 use Rattle.monk_object.specs.declared.name.ObjectName.{ObjectName}
-use Rattle.monk_object.specs.declared.name.ObjectName.TheVariants.{Buffer, Book, Shop, Flags}
 use Rattle.monk_object.specs.Names.{object_word, objects}
-use Rattle.monk_history.specs.Limits.{most_seats, most_conds}
 use Rattle.monk_history.specs.Text.Words.{◌>>=◌, Word, Taken, number_at, one_of, with_rest, literal_at, end_at}
-use Rattle.monk_history.proofs.PublicLaws.Texts.{bind_ok, made_takes, number_takes, number_again, literal_takes, end_takes}
+use Rattle.monk_history.proofs.PublicLaws.Texts.{bind_ok, number_takes, number_again, literal_takes, end_takes}
 use Rattle.monk_history.proofs.PublicLaws.Texts.{object_again, one_of_takes, one_of_again}
 use Rattle.monk_logs.specs.Log.{LogHeading, IsLogHeading, log_heading, log_header_words, log_version}
 use Rattle.monk_logs.specs.Log.Reading.{log_heading_of, log_header_at}
+use Rattle.std.proofs.lemmas.Bool.Decides.{nat_tests}
 
 -- the steps of a first line, each with those after it
 abbrev at_end : ℕ → ℕ → ℕ → ObjectName → ℕ → Unit {0} × List Word → Taken LogHeading
@@ -36,42 +35,19 @@ at_version v = number_at 255 v.1 >>= at_seats v.0
 abbrev at_name : Unit {0} × List Word → Taken LogHeading
 at_name l = number_at 255 l.1 >>= at_version
 
-all_four : (a b c d : Bool) → (a && b && c && d) ≡ true → (a ≡ true) × (b ≡ true) × (c ≡ true) × (d ≡ true)
-all_four true true true true h = (refl, refl, refl, refl)
-all_four true true true false h = absurd cc
-all_four true true false d h = absurd cc
-all_four true false c d h = absurd cc
-all_four false b c d h = absurd cc
-
 heading_fits : (s c : ℕ) (o : ObjectName) (z : ℕ) (ws : List Word) (x : LogHeading × List Word) → z ≤ 255
     → with_rest ws (log_heading_of s c o z) ≡ Ok x
     → (x ≡ (log_heading s c o z, ws)) × IsLogHeading (log_heading s c o z)
-heading_fits s c o z ws x le e =
-    let m = made_takes (nat_le 1 s && nat_le s most_seats && nat_le c most_conds && nat_le 1 z)
-    (log_heading s c o z) ws x e in
-    let t = all_four (nat_le 1 s) (nat_le s most_seats) (nat_le c most_conds) (nat_le 1 z) m.0 in (
-      m.1,
-      record {
-        some_seat = leb-true _ _ t.0;
-        seats = leb-true _ _ t.1;
-        conds = leb-true _ _ t.2;
-        some_size = leb-true _ _ t.3;
-        size = le;
-      },
-    )
+heading_fits s c o z ws x le e = grind (arith, nat_tests)
 
 -- the version is the one of the logs that name the object
 of_version : (b : Bool) (ws : List Word) (h : Option LogHeading) (x : LogHeading × List Word)
     → with_rest ws (cond b h None) ≡ Ok x
     → (b ≡ true) × (with_rest ws h ≡ Ok x)
-of_version true ws h x e = (refl, e)
-of_version false ws h x e = absurd cc
+of_version b ws h x e = grind (arith, nat_tests)
 
 pub small_version : (o : ObjectName) → log_version o ≤ 255
-small_version Buffer = omega arith
-small_version Book = omega arith
-small_version Shop = omega arith
-small_version Flags = omega arith
+small_version o = grind (arith, nat_tests)
 
 all_words : (ws a b c d e f : List Word) (t u v w x y : Word) → ws ≡ t ∷ a → a ≡ u ∷ b → b ≡ v ∷ c → c ≡ w ∷ d
     → d ≡ x ∷ e
@@ -105,13 +81,7 @@ log_header_takes ws x e =
     (all_words ws l.0.1 v.0.1 s.0.1 c.0.1 o.0.1 z.0.1 _ _ _ _ _ _ e0 e1 e2 e3 e4 e5 e6, h.1)
 
 heading_again : (h : LogHeading) → IsLogHeading h → log_heading_of h.seats h.conds h.object h.size ≡ Some h
-heading_again h fits =
-    rw (
-      le-leb 1 h.seats fits.some_seat,
-      le-leb h.seats most_seats fits.seats,
-      le-leb h.conds most_conds fits.conds,
-      le-leb 1 h.size fits.some_size,
-    ) refl
+heading_again h fits = grind (arith, nat_tests)
 
 pub log_header_again : (h : LogHeading) → IsLogHeading h → log_header_at (log_header_words h) ≡ Ok (h, [])
 unfolding log_header_at

@@ -1,5 +1,5 @@
 -- The laws of the text of a log: the text is that of the log that is read, and each log is read from its text.
-use Rattle.std.proofs.Common.{◌≡◌, ℕ, ◌≤◌, List, length, Result, Ok, Err, ap, subst, ◌∙◌, arith}
+use Rattle.std.proofs.Common.{◌≡◌, ℕ, ◌≤◌, List, length, Result, Ok, Err, ap, subst, ◌∙◌, arith, rules}
 use Rattle.std.specs.{Prelude.IfOk, Prelude.IfSome, Prelude.Option, Global.Vec}
 use Rattle.monk_history.proofs.PublicLaws.Formats as formats
 use Rattle.monk_history.proofs.PublicLaws.Formats.{IsFormat}
@@ -11,23 +11,13 @@ use Rattle.monk_logs.proofs.LogLaws.PlainLogs.{header_are_words, line_are_words}
 use Rattle.monk_logs.specs.Log.{LogHeading, IsLogHeading, HasLogText, LineFits, log_header_words, log_words, log_text}
 use Rattle.monk_logs.specs.Log.Reading.{Log, log, log_view, log_header_at, line_under, log_at}
 use Rattle.monk_logs.specs.declared.text.line.LogLine.{LogLine}
-use Rattle.monk_logs.specs.declared.text.line.LogLine.TheVariants.{Enter, Resume, Lapse, Leave, Wait, Signal, Broadcast}
-use Rattle.monk_logs.specs.declared.text.line.LogLine.TheVariants.{Until, Act}
+use Rattle.std.proofs.lemmas.Bool.Decides.{nat_tests}
 
 headers : IsFormat log_header_words log_header_at IsLogHeading
-headers =
-    record { takes = log_header_takes; again = log_header_again; plain = header_are_words; some = λ h. omega arith }
+headers = search (rules, log_header_takes, log_header_again, header_are_words)
 
 some_word : (l : LogLine) → 1 ≤ length (log_words l)
-some_word (Enter s) = omega arith
-some_word (Resume s) = omega arith
-some_word (Lapse s) = omega arith
-some_word (Leave s) = omega arith
-some_word (Wait s c) = omega arith
-some_word (Signal s c) = omega arith
-some_word (Broadcast s c) = omega arith
-some_word (Until s c) = omega arith
-some_word (Act s op reply) = omega arith
+some_word l = grind (arith, nat_tests)
 
 abbrev FitsUnder : LogHeading → LogLine → Type 0
 FitsUnder h = LineFits

@@ -16,12 +16,13 @@ use Rattle.monk_world.specs.declared.command.Command.{Command}
 use Rattle.monk_world.specs.declared.command.Command.TheVariants.{Arrive, Look, Out, Peek, Drop, Grant, Act, Leave}
 use Rattle.monk_world.specs.declared.command.Command.TheVariants.{Wait, Signal, SignalLeave, Until, SignalAll}
 use Rattle.monk_world.specs.declared.command.Command.TheVariants.{SignalWait}
+use Rattle.std.proofs.lemmas.Bool.Decides.{nat_tests}
 
 pick_again : (p : Pick) → with_text pick_word picks (pick_word p) ≡ Some p
-pick_again p = grind (arith)
+pick_again p = grind arith
 
 pub verb_again : (v : CommandVerb) → with_text play_verb_word play_verbs (play_verb_word v) ≡ Some v
-verb_again v = grind (arith)
+verb_again v = grind arith
 
 -- ---- the parts of an action
 
@@ -116,11 +117,7 @@ action_takes verb.SignalWait ws x e =
 after_act : (op : Op) → op.code ≤ 255 → op.arg ≤ 2 ^ 32 - 1
     → action_after verb.Act (decimal op.code ∷ decimal op.arg ∷ []) ≡ Ok (Act op, [])
 unfolding action_after op_at
-after_act op code arg =
-    rw (
-      number_again 255 op.code (decimal op.arg ∷ []) (lit< tt) code,
-      number_again (2 ^ 32 - 1) op.arg [] (lit< tt) arg,
-    ) refl
+after_act op code arg = grind (arith, nat_tests, number_again, lit<)
 
 after_leave : (p : Pick) → action_after verb.Leave (pick_word p ∷ []) ≡ Ok (Leave p, [])
 unfolding action_after
@@ -151,8 +148,7 @@ after_signal_all c le = rw (number_again 255 c [] (lit< tt) le) refl
 after_signal_wait : (c d : ℕ) (p : Pick) → c ≤ 255 → d ≤ 255
     → action_after verb.SignalWait (decimal c ∷ decimal d ∷ pick_word p ∷ []) ≡ Ok (SignalWait c d p, [])
 unfolding action_after
-after_signal_wait c d p le le_too =
-    rw (number_again 255 c (decimal d ∷ pick_word p ∷ []) (lit< tt) le, cond_pick_again d p le_too) refl
+after_signal_wait c d p le le_too = grind (arith, nat_tests, number_again, lit<, cond_pick_again)
 
 -- ---- a command
 

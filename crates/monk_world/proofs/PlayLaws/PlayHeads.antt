@@ -1,15 +1,16 @@
 -- A play's first line is read from the words that it is written as, and one that is written is read again.
-use Rattle.std.proofs.Common.{lit<, ◌≡◌, ℕ, ◌≤◌, Bool, true, false, cond, List, [], ◌∷◌, ◌++◌, Some, None, Ok, refl, sym, ap, subst}
+use Rattle.std.proofs.Common.{lit<, ◌≡◌, ℕ, ◌≤◌, Bool, true, cond, List, [], ◌∷◌, ◌++◌, Some, None, Ok, refl, sym, ap, subst}
 use Rattle.std.proofs.Common.{◌∙◌, arith}
 use Rattle.std.proofs.lemmas.Bool.{leb-true, le-leb}
 use Rattle.std.specs.{Prelude.nat_le, Prelude.codes, Fmt.decimal}
 use Rattle.monk_history.specs.Text.Words.{◌>>=◌, Word, Taken, number_at, with_rest, literal_at, end_at}
-use Rattle.monk_history.proofs.PublicLaws.Texts.{parts_take, parts_again, bind_ok, ok_is, none_newer, number_takes}
+use Rattle.monk_history.proofs.PublicLaws.Texts.{parts_take, parts_again, bind_ok, none_newer, number_takes}
 use Rattle.monk_history.proofs.PublicLaws.Texts.{number_again, literal_takes, end_takes}
 use Rattle.monk_history.specs.Limits.{least_budget, most_budget}
 use Rattle.monk_history.specs.Text.{Heading, IsHeading, part_words, Reading.parts_at}
 use Rattle.monk_world.specs.Play.{play_words, Reading.play_head, Reading.play_head_of, Reading.play_head_at}
 use Rattle.monk_world.specs.declared.play.head.PlayHead.{PlayHead}
+use Rattle.std.proofs.lemmas.Bool.Decides.{nat_tests}
 
 pub record HeadFits (h : PlayHead) : Type 0 where
   pub header_fits : IsHeading h.header
@@ -21,8 +22,7 @@ head_words h = play_words h.header h.budget
 
 head_made : (b : Bool) (h : PlayHead) (ws : List Word) (x : PlayHead × List Word)
     → with_rest ws (cond b (Some h) None) ≡ Ok x → (b ≡ true) × (x ≡ (h, ws))
-head_made true h ws x e = (refl, sym (ok_is (h, ws) x e))
-head_made false h ws x e = absurd cc
+head_made b h ws x e = grind (arith, nat_tests)
 
 -- the steps of a first line, each with those after it
 abbrev at_end : Heading → ℕ → Unit {0} × List Word → Taken PlayHead
@@ -69,11 +69,4 @@ head_whole h some = rw (le-leb least_budget h.budget some) refl
 
 pub head_again : (h : PlayHead) → HeadFits h → play_head_at (head_words h) ≡ Ok (h, [])
 unfolding play_head_at
-head_again h fits =
-    rw (
-      number_again 255 h.header.version (part_words h.header ++ decimal h.budget ∷ []) (lit< tt)
-          (omega (arith, fits.header_fits.still_named, none_newer h.header.object)),
-      parts_again h.header.version h.header (decimal h.budget ∷ []) refl fits.header_fits,
-      number_again most_budget h.budget [] (lit< tt) fits.budget_fits,
-      head_whole h fits.some_budget,
-    ) refl
+head_again h fits = grind (arith, nat_tests, number_again, lit<, none_newer, parts_again, head_whole)

@@ -1,5 +1,5 @@
 -- The laws of the text of a play: what is read has that text, and what has a text is read from it.
-use Rattle.std.specs.Prelude.{nat_le, ◌&&◌, Bool, true, false}
+use Rattle.std.specs.Prelude.{nat_le, ◌&&◌, Bool, true}
 use Rattle.std.proofs.Common.{◌≡◌, ℕ, ◌≤◌, List, [], ◌∷◌, length, Result, Ok, Err, refl, ap, subst, ◌∙◌, arith}
 use Rattle.std.specs.{List.AllByRecursion, Global.Vec}
 use Rattle.monk_history.proofs.PublicLaws.Formats as formats
@@ -13,6 +13,7 @@ use Rattle.monk_world.specs.Play.{HasPlayText, CommandFits, command_words, playt
 use Rattle.monk_world.specs.Play.Reading.{Play, play, play_view, play_head, play_head_at, command_under}
 use Rattle.monk_world.specs.Play.Reading.{play_of_reading, play_at}
 use Rattle.monk_world.specs.declared.{command.Command.Command, play.head.PlayHead.PlayHead}
+use Rattle.std.proofs.lemmas.Bool.Decides.{nat_tests}
 
 heads : IsFormat head_words play_head_at HeadFits
 heads = record { takes = head_takes; again = head_again; plain = head_are_words; some = λ h. omega arith }
@@ -29,8 +30,7 @@ commands h = record {
 }
 
 told_both : (a b : Bool) → (a && b) ≡ true → (a ≡ true) × (b ≡ true)
-told_both true b h = (refl, h)
-told_both false b h = absurd cc
+told_both a b h = grind (arith, nat_tests)
 
 -- each command fits the version if each is in range and the version has all
 fit_under : (h : PlayHead) (cs : List (ℕ × Command)) → AllByRecursion CommandFits cs → AreToldIn h.header.version cs
