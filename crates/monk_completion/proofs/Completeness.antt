@@ -1,5 +1,5 @@
 -- The log of a legal history is judged to fit, line by line
-use Rattle.std.proofs.Common.{arith, ◌≡◌, ℕ, Bool, true, cond, ◌&&◌, not, List, [], ◌∷◌, ◌++◌, Some, refl, sym, ap, subst, ◌∙◌}
+use Rattle.std.proofs.Common.{arith, ◌≡◌, ℕ, Bool, true, cond, not, List, [], ◌∷◌, ◌++◌, Some, refl, sym, ap, subst, ◌∙◌}
 use Rattle.std.specs.Prelude.{◌==◌, Result, Ok, Err}
 use Rattle.std.proofs.lemmas.Bool.{and_from, eq-eqb}
 use Rattle.monk_history.specs.declared.event.Event.TheVariants as event
@@ -7,7 +7,7 @@ use Rattle.monk_history.proofs.PublicLaws.Meaning.{history_induction, legal_fron
 use Rattle.monk_history.proofs.PublicLaws.Meaning.{situation-none, turn-push}
 use Rattle.monk_history.specs.Meaning.{Choice.queues_at, Legal.IsLegal, Monitor.Monitor, Step.after, Turn.turn_by}
 use Rattle.monk_history.specs.Meaning.Situation.{Situation, situation}
-use Rattle.monk_history.specs.Meaning.Reasons.{IsAllowed, IsAllowedIn, fits_turn, reason_in}
+use Rattle.monk_history.specs.Meaning.Reasons.{IsAllowed, IsAllowedIn, fits_turn}
 use Rattle.monk_history.specs.Meaning.Events.{next_of, seat_of, has_signaller_queue, returns_at_once}
 use Rattle.monk_history.specs.Meaning.Release.{MayCallIn, as_called, with_next}
 use Rattle.monk_history.specs.declared.event.{Event.Event, From3.From3, Turn.Turn, Via.Via}
@@ -22,11 +22,12 @@ use Rattle.monk_completion.proofs.ToldInHistories.{chosen, erased_lines, first_l
 use Rattle.monk_completion.specs.{Erasure.erasure_of, Erasure.erasure, Fits.IsOpen}
 use Rattle.monk_completion.specs.Stand.{Stand, hold_over, line_half, line_over, line_settled, line_told, opening_stand}
 use Rattle.monk_completion.specs.Stand.{release_over, settle, stand, stand_settled, via_now}
-use Rattle.monk_completion.specs.Blame.{blame_of, half_blame, release_blame}
+use Rattle.monk_completion.specs.Blame.{half_blame}
 use Rattle.monk_completion.specs.declared.blame.Blame.{Blame}
 use Rattle.monk_completion.specs.declared.pending.Pending.{Pending}
 use Rattle.monk_completion.specs.declared.pending.Pending.TheVariants.{Settled, Half, Release}
 use Rattle.monk_completion.specs.Told.{is_lapse, told_next, told_release}
+use Rattle.std.proofs.lemmas.Bool.Decides.{nat_tests}
 
 -- ---- how far the judging of a legal history comes
 
@@ -55,21 +56,17 @@ record Leads (m : Monitor) (s : Stand) (ls : List LogLine) (h : List Event) : Ty
 
 settle_ok : (m : Monitor) (t : Situation) (e : Event) → IsAllowedIn m t e
     → settle m t e ≡ Ok (stand_settled (after m.object t e))
-settle_ok m t e a =
-    passes (reason_in m t e) (stand_settled (after m.object t e)) (blame_of (reason_in m t e))
-    (reason_from_allowed m t e a)
+settle_ok m t e a = omega (arith, passes, reason_from_allowed)
 
 hold_ok : (m : Monitor) (t : Situation) (e : Event) (p : Pending) → MayCallIn m t e → hold_over m t e p ≡ Ok (stand t p)
 hold_ok m t e p h = grind arith
 
 one_line : (m : Monitor) (s : Stand) (l : LogLine) (d : Stand) → line_over m s l ≡ Ok d → lead m (Ok s) (l ∷ []) ≡ Ok d
-one_line m s l d h =
-    lead_more m s l [] ∙ lead_none m (line_over m s l) ∙ h
+one_line m s l d h = grind (arith, nat_tests, lead_more, lead_none)
 
 two_lines : (m : Monitor) (s : Stand) (l n : LogLine) (c d : Stand) → line_over m s l ≡ Ok c → line_over m c n ≡ Ok d
     → lead m (Ok s) (l ∷ n ∷ []) ≡ Ok d
-two_lines m s l n c d h k =
-    lead_more m s l (n ∷ []) ∙ ap (λ (r : Result Stand Blame). lead m r (n ∷ [])) h ∙ one_line m c n d k
+two_lines m s l n c d h k = grind (arith, nat_tests, lead_more, lead, one_line)
 
 -- ---- an event after events that are known
 
@@ -85,8 +82,7 @@ known_leads m h t f g l legal same allowed alike line = record {
 
 held_at : (m : Monitor) (h : List Event) (t : Situation) (f : Event) (x : Next) → t ≡ situation m h
     → next_of f ≡ Some x → IsHeldAt m (h ++ f ∷ []) t (as_called f)
-held_at m h t f x same chose =
-    record { before = h; last = f; choice = x; is = refl; chose = chose; called = refl; same = same }
+held_at m h t f x same chose = grind (arith, nat_tests)
 
 held_leads : (m : Monitor) (h : List Event) (t : Situation) (f : Event) (x : Next) (l : LogLine)
     → t ≡ situation m h → IsAllowedIn m t f → next_of f ≡ Some x
@@ -181,24 +177,14 @@ no_lapse f = grind arith
 told_line : (m : Monitor) (t : Situation) (held e f : Event) → told_release m.object t held (first_line f) ≡ e
     → IsAllowedIn m t e
     → line_told m t held (first_line f) ≡ line_settled m (after m.object t e) (first_line f)
-told_line m t held e f told a =
-    let l = first_line f in
-    ap (λ (d : Event). cond (not (is_lapse l) && (reason_in m t d == 0)) (line_settled m (after m.object t d) l)
-    (Err (release_blame m t held l))) told
-    ∙ ap (λ (b : Bool). cond b (line_settled m (after m.object t e) l) (Err (release_blame m t held l)))
-    (and_from (not (is_lapse l)) (reason_in m t e == 0) (no_lapse f)
-    (eq-eqb (reason_in m t e) 0 (reason_from_allowed m t e a)))
+told_line m t held e f told a = grind (arith, nat_tests, first_line, and_from, no_lapse, eq-eqb, reason_from_allowed)
 
 release_lines : (m : Monitor) (t : Situation) (held e f : Event)
     → told_release m.object t held (first_line f) ≡ e → IsAllowedIn m t e
     → lead m (Ok (stand t (Release held))) (erasure_of f)
     ≡ lead m (Ok (stand_settled (after m.object t e))) (erasure_of f)
 release_lines m t held e f told a =
-    ap (lead m (Ok (stand t (Release held)))) (erased_lines f)
-    ∙ lead_more m (stand t (Release held)) (first_line f) (later_lines f)
-    ∙ ap (λ (r : Result Stand Blame). lead m r (later_lines f)) (told_line m t held e f told a)
-    ∙ sym (lead_more m (stand_settled (after m.object t e)) (first_line f) (later_lines f))
-    ∙ ap (lead m (Ok (stand_settled (after m.object t e)))) (sym (erased_lines f))
+    grind (arith, nat_tests, lead, erased_lines, lead_more, first_line, later_lines, told_line)
 
 -- ---- a history
 

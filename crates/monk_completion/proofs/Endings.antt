@@ -18,6 +18,7 @@ use Rattle.monk_completion.specs.Completion.{AreHandedOver, Completes, other_hal
 use Rattle.monk_completion.specs.declared.pending.Pending.{Pending}
 use Rattle.monk_completion.specs.declared.pending.Pending.TheVariants.{Settled, Half, Release}
 use Rattle.monk_logs.specs.declared.text.line.LogLine.{LogLine, TheVariants.Leave, TheVariants.Signal}
+use Rattle.std.proofs.lemmas.Bool.Decides.{nat_tests}
 
 -- ---- how many events there are
 
@@ -30,8 +31,7 @@ few_events (e ∷ h) = omega (arith, length-append (erasure_of e) (erasure h), s
 
 one_more : (past : List Event) (e : Event) (rest log : List LogLine) → erasure past ++ rest ≡ log → 1 ≤ length rest
     → length (past ++ e ∷ []) ≤ length log
-one_more past e rest log told some =
-    omega (arith, length-append past (e ∷ []), ap length told, length-append (erasure past) rest, few_events past)
+one_more past e rest log told some = grind (arith, nat_tests, length-append, few_events)
 
 -- ---- a release without a wish
 

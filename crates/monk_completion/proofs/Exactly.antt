@@ -1,5 +1,5 @@
 -- The verdict on a log says exactly which legal histories begin with it
-use Rattle.std.proofs.Common.{◌≡◌, ℕ, ◌+◌, zero, suc, ◌<◌, ◌≤◌, ◌-◌, List, [], ◌∷◌, take, drop, ◌++◌, length, Some, refl, sym, ap, subst, ◌∙◌, arith}
+use Rattle.std.proofs.Common.{◌≡◌, ℕ, ◌+◌, ◌<◌, ◌≤◌, ◌-◌, List, [], ◌∷◌, take, drop, ◌++◌, length, Some, refl, sym, subst, ◌∙◌, arith}
 use Rattle.std.proofs.lemmas.List.{append-nil, append_assoc, length-append, take-append-drop, take-take, take_at}
 use Rattle.std.specs.Prelude.{Result, Ok, Err}
 use Rattle.monk_kinds.specs.{Kind.IsKind, Names.rules_named, declared.name.KindName.KindName}
@@ -11,7 +11,8 @@ use Rattle.monk_completion.specs.Stand.{Stand, line_over, opening_stand, verdict
 use Rattle.monk_completion.specs.Fits.{IsOpen}
 use Rattle.monk_completion.specs.Verdict.{FitsExactly, IsMisfit, IsVerdictOn, MisfitsExactly, log_monitor, misfit_at}
 use Rattle.monk_completion.specs.declared.blame.Blame.{Blame}
-use Rattle.monk_completion.specs.declared.verdict.LogVerdict.{LogVerdict, TheVariants.Fits, TheVariants.Misfit}
+use Rattle.monk_completion.specs.declared.verdict.LogVerdict.{LogVerdict, TheVariants.Fits}
+use Rattle.std.proofs.lemmas.Bool.Decides.{nat_tests}
 
 -- ---- line by line
 
@@ -24,15 +25,7 @@ one_longer front l = length-append front (l ∷ [])
 module _ (m : Monitor) (kind : IsKind m.kind) where
   misfits_here : (front more : List LogLine) (l : LogLine) → IsOpen m front → (IsOpen m (front ++ l ∷ []) → ⊥)
       → IsMisfit m (front ++ l ∷ more) (length front + 1)
-  misfits_here front more l opens f =
-      let before : take (length front + 1 - 1) (front ++ l ∷ more) ≡ front =
-      take_at front (l ∷ more) _ (omega arith) in
-      let through : take (length front + 1) (front ++ l ∷ more) ≡ front ++ l ∷ [] =
-      ap (take (length front + 1)) (next_line front more l) ∙ take_at (front ++ l ∷ []) more _ (one_longer front l) in
-      record {
-        open_before = subst (IsOpen m) (sym before) opens;
-        not_open = λ o. f (subst (IsOpen m) through o);
-      }
+  misfits_here front more l opens f = grind (arith, nat_tests, take_at, next_line, one_longer)
 
   verdict_behind : (front more : List LogLine) (s : Stand) (l : LogLine) (r : Result Stand Blame)
       → lead_all m front ≡ Ok s → line_over m s l ≡ r
@@ -62,10 +55,7 @@ module _ (m : Monitor) (kind : IsKind m.kind) where
 -- ---- if a log is open, it is open up to each of its lines
 
 same_number : (k n : ℕ) → (k < n → ⊥) → (n < k → ⊥) → k ≡ n
-same_number zero zero f g = refl
-same_number zero (suc n) f g = absurd (f (omega arith))
-same_number (suc k) zero f g = absurd (g (omega arith))
-same_number (suc k) (suc n) f g = ap suc (same_number k n (λ l. f (omega (arith, l))) (λ l. g (omega (arith, l))))
+same_number k n f g = omega arith
 
 module _ (m : Monitor) (log : List LogLine) where
   open_take : (n : ℕ) → IsOpen m log → IsOpen m (take n log)
@@ -84,16 +74,13 @@ module _ (m : Monitor) (log : List LogLine) where
   fits_open v h h2 = grind arith
 
   open_fits : (v : LogVerdict) → IsVerdictOn m log v → IsOpen m log → v ≡ Fits
-  open_fits Fits w o = refl
-  open_fits (Misfit n why) w o = absurd (w.not_open (open_take n o))
+  open_fits v w o = grind (arith, nat_tests, open_take)
 
   misfit_is : (v : LogVerdict) (n : ℕ) → IsVerdictOn m log v → misfit_at v ≡ Some n → IsMisfit m log n
   misfit_is v n h h2 = grind arith
 
   is_misfit : (v : LogVerdict) (n : ℕ) → IsVerdictOn m log v → IsMisfit m log n → misfit_at v ≡ Some n
-  is_misfit Fits n w f = absurd (f.not_open (open_take n w))
-  is_misfit (Misfit k why) n w f =
-      ap (λ (x : ℕ). Some x) (same_number k n (not_before k n w f) (not_before n k f w))
+  is_misfit v n w f = grind (arith, nat_tests, open_take, same_number, not_before)
 
 -- ---- a log under a kind
 

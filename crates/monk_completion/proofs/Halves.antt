@@ -1,10 +1,11 @@
 -- A log ends with half a signal exactly if one is still to come
-use Rattle.std.proofs.Common.{arith, ◌≡◌, ℕ, Bool, true, cond, List, [], ◌∷◌, ◌++◌, Option, Some, None, refl, ap, ◌∙◌}
+use Rattle.std.proofs.Common.{arith, ◌≡◌, ℕ, true, cond, List, [], ◌∷◌, ◌++◌, Option, Some, None, refl, ap, ◌∙◌}
 use Rattle.std.specs.List.{last_or}
 use Rattle.monk_kinds.specs.declared.mode.Mode.{Mode}
 use Rattle.monk_history.specs.{declared.event.Event.Event, Meaning.Events.is_call_of, Meaning.Events.returns_at_once}
 use Rattle.monk_completion.specs.{Completion.leaving, Completion.other_half, Erasure.erasure_of}
 use Rattle.monk_logs.specs.declared.text.line.LogLine.{LogLine, TheVariants.Leave, TheVariants.Signal}
+use Rattle.std.proofs.lemmas.Bool.Decides.{nat_tests}
 
 last_append : (o : Option LogLine) (xs ys : List LogLine) → last_or o (xs ++ ys) ≡ last_or (last_or o xs) ys
 last_append o [] ys = refl
@@ -29,5 +30,4 @@ event_whole k front e h = half_after k front (erasure_of e) ∙ whole_event k (l
 -- after a signal of immediate return, one half is to come
 pub signal_half : (k : Mode) (front : List LogLine) (s c : ℕ) → returns_at_once k ≡ true
     → other_half k (front ++ Signal s c ∷ []) ≡ Leave s ∷ []
-signal_half k front s c h =
-    half_after k front (Signal s c ∷ []) ∙ ap (λ (b : Bool). cond b (Leave s ∷ []) []) h
+signal_half k front s c h = grind (arith, nat_tests, half_after)

@@ -1,9 +1,10 @@
 -- Where lines lead
-use Rattle.std.proofs.Common.{arith, ◌≡◌, List, [], ◌∷◌, ◌++◌, refl, ap, ◌∙◌}
+use Rattle.std.proofs.Common.{arith, ◌≡◌, List, [], ◌∷◌, ◌++◌, refl}
 use Rattle.std.specs.Prelude.{Result, Ok, Err}
 use Rattle.monk_history.specs.Meaning.Monitor.{Monitor}
 use Rattle.monk_logs.specs.declared.text.line.LogLine.{LogLine}
 use Rattle.monk_completion.specs.{Stand.Stand, Stand.line_over, Stand.opening_stand, declared.blame.Blame.Blame}
+use Rattle.std.proofs.lemmas.Bool.Decides.{nat_tests}
 
 -- the stand after the lines to come, or the reason against one of them, from there on
 unfoldable pub lead : Monitor → Result Stand Blame → List LogLine → Result Stand Blame
@@ -38,7 +39,4 @@ lead-append m (Ok s) (l ∷ xs) ys = lead-append m (line_over m s l) xs ys
 -- one line more
 pub lead_push : (m : Monitor) (front : List LogLine) (s : Stand) (l : LogLine) → lead_all m front ≡ Ok s
     → lead_all m (front ++ l ∷ []) ≡ line_over m s l
-lead_push m front s l is =
-    lead-append m (Ok (opening_stand m)) front (l ∷ [])
-    ∙ ap (λ (r : Result Stand Blame). lead m r (l ∷ [])) is
-    ∙ lead_more m s l [] ∙ lead_none m (line_over m s l)
+lead_push m front s l is = grind (arith, nat_tests, lead-append, lead, lead_more, lead_none)

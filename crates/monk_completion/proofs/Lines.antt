@@ -17,7 +17,8 @@ use Rattle.monk_completion.specs.Stand.{stand, stand_or, verdict_from, verdict_o
 use Rattle.monk_completion.specs.declared.blame.Blame.{Blame}
 use Rattle.monk_completion.specs.declared.verdict.LogVerdict.TheVariants.{Fits, Misfit}
 use Rattle.monk_completion.specs.declared.pending.Pending.{Pending}
-use Rattle.monk_completion.specs.declared.pending.Pending.TheVariants.{Settled, Half, Release}
+use Rattle.monk_completion.specs.declared.pending.Pending.TheVariants.{Settled}
+use Rattle.std.proofs.lemmas.Bool.Decides.{nat_tests}
 
 -- ---- the judging of lines doesn't depend on the object's opening state
 
@@ -50,9 +51,7 @@ module _ (k : Rules) (seats conds : ℕ) (o : Object) (d : List ℕ) where
 
   line_apart : (t : Situation) (p : Pending) (l : LogLine)
       → line_behind (monitor k seats conds o []) t p l ≡ line_behind (monitor k seats conds o d) t p l
-  line_apart t Settled l = settled_apart t l
-  line_apart t (Half s c) l = half_apart t s c l
-  line_apart t (Release e) l = told_apart t e l
+  line_apart t p l = grind (arith, nat_tests, settled_apart, half_apart, told_apart)
 
 -- ---- line by line
 

@@ -8,7 +8,7 @@ use Rattle.monk_history.proofs.PublicLaws.Meaning.{allowed_from_reason, and_righ
 use Rattle.monk_history.proofs.PublicLaws.Meaning.{legal_none, legal_order, legal_situation-push, situation-none}
 use Rattle.monk_history.specs.Meaning.{Choice.queues_at, Legal.IsLegal, Monitor.Monitor, Signallers.is_empty}
 use Rattle.monk_history.specs.Meaning.{Situation.Situation, Situation.situation, Step.after}
-use Rattle.monk_history.specs.Meaning.Reasons.{IsAllowed, is_right_reply, reason_before, reason_in}
+use Rattle.monk_history.specs.Meaning.Reasons.{IsAllowed, is_right_reply, reason_in}
 use Rattle.monk_history.specs.Meaning.Events.{next_of, returns_at_once}
 use Rattle.monk_history.specs.Meaning.Release.{MayCall, choice_of, with_next}
 use Rattle.monk_history.specs.declared.event.{Event.Event, Next.TheVariants.Stay}
@@ -26,6 +26,7 @@ use Rattle.monk_completion.specs.Stand.{line_told, opening_stand, release_over, 
 use Rattle.monk_completion.specs.declared.blame.Blame.{Blame}
 use Rattle.monk_completion.specs.declared.pending.Pending.{Pending}
 use Rattle.monk_completion.specs.declared.pending.Pending.TheVariants.{Settled, Half, Release}
+use Rattle.std.proofs.lemmas.Bool.Decides.{nat_tests}
 
 -- the lines of what is not yet known
 abbrev pub untold : Pending → List LogLine
@@ -85,10 +86,7 @@ settled_tells m past e log s h none one legal all told =
 
 held_tells : (m : Monitor) (past : List Event) (e : Event) (p : Pending) (s : Stand)
     → hold_over m (situation m past) e p ≡ Ok s → MayCall m past e × (stand (situation m past) p ≡ s)
-held_tells m past e p s h =
-    let t = situation m past in
-    let q = passed (reason_before 0 m t e) (stand t p) s (blame_of (reason_before 0 m t e)) h in
-    (called_from_tests m t e q.0, q.1)
+held_tells m past e p s h = grind (arith, nat_tests, passed, called_from_tests)
 
 release_tells : (m : Monitor) (past : List Event) (e : Event) (log : List LogLine) (s : Stand)
     → release_over m (situation m past) e ≡ Ok s → next_of e ≡ Some Stay → IsLegal m past → AreHandedOver past
@@ -270,12 +268,7 @@ release_open m past e kind legal may stays =
 
 -- if a log is open, it is open up to each of its lines
 pub open_front : (m : Monitor) (log more : List LogLine) → IsOpen m (log ++ more) → IsOpen m log
-open_front m log more o = record {
-  history = o.history;
-  legal = o.legal;
-  more = more ++ o.more;
-  erases = o.erases ∙ append_assoc log more o.more;
-}
+open_front m log more o = grind (arith, nat_tests, append_assoc)
 
 tells_open : (m : Monitor) (log : List LogLine) (past : List Event) (pending : Pending) → IsKind m.kind
     → Tells m log past pending → IsOpen m log

@@ -1,13 +1,12 @@
 -- The tests of an event, from the reason and back to it; and which tests a call has passed
-use Rattle.std.proofs.Common.{◌≡◌, ℕ, Bool, true, false, cond, not, Option, None, sym, ap, ◌∙◌, arith}
+use Rattle.std.proofs.Common.{◌≡◌, ℕ, Bool, true, false, cond, not, None, arith}
 use Rattle.std.specs.Prelude.{◌==◌, Ok, Err}
-use Rattle.std.specs.Option.{option_map_or}
-use Rattle.monk_object.specs.Runs.{Answered}
 use Rattle.monk_history.specs.Meaning.{Events.answered_act, Monitor.Monitor, Choice.is_permitted, Situation.Situation}
 use Rattle.monk_history.specs.Meaning.Reasons.{IsAllowedIn, reason_before, reason_in, is_in_range, is_offered}
-use Rattle.monk_history.specs.Meaning.Reasons.{is_in_turn, is_in_place, fits_object, is_right_reply}
+use Rattle.monk_history.specs.Meaning.Reasons.{is_in_turn, is_in_place, fits_object}
 use Rattle.monk_history.specs.Meaning.Release.{MayCallIn, as_called}
 use Rattle.monk_history.specs.declared.event.Event.{Event}
+use Rattle.std.proofs.lemmas.Bool.Decides.{nat_tests}
 
 -- ---- what was added if a test passed
 
@@ -52,19 +51,12 @@ last_decides a b c d e f h h2 = grind arith
 pub early_refused : (m : Monitor) (t : Situation) (e : Event) (n : ℕ) → n ≡ reason_before 0 m t e → (n ≡ 0 → ⊥)
     → (reason_in m t e == 0) ≡ false
 unfolding reason_in
-early_refused m t e n is h =
-    early_fails (is_in_range m.seats m.conds m.object.codes m.object.predicates e) (is_offered m.kind e)
-    (is_in_turn t e) (is_in_place m.object t e) (is_right_reply m.object t.state e)
-    (is_permitted m.kind m.object t e) (λ z. h (is ∙ z))
+early_refused m t e n is h = omega (arith, early_fails)
 
 pub permitted_only : (m : Monitor) (t : Situation) (e : Event) → 0 ≡ reason_before 0 m t e → answered_act e ≡ None
     → (reason_in m t e == 0) ≡ is_permitted m.kind m.object t e
 unfolding reason_in
-permitted_only m t e is none =
-    last_decides (is_in_range m.seats m.conds m.object.codes m.object.predicates e) (is_offered m.kind e)
-    (is_in_turn t e) (is_in_place m.object t e) (is_right_reply m.object t.state e)
-    (is_permitted m.kind m.object t e) (sym is)
-    (ap (λ (a : Option Answered). option_map_or (λ act. act.reply == m.object.reply t.state act.op) a true) none)
+permitted_only m t e is none = grind (arith, nat_tests, last_decides)
 
 -- what may be called only needs what the object has
 pub called_fits : (m : Monitor) (t : Situation) (e : Event) (codes predicates : ℕ) → MayCallIn m t e

@@ -1,22 +1,21 @@
 -- If no seat is in a queue, every queue is empty, and a leave lets the entry in
-use Rattle.std.proofs.Common.{◌≡◌, ℕ, zero, suc, ◌*◌, ◌==◌, ◌<◌, ◌≤◌, ◌⊎◌, cond, Bool, true, false, nat_lt, ◌&&◌}
+use Rattle.std.proofs.Common.{◌≡◌, ℕ, zero, suc, ◌*◌, ◌==◌, ◌<◌, ◌≤◌, ◌⊎◌, cond, Bool, false, nat_lt}
 use Rattle.std.proofs.Common.{List, [], ◌∷◌, ◌++◌, map, length, sym, refl, ap, ◌∙◌, subst, inl, inr, arith, eq-eqb}
 use Rattle.std.proofs.lemmas.List.{nil_from_length}
 use Rattle.monk_kinds.specs.declared.mode.{Pick.TheVariants.Entry as WishEntry, Rules.Rules}
 use Rattle.monk_object.specs.Object.{Object}
 use Rattle.monk_history.specs.declared.event.Next.TheVariants as next
 use Rattle.monk_history.proofs.PublicLaws.Meaning.{legal_seated, IsSeated, times_le_conditions, legal_placed}
-use Rattle.monk_history.specs.Meaning.{Choice.Queues, Conditions.condition, Counts.events_of, Events.has_conditions}
+use Rattle.monk_history.specs.Meaning.{Conditions.condition, Counts.events_of}
 use Rattle.monk_history.specs.Meaning.{Legal.IsLegal, Release.choice_of, Situation.Situation, Situation.situation}
-use Rattle.monk_history.specs.Meaning.{Signallers.signals, Signallers.is_empty, Untils.ready_of, Waiters.serves}
 use Rattle.monk_history.specs.Meaning.Monitor.{Monitor, data_of}
 use Rattle.monk_history.specs.Meaning.Standing.{times, in_queues, IsPlaced}
-use Rattle.monk_history.specs.Meaning.Wish.{choice_by, is_waiter_open, waiter_choice, signaller_choice}
 use Rattle.monk_history.specs.declared.event.{Event.Event, Event.TheVariants.Leave, Next.Next}
 use Rattle.monk_floor.specs.{Grown.IsGrown, View.FloorView, View.monitor_of, View.stands_of}
 use Rattle.monk_hall.proofs.{Private.own_event, ReleaseLaws.peeked_none}
 use Rattle.monk_hall.specs.Tokens.{Holder}
 use Rattle.monk_hall.specs.Closing.{HasNobody, HasSomebody, IsUnqueued, IsEnded, IsBusy}
+use Rattle.std.proofs.lemmas.Bool.Decides.{nat_tests}
 
 empty_of : (xs : List ℕ) → ((j : ℕ) → times j xs ≡ 0) → xs ≡ []
 empty_of [] none = refl
@@ -35,12 +34,7 @@ length_seats (u ∷ us) = ap suc (length_seats us)
 -- a seat that isn't one of the monitor's is in no queue
 far_unqueued : (m : Monitor) (t : Situation) (j : ℕ) → IsPlaced m.conds t → IsSeated m.seats t → m.seats ≤ j
     → in_queues m.conds j t ≡ 0
-far_unqueued m t j placed seated far = by_inside (t.inside j) refl
-  where
-    by_inside : (b : Bool) → t.inside j ≡ b → in_queues m.conds j t ≡ 0
-    by_inside true e = let low = seated j e in absurd (omega arith)
-    by_inside false e = let p = placed j in
-        let z : ◌≡◌ {A = ℕ} (cond (t.inside j) 1 0) 0 = ap (λ (b : Bool). cond b 1 0) e in omega arith
+far_unqueued m t j placed seated far = grind (arith, nat_tests)
 
 pub nobody : (k : Rules) (o : Object) (f : FloorView) → IsLegal (monitor_of k o f) f.history
     → IsUnqueued k o f f.seats → HasNobody f
@@ -68,40 +62,12 @@ nobody k o f legal unqueued =
     cases_le (suc a) zero = inr (omega arith)
     cases_le (suc a) (suc b) = elim (cases_le a b) [ inl l ↦ inl (omega arith) | inr l ↦ inr (omega arith) ]
 
-both_empty : (b : Bool) → (is_empty {X = ℕ} (cond b [] []) && true) ≡ true
-both_empty true = refl
-both_empty false = refl
-
-entry_by : (k : Rules) (ws ss rs : List ℕ) (s : ℕ) → ws ≡ [] → ss ≡ [] → rs ≡ []
-    → choice_by k (record { waiters = ws; signallers = ss; ready = rs }) s false WishEntry ≡ next.Entry
-entry_by k ws ss rs s w z r =
-    subst (λ (x : List ℕ). choice_by k (record { waiters = x; signallers = ss; ready = rs }) s false WishEntry
-    ≡ next.Entry) (sym w)
-    (subst (λ (x : List ℕ). choice_by k (record { waiters = []; signallers = x; ready = rs }) s false WishEntry
-    ≡ next.Entry) (sym z)
-    (subst (λ (x : List ℕ). choice_by k (record { waiters = []; signallers = []; ready = x }) s false WishEntry
-    ≡ next.Entry) (sym r)
-    (ap (λ (b : Bool). cond b next.Entry
-    (cond (is_waiter_open k none) (waiter_choice k none) (signaller_choice none s)))
-    (both_empty (has_conditions k.mode)))))
-  where
-    none : Queues
-    none = record { waiters = []; signallers = []; ready = [] }
-
 pub leaves_last : (k : Rules) (o : Object) (f : FloorView) (s : ℕ) → HasNobody f
     → choice_of k o (stands_of k o f) (Leave s next.Stay) false WishEntry ≡ next.Entry
-leaves_last k o f s none =
-    let t = stands_of k o f in
-    let call = Leave s next.Stay in
-    entry_by k (t.waiters ++ serves t.condition call) (t.signallers ++ signals t.condition call)
-    (ready_of o t.state t.untils) s
-    (ap (λ (x : List ℕ). x ++ serves t.condition call) none.waiters)
-    (ap (λ (x : List ℕ). x ++ signals t.condition call) none.signallers) (ap (ready_of o t.state) none.untils)
+leaves_last k o f s none = grind (arith, nat_tests)
 
 few_of : (h g : List Event) (m b n c : ℕ) → h ≡ g → m ≡ n → b ≡ c → length g ≤ m * b → length h ≤ n * c
-few_of h g m b n c same seats budget within =
-    subst (λ (x : List Event). length x ≤ n * c) (sym same)
-    (subst (λ (x : ℕ). length g ≤ n * x) budget (subst (λ (x : ℕ). length g ≤ x * b) seats within))
+few_of h g m b n c same seats budget within = grind (arith, nat_tests)
 
 -- the active seat has left, when no seat was in a queue
 pub ended : (k : Rules) (o : Object) (a : Holder) (f : FloorView) (number : ℕ) (choice : Next) (g : FloorView)
@@ -138,8 +104,7 @@ ended k o a f number choice g history state floor seat own legal unqueued grows 
 -- what holds for all seats of the hall holds for all seats of the floor, which a look doesn't change
 pub unqueued_all : (k : Rules) (o : Object) (f g : FloorView) (seats : ℕ) → IsUnqueued k o f seats → seats ≡ f.seats
     → g ≡ f → IsUnqueued k o g g.seats
-unqueued_all k o f g seats none all same =
-    subst (λ (x : FloorView). IsUnqueued k o x x.seats) (sym same) (subst (IsUnqueued k o f) all none)
+unqueued_all k o f g seats none all same = grind (arith, nat_tests)
 
 -- the hall has ended for a seat that has looked at the ticket word
 pub ended_peeked : (k : Rules) (o : Object) (a b : Holder) (history : List Event) (state : List ℕ) → b.floor ≡ a.floor
@@ -155,10 +120,4 @@ ended_peeked k o a b history state floor seat mine e = record {
 
 -- somebody is in a queue, so there was no look
 pub busy_unlooked : (k : Rules) (o : Object) (a : Holder) → HasSomebody k o a.floor → IsBusy k o a a
-busy_unlooked k o a x =
-    record {
-      some = inl x;
-      peeks = 0;
-      few = omega arith;
-      peeked = peeked_none 0 a refl;
-    }
+busy_unlooked k o a x = grind (arith, nat_tests, peeked_none)

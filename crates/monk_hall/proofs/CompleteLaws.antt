@@ -1,7 +1,7 @@
 -- How many events a history has that holds the calls of some seats, and what their number shows
 use Rattle.std.proofs.Common.{◌≡◌, ◌≢◌, ℕ, ◌+◌, ◌<◌, ◌≤◌, ◌==◌, Bool, cond, zero, suc, List, [], ◌∷◌, ◌++◌, length, map, take}
-use Rattle.std.proofs.Common.{append-nil, length-append, refl, sym, ap, ◌∙◌, arith, eq-eqb, ⊎_elim}
-use Rattle.std.proofs.lemmas.Bool.Decides.{eqb_tells}
+use Rattle.std.proofs.Common.{append-nil, length-append, refl, sym, ap, ◌∙◌, arith, eq-eqb, ⊎_elim, rules}
+use Rattle.std.proofs.lemmas.Bool.Decides.{eqb_tells, nat_tests}
 use Rattle.std.proofs.lemmas.List.{nil_from_length, take_more, Kept.AllPairs-cons, Sums.sum_by-cons, Sums.sum_by_more}
 use Rattle.std.proofs.lemmas.List.Elements.{All-cons, All-head, All-map, All-more, All-nil, All-tail, All-take}
 use Rattle.std.specs.Prelude.{All, AllPairs, slice_index_or, sum_by}
@@ -83,9 +83,7 @@ holds_sum w h seat ps apart only =
     omega (arith, all, first, sum_map f ps, own)
 
 lengths : (ps : List Token) → sum_by (λ p. sum_by (λ (e : Event). 1) p.me.mine) ps ≡ made_by ps
-lengths ps =
-    same_sums (λ p. sum_by (λ (e : Event). 1) p.me.mine) (λ p. length p.me.mine) ps
-    (λ k d within. sym (length-sum_by _))
+lengths ps = grind (arith, nat_tests, same_sums, length-sum_by)
 
 -- so its length is the number of the events that they have made
 pub holds_length : (h : List Event) (seat : ℕ) (ps : List Token) → AreApart seat ps → HoldsOnly h seat ps
@@ -176,8 +174,7 @@ known_fits h seat ps apart seen own =
 -- and so do those of the first of them
 pub some_fit : (h : List Event) (seat : ℕ) (ps : List Token) (n : ℕ) → AreApart seat ps → HaveSeenPart h ps
     → All KnowsItsOwn (take n ps) → length (events_of h seat) + made_by (take n ps) ≤ length h
-some_fit h seat ps n apart seen own =
-    known_fits h seat (take n ps) (apart_take seat n ps apart) (All-take (λ p. StartsWith h p.me.seen) n ps seen) own
+some_fit h seat ps n apart seen own = search (rules, known_fits, apart_take, All-take)
 
 nothing : (s : ℕ) → events_of [] s ≡ []
 unfolding events_of
@@ -232,8 +229,7 @@ starts_counted h s = (sym (ap length (nothing s)), omega arith, omega arith)
 pub one_made : (ps : List Token) (n base known more : ℕ) (d : Token) → n < length ps
     → known ≡ base + made_by (take n ps)
     → more ≡ length (slice_index_or ps n d).me.mine → known + more ≡ base + made_by (take (n + 1) ps)
-one_made ps n base known more d lt is one =
-    let next = sum_by_more (λ p. length p.me.mine) ps n d lt in omega (arith, next, is, one)
+one_made ps n base known more d lt is one = grind (arith, nat_tests, sum_by_more)
 
 pub one_known : (ps : List Token) (n : ℕ) (d : Token) → n < length ps → All KnowsItsOwn (take n ps)
     → KnowsItsOwn (slice_index_or ps n d) → All KnowsItsOwn (take (n + 1) ps)

@@ -3,8 +3,6 @@ use denote.RattleType.{RattleType}
 use denote.Param.Send.{IsSend, IsSync, AllSend, AllSync, sendable, part_keyless, struct_send, struct_sync}
 use denote.Param.Send.{recorded_send, recorded_sync, view_send, view_sync}
 use denote.Struct.Declared.{shape}
-use denote.Struct.Owning as owning
-use denote.Struct.Struct.{Struct}
 use Rattle.std.proofs.Crossing.{crosses, frees, Box-send, Vec-send, Vec-sync, send as heap_send, sync as heap_sync}
 use Rattle.std.specs.contracts.alloc.Global as Heap
 use Rattle.std.specs.contracts.impls.GlobalAllocator.TheImpl.{ghosts}
@@ -41,17 +39,12 @@ use Rattle.monk_hall.specs.contracts.parked.Parked as Parked
 use Rattle.monk_hall.specs.contracts.parked.Parked.TheInside as ParkedInside
 use Rattle.monk_hall.specs.contracts.pass.Pass as Pass
 use Rattle.monk_hall.specs.contracts.pass.Pass.TheInside as PassInside
+use Rattle.std.proofs.lemmas.Bool.Decides.{nat_tests}
+use Rattle.std.proofs.Common.{arith, rules}
 
 shared_sync : (S V K P : RattleType) (g : TableRule.Ghosts P.Denot S.Denot V.Denot K.Denot) → IsSend S
     → IsSync (Shared.the_row S V K P g)
-shared_sync S V K P g s =
-    let fields : IsSync (Struct (owning.shape (Shared.the_type S V K P g))) = search sendable depth 20 in
-    record {
-      shared = λ d b o ν. (
-        fields.shared (d.words, (d.slots, (tt, tt))) b o ν,
-        shares_keyless S s V.coded.code d.table_id (g.holds d.key) d.words d.slots ν,
-      );
-    }
+shared_sync S V K P g s = grind (arith, nat_tests, shares_keyless)
 
 lease_sync : (S : RattleType) → IsSync (SendLease.the_row S Heap.the_row ghosts)
 lease_sync S = record {
@@ -61,12 +54,7 @@ lease_sync S = record {
 }
 
 badge_send : (V : RattleType) → IsSend (Badge.the_row V)
-badge_send V = record {
-  owned =
-      λ d vs. ((λ vss. (tt, ((λ uss. (tt, tt)), tt))), badge_keyless V.coded.code d.table_id d.id d.views);
-  leaving =
-      λ k f vs. tt;
-}
+badge_send V = grind (arith, nat_tests, badge_keyless)
 
 option_send : (R : RattleType) → IsSend R → IsSend (Option.the_row R)
 option_send R s = search sendable depth 12
@@ -150,24 +138,11 @@ pub pass_send : (K T : RattleType) (k : Kind.Ghosts K.Denot) (t : Guarded.Ghosts
 pass_send K T k t sk st = view_send (PassInside.the_row K T k t) _ _ _ _ (pass_inside K T k t sk st)
 
 seat_send : (S V : RattleType) → IsSend S → IsSend (TableSeat.the_row S V)
-seat_send S V s = record {
-  owned =
-      λ d vs. ((λ vss. (tt, ((λ uss. (tt, tt)), tt))), seat_keyless S s V.coded.code d.table_id d.id d.me);
-  leaving =
-      λ k f vs. tt;
-}
+seat_send S V s = search (rules, seat_keyless)
 
 shared_send : (S V K P : RattleType) (g : TableRule.Ghosts P.Denot S.Denot V.Denot K.Denot) → IsSend S
     → IsSend (Shared.the_row S V K P g)
-shared_send S V K P g s = record {
-  owned =
-      λ d vs. (
-        (λ vss. (tt, (tt, (tt, ((λ uss. (tt, tt)), tt))))),
-        owns_keyless S s V.coded.code d.table_id (g.holds d.key) d.words d.slots,
-      );
-  leaving =
-      λ k f vs. tt;
-}
+shared_send S V K P g s = grind (arith, nat_tests, owns_keyless)
 
 place_send : IsSend (Place.the_field).row
 place_send = search sendable depth 20

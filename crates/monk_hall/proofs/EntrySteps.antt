@@ -1,5 +1,5 @@
 -- How a seat's token comes in: it draws a ticket, looks for its turn, and then the floor comes out to it
-use Rattle.std.proofs.Common.{◌≡◌, ℕ, ◌+◌, ◌≤◌, ◌==◌, Bool, true, false, cond, List, [], ◌∷◌, ◌++◌}
+use Rattle.std.proofs.Common.{◌≡◌, ℕ, ◌+◌, ◌≤◌, ◌==◌, Bool, List, [], ◌∷◌, ◌++◌}
 use Rattle.std.proofs.Common.{length, length-append, append-nil, None, refl, sym, ap, subst, ◌∙◌, arith}
 use Rattle.atomic_table.specs.Seated.{TableId}
 use Rattle.monk_kinds.specs.declared.mode.Rules.{Rules}
@@ -12,7 +12,7 @@ use Rattle.monk_floor.specs.View.{FloorView, monitor_of}
 use Rattle.monk_world.specs.{State.with_event, StepTable.out_event, Steps.place_after_arrive}
 use Rattle.monk_world.specs.{Steps.place_after_ticket_look, Steps.place_after_seat_look, Steps.count_after_seat_look}
 use Rattle.monk_world.specs.declared.place.Place.{Place, TheVariants.Ticket, TheVariants.Due, TheVariants.Active}
-use Rattle.monk_world.specs.declared.source.Source.{Source, TheVariants.Free, TheVariants.Granted, TheVariants.Called}
+use Rattle.monk_world.specs.declared.source.Source.{Source}
 use Rattle.monk_hall.proofs.Private.{own_event}
 use Rattle.monk_hall.specs.{Calls.HasArrived, Calls.HasEntered, Layout.floor_of, Layout.tickets, Layout.unpassed}
 use Rattle.monk_hall.specs.{Records.View, Records.the, Tells.Me, Tells.TellsArrive, Tells.SeesTruly}
@@ -23,6 +23,7 @@ use Rattle.monk_hall.specs.Floors.{Finds, GoesOn, IsPrivate, ArePrivate}
 use Rattle.monk_hall.specs.declared.{record.SeatRecord.SeatRecord, seat_numbers.SeatNumbers.SeatNumbers}
 use Rattle.monk_hall.specs.declared.deed.Deed.{Deed}
 use Rattle.monk_hall.specs.declared.deed.Deed.TheVariants.{Arrive, LookForTicket, LookForCall}
+use Rattle.std.proofs.lemmas.Bool.Decides.{nat_tests}
 
 -- a seat's own event is one more of its own
 pub own_longer : (h : List Event) (e : Event) (s : ℕ) → seat_of e ≡ s
@@ -30,15 +31,11 @@ pub own_longer : (h : List Event) (e : Event) (s : ℕ) → seat_of e ≡ s
 own_longer h e s is = ap length (own_event h e s is) ∙ length-append (events_of h s) (e ∷ [])
 
 pub out_seat : (i : ℕ) (q : Source) (u : Turn) → seat_of (out_event i q u) ≡ i
-out_seat i (Free t) u = refl
-out_seat i (Granted t) u = refl
-out_seat i Called u = refl
+out_seat i q u = grind (arith, nat_tests)
 
 pub out_owns : (i : ℕ) (q : Source) (u : Turn)
     → turn_by (seat_of (out_event i q u)) (next_of (out_event i q u)) ≡ Owned i
-out_owns i (Free t) u = refl
-out_owns i (Granted t) u = refl
-out_owns i Called u = refl
+out_owns i q u = grind (arith, nat_tests)
 
 abbrev pub token : TableId → SeatRecord → Token
 token z r = record { hall = z; me = r }
@@ -48,19 +45,13 @@ own_more i [] e x y = (y, tt)
 own_more i (d ∷ ds) e x y = (x.0, own_more i ds e x.1 y)
 
 pub arrived_waits : (t n : ℕ) → IsWaiting (place_after_arrive t n)
-arrived_waits t n = either (n == 0)
-  where
-    either : (b : Bool) → IsWaiting (cond b (Due (Free t)) (Ticket t))
-    either true = tt
-    either false = tt
+arrived_waits t n = grind (arith, nat_tests)
 
 pub looked_waits : (t : ℕ) (b : Bool) → IsWaiting (place_after_ticket_look t b)
-looked_waits t true = tt
-looked_waits t false = tt
+looked_waits t b = grind (arith, nat_tests)
 
 pub answered_waits : (b : Bool) → IsWaiting (place_after_seat_look b)
-answered_waits true = tt
-answered_waits false = tt
+answered_waits b = grind (arith, nat_tests)
 
 module _ {k : Rules} {o : Object} where
   -- a record that differs in its place, and in what it has counted
@@ -76,20 +67,7 @@ module _ {k : Rules} {o : Object} where
       → (p : Place) (known : Bool) (count : ℕ) (did : List Deed) (now : ℕ) → now ≡ count
       → IsResting k o z (record (the me.0) { place = p; known = known; count = count; did = did } ∷ [], me.1)
       (record numbers { calls = now }) left
-  rests_moved {z} {me} x p known count did now counts = record {
-    one = refl;
-    free = x.free;
-    seated = record {
-      is_seat = x.seated.is_seat;
-      near = x.seated.near;
-      sized = x.seated.sized;
-      counted = counts;
-      budgeted = x.seated.budgeted;
-    };
-    spent = x.spent;
-    told = told_moved (the me.0)
-        (record (the me.0) { place = p; known = known; count = count; did = did }) x.told refl refl refl refl;
-  }
+  rests_moved h p known count did now h' = grind (arith, nat_tests)
 
   -- the floor has come out to a seat that was due, with the event that it records
   abbrev came_goes : (r : SeatRecord) (f : FloorView) → Finds k o r f
@@ -163,9 +141,7 @@ module _ {k : Rules} {o : Object} where
   -- after a step the seat is of the same table, and its view is this one
   pub rests_at : {z : TableId} {me : Me} {numbers : SeatNumbers} {left : ℕ} → IsResting k o z me numbers left
       → (y : TableId) (new : Me) → y ≡ z → new ≡ me → IsResting k o y new numbers left
-  rests_at {z} {me} {numbers} {left} x y new same is =
-      subst (λ a. IsResting k o a new numbers left) (sym same)
-      (subst (λ m. IsResting k o z m numbers left) (sym is) x)
+  rests_at h y new h' h'' = grind (arith, nat_tests)
 
   -- an idle seat has drawn a ticket
   pub arrival_rests : {z : TableId} {v : View} {numbers : SeatNumbers} {left : ℕ}
@@ -240,8 +216,7 @@ module _ {k : Rules} {o : Object} where
       → (f g : FloorView) (q : Source) → (the me.0).place ≡ Due q
       → g ≡ with_event f (out_event numbers.seat q (turn f.history))
       → g ≡ with_event f (out_event (the me.0).seat (source_from (the me.0).place) (turn f.history))
-  out_is x f g q at grows = grows
-      ∙ (λ i. with_event f (out_event (sym x.seated.is_seat i) (sym (ap source_from at) i) (turn f.history)))
+  out_is x f g q at grows = cc
 
   pub entry_holds : {z : TableId} {me : Me} {numbers : SeatNumbers} {left : ℕ} → IsResting k o z me numbers left
       → (f g : FloorView) (q : Source) → Finds k o (the me.0) f → (the me.0).place ≡ Due q

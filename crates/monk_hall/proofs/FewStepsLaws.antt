@@ -7,7 +7,6 @@ use Rattle.monk_kinds.specs.declared.mode.Rules.{Rules}
 use Rattle.monk_object.specs.Object.{Object}
 use Rattle.monk_history.specs.{Meaning.Counts.enters_of, declared.event.Event.Event}
 use Rattle.monk_world.specs.declared.place.Place.{Place}
-use Rattle.monk_world.specs.declared.place.Place.TheVariants.{Idle, Ticket, Due, Active, Back, Passing, Inner}
 use Rattle.monk_hall.proofs.HandingLaws.{grants_by}
 use Rattle.monk_hall.specs.{Calls.peeks_at, Changes.since, Handing.HandsOn, Handing.seat_called_by, Layout.seat_word}
 use Rattle.monk_hall.specs.{Layout.ticket_word, NextTicket.IsLooking, Tokens.Token, Tokens.Holder, Tokens.House}
@@ -19,6 +18,7 @@ use Rattle.monk_hall.specs.Deeds.{knows_from, looks_in, looks_of, steps_of, look
 use Rattle.monk_hall.specs.declared.record.SeatRecord.{SeatRecord}
 use Rattle.monk_hall.specs.declared.deed.Deed.{Deed}
 use Rattle.monk_hall.specs.declared.deed.Deed.TheVariants.{Peek, FloorOut, FloorIn, Drop, GrantTicket, CallSeat}
+use Rattle.std.proofs.lemmas.Bool.Decides.{nat_tests}
 
 -- more deeds are more looks and more steps
 stepped : (looks most : ℕ) (r w : SeatRecord) (ds : List Deed) → w.did ≡ r.did ++ ds → looks_of ds ≡ looks
@@ -33,27 +33,10 @@ arrivals k o p q x = stepped 0 1 p.me q.me _ (ap (λ (w : SeatRecord). w.did) x.
 
 -- the look of a waiting seat is one look
 one_look : (p : Place) (b : Bool) → IsLooking p → (looks_of (look_at p b) ≡ 1) × (steps_of (look_at p b) ≡ 1)
-one_look Idle b (inl e) = absurd (omega arith)
-one_look Idle b (inr e) = absurd (omega arith)
-one_look (Ticket t) b e = (refl, refl)
-one_look (Due q) b (inl e) = absurd (omega arith)
-one_look (Due q) b (inr e) = absurd (omega arith)
-one_look (Active q) b (inl e) = absurd (omega arith)
-one_look (Active q) b (inr e) = absurd (omega arith)
-one_look (Back x to) b (inl e) = absurd (omega arith)
-one_look (Back x to) b (inr e) = absurd (omega arith)
-one_look (Passing t to) b (inl e) = absurd (omega arith)
-one_look (Passing t to) b (inr e) = absurd (omega arith)
-one_look Inner b e = (refl, refl)
+one_look p b e = grind (arith, nat_tests)
 
 few_looks : (p : Place) (b : Bool) → (looks_of (look_at p b) ≤ 1) × (steps_of (look_at p b) ≤ 1)
-few_looks Idle b = (omega arith, omega arith)
-few_looks (Ticket t) b = (omega arith, omega arith)
-few_looks (Due q) b = (omega arith, omega arith)
-few_looks (Active q) b = (omega arith, omega arith)
-few_looks (Back x to) b = (omega arith, omega arith)
-few_looks (Passing t to) b = (omega arith, omega arith)
-few_looks Inner b = (omega arith, omega arith)
+few_looks p b = grind (arith, nat_tests)
 
 few_in_vain : (n : ℕ) (p : Place) → (looks_of (looks_in_vain n p) ≤ n) × (steps_of (looks_in_vain n p) ≤ n)
 few_in_vain zero p = (omega arith, omega arith)
@@ -91,9 +74,7 @@ peeked (suc n) found =
 
 handed : (called : Option ℕ) (seen : List Event) (ds : List Deed) → HandsOn called seen ds
     → (looks_of ds ≡ 0) × (steps_of ds ≤ 2)
-handed (Some j) seen ds is = (ap looks_of is, let l = ap length is in omega arith)
-handed None seen ds (inl is) = (ap looks_of is, let l = ap length is in omega arith)
-handed None seen ds (inr (n, two, is)) = (ap looks_of is, let l = ap length is in omega arith)
+handed called seen ds is = grind (arith, nat_tests)
 
 pub releases : ReleasesAreFewSteps
 releases k o a call wish to peeks p x =
@@ -174,8 +155,7 @@ grants k o a call wish to peeks p h g x =
     (x.granted ∙ ap (granted_last h.id h.setting.seats) all) (omega arith)
 
 unlooked_knows : (n found : ℕ) (b : Bool) → n ≡ 0 → knows_from b (peeks_at n found) ≡ b
-unlooked_knows zero found b e = refl
-unlooked_knows (suc n) found b e = absurd (omega arith)
+unlooked_knows n found b e = cc
 
 pub unlooked : UnlookedLearnsNothing
 unlooked k o a call wish to peeks p x same =

@@ -1,6 +1,6 @@
 -- The active seat takes the floor home
 use Rattle.std.proofs.Common.{◌≡◌, ◌≢◌, ℕ, ◌+◌, ◌<◌, ◌≤◌, cond, Bool, false, List, [], ◌∷◌, ◌++◌, length, set, sym}
-use Rattle.std.proofs.Common.{refl, ap, ◌∙◌, subst, inl, inr, arith, ne_eqb, append-nil, append_assoc, length-append}
+use Rattle.std.proofs.Common.{refl, ap, ◌∙◌, subst, arith, append-nil, append_assoc, length-append}
 use Rattle.std.proofs.{Common.length-set, lemmas.Bool.Decides.eqb_tells}
 use Rattle.std.specs.{List.last_or, Prelude.Option, Prelude.Some, Prelude.None}
 use mathlib.Core.Option as maybe
@@ -10,7 +10,6 @@ use Rattle.atomic_table.specs.Table as table
 use Rattle.atomic_table.proofs.Lists.{set_here}
 use Rattle.monk_kinds.specs.{Kind.IsKind, declared.mode.Rules.Rules}
 use Rattle.monk_object.specs.Object.{Object}
-use Rattle.monk_history.specs.declared.event.Next.TheVariants as next
 use Rattle.monk_history.proofs.PublicLaws.Meaning.{granted_of-push}
 use Rattle.monk_history.specs.Meaning.{Events.seat_of, Events.next_of, Legal.IsLegal, Turn.turn, Turn.turn_by}
 use Rattle.monk_history.specs.Meaning.Counts.{events_of, granted_of, grants, chooses_seat, left_of}
@@ -23,8 +22,8 @@ use Rattle.monk_world.specs.{StepTable.IsStep, StepTable.out_event, Steps.after_
 use Rattle.monk_world.specs.Places.{stage, back_turn, due_to, turn_of_next, due_stage, active_stage, back_stage}
 use Rattle.monk_world.specs.Places.{passing_stage}
 use Rattle.monk_world.specs.declared.place.Place.{Place}
-use Rattle.monk_world.specs.declared.place.Place.TheVariants.{Idle, Ticket, Due, Active, Back, Passing, Inner}
-use Rattle.monk_world.specs.declared.source.Source.{Source, TheVariants.Free, TheVariants.Granted, TheVariants.Called}
+use Rattle.monk_world.specs.declared.place.Place.TheVariants.{Active, Back}
+use Rattle.monk_world.specs.declared.source.Source.{Source}
 use Rattle.monk_floor.specs.View.{FloorView, monitor_of, stands_of}
 use Rattle.monk_hall.proofs.Frame as frame
 use Rattle.monk_hall.proofs.Private as private
@@ -36,6 +35,7 @@ use Rattle.monk_hall.specs.{Floors.StartsWith, Floors.ArePrivate, Laws.BringsHom
 use Rattle.monk_hall.specs.{Layout.shown_world, Records.View, Rule.IsHall, Rule.AreTold, Rule.CountsCalls}
 use Rattle.monk_hall.specs.{Tells.Returns, declared.record.SeatRecord.SeatRecord, declared.setting.Setting.Setting}
 use Rattle.monk_hall.specs.Changes.{record_after_floor_in, source_from, back_after}
+use Rattle.std.proofs.lemmas.Bool.Decides.{nat_tests}
 
 last_more : (o : Option Event) (es : List Event) (e : Event) → last_or o (es ++ e ∷ []) ≡ Some e
 last_more o [] e = refl
@@ -47,35 +47,18 @@ starts_on h g f a b = (b.0 ++ a.0, a.1 ∙ ap (λ (x : List Event). x ++ a.0) b.
 -- a choice that names a seat chose it, and no other choice does
 chosen_counts : (h : List Event) (e : Event) (x : Next) (m : ℕ) → next_of e ≡ Some x → turn_of_next x ≡ due_to m
     → granted_of (h ++ e ∷ []) m ≡ granted_of h m + 1
-chosen_counts h e x m chose names_m =
-    granted_of-push h e m
-    ∙ ap (λ (b : Bool). granted_of h m + cond b 1 0) (ap (chooses_seat m) chose ∙ names_chosen x m names_m)
+chosen_counts h e x m chose names_m = grind (arith, nat_tests, granted_of-push, names_chosen)
 
 names_not : (x : Next) (m : ℕ) → turn_of_next x ≢ due_to m → chooses_seat m (Some x) ≡ false
-names_not next.Stay m ne = refl
-names_not next.Entry m ne = refl
-names_not (next.Waiter j) m ne = ne_eqb j m (λ e. ne (ap due_to e))
-names_not (next.Signaller j) m ne = ne_eqb j m (λ e. ne (ap due_to e))
-names_not (next.Until j) m ne = ne_eqb j m (λ e. ne (ap due_to e))
+names_not x m ne = grind (arith, nat_tests)
 
 not_counts : (h : List Event) (e : Event) (x : Next) (m : ℕ) → next_of e ≡ Some x → turn_of_next x ≢ due_to m
     → granted_of (h ++ e ∷ []) m ≡ granted_of h m
-not_counts h e x m chose ne =
-    granted_of-push h e m
-    ∙ ap (λ (b : Bool). granted_of h m + cond b 1 0) (ap (chooses_seat m) chose ∙ names_not x m ne)
-    ∙ (let z : granted_of h m + 0 ≡ granted_of h m = omega arith in z)
+not_counts h e x m chose ne = grind (arith, nat_tests, granted_of-push, names_not)
 
 -- an event that keeps the turn has chosen nobody
 keeps_names : (i m : ℕ) (e : Event) → turn_by (seat_of e) (next_of e) ≡ Owned i → grants m e ≡ false
-keeps_names i m e own = by_next (next_of e) own
-  where
-    by_next : (x : Option Next) → turn_by (seat_of e) x ≡ Owned i → chooses_seat m x ≡ false
-    by_next None own = refl
-    by_next (Some next.Stay) own = refl
-    by_next (Some next.Entry) own = absurd cc
-    by_next (Some (next.Waiter j)) own = absurd cc
-    by_next (Some (next.Signaller j)) own = absurd cc
-    by_next (Some (next.Until j)) own = absurd cc
+keeps_names i m e own = grind (arith, nat_tests)
 
 own_counts : (i m : ℕ) (h es : List Event) → ArePrivate i es → granted_of (h ++ es) m ≡ granted_of h m
 own_counts i m h [] own = ap (λ (g : List Event). granted_of g m) (append-nil h)
@@ -86,24 +69,11 @@ own_counts i m h (e ∷ es) own =
     ∙ (let z : granted_of h m + 0 ≡ granted_of h m = omega arith in z)
 
 out_counts : (h : List Event) (i m : ℕ) (q : Source) → granted_of (h ++ out_event i q (turn h) ∷ []) m ≡ granted_of h m
-out_counts h i m q =
-    granted_of-push h (out_event i q (turn h)) m ∙ ap (λ (b : Bool). granted_of h m + cond b 1 0) (none q)
-    ∙ (let z : granted_of h m + 0 ≡ granted_of h m = omega arith in z)
-  where
-    none : (q : Source) → grants m (out_event i q (turn h)) ≡ false
-    none (Free t) = refl
-    none (Granted t) = refl
-    none Called = refl
+out_counts h i m q = grind (arith, nat_tests, granted_of-push)
 
 -- only a seat that has taken the floor back has chosen
 chosen_low : (p : Place) (m : ℕ) → back_turn p ≡ due_to m → stage p ≡ back_stage
-chosen_low Idle m e = absurd (omega arith)
-chosen_low (Ticket t) m e = absurd (omega arith)
-chosen_low (Due y) m e = absurd (omega arith)
-chosen_low (Active y) m e = absurd (omega arith)
-chosen_low (Back x to) m e = refl
-chosen_low (Passing t to) m e = absurd (omega arith)
-chosen_low Inner m e = absurd (omega arith)
+chosen_low p m e = grind (arith, nat_tests)
 
 module _ (k : Rules) (o : Object) (c : Setting) (kind : IsKind k) (s : table.State (Option FloorView) View)
     (h : IsHall k o c s) (id : ℕ) (r : SeatRecord) (here : get_elem? s.views id ≡ maybe.some (r ∷ []))
@@ -209,12 +179,7 @@ module _ (k : Rules) (o : Object) (c : Setting) (kind : IsKind k) (s : table.Sta
 
   -- nobody else has the right
   alone : (j : ℕ) → j ≢ r.seat → due_stage ≤ stage (h.0 j).place → stage (h.0 j).place ≤ passing_stage → ⊥
-  alone j ne low high =
-      let keeps = (stepping.sound k o c kind s h id r here).stands.keeps in
-      let three = ap stage at_active in
-      let mine = held keeps r.seat (omega arith) (omega arith) in
-      let other = held keeps j low high in
-      ne cc
+  alone j ne low high = grind (arith, nat_tests, at_active, held)
 
   -- how often each seat was chosen, by the history that comes home
   before_counts : (m : ℕ) → granted_of before m ≡ granted_of past m
@@ -225,12 +190,7 @@ module _ (k : Rules) (o : Object) (c : Setting) (kind : IsKind k) (s : table.Sta
       ∙ out_counts past r.seat m q
 
   nobody_chose : (j m : ℕ) → back_turn (h.0 j).place ≢ due_to m
-  nobody_chose j m e =
-      let four = chosen_low (h.0 j).place m e in
-      elim (eqb_tells j r.seat) [
-        | inl b ↦ let z = ap (λ (n : ℕ). stage (h.0 n).place) b.1 in let y = ap stage at_active in absurd (omega arith)
-        | inr b ↦ absurd (alone j b.1 (omega arith) (omega arith))
-      ]
+  nobody_chose j m = grind (arith, nat_tests, chosen_low, eqb_tells, at_active, alone)
 
   chose_is : next_of last ≡ Some ret.choice
   chose_is = (releasing.said r.seat ret.to ret.call ret.choice ret.release).chose

@@ -17,7 +17,7 @@ use Rattle.monk_world.proofs.PublicLaws.{IsReady, entered_here, held, at_update,
 use Rattle.monk_world.specs.{Enters.used_at, Kept.IsKept, Places.stage, Places.ticket, Places.source, Places.back_turn}
 use Rattle.monk_world.specs.{Places.due_stage, Places.active_stage, Places.back_stage, Places.granted_source}
 use Rattle.monk_world.specs.{Update.update, Sound.left_at, State.State, State.with_event, StepTable.IsStep}
-use Rattle.monk_world.specs.{StepTable.may_be_told, StepTable.out_event, Steps.after_floor_out, World.World}
+use Rattle.monk_world.specs.{StepTable.out_event, Steps.after_floor_out, World.World}
 use Rattle.monk_world.specs.declared.place.Place.{Place, TheVariants.Due, TheVariants.Active}
 use Rattle.monk_world.specs.declared.source.Source.{Source, TheVariants.Free, TheVariants.Granted}
 use Rattle.monk_floor.specs.View.{FloorView, monitor_of}
@@ -30,6 +30,7 @@ use Rattle.monk_hall.specs.{Floors.StartsWith, Floors.Finds, Laws.Takes, Records
 use Rattle.monk_hall.specs.Changes.{record_after_floor_out, source_from}
 use Rattle.monk_hall.specs.Layout.{floor_of, shown_state, shown_world}
 use Rattle.monk_hall.specs.declared.{record.SeatRecord.SeatRecord, setting.Setting.Setting}
+use Rattle.std.proofs.lemmas.Bool.Decides.{nat_tests}
 
 module _ (k : Rules) (o : Object) (c : Setting) (kind : IsKind k) (s : table.State (Option FloorView) View)
     (h : IsHall k o c s) (id : ℕ) (r : SeatRecord) (here : get_elem? s.views id ≡ maybe.some (r ∷ []))
@@ -54,14 +55,7 @@ module _ (k : Rules) (o : Object) (c : Setting) (kind : IsKind k) (s : table.Sta
 
   -- nobody is active, because the seat that is due has the right
   nobody : (j : ℕ) → stage (h.0 j).place ≢ active_stage
-  nobody j three =
-      let keeps = (stepping.sound k o c kind s h id r here).stands.keeps in
-      let two = ap stage at_due in
-      let mine = held keeps r.seat (omega arith) (omega arith) in
-      let other = held keeps j (omega arith) (omega arith) in
-      let same : j ≡ r.seat = cc in
-      let e = ap (λ (n : ℕ). stage (h.0 n).place) same in
-      absurd (omega arith)
+  nobody j = grind (arith, nat_tests, at_due, held)
 
   -- so the floor is at home
   pub at_home : get_elem? s.homes 0 ≡ maybe.some (maybe.some (Some floor))
@@ -80,13 +74,7 @@ module _ (k : Rules) (o : Object) (c : Setting) (kind : IsKind k) (s : table.Sta
   }
 
   ready : IsReady k o old r.seat command.Out
-  ready = record {
-    near = stepping.near k o c kind s h id r here;
-    range = refl;
-    offered = refl;
-    told = ap (λ (p : Place). may_be_told p command.Out) at_due;
-    left = omega arith;
-  }
+  ready = grind (arith, nat_tests, at_due)
 
   kept_after : IsKept k o c.seats c.conds after
   unfolding after
@@ -95,8 +83,7 @@ module _ (k : Rules) (o : Object) (c : Setting) (kind : IsKind k) (s : table.Sta
 
   step_after : IsStep k o old r.seat command.Out answer.Now after
   unfolding after
-  step_after =
-      frame.step_is k o old r.seat command.Out answer.Now after (Due (source_from r.place)) ready at_due (refl, refl)
+  step_after = grind (arith, nat_tests, after, ready, at_due)
 
   same : Path State after (shown_state c s.words (update h.0 r.seat w) (past ++ came ∷ []))
   unfolding after
@@ -166,16 +153,7 @@ module _ (k : Rules) (o : Object) (c : Setting) (kind : IsKind k) (s : table.Sta
 
   entered_is : (t : ℕ) (q : Source) → source_from r.place ≡ q → used_at (Due q) ≡ 0 → ticket (Due q) ≡ t
       → source (Due q) ≤ granted_source → enters_of past ≡ t
-  entered_is t q q_is unused number outer =
-      let sound = kept_old.sound.is_sound in
-      let at_q : (h.0 r.seat).place ≡ Due q = at_due ∙ ap Due q_is in
-      let two = ap stage at_q in
-      let e = entered_here c.seats old.world kept_old.sound.right kept_old.sound.owner sound.stands.keeps
-      (enters_of past) sound.entered r.seat (Due q) at_q (omega arith) (omega arith) in
-      let s_is = ap source at_q in
-      let n = sound.stands.keeps.tickets.in_use r.seat two (omega arith) in
-      let t_is = ap ticket at_q ∙ number in
-      omega arith
+  entered_is t q q_is unused number outer = grind (arith, nat_tests, at_due, entered_here)
 
   pub finds : Finds k o r floor
   finds =

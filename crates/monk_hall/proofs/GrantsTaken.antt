@@ -24,7 +24,8 @@ use Rattle.monk_hall.specs.declared.deed.Deed.TheVariants.{Arrive, LookForTicket
 use Rattle.monk_hall.specs.declared.deed.Deed.TheVariants.{Drop, GrantTicket, CallSeat, Meet}
 use Rattle.monk_hall.specs.Changes.{record_after_arrive, record_after_ticket_look, record_after_seat_look}
 use Rattle.monk_hall.specs.GrantsInTurn.{granted_word, IsTaken, IsTakenBetween, GrantsComeInTurn}
-use Rattle.monk_hall.specs.Layout.{ticket_word, seat_word, waiting_word_at, shown_world}
+use Rattle.monk_hall.specs.Layout.{seat_word, waiting_word_at, shown_world}
+use Rattle.std.proofs.lemmas.Bool.Decides.{nat_tests}
 
 -- a grant is still there if neither the seat nor its word changes
 stands_still : (c : Setting) (words ws : List ℕ) (at bt : ℕ → SeatRecord) (j w : ℕ) → Stands c words at j w
@@ -39,13 +40,7 @@ stands_still c words ws at bt j w x place count word = record {
 
 -- no word of a seat is the ticket word
 pub not_first : (seats j w : ℕ) (p : Place) → waiting_word_at seats j p ≡ w → 0 ≢ w
-not_first seats j w Idle e z = omega arith
-not_first seats j w (Ticket t) e z = omega arith
-not_first seats j w (Due q) e z = omega arith
-not_first seats j w (Active q) e z = omega arith
-not_first seats j w (Back x to) e z = omega arith
-not_first seats j w (Passing t to) e z = omega arith
-not_first seats j w Inner e z = omega arith
+not_first seats j w p h = grind (arith, nat_tests)
 
 pub holds_active : (p : Place) → stage p ≡ active_stage → HoldsRight p
 holds_active p e = subst HoldsRight (sym (standing.active_at p e)) tt
@@ -71,17 +66,7 @@ module _ (k : Rules) (o : Object) (c : Setting) (s : HallState) (h : IsHall k o 
 
   -- while a grant is in its word, nobody has the right
   pub nobody_holds : (j w : ℕ) → Stands c s.words h.0 j w → (i : ℕ) → HoldsRight (h.0 i).place → ⊥
-  nobody_holds j w x i holds = let with_i = (one.with_seat i).0 holds in ⊎_elim
-      (λ y. let at = standing.ticket_at (h.0 j).place y.0 in
-      let t : ℕ = ticket (h.0 j).place in
-      let word : slice_index s.words (ticket_word c.seats t) ≡ t + 1 =
-      ap (slice_index s.words) (sym (ap (waiting_word_at c.seats j) at) ∙ x.waits) ∙ y.1 in
-      let there = (one.at_ticket j t at).0 word in absurd cc)
-      (λ y. let at = standing.inner_at (h.0 j).place y.0 in
-      let word : slice_index s.words (seat_word j) ≡ (h.0 j).count + 1 =
-      ap (slice_index s.words) (sym (ap (waiting_word_at c.seats j) at) ∙ x.waits) ∙ y.1 in
-      let there = (one.at_seat j).0 (at, word) in absurd cc)
-      x.granted
+  nobody_holds j w x i holds = grind (arith, nat_tests)
 
 -- one more step
 module _ (k : Rules) (o : Object) (c : Setting) (kind : IsKind k) (steps : List Step) (s : HallState)

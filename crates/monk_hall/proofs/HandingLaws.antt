@@ -1,5 +1,5 @@
 -- A release goes home with the floor, and the right is handed on
-use Rattle.std.proofs.Common.{◌≡◌, ◌≢◌, ℕ, ◌+◌, ◌-◌, ◌≤◌, false, true≢false}
+use Rattle.std.proofs.Common.{◌≡◌, ℕ, ◌+◌, ◌-◌, ◌≤◌, false}
 use Rattle.std.proofs.Common.{List, [], ◌∷◌, ◌++◌, length, Option, Some, None, refl, sym, ap, subst, ◌∙◌}
 use Rattle.std.{proofs.Common.arith, specs.List.last_or}
 use Rattle.atomic_table.specs.Seated.{TableId}
@@ -13,46 +13,27 @@ use Rattle.monk_floor.specs.View.{FloorView, monitor_of}
 use Rattle.monk_world.specs.{Places.back_turn, Places.turn_of_next, Places.due_to, Places.place_of, Sound.left_within}
 use Rattle.monk_world.specs.{State.with_event, declared.home.Home.Home, declared.place.Place.TheVariants.Back}
 use Rattle.monk_hall.proofs.{Releasing.back_is, Releasing.said, EntrySteps.own_longer}
-use Rattle.monk_hall.specs.{Changes.record_after_floor_in, Changes.back_after, Changes.home_at, Granting.grant_of}
+use Rattle.monk_hall.specs.{Changes.record_after_floor_in, Changes.home_at, Granting.grant_of}
 use Rattle.monk_hall.specs.{Granting.granted_last, Layout.floor_of, Records.the, Tells.Me, Tokens.IsSeated}
 use Rattle.monk_hall.specs.{Tokens.IsResting, declared.deed.Deed.Deed, declared.seat_numbers.SeatNumbers.SeatNumbers}
 use Rattle.monk_hall.specs.Handing.{seat_called_by, HasRecordedRelease, HasGone}
+use Rattle.std.proofs.lemmas.Bool.Decides.{nat_tests}
 
 last_is : {A : Type 0} (o : Option A) (h : List A) (e : A) → last_or o (h ++ e ∷ []) ≡ Some e
 last_is o [] e = refl
 last_is o (d ∷ ds) e = last_is (Some d) ds e
 
-abbrev is_some : Option ℕ → Type 0
-is_some None = ⊥
-is_some (Some n) = Unit {0}
-
-abbrev due_in : Option ℕ → ℕ
-due_in None = 0
-due_in (Some n) = due_to n
-
 called_due : (x : Next) (j : ℕ) → seat_called_by x ≡ Some j → turn_of_next x ≡ due_to j
-called_due next.Stay j e = absurd (subst is_some (sym e) tt)
-called_due next.Entry j e = absurd (subst is_some (sym e) tt)
-called_due (next.Waiter i) j e = ap due_in e
-called_due (next.Signaller i) j e = ap due_in e
-called_due (next.Until i) j e = ap due_in e
+called_due x j e = grind (arith, nat_tests)
 
 entry_is : (x : Next) → is_stay (Some x) ≡ false → seat_called_by x ≡ None → x ≡ next.Entry
-entry_is next.Stay s e = absurd (true≢false s)
-entry_is next.Entry s e = refl
-entry_is (next.Waiter j) s e = absurd (subst is_some e tt)
-entry_is (next.Signaller j) s e = absurd (subst is_some e tt)
-entry_is (next.Until j) s e = absurd (subst is_some e tt)
+entry_is x s e = grind (arith, nat_tests)
 
 module _ {k : Rules} {o : Object} {z : TableId} {me : Me} {choice : Next} {to : Home} {f : FloorView} where
   -- the place of a seat that has taken the floor home
   pub back_place : HasRecordedRelease k o z me choice to f
       → (record_after_floor_in (the me.0) f.history).place ≡ Back choice to
-  back_place x = let r = x.returns in
-      ap (λ (y : FloorView). back_after (last_or None y.history)) r.grows
-      ∙ ap back_after (last_is None r.before.history (with_next r.choice r.call))
-      ∙ back_is (the me.0).seat r.to r.call r.choice r.release
-      ∙ (λ i. Back (x.is_choice i) (x.is_to i))
+  back_place x = grind (arith, nat_tests, last_is, back_is)
 
   pub chosen_due : HasRecordedRelease k o z me choice to f → (j : ℕ) → seat_called_by choice ≡ Some j
       → back_turn (record_after_floor_in (the me.0) f.history).place ≡ due_to j
@@ -61,9 +42,7 @@ module _ {k : Rules} {o : Object} {z : TableId} {me : Me} {choice : Next} {to : 
   pub chosen_entry : HasRecordedRelease k o z me choice to f → seat_called_by choice ≡ None
       → (record_after_floor_in (the me.0) f.history).place ≡ Back next.Entry
       (home_at (record_after_floor_in (the me.0) f.history).place)
-  chosen_entry x e = let b = back_place x in
-      b ∙ (λ i. Back (entry_is choice (ap (λ n. is_stay (Some n)) (sym x.is_choice) ∙ x.returns.away) e i)
-      (sym (ap home_at b) i))
+  chosen_entry x e = grind (arith, nat_tests, back_place, entry_is)
 
   pub home_is : HasRecordedRelease k o z me choice to f
       → home_at (record_after_floor_in (the me.0) f.history).place ≡ to

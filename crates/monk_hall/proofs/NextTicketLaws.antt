@@ -18,8 +18,7 @@ use Rattle.monk_hall.specs.declared.deed.Deed.{Deed, TheVariants.FloorIn, TheVar
 -- where a seat of this setting that waits with this ticket finds its grant
 word_is : (c : Setting) (r : SeatRecord) (t : ℕ) → r.setting ≡ c → r.place ≡ Ticket t
     → waiting_word_at r.setting.seats r.seat r.place ≡ ticket_word c.seats t
-word_is c r t same at = ap (λ (p : Place). waiting_word_at r.setting.seats r.seat p) at
-    ∙ ap (λ (d : Setting). ticket_word d.seats t) same
+word_is c r t same at = cc
 
 pub next_ticket_waits : NextTicketWaits
 next_ticket_waits k o c s h r to x back_at two =

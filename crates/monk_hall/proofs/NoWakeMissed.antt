@@ -2,21 +2,19 @@
 use Rattle.std.proofs.Common.{◌≡◌, ◌≢◌, ℕ, ◌+◌, ◌%◌, ◌<◌, ◌≤◌, ◌⊎◌, Bool, true, false, List, [], ◌∷◌, ◌++◌}
 use Rattle.std.proofs.Common.{sym, refl, ap, subst, ◌∙◌, inl, inr, ⊎_elim, cond, arith, eq-eqb, mod-lt}
 use Rattle.std.proofs.Math.Nat.{mod-eq_of_lt}
-use Rattle.std.proofs.lemmas.{Bool.Decides.eqb_tells, Option.none-some, Option.same_Some}
-use Rattle.std.specs.Prelude.{Option, Some, None, slice_index}
+use Rattle.std.proofs.lemmas.{Bool.Decides.eqb_tells}
+use Rattle.std.specs.Prelude.{Option, Some, slice_index}
 use mathlib.Core.Option.{some}
 use lib.ListN.{get_elem?}
 use Rattle.monk_kinds.specs.{Kind.IsKind, declared.mode.Rules.Rules}
 use Rattle.monk_object.specs.Object.{Object}
 use Rattle.monk_world.proofs.PublicLaws.{few_drawn}
-use Rattle.monk_world.specs.{Kept.comes_back, Places.ticket, World.World}
+use Rattle.monk_world.specs.{Places.ticket}
 use Rattle.monk_world.specs.Steps.{place_after_ticket_look, place_after_seat_look, count_after_seat_look}
-use Rattle.monk_world.specs.Right.{Whereabouts, Nowhere, AtTicket, With, AtSeat, KeepsCalls}
 use Rattle.monk_world.specs.declared.place.Place.{Place}
 use Rattle.monk_world.specs.declared.place.Place.TheVariants.{Idle, Ticket, Due, Active, Back, Passing, Inner}
-use Rattle.monk_world.specs.declared.source.Source.TheVariants.{Free, Granted, Called}
 use Rattle.monk_hall.proofs.Standing as standing
-use Rattle.monk_hall.proofs.{GrantStands.Stands, GrantsTaken.not_first, GrantsTaken.moved_stays, ScheduleLaws.IsLed}
+use Rattle.monk_hall.proofs.{GrantStands.Stands, GrantsTaken.moved_stays, ScheduleLaws.IsLed}
 use Rattle.monk_hall.proofs.{ScheduleMoves.step_led, ScheduleMoves.led_opening, WordWaits.one_waits_at_a_word}
 use Rattle.monk_hall.proofs.HandedOver.{words_stay, others, own, in_view, at_j, no_write}
 use Rattle.monk_hall.proofs.RecordLaws.{is, cases_le}
@@ -31,7 +29,8 @@ use Rattle.monk_hall.specs.Wakes.{Wait, Awake, Watched, Polled, Marked, Asleep, 
 use Rattle.monk_hall.specs.Wakes.{Sleep, Rise, Clear, Wake, Skip, risen, with_mark, takes_none, MayTake, wait_after}
 use Rattle.monk_hall.specs.Wakes.{with_wait, waits_after, owed, IsIn, IsWithout, WakesOne, IsAct, IsRun}
 use Rattle.monk_hall.specs.Wakes.{opening_threads, NoWakeIsMissed}
-use Rattle.monk_hall.specs.Layout.{ticket_word, seat_word, waiting_word, waiting_word_at, shown_state, shown_world}
+use Rattle.monk_hall.specs.Layout.{seat_word, waiting_word, waiting_word_at, shown_state}
+use Rattle.std.proofs.lemmas.Bool.Decides.{nat_tests}
 
 -- what a seat that waits at this place, and has counted so many calls, finds in its word if its grant is there
 abbrev wanted_at : Place → ℕ → ℕ
@@ -76,8 +75,7 @@ IsNotBy j (By i id d) = i ≢ j
 IsNotBy j _ = Unit {0}
 
 in_owed : (g : Option ℕ) (w : ℕ) (ws : List ℕ) → IsIn w ws → IsIn w (owed g ws)
-in_owed None w ws x = x
-in_owed (Some v) w ws x = inr x
+in_owed g w ws x = grind (arith, nat_tests)
 
 in_without : (v w : ℕ) (ws vs : List ℕ) → IsWithout w ws vs → v ≢ w → IsIn v ws → IsIn v vs
 in_without v w [] vs never ne x = absurd never
@@ -89,63 +87,12 @@ in_without v w (y ∷ ys) vs (inr (rest, is_vs, more)) ne x = subst (IsIn v) (sy
 -- a step grants the word of a seat, or doesn't write it
 grants_or_not : (seats j w : ℕ) (p : Place) → waiting_word_at seats j p ≡ w → (y : Step)
     → (granted_word seats y ≡ Some w) ⊎ (written_word seats y ≢ Some w)
-grants_or_not seats j w p at (By i id (Arrive n m)) = inr (λ e. not_first seats j w p at (same_Some 0 w e))
-grants_or_not seats j w p at (By i id (LookForTicket b)) = inr (λ e. none-some w e)
-grants_or_not seats j w p at (By i id (LookForCall b)) = inr (λ e. none-some w e)
-grants_or_not seats j w p at (By i id (Peek n)) = inr (λ e. none-some w e)
-grants_or_not seats j w p at (By i id FloorOut) = inr (λ e. none-some w e)
-grants_or_not seats j w p at (By i id (FloorIn es)) = inr (λ e. none-some w e)
-grants_or_not seats j w p at (By i id (Drop n)) = inr (λ e. not_first seats j w p at (same_Some 0 w e))
-grants_or_not seats j w p at (By i id (GrantTicket n)) = elim (eqb_tells (ticket_word seats n) w) [
-  | inl e ↦ inl (ap Some e.1)
-  | inr ne ↦ inr (λ z. ne.1 (same_Some (ticket_word seats n) w z))
-]
-grants_or_not seats j w p at (By i id (CallSeat m)) = elim (eqb_tells (seat_word m) w) [
-  | inl e ↦ inl (ap Some e.1)
-  | inr ne ↦ inr (λ z. ne.1 (same_Some (seat_word m) w z))
-]
-grants_or_not seats j w p at (By i id Meet) = inr (λ e. none-some w e)
-grants_or_not seats j w p at (Deal id) = inr (λ e. none-some w e)
-grants_or_not seats j w p at (Part id) = inr (λ e. none-some w e)
-grants_or_not seats j w p at (Join i id other) = inr (λ e. none-some w e)
-grants_or_not seats j w p at (Compare i id) = inr (λ e. none-some w e)
-
-back_once : (p : Place) → comes_back p ≤ 1
-back_once Idle = omega arith
-back_once (Ticket t) = omega arith
-back_once (Due (Free t)) = omega arith
-back_once (Due (Granted t)) = omega arith
-back_once (Due Called) = omega arith
-back_once (Active q) = omega arith
-back_once (Back x to) = omega arith
-back_once (Passing t to) = omega arith
-back_once Inner = omega arith
-
--- the number of the seat in whose place the right is
-abbrev seat_at : Whereabouts → ℕ
-seat_at (AtSeat i) = i
-seat_at _ = 0
-
-place_low : (w : World) (right : Whereabouts) → KeepsCalls w right → (j : ℕ) → w.seat_place j ≤ w.count j + 1
-place_low w Nowhere x j = let e = x.not_called j (λ z. absurd cc) in omega arith
-place_low w (AtTicket t) x j = let e = x.not_called j (λ z. absurd cc) in omega arith
-place_low w (With i) x j = let e = x.not_called j (λ z. absurd cc) in omega arith
-place_low w (AtSeat i) x j = elim (eqb_tells i j) [
-  | inl e ↦ (let y = (x.called j (ap AtSeat e.1)).1 in omega arith)
-  | inr ne ↦ (let y = x.not_called j (λ z. ne.1 (ap seat_at z)) in omega arith)
-]
+grants_or_not seats j w p at y = grind (arith, nat_tests)
 
 -- a seat's word is below 2^32
 module _ (k : Rules) (o : Object) (c : Setting) (s : HallState) (h : IsHall k o c s) where
   calls_low : (j : ℕ) → slice_index s.words (seat_word j) < 4294967296
-  calls_low j =
-      let sound = h.2.kept.sound.is_sound.stands.keeps in
-      let most = place_low (shown_world s.words h.0) h.2.kept.sound.right sound.calls j in
-      let counted = h.2.kept.bounded.counted j in
-      let within = h.2.kept.bounded.within j in
-      let low = h.2.kept.bounded.low in
-      let once = back_once (h.0 j).place in
-      omega (arith, most, counted, within, low, once)
+  calls_low j = grind (arith, nat_tests)
 
   word_low : (j : ℕ) (p : Place) → slice_index s.words (waiting_word_at c.seats j p) < 4294967296
   word_low j (Ticket t) =
@@ -459,22 +406,13 @@ module _ (k : Rules) (o : Object) (c : Setting) (kind : IsKind k) (x : Threads) 
       )
 
   marks_set : (w v : ℕ) → x.marks v ≡ true → with_mark x.marks w true v ≡ true
-  marks_set w v e = elim (eqb_tells w v) [
-    | inl same ↦ ap (λ (b : Bool). cond b true (x.marks v)) same.0
-    | inr ne ↦ ap (λ (b : Bool). cond b true (x.marks v)) ne.0 ∙ e
-  ]
+  marks_set w v e = grind (arith, nat_tests)
 
   marks_own : (w : ℕ) → with_mark x.marks w true w ≡ true
-  marks_own w = elim (eqb_tells w w) [
-    | inl same ↦ ap (λ (b : Bool). cond b true (x.marks w)) same.0
-    | inr ne ↦ absurd (ne.1 refl)
-  ]
+  marks_own w = grind (arith, nat_tests)
 
   marks_others : (w v : ℕ) → w ≢ v → x.marks v ≡ true → with_mark x.marks w false v ≡ true
-  marks_others w v apart e = elim (eqb_tells w v) [
-    | inl same ↦ absurd (apart same.1)
-    | inr ne ↦ ap (λ (b : Bool). cond b false (x.marks v)) ne.0 ∙ e
-  ]
+  marks_others w v apart e = grind (arith, nat_tests)
 
   sets : (j w n : ℕ) → x.waits j ≡ Polled w n → j < c.seats
       → Fits c x.table.words kept.0 (with_mark x.marks w true) x.wakes j (Marked w n)

@@ -1,5 +1,5 @@
 -- The two halves of the ticket word
-use Rattle.std.proofs.Common.{◌≡◌, ℕ, suc, ◌+◌, ◌-◌, ◌*◌, ◌%◌, ◌<◌, sym, ap, ◌∙◌, arith}
+use Rattle.std.proofs.Common.{◌≡◌, ℕ, suc, ◌+◌, ◌-◌, ◌*◌, ◌%◌, ◌<◌, ap, ◌∙◌, arith}
 use Rattle.std.proofs.{lemmas.Nat.mod-mul-add, lemmas.Nat.div-mul-add, Math.Nat.mod-add-div'}
 use Rattle.monk_hall.specs.Layout.{tickets, unpassed}
 
@@ -16,21 +16,15 @@ pub word_is : (x : ℕ) → x ≡ packed (tickets x) (unpassed x)
 word_is x = let e = mod-add-div' x 4294967296 in omega arith
 
 reduced : (x : ℕ) → x < 18446744073709551616 → x % 18446744073709551616 ≡ x
-reduced x h =
-    let e : 0 * 18446744073709551616 + x ≡ x = omega arith in
-    sym (ap (λ (y : ℕ). y % 18446744073709551616) e) ∙ mod-mul-add 0 18446744073709551616 x h
+reduced x h = omega (arith, mod-mul-add)
 
 drawn_word : (t n : ℕ) → t < 2147483648 → n < 2147483648
     → (packed t n + 4294967297) % 18446744073709551616 ≡ packed (suc t) (suc n)
-drawn_word t n a b =
-    let e : packed t n + 4294967297 ≡ packed (suc t) (suc n) = omega arith in
-    ap (λ (x : ℕ). x % 18446744073709551616) e ∙ reduced (packed (suc t) (suc n)) (omega arith)
+drawn_word t n a b = omega (arith, reduced)
 
 dropped_word : (t n : ℕ) → t < 2147483648 → n < 2147483648
     → (packed t (suc n) + 18446744073709551615) % 18446744073709551616 ≡ packed t n
-dropped_word t n a b =
-    let e : packed t (suc n) + 18446744073709551615 ≡ 1 * 18446744073709551616 + packed t n = omega arith in
-    ap (λ (x : ℕ). x % 18446744073709551616) e ∙ mod-mul-add 1 18446744073709551616 (packed t n) (omega arith)
+dropped_word t n a b = omega (arith, mod-mul-add)
 
 -- the word after an arrival, and after a seat took itself off
 pub record HasHalves (x t n : ℕ) : Type 0 where

@@ -1,5 +1,5 @@
 -- What an active seat does between its steps keeps a world as every world is
-use Rattle.std.proofs.Common.{◌≡◌, ◌≢◌, ℕ, ◌+◌, ◌<◌, ◌≤◌, cond, Bool, List, [], ◌∷◌, ◌++◌, length, sym, refl, ap}
+use Rattle.std.proofs.Common.{◌≡◌, ◌≢◌, ℕ, ◌+◌, ◌<◌, ◌≤◌, List, [], ◌∷◌, ◌++◌, length, sym, refl, ap}
 use Rattle.std.proofs.Common.{◌∙◌, subst, arith, eq-eqb, append-nil, append_assoc, length-append}
 use Rattle.monk_kinds.specs.declared.mode.Rules.{Rules}
 use Rattle.monk_object.specs.Object.{Object}
@@ -11,11 +11,11 @@ use Rattle.monk_world.specs.{Kept.IsKept, declared.place.Place.TheVariants.Activ
 use Rattle.monk_world.specs.State.{State, with_event}
 use Rattle.monk_floor.specs.View.{monitor_of}
 use Rattle.monk_hall.{specs.Floors.IsPrivate, specs.Floors.ArePrivate, proofs.Frame.other_event}
+use Rattle.std.proofs.lemmas.Bool.Decides.{nat_tests}
 
 pub own_event : (h : List Event) (e : Event) (i : ℕ) → seat_of e ≡ i
     → events_of (h ++ e ∷ []) i ≡ events_of h i ++ e ∷ []
-own_event h e i same = events_of-push h e i
-    ∙ ap (λ (b : Bool). events_of h i ++ cond b (e ∷ []) []) (eq-eqb (seat_of e) i same)
+own_event h e i same = grind (arith, nat_tests, events_of-push, eq-eqb)
 
 -- only its own events are new
 pub own_more : (i : ℕ) (h es : List Event) → ArePrivate i es → events_of (h ++ es) i ≡ events_of h i ++ es

@@ -38,6 +38,7 @@ use Rattle.monk_hall.specs.Tells.{TellsFloorIn, held_history, TellsDrop, TellsTi
 use Rattle.monk_hall.specs.Tells.{Returns}
 use Rattle.monk_hall.specs.Layout.{floor_of, place_word, seat_word, word_count}
 use Rattle.monk_hall.specs.Records.{View, In, IsOne, the, head, tail, first_view}
+use Rattle.std.proofs.lemmas.Bool.Decides.{nat_tests}
 
 -- the view has two records
 abbrev pub IsTwo : View → Type 0
@@ -51,15 +52,13 @@ schedule_push k o c s t u (y ∷ ys) x run step = (run.0, run.1, schedule_push k
 -- one more step
 reached_on : (k : Rules) (o : Object) (c : Setting) (s t : HallState) (x : Step) → IsReached k o c s
     → IsStep k o c s x t → IsReached k o c t
-reached_on k o c s t x reached step =
-    (reached.0, reached.1 ++ x ∷ [], schedule_push k o c (opening_table c) s t reached.1 x reached.2 step)
+reached_on k o c s t x reached step = grind (arith, nat_tests, schedule_push)
 
 -- the table with which a hall opens
 pub opens : (k : Rules) (o : Object) (c : Setting) (words : List ℕ) → make_refusal c.seats c.conds c.budget ≡ None
     → words ≡ replicate (word_count c.seats) 0
     → IsReached k o c (opening words (Some (floor_of c []) ∷ []) (first_view c))
-opens k o c words made zeros =
-    (made, [], ap (λ (ws : List ℕ). opening ws (Some (floor_of c []) ∷ []) (first_view c)) zeros)
+opens k o c words made zeros = grind (arith, nat_tests)
 
 -- if some schedule leads there, the words and records are those of a hall
 pub hall_of : (k : Rules) (o : Object) (c : Setting) → IsKind k → (s : HallState) → IsReached k o c s → IsHall k o c s

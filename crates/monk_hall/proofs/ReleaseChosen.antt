@@ -1,9 +1,8 @@
 -- What a release chooses, and what it leaves in the records if the turn goes from the active seat
-use Rattle.std.proofs.Common.{◌≡◌, ℕ, ◌+◌, Bool, true, false, true≢false, cond, List, [], ◌∷◌, ◌++◌}
+use Rattle.std.proofs.Common.{◌≡◌, ℕ, ◌+◌, Bool, true, false, cond, List, [], ◌∷◌, ◌++◌, arith}
 use Rattle.std.proofs.Common.{append_assoc, Some, refl, sym, ap, subst, ◌∙◌}
 use Rattle.atomic_table.specs.Seated.{TableId}
-use Rattle.monk_kinds.specs.declared.mode.Pick.{Pick, TheVariants.Entry as WishEntry, TheVariants.Waiter as WishWaiter}
-use Rattle.monk_kinds.specs.declared.mode.Pick.{TheVariants.Signaller as WishSignaller}
+use Rattle.monk_kinds.specs.declared.mode.Pick.{Pick}
 use Rattle.monk_kinds.specs.declared.mode.Rules.{Rules}
 use Rattle.monk_object.specs.Object.{Object}
 use Rattle.monk_history.specs.declared.event.Next.TheVariants as next
@@ -13,8 +12,8 @@ use Rattle.monk_history.specs.Meaning.Counts.{events_of, is_enter}
 use Rattle.monk_history.specs.Meaning.Choice.{Queues, must_stay, queues_at}
 use Rattle.monk_history.specs.declared.event.{Next.Next, Turn.TheVariants.Owned}
 use Rattle.monk_history.specs.declared.event.Event.{Event}
-use Rattle.monk_history.specs.declared.event.Event.TheVariants.{Enter, Act, Leave, Wait, Signal, SignalLeave, Until}
-use Rattle.monk_history.specs.declared.event.Event.TheVariants.{Resume, SignalAll, SignalWait}
+use Rattle.monk_history.specs.declared.event.Event.TheVariants.{Leave, Wait, SignalLeave}
+use Rattle.monk_history.specs.declared.event.Event.TheVariants.{SignalWait}
 use Rattle.monk_floor.specs.View.{FloorView, stands_of}
 use Rattle.monk_world.specs.declared.home.Home.{Home}
 use Rattle.monk_hall.proofs.{Private.own_event, Releasing.said}
@@ -24,74 +23,43 @@ use Rattle.monk_hall.specs.{Tokens.holder, declared.deed.Deed.Deed, declared.dee
 use Rattle.monk_hall.specs.{declared.record.SeatRecord.SeatRecord, declared.seat_numbers.SeatNumbers.SeatNumbers}
 use Rattle.monk_hall.specs.Calls.{HasReleased, HasPeeked, Remembers, is_entry_known, peeks_at}
 use Rattle.monk_hall.specs.Handing.{HasRecordedRelease, HandsOn, HasGone, seat_called_by}
+use Rattle.std.proofs.lemmas.Bool.Decides.{nat_tests}
 
 -- the wish rules ask whether somebody is known to wait for entry only if the wish is for entry
 knows_reads : (k : Rules) (q : Queues) (s : ℕ) (known : Bool) (wish : Pick)
     → choice_by k q s known wish ≡ choice_by k q s (is_entry_known wish known) wish
-knows_reads k q s known WishEntry = refl
-knows_reads k q s known WishWaiter = refl
-knows_reads k q s known WishSignaller = refl
+knows_reads k q s known wish = grind (arith, nat_tests)
 
 -- and if there is something to choose
 choice_knows : (b : Bool) (kept : Next) (by : Bool → Next) (x y : Bool) → (b ≡ false → by x ≡ by y)
     → cond b kept (by x) ≡ cond b kept (by y)
-choice_knows true kept by x y e = refl
-choice_knows false kept by x y e = e refl
+choice_knows b kept by x y e = grind (arith, nat_tests)
 
 -- a leave, a wait and a signal and leave never stay
 pub leave_goes : (m : Monitor) (h : List Event) (s : ℕ) (x : Next) → IsAllowed m h (Leave s x)
     → is_stay (Some x) ≡ false
-leave_goes m h s next.Stay a = absurd (true≢false (sym a.permitted))
-leave_goes m h s next.Entry a = refl
-leave_goes m h s (next.Waiter j) a = refl
-leave_goes m h s (next.Signaller j) a = refl
-leave_goes m h s (next.Until j) a = refl
+leave_goes m h s x a = grind (arith, nat_tests)
 
 pub wait_goes : (m : Monitor) (h : List Event) (s c : ℕ) (x : Next) → IsAllowed m h (Wait s c x)
     → is_stay (Some x) ≡ false
-wait_goes m h s c next.Stay a = absurd (true≢false (sym a.permitted))
-wait_goes m h s c next.Entry a = refl
-wait_goes m h s c (next.Waiter j) a = refl
-wait_goes m h s c (next.Signaller j) a = refl
-wait_goes m h s c (next.Until j) a = refl
+wait_goes m h s c x a = grind (arith, nat_tests)
 
 pub signal_leave_goes : (m : Monitor) (h : List Event) (s c : ℕ) (x : Next) → IsAllowed m h (SignalLeave s c x)
     → is_stay (Some x) ≡ false
-signal_leave_goes m h s c next.Stay a = absurd (true≢false (sym a.permitted))
-signal_leave_goes m h s c next.Entry a = refl
-signal_leave_goes m h s c (next.Waiter j) a = refl
-signal_leave_goes m h s c (next.Signaller j) a = refl
-signal_leave_goes m h s c (next.Until j) a = refl
+signal_leave_goes m h s c x a = grind (arith, nat_tests)
 
 pub signal_wait_goes : (m : Monitor) (h : List Event) (s c d : ℕ) (x : Next) → IsAllowed m h (SignalWait s c d x)
     → is_stay (Some x) ≡ false
-signal_wait_goes m h s c d next.Stay a = absurd (true≢false (sym a.permitted))
-signal_wait_goes m h s c d next.Entry a = refl
-signal_wait_goes m h s c d (next.Waiter j) a = refl
-signal_wait_goes m h s c d (next.Signaller j) a = refl
-signal_wait_goes m h s c d (next.Until j) a = refl
+signal_wait_goes m h s c d x a = grind (arith, nat_tests)
 
 pub stay_is : (x : Next) → is_stay (Some x) ≡ true → x ≡ next.Stay
-stay_is next.Stay e = refl
-stay_is next.Entry e = absurd (true≢false (sym e))
-stay_is (next.Waiter j) e = absurd (true≢false (sym e))
-stay_is (next.Signaller j) e = absurd (true≢false (sym e))
-stay_is (next.Until j) e = absurd (true≢false (sym e))
+stay_is x e = grind (arith, nat_tests)
 
 pub stay_keeps : (i : ℕ) (x : Next) → is_stay (Some x) ≡ true → turn_by i (Some x) ≡ Owned i
 stay_keeps i x e = ap (λ y. turn_by i (Some y)) (stay_is x e)
 
 pub never_enters : (i : ℕ) (to : Home) (e : Event) (x : Next) → IsReleaseTo i to e → is_enter (with_next x e) ≡ false
-never_enters i to (Enter s via) x h = absurd h
-never_enters i to (Act s op r) x h = refl
-never_enters i to (Leave s y) x h = refl
-never_enters i to (Wait s c y) x h = refl
-never_enters i to (Signal s c y) x h = refl
-never_enters i to (SignalLeave s c y) x h = refl
-never_enters i to (Until s p y) x h = refl
-never_enters i to (Resume s q) x h = refl
-never_enters i to (SignalAll s c) x h = refl
-never_enters i to (SignalWait s c d y) x h = refl
+never_enters i to e x h = grind (arith, nat_tests)
 
 pub chosen_as_known : {k : Rules} {o : Object} {r : SeatRecord} {f : FloorView} {call : Event} {wish : Pick}
     {known : Bool} {choice : Next} {to : Home} {g : FloorView}
@@ -171,8 +139,7 @@ remembers_twice peeks a b x w y =
 pub of_setting : (a b : Holder) {known : Bool} {did : List Deed}
     → b ≡ record a { me = record a.me { known = known; did = did } }
     → b.floor ≡ floor_of b.me.setting b.floor.history → a.floor ≡ floor_of a.me.setting a.floor.history
-of_setting a b is floor = sym (ap (λ (h : Holder). h.floor) is) ∙ floor
-    ∙ ap (λ (h : Holder). floor_of h.me.setting h.floor.history) is
+of_setting a b is floor = grind (arith, nat_tests)
 
 -- a look at the ticket word before the release
 module _ {k : Rules} {o : Object} where

@@ -5,9 +5,8 @@ use Rattle.atomic_table.specs.Seated.{TableId}
 use Rattle.monk_kinds.specs.declared.mode.{Rules.Rules, Pick.Pick}
 use Rattle.monk_object.specs.Object.{Object}
 use Rattle.monk_history.specs.declared.event.Next.TheVariants as next
-use Rattle.monk_history.proofs.PublicLaws.Meaning.{may_leave, may_wait, may_signal_on, may_signal_leave}
-use Rattle.monk_history.proofs.PublicLaws.Meaning.{may_signal_wait, may_until, legal-push}
-use Rattle.monk_history.specs.Meaning.{Choice.must_stay, Counts.events_of, Counts.left_of, Legal.IsLegal}
+use Rattle.monk_history.proofs.PublicLaws.Meaning.{legal-push}
+use Rattle.monk_history.specs.Meaning.{Choice.must_stay, Counts.events_of, Legal.IsLegal}
 use Rattle.monk_history.specs.Meaning.{Release.with_next, Release.choice_of, Turn.turn, Turn.turn_by}
 use Rattle.monk_history.specs.Meaning.Events.{is_stay, has_conditions, has_signaller_queue, returns_at_once}
 use Rattle.monk_history.specs.declared.event.{Next.Next, Turn.TheVariants.Owned}
@@ -26,6 +25,7 @@ use Rattle.monk_hall.specs.Tokens.{Token, Holder, House, IsHolding, with_own, ho
 use Rattle.monk_hall.specs.Granting.{Grant, granted_last, HasGranted, HasStayedAlone}
 use Rattle.monk_hall.specs.declared.seat_numbers.SeatNumbers.{SeatNumbers}
 use Rattle.monk_hall.specs.declared.after.After.{After, TheVariants.Active, TheVariants.Parked}
+use Rattle.std.proofs.lemmas.Bool.Decides.{nat_tests}
 
 -- what the active seat may do
 module _ {k : Rules} {o : Object} {z : TableId} {me : Me} {numbers : SeatNumbers} {f : FloorView} where
@@ -34,11 +34,6 @@ module _ {k : Rules} {o : Object} {z : TableId} {me : Me} {numbers : SeatNumbers
 
   pub is_near : IsHolding k o z me numbers f → numbers.seat < f.seats
   is_near h = subst (λ n. n < f.seats) h.seated.is_seat h.goes.near
-
-  pub has_left : IsHolding k o z me numbers f → (n : ℕ)
-      → length (events_of f.history (the me.0).seat) + n < (the me.0).setting.budget
-      → n < left_of f.budget f.history (the me.0).seat
-  has_left h n more = let b = ap (λ (y : FloorView). y.budget) h.goes.is_floor in omega arith
 
   -- the contract of a release, with the active seat's own number
   pub released_of : {wish : Pick} {known : Bool} {choice : Next} {to : Home} {g : FloorView} → (call : ℕ → Event)
@@ -62,14 +57,7 @@ module _ {k : Rules} {o : Object} {z : TableId} {me : Me} {numbers : SeatNumbers
       → choice ≡ choice_of k o (stands_of k o f) (Leave numbers.seat next.Stay) known wish
       → IsGrown k o f (Leave numbers.seat choice) g
       → IsRelease k o (the me.0) f (Leave numbers.seat next.Stay) wish known choice home.Idle g
-  leaves h wish known choice g a is reads chosen grows = record {
-    release = (sym h.seated.is_seat, refl);
-    may = may_leave (monitor_of k o f) f.history numbers.seat (owns h) (is_near h);
-    left = has_left h 0 (let l = h.left in omega arith);
-    known_is = λ _. reads ∙ ap (λ (b : Holder). is_entry_known wish b.me.known) (sym is);
-    chosen = chosen;
-    is_grown = grows;
-  }
+  leaves h wish known choice g a is reads chosen grows = grind (arith, nat_tests)
 
   pub waits : IsHolding k o z me numbers f → (c : ℕ) → c < f.conds → has_conditions k.mode ≡ true
       → (wish : Pick) (known : Bool) (choice : Next) (g : FloorView) → (a : Holder) → holder z (the me.0) f ≡ a
@@ -77,15 +65,7 @@ module _ {k : Rules} {o : Object} {z : TableId} {me : Me} {numbers : SeatNumbers
       → choice ≡ choice_of k o (stands_of k o f) (Wait numbers.seat c next.Stay) known wish
       → IsGrown k o f (Wait numbers.seat c choice) g
       → IsRelease k o (the me.0) f (Wait numbers.seat c next.Stay) wish known choice home.Inner g
-  waits h c low has wish known choice g a is room reads chosen grows = record {
-    release = (sym h.seated.is_seat, refl);
-    may = may_wait (monitor_of k o f) f.history numbers.seat c (owns h) (is_near h) low has;
-    left = has_left h 2 (let more =
-        subst (λ (b : Holder). length b.me.mine + 3 ≤ b.me.setting.budget) (sym is) room in omega arith);
-    known_is = λ _. reads ∙ ap (λ (b : Holder). is_entry_known wish b.me.known) (sym is);
-    chosen = chosen;
-    is_grown = grows;
-  }
+  waits h c low has wish known choice g a is room reads chosen grows = grind (arith, nat_tests)
 
   pub signals : IsHolding k o z me numbers f → (c : ℕ) → c < f.conds → has_signaller_queue k.mode ≡ true
       → (wish : Pick) (known : Bool) (choice : Next) (g : FloorView) → (a : Holder) → holder z (the me.0) f ≡ a
@@ -95,15 +75,7 @@ module _ {k : Rules} {o : Object} {z : TableId} {me : Me} {numbers : SeatNumbers
       → choice ≡ choice_of k o (stands_of k o f) (Signal numbers.seat c next.Stay) known wish
       → IsGrown k o f (Signal numbers.seat c choice) g
       → IsRelease k o (the me.0) f (Signal numbers.seat c next.Stay) wish known choice home.Inner g
-  signals h c low has wish known choice g a is room reads chosen grows = record {
-    release = (sym h.seated.is_seat, refl);
-    may = may_signal_on (monitor_of k o f) f.history numbers.seat c (owns h) (is_near h) low has;
-    left = has_left h 2 (let more =
-        subst (λ (b : Holder). length b.me.mine + 3 ≤ b.me.setting.budget) (sym is) room in omega arith);
-    known_is = λ free. reads free ∙ ap (λ (b : Holder). is_entry_known wish b.me.known) (sym is);
-    chosen = chosen;
-    is_grown = grows;
-  }
+  signals h c low has wish known choice g a is room reads chosen grows = grind (arith, nat_tests)
 
   pub signals_and_leaves : IsHolding k o z me numbers f → (c : ℕ) → c < f.conds
       → returns_at_once k.mode ≡ true
@@ -112,14 +84,7 @@ module _ {k : Rules} {o : Object} {z : TableId} {me : Me} {numbers : SeatNumbers
       → choice ≡ choice_of k o (stands_of k o f) (SignalLeave numbers.seat c next.Stay) known wish
       → IsGrown k o f (SignalLeave numbers.seat c choice) g
       → IsRelease k o (the me.0) f (SignalLeave numbers.seat c next.Stay) wish known choice home.Idle g
-  signals_and_leaves h c low has wish known choice g a is reads chosen grows = record {
-    release = (sym h.seated.is_seat, refl);
-    may = may_signal_leave (monitor_of k o f) f.history numbers.seat c (owns h) (is_near h) low has;
-    left = has_left h 0 (let l = h.left in omega arith);
-    known_is = λ _. reads ∙ ap (λ (b : Holder). is_entry_known wish b.me.known) (sym is);
-    chosen = chosen;
-    is_grown = grows;
-  }
+  signals_and_leaves h c low has wish known choice g a is reads chosen grows = grind (arith, nat_tests)
 
   pub signals_and_waits : IsHolding k o z me numbers f → (c d : ℕ) → c < f.conds → d < f.conds
       → returns_at_once k.mode ≡ true → (wish : Pick) (known : Bool) (choice : Next) (g : FloorView)
@@ -128,15 +93,7 @@ module _ {k : Rules} {o : Object} {z : TableId} {me : Me} {numbers : SeatNumbers
       → choice ≡ choice_of k o (stands_of k o f) (SignalWait numbers.seat c d next.Stay) known wish
       → IsGrown k o f (SignalWait numbers.seat c d choice) g
       → IsRelease k o (the me.0) f (SignalWait numbers.seat c d next.Stay) wish known choice home.Inner g
-  signals_and_waits h c d low low_too has wish known choice g a is room reads chosen grows = record {
-    release = (sym h.seated.is_seat, refl);
-    may = may_signal_wait (monitor_of k o f) f.history numbers.seat c d (owns h) (is_near h) low low_too has;
-    left = has_left h 2 (let more =
-        subst (λ (b : Holder). length b.me.mine + 3 ≤ b.me.setting.budget) (sym is) room in omega arith);
-    known_is = λ _. reads ∙ ap (λ (b : Holder). is_entry_known wish b.me.known) (sym is);
-    chosen = chosen;
-    is_grown = grows;
-  }
+  signals_and_waits h c d low low_too has wish known choice g a is room reads chosen grows = grind (arith, nat_tests)
 
   pub waits_until : IsHolding k o z me numbers f → (p : ℕ) → p < o.predicates
       → not (has_conditions k.mode) ≡ true
@@ -147,15 +104,7 @@ module _ {k : Rules} {o : Object} {z : TableId} {me : Me} {numbers : SeatNumbers
       → choice ≡ choice_of k o (stands_of k o f) (Until numbers.seat p next.Stay) known wish
       → IsGrown k o f (Until numbers.seat p choice) g
       → IsRelease k o (the me.0) f (Until numbers.seat p next.Stay) wish known choice home.Inner g
-  waits_until h p low has wish known choice g a is room reads chosen grows = record {
-    release = (sym h.seated.is_seat, refl);
-    may = may_until (monitor_of k o f) f.history numbers.seat p (owns h) (is_near h) low has;
-    left = has_left h 2 (let more =
-        subst (λ (b : Holder). length b.me.mine + 3 ≤ b.me.setting.budget) (sym is) room in omega arith);
-    known_is = λ free. reads free ∙ ap (λ (b : Holder). is_entry_known wish b.me.known) (sym is);
-    chosen = chosen;
-    is_grown = grows;
-  }
+  waits_until h p low has wish known choice g a is room reads chosen grows = grind (arith, nat_tests)
 
   -- a seat that may park inside has events left for the way back
   pub room_inside : {call : Event} {wish : Pick} {known : Bool} {choice : Next} {g : FloorView}
@@ -265,8 +214,7 @@ peeked_none n a e = subst (λ m. HasPeeked m a a) (sym e)
 module _ {k : Rules} {o : Object} {z : TableId} {me : Me} {numbers : SeatNumbers} {f : FloorView} where
   pub has_cond : IsHolding k o z me numbers f → (c : ℕ) (a : Holder) → holder z (the me.0) f ≡ a
       → c < a.me.setting.conds → c < f.conds
-  has_cond h c a is low = let b = ap (λ (y : FloorView). y.conds) h.goes.is_floor in let here =
-      subst (λ (x : Holder). c < x.me.setting.conds) (sym is) low in omega arith
+  has_cond h c a is low = grind (arith, nat_tests)
 
 -- what is known if there is something to choose, for the floor in its hands
 pub must_known : {k : Rules} {o : Object} {z : TableId} {me : Me} {numbers : SeatNumbers} {f : FloorView}

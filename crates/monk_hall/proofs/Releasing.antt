@@ -1,5 +1,5 @@
 -- A release as the step of a world
-use Rattle.std.proofs.Common.{◌≡◌, ℕ, ◌+◌, ◌<◌, cond, Bool, true, false, sym, refl, ap, ◌∙◌, subst, arith}
+use Rattle.std.proofs.Common.{◌≡◌, ℕ, ◌+◌, ◌<◌, cond, true, false, sym, refl, ap, ◌∙◌, subst, arith}
 use Rattle.std.specs.Prelude.{Option, Some}
 use Rattle.monk_kinds.specs.{Kind.IsKind, declared.mode.Pick.Pick, declared.mode.Rules.Rules}
 use Rattle.monk_object.specs.Object.{Object}
@@ -22,26 +22,12 @@ use Rattle.monk_world.specs.declared.{command.Command.Command, home.Home.Home, s
 use Rattle.monk_world.specs.declared.place.Place.{Place, TheVariants.Active, TheVariants.Back}
 use Rattle.monk_hall.proofs.Frame.{step_kept, step_is}
 use Rattle.monk_hall.specs.{Changes.back_after, Laws.wish_of, Tells.IsReleaseTo}
+use Rattle.std.proofs.lemmas.Bool.Decides.{nat_tests}
 
 -- where the seat is after its release
 pub back_is : (i : ℕ) (to : Home) (call : Event) (x : Next) → IsReleaseTo i to call
     → back_after (Some (with_next x call)) ≡ Back x to
-back_is i to (Enter s via) x r = absurd r
-back_is i to (Act s op n) x r = absurd r
-back_is i home.Idle (Leave s y) x r = refl
-back_is i home.Inner (Leave s y) x r = absurd r
-back_is i home.Idle (Wait s c y) x r = absurd r
-back_is i home.Inner (Wait s c y) x r = refl
-back_is i home.Idle (Signal s c y) x r = absurd r
-back_is i home.Inner (Signal s c y) x r = refl
-back_is i home.Idle (SignalLeave s c y) x r = refl
-back_is i home.Inner (SignalLeave s c y) x r = absurd r
-back_is i home.Idle (Until s p y) x r = absurd r
-back_is i home.Inner (Until s p y) x r = refl
-back_is i to (Resume s q) x r = absurd r
-back_is i to (SignalAll s c) x r = absurd r
-back_is i home.Idle (SignalWait s c d y) x r = absurd r
-back_is i home.Inner (SignalWait s c d y) x r = refl
+back_is i to call x r = grind (arith, nat_tests)
 
 -- the seat whose call it is, and the seat that it names
 pub record IsSaid (i : ℕ) (call : Event) (x : Next) : Type 0 where
@@ -49,22 +35,7 @@ pub record IsSaid (i : ℕ) (call : Event) (x : Next) : Type 0 where
   pub chose : next_of (with_next x call) ≡ Some x
 
 pub said : (i : ℕ) (to : Home) (call : Event) (x : Next) → IsReleaseTo i to call → IsSaid i call x
-said i to (Enter s via) x r = absurd r
-said i to (Act s op n) x r = absurd r
-said i home.Idle (Leave s y) x r = record { seat = r.0; chose = refl }
-said i home.Inner (Leave s y) x r = absurd r
-said i home.Idle (Wait s c y) x r = absurd r
-said i home.Inner (Wait s c y) x r = record { seat = r.0; chose = refl }
-said i home.Idle (Signal s c y) x r = absurd r
-said i home.Inner (Signal s c y) x r = record { seat = r.0; chose = refl }
-said i home.Idle (SignalLeave s c y) x r = record { seat = r.0; chose = refl }
-said i home.Inner (SignalLeave s c y) x r = absurd r
-said i home.Idle (Until s p y) x r = absurd r
-said i home.Inner (Until s p y) x r = record { seat = r.0; chose = refl }
-said i to (Resume s q) x r = absurd r
-said i to (SignalAll s c) x r = absurd r
-said i home.Idle (SignalWait s c d y) x r = absurd r
-said i home.Inner (SignalWait s c d y) x r = record { seat = r.0; chose = refl }
+said i to call x r = grind (arith, nat_tests)
 
 module _ (k : Rules) (o : Object) (s : State) (seats conds : ℕ) (i : ℕ) (q : Source) (kind : IsKind k)
     (kept : IsKept k o seats conds s) (near : i < s.floor.seats) (active : s.world.place i ≡ Active q) where
@@ -81,25 +52,11 @@ module _ (k : Rules) (o : Object) (s : State) (seats conds : ℕ) (i : ℕ) (q :
 
   away : (x y : Next) (to : Home) (e : Event) → x ≡ y → is_stay (Some x) ≡ false
       → IsKept k o seats conds (by_table y to e) → IsKept k o seats conds (released x to e)
-  away x y to e same stay h =
-      subst (λ (b : Bool). IsKept k o seats conds
-      (record s {
-        world = cond b s.world (after_floor_in s.world i x to);
-        floor =
-            with_event s.floor (with_next x e);
-      })) stay
-      (subst (λ (z : Next). IsKept k o seats conds (by_table z to e)) (sym same) h)
+  away x y to e same stay h = grind (arith, nat_tests)
 
   away_step : (m : Command) (x y : Next) (to : Home) (e : Event) → x ≡ y → is_stay (Some x) ≡ false
       → IsStep k o s i m (answer.Chose y) (by_table y to e) → IsStep k o s i m (answer.Chose x) (released x to e)
-  away_step m x y to e same stay h =
-      subst (λ (b : Bool). IsStep k o s i m (answer.Chose x)
-      (record s {
-        world = cond b s.world (after_floor_in s.world i x to);
-        floor =
-            with_event s.floor (with_next x e);
-      })) stay
-      (subst (λ (z : Next). IsStep k o s i m (answer.Chose z) (by_table z to e)) (sym same) h)
+  away_step m x y to e same stay h = grind (arith, nat_tests)
 
   -- a release is a step of the world
   pub record IsTaken (to : Home) (wish : Pick) (x : Next) (e : Event) : Type 0 where

@@ -1,5 +1,5 @@
 -- Each step of the table keeps what holds for a schedule
-use Rattle.std.proofs.Common.{◌≡◌, ◌≢◌, ℕ, ◌⊎◌, cond, Bool, false, List, [], ◌∷◌, ◌++◌, length}
+use Rattle.std.proofs.Common.{◌≡◌, ◌≢◌, ℕ, ◌⊎◌, cond, Bool, false, List, [], ◌∷◌, ◌++◌, length, arith}
 use Rattle.std.proofs.Common.{sym, refl, ap, subst, ◌∙◌, inl, inr, ⊎_elim, eq-eqb, ne_eqb, append-nil}
 use Rattle.std.proofs.lemmas.{Bool.Decides.eqb_tells, Option.none-some}
 use Rattle.std.specs.Prelude.{Option, Some, None, slice_index}
@@ -21,6 +21,7 @@ use Rattle.monk_hall.specs.Schedules.{Step, By, after_step, brought, deeds_by, d
 use Rattle.monk_hall.specs.Deeds.{brings, brought_home, knows, knows_after}
 use Rattle.monk_hall.specs.Laws.{HallState, IsRecord, first_word}
 use Rattle.monk_hall.specs.declared.{deed.Deed.Deed, record.SeatRecord.SeatRecord, setting.Setting.Setting}
+use Rattle.std.proofs.lemmas.Bool.Decides.{nat_tests}
 
 -- the ticket by which a seat came in, if it came by one
 abbrev pub ticket_by : Source → Option ℕ
@@ -114,12 +115,7 @@ module _ (k : Rules) (o : Object) (c : Setting) (steps : List Step) (s : HallSta
       (at_set s.views id y.id (w ∷ []) y.view y.at)
 
   own_in : (j : ℕ) → AreOf r.seat (brings d) → events_of (brings d) j ≡ brought_home (deeds_in j x)
-  own_in j own = elim (eqb_tells r.seat j) [
-    | inl e ↦ subst (λ (n : ℕ). events_of (brings d) n ≡ brings d) e.1 (own_all r.seat (brings d) own)
-        ∙ sym (append-nil (brings d)) ∙ ap (λ (b : Bool). brought_home (cond b (d ∷ []) [])) (sym e.0)
-    | inr ne ↦ own_none r.seat j (brings d) ne.1 own
-        ∙ ap (λ (b : Bool). brought_home (cond b (d ∷ []) [])) (sym ne.0)
-  ]
+  own_in j own = grind (arith, nat_tests, eqb_tells, own_all, append-nil, own_none)
 
   pub led_after : (w : SeatRecord) (ws : List ℕ) (hs : Homes) → IsMade w ws hs
       → IsLed k o c (steps ++ x ∷ []) (after_step s id ws hs w)

@@ -8,6 +8,7 @@ use Rattle.monk_world.proofs.PublicLaws.{at_update, update_here, update_else}
 use Rattle.monk_world.specs.Update.{update}
 use Rattle.monk_hall.specs.{Rule.AreShown, declared.record.SeatRecord.SeatRecord, declared.setting.Setting.Setting}
 use Rattle.monk_hall.specs.Records.{View, In, Distinct}
+use Rattle.std.proofs.lemmas.Bool.Decides.{nat_tests}
 
 pub long : {A : Type 0} (l : List A) (i : ℕ) (a : A) → get_elem? l i ≡ some a → i < length l
 long [] i a e = absurd cc
@@ -15,8 +16,7 @@ long (x ∷ xs) zero a e = omega arith
 long (x ∷ xs) (suc i) a e = let l = long xs i a e in omega arith
 
 pub only : (x w : SeatRecord) → In x (w ∷ []) → x ≡ w
-only x w (inl e) = e
-only x w (inr h) = absurd h
+only x w h = grind (arith, nat_tests)
 
 module _ (c : Setting) (views : List View) (at : ℕ → SeatRecord) (s : AreShown c views at) (id : ℕ) (r : SeatRecord)
     (here : get_elem? views id ≡ some (r ∷ [])) where

@@ -1,5 +1,5 @@
 -- What tokens keep through a look, and through an event of the active seat
-use Rattle.std.proofs.Common.{◌≡◌, ℕ, ◌+◌, ◌<◌, ◌≤◌, ◌==◌, Bool, true, false, List, [], ◌∷◌, ◌++◌}
+use Rattle.std.proofs.Common.{◌≡◌, ℕ, ◌+◌, ◌<◌, ◌≤◌, true, false, List, [], ◌∷◌, ◌++◌}
 use Rattle.std.proofs.Common.{length, append-nil, append_assoc, refl, sym, ap, subst, ◌∙◌, arith}
 use Rattle.atomic_table.specs.Seated.{TableId}
 use Rattle.monk_kinds.specs.declared.mode.Rules.{Rules}
@@ -10,17 +10,17 @@ use Rattle.monk_history.specs.Meaning.{Reasons.IsAllowed, Turn.turn, Turn.turn_b
 use Rattle.monk_history.specs.declared.event.{Event.Event, Turn.TheVariants.Owned}
 use Rattle.monk_floor.specs.View.{FloorView, monitor_of}
 use Rattle.monk_world.specs.{Places.stage, Places.due_stage, State.with_event, StepTable.out_event}
-use Rattle.monk_world.specs.Steps.{place_after_ticket_look, place_after_seat_look}
 use Rattle.monk_world.specs.declared.place.Place.{Place}
-use Rattle.monk_world.specs.declared.place.Place.TheVariants.{Idle, Ticket, Due, Active, Back, Passing, Inner}
-use Rattle.monk_world.specs.declared.source.Source.{Source, TheVariants.Granted, TheVariants.Called}
+use Rattle.monk_world.specs.declared.place.Place.TheVariants.{Due, Active}
+use Rattle.monk_world.specs.declared.source.Source.{Source}
 use Rattle.monk_hall.proofs.{Private.own_event, EntrySteps.own_longer, EntrySteps.own_more}
 use Rattle.monk_hall.specs.{Changes.source_from, Deeds.look_at, Floors.GoesOn, Layout.floor_of, Records.the, Tells.Me}
 use Rattle.monk_hall.specs.Tokens.{Token, Holder, IsHolding, holder}
 use Rattle.monk_hall.specs.Calls.{ComesAfter, HasEntered, HasDone, HasLooked, record_after_look}
 use Rattle.monk_hall.specs.declared.{record.SeatRecord.SeatRecord, seat_numbers.SeatNumbers.SeatNumbers}
 use Rattle.monk_hall.specs.declared.deed.Deed.{Deed}
-use Rattle.monk_hall.specs.declared.deed.Deed.TheVariants.{LookForTicket, LookForCall, FloorOut}
+use Rattle.monk_hall.specs.declared.deed.Deed.TheVariants.{FloorOut}
+use Rattle.std.proofs.lemmas.Bool.Decides.{nat_tests}
 
 -- what a look doesn't change
 pub record IsAsBefore (r w : SeatRecord) : Type 0 where
@@ -30,59 +30,16 @@ pub record IsAsBefore (r w : SeatRecord) : Type 0 where
   pub mine : w.mine ≡ r.mine
 
 look_leaves : (p : Place) (r : SeatRecord) (found : ℕ) → IsAsBefore r (record_after_look p r found)
-look_leaves Idle r found =
-    record { seat = refl; setting = refl; seen = refl; mine = refl }
-look_leaves (Ticket t) r found =
-    record { seat = refl; setting = refl; seen = refl; mine = refl }
-look_leaves (Due q) r found =
-    record { seat = refl; setting = refl; seen = refl; mine = refl }
-look_leaves (Active q) r found =
-    record { seat = refl; setting = refl; seen = refl; mine = refl }
-look_leaves (Back x to) r found =
-    record { seat = refl; setting = refl; seen = refl; mine = refl }
-look_leaves (Passing t to) r found =
-    record { seat = refl; setting = refl; seen = refl; mine = refl }
-look_leaves Inner r found =
-    record { seat = refl; setting = refl; seen = refl; mine = refl }
+look_leaves p r found = grind (arith, nat_tests)
 
 -- a seat that is due after its look has found its grant, if it had to look
 looked_due : (p : Place) (r : SeatRecord) (found : ℕ) → stage (record_after_look p r found).place ≡ due_stage
     → (record_after_look p r found).did ≡ r.did ++ look_at p true
-looked_due Idle r found e = sym (append-nil r.did)
-looked_due (Ticket t) r found e = by_found (found == t + 1) e
-  where
-    by_found : (b : Bool) → stage (place_after_ticket_look t b) ≡ due_stage
-        → r.did ++ LookForTicket b ∷ [] ≡ r.did ++ LookForTicket true ∷ []
-    by_found true e = refl
-    by_found false e = absurd (omega arith)
-looked_due (Due q) r found e = sym (append-nil r.did)
-looked_due (Active q) r found e = sym (append-nil r.did)
-looked_due (Back x to) r found e = sym (append-nil r.did)
-looked_due (Passing t to) r found e = sym (append-nil r.did)
-looked_due Inner r found e = by_found (found == r.count + 1) e
-  where
-    by_found : (b : Bool) → stage (place_after_seat_look b) ≡ due_stage
-        → r.did ++ LookForCall b ∷ [] ≡ r.did ++ LookForCall true ∷ []
-    by_found true e = refl
-    by_found false e = absurd (omega arith)
-
-came_looked : (t : ℕ) (b : Bool) → source_from (place_after_ticket_look t b) ≡ Granted t
-came_looked t true = refl
-came_looked t false = refl
-
-came_answered : (b : Bool) → source_from (place_after_seat_look b) ≡ Called
-came_answered true = refl
-came_answered false = refl
+looked_due p r found e = grind (arith, nat_tests, append-nil)
 
 came_same : (p : Place) (r : SeatRecord) (found : ℕ) → r.place ≡ p
     → source_from (record_after_look p r found).place ≡ source_from p
-came_same Idle r found at = ap source_from at
-came_same (Ticket t) r found at = came_looked t (found == t + 1)
-came_same (Due q) r found at = ap source_from at
-came_same (Active q) r found at = ap source_from at
-came_same (Back x to) r found at = ap source_from at
-came_same (Passing t to) r found at = ap source_from at
-came_same Inner r found at = came_answered (found == r.count + 1)
+came_same p r found at = grind (arith, nat_tests)
 
 module _ {k : Rules} {o : Object} where
   -- a seat that looked and became active

@@ -1,6 +1,6 @@
 -- The judge's run is, but for the wake-ups that nobody sent, what its lines ask for. These come just before their
 -- threads come back
-use Rattle.std.proofs.Common.{◌≡◌, ℕ, zero, suc, ◌+◌, ◌<◌, ◌≤◌, Bool, true, false, List, [], ◌∷◌, ◌++◌, Option, None, length, get_or, drop, arith, refl, sym, ap, subst, ◌∙◌}
+use Rattle.std.proofs.Common.{◌≡◌, ℕ, zero, suc, ◌+◌, ◌<◌, ◌≤◌, Bool, true, false, List, [], ◌∷◌, ◌++◌, Option, None, length, get_or, drop, arith, refl, sym, ap, ◌∙◌}
 use Rattle.std.proofs.lemmas.List.{append-nil, append_assoc}
 use Rattle.monk_logs.specs.Log.{line_seat}
 use Rattle.monk_logs.specs.declared.text.line.LogLine.{LogLine}
@@ -12,6 +12,7 @@ use Rattle.monk_judge.specs.Run.{Setting, State}
 use Rattle.monk_judge.specs.declared.place.Place.{Place}
 use Rattle.monk_judge.specs.declared.place.Place.TheVariants.{Outside, Active, Waiting, Woken, RanOut}
 use Rattle.monk_judge.specs.declared.step.Step.{Step, TheVariants.Tells, TheVariants.RunsOut, TheVariants.WakesUnasked}
+use Rattle.std.proofs.lemmas.Bool.Decides.{nat_tests}
 
 asked_on : (a b : List Step) → asked (a ++ b) ≡ asked a ++ asked b
 asked_on [] b = refl
@@ -19,29 +20,10 @@ asked_on (Tells l w ∷ a) b = ap (λ k. Tells l None ∷ k) (asked_on a b)
 asked_on (RunsOut s ∷ a) b = ap (λ k. RunsOut s ∷ k) (asked_on a b)
 asked_on (WakesUnasked s ∷ a) b = asked_on a b
 
-asked_waking : (s : ℕ) (p : Place) → asked (waking s p ++ Tells (Resume s) None ∷ []) ≡ Tells (Resume s) None ∷ []
-asked_waking s Outside = refl
-asked_waking s Active = refl
-asked_waking s (Waiting c) = refl
-asked_waking s (Woken c) = refl
-asked_waking s (RanOut c) = refl
-
-asked_out : (s : ℕ) (b : Bool) → asked (running_out s b) ≡ running_out s b
-asked_out s true = refl
-asked_out s false = refl
-
 -- the steps of a line
 asked_line : (m : Setting) (x : State) (l : LogLine) (w : Option ℕ) (lapses : Bool) → CanStand m x l
     → asked (steps_at x l w lapses) ≡ asked_of l lapses
-asked_line m x (Enter s) w lapses h = refl
-asked_line m x (Resume s) w lapses h = asked_waking s (x.place s)
-asked_line m x (Lapse s) w lapses h = refl
-asked_line m x (Leave s) w lapses h = refl
-asked_line m x (Wait s c) w lapses h = ap (λ k. Tells (Wait s c) None ∷ k) (asked_out s lapses)
-asked_line m x (Signal s c) w lapses h = refl
-asked_line m x (Broadcast s c) w lapses h = refl
-asked_line m x (Until s p) w lapses h = absurd h
-asked_line m x (Act s op r) w lapses h = refl
+asked_line m x l w lapses h = grind (arith, nat_tests)
 
 -- what one more line asks for
 by_next : (lines : List LogLine) (i : ℕ) → i < length lines
@@ -72,15 +54,7 @@ pub asked_next : (m : Setting) (x : State) (lines : List LogLine) (i : ℕ) (ste
     → lapses ≡ lapses_next (line_seat (get_or lines i (Enter 0))) (drop (i + 1) lines)
     → asked steps ≡ asked_by i lines
     → asked (steps ++ steps_at x (get_or lines i (Enter 0)) w lapses) ≡ asked_by (i + 1) lines
-asked_next m x lines i steps w lapses lt stands ends was =
-    let l = get_or lines i (Enter 0) in
-    let next : i + 1 ≡ suc i = omega arith in
-    asked_on steps (steps_at x l w lapses)
-    ∙ ap (λ k. asked steps ++ k) (asked_line m x l w lapses stands)
-    ∙ ap (λ k. k ++ asked_of l lapses) was
-    ∙ ap (λ b. asked_by i lines ++ asked_of l b) ends
-    ∙ subst (λ n. asked_by i lines ++ asked_of l (lapses_next (line_seat l) (drop n lines)) ≡ asked_by n lines)
-    (sym next) (sym (by_next lines i lt))
+asked_next m x lines i steps w lapses lt stands ends was = grind (arith, nat_tests, asked_on, asked_line, by_next)
 
 -- ---- who wakes unasked comes back at once
 

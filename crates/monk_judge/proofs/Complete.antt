@@ -12,6 +12,7 @@ use Rattle.monk_judge.specs.declared.step.Step.{Step}
 use Rattle.monk_judge.specs.declared.step.Step.TheVariants.{Tells}
 use Rattle.monk_judge.specs.Judged.{CanResume, CanStand, IsRight, after_all, running_out, steps_at, waking}
 use Rattle.monk_judge.specs.Ends.{lapses_next}
+use Rattle.std.proofs.lemmas.Bool.Decides.{nat_tests}
 
 -- where a thread is, as far as lines alone say
 abbrev pub class : Place → Place
@@ -40,19 +41,19 @@ pub record Follows (x y : State) (rest : List LogLine) : Type 0 where
 -- ---- places
 
 class_woken : (c : ℕ) (p : Place) → class (woken c p) ≡ class p
-class_woken c p = grind (arith)
+class_woken c p = grind arith
 
 pub class_out : (p : Place) → class (run_out p) ≡ class p
-class_out p = grind (arith)
+class_out p = grind arith
 
 pub class_unasked : (p : Place) → class (woken_unasked p) ≡ class p
-class_unasked p = grind (arith)
+class_unasked p = grind arith
 
 foreseen_woken : (c : ℕ) (p : Place) (b : Bool) → Foreseen p b → Foreseen (woken c p) b
-foreseen_woken c p b h = grind (arith)
+foreseen_woken c p b h = grind arith
 
 is_outside : (p : Place) → class p ≡ Outside → p ≡ Outside
-is_outside p e = grind (arith)
+is_outside p e = grind arith
 
 can_resume : (p q : Place) → class p ≡ class q → IsWoken q → Foreseen p false → CanResume p
 can_resume p Outside e h k = absurd h
@@ -84,14 +85,12 @@ next_is s l rest e = ap (λ b. if b then is_lapse l else lapses_next s rest) (eq
 
 placed : (s : ℕ) (p q : Place) (f g : ℕ → Place) → class p ≡ class q → ((j : ℕ) → class (f j) ≡ class (g j))
     → (j : ℕ) → class (with_place s p f j) ≡ class (with_place s q g j)
-placed s p q f g e h j = elim (j == s) as (λ b. class (if b then p else f j) ≡ class (if b then q else g j))
-    [ true ↦ e | false ↦ h j ]
+placed s p q f g e h j = grind (arith, nat_tests)
 
 -- the places are as before, as far as lines say
 same_class_by : (j s : ℕ) (p : Place) (f : ℕ → Place) (b : Bool) → (j == s) ≡ b → class p ≡ class (f s)
     → class (if b then p else f j) ≡ class (f j)
-same_class_by j s p f true e h = h ∙ ap (λ k. class (f k)) (sym (eqb-true j s e))
-same_class_by j s p f false e h = refl
+same_class_by j s p f b e h = grind (arith, nat_tests)
 
 same_class : (s : ℕ) (p : Place) (f : ℕ → Place) → class p ≡ class (f s) → (j : ℕ)
     → class (with_place s p f j) ≡ class (f j)
@@ -125,8 +124,7 @@ foreseen_past s f such rest here h j = foreseen_past_by j s f such rest (j == s)
 
 signalled_class : (x : State) (c : ℕ) (w : Option ℕ) → WakesRightly x c w → (j : ℕ)
     → class (signalled c w x.place j) ≡ class (x.place j)
-signalled_class x c None h j = refl
-signalled_class x c (Some k) h j = same_class k (Woken c) x.place (ap class (sym h)) j
+signalled_class x c w h j = grind (arith, nat_tests)
 
 signalled_foreseen_by : (x : State) (c k j : ℕ) (n b : Bool) → (j == k) ≡ b → x.place k ≡ Waiting c
     → Foreseen (x.place j) n
@@ -141,15 +139,9 @@ signalled_foreseen : (x : State) (c : ℕ) (w : Option ℕ) → WakesRightly x c
 signalled_foreseen x c None h j n f = f
 signalled_foreseen x c (Some k) h j n f = signalled_foreseen_by x c k j n (j == k) refl h f
 
-signalled_active_by : (x : State) (c k j : ℕ) (b : Bool) → (j == k) ≡ b → x.place k ≡ Waiting c → x.place j ≡ Active
-    → (if b then Woken c else x.place j) ≡ Active
-signalled_active_by x c k j true e h a = let same : x.place j ≡ x.place k = ap x.place (eqb-true j k e) in cc
-signalled_active_by x c k j false e h a = a
-
 signalled_active : (x : State) (c : ℕ) (w : Option ℕ) → WakesRightly x c w → (j : ℕ) → x.place j ≡ Active
     → signalled c w x.place j ≡ Active
-signalled_active x c None h j a = a
-signalled_active x c (Some k) h j a = signalled_active_by x c k j (j == k) refl h a
+signalled_active x c w h j a = grind (arith, nat_tests)
 
 -- a thread that may signal is outside or active
 pub sender_here : (m : Setting) (x y : State) (rest : List LogLine) (s c : ℕ) → Follows x y rest → MaySignal m y s c
@@ -203,8 +195,7 @@ can_stand m x y (Act s op r) w rest f h = (
 
 -- the thread takes the lock in both runs
 active_by : (j s : ℕ) (p : Place) (b : Bool) → (j == s) ≡ b → s ≡ j → (if b then Active else p) ≡ Active
-active_by j s p true e same = refl
-active_by j s p false e same = absurd (false≢true (sym e ∙ eq-eqb j s (sym same)))
+active_by j s p b e same = grind (arith, nat_tests)
 
 some_same : (s j : ℕ) → Some s ≡ Some j → s ≡ j
 some_same s j e = cc

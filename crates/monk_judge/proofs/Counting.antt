@@ -2,14 +2,13 @@
 use Rattle.std.proofs.Common.{◌≡◌, ℕ, zero, suc, ◌+◌, ◌<◌, ◌≤◌, ◌⊎◌, inl, inr, Bool, true, false, refl, ap, arith}
 use Rattle.std.proofs.lemmas.Bool.{cases_Bool}
 use Rattle.monk_judge.specs.Counts.{count, one}
+use Rattle.std.proofs.lemmas.Bool.Decides.{nat_tests}
 
 pub one_most : (b : Bool) → one b ≤ 1
-one_most true = omega arith
-one_most false = omega arith
+one_most b = grind (arith, nat_tests)
 
 pub count_same : (f g : ℕ → Bool) (n : ℕ) → ((j : ℕ) → f j ≡ g j) → count f n ≡ count g n
-count_same f g zero h = refl
-count_same f g (suc n) h = let a = count_same f g n h in let b : one (f n) ≡ one (g n) = ap one (h n) in omega arith
+count_same f g n h = grind (arith, nat_tests)
 
 -- the two tests differ at one number at most
 by_eq : (s n : ℕ) → (n ≡ s) ⊎ (n ≡ s → ⊥)

@@ -6,6 +6,7 @@ use Rattle.monk_judge.specs.{Judged.after_all, Run.Setting, Run.State, Run.IsRun
 use Rattle.monk_judge.specs.Followed.{behind_lines, left_by, places_below, telling}
 use Rattle.monk_judge.specs.declared.place.Place.{Place, TheVariants.Outside}
 use Rattle.monk_judge.specs.declared.step.Step.{Step, TheVariants.Tells, TheVariants.RunsOut, TheVariants.WakesUnasked}
+use Rattle.std.proofs.lemmas.Bool.Decides.{nat_tests}
 
 -- ---- places as a list
 
@@ -44,15 +45,11 @@ pub record IsCut (lines : ℕ) (steps : List Step) (i left : ℕ) : Type 0 where
 
 first_on : (n : ℕ) (step : Step) (rest : List Step)
     → telling (suc n) (step ∷ rest) ≡ step ∷ telling (left_by step n) rest
-first_on n (Tells l w) rest = refl
-first_on n (RunsOut s) rest = refl
-first_on n (WakesUnasked s) rest = refl
+first_on n step rest = grind (arith, nat_tests)
 
 behind_on : (n : ℕ) (step : Step) (rest : List Step)
     → behind_lines (suc n) (step ∷ rest) ≡ behind_lines (left_by step n) rest
-behind_on n (Tells l w) rest = refl
-behind_on n (RunsOut s) rest = refl
-behind_on n (WakesUnasked s) rest = refl
+behind_on n step rest = grind (arith, nat_tests)
 
 pub cut_goes_on : (lines : ℕ) (steps : List Step) (i n left : ℕ) (d : Step) → i < length steps → left ≡ suc n
     → IsCut lines steps i left → IsCut lines steps (i + 1) (left_by (get_or steps i d) n)
@@ -70,12 +67,10 @@ cut_goes_on lines steps i n left d lt some was =
     }
 
 none_first : (n : ℕ) → telling n [] ≡ []
-none_first zero = refl
-none_first (suc n) = refl
+none_first n = grind (arith, nat_tests)
 
 none_behind : (n : ℕ) → behind_lines n [] ≡ []
-none_behind zero = refl
-none_behind (suc n) = refl
+none_behind n = grind (arith, nat_tests)
 
 pub cut_ends : (lines : ℕ) (steps : List Step) (i left : ℕ) → length steps ≤ i → IsCut lines steps i left
     → (steps ≡ telling lines steps) × ([] ≡ behind_lines lines steps)

@@ -11,17 +11,16 @@ use Rattle.monk_judge.proofs.Among.{first_here, first_skip, here_or_below}
 use Rattle.monk_judge.proofs.Nexts.{HasNext, at_last, goes_by, next_kept, on_kept, overtaken_kept}
 use Rattle.monk_judge.specs.{declared.overtaking.Back.Back, declared.overtaking.Hints.Hints, Among.AreMany}
 use Rattle.monk_judge.specs.{Among.NamesFirst, Holding.takes_lock, Moments.Moment, Moments.moment, Run.State}
-use Rattle.monk_judge.specs.Overtaken.{GoesOn, GoesOnBy, IsOvertaken, IsOvertakenOn, WaitsAgain, is_refused, seat_at}
+use Rattle.monk_judge.specs.Overtaken.{GoesOn, GoesOnBy, IsOvertaken, IsOvertakenOn, WaitsAgain, seat_at}
 use Rattle.monk_judge.specs.Hints.{Answers, ComesBack, AnswersOwn, AnswersBy, first_of, passed_of}
+use Rattle.std.proofs.lemmas.Bool.Decides.{nat_tests}
 
 -- ---- who is back after the line
 
 -- a refused act doesn't change the lock
 lock_kept : (l : LogLine) (x y : State) (s : ℕ) → Moves x l y → takes_lock l ≡ false → x.lock ≡ Some s
     → (GoesOnBy l s → ⊥) → y.lock ≡ Some s
-lock_kept l x y s moves frees lock other =
-    elim (cases_Bool (is_refused l)) as (λ z. y.lock ≡ Some s)
-    [ inl refused ↦ moves.refused refused ∙ lock | inr done ↦ moves.held frees s lock (λ same. other (same, done)) ]
+lock_kept l x y s moves frees lock other = grind (arith, nat_tests)
 
 none_some : (s : ℕ) (A : Type 0) → None ≡ Some s → A
 none_some s A h = cc
@@ -155,17 +154,13 @@ half_by log all t l x y h mid (Some b) back is moves was goes =
 -- the counts are no greater than the number of lines
 pub hinted_few : (log : List LogLine) (all : List Moment) (x : State) (h : Hints) → Hinted log all x h
     → (h.many ≤ length all) × (h.again ≤ length all)
-hinted_few log all x h was = (
-  many_within (λ k. IsOvertaken log all k) (length all) h.many was.counts.many,
-  many_within (λ k. WaitsAgain log all k) (length all) h.again was.counts.again,
-)
+hinted_few log all x h was = grind (arith, nat_tests, many_within)
 
 suc_many : (all : List Moment) (t : Moment) → suc (length all) ≡ length (all ++ t ∷ [])
 suc_many all t = let m = more_many all t in omega arith
 
 last_not_again : (log : List LogLine) (all : List Moment) (t : Moment) → WaitsAgain log (all ++ t ∷ []) (length all) → ⊥
-last_not_again log all t w =
-    let m = more_many all t in let a = w.next.behind in let b = w.next.within in absurd (omega arith)
+last_not_again log all t w = omega (arith, more_many)
 
 not_back : (log : List LogLine) (all : List Moment) (t : Moment) (y : State) (mid : Hints) → Half log all t y mid
     → (IsOvertaken log (all ++ t ∷ []) (length all) → ⊥) → Hinted log (all ++ t ∷ []) y mid
@@ -249,10 +244,7 @@ comes log all t l x y mid new c is moves takes half none on does =
 free_back : (log : List LogLine) (all : List Moment) (x : State) (l : LogLine) (h mid : Hints) (found : Option Back)
     → h.back ≡ found
     → x.lock ≡ None → Hinted log all x h → AnswersBy l found h mid → mid.back ≡ None
-free_back log all x l h mid None back free was goes = ap (λ k. k.back) goes ∙ back
-free_back log all x l h mid (Some b) back free was goes =
-    let at : BackAt log all x b = subst (λ o. IsBack log all x o) back was.back in
-    none_some b.seat _ (sym free ∙ at.lock)
+free_back log all x l h mid found back free was goes = grind (arith, nat_tests)
 
 pub hinted_half : (log : List LogLine) (all : List Moment) (t : Moment) (l : LogLine) (x y : State) (h mid : Hints)
     → t.line ≡ l → Moves x l y → Hinted log all x h → AnswersOwn l h mid → Half log all t y mid

@@ -1,6 +1,5 @@
 -- The thread that has the lock is the one that took it last
-use Rattle.std.proofs.Common.{◌≡◌, ℕ, zero, suc, ◌<◌, ◌⊎◌, inl, inr, true, false, List, [], ◌∷◌, Option, Some, None, length, get_or, refl, sym, ap, subst, arith, ◌∙◌}
-use Rattle.std.proofs.lemmas.Bool.{false≢true}
+use Rattle.std.proofs.Common.{◌≡◌, ℕ, zero, suc, ◌<◌, ◌⊎◌, inl, inr, true, false, List, [], ◌∷◌, Option, Some, None, length, get_or, refl, arith}
 use Rattle.monk_logs.specs.Log.{line_seat}
 use Rattle.monk_logs.specs.declared.text.line.LogLine.{LogLine}
 use Rattle.monk_logs.specs.declared.text.line.LogLine.TheVariants.{Enter, Resume, Lapse, Leave, Wait, Signal, Broadcast}
@@ -9,6 +8,7 @@ use Rattle.monk_judge.proofs.Complete.{no_lock}
 use Rattle.monk_judge.specs.{Judged.after_all, Run.Setting, Run.State, Run.after, Run.lines_of, Run.opening}
 use Rattle.monk_judge.specs.Holding.{IsHolder, NamesLastTaking, holder_by, takes_lock}
 use Rattle.monk_judge.specs.declared.step.Step.{Step, TheVariants.Tells, TheVariants.RunsOut, TheVariants.WakesUnasked}
+use Rattle.std.proofs.lemmas.Bool.Decides.{nat_tests}
 
 -- nobody takes the lock in these lines
 abbrev NoneTakes : List LogLine → Type 0
@@ -32,8 +32,7 @@ none_more l lines h none (suc k) lt = none k (omega arith)
 
 last_more : (l : LogLine) (lines : List LogLine) (s : ℕ) (took : TookLast lines s)
     → (k : ℕ) → suc took.at < k → k < length (l ∷ lines) → takes_lock (get_or (l ∷ lines) k (Enter 0)) ≡ false
-last_more l lines s took zero gt lt = absurd (omega arith)
-last_more l lines s took (suc k) gt lt = took.last k (omega arith) (omega arith)
+last_more l lines s took k gt lt = grind (arith, nat_tests)
 
 later : (l : LogLine) (lines : List LogLine) (s : ℕ) → TookLast lines s → TookLast (l ∷ lines) s
 later l lines s took = record {
@@ -46,8 +45,7 @@ later l lines s took = record {
 
 first_last : (l : LogLine) (lines : List LogLine) → NoneTakes lines
     → (k : ℕ) → 0 < k → k < length (l ∷ lines) → takes_lock (get_or (l ∷ lines) k (Enter 0)) ≡ false
-first_last l lines none zero gt lt = absurd (omega arith)
-first_last l lines none (suc k) gt lt = none k (omega arith)
+first_last l lines none k gt lt = grind (arith, nat_tests)
 
 some_is : (j s : ℕ) → Some j ≡ Some s → j ≡ s
 some_is j s e = cc
@@ -107,20 +105,10 @@ took_last m d steps s h =
 
 -- ---- in the words of the report
 
-which : (j k : ℕ) → (j ≡ k) ⊎ (j < k) ⊎ (k < j)
-which j k = grind arith
-
 -- the last line that is named is that seat's
 last_is : (lines : List LogLine) (s k : ℕ) → TookLast lines s → NamesLastTaking lines (Some k)
     → line_seat (get_or lines k (Enter 0)) ≡ s
-last_is lines s k took named =
-    elim (which k took.at) as (λ z. line_seat (get_or lines k (Enter 0)) ≡ s) [
-      | inl same ↦ ap (λ j. line_seat (get_or lines j (Enter 0))) same ∙ took.seat
-      | inr other ↦ elim other as (λ z. line_seat (get_or lines k (Enter 0)) ≡ s) [
-        | inl less ↦ absurd (named.2 took.at less took.within took.takes)
-        | inr more ↦ absurd (false≢true (sym (took.last k more named.0) ∙ named.1))
-      ]
-    ]
+last_is lines s k took named = grind (arith, nat_tests)
 
 holder_of : (lines : List LogLine) (lock found : Option ℕ) → ((s : ℕ) → lock ≡ Some s → TookLast lines s)
     → NamesLastTaking lines found → IsHolder lines lock (holder_by lock found)
@@ -133,7 +121,4 @@ holder_of lines (Some s) (Some k) took named = (refl, named, last_is lines s k (
 pub holder_is : (m : Setting) (d : List ℕ) (steps : List Step) (lines : List LogLine) (lock found : Option ℕ)
     → lines_of steps ≡ lines → lock ≡ (after_all m (opening d) steps).lock → NamesLastTaking lines found
     → IsHolder lines (after_all m (opening d) steps).lock (holder_by lock found)
-holder_is m d steps lines lock found told same named =
-    subst (λ k. IsHolder lines k (holder_by lock found)) same
-    (holder_of lines lock found
-    (λ s is. subst (λ k. TookLast k s) told (took_last m d steps s (sym same ∙ is))) named)
+holder_is m d steps lines lock found told same named = grind (arith, nat_tests, holder_of, took_last)

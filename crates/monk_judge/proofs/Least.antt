@@ -3,14 +3,14 @@ use Rattle.std.proofs.Common.{◌≡◌, ℕ, zero, suc, ◌+◌, ◌<◌, ◌�
 use Rattle.std.proofs.lemmas.Bool.{cases_Bool, eq-eqb, eqb-true, false≢true, ne_eqb}
 use Rattle.monk_logs.specs.Log.{is_lapse, line_seat}
 use Rattle.monk_logs.specs.declared.text.line.LogLine.{LogLine}
-use Rattle.monk_logs.specs.declared.text.line.LogLine.TheVariants.{Enter, Resume, Lapse, Leave, Wait, Signal, Broadcast}
-use Rattle.monk_logs.specs.declared.text.line.LogLine.TheVariants.{Until, Act}
+use Rattle.monk_logs.specs.declared.text.line.LogLine.TheVariants.{Resume}
 use Rattle.monk_judge.proofs.{LinesAhead.past_other, LinesAhead.past_own, Complete.Foreseen}
 use Rattle.monk_judge.proofs.Counting.{count_below, count_drop, count_moved, count_none, count_same, count_some, lt_or}
 use Rattle.monk_judge.specs.{Run.Sleeps, Run.run_out, Run.woken, Run.woken_unasked, Run.with_place, Counts.count}
 use Rattle.monk_judge.specs.{Counts.one, Counts.waits_on, Ends.is_resume, Ends.lapses_next, Ends.resumes_within}
 use Rattle.monk_judge.specs.declared.place.Place.{Place}
 use Rattle.monk_judge.specs.declared.place.Place.TheVariants.{Outside, Active, Waiting, Woken, RanOut}
+use Rattle.std.proofs.lemmas.Bool.Decides.{nat_tests}
 
 -- whether a thread in that place came to sleep on the condition and wasn't woken
 abbrev pub asleep_on : ℕ → Place → Bool
@@ -25,27 +25,20 @@ abbrev pub due : ℕ → (ℕ → Place) → ℕ → List LogLine → ℕ → Bo
 due c place d lines j = asleep_on c (place j) && resumes_within j d lines
 
 and_false : (b : Bool) → (b && false) ≡ false
-and_false true = refl
-and_false false = refl
+and_false b = grind (arith, nat_tests)
 
 and_true : (b : Bool) → (b && true) ≡ b
-and_true true = refl
-and_true false = refl
+and_true b = grind (arith, nat_tests)
 
 -- ---- silent steps of the other run
 
 pub asleep_out : (c : ℕ) (p : Place) → asleep_on c (run_out p) ≡ asleep_on c p
-asleep_out c Outside = refl
-asleep_out c Active = refl
-asleep_out c (Waiting e) = refl
-asleep_out c (Woken e) = refl
-asleep_out c (RanOut e) = refl
+asleep_out c p = grind (arith, nat_tests)
 
 with_same_by : (j s : ℕ) (p : Place) (f : ℕ → Place) (c : ℕ) (b : Bool) → (j == s) ≡ b
     → asleep_on c p ≡ asleep_on c (f s)
     → asleep_on c (if b then p else f j) ≡ asleep_on c (f j)
-with_same_by j s p f c true e h = h ∙ ap (λ k. asleep_on c (f k)) (sym (eqb-true j s e))
-with_same_by j s p f c false e h = refl
+with_same_by j s p f c b e h = grind (arith, nat_tests)
 
 pub due_same : (s : ℕ) (p : Place) (f : ℕ → Place) (c d : ℕ) (lines : List LogLine) → asleep_on c p ≡ asleep_on c (f s)
     → (j : ℕ) → due c (with_place s p f) d lines j ≡ due c f d lines j
@@ -227,23 +220,11 @@ dom_same n c most kx ky rest f g f2 g2 x y h = record {
 
 -- ---- what the judge foresees
 
-lapse_no_resume : (l : LogLine) → is_lapse l ≡ true → is_resume l ≡ false
-lapse_no_resume (Enter s) h = refl
-lapse_no_resume (Resume s) h = absurd (false≢true h)
-lapse_no_resume (Lapse s) h = refl
-lapse_no_resume (Leave s) h = refl
-lapse_no_resume (Wait s c) h = refl
-lapse_no_resume (Signal s c) h = refl
-lapse_no_resume (Broadcast s c) h = refl
-lapse_no_resume (Until s p) h = refl
-lapse_no_resume (Act s op r) h = refl
-
 lapses_by : (b : Bool) (l : LogLine) (j d : ℕ) (rest : List LogLine)
     → (lapses_next j rest ≡ true → resumes_within j d rest ≡ false)
     → (if b then is_lapse l else lapses_next j rest) ≡ true
     → (if b then is_resume l else resumes_within j d rest) ≡ false
-lapses_by true l j d rest next h = lapse_no_resume l h
-lapses_by false l j d rest next h = next h
+lapses_by b l j d rest next h = grind (arith, nat_tests)
 
 lapses_not : (j d : ℕ) (rest : List LogLine) → lapses_next j rest ≡ true → resumes_within j d rest ≡ false
 lapses_not j zero rest h = refl
@@ -251,45 +232,21 @@ lapses_not j (suc d) [] h = refl
 lapses_not j (suc d) (l ∷ rest) h = lapses_by (j == line_seat l) l j d rest (lapses_not j d rest) h
 
 pub and_parts_true : (a b : Bool) → (a && b) ≡ true → (a ≡ true) × (b ≡ true)
-and_parts_true true b h = (refl, h)
-and_parts_true false b h = absurd (false≢true h)
+and_parts_true a b h = grind (arith, nat_tests)
 
 -- a thread that is due for the judge sleeps there
 pub due_sleeps : (c e j d : ℕ) (p : Place) (rest : List LogLine) → Foreseen p (lapses_next j rest) → (e == c) ≡ true
     → (asleep_on c p && resumes_within j d rest) ≡ true → p ≡ Waiting e
-due_sleeps c e j d Outside rest f same h = absurd (false≢true h)
-due_sleeps c e j d Active rest f same h = absurd (false≢true h)
-due_sleeps c e j d (Waiting x) rest f same h =
-    let parts = and_parts_true (x == c) (resumes_within j d rest) h in
-    ap (λ k. Waiting k) (eqb-true x c parts.0 ∙ sym (eqb-true e c same))
-due_sleeps c e j d (Woken x) rest f same h = absurd (false≢true h)
-due_sleeps c e j d (RanOut x) rest f same h =
-    let parts = and_parts_true (x == c) (resumes_within j d rest) h in
-    absurd (false≢true (sym (lapses_not j d rest f) ∙ parts.1))
+due_sleeps c e j d p rest f same h = grind (arith, nat_tests, false≢true, and_parts_true, eqb-true, lapses_not)
 
 -- after a broadcast nobody is due
 woken_calm_by : (c e x : ℕ) (b : Bool) → (x == e) ≡ b → (e == c) ≡ true
     → asleep_on c (if b then Woken x else Waiting x) ≡ false
-woken_calm_by c e x true h same = refl
-woken_calm_by c e x false h same = ap (λ k. x == k) (sym (eqb-true e c same)) ∙ h
+woken_calm_by c e x b h same = grind (arith, nat_tests)
 
 pub woken_calm : (c e j d : ℕ) (p : Place) (rest : List LogLine) → Foreseen p (lapses_next j rest) → (e == c) ≡ true
     → (asleep_on c (woken e p) && resumes_within j d rest) ≡ false
-woken_calm c e j d Outside rest f same = refl
-woken_calm c e j d Active rest f same = refl
-woken_calm c e j d (Waiting x) rest f same = ap (λ b. b && resumes_within j d rest)
-    (woken_calm_by c e x (x == e) refl same)
-woken_calm c e j d (Woken x) rest f same = refl
-woken_calm c e j d (RanOut x) rest f same = ap (λ b. (x == c) && b) (lapses_not j d rest f) ∙ and_false (x == c)
-
-woken_other_by : (c e x : ℕ) (b : Bool) → (x == e) ≡ b → (e == c) ≡ false
-    → asleep_on c (if b then Woken x else Waiting x) ≡ (x == c)
-woken_other_by c e x true h other = sym (ap (λ k. k == c) (eqb-true x e h) ∙ other)
-woken_other_by c e x false h other = refl
+woken_calm c e j d p rest f same = grind (arith, nat_tests, woken_calm_by, lapses_not, and_false)
 
 pub woken_other : (c e : ℕ) (p : Place) → (e == c) ≡ false → asleep_on c (woken e p) ≡ asleep_on c p
-woken_other c e Outside other = refl
-woken_other c e Active other = refl
-woken_other c e (Waiting x) other = woken_other_by c e x (x == e) refl other
-woken_other c e (Woken x) other = refl
-woken_other c e (RanOut x) other = refl
+woken_other c e p other = grind (arith, nat_tests)

@@ -15,6 +15,7 @@ use Rattle.monk_judge.specs.Ends.{lapses_next, resumes_within}
 use Rattle.monk_judge.proofs.Complete.{Foreseen, Follows, can_stand, class, foreseen_past, sender_here}
 use Rattle.monk_judge.proofs.Counting.{count_drop}
 use Rattle.monk_judge.proofs.Least.{Dom, and_parts_true, asleep_on, asleep_out, dom_back, dom_nobody, dom_past, dom_same, dom_signal, dom_still, due, due_elsewhere, due_same, due_sleeps, elsewhere, here, unasked_drop, woken_calm, woken_other}
+use Rattle.std.proofs.lemmas.Bool.Decides.{nat_tests}
 
 -- how many threads wake unasked on the condition
 abbrev pub unasked_on : Setting → ℕ → State → List Step → ℕ
@@ -48,26 +49,12 @@ free_line n c most kx ky rest f g h = dom_cost n c most kx (kx + 0) ky rest f g 
 
 -- ---- who doesn't sleep
 
-clash_active : (x : ℕ) (p : Place) → class p ≡ Waiting x → p ≡ Active → ⊥
-clash_active x p e a = let b : class p ≡ Active = ap class a in cc
-
-clash_outside : (x : ℕ) (p : Place) → class p ≡ Waiting x → p ≡ Outside → ⊥
-clash_outside x p e a = let b : class p ≡ Outside = ap class a in cc
-
 calm : (c : ℕ) (p q : Place) → class p ≡ class q → (p ≡ Active) ⊎ (p ≡ Outside) → asleep_on c q ≡ false
-calm c p Outside e h = refl
-calm c p Active e h = refl
-calm c p (Waiting x) e (inl a) = absurd (clash_active x p e a)
-calm c p (Waiting x) e (inr a) = absurd (clash_outside x p e a)
-calm c p (Woken x) e h = refl
-calm c p (RanOut x) e (inl a) = absurd (clash_active x p e a)
-calm c p (RanOut x) e (inr a) = absurd (clash_outside x p e a)
+calm c p q e h = grind (arith, nat_tests)
 
 sender_is : (m : Setting) (x y : State) (rest : List LogLine) (s c : ℕ) → Follows x y rest → MaySignal m x s c
     → (x.place s ≡ Active) ⊎ (x.place s ≡ Outside)
-sender_is m x y rest s c f h =
-    elim h.sender as (λ k. (x.place s ≡ Active) ⊎ (x.place s ≡ Outside))
-    [ inl lock ↦ inl (f.holder s lock) | inr out ↦ inr out ]
+sender_is m x y rest s c f h = grind (arith, nat_tests)
 
 -- ---- a wait
 
@@ -95,11 +82,7 @@ waited_dom m n c most kx ky s e true rest x y lt h =
 -- ---- a thread comes back
 
 woken_not : (c : ℕ) (p : Place) → IsWoken p → asleep_on c p ≡ false
-woken_not c Outside h = absurd h
-woken_not c Active h = absurd h
-woken_not c (Waiting x) h = absurd h
-woken_not c (Woken x) h = refl
-woken_not c (RanOut x) h = absurd h
+woken_not c p h = grind (arith, nat_tests)
 
 back_dom : (m : Setting) (n c most kx ky s : ℕ) (p : Place) (rest : List LogLine) (x y : State) → s < n
     → x.place s ≡ p → CanResume p
@@ -131,8 +114,7 @@ back_dom m n c most kx ky s (RanOut w) rest x y lt e can wokeny h = absurd can
 
 signal_off : (c e d : ℕ) (rest : List LogLine) (x : State) (w : Option ℕ) → (e == c) ≡ false → WakesRightly x e w
     → (j : ℕ) → due c (signalled e w x.place) d rest j ≡ due c x.place d rest j
-signal_off c e d rest x None other h j = refl
-signal_off c e d rest x (Some k) other h j = due_same k (Woken e) x.place c d rest (sym (ap (asleep_on c) h ∙ other)) j
+signal_off c e d rest x w other h j = grind (arith, nat_tests)
 
 signal_drop : (n c e d : ℕ) (rest : List LogLine) (y : State) (w : Option ℕ)
     → count (due c y.place d rest) n ≤ count (due c (signalled e w y.place) d rest) n + 1
@@ -141,8 +123,7 @@ signal_drop n c e d rest y (Some k) = count_drop (due c y.place d rest) (due c (
     k n (λ j ne. sym (due_elsewhere k (Woken e) y.place c d rest j ne))
 
 not_true : (b : Bool) → (b ≡ true → ⊥) → b ≡ false
-not_true true h = absurd (h refl)
-not_true false h = refl
+not_true b h = grind (arith, nat_tests)
 
 signal_on : (n c e most kx ky : ℕ) (rest : List LogLine) (x y : State) (v w : Option ℕ) → (e == c) ≡ true
     → WakesRightly x e v

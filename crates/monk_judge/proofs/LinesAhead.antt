@@ -1,12 +1,13 @@
 -- How waits end, one line earlier and one line later
 use Rattle.std.proofs.Common.{◌≡◌, ℕ, zero, suc, ◌+◌, ◌<◌, ◌≤◌, ◌⊎◌, inl, inr, true, List, [], ◌∷◌, length, get_or, set, replicate, drop, refl, sym, ap, subst, arith, ◌∙◌, if◌then◌else◌}
-use Rattle.std.proofs.lemmas.Bool.{eq-eqb, false≢true, ne_eqb}
+use Rattle.std.proofs.lemmas.Bool.{false≢true, ne_eqb}
 use Rattle.std.proofs.lemmas.List.{drop_all, get_or-set_same, get_or-set_other}
 use Rattle.monk_logs.specs.Log.{is_lapse, line_seat}
 use Rattle.monk_logs.specs.declared.text.line.LogLine.{LogLine, TheVariants.Enter}
 use Rattle.monk_judge.specs.Ends.{IsEnd, ResumesBy, is_resume, lapses_next, resumes_within, runs_out}
 use Rattle.monk_judge.specs.declared.wait_end.WaitEnd.{WaitEnd}
 use Rattle.monk_judge.specs.declared.wait_end.WaitEnd.TheVariants.{Resumes, RunsOut, Never}
+use Rattle.std.proofs.lemmas.Bool.Decides.{nat_tests}
 
 -- ---- past a line
 
@@ -17,16 +18,11 @@ past_other l rest j d ne = ap (λ b. if b then is_resume l else resumes_within j
 
 pub past_own : (l : LogLine) (rest : List LogLine) (d : ℕ)
     → resumes_within (line_seat l) (suc d) (l ∷ rest) ≡ is_resume l
-past_own l rest d = ap (λ b. if b then is_resume l else resumes_within (line_seat l) d rest)
-    (eq-eqb (line_seat l) (line_seat l) refl)
+past_own l rest d = grind (arith, nat_tests)
 
 lapse_other : (l : LogLine) (rest : List LogLine) (j : ℕ) → (j ≡ line_seat l → ⊥)
     → lapses_next j (l ∷ rest) ≡ lapses_next j rest
 lapse_other l rest j ne = ap (λ b. if b then is_lapse l else lapses_next j rest) (ne_eqb j (line_seat l) ne)
-
-lapse_own : (l : LogLine) (rest : List LogLine) → lapses_next (line_seat l) (l ∷ rest) ≡ is_lapse l
-lapse_own l rest = ap (λ b. if b then is_lapse l else lapses_next (line_seat l) rest)
-    (eq-eqb (line_seat l) (line_seat l) refl)
 
 by_later : (e : WaitEnd) (n m : ℕ) → n ≤ m → ResumesBy e n → ResumesBy e m
 by_later (Resumes k) n m le h = omega arith
@@ -59,11 +55,7 @@ other_within j k e l rest ne h (suc d) r = past_other l rest j d ne
 pub end_other : (j k : ℕ) (e : WaitEnd) (l : LogLine) (rest : List LogLine) → (j ≡ line_seat l → ⊥)
     → IsEnd j (k + 1) e rest
     → IsEnd j k e (l ∷ rest)
-end_other j k e l rest ne h = record {
-  lapses = h.lapses ∙ sym (lapse_other l rest j ne);
-  by = other_by j k e l rest ne h;
-  within = other_within j k e l rest ne h;
-}
+end_other j k e l rest ne h = grind (arith, nat_tests, lapse_other, other_by, other_within)
 
 pub end_past : (j k : ℕ) (e : WaitEnd) (l : LogLine) (rest : List LogLine) → (j ≡ line_seat l → ⊥)
     → IsEnd j k e (l ∷ rest)
@@ -81,23 +73,9 @@ pub record IsEndBy (l : LogLine) (number : ℕ) (e : WaitEnd) : Type 0 where
   pub by : is_resume l ≡ true → (n : ℕ) → number ≤ n → ResumesBy e n
   pub within : (n : ℕ) → ResumesBy e n → (is_resume l ≡ true) × (number ≤ n)
 
-own_by : (k : ℕ) (e : WaitEnd) (l : LogLine) (rest : List LogLine) → IsEndBy l (k + 1) e
-    → (d : ℕ) → resumes_within (line_seat l) d (l ∷ rest) ≡ true → ResumesBy e (k + d)
-own_by k e l rest h zero r = absurd (false≢true r)
-own_by k e l rest h (suc d) r = h.by (sym (past_own l rest d) ∙ r) (k + suc d) (omega arith)
-
-own_within : (k : ℕ) (e : WaitEnd) (l : LogLine) (rest : List LogLine) → IsEndBy l (k + 1) e
-    → (d : ℕ) → ResumesBy e (k + d) → resumes_within (line_seat l) d (l ∷ rest) ≡ true
-own_within k e l rest h zero r = let got = h.within (k + 0) r in absurd (let z : k + 1 ≤ k + 0 = got.1 in omega arith)
-own_within k e l rest h (suc d) r = let got = h.within (k + suc d) r in past_own l rest d ∙ got.0
-
 end_own : (k : ℕ) (e : WaitEnd) (l : LogLine) (rest : List LogLine) → IsEndBy l (k + 1) e
     → IsEnd (line_seat l) k e (l ∷ rest)
-end_own k e l rest h = record {
-  lapses = h.lapses ∙ sym (lapse_own l rest);
-  by = own_by k e l rest h;
-  within = own_within k e l rest h;
-}
+end_own k e l rest h = grind (arith, nat_tests)
 
 -- ---- by index
 
@@ -144,7 +122,4 @@ nth_never (suc n) (suc s) lt = nth_never n s (omega arith)
 
 pub nothing_next : (lines : List LogLine) (n s : ℕ) → s < n
     → IsEnd s (length lines) (get_or (replicate n Never) s (Resumes 0)) (drop (length lines) lines)
-nothing_next lines n s lt =
-    subst (λ v. IsEnd s (length lines) v (drop (length lines) lines)) (sym (nth_never n s lt))
-    (subst (λ k. IsEnd s (length lines) Never k) (sym (drop_all (length lines) lines (omega arith)))
-    (end_never s (length lines)))
+nothing_next lines n s lt = grind (arith, nat_tests, nth_never, drop_all, end_never)

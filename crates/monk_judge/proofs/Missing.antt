@@ -8,6 +8,7 @@ use Rattle.monk_judge.proofs.Among.{first_here, first_skip, here_or_below}
 use Rattle.monk_judge.specs.{Among.NamesFirst, Moments.Moment, Moments.moment, Run.State}
 use Rattle.monk_judge.specs.declared.{missed.Missed.Missed, waits_for.WaitsFor.WaitsFor}
 use Rattle.monk_judge.specs.Missed.{IsMissedAt, LacksBehind, LooksAt, NamesFirstMissed, is_from_outside}
+use Rattle.std.proofs.lemmas.Bool.Decides.{nat_tests}
 
 abbrev pub is_out : List Moment → ℕ → Bool
 is_out all j = is_from_outside (moment all j).before.lock (moment all j).line
@@ -36,12 +37,10 @@ pub more_many : (all : List Moment) (t : Moment) → length (all ++ t ∷ []) �
 more_many all t = length-append all (t ∷ [])
 
 or_false : (a b : Bool) → (a || b) ≡ false → (a ≡ false) × (b ≡ false)
-or_false true b h = absurd (false≢true (sym h))
-or_false false b h = (refl, h)
+or_false a b h = grind (arith, nat_tests)
 
 or_true : (a b : Bool) → (a || b) ≡ true → (a ≡ true) ⊎ (b ≡ true)
-or_true true b h = inl refl
-or_true false b h = inr h
+or_true a b h = grind (arith, nat_tests)
 
 out_kept : (all : List Moment) (t : Moment) (j : ℕ) → j < length all → is_out (all ++ t ∷ []) j ≡ is_out all j
 out_kept all t j lt = ap (λ k. is_from_outside k.before.lock k.line) (moment_kept all t j lt)
@@ -78,26 +77,13 @@ some_now all t h = record {
 missed_kept : (o : Object) (means : List WaitsFor) (all : List Moment) (t : Moment) (k : ℕ) → k < length all
     → (IsMissedAt o means all k → IsMissedAt o means (all ++ t ∷ []) k)
     × (IsMissedAt o means (all ++ t ∷ []) k → IsMissedAt o means all k)
-missed_kept o means all t k lt =
-    let same = moment_kept all t k lt in (
-      λ h. (
-        subst (λ z. LacksBehind o means z.line z.behind) (sym same) h.0,
-        λ j less. out_kept all t j (omega arith) ∙ h.1 j less,
-      ),
-      λ h. (
-        subst (λ z. LacksBehind o means z.line z.behind) same h.0,
-        λ j less. sym (out_kept all t j (omega arith)) ∙ h.1 j less,
-      ),
-    )
+missed_kept o means all t k lt = grind (arith, nat_tests, moment_kept, out_kept)
 
 -- the new line itself
 missed_last : (o : Object) (means : List WaitsFor) (all : List Moment) (t : Moment)
     → LacksBehind o means t.line t.behind → ((j : ℕ) → j < length all → is_out all j ≡ false)
     → IsMissedAt o means (all ++ t ∷ []) (length all)
-missed_last o means all t lacks none = (
-  subst (λ z. LacksBehind o means z.line z.behind) (sym (moment_last all t)) lacks,
-  λ j less. out_kept all t j less ∙ none j less,
-)
+missed_last o means all t lacks none = grind (arith, nat_tests, moment_last, out_kept)
 
 not_last : (o : Object) (means : List WaitsFor) (all : List Moment) (t : Moment) (s : Missed) → Known o means all s
     → (s.from_outside ≡ false → LacksBehind o means t.line t.behind → ⊥)

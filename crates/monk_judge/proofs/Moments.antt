@@ -6,11 +6,12 @@ use Rattle.monk_logs.specs.declared.text.line.LogLine.TheVariants.{Enter, Resume
 use Rattle.monk_logs.specs.declared.text.line.LogLine.TheVariants.{Until, Act}
 use Rattle.monk_judge.specs.Judged.{CanStand, after_all, running_out, steps_at, waking}
 use Rattle.monk_judge.specs.Moments.{Moment, moment, moments, settled}
-use Rattle.monk_judge.specs.Run.{Setting, State, after, lines_of, lets_go, opening, takes}
+use Rattle.monk_judge.specs.Run.{Setting, State, after, lines_of, lets_go, takes}
 use Rattle.monk_judge.specs.declared.place.Place.{Place}
 use Rattle.monk_judge.specs.declared.place.Place.TheVariants.{Outside, Active, Waiting, Woken, RanOut}
 use Rattle.monk_judge.specs.declared.step.Step.{Step, TheVariants.Tells, TheVariants.RunsOut, TheVariants.WakesUnasked}
 use Rattle.monk_judge.specs.Counts.{finds_nobody, total}
+use Rattle.std.proofs.lemmas.Bool.Decides.{nat_tests}
 
 -- ---- two parts of a run
 
@@ -22,10 +23,7 @@ NoneOut (RunsOut s ∷ steps) = ⊥
 NoneOut (WakesUnasked s ∷ steps) = Unit {0}
 
 settled_at : (m : Setting) (x : State) (b : List Step) → NoneOut b → settled m x b ≡ x
-settled_at m x [] h = refl
-settled_at m x (Tells l w ∷ steps) h = refl
-settled_at m x (RunsOut s ∷ steps) h = absurd h
-settled_at m x (WakesUnasked s ∷ steps) h = refl
+settled_at m x b h = grind (arith, nat_tests)
 
 settled_on : (m : Setting) (x : State) (a b : List Step) → NoneOut b → settled m x (a ++ b) ≡ settled m x a
 settled_on m x [] b h = settled_at m x b h
@@ -51,12 +49,10 @@ moments_many m x (WakesUnasked s ∷ steps) = moments_many m (after m x (WakesUn
 -- ---- by index
 
 pub moment_kept : (all : List Moment) (t : Moment) (k : ℕ) → k < length all → moment (all ++ t ∷ []) k ≡ moment all k
-moment_kept all t k lt = get_or-append all (t ∷ [])
-    (record { line = Enter 0; whom = None; before = opening []; behind = opening [] }) k lt
+moment_kept all t k lt = grind (arith, nat_tests, get_or-append)
 
 pub moment_last : (all : List Moment) (t : Moment) → moment (all ++ t ∷ []) (length all) ≡ t
-moment_last all t = get_or-append_seam all t []
-    (record { line = Enter 0; whom = None; before = opening []; behind = opening [] })
+moment_last all t = grind (arith, nat_tests, get_or-append_seam)
 
 -- ---- the steps of one line
 

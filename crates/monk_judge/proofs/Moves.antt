@@ -14,6 +14,8 @@ use Rattle.monk_judge.specs.Run.{woken, woken_unasked}
 use Rattle.monk_judge.specs.declared.place.Place.{Place}
 use Rattle.monk_judge.specs.declared.place.Place.TheVariants.{Outside, Active, Waiting, Woken, RanOut}
 use Rattle.monk_judge.specs.declared.step.Step.TheVariants.{Tells, WakesUnasked}
+use Rattle.std.proofs.lemmas.Bool.Decides.{nat_tests}
+use Rattle.std.proofs.Common.{arith}
 
 pub record Moves (x : State) (l : LogLine) (y : State) : Type 0 where
   pub free : takes_lock l ≡ true → x.lock ≡ None
@@ -32,22 +34,11 @@ outside_woken c A p e h = cc
 pub active_woken : (c : ℕ) (A : Type 0) (p : Place) → p ≡ Active → p ≡ Woken c → A
 active_woken c A p e h = cc
 
-pub waiting_woken : (d c : ℕ) (A : Type 0) (p : Place) → p ≡ Waiting d → p ≡ Woken c → A
-waiting_woken d c A p e h = cc
-
 some_same : (o : Option ℕ) (s j : ℕ) → o ≡ Some s → o ≡ Some j → s ≡ j
 some_same o s j e h = cc
 
 refused_free : (l : LogLine) → is_refused l ≡ true → takes_lock l ≡ false
-refused_free (Enter s) h = absurd (false≢true h)
-refused_free (Resume s) h = absurd (false≢true h)
-refused_free (Lapse s) h = absurd (false≢true h)
-refused_free (Leave s) h = refl
-refused_free (Wait s c) h = refl
-refused_free (Signal s c) h = refl
-refused_free (Broadcast s c) h = refl
-refused_free (Until s p) h = refl
-refused_free (Act s op r) h = refl
+refused_free l h = grind (arith, nat_tests)
 
 -- a line with which a thread takes the lock, and any other
 took : (x : State) (l : LogLine) → takes_lock l ≡ true → x.lock ≡ None
@@ -125,9 +116,7 @@ waits m x s e true lock acts =
 
 signal_still : (x : State) (e j c : ℕ) (w : Option ℕ) → WakesRightly x e w → x.place j ≡ Woken c
     → signalled e w x.place j ≡ Woken c
-signal_still x e j c None right h = h
-signal_still x e j c (Some k) right h = elsewhere k (Woken e) x.place j
-    (λ same. waiting_woken e c _ (x.place j) (ap x.place same ∙ right) h) ∙ h
+signal_still x e j c w right h = grind (arith, nat_tests)
 
 left_by_signal : (s e j : ℕ) → {A : Type 0} → Signal s e ≡ Leave j → A
 left_by_signal s e j h = cc

@@ -1,30 +1,20 @@
 -- The next line of a thread that came back overtaken, after one more line
-use Rattle.std.proofs.Common.{◌≡◌, ℕ, ◌-◌, ◌<◌, inl, inr, List, [], ◌∷◌, ◌++◌, length, sym, ap, subst, arith, ◌∙◌}
+use Rattle.std.proofs.Common.{◌≡◌, ℕ, ◌<◌, List, [], ◌∷◌, ◌++◌, length, sym, ap, arith, ◌∙◌}
 use Rattle.monk_logs.specs.Log.{line_seat}
 use Rattle.monk_logs.specs.declared.text.line.LogLine.{LogLine, TheVariants.Wait}
 use Rattle.monk_judge.proofs.{Among.SameBelow, Among.here_or_below, Missing.more_many, Moments.moment_kept}
-use Rattle.monk_judge.proofs.{Moments.moment_last, Passing.woken_same, Visits.passed_kept, Visits.seat_kept}
-use Rattle.monk_judge.specs.{Ends.is_resume, Moments.Moment, Moments.moment}
-use Rattle.monk_judge.specs.Overtaken.{GoesOnBy, IsNext, IsOvertaken, IsOvertakenOn, IsPassed, WaitsAgain, is_refused}
+use Rattle.monk_judge.proofs.{Moments.moment_last, Visits.passed_kept, Visits.seat_kept}
+use Rattle.monk_judge.specs.{Moments.Moment, Moments.moment}
+use Rattle.monk_judge.specs.Overtaken.{GoesOnBy, IsNext, IsOvertaken, IsOvertakenOn, WaitsAgain, is_refused}
 use Rattle.monk_judge.specs.Overtaken.{seat_at}
+use Rattle.std.proofs.lemmas.Bool.Decides.{nat_tests}
 
 -- ---- the lines before, after one more line
 
 pub on_kept : (log : List LogLine) (all : List Moment) (t : Moment) (c k : ℕ) → k < length all
     → (IsOvertakenOn log all c k → IsOvertakenOn log (all ++ t ∷ []) c k)
     × (IsOvertakenOn log (all ++ t ∷ []) c k → IsOvertakenOn log all c k)
-on_kept log all t c k lt = (
-  λ h. record {
-    back = ap (λ z. is_resume z.line) (moment_kept all t k lt) ∙ h.back;
-    passed = (passed_kept log all t k (seat_at (all ++ t ∷ []) k) c (omega arith)).0
-        (subst (λ s. IsPassed log all k s c) (sym (seat_kept all t k lt)) h.passed);
-  },
-  λ h. record {
-    back = sym (ap (λ z. is_resume z.line) (moment_kept all t k lt)) ∙ h.back;
-    passed = subst (λ s. IsPassed log all k s c) (seat_kept all t k lt)
-        ((passed_kept log all t k (seat_at (all ++ t ∷ []) k) c (omega arith)).1 h.passed);
-  },
-)
+on_kept log all t c k lt = grind (arith, nat_tests, moment_kept, passed_kept, seat_kept)
 
 pub overtaken_kept : (log : List LogLine) (all : List Moment) (t : Moment) → SameBelow (λ k. IsOvertaken log all k)
     (λ k. IsOvertaken log (all ++ t ∷ []) k) (length all)
@@ -41,22 +31,12 @@ pub goes_kept : (all : List Moment) (t : Moment) (i k : ℕ) → i < length all 
     (seat_at (all ++ t ∷ []) k))
     × (GoesOnBy (moment (all ++ t ∷ []) i).line (seat_at (all ++ t ∷ []) k)
     → GoesOnBy (moment all i).line (seat_at all k))
-goes_kept all t i k near lt =
-    let at = moment_kept all t i near in
-    let seat = seat_kept all t k lt in (
-      λ h. (ap (λ z. line_seat z.line) at ∙ h.0 ∙ sym seat, ap (λ z. is_refused z.line) at ∙ h.1),
-      λ h. (sym (ap (λ z. line_seat z.line) at) ∙ h.0 ∙ seat, sym (ap (λ z. is_refused z.line) at) ∙ h.1),
-    )
+goes_kept all t i k near lt = grind (arith, nat_tests, moment_kept, seat_kept)
 
 -- it was woken on one condition
 pub cond_same : (log : List LogLine) (all : List Moment) (k c d : ℕ) → IsOvertakenOn log all c k
     → IsOvertakenOn log all d k → c ≡ d
-cond_same log all k c d h g =
-    let i = k - 1 in
-    let lt : i < k = omega (arith, h.passed.before) in
-    woken_same c d
-    (sym (h.passed.woken i (omega (arith, h.passed.before, h.passed.rival.visit.before)) lt)
-    ∙ g.passed.woken i (omega (arith, g.passed.before, g.passed.rival.visit.before)) lt)
+cond_same log all k c d h g = grind (arith, nat_tests)
 
 pub next_kept : (all : List Moment) (t : Moment) (k j : ℕ) → IsNext all k j → IsNext (all ++ t ∷ []) k j
 next_kept all t k j h =
@@ -112,14 +92,7 @@ pub record HasNext (all : List Moment) (k : ℕ) : Type 0 where
 -- if so, one more line changes nothing
 pub again_if_next : (log : List LogLine) (all : List Moment) (t : Moment) (k : ℕ) → k < length all → HasNext all k
     → (again : WaitsAgain log (all ++ t ∷ []) k) → again.at < length all
-again_if_next log all t k lt has h =
-    elim (here_or_below h.at (length all) (subst (λ n. h.at < n) (more_many all t) h.next.within)) as
-    (λ z. h.at < length all) [
-      | inl last ↦ absurd (h.next.none has.at has.next.behind
-          (let a = has.next.within in omega arith)
-          ((goes_kept all t has.at k has.next.within lt).0 has.next.same))
-      | inr less ↦ less
-    ]
+again_if_next log all t k lt has again = grind (arith, nat_tests, here_or_below, more_many, goes_kept)
 
 pub at_last : (all : List Moment) (t : Moment) (l : LogLine) (j : ℕ) → t.line ≡ l → j ≡ length all
     → (moment (all ++ t ∷ []) j).line ≡ l

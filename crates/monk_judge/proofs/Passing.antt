@@ -1,6 +1,6 @@
 -- Which woken threads were passed, after one more line
-use Rattle.std.proofs.Common.{◌≡◌, ℕ, ◌+◌, ◌-◌, ◌<◌, ◌≤◌, ◌==◌, ◌⊎◌, inl, inr, Bool, true, false, List, [], ◌∷◌, ◌++◌, Option, Some, None, length, get_or, if◌then◌else◌, refl, sym, ap, arith, ◌∙◌}
-use Rattle.std.proofs.lemmas.Bool.{cases_Bool, eq-eqb, false≢true, ne_eqb}
+use Rattle.std.proofs.Common.{◌≡◌, ℕ, ◌+◌, ◌<◌, ◌≤◌, ◌==◌, ◌⊎◌, inl, inr, Bool, true, false, List, [], ◌∷◌, ◌++◌, Option, Some, None, length, get_or, if◌then◌else◌, refl, sym, ap, arith, ◌∙◌}
+use Rattle.std.proofs.lemmas.Bool.{cases_Bool, false≢true}
 use Rattle.monk_logs.specs.LastLine.{signals_to}
 use Rattle.monk_logs.specs.declared.text.line.LogLine.{LogLine}
 use Rattle.monk_logs.specs.declared.text.line.LogLine.TheVariants.{Enter, Resume, Lapse, Leave, Wait, Signal, Broadcast}
@@ -11,7 +11,8 @@ use Rattle.monk_judge.specs.{Holding.takes_lock, Overtaken.IsPassed, Overtaken.s
 use Rattle.monk_judge.specs.Moments.{Moment, moment}
 use Rattle.monk_judge.specs.Hints.{other_than, passed_after, passing_after, woken_on}
 use Rattle.monk_judge.specs.declared.place.Place.{Place}
-use Rattle.monk_judge.specs.declared.place.Place.TheVariants.{Outside, Active, Waiting, Woken, RanOut}
+use Rattle.monk_judge.specs.declared.place.Place.TheVariants.{Woken}
+use Rattle.std.proofs.lemmas.Bool.Decides.{nat_tests}
 
 -- ---- what the tables say of one seat
 
@@ -25,38 +26,24 @@ pub woken_same : (c d : ℕ) → Woken c ≡ Woken d → c ≡ d
 woken_same c d e = cc
 
 woken_some : (p : Place) (c : ℕ) → woken_on p ≡ Some c → p ≡ Woken c
-woken_some Outside c h = some_none c _ (sym h)
-woken_some Active c h = some_none c _ (sym h)
-woken_some (Waiting d) c h = some_none c _ (sym h)
-woken_some (Woken d) c h = ap Woken (some_some d c h)
-woken_some (RanOut d) c h = some_none c _ (sym h)
+woken_some p c h = grind (arith, nat_tests)
 
 woken_none : (p : Place) (c : ℕ) → woken_on p ≡ None → p ≡ Woken c → ⊥
 woken_none p c h e = some_none c ⊥ (sym (ap woken_on e) ∙ h)
 
-other_by : (d e c : ℕ) (b : Bool) → (e == d) ≡ b → (if b then None else Some e) ≡ Some c
-    → (Some e ≡ Some c) × ((d == c) ≡ false)
-other_by d e c true is h = some_none c _ (sym h)
-other_by d e c false is h =
-    (h, ne_eqb d c (λ same. false≢true (sym is ∙ eq-eqb e d (some_some e c h ∙ sym same))))
-
 other_some : (d c : ℕ) (was : Option ℕ) → other_than d was ≡ Some c → (was ≡ Some c) × ((d == c) ≡ false)
-other_some d c None h = some_none c _ (sym h)
-other_some d c (Some e) h = other_by d e c (e == d) refl h
+other_some d c was h = grind (arith, nat_tests)
 
 gone_by : (d e : ℕ) (b : Bool) → (e == d) ≡ b → (if b then None else Some e) ≡ None → (e == d) ≡ true
-gone_by d e true is h = is
-gone_by d e false is h = some_none e _ h
+gone_by d e b is h = grind (arith, nat_tests)
 
 pub unmarked_by : (s j c : ℕ) (was : Option ℕ) (b : Bool) → (j == s) ≡ b → (if b then None else was) ≡ Some c
     → (j ≡ s → ⊥) × (was ≡ Some c)
-unmarked_by s j c was true e h = absurd (some_none c ⊥ (sym h))
-unmarked_by s j c was false e h = (λ same. false≢true (sym e ∙ eq-eqb j s same), h)
+unmarked_by s j c was b e h = grind (arith, nat_tests)
 
 pub unmarked_none : (s j : ℕ) (was : Option ℕ) (b : Bool) → (j == s) ≡ b → (if b then None else was) ≡ None
     → ((j == s) ≡ true) ⊎ (was ≡ None)
-unmarked_none s j was true e h = inl e
-unmarked_none s j was false e h = inr h
+unmarked_none s j was b e h = grind (arith, nat_tests)
 
 -- ---- what holds of the tables
 
@@ -88,15 +75,11 @@ pub record MarksMore (log : List LogLine) (seats : ℕ) (l : LogLine) (y : State
 still_by : (all : List Moment) (x : State) (s c by : ℕ) → ((k : ℕ) → k + 1 ≡ length all → (moment all k).behind ≡ x)
     → by < length all → ((i : ℕ) → by ≤ i → i < length all → (moment all i).behind.place s ≡ Woken c)
     → x.place s ≡ Woken c
-still_by all x s c by last lt woken =
-    let k = length all - 1 in
-    let one : k + 1 ≡ length all = omega (arith, lt) in
-    sym (ap (λ z. z.place s) (last k one)) ∙ woken k (omega (arith, lt)) (omega (arith, lt))
+still_by all x s c by last lt woken = grind (arith, nat_tests)
 
 pub still_woken : (log : List LogLine) (seats : ℕ) (all : List Moment) (x : State) (passing passed : List (Option ℕ))
     (s c : ℕ) → Marks log seats all x passing passed → IsPassed log all (length all) s c → x.place s ≡ Woken c
-still_woken log seats all x passing passed s c was h =
-    still_by all x s c h.by was.last (omega (arith, h.before, h.rival.visit.before)) h.woken
+still_woken log seats all x passing passed s c was h = grind (arith, nat_tests)
 
 pub still_passing : (log : List LogLine) (seats : ℕ) (all : List Moment) (x : State) (passing passed : List (Option ℕ))
     (s c : ℕ) → Marks log seats all x passing passed → IsPassing all (length all) s c → x.place s ≡ Woken c

@@ -3,8 +3,7 @@ use Rattle.std.proofs.Common.{◌≡◌, ℕ, ◌<◌, ◌≤◌, ◌+◌, List,
 use Rattle.std.proofs.{Math.ListN.length-set, lemmas.List.length-take-le, lemmas.List.take_all}
 use Rattle.monk_object.specs.Object.{Object}
 use Rattle.monk_logs.specs.declared.text.line.LogLine.{LogLine}
-use Rattle.monk_logs.specs.declared.text.line.LogLine.TheVariants.{Enter, Resume, Lapse, Leave, Wait, Signal, Broadcast}
-use Rattle.monk_logs.specs.declared.text.line.LogLine.TheVariants.{Until, Act}
+use Rattle.monk_logs.specs.declared.text.line.LogLine.TheVariants.{Enter}
 use Rattle.monk_judge.proofs.{Moments.Meets, Moments.moments_many, Moments.moments_on, Totals.fewest}
 use Rattle.monk_judge.proofs.Asking.{asked_all, asked_next, back_next}
 use Rattle.monk_judge.proofs.Covers.{CoversAt, covers_explains, covers_next, covers_opening, covers_stop, rest_is}
@@ -16,6 +15,7 @@ use Rattle.monk_judge.specs.Asked.{ComeBackAtOnce, asked, asked_by}
 use Rattle.monk_judge.specs.Run.{Setting, State, IsRun, lines_of, opening, unasked}
 use Rattle.monk_judge.specs.declared.{misfit.Misfit.Misfit, told.Told.Told, step.Step.Step}
 use Rattle.monk_judge.specs.declared.wait_end.WaitEnd.{WaitEnd, TheVariants.Resumes}
+use Rattle.std.proofs.lemmas.Bool.Decides.{nat_tests}
 
 -- ---- a run of the lines so far
 
@@ -29,15 +29,7 @@ pub record Reached (o : Object) (m : Setting) (d : List ℕ) (lines : List LogLi
   pub back : ComeBackAtOnce steps
 
 many_after : (ends : List WaitEnd) (l : LogLine) (e : WaitEnd) → length (ends_after ends l e) ≡ length ends
-many_after ends (Enter s) e = refl
-many_after ends (Resume s) e = refl
-many_after ends (Lapse s) e = refl
-many_after ends (Leave s) e = refl
-many_after ends (Wait s c) e = length-set ends s e
-many_after ends (Signal s c) e = refl
-many_after ends (Broadcast s c) e = refl
-many_after ends (Until s p) e = refl
-many_after ends (Act s op r) e = refl
+many_after ends l e = grind (arith, nat_tests, length-set)
 
 pub reached_opening : (o : Object) (m : Setting) (d : List ℕ) (lines : List LogLine) (v : Shown) → setting_of v o ≡ m
     → length v.ends ≡ length v.places → state_of v ≡ opening d → Reached o m d lines 0 v []
@@ -88,8 +80,7 @@ reached_next o m d lines ends i v new steps what lt are was does =
 pub least_of : (o : Object) (m : Setting) (d : List ℕ) (lines : List LogLine) (i : ℕ) (v : Shown) (steps : List Step)
     → Reached o m d lines i v steps → (others : List Step) → IsRun m (opening d) others
     → lines_of others ≡ take i lines → unasked steps ≤ unasked others
-least_of o m d lines i v steps was others run told =
-    fewest m d steps others was.covers.run run (λ c. (was.covers.least others run told c).cost)
+least_of o m d lines i v steps was others run told = grind (arith, nat_tests, fewest)
 
 pub run_all : (o : Object) (m : Setting) (d : List ℕ) (lines : List LogLine) (i : ℕ) (v : Shown) (steps : List Step)
     → length lines ≤ i → Reached o m d lines i v steps → IsRunOf m d lines None steps
@@ -136,11 +127,9 @@ run_stop o m d lines i v new steps f lt was refused at =
 -- the moments after one more line
 pub many_moments : (o : Object) (m : Setting) (d : List ℕ) (lines : List LogLine) (i : ℕ) (v : Shown)
     (steps : List Step) → i ≤ length lines → Reached o m d lines i v steps → length (moments m (opening d) steps) ≡ i
-many_moments o m d lines i v steps le was = moments_many m (opening d) steps ∙ ap length was.covers.told
-    ∙ length-take-le i lines le
+many_moments o m d lines i v steps le was = grind (arith, nat_tests, moments_many, length-take-le)
 
 pub moments_next : (o : Object) (m : Setting) (d : List ℕ) (lines : List LogLine) (i : ℕ) (v : Shown)
     (steps own : List Step) (l : LogLine) → Reached o m d lines i v steps → (meets : Meets m (state_of v) l own)
     → moments m (opening d) (steps ++ own) ≡ moments m (opening d) steps ++ meets.t ∷ []
-moments_next o m d lines i v steps own l was meets = moments_on m (opening d) steps own meets.none_out
-    ∙ ap (λ k. moments m (opening d) steps ++ k) (ap (λ k. moments m k own) (sym was.covers.leads) ∙ meets.is)
+moments_next o m d lines i v steps own l was meets = grind (arith, nat_tests, moments_on)

@@ -12,6 +12,7 @@ use Rattle.monk_judge.specs.Overtaken.{CountsOvertaken, GoesOn, GoesOnBy, IsOver
 use Rattle.monk_judge.specs.Overtaken.{is_refused, seat_at}
 use Rattle.monk_judge.specs.declared.overtaking.{Back.Back, Hints.Hints}
 use Rattle.monk_judge.specs.Among.{AreMany, NamesFirst}
+use Rattle.std.proofs.lemmas.Bool.Decides.{nat_tests}
 
 -- ---- the thread that came back last
 
@@ -65,10 +66,7 @@ goes_on_same : (log : List LogLine) (all : List Moment) (t : Moment) (k : ℕ) �
     → ((WaitsAgain log all k → WaitsAgain log (all ++ t ∷ []) k)
     × (WaitsAgain log (all ++ t ∷ []) k → WaitsAgain log all k))
     → (GoesOn log all k → GoesOn log (all ++ t ∷ []) k) × (GoesOn log (all ++ t ∷ []) k → GoesOn log all k)
-goes_on_same log all t k lt again = (
-  λ h. ((overtaken_kept log all t k lt).0 h.0, λ w. h.1 (again.1 w)),
-  λ h. ((overtaken_kept log all t k lt).1 h.0, λ w. h.1 (again.0 w)),
-)
+goes_on_same log all t k lt again = grind (arith, nat_tests, overtaken_kept)
 
 pub before_same : (log : List LogLine) (all : List Moment) (t : Moment) (x : State) (h new : Hints)
     → Hinted log all x h → AgainSame log all t
@@ -108,9 +106,7 @@ pub others_line : (log : List LogLine) (all : List Moment) (t : Moment) (l : Log
     → t.line ≡ l → BackAt log all x b
     → (GoesOnBy l b.seat → ⊥) → (k : ℕ) → k < length all → k ≡ b.line → (again : WaitsAgain log (all ++ t ∷ []) k)
     → again.at ≡ length all → ⊥
-others_line log all t l x b is at other k lt same w last =
-    other (goes_by (moment (all ++ t ∷ []) w.at).line l (seat_at (all ++ t ∷ []) k) b.seat
-    (at_last all t l w.at is last) (seat_kept all t k lt ∙ ap (seat_at all) same ∙ at.seat) w.next.same)
+others_line log all t l x b is at other k lt same again last = grind (arith, nat_tests, goes_by, at_last, seat_kept)
 
 -- its own line, which is no such wait
 pub no_wait : (log : List LogLine) (all : List Moment) (t : Moment) (l : LogLine) (x : State) (b : Back) → t.line ≡ l
@@ -149,8 +145,7 @@ now_waits log all t l x b is at wait =
 
 not_yet : (log : List LogLine) (all : List Moment) (x : State) (b : Back) → BackAt log all x b
     → WaitsAgain log all b.line → ⊥
-not_yet log all x b at w = at.none w.at w.next.behind w.next.within
-    (subst (λ s. GoesOnBy (moment all w.at).line s) at.seat w.next.same)
+not_yet log all x b at w = grind (arith, nat_tests)
 
 -- all others wait again, as before
 rest_same : (log : List LogLine) (all : List Moment) (t : Moment) (x : State) (h : Hints) (b : Back)

@@ -14,6 +14,7 @@ use Rattle.monk_judge.proofs.Passing.{still_passing, still_woken, unmarked_by, u
 use Rattle.monk_judge.specs.{Ends.is_resume, Holding.takes_lock, Moments.Moment, Moments.moment, Run.State}
 use Rattle.monk_judge.specs.Hints.{marked, passed_after, passed_of, unmarked}
 use Rattle.monk_judge.specs.Overtaken.{IsOvertaken, IsOvertakenOn, IsPassed, seat_at, waits_in}
+use Rattle.std.proofs.lemmas.Bool.Decides.{nat_tests}
 
 -- ---- who was passed
 
@@ -31,16 +32,7 @@ stays_passed log seats all t l x y passing passed s c it lt apart h =
 leaver : (log : List LogLine) (seats : ℕ) (all : List Moment) (t : Moment) (x y : State)
     (passing passed : List (Option ℕ)) (s c k : ℕ) (h : IsPassing all (length all) s c)
     → Line log seats all t (Leave k) x y passing passed → seat_at all h.by ≡ k
-leaver log seats all t x y passing passed s c k h it =
-    let lock = it.moves.leaves k refl in
-    elim (it.was.lock h.by (record {
-      within = h.visit.before;
-      takes = ap takes_lock h.visit.comes;
-      alone = h.visit.alone;
-    })) as (λ z. seat_at all h.by ≡ k) [
-      | inl free ↦ some_none k _ (sym lock ∙ free)
-      | inr held ↦ some_some (seat_at all h.by) k (sym held ∙ lock)
-    ]
+leaver log seats all t x y passing passed s c k h it = grind (arith, nat_tests)
 
 -- a rival may leave
 leaves_passed : (log : List LogLine) (seats : ℕ) (all : List Moment) (t : Moment) (x y : State)
@@ -61,41 +53,21 @@ leave_passed : (log : List LogLine) (seats : ℕ) (all : List Moment) (t : Momen
     (passing passed : List (Option ℕ)) (s c k : ℕ) (may : Option ℕ) → Line log seats all t (Leave k) x y passing passed
     → s < seats → get_or passing s None ≡ may → marked log k may (get_or passed s None) ≡ Some c
     → IsPassed log (all ++ t ∷ []) (length all + 1) s c
-leave_passed log seats all t x y passing passed s c k None it lt may h =
-    stays_passed log seats all t (Leave k) x y passing passed s c it lt (λ takes. absurd (false≢true takes)) h
-leave_passed log seats all t x y passing passed s c k (Some d) it lt may h =
-    leaves_passed log seats all t x y passing passed s c k d (waits_in log k d) it lt may refl h
+leave_passed log seats all t x y passing passed s c k may it lt h h' =
+    grind (arith, nat_tests, stays_passed, false≢true, leaves_passed)
 
 -- a thread takes the lock
 take_passed : (log : List LogLine) (seats : ℕ) (all : List Moment) (t : Moment) (l : LogLine) (x y : State)
     (passing passed : List (Option ℕ)) (s c : ℕ) → Line log seats all t l x y passing passed → s < seats
     → unmarked (line_seat l) s (get_or passed s None) ≡ Some c → IsPassed log (all ++ t ∷ []) (length all + 1) s c
-take_passed log seats all t l x y passing passed s c it lt h =
-    let parts = unmarked_by (line_seat l) s c (get_or passed s None) (s == line_seat l) refl h in
-    stays_passed log seats all t l x y passing passed s c it lt (λ takes. parts.0) parts.1
+take_passed log seats all t l x y passing passed s c it lt h = grind (arith, nat_tests, unmarked_by, stays_passed)
 
 some_next : (log : List LogLine) (seats : ℕ) (all : List Moment) (t : Moment) (l : LogLine) (x y : State)
     (passing passed : List (Option ℕ)) (s c : ℕ) → Line log seats all t l x y passing passed → s < seats
     → passed_after l log s (get_or passing s None) (get_or passed s None) ≡ Some c
     → IsPassed log (all ++ t ∷ []) (length all + 1) s c
-some_next log seats all t (Enter k) x y passing passed s c it lt h =
-    take_passed log seats all t (Enter k) x y passing passed s c it lt h
-some_next log seats all t (Resume k) x y passing passed s c it lt h =
-    take_passed log seats all t (Resume k) x y passing passed s c it lt h
-some_next log seats all t (Lapse k) x y passing passed s c it lt h =
-    take_passed log seats all t (Lapse k) x y passing passed s c it lt h
-some_next log seats all t (Leave k) x y passing passed s c it lt h =
-    leave_passed log seats all t x y passing passed s c k (get_or passing s None) it lt refl h
-some_next log seats all t (Wait k d) x y passing passed s c it lt h =
-    stays_passed log seats all t (Wait k d) x y passing passed s c it lt (λ takes. absurd (false≢true takes)) h
-some_next log seats all t (Signal k d) x y passing passed s c it lt h =
-    stays_passed log seats all t (Signal k d) x y passing passed s c it lt (λ takes. absurd (false≢true takes)) h
-some_next log seats all t (Broadcast k d) x y passing passed s c it lt h =
-    stays_passed log seats all t (Broadcast k d) x y passing passed s c it lt (λ takes. absurd (false≢true takes)) h
-some_next log seats all t (Until k p) x y passing passed s c it lt h =
-    stays_passed log seats all t (Until k p) x y passing passed s c it lt (λ takes. absurd (false≢true takes)) h
-some_next log seats all t (Act k op r) x y passing passed s c it lt h =
-    stays_passed log seats all t (Act k op r) x y passing passed s c it lt (λ takes. absurd (false≢true takes)) h
+some_next log seats all t l x y passing passed s c it lt h =
+    grind (arith, nat_tests, take_passed, leave_passed, stays_passed, false≢true)
 
 -- ---- who wasn't
 
@@ -129,12 +101,10 @@ take_none log seats all t l x y passing passed s c it lt takes h on =
     ]
 
 if_none : (b : Bool) (d : ℕ) (was : Option ℕ) → (if b then Some d else was) ≡ None → (b ≡ false) × (was ≡ None)
-if_none true d was h = some_none d _ h
-if_none false d was h = (refl, h)
+if_none b d was h = grind (arith, nat_tests)
 
 leave_old : (log : List LogLine) (k : ℕ) (may was : Option ℕ) → marked log k may was ≡ None → was ≡ None
-leave_old log k None was h = h
-leave_old log k (Some d) was h = (if_none (waits_in log k d) d was h).1
+leave_old log k may was h = grind (arith, nat_tests)
 
 leave_same : (k j : ℕ) → Leave k ≡ Leave j → k ≡ j
 leave_same k j h = cc
@@ -278,10 +248,7 @@ seat_last all t l is = ap (λ k. line_seat k.line) (moment_last all t) ∙ ap li
 
 pub told_by : (l : LogLine) (seats : List (Option ℕ)) (c : ℕ) (b : Bool) → takes_lock l ≡ b → passed_of l seats ≡ Some c
     → (takes_lock l ≡ true) × (get_or seats (line_seat l) None ≡ Some c)
-told_by l seats c true e h =
-    (e, sym (ap (λ b. if b then get_or seats (line_seat l) None else None) e) ∙ h)
-told_by l seats c false e h =
-    absurd (some_none c ⊥ (sym h ∙ ap (λ b. if b then get_or seats (line_seat l) None else None) e))
+told_by l seats c b e h = grind (arith, nat_tests)
 
 pub comes_overtaken : (log : List LogLine) (seats : ℕ) (all : List Moment) (t : Moment) (l : LogLine) (x y : State)
     (passing passed : List (Option ℕ)) (c : ℕ) → t.line ≡ l → Moves x l y → Marks log seats all x passing passed
@@ -297,15 +264,7 @@ comes_overtaken log seats all t l x y passing passed c is moves was lt h =
     }
 
 pub resume_takes : (l : LogLine) → is_resume l ≡ true → takes_lock l ≡ true
-resume_takes (Enter s) h = refl
-resume_takes (Resume s) h = refl
-resume_takes (Lapse s) h = refl
-resume_takes (Leave s) h = h
-resume_takes (Wait s c) h = h
-resume_takes (Signal s c) h = h
-resume_takes (Broadcast s c) h = h
-resume_takes (Until s p) h = h
-resume_takes (Act s op r) h = h
+resume_takes l h = grind (arith, nat_tests)
 
 pub comes_otherwise : (log : List LogLine) (seats : ℕ) (all : List Moment) (t : Moment) (l : LogLine) (x : State)
     (passing passed : List (Option ℕ)) → t.line ≡ l → Marks log seats all x passing passed → line_seat l < seats

@@ -1,15 +1,15 @@
 -- What is told of a thread that comes in and waits to the end of its log
-use Rattle.std.proofs.Common.{◌≡◌, ℕ, zero, suc, ◌<◌, ◌==◌, false, List, [], ◌∷◌, Option, Some, None, length, arith, refl, sym, ap, subst, ◌∙◌}
-use Rattle.std.proofs.lemmas.Bool.{false≢true, ne_eqb}
+use Rattle.std.proofs.Common.{◌≡◌, ℕ, List, [], ◌∷◌, Option, Some, None, length, arith, refl, sym, ap, subst, ◌∙◌}
 use Rattle.monk_object.specs.Object.{Object}
 use Rattle.monk_logs.specs.declared.text.line.LogLine.{LogLine, TheVariants.Enter, TheVariants.Resume, TheVariants.Wait}
 use Rattle.monk_judge.specs.{Counts.sleepers, Counts.woken_ones, Judged.after_all, Reports.IsReport, Reports.fitting}
 use Rattle.monk_judge.specs.{Run.opening, Run.setting, Sleeper.ToldAsleep, Sleeper.ToldMissed, Sleeper.comes_and_waits}
-use Rattle.monk_judge.specs.Moments.{Moment, moment, moments}
-use Rattle.monk_judge.specs.Missed.{AllHold, Holds, IsMissedAt, NamesFirstMissed, is_from_outside}
+use Rattle.monk_judge.specs.Moments.{Moment, moments}
+use Rattle.monk_judge.specs.Missed.{Holds, NamesFirstMissed}
 use Rattle.monk_judge.specs.Asked.{ComeBackAtOnce, asked, asked_by}
-use Rattle.monk_judge.specs.declared.{place.Place.TheVariants.Woken, report.Report.Report, waits_for.WaitsFor.WaitsFor}
+use Rattle.monk_judge.specs.declared.{report.Report.Report, waits_for.WaitsFor.WaitsFor}
 use Rattle.monk_judge.specs.declared.step.Step.{Step, TheVariants.Tells, TheVariants.RunsOut, TheVariants.WakesUnasked}
+use Rattle.std.proofs.lemmas.Bool.Decides.{nat_tests}
 
 -- the steps are these two
 record AreBoth (steps : List Step) : Type 0 where
@@ -88,47 +88,10 @@ meaning p = record { cond = 0; pred = p } ∷ []
 abbrev both_moments : Object → List ℕ → Option ℕ → Option ℕ → List Moment
 both_moments o d v w = moments (setting 1 1 o) (opening d) (Tells (Enter 0) v ∷ Tells (Wait 0 0) w ∷ [])
 
--- nobody is woken after the wait
-none_woken : (o : Object) (d : List ℕ) (v w : Option ℕ) (j : ℕ)
-    → (moment (both_moments o d v w) 1).behind.place j ≡ Woken 0 → ⊥
-none_woken o d v w zero h = cc
-none_woken o d v w (suc j) h =
-    let e : (suc j == 0) ≡ false = ne_eqb (suc j) 0 (λ z. absurd (omega (arith, z))) in cc
-
-all_hold : (o : Object) (d : List ℕ) (p : ℕ) → Holds o d p → AllHold o (meaning p) d 0
-all_hold o d p holds zero x lt = λ same. holds
-all_hold o d p holds (suc k) x lt = absurd (omega (arith, lt))
-
--- no signal came from outside before
-from_inside : (o : Object) (d : List ℕ) (v w : Option ℕ) (j : ℕ) → j < 1
-    → is_from_outside (moment (both_moments o d v w) j).before.lock (moment (both_moments o d v w) j).line ≡ false
-from_inside o d v w zero lt = refl
-from_inside o d v w (suc j) lt = absurd (omega arith)
-
--- a signal is missed behind the wait
-missed_behind : (o : Object) (d : List ℕ) (p : ℕ) (v w : Option ℕ) → Holds o d p
-    → IsMissedAt o (meaning p) (both_moments o d v w) 1
-missed_behind o d p v w holds = (
-  (
-    refl,
-    (
-      0,
-      record { cond = 0; pred = p },
-      omega arith,
-      refl,
-      (record { sleeper = 0; sleeps = refl; none_woken = none_woken o d v w }, all_hold o d p holds),
-    ),
-  ),
-  from_inside o d v w,
-)
-
 -- it is the first
 names : (o : Object) (d : List ℕ) (p : ℕ) (v w : Option ℕ) (found : Option ℕ) → Holds o d p
     → NamesFirstMissed o (meaning p) (both_moments o d v w) found → found ≡ Some 1
-names o d p v w None holds h = absurd (h 1 (omega arith) (missed_behind o d p v w holds))
-names o d p v w (Some zero) holds h = absurd (false≢true h.1.0.0)
-names o d p v w (Some (suc zero)) holds h = refl
-names o d p v w (Some (suc (suc k))) holds h = absurd (omega (arith, h.0))
+names o d p v w found holds h = grind (arith, nat_tests)
 
 pub told_missed : ToldMissed
 told_missed o d p r holds is none =

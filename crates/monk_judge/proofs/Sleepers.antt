@@ -10,18 +10,18 @@ use Rattle.monk_judge.specs.Judged.{CanStand, IsRight, after_all, running_out, s
 use Rattle.monk_judge.specs.Run.{Setting, State, MaySignal, WakesRightly, run_out, signalled, woken, woken_unasked}
 use Rattle.monk_judge.specs.Run.{with_place}
 use Rattle.monk_judge.specs.declared.place.Place.{Place}
-use Rattle.monk_judge.specs.declared.place.Place.TheVariants.{Outside, Active, Waiting, Woken, RanOut}
+use Rattle.monk_judge.specs.declared.place.Place.TheVariants.{Outside, Active, Waiting}
 use Rattle.monk_judge.specs.declared.step.Step.TheVariants.{Tells}
 use Rattle.monk_judge.specs.declared.wait_end.WaitEnd.{WaitEnd, TheVariants.Resumes}
 use Rattle.monk_judge.specs.Shown.{IsEarliest, Shown, WakesEarliest, state_of}
 use Rattle.monk_judge.specs.Ends.{IsEnd, ends_after, resumes_within, runs_out}
+use Rattle.std.proofs.lemmas.Bool.Decides.{nat_tests}
 
 -- ---- one thread in another place
 
 placed_by : (s j c : ℕ) (p : Place) (f : ℕ → Place) (b : Bool) → (j == s) ≡ b → (p ≡ Waiting c → ⊥)
     → (if b then p else f j) ≡ Waiting c → (j ≡ s → ⊥) × (f j ≡ Waiting c)
-placed_by s j c p f true e not_there h = absurd (not_there h)
-placed_by s j c p f false e not_there h = (λ same. false≢true (sym e ∙ eq-eqb j s same), h)
+placed_by s j c p f b e not_there h = grind (arith, nat_tests)
 
 pub placed_sleeps : (s j c : ℕ) (p : Place) (f : ℕ → Place) → (p ≡ Waiting c → ⊥) → with_place s p f j ≡ Waiting c
     → (j ≡ s → ⊥) × (f j ≡ Waiting c)
@@ -33,40 +33,17 @@ outside_not c e = cc
 pub active_not : (c : ℕ) → Active ≡ Waiting c → ⊥
 active_not c e = cc
 
-pub woken_not : (d c : ℕ) → Woken d ≡ Waiting c → ⊥
-woken_not d c e = cc
-
-ran_out_not : (d c : ℕ) → RanOut d ≡ Waiting c → ⊥
-ran_out_not d c e = cc
-
 pub run_out_not : (p : Place) (c : ℕ) → run_out p ≡ Waiting c → ⊥
-run_out_not Outside c e = outside_not c e
-run_out_not Active c e = active_not c e
-run_out_not (Waiting d) c e = ran_out_not d c e
-run_out_not (Woken d) c e = woken_not d c e
-run_out_not (RanOut d) c e = ran_out_not d c e
+run_out_not p c e = grind (arith, nat_tests)
 
 pub unasked_not : (p : Place) (c : ℕ) → woken_unasked p ≡ Waiting c → ⊥
-unasked_not Outside c e = outside_not c e
-unasked_not Active c e = active_not c e
-unasked_not (Waiting d) c e = woken_not d c e
-unasked_not (Woken d) c e = woken_not d c e
-unasked_not (RanOut d) c e = ran_out_not d c e
-
-woken_back_by : (e d c : ℕ) (b : Bool) → (if b then Woken d else Waiting d) ≡ Waiting c → Waiting d ≡ Waiting c
-woken_back_by e d c true h = absurd (woken_not d c h)
-woken_back_by e d c false h = h
+unasked_not p c e = grind (arith, nat_tests)
 
 pub woken_back : (e c : ℕ) (p : Place) → woken e p ≡ Waiting c → p ≡ Waiting c
-woken_back e c Outside h = h
-woken_back e c Active h = h
-woken_back e c (Waiting d) h = woken_back_by e d c (d == e) h
-woken_back e c (Woken d) h = h
-woken_back e c (RanOut d) h = h
+woken_back e c p h = grind (arith, nat_tests)
 
 pub signalled_back : (e j c : ℕ) (w : Option ℕ) (f : ℕ → Place) → signalled e w f j ≡ Waiting c → f j ≡ Waiting c
-signalled_back e j c None f h = h
-signalled_back e j c (Some k) f h = (placed_sleeps k j c (Woken e) f (woken_not e c) h).1
+signalled_back e j c w f h = grind (arith, nat_tests)
 
 -- ---- who sleeps after a line
 
@@ -76,15 +53,10 @@ HoldersAct x = (s : ℕ) → x.lock ≡ Some s → x.place s ≡ Active
 
 sender_awake : (m : Setting) (x : State) (s c : ℕ) → HoldersAct x → MaySignal m x s c
     → (x.place s ≡ Active) ⊎ (x.place s ≡ Outside)
-sender_awake m x s c acts h = elim h.sender as (λ k. (x.place s ≡ Active) ⊎ (x.place s ≡ Outside))
-    [ inl lock ↦ inl (acts s lock) | inr out ↦ inr out ]
+sender_awake m x s c acts h = grind (arith, nat_tests)
 
 other_than : (x : State) (s j c : ℕ) → (x.place s ≡ Active) ⊎ (x.place s ≡ Outside) → x.place j ≡ Waiting c → j ≡ s → ⊥
-other_than x s j c awake h same =
-    elim awake as (λ k. ⊥) [
-      | inl acts ↦ active_not c (sym acts ∙ sym (ap x.place same) ∙ h)
-      | inr out ↦ outside_not c (sym out ∙ sym (ap x.place same) ∙ h)
-    ]
+other_than x s j c awake h same = grind (arith, nat_tests)
 
 record HasCome (l : LogLine) (j : ℕ) : Type 0 where
   cond : ℕ
@@ -97,14 +69,7 @@ Sleeper x l j c = ((j ≡ line_seat l → ⊥) × (x.place j ≡ Waiting c)) ⊎
 resumed : (m : Setting) (x : State) (s j c : ℕ) (p : Place)
     → (after_all m x (waking s p ++ Tells (Resume s) None ∷ [])).place j ≡ Waiting c
     → (j ≡ s → ⊥) × (x.place j ≡ Waiting c)
-resumed m x s j c Outside h = placed_sleeps s j c Active x.place (active_not c) h
-resumed m x s j c Active h = placed_sleeps s j c Active x.place (active_not c) h
-resumed m x s j c (Waiting d) h =
-    let first = with_place s (woken_unasked (x.place s)) x.place in
-    let past = placed_sleeps s j c Active first (active_not c) h in
-    (past.0, sym (elsewhere s (woken_unasked (x.place s)) x.place j past.0) ∙ past.1)
-resumed m x s j c (Woken d) h = placed_sleeps s j c Active x.place (active_not c) h
-resumed m x s j c (RanOut d) h = placed_sleeps s j c Active x.place (active_not c) h
+resumed m x s j c p h = grind (arith, nat_tests)
 
 came_by : (x : State) (s j c e : ℕ) (b : Bool) → (j == s) ≡ b → (if b then Waiting e else x.place j) ≡ Waiting c
     → Sleeper x (Wait s e) j c
@@ -142,25 +107,12 @@ EndsAt v i rest = (j c : ℕ) → get_or v.places j Outside ≡ Waiting c → Is
 
 ends_other : (ends : List WaitEnd) (l : LogLine) (e : WaitEnd) (j : ℕ) → (j ≡ line_seat l → ⊥)
     → get_or (ends_after ends l e) j (Resumes 0) ≡ get_or ends j (Resumes 0)
-ends_other ends (Enter s) e j ne = refl
-ends_other ends (Resume s) e j ne = refl
-ends_other ends (Lapse s) e j ne = refl
-ends_other ends (Leave s) e j ne = refl
-ends_other ends (Wait s c) e j ne = get_or-set_other ends s j e (Resumes 0) ne
-ends_other ends (Signal s c) e j ne = refl
-ends_other ends (Broadcast s c) e j ne = refl
-ends_other ends (Until s p) e j ne = refl
-ends_other ends (Act s op r) e j ne = refl
+ends_other ends l e j ne = grind (arith, nat_tests, get_or-set_other)
 
 came_end : (m : Setting) (x : State) (ends : List WaitEnd) (l : LogLine) (e : WaitEnd) (i j : ℕ) (rest : List LogLine)
     → m.seats ≡ length ends → CanStand m x l → IsEnd (line_seat l) (i + 1) e rest → HasCome l j
     → IsEnd j (i + 1) (get_or (ends_after ends l e) j (Resumes 0)) rest
-came_end m x ends l e i j rest many can end came =
-    let can_wait = subst (λ k. CanStand m x k) came.is can in
-    subst (λ k. IsEnd j (i + 1) (get_or (ends_after ends k e) j (Resumes 0)) rest) (sym came.is)
-    (subst (λ v. IsEnd j (i + 1) v rest)
-    (sym (get_or-set_same ends j e (Resumes 0) (subst (λ k. j < k) many can_wait.0)))
-    (subst (λ k. IsEnd (line_seat k) (i + 1) e rest) came.is end))
+came_end m x ends l e i j rest many can end came = grind (arith, nat_tests, get_or-set_same)
 
 pub ends_next : (m : Setting) (v new : Shown) (l : LogLine) (w : Option ℕ) (e : WaitEnd) (i : ℕ) (rest : List LogLine)
     → m.seats ≡ length v.ends → HoldersAct (state_of v) → CanStand m (state_of v) l → EndsAt v i (l ∷ rest)

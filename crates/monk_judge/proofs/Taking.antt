@@ -1,11 +1,10 @@
 -- What holds while a judge takes the lines of a log
-use Rattle.std.proofs.Common.{◌≡◌, Bool, false, ℕ, ◌<◌, ◌≤◌, ◌+◌, ◌*◌, List, [], ◌++◌, Option, Some, None, length, get_or, refl, sym, ap, subst, arith, ◌∙◌}
+use Rattle.std.proofs.Common.{◌≡◌, Bool, false, ℕ, ◌<◌, ◌≤◌, ◌+◌, ◌*◌, List, [], ◌++◌, Option, Some, None, length, get_or, sym, ap, subst, arith, ◌∙◌}
 use Rattle.monk_object.specs.Object.{Object}
 use Rattle.monk_logs.specs.{Crossed.crossed_of, Log.line_seat}
 use Rattle.monk_logs.specs.declared.crossed.Crossed.{Crossed}
 use Rattle.monk_logs.specs.declared.text.line.LogLine.{LogLine}
-use Rattle.monk_logs.specs.declared.text.line.LogLine.TheVariants.{Enter, Resume, Lapse, Leave, Wait, Signal, Broadcast}
-use Rattle.monk_logs.specs.declared.text.line.LogLine.TheVariants.{Until, Act}
+use Rattle.monk_logs.specs.declared.text.line.LogLine.TheVariants.{Enter}
 use Rattle.monk_judge.proofs.{Missing.Known, Missing.known_next, Missing.known_opening, Holding.holder_is, Moves.Moves}
 use Rattle.monk_judge.proofs.{Moves.line_moves, Passing.Marks, Passing.MarksMore, Rivals.marks_next, Returning.Hinted}
 use Rattle.monk_judge.proofs.{Hinting.hinted_few, Hinting.hinted_next, Moments.line_meets}
@@ -24,6 +23,7 @@ use Rattle.monk_judge.specs.Run.{Setting, State, opening}
 use Rattle.monk_judge.specs.Reports.{IsCounted, IsReport, IsTaken, NamesFirstNeed, NamesLastUnheard, fitting}
 use Rattle.monk_judge.specs.Shown.{Refuses, Shown, Takes, own_steps, setting_of, state_of, whom}
 use Rattle.monk_judge.specs.Counts.{count, is_asleep, is_woken, sleepers, woken_ones}
+use Rattle.std.proofs.lemmas.Bool.Decides.{nat_tests}
 
 -- ---- the counts so far
 
@@ -63,15 +63,7 @@ taken_opening o m d lines means v t s passing passed h same many fresh none line
 -- a signal doesn't change the lock
 outside_same : (m : Setting) (x : State) (l : LogLine) (w : Option ℕ) (b : Bool)
     → is_from_outside (after_all m x (steps_at x l w b)).lock l ≡ is_from_outside x.lock l
-outside_same m x (Enter s) w b = refl
-outside_same m x (Resume s) w b = refl
-outside_same m x (Lapse s) w b = refl
-outside_same m x (Leave s) w b = refl
-outside_same m x (Wait s c) w b = refl
-outside_same m x (Signal s c) w b = refl
-outside_same m x (Broadcast s c) w b = refl
-outside_same m x (Until s p) w b = refl
-outside_same m x (Act s op r) w b = refl
+outside_same m x l w b = grind (arith, nat_tests)
 
 missed_next : (o : Object) (m : Setting) (d : List ℕ) (lines : List LogLine) (means : List WaitsFor) (i : ℕ)
     (v new : Shown) (steps : List Step) (e : WaitEnd) (what : Told) (s u : Missed)
@@ -105,15 +97,7 @@ pub record Looks (log : List LogLine) (seats i : ℕ) (l : LogLine) (y : State)
   pub comes : ComesBack l i on mid u
 
 line_within : (m : Setting) (x : State) (l : LogLine) → CanStand m x l → line_seat l < m.seats
-line_within m x (Enter s) can = can.0
-line_within m x (Resume s) can = can.0
-line_within m x (Lapse s) can = can.0
-line_within m x (Leave s) can = can.0
-line_within m x (Wait s c) can = can.0
-line_within m x (Signal s c) can = can.seat
-line_within m x (Broadcast s c) can = can.seat
-line_within m x (Until s p) can = absurd can
-line_within m x (Act s op r) can = can.0
+line_within m x l can = grind (arith, nat_tests)
 
 record Beside (log : List LogLine) (seats : ℕ) (all : List Moment) (y : State) (passing passed : List (Option ℕ))
     (h : Hints) : Type 0 where

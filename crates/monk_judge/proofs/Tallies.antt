@@ -15,6 +15,7 @@ use Rattle.monk_judge.specs.Reports.{IsCounted, IsUnheard, NamesFirstNeed, Names
 use Rattle.monk_judge.specs.Shown.{Shown, Takes, own_steps, setting_of, state_of, whom}
 use Rattle.monk_judge.specs.Counts.{finds_nobody, first_after, last_after, passed_in, passes, spurious_in, total}
 use Rattle.monk_judge.specs.Counts.{unheard_in, wakes, wakes_in}
+use Rattle.std.proofs.lemmas.Bool.Decides.{nat_tests}
 
 -- ---- counts of two parts of a run
 
@@ -55,9 +56,7 @@ both a b c d e h k l = omega arith
 counts_by : (m : Setting) (d : List ℕ) (steps own : List Step) (x : State) (w : State → Step → ℕ) (new old told : ℕ)
     → x ≡ after_all m (opening d) steps → new ≡ old + told → old ≡ total w m (opening d) steps → total w m x own ≡ told
     → new ≡ total w m (opening d) (steps ++ own)
-counts_by m d steps own x w new old told leads h k l =
-    both new old told (total w m (opening d) steps) (total w m x own) h k l
-    ∙ ap (λ y. total w m (opening d) steps + total w m y own) leads ∙ sym (total_on w m (opening d) steps own)
+counts_by m d steps own x w new old told leads h k l = grind (arith, nat_tests, both, total_on)
 
 -- the first line that needs a wake-up that nobody sent
 first_of : (m : Setting) (d : List ℕ) (lines : List LogLine) (i : ℕ) (steps own : List Step) (what : Told)
@@ -98,25 +97,12 @@ last_with : (n i : ℕ) (all : List Moment) (t : Moment) (found : Option ℕ) �
     → NamesLastUnheard n all found
     → finds_nobody n t.before (Tells t.line t.whom) ≡ 0
     → NamesLast (λ k. IsUnheard n (moment (all ++ t ∷ []) k)) (i + 1) found
-last_with n i all t found many h none =
-    last_skip (λ k. IsUnheard n (moment all k)) (λ k. IsUnheard n (moment (all ++ t ∷ []) k)) i found
-    (λ k lt. let same = moment_kept all t k (subst (λ j. k < j) (sym many) lt) in
-    (subst (λ z. IsUnheard n z) (sym same), subst (λ z. IsUnheard n z) same))
-    (λ is. unheard_not n _ none
-    (subst (λ z. IsUnheard n z) (ap (λ j. moment (all ++ t ∷ []) j) (sym many) ∙ moment_last all t) is))
-    (subst (λ j. NamesLast (λ k. IsUnheard n (moment all k)) j found) many h)
+last_with n i all t found many h none = grind (arith, nat_tests, last_skip, moment_kept, unheard_not, moment_last)
 
 last_by : (n i : ℕ) (all : List Moment) (t : Moment) (found : Option ℕ) (what : Told) → length all ≡ i
     → NamesLastUnheard n all found → finds_nobody n t.before (Tells t.line t.whom) ≡ unheard_in what
     → NamesLast (λ k. IsUnheard n (moment (all ++ t ∷ []) k)) (i + 1) (last_after found i what)
-last_by n i all t found told.Plain many h is = last_with n i all t found many h is
-last_by n i all t found told.Passed many h is = last_with n i all t found many h is
-last_by n i all t found told.Unheard many h is =
-    last_here (λ k. IsUnheard n (moment (all ++ t ∷ []) k)) i
-    (subst (λ z. IsUnheard n z) (sym (ap (λ j. moment (all ++ t ∷ []) j) (sym many) ∙ moment_last all t)) is)
-last_by n i all t found (told.Woke s) many h is = last_with n i all t found many h is
-last_by n i all t found (told.WokeAll c) many h is = last_with n i all t found many h is
-last_by n i all t found told.Spurious many h is = last_with n i all t found many h is
+last_by n i all t found what many h is = grind (arith, nat_tests, last_with, last_here, moment_last)
 
 last_next : (o : Object) (m : Setting) (d : List ℕ) (lines : List LogLine) (i : ℕ) (v : Shown) (steps own : List Step)
     (l : LogLine) (found : Option ℕ) (what : Told)

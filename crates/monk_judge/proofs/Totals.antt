@@ -1,5 +1,5 @@
 -- Wake-ups that nobody sent are the sum of those on each condition
-use Rattle.std.proofs.Common.{◌≡◌, ℕ, zero, suc, ◌+◌, ◌<◌, ◌≤◌, ◌==◌, ◌⊎◌, inl, inr, Bool, true, false, List, [], ◌∷◌, if◌then◌else◌, refl, sym, ap, subst, arith}
+use Rattle.std.proofs.Common.{◌≡◌, ℕ, zero, suc, ◌+◌, ◌<◌, ◌≤◌, ◌==◌, ◌⊎◌, inl, inr, Bool, List, [], ◌∷◌, if◌then◌else◌, refl, sym, ap, arith}
 use Rattle.std.proofs.lemmas.Bool.{eq-eqb, ne_eqb}
 use Rattle.monk_logs.specs.declared.text.line.LogLine.TheVariants.{Enter, Resume, Lapse, Leave, Wait, Signal, Broadcast, Until, Act}
 use Rattle.monk_judge.specs.declared.place.Place.{Place}
@@ -10,6 +10,7 @@ use Rattle.monk_judge.specs.declared.step.Step.{Step}
 use Rattle.monk_judge.specs.declared.step.Step.TheVariants.{Tells, RunsOut, WakesUnasked}
 use Rattle.monk_judge.proofs.LeastLaw.{unasked_on}
 use Rattle.monk_judge.proofs.Sleepers.{active_not, outside_not, placed_sleeps, run_out_not, signalled_back, unasked_not, woken_back}
+use Rattle.std.proofs.lemmas.Bool.Decides.{nat_tests}
 
 -- ---- sums
 
@@ -55,13 +56,9 @@ once e (suc n) lt =
 abbrev AreWithin : Setting → State → Type 0
 AreWithin m x = (j c : ℕ) → x.place j ≡ Waiting c → c < m.conds
 
-waiting_same : (e c : ℕ) → Waiting e ≡ Waiting c → e ≡ c
-waiting_same e c h = cc
-
 waits_within : (m : Setting) (x : State) (s e j c : ℕ) (b : Bool) → e < m.conds → AreWithin m x
     → (if b then Waiting e else x.place j) ≡ Waiting c → c < m.conds
-waits_within m x s e j c true lt old h = let same : e ≡ c = waiting_same e c h in subst (λ k. k < m.conds) same lt
-waits_within m x s e j c false lt old h = old j c h
+waits_within m x s e j c b lt old h = grind (arith, nat_tests)
 
 keeps_within : (m : Setting) (x : State) (step : Step) → May m x step → AreWithin m x → AreWithin m (after m x step)
 keeps_within m x (Tells (Enter s) w) may old j c h = old j c (placed_sleeps s j c Active x.place (active_not c) h).1
@@ -108,8 +105,4 @@ opening_within m d j c h = absurd (outside_not c h)
 pub fewest : (m : Setting) (d : List ℕ) (steps others : List Step) → IsRun m (opening d) steps
     → IsRun m (opening d) others
     → ((c : ℕ) → unasked_on m c (opening d) steps ≤ unasked_on m c (opening d) others) → unasked steps ≤ unasked others
-fewest m d steps others run other h =
-    let a = unasked_is_sum m (opening d) steps run (opening_within m d) in
-    let b = unasked_is_sum m (opening d) others other (opening_within m d) in
-    let le = sum_le (λ c. unasked_on m c (opening d) steps) (λ c. unasked_on m c (opening d) others) m.conds h in
-    omega arith
+fewest m d steps others run other h = grind (arith, nat_tests, unasked_is_sum, opening_within, sum_le, unasked_on)

@@ -6,6 +6,7 @@ use Rattle.monk_judge.proofs.{Among.here_or_below, Moments.moment_kept, Moments.
 use Rattle.monk_judge.specs.{declared.place.Place.TheVariants.Woken, Holding.takes_lock, Run.State}
 use Rattle.monk_judge.specs.Overtaken.{IsPassed, IsRival, IsVisit, seat_at, waits_in}
 use Rattle.monk_judge.specs.Moments.{Moment, moment}
+use Rattle.std.proofs.lemmas.Bool.Decides.{nat_tests}
 
 -- the visit from some line on may overtake the seat: since then it was woken, and nobody signalled there
 pub record IsPassing (all : List Moment) (n s c : ℕ) : Type 0 where
@@ -20,59 +21,29 @@ seat_kept all t k lt = ap (λ z. line_seat z.line) (moment_kept all t k lt)
 
 visit_on : (all : List Moment) (t : Moment) (by n c : ℕ) → n ≤ length all → IsVisit all by n c
     → IsVisit (all ++ t ∷ []) by n c
-visit_on all t by n c le h = record {
-  before = h.before;
-  comes = subst (λ z. z.line ≡ Enter (line_seat z.line))
-      (sym (moment_kept all t by (omega (arith, le, h.before)))) h.comes;
-  alone = λ i from lt. subst (λ z. takes_lock z.line ≡ false)
-      (sym (moment_kept all t i (omega (arith, le, lt)))) (h.alone i from lt);
-  quiet = λ i from lt. subst (λ z. signals_to c z.line ≡ false)
-      (sym (moment_kept all t i (omega (arith, le, lt)))) (h.quiet i from lt);
-}
+visit_on all t by n c le h = grind (arith, nat_tests, moment_kept)
 
 visit_off : (all : List Moment) (t : Moment) (by n c : ℕ) → n ≤ length all → IsVisit (all ++ t ∷ []) by n c
     → IsVisit all by n c
-visit_off all t by n c le h = record {
-  before = h.before;
-  comes = subst (λ z. z.line ≡ Enter (line_seat z.line))
-      (moment_kept all t by (omega (arith, le, h.before))) h.comes;
-  alone = λ i from lt. subst (λ z. takes_lock z.line ≡ false)
-      (moment_kept all t i (omega (arith, le, lt))) (h.alone i from lt);
-  quiet = λ i from lt. subst (λ z. signals_to c z.line ≡ false)
-      (moment_kept all t i (omega (arith, le, lt))) (h.quiet i from lt);
-}
+visit_off all t by n c le h = grind (arith, nat_tests, moment_kept)
 
 rival_on : (log : List LogLine) (all : List Moment) (t : Moment) (by end c : ℕ) → end < length all
     → IsRival log all by end c → IsRival log (all ++ t ∷ []) by end c
-rival_on log all t by end c lt h =
-    let seat = seat_kept all t by (omega (arith, lt, h.visit.before)) in
-    record {
-      visit = visit_on all t by end c (omega arith) h.visit;
-      leaves = ap (λ z. z.line) (moment_kept all t end lt) ∙ h.leaves ∙ ap Leave (sym seat);
-      waits = subst (λ s. waits_in log s c ≡ true) (sym seat) h.waits;
-    }
+rival_on log all t by end c lt h = grind (arith, nat_tests, seat_kept, visit_on, moment_kept)
 
 rival_off : (log : List LogLine) (all : List Moment) (t : Moment) (by end c : ℕ) → end < length all
     → IsRival log (all ++ t ∷ []) by end c → IsRival log all by end c
-rival_off log all t by end c lt h =
-    let seat = seat_kept all t by (omega (arith, lt, h.visit.before)) in
-    record {
-      visit = visit_off all t by end c (omega arith) h.visit;
-      leaves = sym (ap (λ z. z.line) (moment_kept all t end lt)) ∙ h.leaves ∙ ap Leave seat;
-      waits = subst (λ s. waits_in log s c ≡ true) seat h.waits;
-    }
+rival_off log all t by end c lt h = grind (arith, nat_tests, seat_kept, visit_off, moment_kept)
 
 woken_on : (all : List Moment) (t : Moment) (by n s c : ℕ) → n ≤ length all
     → ((i : ℕ) → by ≤ i → i < n → (moment all i).behind.place s ≡ Woken c)
     → (i : ℕ) → by ≤ i → i < n → (moment (all ++ t ∷ []) i).behind.place s ≡ Woken c
-woken_on all t by n s c le h i from lt =
-    ap (λ k. k.behind.place s) (moment_kept all t i (omega (arith, le, lt))) ∙ h i from lt
+woken_on all t by n s c le h i from lt = grind (arith, nat_tests, moment_kept)
 
 woken_off : (all : List Moment) (t : Moment) (by n s c : ℕ) → n ≤ length all
     → ((i : ℕ) → by ≤ i → i < n → (moment (all ++ t ∷ []) i).behind.place s ≡ Woken c)
     → (i : ℕ) → by ≤ i → i < n → (moment all i).behind.place s ≡ Woken c
-woken_off all t by n s c le h i from lt =
-    sym (ap (λ k. k.behind.place s) (moment_kept all t i (omega (arith, le, lt)))) ∙ h i from lt
+woken_off all t by n s c le h i from lt = grind (arith, nat_tests, moment_kept)
 
 pub passed_kept : (log : List LogLine) (all : List Moment) (t : Moment) (n s c : ℕ) → n ≤ length all
     → (IsPassed log all n s c → IsPassed log (all ++ t ∷ []) n s c)

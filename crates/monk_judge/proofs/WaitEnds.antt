@@ -1,9 +1,10 @@
 -- Which of two waits ends earlier
-use Rattle.std.proofs.Common.{◌≡◌, ◌⊎◌, ℕ, ◌≤◌, inl, inr, true, arith, sym, subst}
+use Rattle.std.proofs.Common.{◌≡◌, ◌⊎◌, ℕ, ◌≤◌, true, arith, sym, subst}
 use Rattle.std.{proofs.lemmas.Bool.ltb-true, specs.Prelude.nat_lt}
 use Rattle.monk_judge.specs.Ends.{ResumesBy}
 use Rattle.monk_judge.specs.declared.wait_end.WaitEnd.{WaitEnd}
 use Rattle.monk_judge.specs.declared.wait_end.WaitEnd.TheVariants.{Resumes, RunsOut, Never}
+use Rattle.std.proofs.lemmas.Bool.Decides.{nat_tests}
 
 -- a wait that ends by a later line doesn't end by the earlier one
 pub resumes_later : (self other : WaitEnd) (mine others : ℕ) → self ≡ Resumes mine → other ≡ Resumes others
@@ -16,6 +17,4 @@ resumes_later self other mine others is is_other less same_or_later =
 
 -- one that runs out, or whose end no line tells, doesn't end by a `resume`
 pub resumes_never : (other : WaitEnd) (n : ℕ) → (other ≡ RunsOut) ⊎ (other ≡ Never) → ResumesBy other n → ⊥
-resumes_never other n is by =
-    elim is as (λ z. ⊥)
-    [ inl out ↦ subst (λ e. ResumesBy e n) out by | inr never ↦ subst (λ e. ResumesBy e n) never by ]
+resumes_never other n is by = grind (arith, nat_tests)

@@ -1,25 +1,17 @@
 -- Who waits on which condition, after one more line
-use Rattle.std.proofs.Common.{◌≡◌, ℕ, ◌+◌, ◌*◌, ◌<◌, ◌==◌, ◌&&◌, ◌||◌, ◌⊎◌, inl, inr, Bool, true, false, List, [], length, get_or, set, take, replicate, refl, sym, ap, arith, ◌∙◌}
+use Rattle.std.proofs.Common.{◌≡◌, ℕ, ◌+◌, ◌*◌, ◌<◌, ◌==◌, ◌&&◌, ◌||◌, ◌⊎◌, inl, inr, Bool, true, false, List, [], length, get_or, set, take, replicate, sym, ap, arith, ◌∙◌}
 use Rattle.std.proofs.lemmas.List.{get_or-replicate, get_or-set_other, get_or-set_same, Folds.list_any_more}
 use Rattle.monk_logs.specs.declared.text.line.LogLine.{LogLine}
-use Rattle.monk_logs.specs.declared.text.line.LogLine.TheVariants.{Enter, Resume, Lapse, Leave, Wait, Signal, Broadcast}
-use Rattle.monk_logs.specs.declared.text.line.LogLine.TheVariants.{Until, Act}
+use Rattle.monk_logs.specs.declared.text.line.LogLine.TheVariants.{Enter, Wait}
 use Rattle.monk_judge.specs.{Hints.AreWaiters, Hints.waits_by, Overtaken.is_wait_of, Overtaken.waits_in}
+use Rattle.std.proofs.lemmas.Bool.Decides.{nat_tests}
 
 -- at first nobody waits
 pub waiters_opening : AreWaiters [] (replicate 65536 false)
 waiters_opening s c low few = get_or-replicate 65536 (256 * s + c) false false (omega arith)
 
 pub no_wait : (l : LogLine) (s c : ℕ) → ((t d : ℕ) → l ≡ Wait t d → ⊥) → is_wait_of s c l ≡ false
-no_wait (Enter t) s c h = refl
-no_wait (Resume t) s c h = refl
-no_wait (Lapse t) s c h = refl
-no_wait (Leave t) s c h = refl
-no_wait (Wait t d) s c h = absurd (h t d refl)
-no_wait (Signal t d) s c h = refl
-no_wait (Broadcast t d) s c h = refl
-no_wait (Until t p) s c h = refl
-no_wait (Act t op r) s c h = refl
+no_wait l s c h = grind (arith, nat_tests)
 
 -- the line is no wait
 pub waiters_same : (log : List LogLine) (table : List Bool) (i : ℕ) → i < length log

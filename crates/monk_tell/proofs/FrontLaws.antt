@@ -16,6 +16,7 @@ use Rattle.monk_history.specs.Meaning.Events.{has_conditions, next_of, seat_of, 
 use Rattle.monk_history.specs.declared.event.{Event.Event, Next.Next}
 use Rattle.monk_audit.specs.Settled.{permits}
 use Rattle.monk_tell.specs.{Permitted.candidates, Told.chosen_at}
+use Rattle.std.proofs.lemmas.Bool.Decides.{nat_tests}
 
 -- ---- elements
 
@@ -40,9 +41,7 @@ named e x h = grind arith
 -- ---- fronts
 
 both_ways : (b c d : Bool) → cond b false (cond c d d) ≡ true → d ≡ true
-both_ways true c d h = absurd cc
-both_ways false true d h = h
-both_ways false false d h = h
+both_ways b c d h = grind (arith, nat_tests)
 
 front_is_in : (f : ℕ → Next) (j : ℕ) (xs : List ℕ) → is_front j xs ≡ true → Contains (map f (take 1 xs)) (f j)
 front_is_in f j [] h = absurd cc

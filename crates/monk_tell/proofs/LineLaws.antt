@@ -1,5 +1,5 @@
 -- One more item that a loop has gone through
-use Rattle.std.proofs.Common.{◌≡◌, ℕ, ◌+◌, ◌<◌, Bool, true, false, cond, not, List, [], ◌∷◌}
+use Rattle.std.proofs.Common.{◌≡◌, ℕ, ◌+◌, ◌<◌, Bool, cond, not, List, [], ◌∷◌}
 use Rattle.std.proofs.Common.{◌++◌, length, map, take, get_or, ap, sym, arith, refl, ◌∙◌}
 use Rattle.std.proofs.lemmas.List.{length-map, map-append, take_more, Elements.filter-append}
 use Rattle.std.proofs.lemmas.List.FromFn.{map-range_with_len_more}
@@ -11,6 +11,7 @@ use Rattle.monk_history.specs.Meaning.{Signallers.is_empty, Untils.ready_of}
 use Rattle.monk_audit.specs.{Replay.has, Settled.permits}
 use Rattle.monk_tell.specs.{Cause.conditions_below, Cause.waits_at, Told.condition_lists}
 use Rattle.monk_tell.specs.declared.{lists.SeatList.SeatList, queues.Conditions.Conditions}
+use Rattle.std.proofs.lemmas.Bool.Decides.{nat_tests}
 
 abbrev seats_of : SeatList → List ℕ
 seats_of s = s.0.items
@@ -19,9 +20,7 @@ seats_of s = s.0.items
 pub conditions_more : (queue : ℕ → List ℕ) (i : ℕ) (xs : List SeatList) (x : SeatList)
     → map seats_of xs ≡ conditions_below queue i → x.0.items ≡ queue i
     → map seats_of (xs ++ x ∷ []) ≡ conditions_below queue (i + 1)
-conditions_more queue i xs x so_far is =
-    map-append seats_of xs (x ∷ []) ∙ (λ j. so_far j ++ is j ∷ [])
-    ∙ sym (map-range_with_len_more queue 0 i i (omega arith))
+conditions_more queue i xs x so_far is = grind (arith, nat_tests, map-append, map-range_with_len_more)
 
 first_of_lists : (p : List ℕ → Bool) (xs : List SeatList)
     → position_or_len p (map seats_of xs) ≡ position_or_len (λ x. p x.0.items) xs
@@ -35,8 +34,7 @@ waits_of_lists c s = sym (rw (first_of_lists (has s) c.0.items, length-map) refl
 
 -- if there is no first seat, the queue is empty
 pub empty_if_none_first : (xs : List ℕ) → is_none (slice_get xs 0) ≡ is_empty xs
-empty_if_none_first [] = refl
-empty_if_none_first (x ∷ xs) = refl
+empty_if_none_first xs = grind (arith, nat_tests)
 
 ready_append : (o : Object) (d : List ℕ) (xs ys : List (ℕ × ℕ))
     → ready_of o d (xs ++ ys) ≡ ready_of o d xs ++ ready_of o d ys
@@ -46,8 +44,7 @@ ready_append o d xs ys =
 
 ready_one : (o : Object) (d : List ℕ) (w : ℕ × ℕ) (b : Bool) → o.holds d w.1 ≡ b
     → ready_of o d (w ∷ []) ≡ cond b (w.0 ∷ []) []
-ready_one o d w true h = rw h refl
-ready_one o d w false h = rw h refl
+ready_one o d w b h = grind (arith, nat_tests)
 
 -- the ready seats after one more wait
 pub ready_more : (o : Object) (d : List ℕ) (ws : List (ℕ × ℕ)) (i : ℕ) (b : Bool) → i < length ws
@@ -62,5 +59,4 @@ ready_more o d ws i b there holds =
 pub permits_front : (k : Rules) (ws ss xs : List ℕ) (stays : Bool) (e : Event)
     → permits k (record { waiters = ws; signallers = ss; ready = just (slice_get xs 0) }) stays e
     ≡ permits k (record { waiters = ws; signallers = ss; ready = xs }) stays e
-permits_front k ws ss [] stays e = refl
-permits_front k ws ss (x ∷ xs) stays e = refl
+permits_front k ws ss xs stays e = grind (arith, nat_tests)

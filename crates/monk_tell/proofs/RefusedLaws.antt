@@ -1,10 +1,11 @@
 -- The steps of refused acts, one more at a time
 use Rattle.std.proofs.Common.{◌≡◌, ℕ, ◌+◌, ◌-◌, ◌<◌, ◌≤◌, Bool, cond, List, [], ◌∷◌, ◌++◌, length, take, get_or}
 use Rattle.std.proofs.Common.{sym, ap, arith, ◌∙◌, append_assoc}
-use Rattle.std.proofs.lemmas.List.{append-nil, length-append, length-take, length-take-le, take_all, take-append-le, take_more}
+use Rattle.std.proofs.lemmas.List.{append-nil, length-append, length-take, length-take-le, take-append-le, take_more}
 use Rattle.monk_history.specs.declared.event.Event.{Event}
 use Rattle.monk_history.specs.Meaning.Acts.{is_refused_act, refused_from, refused_steps}
 use Rattle.monk_tell.specs.Told.{ShownSteps, most_told, told_steps}
+use Rattle.std.proofs.lemmas.Bool.Decides.{nat_tests}
 
 -- ---- the steps of one more event
 
@@ -37,16 +38,7 @@ shown first more = record { first = first; more = more }
 -- one more step is listed while there are fewer
 pub told_within : (first : List ℕ) (more step : ℕ) (steps : List ℕ) → length first < most_told
     → shown first more ≡ told_steps steps → shown (first ++ step ∷ []) more ≡ told_steps (steps ++ step ∷ [])
-told_within first more step steps few is =
-    let held : first ≡ take 10 steps = ap (λ (s : ShownSteps). s.first) is in
-    let counted : more ≡ length steps - 10 = ap (λ (s : ShownSteps). s.more) is in
-    let long = ap (λ (l : List ℕ). length l) held ∙ length-take 10 steps in
-    let less : length steps < 10 = omega (arith, few, long) in
-    let longer : length (steps ++ step ∷ []) ≡ length steps + 1 = length-append steps (step ∷ []) in
-    let told = ap (λ (l : List ℕ). l ++ step ∷ []) (held ∙ take_all 10 steps (omega (arith, less)))
-    ∙ sym (take_all 10 (steps ++ step ∷ []) (omega (arith, longer, less))) in
-    let none : more ≡ length (steps ++ step ∷ []) - 10 = omega (arith, counted, longer, less) in
-    λ i. shown (told i) (none i)
+told_within first more step steps few is = grind (arith, nat_tests)
 
 -- or else only counted
 pub told_past : (first : List ℕ) (more step : ℕ) (steps : List ℕ) → most_told ≤ length first

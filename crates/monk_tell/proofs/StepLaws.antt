@@ -18,13 +18,12 @@ use Rattle.monk_audit.specs.declared.verdict.Verdict.{Verdict, TheVariants.Legal
 use Rattle.monk_tell.proofs.TellLaws.{reason_opening}
 use Rattle.monk_tell.specs.{Told.allowed_events, declared.step.Step.Step}
 use Rattle.monk_tell.specs.Steps.{ShownStep, event_step, opening_step, step_after, step_by, step_of}
+use Rattle.std.proofs.lemmas.Bool.Decides.{nat_tests}
 
 -- there are `n` events, and they are legal
 allowed_there : (m : Monitor) (es : List Event) (v : Verdict) (n : ℕ) → IsVerdict m es v → n ≤ allowed_events v
     → n ≤ length es
-allowed_there m es (Legal count) n is few = omega (arith, is.1, few)
-allowed_there m es (Forbidden step reason) n is few =
-    omega (arith, few, is.is_step, slice_get_within es is.before is.fault is.is_there)
+allowed_there m es v n is few = grind (arith, nat_tests, slice_get_within)
 
 allowed_legal : (m : Monitor) (es : List Event) (v : Verdict) (n : ℕ) → IsVerdict m es v → n ≤ allowed_events v
     → IsLegal m (take n es)
@@ -107,9 +106,4 @@ step_told m es before i xs x told is =
 -- an event's step, from the situations before it and after it
 pub event_told : (m : Monitor) (es : List Event) (n : ℕ) (t u : Situation) → t ≡ situation m (take n es)
     → u ≡ situation m (take (n + 1) es) → step_by m t (event_of es n) u ≡ event_step m es (n + 1)
-event_told m es n t u stands reached =
-    (λ i. step_by m (stands i) (event_of es n) (reached i))
-    ∙ ap (λ (k : ℕ). step_by m (situation m (take k es)) (event_of es k) (situation m (take (n + 1) es))) before
-  where
-    before : n ≡ n + 1 - 1
-    before = omega arith
+event_told m es n t u stands reached = grind (arith, nat_tests)

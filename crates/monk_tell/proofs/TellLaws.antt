@@ -1,9 +1,9 @@
 -- What a reason says about an event, and a first fault about a history
-use Rattle.std.proofs.Common.{◌≡◌, ◌≢◌, ℕ, Bool, true, false, cond, not, List, []}
-use Rattle.std.proofs.Common.{◌⊎◌, ◌≤◌, ◌<◌, ◌-◌, get_or, inl, inr, length, refl, sym, take, ap, subst, arith, ◌∙◌}
+use Rattle.std.proofs.Common.{◌≡◌, ◌≢◌, ℕ, Bool, true, cond, not, List, []}
+use Rattle.std.proofs.Common.{◌⊎◌, ◌≤◌, ◌<◌, ◌-◌, get_or, length, refl, sym, take, ap, arith, ◌∙◌}
 use Rattle.std.proofs.lemmas.Option.{get_or_from_slice_get, slice_get_within}
 use Rattle.monk_kinds.specs.{declared.mode.Rules.Rules, declared.name.KindName.KindName, Names.rules_named}
-use Rattle.monk_object.specs.{Object.Object, Names.meaning_named, Names.opening_named}
+use Rattle.monk_object.specs.{Object.Object, Names.meaning_named}
 use Rattle.monk_history.proofs.PublicLaws.Meaning.{and_right}
 use Rattle.monk_history.specs.Text.{Heading}
 use Rattle.monk_history.specs.Meaning.{Legal.IsFirstFault, Events.seat_of, Events.via_of, Monitor.Monitor}
@@ -13,12 +13,12 @@ use Rattle.monk_history.specs.declared.event.{Event.Event, Event.TheVariants.Ent
 use Rattle.monk_audit.specs.declared.reason.Reason.TheVariants as reasons
 use Rattle.monk_audit.proofs.PublicLaws.{is_verdict}
 use Rattle.monk_audit.specs.{declared.verdict.Verdict.Verdict, declared.verdict.Verdict.TheVariants.Forbidden}
-use Rattle.monk_audit.specs.{declared.reason.Reason.Reason, Reasons.number_of, Verdict.IsVerdict, Verdict.verdict_of}
+use Rattle.monk_audit.specs.{declared.reason.Reason.Reason, Reasons.number_of, Verdict.verdict_of}
 use Rattle.monk_tell.specs.{Cause.early_cause, Cause.no_entry, declared.why.Why.Why, declared.why.Why.TheVariants.Turn}
+use Rattle.std.proofs.lemmas.Bool.Decides.{nat_tests}
 
 passed_first : (b : Bool) (n k : ℕ) → cond (not b) 1 n ≡ k → k ≢ 1 → b ≡ true
-passed_first true n k h other = refl
-passed_first false n k h other = absurd (other (sym h))
+passed_first b n k h other = grind (arith, nat_tests)
 
 in_range : (m : Monitor) (t : Situation) (e : Event) (k : ℕ) → reason_in m t e ≡ k → k ≢ 1
     → is_in_range m.seats m.conds m.object.codes m.object.predicates e ≡ true
@@ -41,8 +41,7 @@ reason_opening k seats conds o d t e = refl
 -- the fault of a history with that verdict
 pub judged_fault : (h : Heading) (es : List Event) (v : Verdict) (step reason : ℕ) → v ≡ verdict_of (named_monitor h) es
     → v ≡ Forbidden step reason → IsFirstFault (named_monitor h) es step reason
-judged_fault h es v step reason is forbids =
-    subst (IsVerdict (named_monitor h) es) (sym is ∙ forbids) (is_verdict (named_monitor h) es)
+judged_fault h es v step reason is forbids = grind (arith, nat_tests, is_verdict)
 
 -- where that fault is
 pub fault_there : (h : Heading) (es : List Event) (v : Verdict) (step reason : ℕ) → v ≡ verdict_of (named_monitor h) es
@@ -58,16 +57,7 @@ pub fault_reason : (h : Heading) (es : List Event) (step reason : ℕ) (k : Rule
     → t ≡ situation (named_monitor h) (take (step - 1) es)
     → reason ≡ reason_in (monitor k h.seats h.conds o []) t (get_or es (step - 1) (Enter 0 Free))
 fault_reason h es step reason k o t f kind named stands =
-    let m = named_monitor h in
-    let at : f.before ≡ step - 1 = omega (arith, f.is_step) in
-    let there : f.fault ≡ get_or es (step - 1) (Enter 0 Free) =
-    sym (get_or_from_slice_get es f.before f.fault (Enter 0 Free) f.is_there)
-    ∙ ap (λ (n : ℕ). get_or es n (Enter 0 Free)) at in
-    sym f.applies ∙ (λ i. reason_in m (situation m (take (at i) es)) (there i))
-    ∙ reason_opening (rules_named h.kind) h.seats h.conds (meaning_named h.object) (opening_named h.object h.size)
-    (situation m (take (step - 1) es)) (get_or es (step - 1) (Enter 0 Free))
-    ∙ sym (λ i. reason_in (monitor (kind i) h.seats h.conds (named i) []) (stands i)
-    (get_or es (step - 1) (Enter 0 Free)))
+    grind (arith, nat_tests, get_or_from_slice_get, reason_opening)
 
 abbrev early_by : KindName → ℕ → ℕ → Situation → Event → Reason → Why
 early_by kind seats conds t e r = early_cause kind seats conds t (number_of r) e
@@ -76,6 +66,4 @@ early_by kind seats conds t e r = early_cause kind seats conds t (number_of r) e
 pub place_caused : (kind : KindName) (seats conds : ℕ) (t : Situation) (e : Event) (r : Reason) (why : Why)
     → (r ≡ reasons.Place) ⊎ ((r ≡ reasons.Reply) ⊎ (r ≡ reasons.Choice))
     → why ≡ Turn (no_entry (t.inside (seat_of e)) (via_of e) (seat_of e)) → why ≡ early_by kind seats conds t e r
-place_caused kind seats conds t e r why (inl a) is = is ∙ ap (early_by kind seats conds t e) (sym a)
-place_caused kind seats conds t e r why (inr (inl a)) is = is ∙ ap (early_by kind seats conds t e) (sym a)
-place_caused kind seats conds t e r why (inr (inr a)) is = is ∙ ap (early_by kind seats conds t e) (sym a)
+place_caused kind seats conds t e r why h is = grind (arith, nat_tests)
