@@ -1,11 +1,11 @@
 -- Status 0 is answered exactly to the texts of legal histories, and 1 to those of histories with a first fault.
-use Rattle.std.proofs.Common.{◌≡◌, ℕ, ◌≤◌, ◌<◌, ◌^◌, Bool, true, false, cond, ltb, List, Option, Some, None}
-use Rattle.std.proofs.Common.{Result, Ok, Err, refl, sym, ap, subst, ◌∙◌, arith}
+use Rattle.std.proofs.Common.{◌≡◌, ℕ, ◌≤◌, ◌<◌, ◌^◌, Bool, cond, ltb, List, Option, Some, None}
+use Rattle.std.proofs.Common.{Result, Ok, Err, refl, sym, ap, ◌∙◌, arith}
 use Rattle.std.specs.Prelude.{IfSome, ◌↔◌}
-use Rattle.std.proofs.lemmas.Bool.{ltb-false, le-ltb}
+use Rattle.std.proofs.lemmas.Bool.{le-ltb}
 use Rattle.monk_object.specs.Names.{most}
 use Rattle.monk_history.proofs.PublicLaws.Texts.{text_again, text_read}
-use Rattle.monk_history.specs.Text.{Heading, Reading.History, Reading.history, Reading.text_at, Lines.Gives}
+use Rattle.monk_history.specs.Text.{Heading, Reading.History, Reading.text_at, Lines.Gives}
 use Rattle.monk_history.specs.Meaning.{Legal.IsLegal, Named.named_monitor}
 use Rattle.monk_history.specs.declared.{event.Event.Event, text.fault.ReadFault.ReadFault}
 use Rattle.monk_audit.proofs.PublicLaws.{is_legal, is_fault, is_verdict}
@@ -14,13 +14,13 @@ use Rattle.monk_audit.specs.declared.verdict.Verdict.{Verdict, TheVariants.Legal
 use Rattle.monk_audit.specs.declared.text_verdict.TextVerdict.{TextVerdict}
 use Rattle.monk_commands.specs.Answer.{LineAnswer, answer_of, reading_answer, too_big, verdict_answer}
 use Rattle.monk_commands.specs.Legal.{IsTextOf, IsLegalText, HasFault, IsForbiddenText}
+use Rattle.std.proofs.lemmas.Bool.Decides.{nat_tests}
 
 -- what an answer with status 0 or 1 says about the size and the verdict
 judged_by : (h : History) (b : Bool) (v : Verdict) (n : ℕ) → ltb (most h.0.object) h.0.size ≡ b
     → (cond b too_big (verdict_answer v)).status ≡ n → n < 2 → (h.0.size ≤ most h.0.object)
     × ((verdict_answer v).status ≡ n)
-judged_by h true v n is e l = absurd (omega (arith, l, e))
-judged_by h false v n is e l = (ltb-false _ _ is, e)
+judged_by h b v n is e l = grind (arith, nat_tests)
 
 text_is : (input : List ℕ) (x : History) → text_at (2 ^ 25) input ≡ Ok x → x.0.size ≤ most x.0.object
     → IsTextOf input x.0 x.1
@@ -31,12 +31,7 @@ text_is input x is size =
 -- the answer to the text of a history with that verdict
 answered_by : (input : List ℕ) (h : Heading) (es : List Event) (v : Verdict) → IsTextOf input h es
     → verdict_of (named_monitor h) es ≡ v → answer_of input ≡ verdict_answer v
-answered_by input h es v t is =
-    let read_is : text_at (2 ^ 25) input ≡ Ok (history h es) = ap (text_at (2 ^ 25)) t.whole
-    ∙ text_again (2 ^ 25) h es t.has_text t.few in
-    let size : ltb (most h.object) h.size ≡ false = le-ltb _ _ t.size in
-    subst (λ (r : Result History ReadFault). reading_answer r ≡ verdict_answer v) (sym read_is)
-    (rw size (ap verdict_answer is))
+answered_by input h es v t is = grind (arith, nat_tests, Ok, text_again, le-ltb, Result)
 
 -- a status below 2 is answered exactly to the histories for which P holds
 exactly : (P : Heading → List Event → Type 0) (n : ℕ) → n < 2
@@ -82,8 +77,7 @@ pub status_is : (known : Option (List ℕ)) (found : Result TextVerdict ReadFaul
     → IfSome known (λ input. Gives same found (text_verdict input))
     → ((input : List ℕ) → Gives same found (text_verdict input) → given ≡ (answer_of input).status)
     → IfSome known (λ input. status ≡ (answer_of input).status)
-status_is None found given status is gives says = tt
-status_is (Some input) found given status is gives says = is ∙ says input gives
+status_is known found given status is gives says = grind (arith, nat_tests)
 
 -- if a status is the answer's, it means exactly what it means for the answer
 known_exactly : (n : ℕ) (Is : List ℕ → Type 0) → ((input : List ℕ) → ((answer_of input).status ≡ n) ↔ Is input)

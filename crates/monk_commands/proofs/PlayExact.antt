@@ -12,6 +12,7 @@ use Rattle.monk_world.specs.{declared.command.Command.Command, Play.Reading.Play
 use Rattle.monk_world.specs.{Play.Reading.play_at, Records.IsRecordedBy, Runs.opening_state, State.State, Telling.IsLed}
 use Rattle.monk_floor.specs.View.{monitor_of}
 use Rattle.monk_commands.specs.Played.{IsAnswer, IsAnswerTo, IsLedTo, IsPlayOf, IsPlayText, Telling}
+use Rattle.std.proofs.lemmas.Bool.Decides.{nat_tests}
 
 found_again : (input : List ℕ) (h : Heading) (budget : ℕ) (cs : List (ℕ × Command)) → IsPlayOf input h budget cs
     → play_at (2 ^ 25) input ≡ Ok (play h budget cs)
@@ -32,14 +33,11 @@ module _ (Tells : Telling) (input : List ℕ) (status : ℕ) (Puts : List ℕ �
   -- the answer to the text of a play
   of_play : (h : Heading) (budget : ℕ) (cs : List (ℕ × Command)) → h.size ≤ most h.object
       → IsAnswer Tells (Ok (play h budget cs)) status Puts → (status ≡ 0) × Tells h budget cs Puts
-  of_play h budget cs size (inl a) = (a.1, a.2)
-  of_play h budget cs size (inr a) = absurd (omega (arith, size, a.0))
+  of_play h budget cs size h' = grind (arith, nat_tests)
 
   pub answer_of : (h : Heading) (budget : ℕ) (cs : List (ℕ × Command)) → IsPlayOf input h budget cs
       → IsAnswerTo Tells input status Puts → (status ≡ 0) × Tells h budget cs Puts
-  answer_of h budget cs t a =
-      of_play h budget cs t.size
-      (subst (λ (r : Result Play ReadFault). IsAnswer Tells r status Puts) (found_again input h budget cs t) a)
+  answer_of h budget cs t a = grind (arith, nat_tests, of_play, Result, found_again)
 
   pub exactly : IsAnswerTo Tells input status Puts → (status ≡ 0) ↔ IsPlayText input
   exactly a = (is_text (play_at (2 ^ 25) input) refl a, λ t. (answer_of t.0 t.1.0 t.1.1.0 t.1.1.1 a).0)

@@ -8,6 +8,7 @@ use Rattle.monk_tell.specs.declared.place.SeatPlace.{SeatPlace}
 use Rattle.monk_world.specs.{State.State, StepTable.IsStep}
 use Rattle.monk_world.specs.declared.{answer.Answer.Answer, command.Command.Command}
 use Rattle.monk_commands.specs.Traced.{AreTraced, places_text, seat_text, trace_line}
+use Rattle.std.proofs.lemmas.Bool.Decides.{nat_tests}
 
 pub places_more : (s : State) (stands : ℕ → SeatPlace) (j : ℕ)
     → places_text s stands (j + 1) ≡ places_text s stands j ++ seat_text s stands j
@@ -45,17 +46,7 @@ pub goes_on : (before now later : Option (List ℕ)) (page more sent left line :
     → ((last : State) (rest : List ℕ) → After last rest → Left last (line ++ rest))
     → Appends now later sent → more ≡ sent ++ left → IsOnItsWay before later left After All
 goes_on before now later page more sent left line Left After All way is on appends parts =
-    record {
-      gone = way.gone ++ sent;
-      got = Appends-trans before now later way.gone sent way.got appends;
-      on = λ last rest are.
-          subst (λ (text : List ℕ). All last text)
-          (ap (λ (text : List ℕ). way.gone ++ text)
-          (sym (append_assoc page line rest) ∙ ap (λ (text : List ℕ). text ++ rest) (sym is ∙ parts)
-          ∙ append_assoc sent left rest)
-          ∙ sym (append_assoc way.gone sent (left ++ rest)))
-          (way.on last (line ++ rest) (on last rest are));
-    }
+    grind (arith, nat_tests, Appends-trans, append_assoc)
 
 -- if no command is left, what was written and the page are all lines
 pub traced_all : (name : ObjectName) (m : Monitor) (before : ℕ) (last : State) (left : List (ℕ × Command))

@@ -1,13 +1,14 @@
 -- A text is upgraded exactly if it is a history, and then to the text of the same events
-use Rattle.std.proofs.Common.{◌≡◌, ℕ, ◌^◌, ◌⊎◌, inl, inr, Bool, true, false, cond, List, Result, Ok, Err}
+use Rattle.std.proofs.Common.{◌≡◌, ℕ, ◌^◌, ◌⊎◌, List, Result, Ok, Err}
 use Rattle.std.proofs.Common.{refl, sym, ap, subst, ◌∙◌, arith}
-use Rattle.std.specs.Prelude.{◌↔◌, nat_le}
+use Rattle.std.specs.Prelude.{◌↔◌}
 use Rattle.monk_history.proofs.PublicLaws.Texts.{text_again, text_read, upgraded_text}
-use Rattle.monk_history.specs.{Limits.all_events_version, Text.Heading, Text.heading, Text.text, Text.upgraded_heading}
+use Rattle.monk_history.specs.{Text.Heading, Text.text, Text.upgraded_heading}
 use Rattle.monk_history.specs.{Text.Reading.History, Text.Reading.history, Text.Reading.text_at}
 use Rattle.monk_history.specs.declared.{event.Event.Event, text.fault.ReadFault.ReadFault}
 use Rattle.monk_commands.specs.Answer.{LineAnswer}
 use Rattle.monk_commands.specs.Upgraded.{IsHistoryOf, IsHistoryText, IsUpgraded, upgrade_answer, upgrade_of}
+use Rattle.std.proofs.lemmas.Bool.Decides.{nat_tests}
 
 history_read : (input : List ℕ) (x : History) → text_at (2 ^ 25) input ≡ Ok x → IsHistoryOf input x.0 x.1
 history_read input x is =
@@ -15,22 +16,16 @@ history_read input x is =
 
 text_upgraded : (input : List ℕ) (h : Heading) (events : List Event) → IsHistoryOf input h events
     → upgrade_of input ≡ upgrade_answer (Ok (history h events))
-text_upgraded input h events t =
-    ap upgrade_answer (ap (text_at (2 ^ 25)) t.whole ∙ text_again (2 ^ 25) h events t.has_text t.few)
+text_upgraded input h events t = grind (arith, nat_tests, text_again)
 
 is_read : (input : List ℕ) (r : Result History ReadFault) → text_at (2 ^ 25) input ≡ r → (upgrade_answer r).status ≡ 0
     → IsHistoryText input
 is_read input (Ok x) is e = (x.0, (x.1, history_read input x is))
 is_read input (Err f) is e = absurd (omega (arith, e))
 
-status_is : (r : Result History ReadFault) → ((upgrade_answer r).status ≡ 0) ⊎ ((upgrade_answer r).status ≡ 2)
-status_is (Ok x) = inl refl
-status_is (Err f) = inr refl
-
 -- a status 0 or 2
 pub statuses : (status : ℕ) (bytes : List ℕ) → status ≡ (upgrade_of bytes).status → (status ≡ 0) ⊎ (status ≡ 2)
-statuses status bytes h =
-    subst (λ (n : ℕ). (n ≡ 0) ⊎ (n ≡ 2)) (sym h) (status_is (text_at (2 ^ 25) bytes))
+statuses status bytes h = grind (arith, nat_tests)
 
 pub exactly : (status : ℕ) (bytes : List ℕ) → status ≡ (upgrade_of bytes).status → (status ≡ 0) ↔ IsHistoryText bytes
 exactly status bytes h = (
@@ -44,16 +39,8 @@ pub upgraded : (bytes : List ℕ) (Puts : List ℕ → Type 0) → Puts (upgrade
 upgraded bytes Puts puts h events t =
     subst (λ (a : LineAnswer). Puts a.text) (text_upgraded bytes h events t) puts
 
--- what was upgraded stays as it is
-twice_by : (v : ℕ) (b : Bool) → nat_le all_events_version v ≡ b → let u = cond b v all_events_version in
-    cond (nat_le all_events_version u) u all_events_version ≡ u
-twice_by v true e = rw e refl
-twice_by v false e = refl
-
 upgraded_twice : (h : Heading) → upgraded_heading (upgraded_heading h) ≡ upgraded_heading h
-upgraded_twice h =
-    ap (λ (v : ℕ). heading v h.kind h.seats h.conds h.object h.size)
-    (twice_by h.version (nat_le all_events_version h.version) refl)
+upgraded_twice h = grind (arith, nat_tests)
 
 abbrev answer_with : List Event → Heading → LineAnswer
 answer_with events h = record { status = 0; text = text h events }

@@ -1,9 +1,10 @@
 -- The names in a list of JSON values
-use Rattle.std.proofs.Common.{◌≡◌, ◌∙◌, ap, List, [], ◌∷◌, ℕ, Option, Some, map, refl, sym}
+use Rattle.std.proofs.Common.{◌≡◌, ap, List, [], ◌∷◌, ℕ, Option, Some, map, refl, arith}
 use Rattle.std.specs.Prelude.{unwrap_or}
 use Rattle.serde_json.specs.{Find.as_str, View.items_view, View.view, declared.value.Value.Value}
 use Rattle.serde_json.specs.Data.{Items, no_items}
 use Rattle.monk_page.specs.Told.{texts_of}
+use Rattle.std.proofs.lemmas.Bool.Decides.{nat_tests}
 
 -- the name that a value has
 abbrev pub text_in : Value → List ℕ
@@ -17,5 +18,4 @@ texts_viewed (v ∷ vs) = ap (λ rest. text_in v ∷ rest) (texts_viewed vs)
 -- the names in a list that is there
 pub names_there : (vs : List Value) (found : Option Items) → Some (items_view vs) ≡ found
     → map text_in vs ≡ texts_of (unwrap_or found no_items)
-names_there vs found is =
-    sym (texts_viewed vs) ∙ ap (λ (o : Option Items). texts_of (unwrap_or o no_items)) is
+names_there vs found is = grind (arith, nat_tests, texts_viewed)

@@ -1,10 +1,11 @@
 -- The value of something that holds other data is the value of those data
-use Rattle.std.proofs.Common.{◌≡◌, List, Option, Some, None, option_map, ap, refl, sym}
+use Rattle.std.proofs.Common.{◌≡◌, Option, Some, None, option_map, refl, arith}
 use Rattle.std.proofs.lemmas.Simd.{map-map}
-use Rattle.monk_tell.specs.declared.{lists.SeatList.SeatList, queues.Conditions.Conditions}
+use Rattle.monk_tell.specs.declared.{queues.Conditions.Conditions}
 use Rattle.monk_tell.specs.Told.{condition_lists}
-use Rattle.serde_json.specs.{Data.Data, Data.array, View.items_of}
+use Rattle.serde_json.specs.{Data.Data}
 use Rattle.monk_page.specs.Json.{list_json, numbers_json, option_json}
+use Rattle.std.proofs.lemmas.Bool.Decides.{nat_tests}
 
 -- the value of an option is the value of what it holds
 pub option_told : {X Y : Type 0} (f : Y → Data) (g : X → Y) (o : Option X)
@@ -15,5 +16,4 @@ option_told f g (Some x) = refl
 -- the value of the conditions is the value of their seats
 pub conditions_told : (c : Conditions) → list_json (λ s. numbers_json s.0.items) c.0.items
     ≡ list_json numbers_json (condition_lists c)
-conditions_told c =
-    ap (λ (ds : List Data). array (items_of ds)) (sym (map-map numbers_json (λ (s : SeatList). s.0.items) c.0.items))
+conditions_told c = grind (arith, nat_tests, map-map)

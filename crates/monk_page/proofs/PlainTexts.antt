@@ -24,8 +24,7 @@ digit_bare : (d : ℕ) → d < 10 → is_bare_byte (digit_glyph false d) ≡ tru
 digit_bare d l = grind (arith, nat_tests)
 
 either : (b : Bool) (s t : List ℕ) → is_bare s ≡ true → is_bare t ≡ true → is_bare (cond b s t) ≡ true
-either true s t p q = p
-either false s t p q = q
+either b s t p q = grind (arith, nat_tests)
 
 digits_bare : (k n : ℕ) (acc : List ℕ) → is_bare acc ≡ true → is_bare (digits_onto k 10 false n acc) ≡ true
 digits_bare zero n acc p = p

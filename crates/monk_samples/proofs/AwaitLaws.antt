@@ -16,10 +16,10 @@ use Rattle.monk_history.specs.Meaning.Events.{seat_of, next_of, is_stay, is_unti
 use Rattle.monk_history.specs.Meaning.Untils.{untils, chooses, waits_until, StaysWhereItHolds}
 use Rattle.monk_history.specs.declared.event.{From3.From3, From3.TheVariants.Until as FromUntil, Turn.TheVariants.Due}
 use Rattle.monk_history.specs.declared.event.Next.{Next}
-use Rattle.monk_history.specs.declared.event.Next.TheVariants.{Stay, Entry, Waiter, Signaller, Until as UntilSeat}
+use Rattle.monk_history.specs.declared.event.Next.TheVariants.{Stay}
 use Rattle.monk_history.specs.declared.event.Event.{Event}
-use Rattle.monk_history.specs.declared.event.Event.TheVariants.{Enter, Act, Leave, Wait, Signal, SignalLeave, Until}
-use Rattle.monk_history.specs.declared.event.Event.TheVariants.{Resume, SignalAll, SignalWait}
+use Rattle.monk_history.specs.declared.event.Event.TheVariants.{Until}
+use Rattle.monk_history.specs.declared.event.Event.TheVariants.{Resume}
 use Rattle.monk_kinds.specs.declared.mode.{Pick.Pick, Rules.Rules}
 use Rattle.monk_object.specs.Object.{Object}
 use Rattle.monk_floor.specs.View.{FloorView, monitor_of}
@@ -29,6 +29,7 @@ use Rattle.monk_hall.specs.{AfterCalls.MatchAfter, Changes.source_from, Tokens.T
 use Rattle.monk_hall.specs.Calls.{HasEntered, HasReleased, HasStayed}
 use Rattle.monk_hall.specs.declared.after.After.{After, TheVariants.Active, TheVariants.Parked}
 use Rattle.monk_samples.specs.Styles.{Holds}
+use Rattle.std.proofs.lemmas.Bool.Decides.{nat_tests}
 
 -- the seats of these waits
 abbrev seats_in : List (ℕ × ℕ) → List ℕ
@@ -36,24 +37,10 @@ seats_in us = map (λ u. u.0) us
 
 -- an event of the seat that the turn is due to is its own
 due_own : (s : ℕ) (q : From3) (e : Event) → fits_turn (Due s q) e ≡ true → seat_of e ≡ s
-due_own s q (Enter j via) h = absurd (false≢true h)
-due_own s q (Act j op r) h = absurd (false≢true h)
-due_own s q (Leave j x) h = absurd (false≢true h)
-due_own s q (Wait j c x) h = absurd (false≢true h)
-due_own s q (Signal j c x) h = absurd (false≢true h)
-due_own s q (SignalLeave j c x) h = absurd (false≢true h)
-due_own s q (Until j p x) h = absurd (false≢true h)
-due_own s q (Resume j r) h = sym (eqb-true s j (and_left _ _ h))
-due_own s q (SignalAll j c) h = absurd (false≢true h)
-due_own s q (SignalWait j c d x) h = absurd (false≢true h)
+due_own s q e h = grind (arith, nat_tests)
 
 until_turn : (s j : ℕ) (x : Option Next) → is_until s x ≡ true → turn_by j x ≡ Due s FromUntil
-until_turn s j None h = absurd (false≢true h)
-until_turn s j (Some Stay) h = absurd (false≢true h)
-until_turn s j (Some Entry) h = absurd (false≢true h)
-until_turn s j (Some (Waiter i)) h = absurd (false≢true h)
-until_turn s j (Some (Signaller i)) h = absurd (false≢true h)
-until_turn s j (Some (UntilSeat i)) h = ap (λ z. Due z FromUntil) (eqb-true i s h)
+until_turn s j x h = grind (arith, nat_tests)
 
 there_then : (s : ℕ) (us vs : List (ℕ × ℕ)) → times s (seats_in us) ≤ times s (seats_in (us ++ vs))
 there_then s [] vs = omega arith
@@ -81,8 +68,7 @@ there_still s f (u ∷ us) keeps = by (f u) refl (there_still s f us keeps)
     by false not_kept more = dropped (u.0 == s) refl not_kept more
 
 at_most : (b : Bool) → ◌≤◌ (cond b 1 0) 1
-at_most true = omega arith
-at_most false = omega arith
+at_most b = grind (arith, nat_tests)
 
 second : (xs : List Event) (x y : Event) → slice_get (xs ++ x ∷ y ∷ []) (suc (length xs)) ≡ Some y
 second [] x y = refl
@@ -288,8 +274,7 @@ module _ (s p : ℕ) where
 own_length : (s : ℕ) (a b : List Event)
     → length (events_of (a ++ b) s) ≡ length (events_of a s) + length (events_of b s)
 unfolding events_of
-own_length s a b = ap length (filter-append (λ e. seat_of e == s) a b)
-    ∙ length-append (filter (λ e. seat_of e == s) a) (filter (λ e. seat_of e == s) b)
+own_length s a b = grind (arith, nat_tests, filter-append, length-append)
 
 none_own : (s : ℕ) (es : List Event) → length (events_of es s) ≡ 0 → NoneIsOf s es
 unfolding events_of

@@ -1,21 +1,19 @@
 -- What a seat has done in its rounds
-use Rattle.std.proofs.Common.{◌≡◌, ℕ, zero, suc, ◌+◌, ◌*◌, Bool, true, false, cond}
-use Rattle.std.proofs.Common.{◌==◌, nat_lt, ◌&&◌, Option, Some, None, List, [], ◌∷◌, ◌++◌}
+use Rattle.std.proofs.Common.{◌≡◌, ℕ, zero, suc, ◌+◌, ◌*◌, Bool, false, cond}
+use Rattle.std.proofs.Common.{◌==◌, Option, Some, None, List, [], ◌∷◌, ◌++◌}
 use Rattle.std.proofs.Common.{refl, sym, ap, ◌∙◌, arith}
-use Rattle.std.proofs.lemmas.{List.Sums.sum_by-append, List.Sums.sum_by-cons, Bool.lt-ltb}
+use Rattle.std.proofs.lemmas.{List.Sums.sum_by-append, List.Sums.sum_by-cons}
 use Rattle.std.specs.List.{sum_by}
 use Rattle.monk_kinds.specs.declared.mode.Rules.{Rules}
 use Rattle.monk_object.specs.{Object.Object, Runs.Answered, Runs.is_done, declared.op.Op.Op}
 use Rattle.monk_history.specs.Meaning.Acts.{acts_in}
-use Rattle.monk_history.specs.declared.event.Next.TheVariants.{Stay}
 use Rattle.monk_history.specs.declared.event.Event.{Event}
-use Rattle.monk_history.specs.declared.event.Event.TheVariants.{Enter, Act, Leave, Wait, Signal, SignalLeave, Until}
-use Rattle.monk_history.specs.declared.event.Event.TheVariants.{Resume, SignalAll, SignalWait}
 use Rattle.monk_hall.specs.{Tokens.Token, declared.setting.Setting.Setting}
 use Rattle.monk_samples.proofs.VisitLaws.{acts_append, calls_acts, calls_out_acts, paused_acts}
 use Rattle.monk_samples.specs.{Rounds.rounds_to, declared.end.End.TheVariants.Done}
-use Rattle.monk_samples.specs.Visits.{Plan, Guard, AreMisses, AreVisits, IsCertain, IsMiss, IsTry, IsVisit, wish_in}
-use Rattle.monk_samples.specs.Trails.{Addition, HasCalled, after, calls_in, events_in, outside}
+use Rattle.monk_samples.specs.Visits.{Plan, Guard, AreMisses, AreVisits, IsCertain, IsMiss, IsTry, IsVisit}
+use Rattle.monk_samples.specs.Trails.{Addition, HasCalled, calls_in, events_in, outside}
+use Rattle.std.proofs.lemmas.Bool.Decides.{nat_tests}
 
 -- what an operation of that code is worth, after it was done and as it is planned
 abbrev pub worth : ℕ → (Op → ℕ) → Answered → ℕ
@@ -45,16 +43,7 @@ own_act : (before : List Event) (e : Event) (own : List Addition)
     → acts_in (events_in own) ≡ acts_in (events_in (calls_in own))
     → acts_in (events_in (record { before = before; event = e } ∷ own))
     ≡ acts_in (events_in (calls_in (record { before = before; event = e } ∷ own)))
-own_act before (Enter s via) own same = same
-own_act before (Act s op r) own same = ap (λ acts. record { op = op; reply = r } ∷ acts) same
-own_act before (Leave s x) own same = same
-own_act before (Wait s c x) own same = same
-own_act before (Signal s c x) own same = same
-own_act before (SignalLeave s c x) own same = same
-own_act before (Until s p x) own same = same
-own_act before (Resume s q) own same = same
-own_act before (SignalAll s c) own same = same
-own_act before (SignalWait s c d x) own same = same
+own_act before e own same = grind (arith, nat_tests)
 
 pub own_acts : (own : List Addition) → acts_in (events_in own) ≡ acts_in (events_in (calls_in own))
 own_acts [] = refl
@@ -66,27 +55,15 @@ alone n = omega arith
 module _ (k : Rules) (o : Object) where
   pub try_acts : (c : Setting) (s : ℕ) (v : Plan) (calls : List Addition) (is : IsTry k o c s v calls)
       → acts_in (events_in calls) ≡ record { op = v.op; reply = is.done.reply } ∷ []
-  try_acts c s v calls is =
-      ap (λ ds. acts_in (events_in ds)) is.are ∙ acts_append k o is.pauses (is.act ∷ is.out)
-      ∙ (λ i. paused_acts k o c s v.guard is.pauses is.done.paused i ++ acts_in (is.done.acts.is i ∷ events_in is.out))
-      ∙ ap (λ acts. record { op = v.op; reply = is.done.reply } ∷ acts)
-      (calls_acts k o (wish_in v.guard) c _ is.out is.goes ∙ calls_out_acts k o s (v.goes_out (after is.act)))
+  try_acts c s v calls is = grind (arith, nat_tests, acts_append, paused_acts, calls_acts, calls_out_acts)
 
   -- a try that missed did no operation that counts
   miss_acts : (c : Setting) (s : ℕ) (v : Plan) (calls : List Addition) (is : IsMiss k o c s v calls)
       → acts_in (events_in calls) ≡ record { op = v.op; reply = 0 } ∷ []
-  miss_acts c s v calls is =
-      ap (λ ds. acts_in (events_in ds)) is.are ∙ acts_append k o is.pauses (is.act ∷ is.leave ∷ [])
-      ∙ (λ i. paused_acts k o c s v.guard is.pauses is.paused i ++ acts_in (is.acts.is i ∷ events_in (is.leave ∷ [])))
-      ∙ ap (λ acts. record { op = v.op; reply = 0 } ∷ acts)
-      (calls_acts k o (wish_in v.guard) c (Leave s Stay ∷ []) (is.leave ∷ []) (is.leaves, tt))
+  miss_acts c s v calls is = grind (arith, nat_tests, acts_append, paused_acts, calls_acts)
 
   worth_nothing : (code : ℕ) (f : Op → ℕ) (op : Op) → worth code f (record { op = op; reply = 0 }) ≡ 0
-  worth_nothing code f op = by (op.code == code)
-    where
-      by : (b : Bool) → cond (b && nat_lt 0 0) (f op) 0 ≡ 0
-      by true = refl
-      by false = refl
+  worth_nothing code f op = grind (arith, nat_tests)
 
   misses_worth : (code : ℕ) (f : Op → ℕ) (c : Setting) (s : ℕ) (v : Plan) (n : ℕ) (calls : List Addition)
       → AreMisses k o c s v n calls → sum_by (worth code f) (acts_in (events_in calls)) ≡ 0
@@ -102,13 +79,7 @@ module _ (k : Rules) (o : Object) where
   worth_here : (code : ℕ) (f : Op → ℕ) (w : Option Guard) (op : Op) (reply : ℕ) → IsSureFor w (op.code == code)
       → IsCertain w reply
       → worth code f (record { op = op; reply = reply }) ≡ cond (op.code == code) (f op) 0
-  worth_here code f None op reply sure certain =
-      ap (λ b. cond (b && nat_lt 0 reply) (f op) 0) sure ∙ sym (ap (λ b. cond b (f op) 0) sure)
-  worth_here code f (Some w) op reply sure certain = by (op.code == code)
-    where
-      by : (b : Bool) → cond (b && nat_lt 0 reply) (f op) 0 ≡ cond b (f op) 0
-      by true = ap (λ b. cond b (f op) 0) (lt-ltb 0 reply certain)
-      by false = refl
+  worth_here code f w op reply sure certain = grind (arith, nat_tests)
 
   visit_worth : (code : ℕ) (f : Op → ℕ) (c : Setting) (s : ℕ) (v : Plan) (calls : List Addition)
       → IsVisit k o c s v calls
@@ -138,10 +109,7 @@ module _ (k : Rules) (o : Object) where
   pub calls_worth : (code : ℕ) (f : Op → ℕ) (p q : Token) (vs : List Plan) (calls : List Addition)
       → HasCalled (outside p) (outside q) calls → AreVisits k o p.me.setting p.me.seat Done vs calls → AreSure code vs
       → p.me.mine ≡ [] → sum_by (worth code f) (acts_in q.me.mine) ≡ sum_by (planned code f) vs
-  calls_worth code f p q vs calls called are sure none =
-      ap (λ h. sum_by (worth code f) (acts_in h)) (called.went.mine ∙ ap (λ h. h ++ events_in called.own) none)
-      ∙ ap (sum_by (worth code f)) (own_acts called.own ∙ ap (λ ds. acts_in (events_in ds)) called.called)
-      ∙ visits_worth code f p.me.setting p.me.seat vs calls are sure
+  calls_worth code f p q vs calls called are sure none = grind (arith, nat_tests, own_acts, visits_worth)
 
 -- what the rounds of a seat are worth, if each is worth the same
 pub rounds_worth : (code : ℕ) (f : Op → ℕ) (round : ℕ → List Plan) (each n : ℕ)

@@ -1,5 +1,5 @@
 -- What becomes of a hasty visit, try by try
-use Rattle.std.proofs.Common.{◌≡◌, ◌<◌, ℕ, suc, Bool, true, false, Result, Ok, Err, arith, Option, Some, [], ◌∷◌, ◌++◌, append_assoc}
+use Rattle.std.proofs.Common.{◌≡◌, ◌<◌, ℕ, suc, true, false, Result, Ok, Err, arith, Option, Some, [], ◌∷◌, ◌++◌, append_assoc}
 use Rattle.std.proofs.Common.{refl, sym, ap, subst, ◌∙◌}
 use Rattle.std.specs.Prelude.{IfOk, MatchResult}
 use Rattle.monk_kinds.specs.declared.mode.Rules.{Rules}
@@ -12,6 +12,7 @@ use Rattle.monk_samples.specs.Asked.{IsCall}
 use Rattle.monk_samples.specs.Visits.{Guard, Plan, HasActed, HasLooked, HasMissed, HasPausedUntil, HasTired}
 use Rattle.monk_samples.specs.Visits.{IsLeftWaiting, IsMiss, hasty_guard, wish_in}
 use Rattle.monk_samples.specs.Trails.{Addition, Trail, HasCalled, inside, outside}
+use Rattle.std.proofs.lemmas.Bool.Decides.{nat_tests}
 
 -- what follows from an operation if the seat acted
 pub acted_ok : {A E : Type 0} (r : Result A E) (P R : A → Type 0) (Q : E → Type 0) → ((a : A) → P a → R a)
@@ -22,11 +23,7 @@ acted_ok (Err e) P R Q f h = tt
 -- only under a kind with conditions an operation is refused
 pub signalled : (k : Rules) (reply : ℕ) → reply ≡ 0 → (has_conditions k.mode ≡ false → 0 < reply)
     → has_conditions k.mode ≡ true
-signalled k reply none done = by (has_conditions k.mode) refl
-  where
-    by : (b : Bool) → has_conditions k.mode ≡ b → has_conditions k.mode ≡ true
-    by true is = is
-    by false is = absurd (omega (arith, none, done is))
+signalled k reply none done = grind (arith, nat_tests)
 
 module _ (k : Rules) (o : Object) where
   -- what follows after the seat has come in

@@ -7,25 +7,25 @@ use Rattle.std.specs.Prelude.{All, AllPairs, sum_by}
 use Rattle.atomic_table.specs.Seated.{TableId}
 use Rattle.monk_kinds.specs.declared.mode.Rules.{Rules}
 use Rattle.monk_object.specs.{Object.Object, Runs.Answered}
-use Rattle.monk_history.specs.Meaning.{Acts.act_of, Acts.acts_in, Counts.events_of}
+use Rattle.monk_history.specs.Meaning.{Acts.acts_in, Counts.events_of}
 use Rattle.monk_history.specs.declared.event.{Event.Event, Event.TheVariants.Leave, Next.TheVariants.Entry, Turn.Turn}
 use Rattle.monk_world.specs.StepTable.{out_event}
-use Rattle.monk_world.specs.declared.source.Source.{Source, TheVariants.Free, TheVariants.Granted, TheVariants.Called}
+use Rattle.monk_world.specs.declared.source.Source.{Source}
 use Rattle.monk_hall.proofs.PublicLaws.{holds_sum}
 use Rattle.monk_hall.specs.{Floors.StartsWith, Records.opening_records, Tokens.House, Tokens.Token, Tokens.tokens}
 use Rattle.monk_hall.specs.Complete.{AreApart, HoldsOnly}
 use Rattle.monk_hall.specs.declared.{deed.Deed.Deed, setting.Setting.Setting}
 use Rattle.monk_samples.proofs.{TrailLaws.starts_here, TrailLaws.starts_then, WholeLaws.of_event, WholeLaws.acts_worth}
-use Rattle.monk_samples.specs.{Crews.IsOf, Ends.HaveServed, Styles.IsSpent, Trails.is_coming}
+use Rattle.monk_samples.specs.{Crews.IsOf, Ends.HaveServed, Trails.is_coming}
 use Rattle.monk_samples.specs.{declared.scenario.Scenario.Scenario}
 use Rattle.monk_samples.specs.Wholes.{IsSame, AreSame, HoldsOperationsOf, IsClosedBy, IsFirstSpent, IsLeftBy}
+use Rattle.std.proofs.lemmas.Bool.Decides.{nat_tests}
 
 pub same_pass : (p : Token) → IsSame p p
 same_pass p = record { hall = refl; seat = refl; setting = refl; mine = refl }
 
 pub same_again : (p q r : Token) → IsSame p q → IsSame q r → IsSame p r
-same_again p q r s t =
-    record { hall = t.hall ∙ s.hall; seat = t.seat ∙ s.seat; setting = t.setting ∙ s.setting; mine = t.mine ∙ s.mine }
+same_again p q r s t = grind (arith, nat_tests)
 
 pub same_then : (ps qs : List Token) (p q : Token) → AreSame ps qs → IsSame p q → AreSame (ps ++ p ∷ []) (qs ++ q ∷ [])
 same_then [] [] p q s t = (t, tt)
@@ -86,11 +86,7 @@ same_worth w (p ∷ ps) (q ∷ qs) s =
 
 own_worth : (weight : Answered → ℕ) (ps : List Token)
     → sum_by (λ p. sum_by (of_event weight) p.me.mine) ps ≡ sum_by (λ p. sum_by weight (acts_in p.me.mine)) ps
-own_worth weight [] = refl
-own_worth weight (p ∷ ps) =
-    sum_by-cons (λ p. sum_by (of_event weight) p.me.mine) p ps
-    ∙ (λ i. sym (acts_worth weight p.me.mine) i + own_worth weight ps i)
-    ∙ sym (sum_by-cons (λ p. sum_by weight (acts_in p.me.mine)) p ps)
+own_worth weight ps = grind (arith, nat_tests, sum_by-cons, of_event, acts_worth)
 
 -- a history that holds only the calls of these seats, if the first has done no operation since
 pub holds_operations : (h : List Event) (ps : List Token) (q : Token) (qs : List Token) (extra : List Event)
@@ -153,23 +149,14 @@ met_begins p q r s seen xs ys e f =
 pub first_is_of : (h : House) (ps : List Token) (q : Token) (qs : List Token) → AreSame ps (q ∷ qs)
     → All (IsOf h) ps → IsOf h q
 first_is_of h [] q qs same all = absurd same
-first_is_of h (p ∷ ps) q qs same all =
-    let of = All-head (IsOf h) p ps all in (same.0.hall ∙ of.0, same.0.setting ∙ of.1)
-
-same_spent : (p q : Token) → IsSame p q → IsSpent q → IsSpent p
-same_spent p q s spent =
-    subst (λ (c : Setting). c.budget ≤ length p.me.mine + 1) s.setting
-    (subst (λ (h : List Event). q.me.setting.budget ≤ length h + 1) s.mine spent)
+first_is_of h (p ∷ ps) q qs same all = grind (arith, nat_tests, All-head)
 
 pub same_back : (p q : Token) → IsSame p q → IsSame q p
 same_back p q s = record { hall = sym s.hall; seat = sym s.seat; setting = sym s.setting; mine = sym s.mine }
 
 pub first_able : (ps : List Token) (q : Token) (qs : List Token) (left : ℕ) → AreSame ps (q ∷ qs)
     → left + length q.me.mine ≡ q.me.setting.budget → 2 ≤ left → IsFirstSpent ps → ⊥
-first_able [] q qs left same counted some spent = absurd same
-first_able (p ∷ ps) q qs left same counted some spent =
-    let now : q.me.setting.budget ≤ length q.me.mine + 1 = same_spent q p (same_back p q same.0) spent in
-    omega (arith, counted, some, now)
+first_able ps q qs left same counted some spent = grind (arith, nat_tests)
 
 -- a closed history begins with what the first seat had seen, and so with what all had seen that it met
 pub closed_begins : (h at seen before own : List Event) (e l : Event) (qs : List Token) → h ≡ at ++ l ∷ []
@@ -181,24 +168,15 @@ closed_begins h at seen before own e l qs closed came starts same all k d near =
     (e ∷ l ∷ [], closed ∙ ap (λ xs. xs ++ l ∷ []) came ∙ append_assoc seen (e ∷ []) (l ∷ [])) in
     starts_then _ own h (all k d near) (subst (λ xs. StartsWith h xs) same (starts_then before seen h starts first))
 
-came_acts : (s : ℕ) (x : Source) (t : Turn) → act_of (out_event s x t) ≡ []
-came_acts s (Free n) t = refl
-came_acts s (Granted n) t = refl
-came_acts s Called t = refl
-
 pub nothing_done : (weight : Answered → ℕ) (s : ℕ) (x : Source) (t : Turn) (n : ℕ)
     → sum_by (of_event weight) (out_event s x t ∷ Leave n Entry ∷ []) ≡ 0
-nothing_done weight s x t n =
-    sum_by-cons (of_event weight) (out_event s x t) (Leave n Entry ∷ [])
-    ∙ ap (λ acts. sum_by weight acts + sum_by (of_event weight) (Leave n Entry ∷ [])) (came_acts s x t)
+nothing_done weight s x t n = grind (arith, nat_tests)
 
 -- the first seat's events are its own, and those by which it came in and closed
 pub closed_own : (h own before mine : List Event) (e l : Event) (s t u : ℕ) → events_of h s ≡ mine ++ l ∷ []
     → mine ≡ before ++ e ∷ []
     → before ≡ own → s ≡ t → t ≡ u → events_of h u ≡ own ++ e ∷ l ∷ []
-closed_own h own before mine e l s t u is came same a b =
-    ap (events_of h) (sym (a ∙ b)) ∙ is ∙ ap (λ xs. xs ++ l ∷ []) (came ∙ ap (λ xs. xs ++ e ∷ []) same)
-    ∙ append_assoc own (e ∷ []) (l ∷ [])
+closed_own h own before mine e l s t u is came same a b = grind (arith, nat_tests, append_assoc)
 
 pub only_here : (h g : List Event) (s seat : ℕ) (qs rs : List Token) → HoldsOnly g s rs → g ≡ h → s ≡ seat → rs ≡ qs
     → HoldsOnly h seat qs
@@ -208,16 +186,12 @@ only_here h g s seat qs rs holds same here those =
 
 -- a seat that closes comes in first
 pub came_comes : (s : ℕ) (x : Source) (t : Turn) → is_coming (out_event s x t) ≡ true
-came_comes s (Free n) t = refl
-came_comes s (Granted n) t = refl
-came_comes s Called t = refl
+came_comes s x t = grind (arith, nat_tests)
 
 pub closed_ends : (h at seen : List Event) (e : Event) (s u : ℕ) → h ≡ at ++ Leave s Entry ∷ []
     → at ≡ seen ++ e ∷ [] → s ≡ u
     → h ≡ seen ++ e ∷ Leave u Entry ∷ []
-closed_ends h at seen e s u closed came same =
-    closed ∙ ap (λ xs. xs ++ Leave s Entry ∷ []) came ∙ append_assoc seen (e ∷ []) (Leave s Entry ∷ [])
-    ∙ ap (λ n. seen ++ e ∷ Leave n Entry ∷ []) same
+closed_ends h at seen e s u closed came same = grind (arith, nat_tests, append_assoc)
 
 pub own_back : (h : List Event) (ps qs : List Token) → AreSame ps qs → All (λ q. events_of h q.me.seat ≡ q.me.mine) qs
     → All (λ p. events_of h p.me.seat ≡ p.me.mine) ps
@@ -233,14 +207,7 @@ own_back h (p ∷ ps) (q ∷ qs) s own =
 pub by_first : (h before : List Event) (e : Event) (p q : Token) → IsSame p q → is_coming e ≡ true
     → h ≡ before ++ e ∷ Leave q.me.seat Entry ∷ []
     → events_of h q.me.seat ≡ q.me.mine ++ e ∷ Leave q.me.seat Entry ∷ [] → IsClosedBy h p
-by_first h before e p q same comes ends own = record {
-  before = before;
-  came = e;
-  comes = comes;
-  ends = subst (λ n. h ≡ before ++ e ∷ Leave n Entry ∷ []) same.seat ends;
-  own = ap (events_of h) (sym same.seat) ∙ own
-      ∙ (λ i. same.mine i ++ e ∷ Leave (same.seat i) Entry ∷ []);
-}
+by_first h before e p q same comes ends own = grind (arith, nat_tests)
 
 -- what these passes left, whose seats have met
 pub left_by : (h before : List Event) (e : Event) (ps : List Token) (q : Token) (qs : List Token) → AreSame ps (q ∷ qs)
@@ -248,8 +215,4 @@ pub left_by : (h before : List Event) (e : Event) (ps : List Token) (q : Token) 
     → events_of h q.me.seat ≡ q.me.mine ++ e ∷ Leave q.me.seat Entry ∷ [] → HoldsOnly h q.me.seat qs
     → All (λ p. StartsWith h p.me.seen) ps → IsLeftBy h ps
 left_by h before e [] q qs same comes ends own only seen = absurd same
-left_by h before e (p ∷ ps) q qs same comes ends own only seen = (
-  by_first h before e p q same.0 comes ends own,
-  own_back h ps qs same.1 only.own,
-  seen,
-)
+left_by h before e (p ∷ ps) q qs same comes ends own only seen = grind (arith, nat_tests, by_first, own_back)

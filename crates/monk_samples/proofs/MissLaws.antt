@@ -1,7 +1,7 @@
 -- If no try misses, no act of a buffer is refused
 use Rattle.std.proofs.Common.{◌≡◌, ℕ, zero, suc, ◌+◌, ◌<◌, ◌/◌, ◌==◌, Bool, true, false, cond, nat_lt, Option, Some, None, List, [], ◌∷◌, ◌++◌}
-use Rattle.std.proofs.Common.{refl, sym, ap, ◌∙◌, arith}
-use Rattle.std.proofs.lemmas.{Bool.false≢true, Bool.eqb-true, List.Sums.sum_by-append}
+use Rattle.std.proofs.Common.{refl, ap, ◌∙◌, arith}
+use Rattle.std.proofs.lemmas.{List.Sums.sum_by-append}
 use Rattle.std.specs.List.{sum_by}
 use Rattle.atomic_table.specs.Seated.{TableId}
 use Rattle.monk_kinds.specs.declared.mode.Rules.{Rules}
@@ -14,10 +14,11 @@ use Rattle.monk_samples.proofs.DoneLaws.{own_acts, try_acts}
 use Rattle.monk_samples.specs.{Ends.HaveServed, Trails.Addition, Trails.HasCalled, Trails.events_in, Trails.outside}
 use Rattle.monk_samples.specs.{Members.puts_by, Members.takes_by, Samples.scenario_of, Wholes.HoldsOperationsOf}
 use Rattle.monk_samples.specs.Totals.{MissesNothing, missed_in}
-use Rattle.monk_samples.specs.Visits.{AreMisses, AreVisits, Guard, IsCertain, IsVisit, Misses, MissesIn, Plan}
+use Rattle.monk_samples.specs.Visits.{AreMisses, AreVisits, Guard, IsCertain, IsVisit, Misses, Plan}
 use Rattle.monk_samples.specs.Rounds.{round_of, rounds_of, rounds_to}
 use Rattle.monk_samples.specs.declared.{end.End.TheVariants.Done, sample.Sample.TheVariants.Buffer}
 use Rattle.monk_samples.specs.declared.manner.Manner.{Manner, TheVariants.Hasty, TheVariants.Patient}
+use Rattle.std.proofs.lemmas.Bool.Decides.{nat_tests}
 
 -- a refused act counts once
 abbrev refused : Answered → ℕ
@@ -27,11 +28,7 @@ alone : (n : ℕ) → 0 + n ≡ n
 alone n = omega arith
 
 not_refused : (op : Op) (reply : ℕ) → 0 < reply → sum_by refused (record { op = op; reply = reply } ∷ []) ≡ 0
-not_refused op reply certain = alone _ ∙ by (reply == 0) refl
-  where
-    by : (b : Bool) → (reply == 0) ≡ b → ◌≡◌ {A = ℕ} (cond b 1 0) 0
-    by true is = absurd (omega (arith, certain, eqb-true reply 0 is))
-    by false is = refl
+not_refused op reply certain = grind (arith, nat_tests)
 
 over_none : (n i : ℕ) → over (λ s. 0) n i ≡ 0
 over_none zero i = refl
@@ -65,25 +62,12 @@ module _ (k : Rules) (o : Object) where
   careful_either true m round never = (never, tt)
   careful_either false m round never = (never, tt)
 
-  hasty_none : (c : Setting) (s : ℕ) (v : Plan) (n : ℕ) (calls : List Addition) → has_conditions k.mode ≡ false
-      → AreMisses k o c s v n calls → calls ≡ []
-  hasty_none c s v zero calls automatic are = are
-  hasty_none c s v (suc n) calls automatic are = absurd (false≢true (sym automatic ∙ are.is_rest.signalled))
-
-  manner_none : (c : Setting) (s : ℕ) (v : Plan) (m : Manner) (n : ℕ) (calls : List Addition) → NeverMisses m
-      → MissesIn m n → AreMisses k o c s v n calls → calls ≡ []
-  manner_none c s v Patient zero calls never may are = are
-  manner_none c s v Patient (suc n) calls never may are = absurd (omega (arith, may))
-  manner_none c s v Hasty n calls never may are = hasty_none c s v n calls never are
-
   misses_none : (c : Setting) (s : ℕ) (v : Plan) (g : Option Guard) (n : ℕ) (calls : List Addition) → IsCarefulFor g
       → Misses g n → AreMisses k o c s v n calls → calls ≡ []
-  misses_none c s v None n calls careful may are = absurd careful
-  misses_none c s v (Some w) n calls careful may are = manner_none c s v w.manner n calls careful may are
+  misses_none c s v g n calls careful may are = grind (arith, nat_tests)
 
   certainly : (g : Option Guard) (reply : ℕ) → IsCarefulFor g → IsCertain g reply → 0 < reply
-  certainly None reply careful certain = absurd careful
-  certainly (Some w) reply careful certain = certain
+  certainly g reply careful certain = grind (arith, nat_tests)
 
   visit_refused : (c : Setting) (s : ℕ) (v : Plan) (calls : List Addition) → IsVisit k o c s v calls
       → IsCarefulFor v.guard → sum_by refused (acts_in (events_in calls)) ≡ 0
@@ -109,10 +93,7 @@ module _ (k : Rules) (o : Object) where
   calls_refused : (p q : Token) (vs : List Plan) (calls : List Addition) → HasCalled (outside p) (outside q) calls
       → AreVisits k o p.me.setting p.me.seat Done vs calls → AreCareful vs → p.me.mine ≡ []
       → sum_by refused (acts_in q.me.mine) ≡ 0
-  calls_refused p q vs calls called are careful none =
-      ap (λ h. sum_by refused (acts_in h)) (called.went.mine ∙ ap (λ h. h ++ events_in called.own) none)
-      ∙ ap (sum_by refused) (own_acts called.own ∙ ap (λ ds. acts_in (events_in ds)) called.called)
-      ∙ visits_refused p.me.setting p.me.seat vs calls are careful
+  calls_refused p q vs calls called are careful none = grind (arith, nat_tests, own_acts, visits_refused)
 
 -- a run over a buffer misses nothing if its visits don't
 pub buffer_misses : (k : Rules) (answers : ℕ → ℕ → Bool → Type 0) (seats rounds : ℕ) (z : TableId) (c : Setting)

@@ -1,6 +1,6 @@
 -- What a member does inside until its operation is done: it pauses, and it acts or leaves
 use Rattle.std.proofs.Common.{◌≡◌, ℕ, false, cond, Option, Some, None, List, [], ◌∷◌, ◌++◌}
-use Rattle.std.proofs.Common.{◌<◌, ◌≤◌, refl, sym, ap, subst, ◌∙◌, inl, inr, arith}
+use Rattle.std.proofs.Common.{◌<◌, ◌≤◌, refl, sym, ap, subst, ◌∙◌, inr, arith}
 use Rattle.std.proofs.Common.{append_assoc}
 use Rattle.monk_kinds.specs.declared.mode.{Pick.TheVariants.Entry, Rules.Rules}
 use Rattle.monk_object.specs.{Object.Object, declared.op.Op.Op}
@@ -17,6 +17,7 @@ use Rattle.monk_samples.specs.Visits.{HasTired, HasStayedOut, HasPausedUntil, Ha
 use Rattle.monk_samples.specs.Visits.{Promises, hasty_guard, data_after, needed_yet}
 use Rattle.monk_samples.specs.declared.manner.Manner.{Manner, TheVariants.Patient, TheVariants.Hasty}
 use Rattle.monk_samples.specs.Trails.{Addition, Trail, HasCalled, inside, outside}
+use Rattle.std.proofs.lemmas.Bool.Decides.{nat_tests}
 
 module _ (k : Rules) (o : Object) where
   pauses_then : (c : Setting) (s : ℕ) (w : Guard) (xs ys : List Addition) → ArePauses k o c s w xs
@@ -199,13 +200,7 @@ module _ (k : Rules) (o : Object) where
 
   pub stayed_out : (p q : Token) (w : Option Guard) → HasStayedOut k o p q
       → HasTired k o (outside p) (IsUnready k o p.me.setting p.me.seat w) q
-  stayed_out p q w t = record {
-    calls = [];
-    called = subst (λ (y : Token). HasCalled (outside p) (outside y) []) (sym t.same) (called_none (outside p));
-    are = inl refl;
-    spent = t.spent;
-    told = t.told;
-  }
+  stayed_out p q w t = grind (arith, nat_tests, called_none)
 
   -- a seat that paused, and acted
   pub acted_after : (x : Trail) (w : Option Guard) (op : Op) (reply : ℕ) (a b : Holder) → HasPausedUntil k o x w a

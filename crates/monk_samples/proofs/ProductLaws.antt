@@ -20,6 +20,7 @@ use Rattle.monk_samples.specs.{Ends.HaveServed, Rounds.HasServed, Samples.scenar
 use Rattle.monk_samples.specs.Totals.{HasEnded, HasTotals, totals_of}
 use Rattle.monk_samples.specs.declared.{end.End.TheVariants.Done, manner.Manner.Manner, scenario.Scenario.Scenario}
 use Rattle.monk_samples.specs.declared.sample.Sample.TheVariants.{Buffer, Book, Shop}
+use Rattle.std.proofs.lemmas.Bool.Decides.{nat_tests}
 
 -- the sum of the items put is the sum over the puts that were done, each with its item
 put_sum : (acts : List Answered) → sum (items_put acts) ≡ sum_by (worth PUT item) acts
@@ -64,8 +65,7 @@ module _ (k : Rules) (answers : ℕ → ℕ → Bool → Type 0) (seats rounds :
       → ((p q : Token) → HasServed k o answers scenario seats rounds p q Done → p.me.mine ≡ []
       → sum_by weight (acts_in q.me.mine) ≡ share p.me.seat)
       → sum_by weight (acts_in h) ≡ over share seats 0
-  total_is o scenario weight share served each =
-      holds weight ∙ shares k o answers scenario seats rounds house c z weight share each seats 0 qs served
+  total_is o scenario weight share served each = grind (arith, nat_tests, shares)
 
   module _ (m : Manner) (served : HaveServed k buffer_meaning answers (scenario_of Buffer m) seats rounds house
       (tokens z (opening_records c seats 0)) qs) where

@@ -3,7 +3,7 @@ use Rattle.std.proofs.Common.{◌≡◌, ℕ, zero, suc, ◌+◌, ◌<◌, ◌�
 use Rattle.std.proofs.Common.{List, [], ◌∷◌, ◌++◌}
 use Rattle.std.specs.Prelude.{if◌then◌else◌, nat_lt}
 use Rattle.std.proofs.Common.{append_assoc, refl, sym, ap, subst, ◌∙◌, arith}
-use Rattle.std.proofs.lemmas.Bool.{leb-true, leb-false, lt-ltb}
+use Rattle.std.proofs.lemmas.Bool.{leb-true, leb-false}
 use Rattle.monk_kinds.specs.declared.mode.Rules.{Rules}
 use Rattle.monk_object.specs.Object.{Object}
 use Rattle.monk_hall.specs.{Tokens.House, Tokens.Token, declared.setting.Setting.Setting}
@@ -11,6 +11,7 @@ use Rattle.monk_samples.proofs.TrailLaws.{called_none, called_then}
 use Rattle.monk_samples.specs.{Crews.IsOf, Rounds.HasDoneRounds, Rounds.HasWorked, Rounds.rounds_to, Trails.Addition}
 use Rattle.monk_samples.specs.{Trails.HasCalled, Trails.outside, Visits.Plan, Visits.AreVisits, Visits.HasVisited}
 use Rattle.monk_samples.specs.declared.end.End.{End, TheVariants.Done, TheVariants.Tired, TheVariants.Late}
+use Rattle.std.proofs.lemmas.Bool.Decides.{nat_tests}
 
 -- a seat stays one of its hall
 pub still_of : (h : House) (p q : Token) (calls : List Addition) → HasCalled (outside p) (outside q) calls
@@ -20,13 +21,10 @@ still_of h p q calls s of = (s.went.hall ∙ of.0, s.went.setting ∙ of.1)
 -- which of two plans a seat has, by the half that it is in
 module _ {X : Type 0} (n seat half : ℕ) (is : n ≡ seat) (a b : X) where
   pub in_first_half : n < half → a ≡ (if nat_lt seat half then a else b)
-  in_first_half h = let e : nat_lt seat half ≡ true = lt-ltb seat half (subst (λ x. x < half) is h) in
-      sym (ap (λ t. if t then a else b) e)
+  in_first_half h = grind (arith, nat_tests)
 
   pub in_other_half : half ≤ n → b ≡ (if nat_lt seat half then a else b)
-  in_other_half h = let low : half ≤ seat = subst (λ x. half ≤ x) is h in
-      let e : nat_lt seat half ≡ false = grind (arith, low) in
-      sym (ap (λ t. if t then a else b) e)
+  in_other_half h = grind (arith, nat_tests)
 
 module _ (k : Rules) (o : Object) where
   -- some visits, and then others

@@ -1,12 +1,12 @@
 -- How a run ends, by the ends of its workers
-use Rattle.std.proofs.Common.{◌≡◌, ℕ, zero, suc, ◌<◌, ◌≤◌, inl, inr, Bool, All, List, [], ◌∷◌, length, sym, ap, subst, ◌∙◌, arith}
+use Rattle.std.proofs.Common.{◌≡◌, ℕ, ◌<◌, ◌≤◌, inl, inr, Bool, All, List, [], ◌∷◌, length, sym, ap, subst, ◌∙◌, arith}
 use Rattle.std.proofs.lemmas.List.Elements.{All-cons, All-nil}
 use Rattle.atomic_table.specs.Seated.{TableId}
 use Rattle.monk_kinds.specs.declared.mode.Rules.{Rules}
 use Rattle.monk_object.specs.Names.{meaning_named}
 use Rattle.monk_history.specs.declared.event.Event.{Event}
 use Rattle.monk_hall.specs.{Tokens.House, Tokens.Token, Tokens.tokens, declared.setting.Setting.Setting}
-use Rattle.monk_hall.specs.Records.{first_view, opening_records}
+use Rattle.monk_hall.specs.Records.{first_view}
 use Rattle.monk_samples.specs.declared.crew_fault.CrewFault.TheVariants as crew
 use Rattle.monk_samples.specs.{Crews.IsClosed, Crews.IsOf, Faults.run_fault_of, Samples.sample_object}
 use Rattle.monk_samples.specs.Wholes.{HoldsOperationsOf, IsFaultOfClosing, IsLeftBy}
@@ -14,14 +14,11 @@ use Rattle.monk_samples.specs.Ends.{HaveServed, HasEndedFirst, IsFaultOfCrew}
 use Rattle.monk_samples.specs.declared.{crew_fault.CrewFault.CrewFault, scenario.Scenario.Scenario}
 use Rattle.monk_samples.specs.declared.end.End.{End, TheVariants.Tired, TheVariants.Late}
 use Rattle.monk_samples.specs.Runs.{HasClosed, HasLeft, HasRun, HasStopped, IsFaultOfRun, run_setting}
+use Rattle.std.proofs.lemmas.Bool.Decides.{nat_tests}
 
 -- there is a pass
 pub some_pass : (z : TableId) (c : Setting) → 2 ≤ c.seats → 0 < length (tokens z (first_view c))
-some_pass z c many = by c.seats many
-  where
-    by : (n : ℕ) → 2 ≤ n → 0 < length (tokens z (opening_records c n 0))
-    by zero h = absurd (omega (arith, h))
-    by (suc n) h = omega arith
+some_pass z c many = grind (arith, nat_tests)
 
 -- a history with which the hall was closed is what its seats have left
 pub has_left : (k : Rules) (answers : ℕ → ℕ → Bool → Type 0) (scenario : Scenario) (seats rounds : ℕ)

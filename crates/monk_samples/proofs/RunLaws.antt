@@ -2,7 +2,6 @@
 use Rattle.std.proofs.Common.{◌≡◌, ℕ, zero, suc, ◌+◌, ◌*◌, ◌^◌, ◌≤◌, true, cond, All, Result, Ok, Err}
 use Rattle.std.proofs.Common.{IfErr, IfOk, List, [], ◌∷◌, ◌++◌, map, length, refl, sym, ap, subst}
 use Rattle.std.proofs.Common.{◌∙◌, arith}
-use Rattle.std.proofs.Math.Nat.{mul-le-mul_right}
 use Rattle.std.proofs.lemmas.Bool.{false≢true}
 use Rattle.std.proofs.lemmas.List.Elements.{All-cons, All-head, All-nil, All-push, All-rest, All-same}
 use Rattle.std.specs.Prelude.{IsTrue}
@@ -25,6 +24,7 @@ use Rattle.monk_samples.specs.Samples.{sample_object, size_in, conds_of, budget_
 use Rattle.monk_samples.specs.Samples.{IsHistoryOf, IsOfFirstVersion, IsOutcome}
 use Rattle.monk_samples.specs.declared.sample.Sample.{Sample, TheVariants.Buffer, TheVariants.Book, TheVariants.Shop}
 use Rattle.monk_samples.specs.declared.scenario.Scenario.{Scenario}
+use Rattle.std.proofs.lemmas.Bool.Decides.{nat_tests}
 
 pub one_more : {X : Type 0} (xs ys : List X) (x : X) (P : X → Type 0) → ys ≡ xs ++ x ∷ [] → All P xs → P x → All P ys
 one_more xs ys x P e h p = All-same P ys (xs ++ x ∷ []) e (All-push P xs x h p)
@@ -77,11 +77,7 @@ passes_ready k h ps conds e =
 
 -- a run's history is short
 pub few_events : (seats rounds n : ℕ) → seats ≤ 16 → rounds ≤ 1000 → n ≤ seats * budget_of seats rounds → n ≤ 2 ^ 24
-few_events seats rounds n s r l =
-    let a : rounds * (40 + 32 * seats) ≤ 1000 * (40 + 32 * seats) = mul-le-mul_right (40 + 32 * seats) r in
-    let b : seats * budget_of seats rounds ≤ 16 * budget_of seats rounds =
-    mul-le-mul_right (budget_of seats rounds) s in
-    omega (arith, a, b, l, s)
+few_events seats rounds n s r l = grind (arith, nat_tests)
 
 -- a hall was closed by a seat whose floor is the hall's
 pub closed_by : (k : Rules) (o : Object) (b c : Setting) (a : Holder) (before h : List Event) (state : List ℕ) → b ≡ c

@@ -1,9 +1,10 @@
 -- Sums over the seats of a run
-use Rattle.std.proofs.Common.{◌≡◌, ℕ, zero, suc, ◌+◌, ◌-◌, ◌*◌, ◌/◌, ◌<◌, ◌≤◌, Bool, true, false, cond, nat_lt, nat_eq}
-use Rattle.std.proofs.Common.{refl, sym, ap, ◌∙◌, arith}
-use Rattle.std.proofs.lemmas.Bool.{eqb-true, lt-ltb, ltb-true}
+use Rattle.std.proofs.Common.{◌≡◌, ℕ, zero, suc, ◌+◌, ◌-◌, ◌*◌, ◌/◌, ◌<◌, ◌≤◌, false, cond, nat_lt, nat_eq}
+use Rattle.std.proofs.Common.{sym, ap, ◌∙◌, arith}
+use Rattle.std.proofs.lemmas.Bool.{lt-ltb}
 use Rattle.monk_samples.{specs.Rounds.rounds_of, specs.declared.sample.Sample.TheVariants.Buffer}
 use Rattle.monk_samples.{specs.declared.sample.Sample.TheVariants.Shop, proofs.DoneLaws.sum_to}
+use Rattle.std.proofs.lemmas.Bool.Decides.{nat_tests}
 
 -- the sum over n seats from seat i on
 abbrev pub over : (ℕ → ℕ) → ℕ → ℕ → ℕ
@@ -24,9 +25,7 @@ plus : (a b c : ℕ) → a + b + c ≡ a + (b + c)
 plus a b c = omega arith
 
 over_then : (f : ℕ → ℕ) (a b i : ℕ) → over f (a + b) i ≡ over f a i + over f b (i + a)
-over_then f zero b i =
-    let here : 0 + b ≡ b = omega arith in let there : i ≡ i + 0 = omega arith in
-    ap (λ n. over f n i) here ∙ ap (over f b) there ∙ sym (none_before (over f b (i + 0)))
+over_then f zero b i = grind (arith, nat_tests, none_before)
 over_then f (suc a) b i =
     let here : suc a + b ≡ suc (a + b) = omega arith in let there : suc i + a ≡ i + suc a = omega arith in
     ap (λ n. over f n i) here
@@ -34,11 +33,7 @@ over_then f (suc a) b i =
     ∙ sym (plus (f i) (over f a (suc i)) (over f b (i + suc a)))
 
 above : (s m : ℕ) → m ≤ s → nat_lt s m ≡ false
-above s m h = by (nat_lt s m) refl
-  where
-    by : (b : Bool) → nat_lt s m ≡ b → nat_lt s m ≡ false
-    by false e = e
-    by true e = absurd (omega (arith, h, ltb-true s m e))
+above s m h = grind (arith, nat_tests)
 
 -- the sum over a first part, over as many more, and over the rest
 module _ (f : ℕ → ℕ) (m rest x y : ℕ) (first : (s : ℕ) → s < m → f s ≡ x)
@@ -102,16 +97,10 @@ module _ (seats rounds : ℕ) where
 -- a shop: the barber, and every other seat
 module _ (seats rounds : ℕ) (some : 1 ≤ seats) where
   others_are : (s : ℕ) → 1 ≤ s → nat_eq s 0 ≡ false
-  others_are s h = by (nat_eq s 0) refl
-    where
-      by : (b : Bool) → nat_eq s 0 ≡ b → nat_eq s 0 ≡ false
-      by false e = e
-      by true e = absurd (omega (arith, h, eqb-true s 0 e))
+  others_are s h = grind (arith, nat_tests)
 
   barber : {f : ℕ → ℕ} (x y : ℕ) → f 0 ≡ x → ((s : ℕ) → 1 ≤ s → f s ≡ y) → over f seats 0 ≡ x + (seats - 1) * y
-  barber {f} x y here there =
-      let all : seats ≡ suc (seats - 1) = omega (arith, some) in
-      ap (λ n. over f n 0) all ∙ (λ i. here i + over_same f (seats - 1) 1 y (λ s low high. there s low) i)
+  barber x y h h' = grind (arith, nat_tests, over_same)
 
   pub calls_all : over (λ s. rounds_of Shop seats rounds s * cond (nat_eq s 0) 1 0) seats 0 ≡ (seats - 1) * rounds
   calls_all =
@@ -120,10 +109,7 @@ module _ (seats rounds : ℕ) (some : 1 ≤ seats) where
       ∙ omega arith
 
   pub visits_all : over (λ s. rounds_of Shop seats rounds s * cond (nat_eq s 0) 0 1) seats 0 ≡ (seats - 1) * rounds
-  visits_all =
-      barber {f = λ s. rounds_of Shop seats rounds s * cond (nat_eq s 0) 0 1} 0 rounds (omega arith)
-      (λ s low. ap (λ b. cond b ((seats - 1) * rounds) rounds * cond b 0 1) (others_are s low) ∙ omega arith)
-      ∙ omega arith
+  visits_all = grind (arith, nat_tests, barber, nat_eq, others_are)
 
 twice : (n : ℕ) → sum_to n + sum_to n ≡ n * (n + 1)
 twice zero = omega arith

@@ -15,6 +15,7 @@ use Rattle.monk_samples.specs.Members.{sits, departs, calls, finishes}
 use Rattle.monk_samples.specs.Rounds.{HasServed, round_of, rounds_of, rounds_to}
 use Rattle.monk_samples.specs.declared.{end.End.TheVariants.Done, scenario.Scenario.Scenario, manner.Manner.Manner}
 use Rattle.monk_samples.specs.declared.sample.Sample.TheVariants.{Buffer, Book, Shop}
+use Rattle.std.proofs.lemmas.Bool.Decides.{nat_tests}
 
 -- each operation counts once, and an item counts as its number
 abbrev pub once : Op → ℕ
@@ -41,8 +42,7 @@ module _ (code : ℕ) (f : Op → ℕ) where
   either_round : (b : Bool) (mine others : List Plan) (x y : ℕ) → sum_by (planned code f) mine ≡ x
       → sum_by (planned code f) others ≡ y
       → sum_by (planned code f) (cond b mine others) ≡ cond b x y
-  either_round true mine others x y s t = s
-  either_round false mine others x y s t = t
+  either_round b mine others x y s t = grind (arith, nat_tests)
 
   either_sure : (b : Bool) (mine others : List Plan) → AreSure code mine → AreSure code others
       → AreSure code (cond b mine others)

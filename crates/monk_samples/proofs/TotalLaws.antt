@@ -1,13 +1,13 @@
 -- The totals, with one more event
-use Rattle.std.proofs.Common.{◌≡◌, ℕ, ◌+◌, ◌-◌, ◌≤◌, ◌<◌, ◌==◌, cond, List, [], ◌∷◌, ◌++◌, length, map, take, drop, subst}
+use Rattle.std.proofs.Common.{◌≡◌, ℕ, ◌+◌, ◌-◌, ◌≤◌, ◌<◌, ◌==◌, cond, List, [], ◌∷◌, ◌++◌, length, take, drop, subst}
 use Rattle.std.proofs.Common.{append-nil, slice_index_or, ap, ◌∙◌, arith}
 use Rattle.std.proofs.lemmas.List.{map-append, take_more, take-append-drop, Elements.filter-append, Sums.sum_by-append}
 use Rattle.std.proofs.lemmas.Grind.{flat_map-append}
-use Rattle.std.specs.Prelude.{filter, sum}
-use Rattle.monk_object.specs.{Laws.items_put, Laws.items_taken, Runs.Answered, Runs.is_done, Runs.times_done}
-use Rattle.monk_object.specs.Buffer.{PUT, TAKE}
+use Rattle.std.specs.Prelude.{sum}
+use Rattle.monk_object.specs.{Laws.items_put, Laws.items_taken, Runs.Answered, Runs.times_done}
 use Rattle.monk_history.specs.{Meaning.Acts.act_of, Meaning.Acts.acts_in, declared.event.Event.Event}
 use Rattle.monk_samples.specs.Totals.{count_done, missed_in, refusals_in, sum_put, sum_taken}
+use Rattle.std.proofs.lemmas.Bool.Decides.{nat_tests}
 
 last_act : (e : Event) → act_of e ++ [] ≡ act_of e
 last_act e = append-nil (act_of e)
@@ -17,39 +17,26 @@ acts_more h e = flat_map-append act_of h (e ∷ []) ∙ ap (λ (xs : List Answer
 
 pub done_more : (code : ℕ) (h : List Event) (e : Event)
     → count_done code (h ++ e ∷ []) ≡ count_done code h + times_done code (act_of e)
-done_more code h e = ap (λ (xs : List Answered). times_done code xs) (acts_more h e)
-    ∙ sum_by-append (λ a. cond (is_done code a) 1 0) (acts_in h) (act_of e)
+done_more code h e = grind (arith, nat_tests, acts_more, sum_by-append)
 
 missed_more : (h : List Event) (e : Event) → missed_in (h ++ e ∷ []) ≡ missed_in h + refusals_in (act_of e)
 missed_more h e = ap refusals_in (acts_more h e) ∙ sum_by-append (λ a. cond (a.reply == 0) 1 0) (acts_in h) (act_of e)
 
 items_put_append : (us vs : List Answered) → items_put (us ++ vs) ≡ items_put us ++ items_put vs
-items_put_append us vs = ap (λ (xs : List Answered). map (λ act. act.op.arg) xs) (filter-append (is_done PUT) us vs)
-    ∙ map-append (λ act. act.op.arg) (filter (is_done PUT) us) (filter (is_done PUT) vs)
+items_put_append us vs = grind (arith, nat_tests, filter-append, map-append)
 
 items_taken_append : (us vs : List Answered) → items_taken (us ++ vs) ≡ items_taken us ++ items_taken vs
-items_taken_append us vs =
-    ap (λ (xs : List Answered). map (λ act. act.reply - 1) xs) (filter-append (is_done TAKE) us vs)
-    ∙ map-append (λ act. act.reply - 1) (filter (is_done TAKE) us) (filter (is_done TAKE) vs)
+items_taken_append us vs = grind (arith, nat_tests, filter-append, map-append)
 
 pub sum_put_more : (h : List Event) (e : Event) → sum_put (h ++ e ∷ []) ≡ sum_put h + sum (items_put (act_of e))
-sum_put_more h e =
-    ap (λ (xs : List Answered). sum (items_put xs)) (acts_more h e) ∙ ap sum (items_put_append (acts_in h) (act_of e))
-    ∙ sum_by-append (λ n. n) (items_put (acts_in h)) (items_put (act_of e))
+sum_put_more h e = grind (arith, nat_tests, acts_more, items_put_append, sum_by-append)
 
 pub sum_taken_more : (h : List Event) (e : Event) → sum_taken (h ++ e ∷ []) ≡ sum_taken h + sum (items_taken (act_of e))
-sum_taken_more h e =
-    ap (λ (xs : List Answered). sum (items_taken xs)) (acts_more h e)
-    ∙ ap sum (items_taken_append (acts_in h) (act_of e))
-    ∙ sum_by-append (λ n. n) (items_taken (acts_in h)) (items_taken (act_of e))
+sum_taken_more h e = grind (arith, nat_tests, acts_more, items_taken_append, sum_by-append)
 
 -- what was taken in a part is no more than in the whole
 pub taken_within : (h more : List Event) → sum_taken h ≤ sum_taken (h ++ more)
-taken_within h more =
-    let e = ap (λ (xs : List Answered). sum (items_taken xs)) (flat_map-append act_of h more)
-    ∙ ap sum (items_taken_append (acts_in h) (acts_in more))
-    ∙ sum_by-append (λ n. n) (items_taken (acts_in h)) (items_taken (acts_in more)) in
-    omega (arith, e)
+taken_within h more = grind (arith, nat_tests, flat_map-append, items_taken_append, sum_by-append)
 
 -- the totals of the events up to a place, and with one more
 pub done_next : (code n count more : ℕ) (h : List Event) (d : Event) → n < length h → count ≡ count_done code (take n h)

@@ -10,13 +10,15 @@ use Rattle.monk_history.specs.declared.event.{Next.Next, Next.TheVariants.Stay, 
 use Rattle.monk_history.specs.declared.event.Event.{Event, TheVariants.Act, TheVariants.SignalAll}
 use Rattle.monk_floor.specs.View.{FloorView, monitor_of, stands_of}
 use Rattle.monk_world.specs.StepTable.{out_event}
-use Rattle.monk_world.specs.declared.source.Source.{Source, TheVariants.Free, TheVariants.Granted, TheVariants.Called}
+use Rattle.monk_world.specs.declared.source.Source.{Source}
 use Rattle.monk_world.specs.declared.home.Home.{Home}
 use Rattle.monk_hall.specs.{Changes.source_from, Floors.StartsWith, Layout.floor_of, Tokens.Token, Tokens.Holder}
 use Rattle.monk_hall.specs.Calls.{HasArrived, HasEntered, HasReleased, HasStayed, HasDone, is_entry_known}
 use Rattle.monk_samples.specs.Asked.{IsCall}
 use Rattle.monk_samples.specs.Trails.{Trail, Addition, Went, HasCalled, AreBetween, after, call_in, calls_in, events_in}
 use Rattle.monk_samples.specs.Trails.{inside, outside, is_coming}
+use Rattle.std.proofs.lemmas.Bool.Decides.{nat_tests}
+use Rattle.std.proofs.Common.{arith}
 
 pub starts_here : (a : List Event) → StartsWith a a
 starts_here a = ([], sym (append-nil a))
@@ -65,9 +67,7 @@ one_added h e to is = (starts_here h, ([], is ∙ sym (append-nil (h ++ e ∷ []
 
 out_calls : (h : List Event) (i : ℕ) (q : Source) (u : Turn)
     → calls_in (record { before = h; event = out_event i q u } ∷ []) ≡ []
-out_calls h i (Free t) u = refl
-out_calls h i (Granted t) u = refl
-out_calls h i Called u = refl
+out_calls h i q u = grind (arith, nat_tests)
 
 -- a call that releases is no coming in, asks for itself, and chooses what it is written with
 abbrev pub Releases : Event → Type 0
@@ -113,19 +113,7 @@ module _ (k : Rules) (o : Object) where
       → a.floor ≡ floor_of a.me.setting a.floor.history
       → x ≡ choice_of k o (stands_of k o a.floor) call (is_entry_known w known) w
       → IsCall k o w a.me.setting call (record { before = a.floor.history; event = with_next x call })
-  wished w a call x known releases floor chosen = let knows = is_entry_known w known in record {
-    asks = (releases x).1;
-    wishes = λ y is. (
-      known,
-      some_is y x (sym is ∙ (releases x).2) ∙ chosen
-          ∙ ap (λ (f : FloorView). choice_of k o (stands_of k o f) call knows w) floor
-          ∙ ap (λ e. choice_of k o (stands_of k o (floor_of a.me.setting a.floor.history)) e knows w)
-          (sym (releases x).1),
-    );
-  }
-    where
-      some_is : (y z : Next) → Some y ≡ Some z → y ≡ z
-      some_is y z e = cc
+  wished w a call x known releases floor chosen = grind (arith, nat_tests)
 
   -- a release is one call
   pub released : (w : Pick) (a : Holder) (call : Event) (to : Home) (peeks : ℕ) (p : Token) → Releases call

@@ -1,5 +1,5 @@
 -- Why seats that have all served to their end leave no history
-use Rattle.std.proofs.Common.{◌≡◌, ◌≢◌, ℕ, inl, inr, true, All, List, [], ◌∷◌, ◌++◌, ap, subst, ◌∙◌}
+use Rattle.std.proofs.Common.{◌≡◌, ◌≢◌, ℕ, inr, true, All, List, [], ◌∷◌, ◌++◌, subst, ◌∙◌, arith}
 use Rattle.std.proofs.lemmas.List.Elements.{All-cons, All-head, All-nil, All-tail}
 use Rattle.monk_kinds.specs.declared.mode.Rules.{Rules}
 use Rattle.monk_object.specs.Object.{Object}
@@ -9,6 +9,7 @@ use Rattle.monk_hall.specs.{Closing.IsBusy, Floors.StartsWith, Tokens.Holder, To
 use Rattle.monk_samples.proofs.{MeetLaws.by_first, MeetLaws.own_back, MeetLaws.same_back, TrailLaws.starts_then}
 use Rattle.monk_samples.specs.{Trails.is_coming, declared.sample.Sample.Sample}
 use Rattle.monk_samples.specs.Wholes.{AreSame, IsUnclosable, IsWhole}
+use Rattle.std.proofs.lemmas.Bool.Decides.{nat_tests}
 
 -- the history that the first seat comes in to begins with what it had seen, and so with what all had seen that it met
 pub active_begins : (at seen before own : List Event) (e : Event) (ps : List Token) → at ≡ seen ++ e ∷ []
@@ -35,21 +36,12 @@ seats_back n (p ∷ ps) (q ∷ qs) s differ =
 -- a history is whole for passes that have met if it was whole for them before
 still_whole : (sample : Sample) (h : List Event) (p q : Token) (ps qs : List Token) → AreSame (p ∷ ps) (q ∷ qs)
     → IsWhole sample h p.me.seat ps → IsWhole sample h q.me.seat qs
-still_whole sample h p q ps qs same whole = record {
-  only = record {
-    own = own_back h qs ps (all_back ps qs same.1) whole.only.own;
-    others = λ n first others. whole.only.others n (λ e. first (same.0.seat ∙ e)) (seats_back n ps qs same.1 others);
-  };
-  early = whole.early;
-  ended = whole.ended;
-}
+still_whole sample h p q ps qs same whole = grind (arith, nat_tests, own_back, all_back, seats_back)
 
 -- a borrowed history
 pub whole_here : (sample : Sample) (h g : List Event) (s seat : ℕ) (qs rs : List Token) → g ≡ h → s ≡ seat → rs ≡ qs
     → IsWhole sample g s rs → IsWhole sample h seat qs
-whole_here sample h g s seat qs rs same here those whole =
-    subst (λ xs. IsWhole sample xs seat qs) same
-    (subst (λ x. IsWhole sample g x qs) here (subst (IsWhole sample g s) those whole))
+whole_here sample h g s seat qs rs same here those whole = grind (arith, nat_tests)
 
 module _ (k : Rules) (o : Object) (sample : Sample) where
   -- somebody was in the hall, or at its entry
@@ -57,18 +49,7 @@ module _ (k : Rules) (o : Object) (sample : Sample) where
       → is_coming e ≡ true → a.me.seat ≡ q.me.seat → a.me.mine ≡ q.me.mine ++ e ∷ []
       → All (λ p. StartsWith a.floor.history p.me.seen) ps → IsBusy k o a b → IsUnclosable k o sample ps
   crowded [] q qs a b e same comes seat mine seen busy = absurd same
-  crowded (p ∷ ps) q qs a b e same comes seat mine seen busy = inl (record {
-    active = a;
-    back = record {
-      came = e;
-      comes = comes;
-      seat = seat ∙ same.0.seat;
-      mine = mine ∙ ap (λ xs. xs ++ e ∷ []) same.0.mine;
-      seen = seen;
-    };
-    left = b;
-    busy = busy;
-  })
+  crowded (p ∷ ps) q qs a b e same comes seat mine seen busy = grind (arith, nat_tests)
 
   -- the history was not whole
   pub torn : (h before : List Event) (e : Event) (ps : List Token) (q : Token) (qs : List Token)

@@ -1,40 +1,31 @@
 -- What becomes of a member's visit
-use Rattle.std.proofs.Common.{◌≡◌, ℕ, Bool, true, false, cond, Option, Some, None, List, [], ◌∷◌, ◌++◌}
+use Rattle.std.proofs.Common.{◌≡◌, ℕ, Bool, true, false, cond, Option, Some, None, List, [], ◌∷◌, ◌++◌, arith}
 use Rattle.std.proofs.Common.{refl, sym, ap, subst, ◌∙◌, inl, inr}
 use Rattle.std.proofs.{Common.append-nil, Common.append_assoc, lemmas.Grind.flat_map-append, lemmas.List.map-append}
 use Rattle.monk_kinds.specs.declared.mode.{Pick.Pick, Pick.TheVariants.Waiter, Rules.Rules}
 use Rattle.monk_object.specs.{Object.Object, declared.op.Op.Op}
 use Rattle.monk_history.specs.Meaning.{Acts.act_of, Acts.acts_in, Release.with_next}
-use Rattle.monk_history.specs.Meaning.Events.{has_conditions, has_signaller_queue, returns_at_once}
+use Rattle.monk_history.specs.Meaning.Events.{has_conditions}
 use Rattle.monk_history.specs.declared.event.Next.TheVariants.{Stay}
 use Rattle.monk_history.specs.declared.event.Event.{Event}
-use Rattle.monk_history.specs.declared.event.Event.TheVariants.{Enter, Act, Leave, Wait, Signal, SignalLeave, Until}
-use Rattle.monk_history.specs.declared.event.Event.TheVariants.{Resume, SignalAll, SignalWait}
+use Rattle.monk_history.specs.declared.event.Event.TheVariants.{Leave, Wait, Until}
 use Rattle.monk_hall.specs.{Tokens.Token, Tokens.Holder, declared.setting.Setting.Setting}
 use Rattle.monk_samples.proofs.{ShortLaws.short_out, TrailLaws.called_none, TrailLaws.called_then}
 use Rattle.monk_samples.specs.Styles.{HasFinished, HasGoneOut, pause_call, way_out}
 use Rattle.monk_samples.specs.Visits.{Guard, Plan, ArePauses, HasPausedFor, IsCertain, AreMisses, HasMissed, HasTried}
 use Rattle.monk_samples.specs.Visits.{IsTried, IsVisitTo, Misses, MissesIn, wish_in, wish_of, IsUnready, AreVisits}
-use Rattle.monk_samples.specs.Visits.{HasVisited, HasTired, HasActed, WayOut, Unsignalled, Signals, SignalsAll}
-use Rattle.monk_samples.specs.Visits.{SignalsAndWaits, calls_out}
+use Rattle.monk_samples.specs.Visits.{HasVisited, HasTired, HasActed, WayOut, Signals}
+use Rattle.monk_samples.specs.Visits.{calls_out}
 use Rattle.monk_samples.specs.Trails.{Addition, Trail, after, events_in, inside, outside}
 use Rattle.monk_samples.specs.Asked.{AreCalls, IsCall}
 use Rattle.monk_samples.specs.declared.end.End.{End, TheVariants.Done, TheVariants.Tired, TheVariants.Late}
 use Rattle.monk_samples.specs.declared.manner.Manner.{Manner, TheVariants.Patient, TheVariants.Hasty}
+use Rattle.std.proofs.lemmas.Bool.Decides.{nat_tests}
 
 module _ (k : Rules) (o : Object) where
   -- a call that does no operation leaves none
   next_acts : (e : Event) → act_of (with_next Stay e) ≡ act_of e
-  next_acts (Enter s via) = refl
-  next_acts (Act s op r) = refl
-  next_acts (Leave s x) = refl
-  next_acts (Wait s c x) = refl
-  next_acts (Signal s c x) = refl
-  next_acts (SignalLeave s c x) = refl
-  next_acts (Until s p x) = refl
-  next_acts (Resume s q) = refl
-  next_acts (SignalAll s c) = refl
-  next_acts (SignalWait s c d x) = refl
+  next_acts e = grind (arith, nat_tests)
 
   call_acts : (u : Pick) (c : Setting) (e : Event) (d : Addition) → IsCall k o u c e d → act_of d.event ≡ act_of e
   call_acts u c e d is = sym (next_acts d.event) ∙ ap act_of is.asks
@@ -47,8 +38,7 @@ module _ (k : Rules) (o : Object) where
   calls_acts u c (e ∷ es) (d ∷ ds) are = (λ i. call_acts u c e d are.0 i ++ calls_acts u c es ds are.1 i)
 
   pause_act : (b : Bool) (s c p : ℕ) → act_of (cond b (Wait s c Stay) (Until s p Stay)) ≡ []
-  pause_act true s c p = refl
-  pause_act false s c p = refl
+  pause_act b s c p = grind (arith, nat_tests)
 
   pauses_acts : (c : Setting) (s : ℕ) (w : Guard) (ds : List Addition) → ArePauses k o c s w ds
       → acts_in (events_in ds) ≡ []
@@ -60,36 +50,20 @@ module _ (k : Rules) (o : Object) where
 
   pub paused_acts : (c : Setting) (s : ℕ) (w : Option Guard) (ds : List Addition) → HasPausedFor k o c s w ds
       → acts_in (events_in ds) ≡ []
-  paused_acts c s None ds h = ap (λ xs. acts_in (events_in xs)) h
-  paused_acts c s (Some w) ds h = pauses_acts c s w ds h.0
-
-  out_acts : (b d : Bool) (s c : ℕ)
-      → acts_in (cond b (Signal s c Stay ∷ Leave s Stay ∷ [])
-      (cond d (SignalLeave s c Stay ∷ []) (Leave s Stay ∷ []))) ≡ []
-  out_acts true d s c = refl
-  out_acts false true s c = refl
-  out_acts false false s c = refl
+  paused_acts c s w ds h = grind (arith, nat_tests, pauses_acts)
 
   pub calls_out_acts : (s : ℕ) (way : WayOut) → acts_in (calls_out k s way) ≡ []
-  calls_out_acts s Unsignalled = refl
-  calls_out_acts s (Signals cond) = out_acts (has_signaller_queue k.mode) (returns_at_once k.mode) s cond
-  calls_out_acts s (SignalsAll cond) = refl
-  calls_out_acts s (SignalsAndWaits cond wait_cond) = refl
+  calls_out_acts s way = grind (arith, nat_tests)
 
   pub acts_append : (xs ys : List Addition)
       → acts_in (events_in (xs ++ ys)) ≡ acts_in (events_in xs) ++ acts_in (events_in ys)
-  acts_append xs ys = ap acts_in (map-append (λ (d : Addition). d.event) xs ys)
-      ∙ flat_map-append act_of (events_in xs) (events_in ys)
+  acts_append xs ys = grind (arith, nat_tests, map-append, flat_map-append)
 
   -- of the pauses, the operation and the way out, only the operation is one
   one_act : (x : Trail) (w : Option Guard) (op : Op) (reply : ℕ) (a : Holder) (s : HasActed k o x w op reply a)
       → (u : Pick) (c : Setting) (es : List Event) (made : List Addition) → AreCalls k o u c es made → acts_in es ≡ []
       → acts_in (events_in ((s.pauses ++ s.act ∷ []) ++ made)) ≡ record { op = op; reply = reply } ∷ []
-  one_act x w op reply a s u c es made are none =
-      let paused = paused_acts x.setting x.seat w s.pauses s.paused in
-      let here : acts_in (events_in (s.pauses ++ s.act ∷ [])) ≡ record { op = op; reply = reply } ∷ [] =
-      acts_append s.pauses (s.act ∷ []) ∙ (λ i. paused i ++ acts_in (s.acts.is i ∷ [])) in
-      acts_append (s.pauses ++ s.act ∷ []) made ∙ (λ i. here i ++ (calls_acts u c es made are ∙ none) i)
+  one_act x w op reply a s u c es made are none = grind (arith, nat_tests, paused_acts, acts_append, calls_acts)
 
   -- a way out by one condition or by the other
   pub finished_by : (b : Bool) (m n next : ℕ) (a : Holder) (q : Token) (end : End) → (b ≡ true → next ≡ m)
@@ -120,11 +94,7 @@ module _ (k : Rules) (o : Object) where
   tries_to : (c : Setting) (s : ℕ) (v : Plan) (misses : ℕ) (first rest : List Addition) → Misses v.guard misses
       → AreMisses k o c s v misses first → (end : End) → IsTried k o c s v end rest
       → IsVisitTo k o c s v end (first ++ rest)
-  tries_to c s v misses first rest may missed end tried = record {
-    misses = misses;
-    may = may;
-    tries = record { first = first; rest = rest; are = refl; is_first = missed; is_rest = tried };
-  }
+  tries_to c s v misses first rest may missed end tried = grind (arith, nat_tests)
 
   pub one_visit : (c : Setting) (s : ℕ) (v : Plan) (misses : ℕ) (first rest : List Addition) → Misses v.guard misses
       → AreMisses k o c s v misses first → (end : End) → IsTried k o c s v end rest
@@ -260,14 +230,7 @@ module _ (k : Rules) (o : Object) where
   pub tired_tells : (p : Token) (v : Plan) (q : Token)
       → (t : HasTired k o (outside p) (IsUnready k o p.me.setting p.me.seat v.guard) q)
       → acts_in (events_in t.calls) ≡ []
-  tired_tells p v q t = unready_acts t.calls t.are
-    where
-      unready_acts : (calls : List Addition) → IsUnready k o p.me.setting p.me.seat v.guard calls
-          → acts_in (events_in calls) ≡ []
-      unready_acts calls (inl none) = ap (λ ds. acts_in (events_in ds)) none
-      unready_acts calls (inr l) = ap (λ ds. acts_in (events_in ds)) l.are ∙ acts_append l.pauses (l.leave ∷ [])
-          ∙ (λ i. paused_acts p.me.setting p.me.seat v.guard l.pauses l.paused i
-          ++ calls_acts Waiter p.me.setting (Leave p.me.seat Stay ∷ []) (l.leave ∷ []) (l.leaves, tt) i)
+  tired_tells p v q t = grind (arith, nat_tests, acts_append, paused_acts, calls_acts)
 
   -- two visits, of which the first was done
   pub visited_twice : (p q r : Token) (end : End) (v w : Plan) → HasVisited k o p (v ∷ []) q Done

@@ -1,5 +1,5 @@
 -- The totals of a whole history, by what each seat of a run has done
-use Rattle.std.proofs.Common.{◌≡◌, ℕ, zero, suc, ◌+◌, Bool, List, [], ◌∷◌, refl, sym, ap, ◌∙◌}
+use Rattle.std.proofs.Common.{◌≡◌, ℕ, zero, suc, ◌+◌, Bool, List, [], ◌∷◌, refl, ◌∙◌, arith}
 use Rattle.std.{specs.List.sum_by, proofs.lemmas.List.Sums.sum_by-append, proofs.lemmas.List.Sums.sum_by-cons}
 use Rattle.atomic_table.specs.Seated.{TableId}
 use Rattle.monk_kinds.specs.declared.mode.Rules.{Rules}
@@ -17,9 +17,7 @@ module _ (worth : Answered → ℕ) where
 
   pub acts_worth : (h : List Event) → sum_by worth (acts_in h) ≡ sum_by of_event h
   acts_worth [] = refl
-  acts_worth (e ∷ h) =
-      sum_by-append worth (act_of e) (acts_in h) ∙ ap (λ n. of_event e + n) (acts_worth h)
-      ∙ sym (sum_by-cons of_event e h)
+  acts_worth (e ∷ h) = omega (arith, sum_by-append, sum_by-cons, acts_worth h)
 
 -- what each seat's own events are worth, summed over the passes that came back
 module _ (k : Rules) (o : Object) (answers : ℕ → ℕ → Bool → Type 0) (scenario : Scenario) (seats rounds : ℕ)
