@@ -1,20 +1,16 @@
 -- Why a close through a handle is refused, or what it has done
-use Rattle.std.specs.Prelude.{◌≡◌, ◌≢◌, ◌<◌, ◌⊎◌, ℕ, zero, suc, ℤ, pos, List, length, slice_get, slice_index_or, slice_set, Option, Some, None, IfSome}
-use Rattle.std.proofs.Common.{refl, sym, ap, subst, ◌∙◌, inl, inr, arith}
+use Rattle.std.specs.Prelude.{◌≡◌, ◌<◌, ℕ, ℤ, List, length, slice_get, slice_index_or, slice_set, Option, Some, None, IfSome}
+use Rattle.std.proofs.Common.{sym, ap, subst, ◌∙◌, arith}
 use Rattle.std.proofs.lemmas.{List.set-get_or, Option.get_or_from_slice_get, Option.slice_get-get_or}
 use Rattle.monk_kinds.specs.declared.mode.Pick.TheVariants as pick
-use Rattle.monk_kinds.specs.{Names.rules_named, declared.mode.Rules.Rules}
-use Rattle.monk_object.specs.Flags.{flags_meaning}
-use Rattle.monk_world.specs.{Places.stage, Places.due_stage, Steps.place_after_arrive}
-use Rattle.monk_hall.specs.{Calls.HasArrived, Layout.tickets, Layout.unpassed, declared.record.SeatRecord.SeatRecord}
-use Rattle.monk_c.specs.{Coming.HasCome, Refusal.refusal_at, Taken.HasPolled, Taken.IsOutside, Taken.IsWaiting}
-use Rattle.monk_c.specs.Stands.{At, Booked, At.Outside, At.Waiting, At.Inside}
-use Rattle.monk_c.specs.Closing.{FoundTaken, IfCloseRefused, IfClosed, IsInOrTaken, close_refusal, refusal_of_seats}
-use Rattle.monk_c.specs.Closing.{refusal_through}
+use Rattle.monk_c.specs.{Coming.HasCome, Refusal.refusal_at}
+use Rattle.monk_c.specs.Stands.{Booked}
+use Rattle.monk_c.specs.Closing.{IfCloseRefused, IfClosed, IsInOrTaken, close_refusal, refusal_of_seats}
 use Rattle.monk_c.specs.declared.{any_seat.AnySeat.AnySeat, refusal.Refusal.Refusal, handle.MonkSeat.MonkSeat}
 use Rattle.monk_c.specs.declared.call.Call.TheVariants.{Arrive, Poll}
 use Rattle.monk_c.specs.Handles.{AnswersAt, IfRefusedAt, booked}
-use Rattle.monk_c.specs.Answers.{place_number, refusal_number}
+use Rattle.monk_c.specs.Answers.{refusal_number}
+use Rattle.std.proofs.lemmas.Bool.Decides.{nat_tests}
 
 set_back : (handles : List MonkSeat) (i : ℕ) (h : MonkSeat) → slice_get handles i ≡ Some h
     → slice_set handles i h ≡ handles
@@ -27,41 +23,9 @@ also : (r : Option Refusal) (P Q : Type 0) (R : Refusal → Type 0) → (P → Q
 also None P Q R more has = tt
 also (Some f) P Q R more has = (more has.0, has.1)
 
--- an arrival leads to a ticket only if another isn't passed on
-taken : (t n : ℕ) → stage (place_after_arrive t n) ≢ due_stage → 0 < n
-taken t zero waits = absurd (waits refl)
-taken t (suc n) waits = omega arith
-
-in_or_taken : (k : Rules) (a b t : At) (code : ℤ) → IsOutside a (λ p. IsWaiting b (λ q. HasArrived k flags_meaning p q))
-    → IsWaiting b (λ p. HasPolled k p t) → code ≡ place_number t
-    → (code ≡ pos 3) ⊎ ((code ≡ pos 2) × FoundTaken a b)
-in_or_taken k (Outside p) (Outside q) t code arrived polled is = absurd arrived
-in_or_taken k (Outside p) (Waiting q) (Outside r) code arrived polled is = absurd polled
-in_or_taken k (Outside p) (Waiting q) (Inside r) code arrived polled is = inl is
-in_or_taken k (Outside p) (Waiting q) (Waiting r) code arrived polled is =
-    inr (
-      is,
-      (
-        arrived.found,
-        arrived.me,
-        taken (tickets arrived.found) (unpassed arrived.found)
-            (λ e. polled.1 (ap (λ (w : SeatRecord). stage w.place) arrived.me ∙ e)),
-      ),
-    )
-in_or_taken k (Outside p) (Inside q) t code arrived polled is = absurd arrived
-in_or_taken k (Waiting p) b t code arrived polled is = absurd arrived
-in_or_taken k (Inside p) b t code arrived polled is = absurd arrived
-
 is_in_or_taken : (s m t : Option Booked) (answer code : ℤ) → AnswersAt Arrive pick.Waiter s answer 0 m
     → AnswersAt Poll pick.Waiter m code 0 t → IsInOrTaken s m code
-is_in_or_taken None m t answer code arrived polled = absurd arrived
-is_in_or_taken (Some a) None t answer code arrived polled = absurd arrived
-is_in_or_taken (Some a) (Some b) None answer code arrived polled = absurd polled
-is_in_or_taken (Some a) (Some b) (Some d) answer code arrived polled =
-    let same = ap rules_named arrived.0 in
-    in_or_taken (rules_named a.kind) a.seat.at b.seat.at d.seat.at code arrived.1.2.1
-    (subst (λ (k : Rules). IsWaiting b.seat.at (λ p. HasPolled k p d.seat.at)) same polled.1.2.1)
-    polled.1.1
+is_in_or_taken s m t answer code arrived polled = grind (arith, nat_tests)
 
 -- through a handle of the list, if the seats refuse nothing; it is t then
 module _ (old seen : List MonkSeat) (by : ℕ) (d t : MonkSeat) (code shown : ℤ) (kept : seen ≡ old)
@@ -72,14 +36,10 @@ module _ (old seen : List MonkSeat) (by : ℕ) (d t : MonkSeat) (code shown : �
   h = slice_index_or seen by d
 
   chosen : slice_get old by ≡ Some h
-  chosen =
-      subst (λ (xs : List MonkSeat). slice_get old by ≡ Some (slice_index_or xs by d)) (sym kept)
-      (slice_get-get_or old by d low)
+  chosen = grind (arith, nat_tests, slice_get-get_or)
 
   arrival : close_refusal old by ≡ refusal_at (booked h.has) Arrive
-  arrival =
-      ap (λ (x : Option MonkSeat). refusal_through x (refusal_of_seats old)) chosen
-      ∙ ap (λ (f : Option Refusal). refusal_through (Some h) f) fine
+  arrival = grind (arith, nat_tests, chosen)
 
   others : slice_set seen by t ≡ slice_set old by t
   others = ap (λ (xs : List MonkSeat). slice_set xs by t) kept

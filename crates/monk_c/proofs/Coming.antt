@@ -1,6 +1,6 @@
 -- A seat that has arrived may poll
 use Rattle.std.specs.Prelude.{◌≡◌, ℤ, None}
-use Rattle.std.proofs.Common.{refl, sym, ap, ◌∙◌, subst}
+use Rattle.std.proofs.Common.{refl, sym, ap, ◌∙◌, subst, arith}
 use Rattle.monk_kinds.specs.declared.name.KindName.TheVariants as kind
 use Rattle.monk_kinds.specs.{Names.rules_named, declared.name.KindName.KindName}
 use Rattle.monk_c.specs.{Handles.booked, Handles.seat_named, Refusal.refusal_at, Refusal.refusal_of, Stands.SeatView}
@@ -8,6 +8,7 @@ use Rattle.monk_c.specs.Coming.{Comes, HasCome, IfComes, IfComesAt}
 use Rattle.monk_c.specs.declared.any_seat.AnySeat.{AnySeat}
 use Rattle.monk_c.specs.declared.any_seat.AnySeat.TheVariants.{Pb, Npb, Pnb, Npnb, Pqb, Npqb, Pir, Npir, Pis, Npis}
 use Rattle.monk_c.specs.declared.call.Call.TheVariants.{Arrive}
+use Rattle.std.proofs.lemmas.Bool.Decides.{nat_tests}
 
 -- what a seat of a kind has done, its handle has done
 has_come : (n : KindName) (s t : SeatView) (code : ℤ) → Comes (rules_named n) s code t
@@ -75,16 +76,7 @@ has_come kind.Npis s t code x = record {
 
 unrefused : (n : KindName) (s : SeatView) → refusal_at (booked (seat_named n s)) Arrive ≡ None
     → refusal_of (rules_named n).mode s Arrive ≡ None
-unrefused kind.Pb s none = none
-unrefused kind.Npb s none = none
-unrefused kind.Pnb s none = none
-unrefused kind.Npnb s none = none
-unrefused kind.Pqb s none = none
-unrefused kind.Npqb s none = none
-unrefused kind.Pir s none = none
-unrefused kind.Npir s none = none
-unrefused kind.Pis s none = none
-unrefused kind.Npis s none = none
+unrefused n s none = grind (arith, nat_tests)
 
 pub comes_at : (n : KindName) (h : AnySeat) (s t : SeatView) (code shown : ℤ) → h ≡ seat_named n s → shown ≡ code
     → IfComes (rules_named n) s code t

@@ -1,15 +1,16 @@
 -- A new hall and its passes, by their seats
-use Rattle.std.specs.Prelude.{Option, None, is_some, ◌||◌}
-use Rattle.std.proofs.Common.{◌≡◌, ℕ, zero, suc, ◌+◌, ◌<◌, ◌≤◌, max, nat_lt, Bool}
-use Rattle.std.proofs.Common.{true, false, List, length, slice_index_or, refl, ap, sym, subst, ◌∙◌, arith}
+use Rattle.std.specs.Prelude.{None}
+use Rattle.std.proofs.Common.{◌≡◌, ℕ, zero, suc, ◌+◌, ◌<◌, ◌≤◌, max}
+use Rattle.std.proofs.Common.{List, length, slice_index_or, refl, ap, sym, subst, ◌∙◌, arith}
 use Rattle.std.proofs.Math.Nat.{not-suc-le-zero, le_of_suc-le-suc}
 use Rattle.atomic_table.specs.Seated.{TableId}
 use Rattle.monk_hall.specs.{Records.opening_record, Records.opening_records, Records.first_view, Tokens.House}
 use Rattle.monk_hall.specs.{Tokens.Token, Tokens.tokens, declared.setting.Setting.Setting, Rule.setting_of}
-use Rattle.monk_floor.specs.{Making.make_refusal, declared.fault.MakeFault.MakeFault}
+use Rattle.monk_floor.specs.{Making.make_refusal}
 use Rattle.monk_c.specs.{declared.numbers.Numbers.Numbers, Stands.RoomView}
 use Rattle.monk_c.specs.Dealing.{ArePasses, IsMadeOf, fresh_pass}
 use Rattle.monk_object.specs.{Names.opening_named, declared.name.ObjectName.TheVariants.Flags as FlagsName}
+use Rattle.std.proofs.lemmas.Bool.Decides.{nat_tests}
 
 abbrev fresh : TableId → Setting → ℕ → Token
 fresh z c i = record { hall = z; me = opening_record c i }
@@ -34,27 +35,12 @@ are_passes r ps e =
     (λ i d low. dealt_from r.house.id r.house.setting r.house.setting.seats 0 i d low
     ∙ ap (λ (k : ℕ). fresh r.house.id r.house.setting k) (grind arith))
 
-neither : (a b : Bool) → a ≡ false → b ≡ false → (a || b) ≡ false
-neither false false e f = refl
-neither true b e f = absurd cc
-neither false true e f = absurd cc
-
-not_above : (n : ℕ) → max n 1 ≤ 32 → nat_lt 32 n ≡ false
-not_above n low = grind (arith, low)
-
 -- a hall that was made is made of numbers in range, and has a pass for each seat
 module _ (n : Numbers) (h : House) (object : List ℕ) (size : ℕ) (e : size ≡ max n.flags 1) (low : size ≤ 32)
     (opens : object ≡ opening_named FlagsName size) (none : make_refusal n.seats n.conds n.budget ≡ None)
     (setting : h.setting ≡ setting_of object n.seats n.conds n.budget) where
   pub is_made : IsMadeOf n (record { house = h; flags = n.flags })
-  is_made = record {
-    in_range = neither (nat_lt 32 n.flags) (is_some (make_refusal n.seats n.conds n.budget))
-        (not_above n.flags (subst (λ (k : ℕ). k ≤ 32) e low)) (ap (λ (x : Option MakeFault). is_some x) none);
-    setting = setting
-        ∙ ap (λ (x : List ℕ). setting_of x n.seats n.conds n.budget)
-        (opens ∙ ap (λ (k : ℕ). opening_named FlagsName k) e);
-    flags = refl;
-  }
+  is_made = grind (arith, nat_tests)
 
   pub as_many : (ps : List Token) → ps ≡ tokens h.id (first_view h.setting) → length ps ≡ n.seats
   as_many ps f = all_seats h.id h.setting ps f ∙ ap (λ (c : Setting). c.seats) setting

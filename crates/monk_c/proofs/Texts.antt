@@ -1,14 +1,15 @@
 -- The text that C gets is one of a legal history
-use Rattle.std.proofs.Common.{◌≡◌, ◌≤◌, ℕ, List, length, ap, subst, ◌∙◌}
+use Rattle.std.proofs.Common.{◌≡◌, ◌≤◌, ℕ, List, length, ap, subst, ◌∙◌, arith}
 use Rattle.monk_kinds.specs.{Names.rules_named, declared.mode.Rules.Rules, declared.name.KindName.KindName}
 use Rattle.monk_object.specs.{Flags.flags_meaning, Names.opening_named, declared.name.ObjectName.TheVariants.Flags}
 use Rattle.monk_history.specs.{Limits.most_lines, Meaning.Legal.IsLegal, declared.event.Event.Event}
 use Rattle.monk_history.specs.Text.{Heading, HasText, text}
 use Rattle.monk_floor.proofs.PublicLaws.{legal_as_headed}
-use Rattle.monk_floor.specs.{Headed.IsHeadedBy, View.FloorView, View.monitor_of}
+use Rattle.monk_floor.specs.{Headed.IsHeadedBy, View.monitor_of}
 use Rattle.monk_hall.specs.{Layout.floor_of, Tokens.Holder, declared.setting.Setting.Setting}
 use Rattle.monk_c.specs.{Stands.IsAtHome, Stands.RoomView, Stands.At.Inside, Texts.IsTextOf}
 use Rattle.monk_c.specs.Headings.{flags_made, heading_for}
+use Rattle.std.proofs.lemmas.Bool.Decides.{nat_tests}
 
 module _ (k : KindName) (r : RoomView) (a : Holder)
     (opening : r.house.setting.opening ≡ opening_named Flags (flags_made r.flags)) (home : IsAtHome r (Inside a))
@@ -17,11 +18,7 @@ module _ (k : KindName) (r : RoomView) (a : Holder)
   setting = ap (λ (c : Setting). floor_of c a.floor.history) home.setting
 
   headed : IsHeadedBy a.floor (heading_for k r)
-  headed = record {
-    opening = ap (λ (f : FloorView). f.opening) (floor ∙ setting) ∙ opening;
-    seats = ap (λ (f : FloorView). f.seats) (floor ∙ setting);
-    conds = ap (λ (f : FloorView). f.conds) (floor ∙ setting);
-  }
+  headed = grind (arith, nat_tests)
 
   pub is_text : (rules : Rules) (h : Heading) (events : List Event) (bytes : List ℕ) → rules ≡ rules_named k
       → IsLegal (monitor_of rules flags_meaning a.floor) a.floor.history → length a.floor.history ≤ most_lines
