@@ -43,10 +43,7 @@ nobody k o f legal unqueued =
     let t = situation m f.history in
     let placed = legal_placed m f.history legal in
     let seated = legal_seated m f.history legal in
-    let none : (j : ℕ) → in_queues f.conds j t ≡ 0 = λ j. elim (cases_le f.seats j) [
-      | inl far ↦ far_unqueued m t j placed seated far
-      | inr near ↦ none_queued (in_queues f.conds j t) (unqueued j near)
-    ] in
+    let none : (j : ℕ) → in_queues f.conds j t ≡ 0 = grind (arith, nat_tests, far_unqueued, none_queued) in
     record {
       conditions = λ c low. empty_of (condition c f.history)
           (λ j. let n = none j in let l = times_le_conditions f.conds j c t.condition low in omega arith);
@@ -81,10 +78,8 @@ ended k o a f number choice g history state floor seat own legal unqueued grows 
     is_state within =
     let none : HasNobody f = nobody k o f legal (subst (λ (x : FloorView). IsUnqueued k o x x.seats) floor unqueued) in
     let entry : choice ≡ next.Entry = chosen ∙ leaves_last k o f number none in
-    let past : g.history ≡ a.floor.history ++ Leave a.me.seat next.Entry ∷ [] =
-    ap (λ (x : FloorView). x.history) grows.grown ∙ (λ i. (sym floor i).history ++ Leave (sym seat i) (entry i) ∷ []) in
-    let same : monitor_of k o g ≡ monitor_of k o a.floor = ap (monitor_of k o) grows.grown
-    ∙ ap (monitor_of k o) (sym floor) in
+    let past : g.history ≡ a.floor.history ++ Leave a.me.seat next.Entry ∷ [] = grind (arith, nat_tests) in
+    let same : monitor_of k o g ≡ monitor_of k o a.floor = grind (arith, nat_tests) in
     record {
       nobody = subst HasNobody (sym floor) none;
       leaves = is_history ∙ past;

@@ -1,6 +1,6 @@
 -- How many events a history has that holds the calls of some seats, and what their number shows
-use Rattle.std.proofs.Common.{◌≡◌, ◌≢◌, ℕ, ◌+◌, ◌<◌, ◌≤◌, ◌==◌, Bool, cond, zero, suc, List, [], ◌∷◌, ◌++◌, length, map, take}
-use Rattle.std.proofs.Common.{append-nil, length-append, refl, sym, ap, ◌∙◌, arith, eq-eqb, ⊎_elim, rules}
+use Rattle.std.proofs.Common.{◌≡◌, ◌≢◌, ℕ, ◌+◌, ◌<◌, ◌≤◌, ◌==◌, cond, zero, suc, List, [], ◌∷◌, ◌++◌, length, map, take}
+use Rattle.std.proofs.Common.{append-nil, length-append, refl, sym, ap, ◌∙◌, arith, eq-eqb, rules}
 use Rattle.std.proofs.lemmas.Bool.Decides.{eqb_tells, nat_tests}
 use Rattle.std.proofs.lemmas.List.{nil_from_length, take_more, Kept.AllPairs-cons, Sums.sum_by-cons, Sums.sum_by_more}
 use Rattle.std.proofs.lemmas.List.Elements.{All-cons, All-head, All-map, All-more, All-nil, All-tail, All-take}
@@ -144,16 +144,7 @@ counted h seat ps apart =
     let first = sum_by-cons f seat (map (λ p. p.me.seat) ps) in
     let same =
     same_sums (λ p. f p.me.seat) (λ p. length (events_of h p.me.seat)) ps (λ k d within. sym (length-sum_by _)) in
-    omega (
-      arith,
-      all,
-      first,
-      sum_map f ps,
-      same,
-      length-sum_by h,
-      length-sum_by (events_of h seat),
-      length-sum_by (rest_of (seats_of seat ps) h),
-    )
+    grind (arith, nat_tests, sum_map, length-sum_by, rest_of)
 
 all_le : (h : List Event) (ps : List Token) → HaveSeenPart h ps → All KnowsItsOwn ps
     → All (λ p. length p.me.mine ≤ length (events_of h p.me.seat)) ps
@@ -210,16 +201,14 @@ one_counted h s n count d lt is =
 pub own_counted : (h : List Event) (s n count : ℕ) (d : Event) → n < length h → count ≡ length (events_of (take n h) s)
     → seat_of (slice_index_or h n d) ≡ s → count + 1 ≡ length (events_of (take (n + 1) h) s)
 own_counted h s n count d lt is same =
-    let one : ◌≡◌ {A = ℕ} (cond (seat_of (slice_index_or h n d) == s) 1 0) 1 =
-    ap (λ (b : Bool). cond b 1 0) (eq-eqb _ s same) in
+    let one : ◌≡◌ {A = ℕ} (cond (seat_of (slice_index_or h n d) == s) 1 0) 1 = grind (arith, nat_tests, eq-eqb) in
     omega (arith, one_counted h s n count d lt is, one)
 
 pub other_counted : (h : List Event) (s n count : ℕ) (d : Event) → n < length h
     → count ≡ length (events_of (take n h) s)
     → seat_of (slice_index_or h n d) ≢ s → count ≡ length (events_of (take (n + 1) h) s)
 other_counted h s n count d lt is ne =
-    let none : ◌≡◌ {A = ℕ} (cond (seat_of (slice_index_or h n d) == s) 1 0) 0 = ⊎_elim (λ t. absurd (ne t.1))
-    (λ t. ap (λ (b : Bool). cond b 1 0) t.0) (eqb_tells (seat_of (slice_index_or h n d)) s) in
+    let none : ◌≡◌ {A = ℕ} (cond (seat_of (slice_index_or h n d) == s) 1 0) 0 = grind (arith, nat_tests, eqb_tells) in
     omega (arith, one_counted h s n count d lt is, none)
 
 pub starts_counted : (h : List Event) (s : ℕ) → (0 ≡ length (events_of [] s)) × (0 ≤ 0) × (0 ≤ length h)

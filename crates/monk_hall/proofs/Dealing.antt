@@ -22,6 +22,7 @@ use Rattle.monk_hall.specs.{Laws.HallState, Rule.AreShown, Rule.IsHall, Tokens.T
 use Rattle.monk_hall.specs.Records.{View, In, Distinct, opening_record, opening_records, first_view}
 use Rattle.monk_hall.specs.Layout.{tickets, unpassed, word_count, place_word, seat_word, floor_of, shown_state}
 use Rattle.monk_hall.specs.declared.{record.SeatRecord.SeatRecord, setting.Setting.Setting}
+use Rattle.std.proofs.lemmas.Bool.Decides.{nat_tests}
 
 -- one of the records of n seats from i on
 record IsFresh (c : Setting) (n i : ℕ) (r : SeatRecord) : Type 0 where
@@ -64,11 +65,7 @@ opens k o c words made some wide zeros = (
   opening_record c,
   record {
     desk = λ _. 0;
-    each = λ id v e r h.
-        let o = only_at (first_view c) v id e in
-        let a = in_fresh c c.seats 0 r (subst (In r) (sym o.0) h) in
-        let b = a.high in
-        (sym a.is, sym o.1, omega arith);
+    each = grind (arith, nat_tests, only_at, in_fresh);
     apart = λ id v e. subst Distinct (only_at (first_view c) v id e).0 (distinct_fresh c c.seats 0);
     there = λ j near. (first_view c, refl, fresh_in c c.seats 0 j (omega arith) (omega arith));
     settings = λ j. refl;
@@ -180,8 +177,7 @@ module _ (c : Setting) (views : List View) (at : ℕ → SeatRecord) (sh : AreSh
         let old = sh.there j near in
         elim (eqb_tells (sh.desk j) id) [
           | inl d ↦
-              let is_v : old.0 ≡ v =
-              some-injective old.0 v (sym old.1 ∙ ap (λ (n : ℕ). get_elem? views n) d.1 ∙ view) in
+              let is_v : old.0 ≡ v = grind (arith, nat_tests, some-injective) in
               elim (either (at j) (subst (λ (z : View). In (at j) z) is_v old.2)) [
                 | inl e ↦ absurd (h.1 (sym (sh.seats j) ∙ ap (λ (z : SeatRecord). z.seat) e))
                 | inr e ↦ (
@@ -204,9 +200,7 @@ module _ (c : Setting) (views : List View) (at : ℕ → SeatRecord) (sh : AreSh
   shown_moved = record {
     desk = moved_desk;
     each = each_after;
-    apart = λ j u e. ⊎_elim
-        (λ old. ⊎_elim (λ t. subst Distinct t.1 distinct) (λ t. sh.apart j u t.1) (at_set views id j ys u old))
-        (λ new. subst Distinct new.0 ((λ y z. absurd z), tt)) (at_end left_views (x ∷ []) u j e);
+    apart = grind (arith, nat_tests, at_set, at_end);
     there = there_after;
     settings = sh.settings;
     seats = sh.seats;

@@ -106,8 +106,7 @@ module _ {k : Rules} {o : Object} where
           budgeted = x.seated.budgeted;
         };
         goes = came_goes r f finds;
-        left = let more = own_longer f.history e r.seat (out_seat r.seat (source_from r.place) (turn f.history)) in
-            let two = finds.left in let b = ap (λ y. y.budget) finds.is_floor in omega arith;
+        left = grind (arith, nat_tests, own_longer, out_seat);
       }
 
   pub entered : (z : TableId) (r : SeatRecord) (q : Source) (f : FloorView) → r.place ≡ Due q → Finds k o r f
@@ -129,8 +128,7 @@ module _ {k : Rules} {o : Object} where
         place = ap Active same;
         known = refl;
         starts = x.starts;
-        floor = ap (λ y. with_event y e) x.is_floor
-            ∙ ap (λ y. floor_of r.setting (f.history ++ out_event r.seat y (turn f.history) ∷ [])) same;
+        floor = grind (arith, nat_tests);
         mine = goes.mine ∙ ap (λ y. r.mine ++ out_event r.seat y (turn f.history) ∷ []) same;
         first = λ t is. x.first t (same ∙ is);
         next = λ t is. x.next t (same ∙ is);

@@ -1,15 +1,14 @@
 -- How few steps each call takes
 use Rattle.std.proofs.Common.{◌≡◌, ℕ, zero, suc, ◌+◌, ◌≤◌, Bool, false, true, List, [], ◌∷◌, ◌++◌, length, refl, sym, ap}
-use Rattle.std.proofs.Common.{subst, ◌∙◌, inl, inr, arith, append_assoc, length-append, Option, Some, None}
+use Rattle.std.proofs.Common.{◌∙◌, inl, inr, arith, append_assoc, length-append, Option, Some, None}
 use Rattle.std.proofs.lemmas.{List.Sums.sum_by-append, Option.none-some, Option.same_Some}
-use Rattle.std.specs.Prelude.{IfSome, MatchOption}
 use Rattle.monk_kinds.specs.declared.mode.Rules.{Rules}
 use Rattle.monk_object.specs.Object.{Object}
 use Rattle.monk_history.specs.{Meaning.Counts.enters_of, declared.event.Event.Event}
 use Rattle.monk_world.specs.declared.place.Place.{Place}
 use Rattle.monk_hall.proofs.HandingLaws.{grants_by}
-use Rattle.monk_hall.specs.{Calls.peeks_at, Changes.since, Handing.HandsOn, Handing.seat_called_by, Layout.seat_word}
-use Rattle.monk_hall.specs.{Layout.ticket_word, NextTicket.IsLooking, Tokens.Token, Tokens.Holder, Tokens.House}
+use Rattle.monk_hall.specs.{Calls.peeks_at, Changes.since, Handing.HandsOn, Handing.seat_called_by}
+use Rattle.monk_hall.specs.{NextTicket.IsLooking, Tokens.Token, Tokens.Holder, Tokens.House}
 use Rattle.monk_hall.specs.FewSteps.{ArrivalsAreFewSteps, PollsAreFewSteps, ComesInFewSteps, ReleasesAreFewSteps}
 use Rattle.monk_hall.specs.FewSteps.{StaysAreFewSteps, BusyIsFewSteps, GrantsAreSteps, UnlookedLearnsNothing}
 use Rattle.monk_hall.specs.FewSteps.{IsGrantFor, HasStepped}
@@ -108,36 +107,19 @@ granted : (k : Rules) (o : Object) (a : Holder) (peeks : ℕ) (p : Token) (h : H
 granted k o a peeks p h (Some j) front ds g is e n =
     let one = e ∙ ap (λ (l : List Deed). granted_last h.id h.setting.seats (front ++ l)) is
     ∙ grants_by h.id h.setting.seats front (CallSeat j) in
-    record {
-      here = subst (λ (y : Option Grant). IfSome y (λ x. x.table ≡ h.id)) (sym one) refl;
-      seat = λ m c. one
-          ∙ ap (λ (i : ℕ). Some (let y : Grant = record { table = h.id; word = seat_word i } in y)) (same_Some j m c);
-      ticket = λ none. absurd (none-some j (sym none));
-    }
+    grind (arith, nat_tests, same_Some, none-some)
 granted k o a peeks p h None front ds g (inl is) e n =
     let none = e ∙ ap (λ (l : List Deed). granted_last h.id h.setting.seats (front ++ l)) is
     ∙ grants_by h.id h.setting.seats front (Drop 1) in
     let l = ap length is in
-    record {
-      here = subst (λ (y : Option Grant). IfSome y (λ x. x.table ≡ h.id)) (sym none) tt;
-      seat = λ j c. absurd (none-some j c);
-      ticket = λ c. subst (λ (y : Option Grant). MatchOption y (steps_of p.me.did ≡ steps_of a.me.did + peeks + 2)
-          (λ x. (steps_of p.me.did ≡ steps_of a.me.did + peeks + 3)
-          × (x.word ≡ ticket_word h.setting.seats (enters_of p.me.seen)))) (sym none) (omega arith);
-    }
+    grind (arith, nat_tests, none-some)
 granted k o a peeks p h None front ds g (inr (m, two, is)) e n =
     let t : ℕ = enters_of p.me.seen in
     let one = e ∙ ap (λ (l : List Deed). granted_last h.id h.setting.seats (front ++ l)) is
     ∙ ap (granted_last h.id h.setting.seats) (sym (append_assoc front (Drop m ∷ []) (GrantTicket t ∷ [])))
     ∙ grants_by h.id h.setting.seats (front ++ Drop m ∷ []) (GrantTicket t) in
     let l = ap length is in
-    record {
-      here = subst (λ (y : Option Grant). IfSome y (λ x. x.table ≡ h.id)) (sym one) refl;
-      seat = λ j c. absurd (none-some j c);
-      ticket = λ c. subst (λ (y : Option Grant). MatchOption y (steps_of p.me.did ≡ steps_of a.me.did + peeks + 2)
-          (λ x. (steps_of p.me.did ≡ steps_of a.me.did + peeks + 3)
-          × (x.word ≡ ticket_word h.setting.seats t))) (sym one) (omega arith, refl);
-    }
+    grind (arith, nat_tests, none-some)
 
 pub grants : GrantsAreSteps
 grants k o a call wish to peeks p h g x =
@@ -145,9 +127,7 @@ grants k o a call wish to peeks p h g x =
     let ps = peeked peeks it.found in
     let home : List Deed = FloorIn (since a.me.seen p.me.seen) ∷ [] in
     let front : List Deed = a.me.did ++ (peeks_at peeks it.found ++ home) in
-    let all : p.me.did ≡ front ++ it.handed = it.did
-    ∙ ap (λ (ds : List Deed). a.me.did ++ ds) (sym (append_assoc (peeks_at peeks it.found) home it.handed))
-    ∙ sym (append_assoc a.me.did (peeks_at peeks it.found ++ home) it.handed) in
+    let all : p.me.did ≡ front ++ it.handed = grind (arith, nat_tests, append_assoc) in
     let l = ap length all ∙ length-append front it.handed in
     let m = length-append a.me.did (peeks_at peeks it.found ++ home) in
     let n = length-append (peeks_at peeks it.found) home in

@@ -1,5 +1,5 @@
 -- The floor comes out to the seat that is due
-use Rattle.std.proofs.Common.{◌≡◌, ◌≢◌, ℕ, ◌≤◌, false, List, [], ◌∷◌, ◌++◌, length, set, sym, refl, ap, ◌∙◌}
+use Rattle.std.proofs.Common.{◌≡◌, ◌≢◌, ℕ, ◌≤◌, false, List, [], ◌∷◌, ◌++◌, set, sym, refl, ap, ◌∙◌}
 use Rattle.std.proofs.Common.{subst, arith, length-set}
 use Rattle.std.specs.Prelude.{Option, Some}
 use mathlib.Core.Option as maybe
@@ -146,9 +146,7 @@ module _ (k : Rules) (o : Object) (c : Setting) (kind : IsKind k) (s : table.Sta
       },
     );
     home = refl;
-    step = subst (λ (g : List Event). IsStep k o (shown_state c s.words h.0 g) r.seat command.Out answer.Now
-        (shown_state c s.words (update h.0 r.seat w) (past ++ came ∷ []))) (sym (h.2.told.home nobody).0)
-        (subst (λ (t : State). IsStep k o old r.seat command.Out answer.Now t) same step_after);
+    step = grind (arith, nat_tests, nobody, same, step_after);
   }
 
   entered_is : (t : ℕ) (q : Source) → source_from r.place ≡ q → used_at (Due q) ≡ 0 → ticket (Due q) ≡ t
@@ -172,8 +170,7 @@ module _ (k : Rules) (o : Object) (c : Setting) (kind : IsKind k) (s : table.Sta
             legal_last (monitor_of k o floor) past came
             (subst (IsKept k o c.seats c.conds) same kept_after).sound.is_sound.legal;
         left = let l = sound.left r.seat in let p = ap left_at at_due in omega arith;
-        within = let b = kept_old.bounded.within r.seat in let l = ap length mine in let y =
-            ap (λ (x : Setting). x.budget) setting in omega arith;
+        within = grind (arith, nat_tests);
         first = λ t e. entered_is t (Free t) e refl refl (omega arith);
         next = λ t e. entered_is t (Granted t) e refl refl (omega arith);
       }

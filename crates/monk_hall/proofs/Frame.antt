@@ -21,6 +21,7 @@ use Rattle.monk_world.specs.declared.place.Place.TheVariants.{Idle, Ticket, Due,
 use Rattle.monk_world.specs.declared.source.Source.{Source, TheVariants.Free, TheVariants.Granted, TheVariants.Called}
 use Rattle.monk_hall.specs.{Floors.StartsWith, Layout.shown_world, Rule.AreTold, Rule.Homes}
 use Rattle.monk_hall.specs.declared.{record.SeatRecord.SeatRecord, setting.Setting.Setting}
+use Rattle.std.proofs.lemmas.Bool.Decides.{nat_tests}
 
 passes : (reach offered told tired : Bool) → reach ≡ true → offered ≡ true → told ≡ true → tired ≡ false
     → cond (not reach) (Some answer.Range)
@@ -86,8 +87,7 @@ who seats w right owner r = by right (λ j three. held r j (omega arith) (omega 
     by (AtSeat m) is = inr (λ j three. let e = is j three in cc)
     by (With m) is = elim (eqb_tells (stage (w.place m)) active_stage) [
       | inl h ↦ inl (m, active_at m h.0)
-      | inr h ↦ inr (λ j three. let e = is j three in let same : j ≡ m = cc in
-          h.1 (sym (ap (λ (n : ℕ). stage (w.place n)) same) ∙ three))
+      | inr h ↦ grind (arith, nat_tests)
     ]
 
 pub out_seat : (i : ℕ) (q : Source) (h : List Event) → seat_of (out_event i q (turn h)) ≡ i

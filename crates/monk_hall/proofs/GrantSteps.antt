@@ -9,7 +9,7 @@ use Rattle.atomic_table.specs.Table as table
 use Rattle.monk_kinds.specs.{Kind.IsKind, declared.mode.Rules.Rules}
 use Rattle.monk_object.specs.Object.{Object}
 use Rattle.monk_history.specs.declared.event.Next.TheVariants as next
-use Rattle.monk_history.specs.{Meaning.Counts.granted_of, declared.event.Event.Event, declared.event.Next.Next}
+use Rattle.monk_history.specs.{Meaning.Counts.granted_of, declared.event.Next.Next}
 use Rattle.monk_floor.specs.View.{FloorView}
 use Rattle.monk_world.specs.declared.answer.Answer.TheVariants as answer
 use Rattle.monk_world.specs.declared.command.Command.TheVariants as command
@@ -30,6 +30,7 @@ use Rattle.monk_hall.specs.Changes.{record_after_grant, home_at}
 use Rattle.monk_hall.specs.Layout.{tickets, unpassed, shown_state, shown_world, place_word, seat_word}
 use Rattle.monk_hall.specs.declared.{record.SeatRecord.SeatRecord, setting.Setting.Setting}
 use Rattle.monk_hall.specs.declared.deed.Deed.TheVariants.{GrantTicket, CallSeat}
+use Rattle.std.proofs.lemmas.Bool.Decides.{nat_tests}
 
 -- a place at which a seat has chosen seat m
 pub record IsChoosing (p : Place) (m : ℕ) : Type 0 where
@@ -99,18 +100,11 @@ module _ (k : Rules) (o : Object) (c : Setting) (kind : IsKind k) (s : table.Sta
       let place_is : r.place ≡ Passing n to = standing.passing_at r.place passing in
       let stands = stepping.stands_at k o c kind s h id r here (Passing n to) place_is in
       let low : q < c.seats = mod-lt n kh.some_seat in
-      let ready : IsReady k o old r.seat command.Grant = record {
-        near = stepping.near k o c kind s h id r here;
-        range = refl;
-        offered = refl;
-        told = ap (λ (p : Place). may_be_told p command.Grant) stands;
-        left = omega arith;
-      } in
+      let ready : IsReady k o old r.seat command.Grant = grind (arith, nat_tests) in
       let after : State = record old { world = after_ticket_grant c.seats world r.seat n to } in
       let kept = stepping.takes_step k o c kind s h id r here command.Grant (answer.GrantedTicket n) after
       (Passing n to) ready place_is (refl, refl) in
-      let word : slice_index s.words 0 ≡ slice_index ws 0 =
-      sym (get_or-set_other s.words (place_word q) 0 (n + 1) 0 (λ e. omega arith)) in
+      let word : slice_index s.words 0 ≡ slice_index ws 0 = grind (arith, nat_tests, get_or-set_other) in
       let places = stepping.places_after k o c kind s h id r here w in
       let ticket_places = sym (stored.place_stored s.words q (n + 1) (let z = kh.wide in omega arith)) in
       let seat_places = sym (stored.seats_stay s.words (place_word q) (n + 1) (λ m e. omega arith)) in
@@ -128,8 +122,7 @@ module _ (k : Rules) (o : Object) (c : Setting) (kind : IsKind k) (s : table.Sta
         known = knows z;
         floor = old.floor;
       } in
-      let moved : stepping.IsMoved k o c kind s h id r here w =
-      record { seat = refl; setting = refl; seen = refl; mine = refl } in
+      let moved : stepping.IsMoved k o c kind s h id r here w = grind (arith, nat_tests) in
       let apart = standing.apart_home to in
       let calls =
       calls_stay world (shown_world ws (update at r.seat w)) kh.past r.seat w.place kh.told.calls (sym places)
@@ -172,11 +165,8 @@ module _ (k : Rules) (o : Object) (c : Setting) (kind : IsKind k) (s : table.Sta
       let stands = stepping.stands_at k o c kind s h id r here (Back x.choice x.to) x.is in
       let four : stage (at r.seat).place ≡ back_stage = ap stage stands in
       let mine = held sound.stands.keeps r.seat (omega arith) (omega arith) in
-      let alone : (j n : ℕ) → j ≢ r.seat → back_turn (at j).place ≢ due_to n = λ j n ne e.
-      let y = choosing_at (at j).place n e in
-      let back : stage (at j).place ≡ back_stage = ap stage y.is in
-      let theirs = held sound.stands.keeps j (omega arith) (omega arith) in
-      absurd (ne cc) in
+      let alone : (j n : ℕ) → j ≢ r.seat → back_turn (at j).place ≢ due_to n =
+      grind (arith, nat_tests, choosing_at, held) in
       let apart = standing.apart_home (home_at r.place) in
       let nobody : (j n : ℕ) → back_turn (update at r.seat w j).place ≢ due_to n = λ j n.
       at_update at r.seat w (λ i y. back_turn y.place ≢ due_to n) (λ e. let z = apart.chose in absurd (omega arith))
@@ -187,8 +177,7 @@ module _ (k : Rules) (o : Object) (c : Setting) (kind : IsKind k) (s : table.Sta
             (at_update world.seat_place m (world.seat_place m + 1) (λ i y. granted_of kh.past i ≡ y)
             (kh.told.calls.choosing r.seat m (ap back_turn stands ∙ x.names))
             (λ i ne. kh.told.calls.settled i (λ j e. elim (eqb_tells j r.seat) [
-              | inl b ↦ absurd (ne (let z = ap (λ (a : ℕ). back_turn (at a).place) b.1 in let y = ap back_turn stands
-                  ∙ x.names in omega arith))
+              | inl b ↦ grind (arith, nat_tests)
               | inr b ↦ absurd (alone j i b.1 e)
             ])) n);
       }
@@ -213,22 +202,13 @@ module _ (k : Rules) (o : Object) (c : Setting) (kind : IsKind k) (s : table.Sta
       let x = choosing_at r.place m names in
       let stands = stepping.stands_at k o c kind s h id r here (Back x.choice x.to) x.is in
       let seen : r.seen ≡ kh.past = sym (ap (λ (y : SeatRecord). y.seen) is) ∙ kh.told.back r.seat (ap stage stands) in
-      let grown : world.seat_place m + 1 ≡ calls =
-      sym (calls_are ∙ ap (λ (g : List Event). granted_of g m) seen
-      ∙ kh.told.calls.choosing r.seat m (ap back_turn stands ∙ x.names)) in
+      let grown : world.seat_place m + 1 ≡ calls = grind (arith, nat_tests) in
       let low = called_near m names in
-      let ready : IsReady k o old r.seat command.Grant = record {
-        near = stepping.near k o c kind s h id r here;
-        range = refl;
-        offered = refl;
-        told = ap (λ (p : Place). may_be_told p command.Grant) stands ∙ told_to_grant x.choice m x.to x.names;
-        left = omega arith;
-      } in
+      let ready : IsReady k o old r.seat command.Grant = grind (arith, nat_tests, told_to_grant) in
       let after : State = record old { world = after_seat_grant world r.seat m x.to } in
       let kept = stepping.takes_step k o c kind s h id r here command.Grant (answer.GrantedSeat m) after
       (Back x.choice x.to) ready x.is (calls_done k o old r.seat x.choice m x.to x.names) in
-      let word : slice_index s.words 0 ≡ slice_index ws 0 =
-      sym (get_or-set_other s.words (seat_word m) 0 calls 0 (λ e. omega arith)) in
+      let word : slice_index s.words 0 ≡ slice_index ws 0 = grind (arith, nat_tests, get_or-set_other) in
       let home_is : x.to ≡ home_at r.place = sym (ap home_at x.is) in
       let places = ap (λ (y : Home). update world.place r.seat (place_of y)) home_is
       ∙ stepping.places_after k o c kind s h id r here w in
@@ -249,8 +229,7 @@ module _ (k : Rules) (o : Object) (c : Setting) (kind : IsKind k) (s : table.Sta
         known = knows z;
         floor = old.floor;
       } in
-      let moved : stepping.IsMoved k o c kind s h id r here w =
-      record { seat = refl; setting = refl; seen = refl; mine = refl } in
+      let moved : stepping.IsMoved k o c kind s h id r here w = grind (arith, nat_tests) in
       stepping.holds_after k o c kind s h id r here w ws moved (length-set s.words (seat_word m) calls) kept same
       (stepping.knows_after k o c kind s h id r here w ws moved (calls_counted m ws names seat_places)
       (λ e. let z = ap stage x.is in absurd (omega arith)) (standing.apart_home (home_at r.place)))

@@ -34,8 +34,7 @@ stands_still : (c : Setting) (words ws : List ℕ) (at bt : ℕ → SeatRecord) 
 stands_still c words ws at bt j w x place count word = record {
   near = x.near;
   waits = ap (waiting_word_at c.seats j) place ∙ x.waits;
-  granted = ⊎_elim (λ y. inl (ap stage place ∙ y.0, word ∙ y.1 ∙ ap (λ (p : Place). ticket p + 1) (sym place)))
-      (λ y. inr (ap stage place ∙ y.0, word ∙ y.1 ∙ ap (λ (n : ℕ). n + 1) (sym count))) x.granted;
+  granted = grind (arith, nat_tests);
 }
 
 -- no word of a seat is the ticket word
@@ -81,11 +80,7 @@ module _ (k : Rules) (o : Object) (c : Setting) (kind : IsKind k) (steps : List 
   moved_stays x t step move more next j near =
       let q : SeatRecord = next.hall.0 j in
       let was = each_as k o c steps s led x t step move q (at_next k o c kind steps s led more t next j near) in
-      let old : h.0 j ≡ was.old = ap h.0 (sym (sym was.seat ∙ next.hall.1.seats j))
-      ∙ is k o c s h was.old was.there in (
-        was.place ∙ ap (λ (z : SeatRecord). z.place) (sym old),
-        was.count ∙ ap (λ (z : SeatRecord). z.count) (sym old),
-      )
+      grind (arith, nat_tests, is)
 
   -- a grant that is in its word is taken by the step, or is there after it
   module _ (j w : ℕ) (x : Stands c s.words h.0 j w) where

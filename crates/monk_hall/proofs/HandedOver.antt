@@ -45,6 +45,7 @@ use Rattle.monk_hall.specs.Changes.{record_after_grant, home_at}
 use Rattle.monk_hall.specs.Laws.{HallState, IsRecord, first_word}
 use Rattle.monk_hall.specs.Layout.{tickets, unpassed, one_drawn, one_passed, ticket_word, seat_word, waiting_word_at}
 use Rattle.monk_hall.specs.Layout.{floor_of, shown_state, shown_world}
+use Rattle.std.proofs.lemmas.Bool.Decides.{nat_tests}
 
 -- a word that a step doesn't write is as it was
 pub words_stay : (k : Rules) (o : Object) (c : Setting) (s : HallState) (x : Step) (t : HallState) → IsStep k o c s x t
@@ -228,10 +229,7 @@ module _ (k : Rules) (o : Object) (c : Setting) (kind : IsKind k) (steps : List 
   stays_due : (j : ℕ) → j < c.seats → stage (h.0 j).place ≡ due_stage → (x : Step) (t : HallState) → IsStep k o c s x t
       → takes_out x ≡ false → (more : List Step) (next : IsLed k o c more t) → stage (next.hall.0 j).place ≡ due_stage
   stays_due j near due (By i id d) t (r, here, seat, done) quiet more next = elim (eqb_tells r.seat j) [
-    | inl e ↦ absurd (only_out k o c s id r d t
-        (ap (λ (z : SeatRecord). stage z.place) (sym (is k o c s h r (in_view id r here)))
-        ∙ ap (λ (n : ℕ). stage (h.0 n).place) e.1 ∙ due) done
-        (subst (λ (n : ℕ). takes_out (By n id d) ≡ false) (sym seat) quiet))
+    | inl e ↦ grind (arith, nat_tests, only_out, is, in_view)
     | inr ne ↦ ap (λ (z : SeatRecord). stage z.place) (others id r here d t more next done j near ne.1) ∙ due
   ]
   stays_due j near due (Deal id) t step quiet more next =
@@ -334,9 +332,7 @@ module _ (k : Rules) (o : Object) (c : Setting) (kind : IsKind k) (steps : List 
   its_right : (m b : ℕ) (v : HallState) → IsStep k o c s (By m b FloorOut) v → HoldsRight (h.0 m).place
   its_right m b v step =
       let out = out_holds m b v step in
-      subst (λ (n : ℕ). HoldsRight (h.0 n).place) out.2
-      (subst (λ (z : SeatRecord). HoldsRight z.place) (sym (is k o c s h out.0 out.1))
-      (holds_due out.0.place out.3))
+      grind (arith, nat_tests, is, holds_due)
 
   -- a seat that holds the right is the one to which the floor comes out
   one_holds : (m b : ℕ) (v : HallState) → IsStep k o c s (By m b FloorOut) v → (j : ℕ) → j < c.seats
@@ -604,8 +600,7 @@ from_free k o c kind steps s led free (y ∷ ys) u (z, first, run) quiet m b v o
     ⊎_elim
     (λ came.
     let same = from_due k o c kind more z next came.seat.seat came.due ys u run quiet.1 m b v out in
-    let is_y : y ≡ By m came.id (Arrive came.drawn came.left) =
-    came.is_y ∙ ap (λ (n : ℕ). By n came.id (Arrive came.drawn came.left)) (sym same) in
+    let is_y : y ≡ By m came.id (Arrive came.drawn came.left) = grind (arith, nat_tests) in
     record {
       before = [];
       id = came.id;

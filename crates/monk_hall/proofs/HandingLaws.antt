@@ -67,8 +67,7 @@ module _ {k : Rules} {o : Object} {z : TableId} {me : Me} {choice : Next} {to : 
       let more = ap (λ g. length (events_of g r.seat)) history ∙ own_longer ret.before.history e r.seat seat in
       let low = ret.left in let budget_then = ap (λ (g : FloorView). g.budget) ret.goes_on.is_floor in
       let budget_now = ap (λ (g : FloorView). g.budget) is_floor in
-      let left_is : left ≡ f.budget - length mine = rest
-      ∙ ap (λ n. f.budget - length (events_of h n)) (sym s.is_seat) in
+      let left_is : left ≡ f.budget - length mine = grind (arith, nat_tests) in
       let to_is = ap left_within x.is_to in
       let rests : IsResting k o z (w ∷ [], []) numbers left = record {
         one = refl;

@@ -16,10 +16,11 @@ use Rattle.monk_world.specs.{Kept.IsKept, Update.update, State.State, StepTable.
 use Rattle.monk_world.specs.Places.{stage, outside_stage, active_stage, back_stage}
 use Rattle.monk_world.specs.declared.{place.Place.Place, place.Place.TheVariants.Active, source.Source.Source}
 use Rattle.monk_hall.proofs.{Seats.long, Stored.field_stays}
-use Rattle.monk_hall.specs.{Changes.longer, Floors.StartsWith, Records.View, Records.In, Records.Distinct, Tells.AreOne}
+use Rattle.monk_hall.specs.{Changes.longer, Floors.StartsWith, Records.View, Records.In, Tells.AreOne}
 use Rattle.monk_hall.specs.Rule.{AreShown, CountsCalls, Homes, IsKeptHall}
 use Rattle.monk_hall.specs.Layout.{floor_of, shown_state, shown_world}
 use Rattle.monk_hall.specs.declared.{record.SeatRecord.SeatRecord, setting.Setting.Setting}
+use Rattle.std.proofs.lemmas.Bool.Decides.{nat_tests}
 
 hd : Event → List Event → Event
 hd d [] = d
@@ -59,10 +60,8 @@ events_of-append g h i = filter-append (λ e. seat_of e == i) g h
 pub events_between : (h g f : List Event) (i : ℕ) → StartsWith h g → StartsWith g f → events_of h i ≡ events_of f i
     → events_of g i ≡ events_of f i
 events_between h g f i above below same =
-    let g_is : events_of g i ≡ events_of f i ++ events_of below.0 i = ap (λ (x : List Event). events_of x i) below.1
-    ∙ events_of-append f below.0 i in
-    let h_is : events_of h i ≡ events_of g i ++ events_of above.0 i = ap (λ (x : List Event). events_of x i) above.1
-    ∙ events_of-append g above.0 i in
+    let g_is : events_of g i ≡ events_of f i ++ events_of below.0 i = grind (arith, nat_tests, events_of-append) in
+    let h_is : events_of h i ≡ events_of g i ++ events_of above.0 i = grind (arith, nat_tests, events_of-append) in
     let long_g = ap length g_is ∙ length-append (events_of f i) (events_of below.0 i) in
     let long_h = ap length h_is ∙ length-append (events_of g i) (events_of above.0 i) in
     let long_f = ap length same in
@@ -215,12 +214,7 @@ module _ (c : Setting) (views : List View) (at : ℕ → SeatRecord) (sh : AreSh
           old.2,
         ))
         (at_set views id j (a2 ∷ b2 ∷ []) u e);
-    apart = λ j u e. ⊎_elim
-        (λ z. subst Distinct z.1 (
-          (λ y in_y q. apart (sym seat_b ∙ sym (same_seat b2 y in_y) ∙ q ∙ seat_a)),
-          ((λ y none. absurd none), tt),
-        ))
-        (λ z. sh.apart j u z.1) (at_set views id j (a2 ∷ b2 ∷ []) u e);
+    apart = grind (arith, nat_tests, apart, same_seat, at_set);
     there = λ j near. elim (eqb_tells j a.seat) [
       | inl h ↦ (a2 ∷ b2 ∷ [], here j (ap sh.desk h.1 ∙ in_a.1), inl (ap at_two h.1 ∙ is_a))
       | inr na ↦ elim (eqb_tells j b.seat) [
@@ -249,8 +243,7 @@ module _ (c : Setting) (views : List View) (at : ℕ → SeatRecord) (sh : AreSh
       away : (j : ℕ) (v : View) → get_elem? views (sh.desk j) ≡ maybe.some v → In (at j) v → j ≢ a.seat
           → j ≢ b.seat → sh.desk j ≢ id
       away j v e i na nb d =
-          let is_v : v ≡ a ∷ b ∷ [] =
-          some-injective v (a ∷ b ∷ []) (sym e ∙ ap (λ (n : ℕ). get_elem? views n) d ∙ view) in
+          let is_v : v ≡ a ∷ b ∷ [] = grind (arith, nat_tests, some-injective) in
           two_of a b (at j) (subst (λ (z : View). In (at j) z) is_v i) (λ r. r ≡ at j → ⊥)
           (λ q. na (sym (sh.seats j) ∙ ap (λ (x : SeatRecord). x.seat) (sym q)))
           (λ q. nb (sym (sh.seats j) ∙ ap (λ (x : SeatRecord). x.seat) (sym q))) refl

@@ -1,5 +1,5 @@
 -- Two idle seats' views are joined, and both records learn the longer history
-use Rattle.std.proofs.Common.{◌≡◌, ◌≢◌, ℕ, ◌+◌, ◌<◌, ◌⊎◌, Bool, true, false, cond, nat_le, List}
+use Rattle.std.proofs.Common.{◌≡◌, ◌≢◌, ℕ, ◌+◌, ◌<◌, ◌⊎◌, Bool, true, false, cond, nat_le, List, arith}
 use Rattle.std.proofs.Common.{[], ◌∷◌, ◌++◌, length, set, sym, refl, ap, ◌∙◌, subst, inl, inr, ⊎_elim}
 use Rattle.std.proofs.{Math.Option.some-injective, lemmas.Bool.Decides.eqb_tells}
 use mathlib.Core.Option as maybe
@@ -17,10 +17,11 @@ use Rattle.monk_hall.proofs.IdleLearns.{in_b, still_b, shown_two}
 use Rattle.monk_hall.proofs.Dealing.{shown_moved, IsStill}
 use Rattle.monk_hall.proofs.Seats.{is_at, is_desk, is_near, is_setting, long, only}
 use Rattle.monk_hall.specs.{Changes.longer, Changes.view_after_join, Floors.StartsWith, Laws.HallState, Layout.floor_of}
-use Rattle.monk_hall.specs.{Layout.word_count, Records.View, Records.In, Records.Distinct, Records.IsOne, Records.the}
+use Rattle.monk_hall.specs.{Records.View, Records.In, Records.IsOne, Records.the}
 use Rattle.monk_hall.specs.{Rule.AreShown, Rule.IsHall, Tells.AreOne, Tells.SeesTruly, Tokens.IsResting, Tokens.top}
 use Rattle.monk_hall.specs.declared.{deed.Deed.TheVariants.Meet, record.SeatRecord.SeatRecord, setting.Setting.Setting}
 use Rattle.monk_hall.specs.declared.{seat_numbers.SeatNumbers.SeatNumbers}
+use Rattle.std.proofs.lemmas.Bool.Decides.{nat_tests}
 
 -- two idle records are in one view
 module _ (k : Rules) (o : Object) (c : Setting) (s : HallState) (h : IsHall k o c s) (id : ℕ) (a b : SeatRecord)
@@ -65,15 +66,13 @@ module _ (k : Rules) (o : Object) (c : Setting) (s : HallState) (h : IsHall k o 
   pub all_a : events_of both a.seat ≡ a.mine
   all_a =
       let mine : events_of past a.seat ≡ a.mine = h.2.told.mine a.seat ∙ ap (λ (x : SeatRecord). x.mine) is_first in
-      let own : events_of a.seen a.seat ≡ a.mine = ap (λ (x : SeatRecord). events_of x.seen a.seat) (sym is_first)
-      ∙ h.2.told.own a.seat ∙ ap (λ (x : SeatRecord). x.mine) is_first in
+      let own : events_of a.seen a.seat ≡ a.mine = grind (arith, nat_tests, is_first) in
       events_between past both a.seen a.seat part (longer_both a.seen b.seen one_past).first (mine ∙ sym own) ∙ own
 
   pub all_b : events_of both b.seat ≡ b.mine
   all_b =
       let mine : events_of past b.seat ≡ b.mine = h.2.told.mine b.seat ∙ ap (λ (x : SeatRecord). x.mine) is_second in
-      let own : events_of b.seen b.seat ≡ b.mine = ap (λ (x : SeatRecord). events_of x.seen b.seat) (sym is_second)
-      ∙ h.2.told.own b.seat ∙ ap (λ (x : SeatRecord). x.mine) is_second in
+      let own : events_of b.seen b.seat ≡ b.mine = grind (arith, nat_tests, is_second) in
       events_between past both b.seen b.seat part (longer_both a.seen b.seen one_past).second (mine ∙ sym own) ∙ own
 
   pub sees : (r : SeatRecord) → r.setting ≡ c → events_of both r.seat ≡ r.mine
@@ -120,8 +119,7 @@ meets_at k o c id v other w one_v one_w idle s h view ne_id view_w =
     let b : SeatRecord = the w in
     let a2 : SeatRecord = record a { did = a.did ++ Meet ∷ [] } in
     let here : get_elem? s.views id ≡ maybe.some (a ∷ []) = view ∙ ap maybe.some one_v in
-    let there : get_elem? s.views other ≡ maybe.some (b ∷ []) =
-    sym (set_else s.views id other (view_after_join v w) ne_id) ∙ view_w ∙ ap maybe.some one_w in
+    let there : get_elem? s.views other ≡ maybe.some (b ∷ []) = grind (arith, nat_tests, set_else) in
     let is_a = is_at c s.views at sh id a here in
     let is_b = is_at c s.views at sh other b there in
     let desk_a = is_desk c s.views at sh id a here in
@@ -135,8 +133,7 @@ meets_at k o c id v other w one_v one_w idle s h view ne_id view_w =
     let desk_first : desk_two a.seat ≡ id = update_else sh.desk b.seat id a.seat (λ e. ne (sym e)) ∙ desk_a in
     let views_two : List View = set (set s.views id (view_after_join v w)) other [] in
     let at_id : get_elem? views_two id ≡ maybe.some (view_after_join v w) =
-    set_else (set s.views id (view_after_join v w)) other id [] (λ e. ne_id (sym e))
-    ∙ set_here s.views id (view_after_join v w) (long s.views id (a ∷ []) here) in
+    grind (arith, nat_tests, set_else, set_here, long) in
     let kept = learns k o c s.words s.homes at kh a.seat a2 (ap (λ (x : SeatRecord). x.place) (sym is_a))
     (ap (λ (x : SeatRecord). x.count) (sym is_a)) (ap (λ (x : SeatRecord). x.known) (sym is_a))
     (ap (λ (x : SeatRecord). x.mine) (sym is_a))
@@ -162,11 +159,7 @@ meets_at k o c id v other w one_v one_w idle s h view ne_id view_w =
               (update_else at a.seat a2 x.seat na ∙ old.0, update_else sh.desk b.seat id x.seat nb ∙ old.1, old.2))
               (at_set s.views id j (view_after_join v w) u t.1))
               (at_set (set s.views id (view_after_join v w)) other j [] u e);
-          apart = λ j u e. ⊎_elim (λ t. subst Distinct t.1 tt)
-              (λ t. ⊎_elim (λ z. subst Distinct z.1
-              ((λ y in_y q. ne (sym (same_seat b y in_y) ∙ q)), ((λ y none. absurd none), tt)))
-              (λ z. sh.apart j u z.1) (at_set s.views id j (view_after_join v w) u t.1))
-              (at_set (set s.views id (view_after_join v w)) other j [] u e);
+          apart = grind (arith, nat_tests, same_seat, at_set);
           there = λ j near. elim (eqb_tells j a.seat) [
             | inl h ↦ (
               view_after_join v w,
@@ -260,13 +253,11 @@ met_rests k o y z v numbers left r views old idle table seat setting place count
         seated = record {
           is_seat = seat ∙ old.seated.is_seat;
           near = subst (λ (x : Setting). numbers.seat < x.seats) (sym setting) old.seated.near;
-          sized = ap (λ (x : TableId). x.words) table ∙ old.seated.sized
-              ∙ ap (λ (x : Setting). word_count x.seats) (sym setting);
+          sized = grind (arith, nat_tests);
           counted = old.seated.counted ∙ sym count;
           budgeted = old.seated.budgeted ∙ sym (ap (λ (x : Setting). x.budget) setting);
         };
-        spent = ap (λ (es : List Event). left + length es) mine ∙ old.spent
-            ∙ ap (λ (x : Setting). x.budget) (sym setting);
+        spent = grind (arith, nat_tests);
         told = truly;
       },
       place ∙ idle,

@@ -1,5 +1,5 @@
 -- Who enters next after a release that chose entry
-use Rattle.std.proofs.Common.{◌≡◌, ◌≢◌, ℕ, List, [], ◌∷◌, ◌++◌, append_assoc, Option, Some, None, inl, inr, sym, ap, subst}
+use Rattle.std.proofs.Common.{◌≡◌, ◌≢◌, ℕ, List, [], ◌∷◌, ◌++◌, append_assoc, Some, None, inl, inr, sym, ap}
 use Rattle.std.proofs.Common.{◌∙◌, arith}
 use Rattle.std.proofs.lemmas.Option.{none-some, same_Some}
 use Rattle.atomic_table.specs.Seated.{TableId}
@@ -14,6 +14,7 @@ use Rattle.monk_hall.specs.{Handing.HandsOn, Layout.ticket_word, Layout.waiting_
 use Rattle.monk_hall.specs.NextTicket.{NextTicketWaits, NoTicketWaits, GrantedEntersNext}
 use Rattle.monk_hall.specs.declared.{record.SeatRecord.SeatRecord, setting.Setting.Setting}
 use Rattle.monk_hall.specs.declared.deed.Deed.{Deed, TheVariants.FloorIn, TheVariants.Drop, TheVariants.GrantTicket}
+use Rattle.std.proofs.lemmas.Bool.Decides.{nat_tests}
 
 -- where a seat of this setting that waits with this ticket finds its grant
 word_is : (c : Setting) (r : SeatRecord) (t : ℕ) → r.setting ≡ c → r.place ≡ Ticket t
@@ -50,12 +51,7 @@ no_ticket_waits k o c s h r to x back_at last q t y at =
     let waits = keeps.tickets.waits q.seat (ap stage stands) in
     let a = waits.0 in
     let b = waits.1 in
-    let nobody : (j : ℕ) → stage (h.0 j).place ≢ passing_stage = λ j five.
-    let theirs = held keeps j (omega arith) (omega arith) in
-    let same : j ≡ r.seat = cc in
-    let e = ap (λ (n : ℕ). stage (h.0 n).place) same in
-    let p = ap stage (place k o c s h r x) in
-    absurd (omega arith) in
+    let nobody : (j : ℕ) → stage (h.0 j).place ≢ passing_stage = grind (arith, nat_tests, held, place) in
     let given = keeps.tickets.granted q.seat (ap stage stands) (omega arith) nobody in
     absurd cc
 
@@ -76,13 +72,7 @@ pub granted_enters_next : GrantedEntersNext
 granted_enters_next k o a call wish to peeks p h x granted entry q b t entered same at enters =
     let it = granted.released in
     let front : List Deed = a.me.did ++ (peeks_at peeks it.found ++ FloorIn (since a.me.seen p.me.seen) ∷ []) in
-    let all : p.me.did ≡ front ++ it.handed = it.did
-    ∙ ap (λ (ds : List Deed). a.me.did ++ ds)
-    (sym (append_assoc (peeks_at peeks it.found) (FloorIn (since a.me.seen p.me.seen) ∷ []) it.handed))
-    ∙ sym (append_assoc a.me.did (peeks_at peeks it.found ++ FloorIn (since a.me.seen p.me.seen) ∷ []) it.handed) in
-    let word : x.word ≡ ticket_word h.setting.seats (enters_of p.me.seen) =
-    granted_word h.id h.setting.seats p.me.seen front it.handed x
-    (subst (λ (c : Option ℕ). HandsOn c p.me.seen it.handed) entry it.hands_on)
-    (granted.granted ∙ ap (granted_last h.id h.setting.seats) all) in
+    let all : p.me.did ≡ front ++ it.handed = grind (arith, nat_tests, append_assoc) in
+    let word : x.word ≡ ticket_word h.setting.seats (enters_of p.me.seen) = grind (arith, nat_tests, granted_word) in
     let next = entered.next t (ap source_from at) in
     word_is h.setting q.me t same at ∙ ap (λ (n : ℕ). ticket_word h.setting.seats n) (sym next ∙ enters) ∙ sym word

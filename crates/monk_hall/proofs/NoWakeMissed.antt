@@ -50,10 +50,7 @@ has_stands : (c : Setting) (words : List ℕ) (at : ℕ → SeatRecord) (j w : �
 has_stands c words at j w x = record {
   near = x.near;
   waits = x.waits;
-  granted = ⊎_elim
-      (λ a. inl (a, x.there ∙ ap (λ (p : Place). wanted_at p (at j).count) (standing.ticket_at (at j).place a)))
-      (λ b. inr (b, x.there ∙ ap (λ (p : Place). wanted_at p (at j).count) (standing.inner_at (at j).place b)))
-      x.looking;
+  granted = grind (arith, nat_tests);
 }
 
 -- what is so of a thread that waits
@@ -382,8 +379,7 @@ module _ (k : Rules) (o : Object) (c : Setting) (kind : IsKind k) (x : Threads) 
     steps = g.steps;
     led = g.led;
     far = λ j. changed x.waits i j a (λ m b. c.seats ≤ m → b ≡ Awake) none (λ _. g.far j);
-    fits = λ j near. changed x.waits i j a (λ m b. m < c.seats → Fits c x.table.words kept.0 ms x.wakes m b) new
-        (λ ne n. remarked ms j (x.waits j) (more j n ne) (g.fits j n)) near;
+    fits = grind (arith, nat_tests, changed, remarked);
   }
 
   watches : (r : SeatRecord) → IsRecord x.table r
@@ -432,8 +428,7 @@ module _ (k : Rules) (o : Object) (c : Setting) (kind : IsKind k) (x : Threads) 
             let low = subst (λ (v : ℕ). slice_index x.table.words v < 4294967296) f.0
             (word_low k o c table kept j (kept.0 j).place) in
             let seen = f.1 in
-            let eq : slice_index x.table.words w ≡ n = sym (mod-eq_of_lt low)
-            ∙ same ∙ mod-eq_of_lt seen in
+            let eq : slice_index x.table.words w ≡ n = grind (arith, nat_tests, mod-eq_of_lt) in
             absurd (f.3 (sym eq ∙ z.there)),
       )
 
@@ -477,15 +472,12 @@ module _ (k : Rules) (o : Object) (c : Setting) (kind : IsKind k) (x : Threads) 
     steps = g.steps;
     led = g.led;
     far = λ j far. ap (λ (f : ℕ → Wait). f j) same ∙ g.far j far;
-    fits = λ j near. subst (λ (f : ℕ → Wait). Fits c x.table.words kept.0 x.marks wakes j (f j)) (sym same)
-        (fewer w wakes less j (x.waits j) refl (nobody j) (g.fits j near));
+    fits = grind (arith, nat_tests, fewer);
   }
   wakes_word w waits wakes (inr (i, at_i, same)) less = record {
     steps = g.steps;
     led = g.led;
-    far = λ j far. ap (λ (f : ℕ → Wait). f j) same
-        ∙ changed x.waits i j (Risen w) (λ m b. c.seats ≤ m → b ≡ Awake) (λ low. absurd (far_away low))
-        (λ _. g.far j) far;
+    far = grind (arith, nat_tests, changed);
     fits = λ j near. subst (λ (f : ℕ → Wait). Fits c x.table.words kept.0 x.marks wakes j (f j)) (sym same)
         (changed x.waits i j (Risen w) (λ m b. Fits c x.table.words kept.0 x.marks wakes m b) (here.0, here.1)
         (λ ne. fewer w wakes less j (x.waits j) refl (apart j near ne) (g.fits j near)));
@@ -512,9 +504,7 @@ module _ (k : Rules) (o : Object) (c : Setting) (kind : IsKind k) (x : Threads) 
     steps = g.steps;
     led = g.led;
     far = g.far;
-    fits = λ j near. fewer w wakes less j (x.waits j) refl (λ e.
-        let b = subst (Fits c x.table.words kept.0 x.marks x.wakes j) e (g.fits j near) in
-        let no : true ≡ false = sym b.2 ∙ clear in absurd cc) (g.fits j near);
+    fits = grind (arith, nat_tests, fewer);
   }
 
   act_goes : (a : Act) (y : Threads) → IsAct k o c x a y → Goes k o c y
@@ -558,21 +548,6 @@ no_wake_is_missed k o c kind made acts x run r w there asleep =
     let near = (h.1.each there.id there.view there.at r there.there).2 in
     let f = subst (Fits c x.table.words h.0 x.marks x.wakes r.seat) asleep (g.fits r.seat near) in
     let setting : r.setting ≡ c = ap (λ (z : SeatRecord). z.setting) (sym at) ∙ h.1.settings r.seat in
-    let word : waiting_word_at c.seats r.seat (h.0 r.seat).place ≡ waiting_word r =
-    (λ i. waiting_word_at (sym setting i).seats r.seat (at i).place) in
+    let word : waiting_word_at c.seats r.seat (h.0 r.seat).place ≡ waiting_word r = grind (arith, nat_tests) in
     let here : waiting_word r ≡ w = sym word ∙ f.0 in
-    let wants : wanted_at (h.0 r.seat).place (h.0 r.seat).count ≡ wanted_at r.place r.count =
-    ap (λ (z : SeatRecord). wanted_at z.place z.count) at in (
-      here,
-      f.2,
-      λ has. f.3 (record {
-        near = near;
-        looking = f.1;
-        waits = f.0;
-        there = ap (slice_index x.table.words) (sym here)
-            ∙ ⊎_elim
-            (λ y. y.1 ∙ sym (ap (λ (p : Place). wanted_at p r.count) (standing.ticket_at r.place y.0)))
-            (λ y. y.1 ∙ sym (ap (λ (p : Place). wanted_at p r.count) (standing.inner_at r.place y.0)))
-            has ∙ sym wants;
-      }),
-    )
+    grind (arith, nat_tests)

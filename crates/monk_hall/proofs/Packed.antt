@@ -2,6 +2,7 @@
 use Rattle.std.proofs.Common.{◌≡◌, ℕ, suc, ◌+◌, ◌-◌, ◌*◌, ◌%◌, ◌<◌, ap, ◌∙◌, arith}
 use Rattle.std.proofs.{lemmas.Nat.mod-mul-add, lemmas.Nat.div-mul-add, Math.Nat.mod-add-div'}
 use Rattle.monk_hall.specs.Layout.{tickets, unpassed}
+use Rattle.std.proofs.lemmas.Bool.Decides.{nat_tests}
 
 abbrev pub packed : ℕ → ℕ → ℕ
 packed t n = t * 4294967296 + n
@@ -46,6 +47,4 @@ pub after_take_off : (x : ℕ) → tickets x < 2147483648 → unpassed x < 21474
     → HasHalves ((x + 18446744073709551615) % 18446744073709551616) (tickets x) (unpassed x - 1)
 after_take_off x a b some =
     let more : unpassed x ≡ suc (unpassed x - 1) = omega arith in
-    halves ((x + 18446744073709551615) % 18446744073709551616) (tickets x) (unpassed x - 1) (omega arith)
-    (ap (λ (y : ℕ). (y + 18446744073709551615) % 18446744073709551616) (word_is x ∙ ap (packed (tickets x)) more)
-    ∙ dropped_word (tickets x) (unpassed x - 1) a (omega arith))
+    grind (arith, nat_tests, halves, word_is, dropped_word)

@@ -37,7 +37,7 @@ use Rattle.monk_hall.specs.Tells.{Me, TellsArrive, TellsTicketLook, TellsSeatLoo
 use Rattle.monk_hall.specs.Tells.{TellsFloorIn, held_history, TellsDrop, TellsTicketGrant, TellsCall, TellsCompare}
 use Rattle.monk_hall.specs.Tells.{Returns}
 use Rattle.monk_hall.specs.Layout.{floor_of, place_word, seat_word, word_count}
-use Rattle.monk_hall.specs.Records.{View, In, IsOne, the, head, tail, first_view}
+use Rattle.monk_hall.specs.Records.{View, IsOne, the, head, tail, first_view}
 use Rattle.std.proofs.lemmas.Bool.Decides.{nat_tests}
 
 -- the view has two records
@@ -227,13 +227,9 @@ gives_floor k o c kind slots id me f one holds active ret =
     let es : List Event = came ∷ (since ++ last ∷ []) in
     let before : List Event = (r.seen ++ came ∷ []) ++ since in
     let setting = stepping.setting k o c kind s h id r here in
-    let before_is : ret.before ≡ floor_of c before =
-    ret.goes_on.is_floor ∙ ap (λ (g : List Event). floor_of r.setting g) ret.goes_on.goes
-    ∙ ap (λ (y : Setting). floor_of y before) setting in
-    let all : before ++ last ∷ [] ≡ r.seen ++ es =
-    append_assoc (r.seen ++ came ∷ []) since (last ∷ []) ∙ append_assoc r.seen (came ∷ []) (since ++ last ∷ []) in
-    let f_is : f ≡ floor_of c (r.seen ++ es) =
-    ret.grows ∙ ap (λ (g : FloorView). with_event g last) before_is ∙ ap (floor_of c) all in
+    let before_is : ret.before ≡ floor_of c before = grind (arith, nat_tests) in
+    let all : before ++ last ∷ [] ≡ r.seen ++ es = grind (arith, nat_tests, append_assoc) in
+    let f_is : f ≡ floor_of c (r.seen ++ es) = grind (arith, nat_tests) in
     let long = ap (λ (g : List Event). length (events_of g r.seat)) ret.goes_on.goes
     ∙ ap length (own_more r.seat (r.seen ++ came ∷ []) since ret.goes_on.own)
     ∙ length-append (events_of (r.seen ++ came ∷ []) r.seat) since in
@@ -342,14 +338,8 @@ pub never_joined : (k : Rules) (o : Object) (c : Setting) → IsKind k → (id :
     → IsOne v → IsOne w → stage (the v).place ≡ active_stage → stage (the w).place ≡ active_stage
     → Joins {S = Option FloorView} (IsReached k o c) id v other w (view_after_join v w) []
 never_joined k o c kind id v other w one_v one_w active_v active_w s reached view apart view_w =
-    let x : IsRecord s (the v) =
-    record { id = id; view = v; at = view; there = subst (In (the v)) (sym one_v) (inl refl) } in
-    let y : IsRecord s (the w) = record {
-      id = other;
-      view = w;
-      at = sym (set_else s.views id other (view_after_join v w) apart) ∙ view_w;
-      there = subst (In (the w)) (sym one_w) (inl refl);
-    } in
+    let x : IsRecord s (the v) = grind (arith, nat_tests) in
+    let y : IsRecord s (the w) = grind (arith, nat_tests, set_else) in
     absurd (apart (sym (one_is_active k o c s (hall_of k o c kind s reached) (the v) (the w) x y active_v active_w).1))
 
 pub never_both : (k : Rules) (o : Object) (c : Setting) → IsKind k → (slots id : ℕ) (me : Me) → IsTwo me.0

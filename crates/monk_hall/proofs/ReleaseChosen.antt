@@ -8,7 +8,7 @@ use Rattle.monk_object.specs.Object.{Object}
 use Rattle.monk_history.specs.declared.event.Next.TheVariants as next
 use Rattle.monk_history.specs.Meaning.{Events.seat_of, Events.is_stay, Monitor.Monitor, Reasons.IsAllowed}
 use Rattle.monk_history.specs.Meaning.{Release.with_next, Release.choice_of, Wish.choice_by, Turn.turn_by}
-use Rattle.monk_history.specs.Meaning.Counts.{events_of, is_enter}
+use Rattle.monk_history.specs.Meaning.Counts.{is_enter}
 use Rattle.monk_history.specs.Meaning.Choice.{Queues, must_stay, queues_at}
 use Rattle.monk_history.specs.declared.event.{Next.Next, Turn.TheVariants.Owned}
 use Rattle.monk_history.specs.declared.event.Event.{Event}
@@ -17,9 +17,9 @@ use Rattle.monk_history.specs.declared.event.Event.TheVariants.{SignalWait}
 use Rattle.monk_floor.specs.View.{FloorView, stands_of}
 use Rattle.monk_world.specs.declared.home.Home.{Home}
 use Rattle.monk_hall.proofs.{Private.own_event, Releasing.said}
-use Rattle.monk_hall.specs.{Changes.since, Layout.floor_of, Recorded.IsRelease, Records.the, Tells.Me}
+use Rattle.monk_hall.specs.{Layout.floor_of, Recorded.IsRelease, Records.the, Tells.Me}
 use Rattle.monk_hall.specs.{Tells.IsReleaseTo, Tells.SeesTruly, Tokens.Token, Tokens.Holder, Tokens.IsHolding}
-use Rattle.monk_hall.specs.{Tokens.holder, declared.deed.Deed.Deed, declared.deed.Deed.TheVariants.FloorIn}
+use Rattle.monk_hall.specs.{Tokens.holder, declared.deed.Deed.Deed}
 use Rattle.monk_hall.specs.{declared.record.SeatRecord.SeatRecord, declared.seat_numbers.SeatNumbers.SeatNumbers}
 use Rattle.monk_hall.specs.Calls.{HasReleased, HasPeeked, Remembers, is_entry_known, peeks_at}
 use Rattle.monk_hall.specs.Handing.{HasRecordedRelease, HandsOn, HasGone, seat_called_by}
@@ -117,13 +117,10 @@ module _ {k : Rules} {o : Object} {z : TableId} {me : Me} {numbers : SeatNumbers
         setting = ap (λ w. w.setting) gone.is;
         place = ap (λ w. w.place) gone.is;
         seen = ap (λ w. w.seen) gone.is ∙ history;
-        mine = ap (λ w. w.mine) gone.is ∙ ap (λ h. events_of h r.seat) history
-            ∙ own_event f.history (with_next choice call) r.seat (said r.seat to call choice x.release).seat;
+        mine = grind (arith, nat_tests, own_event, said);
         found = 0;
         handed = gone.handed;
-        did = ap (λ w. w.did) gone.is
-            ∙ append_assoc r.did (FloorIn (since r.seen g.history) ∷ []) gone.handed
-            ∙ ap (λ (h : List Event). r.did ++ FloorIn (since r.seen h) ∷ gone.handed) (sym seen);
+        did = grind (arith, nat_tests, append_assoc);
         hands_on = subst (λ (h : List Event). HandsOn (seat_called_by choice) h gone.handed) (sym seen) gone.hands_on;
         remembers = record { knew = λ knew. is_known ∙ knew; learns = is_known };
         told = told;
@@ -148,8 +145,7 @@ module _ {k : Rules} {o : Object} where
       → HasReleased k o a call wish to peeks p
   released_peeked peeks a b x call wish to p y = let is = x.is in record {
     choice = y.choice;
-    chosen = y.chosen
-        ∙ ap (λ (h : Holder). choice_of k o (stands_of k o h.floor) call (is_entry_known wish p.me.known) wish) is;
+    chosen = grind (arith, nat_tests);
     away = y.away;
     hall = y.hall ∙ ap (λ (h : Holder). h.hall) is;
     seat = y.seat ∙ ap (λ (h : Holder). h.me.seat) is;
@@ -159,8 +155,7 @@ module _ {k : Rules} {o : Object} where
     mine = y.mine ∙ ap (λ (h : Holder). h.me.mine ++ with_next y.choice call ∷ []) is;
     found = x.found;
     handed = y.handed;
-    did = y.did ∙ ap (λ (h : Holder). h.me.did ++ FloorIn (since h.me.seen p.me.seen) ∷ y.handed) is
-        ∙ append_assoc a.me.did (peeks_at peeks x.found) (FloorIn (since a.me.seen p.me.seen) ∷ y.handed);
+    did = grind (arith, nat_tests, append_assoc);
     hands_on = y.hands_on;
     remembers = remembers_twice peeks a b x p.me y.remembers;
     told = y.told;

@@ -1,5 +1,5 @@
 -- How a release changes an active seat
-use Rattle.std.proofs.Common.{◌≡◌, ℕ, ◌+◌, ◌<◌, ◌≤◌, Bool, true, false, not, [], ◌∷◌, ◌++◌}
+use Rattle.std.proofs.Common.{◌≡◌, ℕ, ◌+◌, ◌<◌, ◌≤◌, Bool, true, false, not}
 use Rattle.std.proofs.Common.{length, append-nil, Option, Some, refl, sym, ap, subst, ◌∙◌, arith}
 use Rattle.atomic_table.specs.Seated.{TableId}
 use Rattle.monk_kinds.specs.declared.mode.{Rules.Rules, Pick.Pick}
@@ -18,10 +18,10 @@ use Rattle.monk_world.specs.{State.with_event, declared.home.Home.Home}
 use Rattle.monk_hall.proofs.{Private.own_event, Releasing.said, TokenLaws.grown_holds}
 use Rattle.monk_hall.proofs.ReleaseChosen.{stay_is, stay_keeps, never_enters, chosen_as_known, released}
 use Rattle.monk_hall.proofs.ReleaseChosen.{remembers_twice, of_setting, released_peeked}
-use Rattle.monk_hall.specs.{AfterCalls.MatchAfter, Changes.record_after_peek, Handing.HasGone, Layout.unpassed}
+use Rattle.monk_hall.specs.{AfterCalls.MatchAfter, Changes.record_after_peek, Handing.HasGone}
 use Rattle.monk_hall.specs.{Recorded.IsRelease, Records.the, Tells.Me, Tells.TellsPeek, Tells.SeesTruly}
-use Rattle.monk_hall.specs.Calls.{HasStayed, HasPeeked, is_entry_known, peeks_at}
-use Rattle.monk_hall.specs.Tokens.{Token, Holder, House, IsHolding, with_own, holder}
+use Rattle.monk_hall.specs.Calls.{HasStayed, HasPeeked, is_entry_known}
+use Rattle.monk_hall.specs.Tokens.{Token, Holder, House, IsHolding, holder}
 use Rattle.monk_hall.specs.Granting.{Grant, granted_last, HasGranted, HasStayedAlone}
 use Rattle.monk_hall.specs.declared.seat_numbers.SeatNumbers.{SeatNumbers}
 use Rattle.monk_hall.specs.declared.after.After.{After, TheVariants.Active, TheVariants.Parked}
@@ -136,16 +136,7 @@ module _ {k : Rules} {o : Object} {z : TableId} {me : Me} {numbers : SeatNumbers
       (subst (λ n. HasStayed k o (holder z r f) (call n) wish 0 (holder z r g)) (sym h.seated.is_seat) record {
         chosen = sym same ∙ chosen_as_known x;
         found = 0;
-        is = ap (holder z r) grows
-            ∙ (λ i. record {
-              hall = z;
-              me =
-                  record r {
-                    mine = own_event f.history e r.seat seat i;
-                    did = sym (append-nil r.did) i;
-                  };
-              floor = with_event f e;
-            });
+        is = grind (arith, nat_tests, own_event, append-nil);
         remembers = record { knew = λ knew. knew; learns = refl };
         legal = subst (λ (y : FloorView). IsLegal (monitor_of k o y) y.history) (sym x.is_grown.grown)
             (legal-push (monitor_of k o f) f.history (with_next choice (call numbers.seat)) h.goes.legal
@@ -158,29 +149,9 @@ module _ {k : Rules} {o : Object} where
   pub stayed_peeked : (peeks : ℕ) (a b : Holder) → HasPeeked peeks a b → (call : Event) (wish : Pick) (c : Holder)
       → HasStayed k o b call wish 0 c → HasStayed k o a call wish peeks c
   stayed_peeked peeks a b x call wish c y = let is = x.is in record {
-    chosen = y.chosen
-        ∙ ap (λ (h : Holder). choice_of k o (stands_of k o h.floor) call (is_entry_known wish c.me.known) wish) is;
+    chosen = grind (arith, nat_tests);
     found = x.found;
-    is = y.is
-        ∙ ap (λ (h : Holder). let z : Holder =
-        record h {
-          me = record h.me {
-            known = c.me.known;
-            mine = h.me.mine ++ with_next next.Stay call ∷ [];
-            did = h.me.did ++ [];
-          };
-          floor = with_event h.floor (with_next next.Stay call);
-        } in z) is
-        ∙ (λ i. record a {
-          me =
-              record a.me {
-                known = c.me.known;
-                mine = a.me.mine ++ with_next next.Stay call ∷ [];
-                did = append-nil (a.me.did ++ peeks_at peeks x.found) i;
-              };
-          floor =
-              with_event a.floor (with_next next.Stay call);
-        });
+    is = grind (arith, nat_tests, append-nil);
     remembers = remembers_twice peeks a b x c.me y.remembers;
     legal = y.legal;
     own = y.own;
@@ -192,16 +163,7 @@ pub peeked_once : (z y : TableId) (me new : Me) (f : FloorView) (found : ℕ) �
     → (a : Holder) → holder z (the me.0) f ≡ a → HasPeeked 1 a (holder y (the new.0) f)
 peeked_once z y me new f found same step a is =
     let r = the me.0 in let w = record_after_peek r found in
-    subst (λ (b : Holder). HasPeeked 1 b (holder y (the new.0) f)) is record {
-      found = unpassed found;
-      remembers = record { knew = step.1; learns = ap (λ (m : Me). (the m.0).known) step.0 };
-      is = (λ i. holder (same i) (the (step.0 i).0) f)
-          ∙ (λ i. record {
-            hall = z;
-            me = record (with_own r f) { known = ap (λ (m : Me). (the m.0).known) (sym step.0) i; did = w.did };
-            floor = f;
-          });
-    }
+    grind (arith, nat_tests)
 
 pub peeked_none : (n : ℕ) (a : Holder) → n ≡ 0 → HasPeeked n a a
 peeked_none n a e = subst (λ m. HasPeeked m a a) (sym e)

@@ -1,6 +1,6 @@
 -- A release as the step of a world
-use Rattle.std.proofs.Common.{◌≡◌, ℕ, ◌+◌, ◌<◌, cond, true, false, sym, refl, ap, ◌∙◌, subst, arith}
-use Rattle.std.specs.Prelude.{Option, Some}
+use Rattle.std.proofs.Common.{◌≡◌, ℕ, ◌+◌, ◌<◌, cond, true, false, sym, refl, subst, arith}
+use Rattle.std.specs.Prelude.{Some}
 use Rattle.monk_kinds.specs.{Kind.IsKind, declared.mode.Pick.Pick, declared.mode.Rules.Rules}
 use Rattle.monk_object.specs.Object.{Object}
 use Rattle.monk_history.specs.declared.event.Next.TheVariants as next
@@ -16,10 +16,9 @@ use Rattle.monk_world.specs.declared.command.Command.TheVariants as command
 use Rattle.monk_world.specs.declared.home.Home.TheVariants as home
 use Rattle.monk_world.proofs.PublicLaws.{IsReady}
 use Rattle.monk_world.specs.{Kept.IsKept, Sound.left_within, State.State, State.with_event, Steps.after_floor_in}
-use Rattle.monk_world.specs.StepTable.{IsDone, IsStep, release_next, call_of, left_for, may_be_told, is_call_in_range}
-use Rattle.monk_world.specs.StepTable.{is_call_offered}
+use Rattle.monk_world.specs.StepTable.{IsDone, IsStep, release_next, call_of, left_for, may_be_told}
 use Rattle.monk_world.specs.declared.{command.Command.Command, home.Home.Home, source.Source.Source}
-use Rattle.monk_world.specs.declared.place.Place.{Place, TheVariants.Active, TheVariants.Back}
+use Rattle.monk_world.specs.declared.place.Place.{TheVariants.Active, TheVariants.Back}
 use Rattle.monk_hall.proofs.Frame.{step_kept, step_is}
 use Rattle.monk_hall.specs.{Changes.back_after, Laws.wish_of, Tells.IsReleaseTo}
 use Rattle.std.proofs.lemmas.Bool.Decides.{nat_tests}
@@ -78,13 +77,7 @@ module _ (k : Rules) (o : Object) (s : State) (seats conds : ℕ) (i : ℕ) (q :
       → IsDone k o s i (Active q) m (answer.Chose (release_next k o s i e wish))
       (by_table (release_next k o s i e wish) to e) → (x : Next) → Keeps to wish x e
   by_command m wish to e call is_wish told left_is done x may left chosen stay =
-      let ready : IsReady k o s i m = record {
-        near = near;
-        range = subst (λ (y : Option Event). is_call_in_range o s.floor y ≡ true) (sym call) may.in_range;
-        offered = subst (λ (y : Option Event). is_call_offered k y ≡ true) (sym call) may.offered;
-        told = ap (λ (p : Place). may_be_told p m) active ∙ told;
-        left = omega arith;
-      } in
+      let ready : IsReady k o s i m = grind (arith, nat_tests) in
       let table = by_table (release_next k o s i e wish) to e in
       let chose = answer.Chose (release_next k o s i e wish) in
       record {
@@ -93,8 +86,7 @@ module _ (k : Rules) (o : Object) (s : State) (seats conds : ℕ) (i : ℕ) (q :
         is_wish = is_wish;
         is_kept = away x (release_next k o s i e wish) to e chosen stay
             (step_kept k o s i m chose table seats conds (Active q) kind kept ready active done);
-        step = away_step m x (release_next k o s i e wish) to e chosen stay
-            (step_is k o s i m chose table (Active q) ready active done);
+        step = grind (arith, nat_tests, away_step, step_is);
       }
 
   -- each of the six

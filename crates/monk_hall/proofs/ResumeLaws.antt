@@ -1,31 +1,19 @@
 -- A seat that has looked several times comes in as it would have the first time
-use Rattle.std.proofs.Common.{◌≡◌, ℕ, zero, suc, false, true, sym, ap, subst, ◌∙◌, List, [], ◌∷◌, ◌++◌, append-nil, append_assoc}
+use Rattle.std.proofs.Common.{◌≡◌, ℕ, zero, suc, false, true, sym, ap, ◌∙◌, List, [], ◌∷◌, ◌++◌, append-nil, append_assoc}
 use Rattle.monk_kinds.specs.declared.mode.Rules.{Rules}
 use Rattle.monk_object.specs.Object.{Object}
 use Rattle.monk_world.specs.declared.place.Place.{Place}
 use Rattle.monk_hall.specs.{Deeds.look_at, Deeds.looks_in_vain, Tokens.Token, Tokens.Holder}
 use Rattle.monk_hall.specs.Calls.{ComesAfter, HasEntered}
 use Rattle.monk_hall.specs.declared.{deed.Deed.Deed, deed.Deed.TheVariants.FloorOut, record.SeatRecord.SeatRecord}
+use Rattle.std.proofs.lemmas.Bool.Decides.{nat_tests}
+use Rattle.std.proofs.Common.{arith}
 
 pub entered_same : (k : Rules) (o : Object) (p q : Token) (a : Holder) (did : List Deed) → q.hall ≡ p.hall
     → q.me ≡ record p.me { did = did } → HasEntered k o q a → HasEntered k o p a
 entered_same k o p q a did hall me e =
-    let f : HasEntered k o (record { hall = p.hall; me = record p.me { did = did } }) a =
-    subst (λ (t : Token). HasEntered k o t a) (λ i. record { hall = hall i; me = me i }) e in
-    record {
-      hall = f.hall;
-      seat = f.seat;
-      setting = f.setting;
-      place = f.place;
-      known = f.known;
-      starts = f.starts;
-      floor = f.floor;
-      mine = f.mine;
-      first = f.first;
-      next = f.next;
-      legal = f.legal;
-      own = f.own;
-    }
+    let f : HasEntered k o (record { hall = p.hall; me = record p.me { did = did } }) a = grind (arith, nat_tests) in
+    grind (arith, nat_tests)
 
 -- one more look in vain, after the others
 pub one_more : (n : ℕ) (p : Place) → looks_in_vain n p ++ look_at p false ≡ looks_in_vain (suc n) p

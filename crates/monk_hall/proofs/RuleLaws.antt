@@ -1,12 +1,10 @@
 -- What holds for a hall's table if its rule does
-use Rattle.std.proofs.Common.{◌≡◌, ◌≢◌, ◌≤◌, ℕ, false, true≢false, refl, sym, ap, subst, ◌∙◌, inl, inr, arith}
-use Rattle.std.specs.Prelude.{List}
+use Rattle.std.proofs.Common.{◌≡◌, ◌≢◌, ◌≤◌, ℕ, false, true≢false, refl, sym, ap, subst, ◌∙◌, arith}
 use Rattle.monk_kinds.specs.declared.mode.Rules.{Rules}
 use Rattle.monk_object.specs.Object.{Object}
-use Rattle.monk_history.specs.declared.event.Event.{Event}
 use Rattle.monk_world.proofs.PublicLaws.{has_right, in_one_place, well_led}
 use Rattle.monk_world.specs.{OnePlace.IsInOnePlace, State.is_quiet}
-use Rattle.monk_world.specs.Places.{HoldsRight, stage, back_turn, outside_stage, due_stage, passing_stage}
+use Rattle.monk_world.specs.Places.{HoldsRight, stage, outside_stage, due_stage, passing_stage}
 use Rattle.monk_world.specs.Right.{Whereabouts, Nowhere, AtTicket, With, AtSeat}
 use Rattle.monk_world.specs.declared.place.Place.{Place}
 use Rattle.monk_world.specs.declared.place.Place.TheVariants.{Idle, Ticket, Due, Active, Back, Passing, Inner}
@@ -19,6 +17,7 @@ use Rattle.monk_hall.specs.Laws.{OneHasTheRight, OneIsActive, KnownWaits, EntryW
 use Rattle.monk_hall.specs.Laws.{SeatLookSteps, PeekSteps, FloorOutSteps, FloorInSteps, DropSteps, TicketGrantSteps}
 use Rattle.monk_hall.specs.Laws.{SeatGrantSteps}
 use Rattle.monk_hall.specs.Layout.{unpassed, floor_of, shown_state, shown_world}
+use Rattle.std.proofs.lemmas.Bool.Decides.{nat_tests}
 
 pub shows_well_led : ShowsWellLed
 shows_well_led k o c s h = let kept = h.2.kept in
@@ -66,11 +65,7 @@ one : (k : Rules) (o : Object) (c : Setting) (s : HallState) → IsHall k o c s 
 one k o c s h r q x y a b =
     let mine = with k o c s h r x a.0 a.1 in
     let theirs = with k o c s h q y b.0 b.1 in
-    let same : r.seat ≡ q.seat = cc in (
-      sym (is k o c s h r x) ∙ ap h.0 same ∙ is k o c s h q y,
-      sym (desk k o c s h r x) ∙ ap h.1.desk same
-          ∙ desk k o c s h q y,
-    )
+    grind (arith, nat_tests, is, desk)
 
 pub one_has_the_right : OneHasTheRight
 one_has_the_right k o c s h r q x y a b = one k o c s h r q x y (has_right r.place a) (has_right q.place b)
@@ -81,19 +76,14 @@ one_is_active k o c s h r q x y a b = one k o c s h r q x y (omega arith, omega 
 pub known_waits : KnownWaits
 known_waits k o c s h r x active known =
     let at = is k o c s h r x in
-    h.2.kept.sound.is_sound.known r.seat (ap (λ (y : SeatRecord). stage y.place) at ∙ active)
-    (ap (λ (y : SeatRecord). y.known) at ∙ known)
+    grind (arith, nat_tests, place)
 
 pub entry_waits : EntryWaits
 entry_waits k o c s h r to x back_at some =
     let at = place k o c s h r x ∙ back_at in
     let history = back k o c s h r x (ap stage back_at) in
-    let loud : is_quiet k o (floor_of c h.2.history) ≡ false =
-    ap (λ (past : List Event). is_quiet k o (floor_of c past)) history ∙ some in
-    elim (h.2.kept.sound.is_sound.stands.fits_queues.back_to_entry r.seat (ap stage at) (ap back_turn at)) [
-      | inl quiet ↦ absurd (true≢false (sym quiet ∙ loud))
-      | inr two ↦ two
-    ]
+    let loud : is_quiet k o (floor_of c h.2.history) ≡ false = grind (arith, nat_tests) in
+    grind (arith, nat_tests, true≢false)
 
 pub arrival_steps : ArriveSteps
 arrival_steps k o c kind s h id r here idle room = arrives_at k o c kind s h id r here idle room _ refl

@@ -1,5 +1,5 @@
 -- Each step of the table keeps what holds for a schedule
-use Rattle.std.proofs.Common.{◌≡◌, ◌≢◌, ℕ, ◌⊎◌, cond, Bool, false, List, [], ◌∷◌, ◌++◌, length, arith}
+use Rattle.std.proofs.Common.{◌≡◌, ◌≢◌, ℕ, ◌⊎◌, List, [], ◌∷◌, ◌++◌, length, arith}
 use Rattle.std.proofs.Common.{sym, refl, ap, subst, ◌∙◌, inl, inr, ⊎_elim, eq-eqb, ne_eqb, append-nil}
 use Rattle.std.proofs.lemmas.{Bool.Decides.eqb_tells, Option.none-some}
 use Rattle.std.specs.Prelude.{Option, Some, None, slice_index}
@@ -128,29 +128,20 @@ module _ (k : Rules) (o : Object) (c : Setting) (steps : List Step) (s : HallSta
         drawn = m.drawn ∙ ap length (sym came_in);
         each = λ q y. ⊎_elim
             (λ e. subst (Fits (steps ++ x ∷ [])) (sym e) (record {
-              did = m.did ∙ ap (λ (l : List Deed). l ++ d ∷ []) (led.each r its_record).did
-                  ∙ ap (λ (b : Bool). deeds_by r.seat steps ++ cond b (d ∷ []) []) (sym (eq-eqb r.seat r.seat refl))
-                  ∙ sym (deeds_push r.seat steps x)
-                  ∙ ap (λ (n : ℕ). deeds_by n (steps ++ x ∷ [])) (sym m.seat);
-              known = m.known ∙ ap (λ (b : Bool). knows_after b d) (led.each r its_record).known
-                  ∙ sym (ap knows m.did ∙ knows_append false r.did (d ∷ []));
+              did = grind (arith, nat_tests, its_record, eq-eqb, deeds_push);
+              known = grind (arith, nat_tests, its_record, knows_append);
               ticket = λ t h. ap (λ (l : List ℕ). get_elem? l t) came_in ∙ m.ticket t h ∙ ap some (sym m.seat);
               came = λ t h. ap enters_of home ∙ m.came t h;
             }))
             (λ old. let was = led.each q old.0 in record {
-              did = was.did ∙ sym (append-nil (deeds_by q.seat steps))
-                  ∙ ap (λ (b : Bool). deeds_by q.seat steps ++ cond b (d ∷ []) [])
-                  (sym (ne_eqb r.seat q.seat (λ e. old.1 (sym e)))) ∙ sym (deeds_push q.seat steps x);
+              did = grind (arith, nat_tests, append-nil, ne_eqb, deeds_push);
               known = was.known;
               ticket = λ t h. ap (λ (l : List ℕ). get_elem? l t) came_in
                   ∙ at_longer (arrivals steps) (drew r.seat d) t q.seat (was.ticket t h);
               came = λ t h. ap enters_of home ∙ m.others q old.0 old.1 t h;
             })
             (records_after w q ws hs y);
-        own = λ j. ap (λ (l : List Event). events_of l j) home ∙ events_of-append (brought steps) (brings d) j
-            ∙ ap (λ (l : List Event). l ++ events_of (brings d) j) (led.own j)
-            ∙ ap (λ (l : List Event). brought_home (deeds_by j steps) ++ l) (own_in j m.own)
-            ∙ sym (ap brought_home (deeds_push j steps x) ∙ home_append (deeds_by j steps) (deeds_in j x));
+        own = grind (arith, nat_tests, events_of-append, own_in, deeds_push, home_append);
         order = (m.order.0, came_in ∙ m.order.1 ∙ ap (λ (l : List Event). entered l ++ m.order.0) (sym home));
       }
 
@@ -162,14 +153,11 @@ module _ (k : Rules) (o : Object) (c : Setting) (steps : List Step) (s : HallSta
       → ((t : ℕ) → held w.place ≡ Some t → held r.place ≡ Some t)
       → ((t : ℕ) → came_by w.place ≡ Some t → enters_of (brought steps) ≡ t) → IsMade w ws hs
   quiet none_home none_drew w ws hs hall past drawn seat did known ticket came =
-      let home : brought steps ++ brings d ≡ brought steps =
-      ap (λ (l : List Event). brought steps ++ l) none_home ∙ append-nil (brought steps) in
-      let came_in : arrivals steps ++ drew r.seat d ≡ arrivals steps =
-      ap (λ (l : List ℕ). arrivals steps ++ l) none_drew ∙ append-nil (arrivals steps) in
+      let home : brought steps ++ brings d ≡ brought steps = grind (arith, nat_tests, append-nil) in
+      let came_in : arrivals steps ++ drew r.seat d ≡ arrivals steps = grind (arith, nat_tests, append-nil) in
       record {
         hall = hall;
-        past = past ∙ sym (append-nil led.hall.2.past)
-            ∙ ap (λ (l : List Event). led.hall.2.past ++ l) (sym none_home);
+        past = grind (arith, nat_tests, append-nil);
         drawn = drawn ∙ led.drawn ∙ ap length (sym came_in);
         seat = seat;
         did = did;

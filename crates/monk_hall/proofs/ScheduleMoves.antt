@@ -1,6 +1,6 @@
 -- The moves of seats, each after a schedule; and every schedule
 use Rattle.std.proofs.Common.{◌≡◌, ℕ, zero, suc, ◌+◌, ◌/◌, Bool, false, true, List, [], ◌∷◌, ◌++◌, length, replicate, set, sym, refl, ap, subst, ◌∙◌}
-use Rattle.std.proofs.Common.{◌≢◌, ◌==◌, cond, eq-eqb, ne_eqb, inl, inr, ⊎_elim, append-nil, append_assoc}
+use Rattle.std.proofs.Common.{◌≢◌, ◌==◌, cond, eq-eqb, ne_eqb, inl, inr, ⊎_elim, append-nil, append_assoc, arith}
 use Rattle.std.proofs.lemmas.{List.length-replicate, Option.none-some}
 use Rattle.std.specs.Prelude.{None, slice_index}
 use mathlib.Core.Option.{some}
@@ -19,10 +19,10 @@ use Rattle.monk_hall.proofs.RuleLaws.{one_is_active, right_in_one_place, shows_w
 use Rattle.monk_hall.proofs.ScheduleLists.{brought_push, brought_append, deeds_push, home_append, knows_append}
 use Rattle.monk_hall.proofs.ScheduleLists.{arrivals_push}
 use Rattle.monk_hall.proofs.Dealing.{IsStill, deals_at, opens, opens_empty, zero_words, some_seat}
-use Rattle.monk_hall.specs.{Deeds.brought_home, Deeds.knows, Deeds.knows_from, Laws.HallState, Laws.IsRecord}
+use Rattle.monk_hall.specs.{Deeds.brought_home, Deeds.knows_from, Laws.HallState, Laws.IsRecord}
 use Rattle.monk_hall.specs.{Laws.IsHomeHistory, Layout.word_count, Layout.ticket_word, Layout.floor_of}
 use Rattle.monk_hall.specs.Schedules.{Step, By, Deal, Part, Join, Compare, IsDone, IsStep, IsSchedule, after_step}
-use Rattle.monk_hall.specs.Schedules.{opening_table, brought, brought_in, deeds_in, deeds_by, arrivals, drew_in}
+use Rattle.monk_hall.specs.Schedules.{opening_table, brought, brought_in, deeds_in, arrivals, drew_in}
 use Rattle.monk_hall.specs.Schedules.{entered, IsLedStep, IsOneHistory, EveryScheduleIsOneHistory}
 use Rattle.monk_hall.specs.declared.{record.SeatRecord.SeatRecord, setting.Setting.Setting}
 use Rattle.monk_hall.specs.declared.deed.Deed.{Deed}
@@ -31,6 +31,7 @@ use Rattle.monk_hall.specs.declared.deed.Deed.TheVariants.{Drop, GrantTicket, Ca
 use Rattle.monk_hall.specs.Changes.{record_after_ticket_look, record_after_seat_look, record_after_grant}
 use Rattle.monk_hall.specs.Changes.{view_after_join, view_after_compare}
 use Rattle.monk_hall.specs.Records.{View, In, opening_record, opening_records, first_view}
+use Rattle.std.proofs.lemmas.Bool.Decides.{nat_tests}
 
 -- after this step a record is as it was, except for what it has seen, and for the meeting
 pub record IsAs (x : Step) (s : HallState) (q : SeatRecord) : Type 0 where
@@ -85,10 +86,8 @@ module _ (k : Rules) (o : Object) (c : Setting) (steps : List Step) (s : HallSta
   moves : (x : Step) (t : HallState) → IsMove x → IsStill k o c s led.hall t → t.words ≡ s.words
       → ((q : SeatRecord) → IsRecord t q → IsAs x s q) → IsLed k o c (steps ++ x ∷ []) t
   moves x t move still words each =
-      let home : brought (steps ++ x ∷ []) ≡ brought steps = brought_push steps x
-      ∙ ap (λ (l : List Event). brought steps ++ l) move.home ∙ append-nil (brought steps) in
-      let came_in : arrivals (steps ++ x ∷ []) ≡ arrivals steps = arrivals_push steps x
-      ∙ ap (λ (l : List ℕ). arrivals steps ++ l) move.drew ∙ append-nil (arrivals steps) in
+      let home : brought (steps ++ x ∷ []) ≡ brought steps = grind (arith, nat_tests, brought_push, append-nil) in
+      let came_in : arrivals (steps ++ x ∷ []) ≡ arrivals steps = grind (arith, nat_tests, arrivals_push, append-nil) in
       record {
         hall = still.hall;
         past = still.past ∙ led.past ∙ sym home;
@@ -97,19 +96,12 @@ module _ (k : Rules) (o : Object) (c : Setting) (steps : List Step) (s : HallSta
             let was = each q y in
             let fits = led.each was.old was.there in
             record {
-              did = was.did ∙ ap (λ (l : List Deed). l ++ deeds_in q.seat x)
-                  (fits.did ∙ ap (λ (n : ℕ). deeds_by n steps) (sym was.seat)) ∙ sym (deeds_push q.seat steps x);
-              known = was.known ∙ fits.known
-                  ∙ sym (ap knows was.did ∙ knows_append false was.old.did (deeds_in q.seat x)
-                  ∙ move.knew q.seat (knows was.old.did));
-              ticket = λ m e. ap (λ (l : List ℕ). get_elem? l m) came_in
-                  ∙ fits.ticket m (ap held (sym was.place) ∙ e) ∙ ap some (sym was.seat);
+              did = grind (arith, nat_tests, deeds_push);
+              known = grind (arith, nat_tests, knows_append);
+              ticket = grind (arith, nat_tests, held);
               came = λ m e. ap enters_of home ∙ fits.came m (ap came_by (sym was.place) ∙ e);
             };
-        own = λ j. ap (λ (l : List Event). events_of l j) home ∙ led.own j
-            ∙ sym (ap brought_home (deeds_push j steps x) ∙ home_append (deeds_by j steps) (deeds_in j x)
-            ∙ ap (λ (l : List Event). brought_home (deeds_by j steps) ++ l) (move.by j)
-            ∙ append-nil (brought_home (deeds_by j steps)));
+        own = grind (arith, nat_tests, deeds_push, home_append, append-nil);
         order = (
           led.order.0,
           came_in ∙ led.order.1 ∙ ap (λ (l : List Event). entered l ++ led.order.0) (sym home),
@@ -348,14 +340,7 @@ led_opening k o c made =
       hall = opens k o c words made some_is wide zeros;
       past = opens_empty k o c words made some_is wide zeros;
       drawn = ap (λ (n : ℕ). n / 4294967296) (zeros 0);
-      each = λ r y.
-          let fresh = opening_idle c c.seats 0 r (in_first r y) in
-          record {
-            did = ap (λ (z : SeatRecord). z.did) fresh;
-            known = ap (λ (z : SeatRecord). z.known) fresh ∙ sym (ap (λ (z : SeatRecord). knows z.did) fresh);
-            ticket = λ m e. absurd (none-some m (sym (ap (λ (z : SeatRecord). held z.place) fresh) ∙ e));
-            came = λ m e. absurd (none-some m (sym (ap (λ (z : SeatRecord). came_by z.place) fresh) ∙ e));
-          };
+      each = grind (arith, nat_tests, opening_idle, none-some, held, came_by);
       own = λ j. refl;
       order = ([], refl);
     }

@@ -1,11 +1,11 @@
 -- The floor that an active seat takes home is one with which it went on, by calls that its kind allows
-use Rattle.std.proofs.Common.{◌≡◌, ℕ, List, [], ◌∷◌, ◌++◌, length, sym, ap, subst, ◌∙◌, arith}
+use Rattle.std.proofs.Common.{◌≡◌, ℕ, List, [], ◌∷◌, ◌++◌, sym, ap, subst, ◌∙◌, arith}
 use Rattle.std.proofs.Common.{append-nil, append_assoc}
 use mathlib.Core.Option as maybe
 use lib.ListN.{get_elem?}
 use Rattle.monk_kinds.specs.{Kind.IsKind, declared.mode.Rules.Rules}
 use Rattle.monk_object.specs.Object.{Object}
-use Rattle.monk_history.{specs.Meaning.Counts.events_of, specs.Meaning.Legal.IsLegal, specs.Meaning.Turn.turn}
+use Rattle.monk_history.{specs.Meaning.Legal.IsLegal, specs.Meaning.Turn.turn}
 use Rattle.monk_history.{specs.declared.event.Event.Event, proofs.PublicLaws.Meaning.turn-push}
 use Rattle.monk_floor.specs.View.{FloorView, monitor_of}
 use Rattle.monk_world.specs.{State.with_event, declared.place.Place.TheVariants.Active, declared.source.Source.Source}
@@ -16,6 +16,7 @@ use Rattle.monk_hall.proofs.{Private.own_event, EntrySteps.out_seat, EntrySteps.
 use Rattle.monk_hall.specs.{Changes.source_from, Floors.GoesOn, Laws.HallState, Layout.floor_of, Rule.IsHall}
 use Rattle.monk_hall.specs.{Tells.Returns, declared.record.SeatRecord.SeatRecord, declared.setting.Setting.Setting}
 use Rattle.monk_hall.specs.Schedules.{ArePlayed, IsReleasedBy, came_in}
+use Rattle.std.proofs.lemmas.Bool.Decides.{nat_tests}
 
 -- a floor goes on with each event of its own that is allowed
 played_goes : (k : Rules) (o : Object) (r : SeatRecord) (f : FloorView) (es : List Event) → GoesOn k o r f
@@ -50,11 +51,7 @@ module _ (k : Rules) (o : Object) (c : Setting) (kind : IsKind k) (s : HallState
   seen = sym (ap (λ (y : SeatRecord). y.seen) is) ∙ (h.2.told.lent r.seat q at_active).0
 
   history : h.2.history ≡ r.seen ++ came ∷ []
-  history = (h.2.told.lent r.seat q at_active).1
-      ∙ ap (λ (g : List Event). g ++ came_of g ∷ []) (sym seen)
-    where
-      came_of : List Event → Event
-      came_of g = came_in (record r { seen = g })
+  history = grind (arith, nat_tests, at_active, seen)
 
   -- the floor as it came out, with the event by which the seat came in
   comes : GoesOn k o r (floor_of c (r.seen ++ came ∷ []))
@@ -67,13 +64,8 @@ module _ (k : Rules) (o : Object) (c : Setting) (kind : IsKind k) (s : HallState
     goes = sym (append-nil (r.seen ++ came ∷ []));
     own = tt;
     owned = turn-push r.seen came ∙ out_owns r.seat q (turn r.seen);
-    mine = own_event r.seen came r.seat (out_seat r.seat q (turn r.seen))
-        ∙ ap (λ (es : List Event). es ++ came ∷ [])
-        (ap (λ (y : SeatRecord). events_of y.seen r.seat) (sym is) ∙ h.2.told.own r.seat
-        ∙ ap (λ (y : SeatRecord). y.mine) is);
-    within = let b = h.2.kept.bounded.within r.seat in
-        let l = ap (λ (g : List Event). length (events_of g r.seat)) history in
-        let y = ap (λ (x : Setting). x.budget) setting in omega arith;
+    mine = grind (arith, nat_tests, own_event, out_seat, is);
+    within = grind (arith, nat_tests, history, setting);
   }
 
   pub returns : (since : List Event) (e : Event) (es : List Event)
@@ -92,8 +84,5 @@ module _ (k : Rules) (o : Object) (c : Setting) (kind : IsKind k) (s : HallState
     chosen = rel.chosen;
     away = rel.away;
     left = rel.left;
-    grows = ap (floor_of c) (ap (λ (l : List Event). r.seen ++ l) es_is
-        ∙ sym (append_assoc r.seen (came ∷ []) (since ++ e ∷ []))
-        ∙ sym (append_assoc (r.seen ++ came ∷ []) since (e ∷ []))
-        ∙ ap (λ (x : Event). ((r.seen ++ came ∷ []) ++ since) ++ x ∷ []) rel.is);
+    grows = grind (arith, nat_tests, append_assoc);
   }

@@ -44,6 +44,7 @@ use Rattle.monk_hall.specs.Layout.{tickets, unpassed, ticket_word, place_word, s
 use Rattle.monk_hall.specs.declared.{record.SeatRecord.SeatRecord, setting.Setting.Setting}
 use Rattle.monk_hall.specs.declared.deed.Deed.TheVariants.{Arrive, LookForTicket, LookForCall, Peek, FloorOut, FloorIn}
 use Rattle.monk_hall.specs.declared.deed.Deed.TheVariants.{Drop, GrantTicket, CallSeat}
+use Rattle.std.proofs.lemmas.Bool.Decides.{nat_tests}
 
 module _ (k : Rules) (o : Object) (c : Setting) (kind : IsKind k) (steps : List Step) (s : HallState)
     (led : IsLed k o c steps s) (id : ℕ) (r : SeatRecord) (here : get_elem? s.views id ≡ some (r ∷ [])) where
@@ -76,8 +77,7 @@ module _ (k : Rules) (o : Object) (c : Setting) (kind : IsKind k) (steps : List 
         seat = refl;
         did = refl;
         known = refl;
-        ticket = λ m e. at_last (arrivals steps) r.seat m
-            (sym led.drawn ∙ same_Some (tickets found) m (sym (held_arrived (tickets found) (unpassed found)) ∙ e));
+        ticket = grind (arith, nat_tests, at_last, same_Some, held_arrived);
         came = λ m e. absurd (none_held m (came_arrived (tickets found) (unpassed found)) e);
         others = λ q y ne m e. ap enters_of (append-nil (brought steps)) ∙ (led.each q y).came m e;
         own = tt;

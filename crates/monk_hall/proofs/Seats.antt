@@ -7,7 +7,7 @@ use Rattle.atomic_table.proofs.Lists.{at_set, set_else, set_here}
 use Rattle.monk_world.proofs.PublicLaws.{at_update, update_here, update_else}
 use Rattle.monk_world.specs.Update.{update}
 use Rattle.monk_hall.specs.{Rule.AreShown, declared.record.SeatRecord.SeatRecord, declared.setting.Setting.Setting}
-use Rattle.monk_hall.specs.Records.{View, In, Distinct}
+use Rattle.monk_hall.specs.Records.{View, In}
 use Rattle.std.proofs.lemmas.Bool.Decides.{nat_tests}
 
 pub long : {A : Type 0} (l : List A) (i : ℕ) (a : A) → get_elem? l i ≡ some a → i < length l
@@ -50,8 +50,7 @@ module _ (c : Setting) (views : List View) (at : ℕ → SeatRecord) (s : AreSho
         let old = s.each j v t.1 x in_v in
         (update_else at r.seat w x.seat (λ eq. t.0 (sym old.1 ∙ ap s.desk eq ∙ is_desk)) ∙ old.0, old.1, old.2))
         (at_set views id j (w ∷ []) v e);
-    apart = λ j v e. ⊎_elim (λ t. subst Distinct t.1 ((λ y h. absurd h), tt)) (λ t. s.apart j v t.1)
-        (at_set views id j (w ∷ []) v e);
+    apart = grind (arith, nat_tests, at_set);
     there = λ j near. elim (eqb_tells j r.seat) [
       | inl h ↦ (
         w ∷ [],

@@ -6,15 +6,15 @@ use Rattle.monk_kinds.specs.declared.mode.Rules.{Rules}
 use Rattle.monk_object.specs.Object.{Object}
 use Rattle.monk_history.proofs.PublicLaws.Meaning.{legal-push, turn-push}
 use Rattle.monk_history.specs.Meaning.{Counts.events_of, Counts.is_enter, Events.seat_of, Events.next_of, Legal.IsLegal}
-use Rattle.monk_history.specs.Meaning.{Reasons.IsAllowed, Turn.turn, Turn.turn_by}
+use Rattle.monk_history.specs.Meaning.{Reasons.IsAllowed, Turn.turn_by}
 use Rattle.monk_history.specs.declared.event.{Event.Event, Turn.TheVariants.Owned}
 use Rattle.monk_floor.specs.View.{FloorView, monitor_of}
-use Rattle.monk_world.specs.{Places.stage, Places.due_stage, State.with_event, StepTable.out_event}
+use Rattle.monk_world.specs.{Places.stage, Places.due_stage, State.with_event}
 use Rattle.monk_world.specs.declared.place.Place.{Place}
-use Rattle.monk_world.specs.declared.place.Place.TheVariants.{Due, Active}
+use Rattle.monk_world.specs.declared.place.Place.TheVariants.{Due}
 use Rattle.monk_world.specs.declared.source.Source.{Source}
 use Rattle.monk_hall.proofs.{Private.own_event, EntrySteps.own_longer, EntrySteps.own_more}
-use Rattle.monk_hall.specs.{Changes.source_from, Deeds.look_at, Floors.GoesOn, Layout.floor_of, Records.the, Tells.Me}
+use Rattle.monk_hall.specs.{Changes.source_from, Deeds.look_at, Floors.GoesOn, Records.the, Tells.Me}
 use Rattle.monk_hall.specs.Tokens.{Token, Holder, IsHolding, holder}
 use Rattle.monk_hall.specs.Calls.{ComesAfter, HasEntered, HasDone, HasLooked, record_after_look}
 use Rattle.monk_hall.specs.declared.{record.SeatRecord.SeatRecord, seat_numbers.SeatNumbers.SeatNumbers}
@@ -47,21 +47,7 @@ module _ {k : Rules} {o : Object} where
   entry_looked p q a l x =
       let s = look_leaves p.me.place p.me l.found in
       let seat = ap (λ w. w.seat) l.me ∙ s.seat in let setting = ap (λ w. w.setting) l.me ∙ s.setting in
-      let came = ap (λ w. source_from w.place) l.me ∙ came_same p.me.place p.me l.found refl in record {
-        hall = x.hall ∙ l.hall;
-        seat = x.seat ∙ seat;
-        setting = x.setting ∙ setting;
-        place = x.place ∙ ap Active came;
-        known = x.known;
-        starts =
-            subst (λ h. Rattle.monk_hall.specs.Floors.StartsWith a.me.seen h) (ap (λ w. w.seen) l.me ∙ s.seen) x.starts;
-        floor = x.floor ∙ (λ i. floor_of (setting i) (a.me.seen ++ out_event (seat i) (came i) (turn a.me.seen) ∷ []));
-        mine = x.mine ∙ (λ i. (ap (λ w. w.mine) l.me ∙ s.mine) i ++ out_event (seat i) (came i) (turn a.me.seen) ∷ []);
-        first = λ t is. x.first t (came ∙ is);
-        next = λ t is. x.next t (came ∙ is);
-        legal = x.legal;
-        own = x.own;
-      }
+      grind (arith, nat_tests, came_same)
 
   -- and the steps by which it did
   pub comes_by_look : (p q : Token) (a : Holder) (y : Source) → HasLooked k o p q → q.me.place ≡ Due y
@@ -82,12 +68,10 @@ module _ {k : Rules} {o : Object} where
     near = x.near;
     legal = legal-push (monitor_of k o f) f.history e x.legal allowed;
     since = x.since ++ e ∷ [];
-    goes = ap (λ h. h ++ e ∷ []) x.goes
-        ∙ append_assoc (r.seen ++ out_event r.seat (source_from r.place) (turn r.seen) ∷ []) x.since (e ∷ []);
+    goes = grind (arith, nat_tests, append_assoc);
     own = own_more r.seat x.since e x.own (record { seat = seat; keeps = keeps; enters = enters });
     owned = turn-push f.history e ∙ keeps;
-    mine = own_event f.history e r.seat seat ∙ ap (λ h. h ++ e ∷ []) x.mine
-        ∙ append_assoc r.mine (out_event r.seat (source_from r.place) (turn r.seen) ∷ x.since) (e ∷ []);
+    mine = grind (arith, nat_tests, own_event, append_assoc);
     within = let more = own_longer f.history e r.seat seat in omega arith;
   }
 
@@ -112,13 +96,7 @@ module _ {k : Rules} {o : Object} where
       → IsLegal (monitor_of k o f) f.history → IsAllowed (monitor_of k o f) f.history e → g ≡ with_event f e
       → HasDone k o (holder z r f) e (holder z r g)
   grown_does z r f g e seat legal allowed grows = record {
-    is = ap (holder z r) grows
-        ∙ (λ i. record {
-          hall = z;
-          me = record r { mine = own_event f.history e r.seat seat i };
-          floor =
-              with_event f e;
-        });
+    is = grind (arith, nat_tests, own_event);
     legal = subst (λ y. IsLegal (monitor_of k o y) y.history) (sym grows)
         (legal-push (monitor_of k o f) f.history e legal allowed);
     own = refl;

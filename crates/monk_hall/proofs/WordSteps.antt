@@ -31,6 +31,7 @@ use Rattle.monk_hall.specs.Changes.{record_after_arrive, record_after_ticket_loo
 use Rattle.monk_hall.specs.Changes.{record_after_peek, record_after_drop, home_at, source_from}
 use Rattle.monk_hall.specs.Layout.{tickets, unpassed, shown_state, shown_world, place_word, seat_word}
 use Rattle.monk_hall.specs.declared.{record.SeatRecord.SeatRecord, setting.Setting.Setting}
+use Rattle.std.proofs.lemmas.Bool.Decides.{nat_tests}
 
 -- a step of a seat that doesn't change the history and the floor
 module _ (k : Rules) (o : Object) (c : Setting) (kind : IsKind k) (s : table.State (Option FloorView) View)
@@ -91,8 +92,7 @@ module _ (k : Rules) (o : Object) (c : Setting) (kind : IsKind k) (s : table.Sta
         known = knows z;
         floor = old.floor;
       } in
-      let moved : stepping.IsMoved k o c kind s h id r here w =
-      record { seat = refl; setting = refl; seen = refl; mine = refl } in
+      let moved : stepping.IsMoved k o c kind s h id r here w = grind (arith, nat_tests) in
       let apart = standing.apart_arrived (tickets found) (unpassed found) in
       let calls =
       calls_stay world (shown_world ws (update at r.seat w)) kh.past r.seat w.place kh.told.calls (sym places)
@@ -119,13 +119,7 @@ module _ (k : Rules) (o : Object) (c : Setting) (kind : IsKind k) (s : table.Sta
       let old : State = shown_state c s.words at kh.history in
       let place_is : r.place ≡ Ticket n = standing.ticket_at r.place waits in
       let stands = stepping.stands_at k o c kind s h id r here (Ticket n) place_is in
-      let ready : IsReady k o old r.seat command.Look = record {
-        near = stepping.near k o c kind s h id r here;
-        range = refl;
-        offered = refl;
-        told = ap (λ (p : Place). may_be_told p command.Look) stands;
-        left = omega arith;
-      } in
+      let ready : IsReady k o old r.seat command.Look = grind (arith, nat_tests) in
       let after : State = record old { world = after_ticket_look world r.seat n (found == n + 1) } in
       let kept = stepping.takes_step k o c kind s h id r here command.Look (answer.Looked (found == n + 1)) after
       (Ticket n) ready place_is (refl, refl) in
@@ -137,8 +131,7 @@ module _ (k : Rules) (o : Object) (c : Setting) (kind : IsKind k) (s : table.Sta
         known = knows z;
         floor = old.floor;
       } in
-      let moved : stepping.IsMoved k o c kind s h id r here w =
-      record { seat = refl; setting = refl; seen = refl; mine = refl } in
+      let moved : stepping.IsMoved k o c kind s h id r here w = grind (arith, nat_tests) in
       let apart = standing.apart_looked n (found == n + 1) in
       let calls = calls_stay world (shown_world s.words (update at r.seat w)) kh.past r.seat w.place kh.told.calls
       (sym places) refl (ap back_turn stands) apart.chose in
@@ -161,13 +154,7 @@ module _ (k : Rules) (o : Object) (c : Setting) (kind : IsKind k) (s : table.Sta
       let stands = stepping.stands_at k o c kind s h id r here Inner place_is in
       let n : ℕ = world.count r.seat in
       let counted_is : n ≡ r.count = ap (λ (y : SeatRecord). y.count) is in
-      let ready : IsReady k o old r.seat command.Look = record {
-        near = stepping.near k o c kind s h id r here;
-        range = refl;
-        offered = refl;
-        told = ap (λ (p : Place). may_be_told p command.Look) stands;
-        left = omega arith;
-      } in
+      let ready : IsReady k o old r.seat command.Look = grind (arith, nat_tests) in
       let after : State = record old { world = after_seat_look world r.seat (found == n + 1) } in
       let kept = stepping.takes_step k o c kind s h id r here command.Look (answer.Looked (found == n + 1)) after Inner
       ready place_is (refl, refl) in
@@ -181,8 +168,7 @@ module _ (k : Rules) (o : Object) (c : Setting) (kind : IsKind k) (s : table.Sta
         known = knows z;
         floor = old.floor;
       } in
-      let moved : stepping.IsMoved k o c kind s h id r here w =
-      record { seat = refl; setting = refl; seen = refl; mine = refl } in
+      let moved : stepping.IsMoved k o c kind s h id r here w = grind (arith, nat_tests) in
       let apart = standing.apart_answered (found == r.count + 1) in
       let calls = calls_stay world (shown_world s.words (update at r.seat w)) kh.past r.seat w.place kh.told.calls
       (sym (stepping.places_after k o c kind s h id r here w)) refl (ap back_turn stands) apart.chose in
@@ -206,19 +192,12 @@ module _ (k : Rules) (o : Object) (c : Setting) (kind : IsKind k) (s : table.Sta
       let sound = stepping.sound k o c kind s h id r here in
       let place_is : r.place ≡ Active (source_from r.place) = standing.active_at r.place active in
       let stands = stepping.stands_at k o c kind s h id r here (Active (source_from r.place)) place_is in
-      let ready : IsReady k o old r.seat command.Peek = record {
-        near = stepping.near k o c kind s h id r here;
-        range = refl;
-        offered = refl;
-        told = ap (λ (p : Place). may_be_told p command.Peek) stands;
-        left = omega arith;
-      } in
+      let ready : IsReady k o old r.seat command.Peek = grind (arith, nat_tests) in
       let after : State =
       record old { known = update old.known r.seat (old.known r.seat || nat_le 2 world.unpassed) } in
       let kept = stepping.takes_step k o c kind s h id r here command.Peek (answer.Found world.unpassed) after
       (Active (source_from r.place)) ready place_is (refl, refl) in
-      let learnt : (old.known r.seat || nat_le 2 world.unpassed) ≡ w.known =
-      knew (old.known r.seat) world.unpassed (sound.known r.seat (ap stage stands)) in
+      let learnt : (old.known r.seat || nat_le 2 world.unpassed) ≡ w.known = grind (arith, nat_tests) in
       let places =
       sym (stored.field_stays (λ (y : SeatRecord). y.place) at r.seat w (ap (λ (y : SeatRecord). y.place) is)) in
       let counts = stepping.counts_stay k o c kind s h id r here w refl in
@@ -229,8 +208,7 @@ module _ (k : Rules) (o : Object) (c : Setting) (kind : IsKind k) (s : table.Sta
         known = knows z;
         floor = old.floor;
       } in
-      let moved : stepping.IsMoved k o c kind s h id r here w =
-      record { seat = refl; setting = refl; seen = refl; mine = refl } in
+      let moved : stepping.IsMoved k o c kind s h id r here w = grind (arith, nat_tests) in
       let calls = subst (λ (p : ℕ → Place). CountsCalls
       (record world { place = p; count = λ j. (update at r.seat w j).count }) kh.past) places (recount kh.told.calls)
       in
@@ -290,13 +268,7 @@ module _ (k : Rules) (o : Object) (c : Setting) (kind : IsKind k) (s : table.Sta
       let old : State = shown_state c s.words at kh.history in
       let sound = stepping.sound k o c kind s h id r here in
       let stands = stepping.stands_at k o c kind s h id r here (Back next.Entry to) back in
-      let ready : IsReady k o old r.seat command.Drop = record {
-        near = stepping.near k o c kind s h id r here;
-        range = refl;
-        offered = refl;
-        told = ap (λ (p : Place). may_be_told p command.Drop) stands;
-        left = omega arith;
-      } in
+      let ready : IsReady k o old r.seat command.Drop = grind (arith, nat_tests) in
       let after : State = record old { world = after_drop world r.seat to } in
       let kept = stepping.takes_step k o c kind s h id r here command.Drop (answer.Found world.unpassed) after
       (Back next.Entry to) ready back (refl, refl) in
@@ -327,8 +299,7 @@ module _ (k : Rules) (o : Object) (c : Setting) (kind : IsKind k) (s : table.Sta
         known = knows z;
         floor = old.floor;
       } in
-      let moved : stepping.IsMoved k o c kind s h id r here w =
-      record { seat = refl; setting = refl; seen = refl; mine = refl } in
+      let moved : stepping.IsMoved k o c kind s h id r here w = grind (arith, nat_tests) in
       let apart = standing.apart_dropped (tickets found) (unpassed found) (home_at r.place) in
       let calls = calls_stay world (shown_world ws (update at r.seat w)) kh.past r.seat w.place kh.told.calls
       (sym (stepping.places_after k o c kind s h id r here w)) (sym seat_places) (ap back_turn stands) apart.chose

@@ -11,6 +11,7 @@ use Rattle.monk_hall.proofs.RecordLaws.{is, place, cases_le}
 use Rattle.monk_hall.specs.{Laws.HallState, Laws.IsRecord, NextTicket.IsLooking, NextTicket.OneWaitsAtAWord}
 use Rattle.monk_hall.specs.{Rule.IsHall, declared.record.SeatRecord.SeatRecord, declared.setting.Setting.Setting}
 use Rattle.monk_hall.specs.Layout.{waiting_word, waiting_word_at}
+use Rattle.std.proofs.lemmas.Bool.Decides.{nat_tests}
 
 -- the number with the last place gets the place of the last number
 abbrev moved : (ℕ → ℕ) → ℕ → ℕ → ℕ → ℕ
@@ -32,9 +33,7 @@ few_places (suc n) (suc m) f low apart =
   where
     moved_low : (k : ℕ) → k < m → moved f n m k < n
     moved_low k small = elim (is_moved f n m k) [
-      | inl e ↦ (let a = low m (omega arith) in
-          let ne : f m ≢ n = λ z. let s = apart k m (omega arith) (omega arith) (e.0 ∙ sym z) in absurd (omega arith) in
-          let b = e.1 in omega arith)
+      | inl e ↦ grind (arith, nat_tests)
       | inr e ↦ (let a = low k (omega arith) in let b = e.1 in let ne = e.0 in omega arith)
     ]
 
@@ -113,8 +112,7 @@ module _ (k : Rules) (o : Object) (c : Setting) (s : HallState) (h : IsHall k o 
       → waiting_word r ≡ waiting_word_at c.seats r.seat p
   word_at r x p at_p =
       let setting : r.setting ≡ c = ap (λ (y : SeatRecord). y.setting) (sym (is k o c s h r x)) ∙ h.1.settings r.seat in
-      ap (λ (y : Setting). waiting_word_at y.seats r.seat r.place) setting
-      ∙ ap (λ (y : Place). waiting_word_at c.seats r.seat y) at_p
+      grind (arith, nat_tests, place)
 
   same_seat : (r q : SeatRecord) → IsRecord s r → IsRecord s q → r.seat ≡ q.seat → r ≡ q
   same_seat r q x y e = sym (is k o c s h r x) ∙ ap h.0 e ∙ is k o c s h q y
@@ -130,8 +128,7 @@ module _ (k : Rules) (o : Object) (c : Setting) (s : HallState) (h : IsHall k o 
       let tickets = h.2.kept.sound.is_sound.stands.keeps.tickets in
       let mine = (tickets.waits r.seat (ap stage (place k o c s h r x) ∙ a)).2 in
       let theirs = (tickets.waits q.seat (ap stage (place k o c s h q y) ∙ b)).2 in
-      same_seat r q x y (sym mine ∙ ap (λ (p : Place). owner (ticket p)) (place k o c s h r x) ∙ ap owner same
-      ∙ ap (λ (p : Place). owner (ticket p)) (sym (place k o c s h q y)) ∙ theirs)
+      grind (arith, nat_tests, same_seat, place)
   by_places r q x y (inl a) (inr b) word =
       let words = sym (word_at r x (Ticket (ticket r.place)) (ticket_at r.place a)) ∙ word
       ∙ word_at q y Inner (inner_at q.place b) in absurd (omega arith)

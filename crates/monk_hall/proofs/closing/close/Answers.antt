@@ -3,7 +3,8 @@ use Rattle.atomic_table.specs.Seated.{TableId}
 use Rattle.monk_floor.specs.View.{FloorView}
 use Rattle.monk_hall.proofs.closing.close.Goals as goal
 use Rattle.monk_hall.proofs.ClosingLaws.{unqueued_all, ended_peeked, busy_unlooked}
-use Rattle.monk_hall.specs.{Closing.HasSomebody, Closing.IsUnqueued, Tokens.Holder, Tokens.House}
+use Rattle.monk_hall.specs.{Closing.HasSomebody, Tokens.Holder, Tokens.House}
+use Rattle.std.proofs.lemmas.Grind.{common_steps}
 
 pub end-requires-clause-unqueued : goal.end-requires-clause-unqueued
 end-requires-clause-unqueued g c κs within =
@@ -15,11 +16,7 @@ end-requires-clause-unqueued g c κs within =
     ∙ sym (ap (λ (h : House). h.id) c.hall.view_is)) in
     let floor_seats = ap (λ (f : FloorView). f.seats) inv.goes.is_floor in
     let all : c.hall.inside.seats ≡ c.active.inside.floor.seats = omega arith in
-    unqueued_all g.K.Kind.rules g.T.Guarded.meaning c.active.inside.floor c.peek_alone.new.self.floor
-    c.hall.inside.seats
-    (subst (λ (f : FloorView). IsUnqueued g.K.Kind.rules g.T.Guarded.meaning f c.hall.inside.seats) c.deref.ensures
-    (c.has_queued.ensures.none c.if-has_queued.false)) all
-    (ap (λ (a : Holder). a.floor) c.peek_alone.ensures.peeked.is ∙ sym (ap (λ (a : Holder). a.floor) c.active.view_is))
+    grind (arith, common_steps, unqueued_all)
 
 pub returns-in-Some-clause-ended : goal.returns-in-Some-clause-ended
 returns-in-Some-clause-ended g c =

@@ -4,6 +4,7 @@ use Rattle.monk_history.specs.Meaning.Counts.{events_of}
 use Rattle.monk_hall.proofs.completeness.complete.Goals as goal
 use Rattle.monk_hall.proofs.CompleteLaws.{KnowsItsOwn, holds_length, holds_only, made_by, one_made, one_known, some_fit}
 use Rattle.monk_hall.specs.Tokens.{Token}
+use Rattle.std.proofs.lemmas.Grind.{common_steps}
 
 one_more : goal.loop-pass-preserved
 one_more g c =
@@ -12,12 +13,7 @@ one_more g c =
     let n = c.loop-pass.pass-index in
     let ps = c.args.passes.now in
     let p = c.pass-item.result in
-    let made = c.made.ensures.made ∙ ap (λ (q : Token). length q.me.mine) c.pass-item.is in (
-      one_made ps n (length (events_of c.args.history.now c.args.seat)) c.loop-pass.known c.made.result p below
-          inv.0 made,
-      one_known ps n p below inv.1 (subst KnowsItsOwn c.pass-item.is c.made.ensures.told.own),
-      omega (arith, below),
-    )
+    grind (arith, common_steps, one_made, one_known, KnowsItsOwn)
 
 pub loop-pass-preserved : goal.loop-pass-preserved
 loop-pass-preserved g c = one_more g c

@@ -5,7 +5,7 @@ use Rattle.monk_kinds.specs.declared.mode.Rules.{Rules}
 use Rattle.monk_object.specs.Object.{Object}
 use Rattle.atomic_table.specs.Seated.{TableId}
 use Rattle.monk_history.specs.declared.event.Next.TheVariants as next
-use Rattle.monk_history.specs.Meaning.{Counts.granted_of, Reasons.is_in_range, Release.with_next}
+use Rattle.monk_history.specs.Meaning.{Counts.granted_of, Reasons.is_in_range}
 use Rattle.monk_history.specs.Meaning.Events.{named_seat, next_of, seat_of}
 use Rattle.monk_history.specs.declared.event.{Event.Event, Next.Next}
 use Rattle.monk_world.specs.Places.{back_turn, due_to}
@@ -13,9 +13,11 @@ use Rattle.monk_world.specs.declared.{home.Home.Home, place.Place.TheVariants.Ba
 use Rattle.monk_floor.specs.View.{FloorView}
 use Rattle.monk_hall.proofs.handing.go_home.Goals as goal
 use Rattle.monk_hall.proofs.{HandingLaws.chosen_due, HandingLaws.chosen_entry, HandingLaws.grants_by, Releasing.said}
-use Rattle.monk_hall.specs.{Changes.home_at, Granting.granted_last, Layout.word_count, Records.IsOne, Records.the}
-use Rattle.monk_hall.specs.{Tells.Me, Tokens.House, declared.deed.Deed.TheVariants.CallSeat}
+use Rattle.monk_hall.specs.{Changes.home_at, Layout.word_count, Records.IsOne, Records.the}
+use Rattle.monk_hall.specs.{Tells.Me, Tokens.House}
 use Rattle.monk_hall.specs.Handing.{seat_called_by, HasRecordedRelease}
+use Rattle.std.proofs.lemmas.Bool.Decides.{nat_tests}
+use Rattle.std.proofs.lemmas.Grind.{common_steps}
 
 -- ---- the seat that a release chose is one of the hall's
 
@@ -38,8 +40,7 @@ module _ {k : Rules} {o : Object} {z : TableId} {me : Me} {choice : Next} {to : 
       → j < x.returns.before.seats
   chosen_before x j e =
       let r = x.returns in
-      chosen_in r.before.seats r.before.conds o.codes o.predicates (with_next r.choice r.call) r.choice j
-      (said (the me.0).seat r.to r.call r.choice r.release).chose x.allowed.in_range (ap seat_called_by x.is_choice ∙ e)
+      grind (arith, nat_tests, chosen_in, said)
 
   chosen_floor : HasRecordedRelease k o z me choice to f → (j : ℕ) → seat_called_by choice ≡ Some j → j < f.seats
   chosen_floor x j e =
@@ -93,9 +94,4 @@ pub returns-in-Some-clause-granted : goal.returns-in-Some-clause-granted
 returns-in-Some-clause-granted g c =
     let h = c.args.hall.now in
     let grant = c.seat_grant.ensures in
-    ap Some (λ i. record {
-      table = (grant.granted.0 ∙ ap (λ (x : House). x.id) c.hall.view_is) i;
-      word = grant.granted.1 i;
-    })
-    ∙ sym (ap (λ (m : Me). granted_last h.id h.setting.seats (the m.0).did) grant.step
-    ∙ grants_by h.id h.setting.seats (the c.floor_in.new.seat.me.0).did (CallSeat _))
+    grind (arith, common_steps, grants_by)

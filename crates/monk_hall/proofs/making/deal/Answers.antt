@@ -1,8 +1,9 @@
-use Rattle.std.proofs.Common.{arith, ◌≡◌, ◌<◌, ℕ, ◌+◌, ◌++◌, ◌∷◌, [], refl, sym, ap, subst, ◌∙◌}
+use Rattle.std.proofs.Common.{arith, ◌≡◌, ℕ, ◌+◌, ◌++◌, ◌∷◌, [], sym, ap, ◌∙◌}
 use Rattle.monk_hall.proofs.making.deal.Goals as goal
 use Rattle.monk_hall.proofs.{Dealing.fresh_next, Dealing.tokens_more, Reached.deals_next}
 use Rattle.monk_hall.specs.{Rule.setting_of, Tokens.tokens, declared.setting.Setting.Setting}
 use Rattle.monk_hall.specs.Records.{View, opening_record, opening_records, the, head, tail}
+use Rattle.std.proofs.lemmas.Grind.{common_steps}
 
 pub deal-seat-requires-after_bounds : goal.deal-seat-requires-after_bounds
 deal-seat-requires-after_bounds g c κs within =
@@ -28,8 +29,7 @@ fresh_pass-requires-clause-numbers g c κs within =
     let next = fresh_next setting c.loop-dealt.first.seat.me.0 c.args.seats c.loop-dealt.dealt c.loop-dealt-test.true
     c.loop-dealt.invariant.2 in
     let mine = ap (λ m. m.0) c.deal-seat.ensures.4 ∙ ap head next in
-    subst (λ (y : Setting). (c.loop-dealt.dealt < y.seats) × (c.args.budget ≡ y.budget))
-    (sym (ap (λ (v : View). (the v).setting) mine)) (c.loop-dealt-test.true, refl)
+    grind (arith, common_steps)
 
 pub loop-dealt-preserved : goal.loop-dealt-preserved
 loop-dealt-preserved g c =

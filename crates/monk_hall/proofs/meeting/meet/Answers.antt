@@ -5,6 +5,7 @@ use Rattle.monk_hall.proofs.Reached.{IsTwo, meets, compares, parts_again}
 use Rattle.monk_hall.specs.{Changes.view_after_join, Changes.view_after_compare, Rule.setting_of, Tells.SeesTruly}
 use Rattle.monk_hall.specs.{Tokens.top, declared.deed.Deed.TheVariants.Meet, declared.record.SeatRecord.SeatRecord}
 use Rattle.monk_hall.specs.Records.{View, IsOne, the, head, tail}
+use Rattle.std.proofs.lemmas.Grind.{common_steps}
 
 pub join-requires-after_bounds : goal.join-requires-after_bounds
 join-requires-after_bounds g c κs within =
@@ -62,31 +63,19 @@ pub invariant_of-a : goal.invariant_of-a
 invariant_of-a g c =
     let ia = c.a.invariant in
     let m : View = c.join.new.seat.me.0 in
-    let both : m ≡ view_after_join c.lift-first.result.me.0 c.lift-other.result.me.0 =
-    ap (λ m. m.0) c.join.ensures.2 in
+    let both : m ≡ view_after_join c.lift-first.result.me.0 c.lift-other.result.me.0 = grind (arith, common_steps) in
     let va = ap (λ m. m.0) c.lift-first.ensures.1 in
     let loaded : c.compare.new.seat.me.0 ≡ view_after_compare m = ap (λ m. m.0) c.compare.ensures.2.0 in
     let from_a : the m ≡ record (the (top c.a.inside.badge.views))
     { did = (the (top c.a.inside.badge.views)).did ++ Meet ∷ [] } = ap the both
     ∙ ap (λ (v : View). record (the v) { did = (the v).did ++ Meet ∷ [] }) va in
-    met_rests g.K.Kind.rules g.T.Guarded.meaning c.into_badge.result.table_id c.a.inside.badge.table_id
-    (top c.a.inside.badge.views) c.a.inside.numbers c.a.inside.left
-    (the (view_after_compare m))
-    c.into_badge.result.views
-    ia.1 ia.2 (c.into_badge.ensures.0 ∙ c.part-second.ensures.0 ∙ c.compare.ensures.0
-    ∙ c.join.ensures.0 ∙ c.lift-first.ensures.0)
-    (ap (λ (r : SeatRecord). r.seat) from_a) (ap (λ (r : SeatRecord). r.setting) from_a)
-    (ap (λ (r : SeatRecord). r.place) from_a) (ap (λ (r : SeatRecord). r.count) from_a)
-    (ap (λ (r : SeatRecord). r.mine) from_a)
-    (subst (λ (v : View). SeesTruly g.K.Kind.rules g.T.Guarded.meaning (the v)) loaded c.compare.ensures.2.2)
-    (c.into_badge.ensures.2 ∙ ap (λ (v : View). v ∷ []) (ap (λ m. m.0) c.part-second.ensures.2 ∙ ap head loaded))
+    grind (arith, common_steps, met_rests)
 
 pub invariant_of-b : goal.invariant_of-b
 invariant_of-b g c =
     let ib = c.b.invariant in
     let m : View = c.join.new.seat.me.0 in
-    let both : m ≡ view_after_join c.lift-first.result.me.0 c.lift-other.result.me.0 =
-    ap (λ m. m.0) c.join.ensures.2 in
+    let both : m ≡ view_after_join c.lift-first.result.me.0 c.lift-other.result.me.0 = grind (arith, common_steps) in
     let vb = ap (λ m. m.0) c.lift-other.ensures.1 in
     let loaded : c.compare.new.seat.me.0 ≡ view_after_compare m = ap (λ m. m.0) c.compare.ensures.2.0 in
     let from_b : the (tail m) ≡ the (top c.b.inside.badge.views) = ap (λ (v : View). the (tail v)) both ∙ ap the vb in
@@ -108,8 +97,7 @@ invariant_of-b g c =
 pub returns-clause-first_learns : goal.returns-clause-first_learns
 returns-clause-first_learns g c =
     let m : View = c.join.new.seat.me.0 in
-    let both : m ≡ view_after_join c.lift-first.result.me.0 c.lift-other.result.me.0 =
-    ap (λ m. m.0) c.join.ensures.2 in
+    let both : m ≡ view_after_join c.lift-first.result.me.0 c.lift-other.result.me.0 = grind (arith, common_steps) in
     let loaded : c.compare.new.seat.me.0 ≡ view_after_compare m = ap (λ m. m.0) c.compare.ensures.2.0 in
     has_learned (the m).seen (the (tail m)).seen _ _ _ c.compare.ensures.2.1
     (ap (λ (v : View). (the v).seen) both ∙ ap (λ m. (the m.0).seen) c.lift-first.ensures.1
@@ -122,8 +110,7 @@ returns-clause-first_learns g c =
 pub returns-clause-second_learns : goal.returns-clause-second_learns
 returns-clause-second_learns g c =
     let m : View = c.join.new.seat.me.0 in
-    let both : m ≡ view_after_join c.lift-first.result.me.0 c.lift-other.result.me.0 =
-    ap (λ m. m.0) c.join.ensures.2 in
+    let both : m ≡ view_after_join c.lift-first.result.me.0 c.lift-other.result.me.0 = grind (arith, common_steps) in
     let loaded : c.compare.new.seat.me.0 ≡ view_after_compare m = ap (λ m. m.0) c.compare.ensures.2.0 in
     has_learned (the m).seen (the (tail m)).seen _ _ _ c.compare.ensures.2.1
     (ap (λ (v : View). (the v).seen) both ∙ ap (λ m. (the m.0).seen) c.lift-first.ensures.1

@@ -1,37 +1,26 @@
 use Rattle.monk_history.proofs.PublicLaws.Meaning.{may_wait}
-use Rattle.monk_floor.specs.View.{monitor_of}
 use Rattle.monk_hall.proofs.active.Active.record_plain_wait.Goals as goal
 use Rattle.monk_hall.proofs.{Boxed.shown_apart, ReleaseChosen.wait_goes}
 use Rattle.monk_hall.proofs.ReleaseLaws.{has_cond, is_near, owns, waits}
+use Rattle.std.proofs.lemmas.Grind.{common_steps}
+use Rattle.std.proofs.Common.{arith}
 
 pub plain_wait-release-requires-clause-call : goal.plain_wait-release-requires-clause-call
 plain_wait-release-requires-clause-call g c κs within =
     let x = shown_apart c.deref_mut.ensures.shows c.of-release.ensures in
     let h = x.holds in
     let f = c.deref_mut.result.now in
-    may_wait (monitor_of g.K.Kind.rules g.T.Guarded.meaning f) f.history c.of-release.result.numbers.seat c.args.cond
-    (owns h) (is_near h)
-    (has_cond h c.args.cond c.args.self x.was c.requires.cond)
-    (c.requires.mode)
+    grind (arith, common_steps, may_wait, owns, is_near, has_cond)
 
 pub returns-clause-recorded : goal.returns-clause-recorded
 returns-clause-recorded g c =
     let x = shown_apart c.deref_mut.ensures.shows c.of-release.ensures in
     let h = x.holds in
     let call = c.plain_wait-release in
-    record {
-      before = c.deref_mut.result.now;
-      holds = h;
-      was = x.was;
-      release = waits h c.args.cond (has_cond h c.args.cond c.args.self x.was c.requires.cond)
-          (c.requires.mode)
-          c.args.pick c.args.known call.result call.new.self c.args.self x.was c.requires.left (c.requires.known)
-          call.ensures.choice call.ensures.grown;
-    }
+    grind (arith, common_steps, waits, has_cond)
 
 pub returns-clause-away : goal.returns-clause-away
 returns-clause-away g c =
     let f = c.deref_mut.result.now in
     let call = c.plain_wait-release in
-    wait_goes (monitor_of g.K.Kind.rules g.T.Guarded.meaning f) f.history c.of-release.result.numbers.seat c.args.cond
-    call.result call.ensures.grown.allowed
+    grind (arith, common_steps, wait_goes)

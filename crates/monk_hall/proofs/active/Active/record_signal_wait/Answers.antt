@@ -1,9 +1,10 @@
-use Rattle.std.proofs.Common.{ap}
+use Rattle.std.proofs.Common.{ap, arith}
 use Rattle.monk_hall.proofs.active.Active.record_signal_wait.Goals as goal
 use Rattle.monk_hall.proofs.{KindLaws.immediate, Boxed.shown_apart, ReleaseChosen.signal_wait_goes}
 use Rattle.monk_hall.proofs.ReleaseLaws.{has_cond, is_near, owns, signals_and_waits}
 use Rattle.monk_history.proofs.PublicLaws.Meaning.{may_signal_wait}
 use Rattle.monk_floor.specs.View.{monitor_of}
+use Rattle.std.proofs.lemmas.Grind.{common_steps}
 
 pub signal_wait-release-requires-clause-call : goal.signal_wait-release-requires-clause-call
 signal_wait-release-requires-clause-call g c κs within =
@@ -22,23 +23,10 @@ returns-clause-recorded g c =
     let x = shown_apart c.deref_mut.ensures.shows c.of-release.ensures in
     let h = x.holds in
     let call = c.signal_wait-release in
-    record {
-      before = c.deref_mut.result.now;
-      holds = h;
-      was = x.was;
-      release = signals_and_waits h c.args.cond c.args.wait_cond
-          (has_cond h c.args.cond c.args.self x.was c.requires.cond)
-          (has_cond h c.args.wait_cond c.args.self x.was c.requires.wait_cond)
-          (immediate g.K.Kind.rules g.K.Kind.MODE (ap (λ r. r.mode) g.K.Kind.are_rules)
-          (g.met.K.ImmediateReturn g.world.𝓛 g.world.𝓜 g.world.𝓡 ((λ s x. x), (λ x. x), (λ x. x), λ x. x)).mode)
-          c.args.pick c.args.known call.result call.new.self c.args.self x.was c.requires.left (c.requires.known)
-          call.ensures.choice call.ensures.grown;
-    }
+    grind (arith, common_steps, signals_and_waits, has_cond, immediate)
 
 pub returns-clause-away : goal.returns-clause-away
 returns-clause-away g c =
     let f = c.deref_mut.result.now in
     let call = c.signal_wait-release in
-    signal_wait_goes (monitor_of g.K.Kind.rules g.T.Guarded.meaning f) f.history c.of-release.result.numbers.seat
-    c.args.cond c.args.wait_cond
-    call.result call.ensures.grown.allowed
+    grind (arith, common_steps, signal_wait_goes)

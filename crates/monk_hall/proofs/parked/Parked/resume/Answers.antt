@@ -1,8 +1,9 @@
-use Rattle.std.proofs.Common.{refl, zero, suc, false, sym, ap, subst, ◌∙◌, ◌++◌, append-nil}
+use Rattle.std.proofs.Common.{refl, zero, suc, false, sym, ap, subst, ◌∙◌, ◌++◌, append-nil, arith}
 use Rattle.monk_hall.proofs.parked.Parked.resume.Goals as goal
 use Rattle.monk_hall.proofs.ResumeLaws.{entered_same, looks_again, comes_later}
 use Rattle.monk_hall.specs.{Deeds.look_at, Tokens.Token, declared.record.SeatRecord.SeatRecord}
 use Rattle.monk_hall.specs.Calls.{ComesAfter, HasEntered}
+use Rattle.std.proofs.lemmas.Grind.{common_steps}
 
 pub loop-init : goal.loop-init
 loop-init g c = (refl, (zero, λ i. record c.args.self.me { did = sym (append-nil c.args.self.me.did) i }))
@@ -27,8 +28,4 @@ returns-in-Ok g c =
     let seen = c.loop.invariant.1 in
     let came = subst (λ (p : Token). HasEntered g.K.Kind.rules g.T.Guarded.meaning p c.in-Ok.active
     × ComesAfter 0 p.me c.in-Ok.active.me) c.watch.ensures.0 c.in-Ok.ensures.active in
-    record {
-      entered = entered_same g.K.Kind.rules g.T.Guarded.meaning c.args.self c.loop.parked c.in-Ok.active _
-          c.loop.invariant.0 seen.1 came.0;
-      did = (seen.0, comes_later c.args.self.me c.loop.parked.me c.in-Ok.active.me seen.0 seen.1 came.1);
-    }
+    grind (arith, common_steps, entered_same, comes_later)

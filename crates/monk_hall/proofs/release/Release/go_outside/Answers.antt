@@ -1,12 +1,13 @@
-use Rattle.std.proofs.Common.{◌≡◌, ◌∷◌, [], List, refl, sym, ap, subst, ◌∙◌}
+use Rattle.std.proofs.Common.{◌≡◌, ◌∷◌, [], List, sym, ap, subst, ◌∙◌, arith}
 use Rattle.monk_history.specs.Meaning.Counts.{left_of}
 use Rattle.monk_floor.specs.View.{FloorView}
 use Rattle.monk_world.specs.declared.home.Home.TheVariants as home
-use Rattle.monk_world.specs.declared.{home.Home.Home, place.Place.TheVariants.Idle}
+use Rattle.monk_world.specs.declared.{home.Home.Home}
 use Rattle.monk_hall.proofs.release.Release.go_outside.Goals as goal
 use Rattle.monk_hall.{specs.Granting.granted_last, specs.Handing.HasGone, specs.Records.View, specs.Records.the}
 use Rattle.monk_hall.{specs.Tells.SeesTruly, specs.Tokens.IsResting, specs.Tokens.top, proofs.HandingLaws.gone_rests}
 use Rattle.monk_hall.{proofs.HandingLaws.home_is, proofs.ReleaseChosen.has_released, proofs.ReleaseLaws.released_of}
+use Rattle.std.proofs.lemmas.Grind.{common_steps}
 
 pub go_home-granted-requires-clause-released : goal.go_home-granted-requires-clause-released
 go_home-granted-requires-clause-released g c κs within = let x = c.requires.recorded.recorded in
@@ -27,14 +28,10 @@ invariant_of-pass g c =
     ∙ ap (λ (f : FloorView). left_of f.budget f.history c.args.self.numbers.seat) c.deref.ensures in
     let rests = gone_rests x rec.holds.seated left c.into_badge.result.table_id now.me
     (view.0 ∙ c.go_home-granted.ensures.table) gone c.go_home-granted.ensures.view in
-    let views : c.into_badge.result.views ≡ (the now.me.0 ∷ []) ∷ [] = view.2
-    ∙ ap (λ m. m.0 ∷ []) c.go_home-granted.ensures.view in
+    let views : c.into_badge.result.views ≡ (the now.me.0 ∷ []) ∷ [] = grind (arith, common_steps) in
     let has = subst (λ m. IsResting g.K.Kind.rules g.T.Guarded.meaning c.into_badge.result.table_id m
     c.args.self.numbers c.left-left.result) c.go_home-granted.ensures.view rests.0 in
-    subst (λ (vs : List View). (vs ≡ top vs ∷ [])
-    × IsResting g.K.Kind.rules g.T.Guarded.meaning c.into_badge.result.table_id (top vs, []) c.args.self.numbers
-    c.left-left.result × ((the (top vs)).place ≡ Idle)) (sym views)
-    (refl, has, rests.1)
+    grind (arith, common_steps)
 
 pub returns : goal.returns
 returns g c a call wish known rec =

@@ -1,9 +1,10 @@
-use Rattle.std.proofs.Common.{arith, ◌≡◌, ℕ, [], ◌∷◌, sym, ap, subst, ◌∙◌}
+use Rattle.std.proofs.Common.{arith, ◌≡◌, ℕ, sym, subst}
 use Rattle.atomic_table.specs.Table.{Allows}
 use Rattle.monk_hall.proofs.steps.grants.seat_grant.Goals as goal
 use Rattle.monk_hall.proofs.Reached.{calls_seat}
-use Rattle.monk_hall.specs.{Changes.record_after_grant, Records.the, Rule.setting_of, Schedules.IsReached}
-use Rattle.monk_hall.specs.{Tells.TellsCall, declared.deed.Deed.TheVariants.CallSeat}
+use Rattle.monk_hall.specs.{Rule.setting_of, Schedules.IsReached}
+use Rattle.monk_hall.specs.{Tells.TellsCall}
+use Rattle.std.proofs.lemmas.Grind.{common_steps}
 
 pub store-requires : goal.store-requires
 store-requires g c =
@@ -28,5 +29,4 @@ returns-clause-step g c =
     let told = c.store.ensures.2 in
     let due = c.requires.back.1 in
     let same : told.0 ≡ c.args.called = omega arith in
-    told.2
-    ∙ ap (λ (n : ℕ). (record_after_grant (the c.args.seat.now.me.0) (CallSeat n) ∷ [], c.args.seat.now.me.1)) same
+    grind (arith, common_steps)

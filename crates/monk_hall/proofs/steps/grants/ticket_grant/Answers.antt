@@ -5,6 +5,7 @@ use Rattle.monk_hall.proofs.steps.grants.ticket_grant.Goals as goal
 use Rattle.monk_hall.proofs.Reached.{grants_ticket}
 use Rattle.monk_hall.specs.{Changes.record_after_grant, Layout.place_word, Records.the, Rule.setting_of}
 use Rattle.monk_hall.specs.{Schedules.IsReached, Tells.TellsTicketGrant, declared.deed.Deed.TheVariants.GrantTicket}
+use Rattle.std.proofs.lemmas.Grind.{common_steps}
 
 pub store-requires : goal.store-requires
 store-requires g c =
@@ -14,8 +15,7 @@ store-requires g c =
     let seats : c.args.seats ≡ key.seats = c.requires.seats.0 in
     let some = c.requires.seats.1 in
     let low : c.args.number % c.args.seats < c.args.seats = mod-lt c.args.number some in
-    let next : ticket (the c.args.seat.now.me.0).place + 1 ≡ c.args.number + 1 =
-    ap (λ (n : ℕ). n + 1) (sym passing.2) in
+    let next : ticket (the c.args.seat.now.me.0).place + 1 ≡ c.args.number + 1 = grind (arith, common_steps) in
     let word : place_word (ticket (the c.args.seat.now.me.0).place % key.seats) ≡ c.ticket_word-place.result =
     sym (c.ticket_word-place.ensures ∙ (λ i. place_word (passing.2 i % seats i))) in (
       c.requires.table.0,
