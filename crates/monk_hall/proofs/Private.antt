@@ -68,8 +68,7 @@ more_kept k o s seats conds i q (e ∷ es) kept near active own legal room =
     one_kept k o s seats conds i q e kept near active own.0 (legal_front m (past ++ e ∷ []) es legal_all)
     (omega arith) in
     let long = ap length (own_event past e i own.0.seat) ∙ length-append (events_of past i) (e ∷ []) in
-    grind (
-      arith,
-      nat_tests,
-      more_kept k o (record s { floor = with_event s.floor e }) seats conds i q es one near active own.1 legal_all (omega arith),
-    )
+    let more =
+    more_kept k o (record s { floor = with_event s.floor e }) seats conds i q es one near active own.1 legal_all
+    (omega arith) in
+    grind (arith, nat_tests, more)

@@ -22,7 +22,7 @@ use Rattle.monk_history.specs.declared.event.Event.TheVariants.{Until}
 use Rattle.monk_history.specs.declared.event.Event.TheVariants.{Resume}
 use Rattle.monk_kinds.specs.declared.mode.{Pick.Pick, Rules.Rules}
 use Rattle.monk_object.specs.Object.{Object}
-use Rattle.monk_floor.specs.View.{FloorView, monitor_of}
+use Rattle.monk_floor.specs.View.{monitor_of}
 use Rattle.monk_world.specs.declared.home.Home.TheVariants as home
 use Rattle.monk_world.specs.StepTable.{out_event, queue_due}
 use Rattle.monk_hall.specs.{AfterCalls.MatchAfter, Changes.source_from, Tokens.Token, Tokens.Holder}
@@ -295,8 +295,7 @@ module _ (k : Rules) (o : Object) (p : ℕ) where
       → ((m : Monitor) (h : List Event) → IsLegal m h → StaysWhereItHolds m h) → Holds k o p b
   stayed_held w a peeks b t law =
       let m = monitor_of k o b.floor in
-      let is : b.floor.history ≡ a.floor.history ++ Until a.me.seat p Stay ∷ [] =
-      ap (λ (h : Holder). h.floor.history) t.is in
+      let is : b.floor.history ≡ a.floor.history ++ Until a.me.seat p Stay ∷ [] = grind (arith, nat_tests) in
       subst (λ h. o.holds (data_of m h) p ≡ true) (sym is)
       (stayed_holds a.me.seat p m a.floor.history (law m) (subst (IsLegal m) is t.legal))
 
@@ -307,10 +306,8 @@ module _ (k : Rules) (o : Object) (p : ℕ) where
       let m = monitor_of k o b.floor in let mid = e.starts.0 in let s = a.me.seat in
       let due = queue_due (turn b.me.seen) in
       let out = out_event q.me.seat (source_from q.me.place) (turn b.me.seen) in
-      let resumes_own : out ≡ Resume q.me.seat due =
-      (λ i. out_event q.me.seat (source_from (r.place i)) (turn b.me.seen)) in
-      let mine : b.floor.history ≡ (q.me.seen ++ mid) ++ Resume q.me.seat due ∷ [] =
-      ap (λ (f : FloorView). f.history) e.floor ∙ (λ i. e.starts.1 i ++ resumes_own i ∷ []) in
+      let resumes_own : out ≡ Resume q.me.seat due = grind (arith, nat_tests) in
+      let mine : b.floor.history ≡ (q.me.seen ++ mid) ++ Resume q.me.seat due ∷ [] = grind (arith, nat_tests) in
       let is : b.floor.history ≡ ((a.floor.history ++ Until s p r.choice ∷ []) ++ mid) ++ Resume s due ∷ [] =
       mine ∙ (λ i. (r.seen i ++ mid) ++ Resume (r.seat i) due ∷ []) in
       let all : length (events_of b.floor.history b.me.seat) ≡ length q.me.mine + 1 =

@@ -1,6 +1,6 @@
 -- What becomes of a hasty visit, try by try
 use Rattle.std.proofs.Common.{◌≡◌, ◌<◌, ℕ, suc, true, false, Result, Ok, Err, arith, Option, Some, [], ◌∷◌, ◌++◌, append_assoc}
-use Rattle.std.proofs.Common.{refl, sym, ap, subst, ◌∙◌}
+use Rattle.std.proofs.Common.{refl, ap, ◌∙◌}
 use Rattle.std.specs.Prelude.{IfOk, MatchResult}
 use Rattle.monk_kinds.specs.declared.mode.Rules.{Rules}
 use Rattle.monk_object.specs.Object.{Object}
@@ -89,8 +89,7 @@ module _ (k : Rules) (o : Object) where
   missed_then p m q v n s t =
       let seat = s.called.went.seat in let setting = s.called.went.setting in let last = t.are in
       let same = last.are ∙ ap (λ ds. ds ++ last.rest) last.is_first in
-      let miss : IsMiss k o m.me.setting m.me.seat v t.calls =
-      subst (IsMiss k o m.me.setting m.me.seat v) (sym same) last.is_rest in
+      let miss : IsMiss k o m.me.setting m.me.seat v t.calls = grind (arith, nat_tests) in
       record {
         calls = s.calls ++ t.calls;
         called = called_then (outside p) (outside m) (outside q) s.calls t.calls s.called t.called;

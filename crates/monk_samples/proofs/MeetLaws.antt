@@ -164,8 +164,7 @@ pub closed_begins : (h at seen before own : List Event) (e l : Event) (qs : List
     → StartsWith seen before → before ≡ own → All (λ p. StartsWith own p.me.seen) qs
     → All (λ p. StartsWith h p.me.seen) qs
 closed_begins h at seen before own e l qs closed came starts same all k d near =
-    let first : StartsWith h seen =
-    (e ∷ l ∷ [], closed ∙ ap (λ xs. xs ++ l ∷ []) came ∙ append_assoc seen (e ∷ []) (l ∷ [])) in
+    let first : StartsWith h seen = grind (arith, nat_tests, append_assoc) in
     starts_then _ own h (all k d near) (subst (λ xs. StartsWith h xs) same (starts_then before seen h starts first))
 
 pub nothing_done : (weight : Answered → ℕ) (s : ℕ) (x : Source) (t : Turn) (n : ℕ)

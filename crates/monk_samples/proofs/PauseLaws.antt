@@ -1,12 +1,11 @@
 -- What a member does inside until its operation is done: it pauses, and it acts or leaves
 use Rattle.std.proofs.Common.{◌≡◌, ℕ, false, cond, Option, Some, None, List, [], ◌∷◌, ◌++◌}
-use Rattle.std.proofs.Common.{◌<◌, ◌≤◌, refl, sym, ap, subst, ◌∙◌, inr, arith}
+use Rattle.std.proofs.Common.{◌≤◌, refl, sym, ap, subst, ◌∙◌, inr, arith}
 use Rattle.std.proofs.Common.{append_assoc}
 use Rattle.monk_kinds.specs.declared.mode.{Pick.TheVariants.Entry, Rules.Rules}
 use Rattle.monk_object.specs.{Object.Object, declared.op.Op.Op}
 use Rattle.monk_history.specs.{Meaning.Monitor.data_of, declared.event.Event.TheVariants.Act}
 use Rattle.monk_floor.specs.View.{monitor_of}
-use Rattle.monk_world.specs.State.{with_event}
 use Rattle.monk_hall.specs.{Calls.HasDone, Layout.floor_of, declared.setting.Setting.Setting}
 use Rattle.monk_hall.specs.Tokens.{Token, Holder}
 use Rattle.monk_samples.proofs.ShortLaws.{less_than, needs_two, short_yet}
@@ -120,12 +119,10 @@ module _ (k : Rules) (o : Object) where
     paused = refl;
     acts = record {
       is = refl;
-      replied = replied k o a a.me.seat op reply b done
-          ∙ ap (λ f. o.reply (data_of (monitor_of k o f) a.floor.history) op) floor;
+      replied = grind (arith, nat_tests, replied);
     };
     last = ap (λ (h : Holder). h.floor.history) done.is;
-    floor = ap (λ (h : Holder). h.floor) done.is ∙ ap (λ f. with_event f (Act a.me.seat op reply)) floor
-        ∙ ap (λ (h : Holder). floor_of a.me.setting h.floor.history) (sym done.is);
+    floor = grind (arith, nat_tests);
   }
 
   -- a seat that paused, and left instead of its next call
@@ -142,9 +139,7 @@ module _ (k : Rules) (o : Object) where
           are = refl;
           paused = s.paused;
           leaves = rw (seat, setting) at t.is;
-          short = short_yet k o w a.me.setting x.setting a.me.seat x.seat a.floor.history t.leave.before
-              setting seat (sym t.at)
-              (less_than _ _ _ t.short within);
+          short = grind (arith, nat_tests, short_yet, less_than);
         };
         spent = t.spent;
         told = t.told;
@@ -165,8 +160,7 @@ module _ (k : Rules) (o : Object) where
           paused_for_then x.setting x.seat w patient s.pauses t.are.pauses s.paused
           (rw (seat, setting) at t.are.paused);
       leaves = rw (seat, setting) at t.are.leaves;
-      short = short_yet k o w a.me.setting x.setting a.me.seat x.seat t.are.leave.before t.are.leave.before
-          setting seat refl t.are.short;
+      short = grind (arith, nat_tests, short_yet);
     };
     spent = t.spent;
     told = t.told;
@@ -185,9 +179,7 @@ module _ (k : Rules) (o : Object) where
       are = ap (λ ds. s.pauses ++ ds) (t.are.are ∙ ap (λ ds. ds ++ t.are.leave ∷ []) t.are.paused);
       paused = s.paused;
       leaves = rw (seat, setting) at t.are.leaves;
-      short = short_yet k o w a.me.setting x.setting a.me.seat x.seat t.are.leave.before t.are.leave.before
-          setting seat refl
-          (less_than _ _ _ t.are.short (needs_two k o a.me.setting w t.are.leave.before));
+      short = grind (arith, nat_tests, short_yet, less_than, needs_two);
     };
     spent = t.spent;
     told = t.told;
@@ -208,8 +200,7 @@ module _ (k : Rules) (o : Object) where
   acted_after x w op reply a b s t = let seat = s.called.went.seat in let setting = s.called.went.setting in record {
     pauses = s.pauses;
     act = t.act;
-    called = called_then x (inside a) (inside b) s.pauses (t.act ∷ []) s.called
-        (subst (λ ds. HasCalled (inside a) (inside b) (ds ++ t.act ∷ [])) t.paused t.called);
+    called = grind (arith, nat_tests, called_then);
     paused = s.paused;
     acts = rw (seat, setting) at t.acts;
     last = t.last;
@@ -224,6 +215,5 @@ module _ (k : Rules) (o : Object) where
   unfolding acted_after
   acted_looked x cond pred op reply a b promise s t replied = record {
     acted = acted_after x (Some (hasty_guard cond pred)) op reply a b s.paused t;
-    done = λ none. subst (λ (n : ℕ). 0 < n) (sym replied)
-        (promise (data_of (monitor_of k o a.floor) a.floor.history) (s.found none));
+    done = grind (arith, nat_tests, replied);
   }

@@ -138,6 +138,5 @@ module _ (k : Rules) (answers : ℕ → ℕ → Bool → Type 0) (seats rounds :
   shop_totals some m served size state law =
       let sits = sits_are some m served in let calls = calls_are some m served in
       let departs = departs_are some m served in
-      let finishes : times_done FINISH (acts_in h) ≡ (seats - 1) * rounds =
-      omega (arith, calls, departs, law.called, law.finished) in
+      let finishes : times_done FINISH (acts_in h) ≡ (seats - 1) * rounds = grind (arith, nat_tests) in
       λ i. sits i ∷ calls i ∷ finishes i ∷ departs i ∷ []

@@ -1,5 +1,5 @@
 -- What becomes of the calls of each style
-use Rattle.std.proofs.Common.{◌≡◌, ℕ, ◌+◌, ◌-◌, ◌<◌, ◌≤◌, cond, [], ◌∷◌, ◌++◌, length, length-append, eq-eqb, refl, sym, ap, subst}
+use Rattle.std.proofs.Common.{◌≡◌, ℕ, ◌+◌, ◌-◌, ◌<◌, ◌≤◌, [], ◌∷◌, ◌++◌, length, length-append, eq-eqb, refl, sym, ap, subst}
 use Rattle.std.proofs.Common.{◌∙◌, arith}
 use Rattle.monk_kinds.specs.declared.mode.{Mode.TheVariants.Automatic, Mode.TheVariants.ImmediateReturn, Rules.Rules}
 use Rattle.monk_kinds.specs.declared.mode.Pick.{Pick, TheVariants.Waiter}
@@ -16,6 +16,7 @@ use Rattle.monk_hall.specs.declared.after.After.{After, TheVariants.Active, TheV
 use Rattle.monk_samples.proofs.TrailLaws.{Releases, called_then, came, released, stayed}
 use Rattle.monk_samples.specs.{Asked.IsCall, Trails.Addition, Trails.HasCalled, Trails.inside, Trails.outside}
 use Rattle.monk_samples.specs.Styles.{HasPaused, HasGivenUp, HasGoneBy, way_out}
+use Rattle.std.proofs.lemmas.Bool.Decides.{nat_tests}
 
 -- the way out under an automatic kind, and under one whose signaller returns at once
 pub out_automatic : (k : Rules) (s c : ℕ) → k.mode ≡ Automatic → way_out k s c ≡ Leave s Stay ∷ []
@@ -86,10 +87,8 @@ module _ (k : Rules) (o : Object) where
       let all : length (events_of (a.floor.history ++ e ∷ []) s) ≡ length (a.me.mine ++ e ∷ []) =
       (λ i. length (events_of (sym r.seen i) (sym r.seat i))) ∙ ap length r.told.own ∙ ap length r.mine in
       let here : length (events_of (a.floor.history ++ e ∷ []) s) ≡ length (events_of a.floor.history s) + 1 =
-      length-events_of-push a.floor.history e s
-      ∙ ap (λ b. length (events_of a.floor.history s) + cond b 1 0) (eq-eqb s s refl) in
-      one_less (length (events_of a.floor.history s)) (length a.me.mine)
-      (sym here ∙ all ∙ length-append a.me.mine (e ∷ []))
+      grind (arith, nat_tests, length-events_of-push, eq-eqb) in
+      grind (arith, nat_tests, one_less, length-append)
 
   -- a seat that left with fewer events than it needs, which are at least one and at most three
   pub given_up : (a : Holder) (to : Home) (peeks : ℕ) (p : Token) (needed : ℕ)
@@ -105,9 +104,7 @@ module _ (k : Rules) (o : Object) where
         is = one.2;
         at = one.3;
         floor = r.floor;
-        spent = spent_by a.me.setting.budget p.me.setting.budget (length a.me.mine) (length p.me.mine) needed
-            (ap (λ s. s.budget) r.setting)
-            (ap length r.mine ∙ length-append a.me.mine (with_next r.choice (Leave a.me.seat Stay) ∷ [])) short few;
+        spent = grind (arith, nat_tests, spent_by, length-append);
         told = r.told;
       }
 

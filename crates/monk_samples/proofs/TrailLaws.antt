@@ -15,7 +15,7 @@ use Rattle.monk_world.specs.declared.home.Home.{Home}
 use Rattle.monk_hall.specs.{Changes.source_from, Floors.StartsWith, Layout.floor_of, Tokens.Token, Tokens.Holder}
 use Rattle.monk_hall.specs.Calls.{HasArrived, HasEntered, HasReleased, HasStayed, HasDone, is_entry_known}
 use Rattle.monk_samples.specs.Asked.{IsCall}
-use Rattle.monk_samples.specs.Trails.{Trail, Addition, Went, HasCalled, AreBetween, after, call_in, calls_in, events_in}
+use Rattle.monk_samples.specs.Trails.{Trail, Addition, Went, HasCalled, AreBetween, after, call_in, calls_in}
 use Rattle.monk_samples.specs.Trails.{inside, outside, is_coming}
 use Rattle.std.proofs.lemmas.Bool.Decides.{nat_tests}
 use Rattle.std.proofs.Common.{arith}
@@ -45,8 +45,7 @@ went_then x y z a b s t = record {
   seat = t.seat ∙ s.seat;
   setting = t.setting ∙ s.setting;
   seen = between_then x.seen y.seen z.seen a b s.seen t.seen;
-  mine = t.mine ∙ ap (λ h. h ++ events_in b) s.mine ∙ append_assoc x.mine (events_in a) (events_in b)
-      ∙ ap (λ es. x.mine ++ es) (sym (map-append (λ (d : Addition). d.event) a b));
+  mine = grind (arith, nat_tests, append_assoc, map-append);
 }
 
 pub called_none : (x : Trail) → HasCalled x x []

@@ -16,7 +16,7 @@ use Rattle.monk_samples.specs.Visits.{Guard, Plan, ArePauses, HasPausedFor, IsCe
 use Rattle.monk_samples.specs.Visits.{IsTried, IsVisitTo, Misses, MissesIn, wish_in, wish_of, IsUnready, AreVisits}
 use Rattle.monk_samples.specs.Visits.{HasVisited, HasTired, HasActed, WayOut, Signals}
 use Rattle.monk_samples.specs.Visits.{calls_out}
-use Rattle.monk_samples.specs.Trails.{Addition, Trail, after, events_in, inside, outside}
+use Rattle.monk_samples.specs.Trails.{Addition, Trail, events_in, inside, outside}
 use Rattle.monk_samples.specs.Asked.{AreCalls, IsCall}
 use Rattle.monk_samples.specs.declared.end.End.{End, TheVariants.Done, TheVariants.Tired, TheVariants.Late}
 use Rattle.monk_samples.specs.declared.manner.Manner.{Manner, TheVariants.Patient, TheVariants.Hasty}
@@ -166,9 +166,7 @@ module _ (k : Rules) (o : Object) where
             are = append_assoc s.pauses (s.act ∷ []) (d ∷ []);
             done = record { paused = s.paused; reply = reply; acts = s.acts; certain = certain };
             leaves = rw (seat, setting) at out.is;
-            short = short_out k o v.goes_out a.me.setting p.me.setting a.me.seat p.me.seat a.floor.history
-                d.before (after s.act)
-                setting seat (sym out.at) s.last out.short;
+            short = grind (arith, nat_tests, short_out);
           };
           spent = λ e. out.spent;
           told = out.told;

@@ -29,8 +29,7 @@ module _ {X : Type 0} (g : X → ℕ) (at : ℕ → X) (i : ℕ) (x : X) where
       in omega (arith, same, sum_update n k))
       (λ k.
       let e : i ≡ n = omega arith in
-      let here : g (update at i x n) ≡ g x =
-      subst (λ (m : ℕ). g (update at i x m) ≡ g x) e (ap g (update_here at i x)) in
+      let here : g (update at i x n) ≡ g x = grind (arith, nat_tests, update_here) in
       let old : g (at i) ≡ g (at n) = ap (λ (m : ℕ). g (at m)) e in
       omega (arith, here, old, sum_past n (omega arith)))
       (cases_lt i n)
@@ -104,13 +103,7 @@ module _ (s : State) (b : IsBounded s) where
     few = b.few;
     low = b.low;
     within = λ j. elim (eqb_tells j i) [
-      | inl h ↦
-          let own : length (events_of (s.floor.history ++ e ∷ []) j) ≡ length (events_of s.floor.history j) + 1 =
-          subst (λ (m : ℕ). length (events_of (s.floor.history ++ e ∷ []) m) ≡ length (events_of s.floor.history m) + 1)
-          (seat ∙ sym h.1) (own_more e) in
-          let same : length (events_of s.floor.history j) ≡ length (events_of s.floor.history i) =
-          ap (λ (m : ℕ). length (events_of s.floor.history m)) h.1 in
-          omega (arith, own, same, left)
+      | inl h ↦ grind (arith, nat_tests, own_more)
       | inr h ↦ omega (arith, b.within j, one_more e j (λ z. h.1 (z ∙ seat)))
     ];
     outside = λ j l. one_more e j (λ z. omega (arith, seat, z)) ∙ b.outside j l;

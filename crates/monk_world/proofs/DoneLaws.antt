@@ -19,7 +19,7 @@ use Rattle.monk_world.specs.{Places.place_of, Update.update, Right.Whereabouts, 
 use Rattle.monk_world.specs.StepTable.{call_of, is_call_in_range, is_call_offered, may_be_told, left_for, refusal}
 use Rattle.monk_world.specs.StepTable.{release_next, out_event, IsDone, IsAnswered}
 use Rattle.monk_world.specs.Steps.{place_after_arrive, place_after_ticket_look, place_after_seat_look}
-use Rattle.monk_world.specs.Steps.{count_after_seat_look, place_after_drop, after_arrive, after_ticket_look}
+use Rattle.monk_world.specs.Steps.{count_after_seat_look, place_after_drop, after_arrive}
 use Rattle.monk_world.specs.Steps.{after_seat_look, after_floor_out, after_floor_in, after_drop, after_ticket_grant}
 use Rattle.monk_world.specs.Steps.{after_seat_grant}
 use Rattle.monk_world.specs.declared.{answer.Answer.Answer, command.Command.Command, home.Home.Home}
@@ -81,10 +81,7 @@ module _ (k : Rules) (o : Object) (s : State) (right : Whereabouts) (owner : ℕ
       (count_stays s b i (place_after_arrive s.world.drawn s.world.unpassed) (ap comes_back at)))
   bounded_done command.Look a t (Ticket n) at left d =
       let found = s.world.ticket_place (n % s.floor.seats) == n + 1 in
-      subst IsBounded (sym d.1)
-      (bounded_words s b i near (after_ticket_look s.world i n found) s.known (place_after_ticket_look n found) refl
-      (omega (arith, ap comes_in at, looks_in found n))
-      (count_stays s b i (place_after_ticket_look n found) (ap comes_back at)))
+      grind (arith, nat_tests, bounded_words, looks_in, count_stays)
   bounded_done command.Look a t Inner at left d =
       let found = s.world.seat_place i == s.world.count i + 1 in
       subst IsBounded (sym d.1) (bounded_words s b i near (after_seat_look s.world i found) s.known

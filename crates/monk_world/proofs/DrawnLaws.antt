@@ -5,14 +5,14 @@ use Rattle.std.specs.Prelude.{Some, nat_lt, ◌&&◌, if◌then◌else◌}
 use Rattle.monk_kinds.specs.declared.mode.Rules.{Rules}
 use Rattle.monk_object.specs.Object.{Object}
 use Rattle.monk_history.specs.declared.event.Next.TheVariants as next
-use Rattle.monk_history.specs.Meaning.{Counts.enters_of, Counts.left_of, Events.is_stay}
+use Rattle.monk_history.specs.Meaning.{Counts.enters_of, Events.is_stay}
 use Rattle.monk_history.specs.declared.event.{Next.Next, Via.Via}
 use Rattle.monk_world.specs.declared.answer.Answer.TheVariants as answer
 use Rattle.monk_world.specs.declared.command.Command.TheVariants as command
 use Rattle.monk_world.specs.declared.home.Home.TheVariants as home
 use Rattle.monk_world.proofs.{UpdateLaws.at_update, RecordLaws.refused_or_done}
 use Rattle.monk_world.specs.{Places.place_of, Update.update, Runs.opening_state, State.State, World.World}
-use Rattle.monk_world.specs.StepTable.{call_of, is_call_in_range, is_call_offered, may_be_told, left_for, IsDone}
+use Rattle.monk_world.specs.StepTable.{call_of, is_call_in_range, IsDone}
 use Rattle.monk_world.specs.StepTable.{IsStep}
 use Rattle.monk_world.specs.Records.{Recorded, EntersWith, IsRecorded, HasDrawn, TicketsEnterInOrder}
 use Rattle.monk_world.specs.Steps.{place_after_arrive, place_after_ticket_look, place_after_seat_look, place_after_drop}
@@ -137,11 +137,7 @@ module _ (k : Rules) (o : Object) (s : State) (i j n : ℕ) where
   stepped : (c : Command) (a : Answer) (t : State) → IsStep k o s i c a t → HasTicket n (t.world.place j) → Before a
   stepped c a t step has =
       let reach = nat_lt i s.floor.seats && is_call_in_range o s.floor (call_of i c) in
-      elim (refused_or_done k o s i c a t reach (is_call_offered k (call_of i c)) (may_be_told (s.world.place i) c)
-      (nat_lt (left_of s.floor.budget s.floor.history i) (left_for c)) step) [
-        | inl r ↦ unmoved a t (ap (λ (u : State). u.world) r.1.2) has
-        | inr d ↦ done c a t (s.world.place i) refl d has
-      ]
+      grind (arith, nat_tests, refused_or_done, unmoved, done)
 
 -- ---- all steps
 
@@ -169,8 +165,7 @@ drawn_in k o s (x ∷ xs) t r past all j n has =
       | inl h ↦ drawn_before m t past (x ∷ []) (all m t h)
       | inr h ↦ drawn_last m t past x h
     ] in
-    subst (λ (steps : List Recorded). HasDrawn j n steps) (append_assoc past (x ∷ []) xs)
-    (drawn_in k o r.0 xs t r.2 (past ++ x ∷ []) more j n has)
+    grind (arith, nat_tests, append_assoc, drawn_in k o r.0 xs t r.2 (past ++ x ∷ []) more j n has)
 
 pub tickets_enter_in_order : TicketsEnterInOrder
 tickets_enter_in_order k o opening seats conds budget before s x t v kind r taken is =

@@ -54,8 +54,7 @@ module _ (seats : ℕ) (s : World) (right : Whereabouts) (owner : ℕ → ℕ) (
             (λ j _. f.in_queue j);
         free = λ e. absurd (omega arith);
         still_free = at_update s.place i p (StillFree quiet) (λ _ _. f.free none) (λ j _. f.still_free j);
-        back_to_entry = at_update s.place i p (ToEntry quiet (s.unpassed + 1)) (λ a. absurd (omega arith))
-            (λ j _ a e. weaker quiet s.unpassed (f.back_to_entry j a e));
+        back_to_entry = grind (arith, nat_tests, at_update, weaker);
       }
 
   pub arrives_behind : s.place i ≡ Idle
@@ -73,8 +72,7 @@ module _ (seats : ℕ) (s : World) (right : Whereabouts) (owner : ℕ → ℕ) (
             (λ j _. f.in_queue j);
         free = λ e. absurd (omega arith);
         still_free = at_update s.place i p (StillFree quiet) (λ a. absurd (omega arith)) (λ j _. f.still_free j);
-        back_to_entry = at_update s.place i p (ToEntry quiet (s.unpassed + 1)) (λ a. absurd (omega arith))
-            (λ j _ a e. weaker quiet s.unpassed (f.back_to_entry j a e));
+        back_to_entry = grind (arith, nat_tests, at_update, weaker);
       }
 
   pub takes_grant : (t : ℕ) → s.place i ≡ Ticket t
@@ -131,25 +129,7 @@ module _ (seats : ℕ) (s : World) (right : Whereabouts) (owner : ℕ → ℕ) (
       → FitsQueues (after_floor_out s i q) queued_new quiet_new
   comes_out q queued_new quiet_new due alike =
       let two : stage (s.place i) ≡ due_stage = stage_of (Due q) due in
-      holder (Active q) queued_new quiet_new (omega arith) (omega arith) (inl refl) alike (λ ne. absurd (ne refl))
-      (λ a. absurd (omega arith))
-
-  pub stays_active : (q : Source) (queued_new : ℕ → Bool) (quiet_new : Bool) → s.place i ≡ Active q
-      → ((j : ℕ) → j ≢ i → queued_new j ≡ queued j)
-      → FitsQueues s queued_new quiet_new
-  stays_active q queued_new quiet_new active alike =
-      let three : stage (s.place i) ≡ active_stage = stage_of (Active q) active in
-      let none : (j : ℕ) → j ≢ i → due_stage ≤ stage (s.place j) → stage (s.place j) ≤ passing_stage → ⊥ =
-      others seats s right owner r i (omega arith) (omega arith) in
-      let mine = held r i (omega arith) (omega arith) in
-      let apart : (j : ℕ) → stage (s.place j) ≢ active_stage
-      → j ≢ i = λ j ne e. ne (ap (λ (k : ℕ). stage (s.place k)) e ∙ three) in
-      record {
-        in_queue = λ j ne. alike j (apart j ne) ∙ f.in_queue j ne;
-        free = λ e. absurd (let a = r.holder.free.0 e in cc);
-        still_free = λ j a. absurd (none j (apart j (λ e. omega arith)) (omega arith) (omega arith));
-        back_to_entry = λ j a. absurd (none j (apart j (λ e. omega arith)) (omega arith) (omega arith));
-      }
+      grind (arith, nat_tests, holder)
 
   pub goes_home : (q : Source) (next : Next) (home : Home) (queued_new : ℕ → Bool) (quiet_new : Bool)
       → s.place i ≡ Active q → ((j : ℕ) → j ≢ i → queued_new j ≡ queued j)
@@ -183,8 +163,7 @@ module _ (seats : ℕ) (s : World) (right : Whereabouts) (owner : ℕ → ℕ) (
   drops_last home back one =
       let four : stage (s.place i) ≡ back_stage = stage_of (Back Entry home) back in
       let entry : back_turn (s.place i) ≡ open_turn = ap back_turn back in
-      given (s.unpassed - 1) home (queued_here (Back Entry home) back (λ e. omega arith))
-      (λ _. sure quiet s.unpassed one (f.back_to_entry i four entry)) (omega arith) (omega arith)
+      grind (arith, nat_tests, given, queued_here, sure)
 
   pub drops_more : (t : ℕ) (home : Home) → s.place i ≡ Back Entry home → s.unpassed ≢ 1
       → FitsQueues (record s { unpassed = s.unpassed - 1; place = update s.place i (Passing t home) }) queued quiet

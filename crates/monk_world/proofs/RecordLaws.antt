@@ -30,7 +30,6 @@ use Rattle.monk_world.specs.StepTable.{call_of, command_version, is_call_in_rang
 use Rattle.monk_world.specs.StepTable.{left_for, out_event, release_next, IsReleased, IsDone, IsAnswered, IsStep}
 use Rattle.monk_world.specs.Records.{Recorded, IsOwn, EntersWith, IsTaken, IsRecorded, recorded_by, recorded_command}
 use Rattle.monk_world.specs.Records.{are_in_version, IsRecordedBy, KeepsVersion, StepsAreTaken, RunsAreRecorded}
-use Rattle.monk_world.specs.Places.{stage, back_turn}
 use Rattle.monk_world.specs.declared.{answer.Answer.Answer, command.Command.Command, home.Home.Home}
 use Rattle.monk_world.specs.declared.place.Place.{Place}
 use Rattle.monk_world.specs.declared.place.Place.TheVariants.{Idle, Ticket, Due, Active, Back, Passing, Inner}
@@ -131,15 +130,11 @@ module _ (k : Rules) (o : Object) (s : State) (kind : IsKind k) (h : Sound k o s
       ⊎ (2 ≤ s.world.unpassed)
   entry_waits c a t step x to is world_is =
       let after = step_is_sound k o s i c a t kind h step in
-      let went : t.world ≡ after_floor_in s.world i next.Entry to =
-      world_is ∙ ap (λ (y : Next). if is_stay (Some y) then s.world else after_floor_in s.world i y to) is in
+      let went : t.world ≡ after_floor_in s.world i next.Entry to = grind (arith, nat_tests) in
       let place : t.world.place i ≡ Back next.Entry to = ap (λ (w : World). w.place i) went
       ∙ update_here s.world.place i (Back next.Entry to) in
       let unpassed : t.world.unpassed ≡ s.world.unpassed = ap (λ (w : World). w.unpassed) went in
-      elim (after.is_sound.stands.fits_queues.back_to_entry i (ap stage place) (ap back_turn place)) [
-        | inl quiet ↦ inl quiet
-        | inr two ↦ inr (omega arith)
-      ]
+      grind (arith, nat_tests)
 
   released : (c : Command) (a : Answer) (t : State) → IsStep k o s i c a t → (e : Event) (pick : Pick) (to : Home)
       → IsRelease e i to → ((x : Next) → first_version (with_next x e) ≤ command_version c)
@@ -155,12 +150,10 @@ module _ (k : Rules) (o : Object) (s : State) (kind : IsKind k) (h : Sound k o s
       → EntersWith (s.world.place i) v (enters_of s.floor.history)
   enters_so (Free t) u at v is =
       let by : v ≡ via.Free = cc in
-      subst (λ (p : Place). EntersWith p v (enters_of s.floor.history)) (sym at)
-      (by, sym ((well_led k o s h.right h.owner h.is_sound).enters_first i t at))
+      grind (arith, nat_tests, well_led)
   enters_so (Granted t) u at v is =
       let by : v ≡ via.Handed = cc in
-      subst (λ (p : Place). EntersWith p v (enters_of s.floor.history)) (sym at)
-      (by, sym ((well_led k o s h.right h.owner h.is_sound).enters_next i t at))
+      grind (arith, nat_tests, well_led)
   enters_so Called u at v is = absurd cc
 
   done : (c : Command) (a : Answer) (t : State) (p : Place) → IsStep k o s i c a t → s.world.place i ≡ p
@@ -246,8 +239,7 @@ own_events k o s [] t r j = ap (λ (u : State). events_of u.floor.history j) r
 own_events k o s (x ∷ xs) t r j =
     let u = r.0 in
     let here : events_of u.floor.history j ≡ events_of s.floor.history j ++ cond (x.told.seat == j) x.events [] =
-    ap (λ (f : FloorView). events_of f.history j) r.1.grows ∙ (events_of-append s.floor.history x.events j
-    ∙ ap (λ es. events_of s.floor.history j ++ es) (own_are x.told.seat j x.events r.1.own)) in
+    grind (arith, nat_tests, events_of-append, own_are) in
     own_events k o u xs t r.2 j ∙ (ap (λ es. es ++ recorded_by j xs) here
     ∙ append_assoc (events_of s.floor.history j) (cond (x.told.seat == j) x.events []) (recorded_by j xs))
 
@@ -307,12 +299,7 @@ same_monitor k o s [] t r = record {
 same_monitor k o s (x ∷ xs) t r =
     let one = r.1.grows in
     let more = same_monitor k o r.0 xs t r.2 in
-    record {
-      opening = more.opening ∙ ap (λ (f : FloorView). f.opening) one;
-      seats = more.seats ∙ ap (λ (f : FloorView). f.seats) one;
-      conds = more.conds ∙ ap (λ (f : FloorView). f.conds) one;
-      budget = more.budget ∙ ap (λ (f : FloorView). f.budget) one;
-    }
+    grind (arith, nat_tests)
 
 pub steps_are_taken : StepsAreTaken
 steps_are_taken k o s i c a t kind h step = taken k o s kind h i c a t step

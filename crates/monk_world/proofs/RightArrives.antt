@@ -1,5 +1,5 @@
 -- A seat that draws a ticket has the right if the monitor was free, and otherwise waits
-use Rattle.std.proofs.Common.{◌≡◌, ◌≢◌, ℕ, ◌+◌, ◌<◌, ◌≤◌, ◌↔◌, sym, refl, ap, ◌∙◌, subst, arith}
+use Rattle.std.proofs.Common.{◌≡◌, ◌≢◌, ℕ, ◌+◌, ◌≤◌, ◌↔◌, ap, ◌∙◌, arith}
 use Rattle.monk_world.proofs.Holders.{held, holds, alone_with, waiter_stays, other_stage}
 use Rattle.monk_world.proofs.UpdateLaws.{at_update, update_here, update_else, all_back}
 use Rattle.monk_world.specs.{Update.update, World.World}
@@ -9,6 +9,7 @@ use Rattle.monk_world.specs.Right.{Whereabouts, With, KeepsRight, UsesTicket, Ch
 use Rattle.monk_world.specs.Right.{WasGranted, LeavesLow}
 use Rattle.monk_world.specs.declared.place.Place.{Place, TheVariants.Ticket, TheVariants.Due}
 use Rattle.monk_world.specs.declared.source.Source.TheVariants.{Free}
+use Rattle.std.proofs.lemmas.Bool.Decides.{nat_tests}
 
 module _ (seats : ℕ) (s : World) (right : Whereabouts) (owner : ℕ → ℕ) (r : KeepsRight seats s right owner)
     (i : ℕ) where
@@ -24,8 +25,7 @@ module _ (seats : ℕ) (s : World) (right : Whereabouts) (owner : ℕ → ℕ) (
       let free = r.holder.free.0 none in
       let nobody : (j : ℕ) → due_stage ≤ stage (s.place j) → stage (s.place j) ≤ passing_stage
       → ⊥ = λ j a b. let h = held r j a b in cc in
-      let alone : (j : ℕ) → stage (s.place j) ≡ ticketed_stage → ⊥ = λ j h. let a = r.tickets.waits j h in let b = a.0
-      in let d = a.1 in omega arith in
+      let alone : (j : ℕ) → stage (s.place j) ≡ ticketed_stage → ⊥ = grind (arith, nat_tests) in
       record {
         holder = record {
           free = ((λ e. absurd (omega arith)), (λ e. absurd cc));
@@ -48,8 +48,7 @@ module _ (seats : ℕ) (s : World) (right : Whereabouts) (owner : ℕ → ℕ) (
         places = record {
           granted = λ t e. absurd cc;
           low = λ p h. let a = r.places.low_free none p h in omega arith;
-          low_passing = at_update s.place i to (λ _. LeavesLow seats (s.drawn + 1) (s.unpassed + 1) s.ticket_place)
-              (λ a. absurd (omega arith)) (λ j _ a. absurd (nobody j (omega arith) (omega arith)));
+          low_passing = grind (arith, nat_tests, at_update);
           low_free = λ e. absurd (omega arith);
         };
         calls = record {
@@ -73,9 +72,7 @@ module _ (seats : ℕ) (s : World) (right : Whereabouts) (owner : ℕ → ℕ) (
       let keeps : (k : ℕ) → Waits s.place owner k → Waits (update s.place i to) owner k =
       λ k h. waiter_stays seats s right owner r i to k (λ e. omega arith) h in
       let moves : (k : ℕ) → k ≢ s.drawn → Waits s.place owner k → Waits (update s.place i to) owners k =
-      λ k ne h. subst (λ (j : ℕ). (stage (update s.place i to j) ≡ ticketed_stage)
-      × (ticket (update s.place i to j) ≡ k))
-      (sym (update_else owner s.drawn i k ne)) (keeps k h) in
+      grind (arith, nat_tests, update_else) in
       let stays : (j : ℕ) → stage (s.place j) ≡ inside_stage → stage (update s.place i to j) ≡ inside_stage =
       λ j six. ap stage (update_else s.place i to j (other_stage s.place i j (λ e. omega arith))) ∙ six in
       record {
@@ -89,15 +86,8 @@ module _ (seats : ℕ) (s : World) (right : Whereabouts) (owner : ℕ → ℕ) (
           behind = let a = r.tickets.behind in omega arith;
           in_use = at_update s.place i to (λ _. UsesTicket (s.drawn + 1) (s.unpassed + 1)) (λ a. absurd (omega arith))
               (λ j _ a b. let d = r.tickets.in_use j a b in omega arith);
-          waits = at_update s.place i to (OwnsTicket (s.drawn + 1) (s.unpassed + 1) owners)
-              (λ _. (omega arith, omega arith, update_here owner s.drawn i))
-              (λ j _ a. let b = r.tickets.waits j a in let c = b.0 in let d = b.1 in
-              (omega arith, omega arith, update_else owner s.drawn i (ticket (s.place j)) (λ e. omega arith) ∙ b.2));
-          owned = at_update owner s.drawn i (λ k j. k < s.drawn + 1 → s.drawn + 1 < k + (s.unpassed + 1)
-              → (stage (update s.place i to j) ≡ ticketed_stage) × (ticket (update s.place i to j) ≡ k))
-              (λ _ _. subst (λ (y : Place). (stage y ≡ ticketed_stage) × (ticket y ≡ s.drawn))
-              (sym (update_here s.place i to)) (refl, refl))
-              (λ k other a b. let lower : k < s.drawn = omega arith in keeps k (r.tickets.owned k lower (omega arith)));
+          waits = grind (arith, nat_tests, at_update, update_here, update_else);
+          owned = grind (arith, nat_tests, at_update, update_here);
           passing = at_update s.place i to (λ _. PassesNext (s.drawn + 1) (s.unpassed + 1) (update s.place i to) owners)
               (λ a. absurd (omega arith))
               (λ j _ a. let p = r.tickets.passing j a in let sum = p.0 in

@@ -5,7 +5,7 @@ use Rattle.monk_world.proofs.UpdateLaws.{at_update, update_here}
 use Rattle.monk_world.specs.{Update.update, World.World}
 use Rattle.monk_world.specs.Places.{stage, ticket, place_of, ticketed_stage, due_stage, back_stage, passing_stage}
 use Rattle.monk_world.specs.Right.{Whereabouts, Nowhere, With, KeepsRight, UsesTicket, ChoseInner, PassesNext}
-use Rattle.monk_world.specs.Right.{OwnsTicket, WasGranted, LeavesLow}
+use Rattle.monk_world.specs.Right.{OwnsTicket, WasGranted}
 use Rattle.monk_world.specs.declared.{home.Home.Home, place.Place.Place, place.Place.TheVariants.Passing}
 use Rattle.std.proofs.lemmas.Bool.Decides.{nat_tests}
 
@@ -25,8 +25,7 @@ module _ (seats : ℕ) (s : World) (right : Whereabouts) (owner : ℕ → ℕ) (
       let five = nobody_passes back in
       let n = s.unpassed - 1 in
       let zero : n ≡ 0 = omega arith in
-      let alone : (j : ℕ) → stage (s.place j) ≡ ticketed_stage → ⊥ = λ j h. let a = r.tickets.waits j h in let b = a.0
-      in let c = a.1 in let d = r.tickets.granted j h (omega arith) five in cc in
+      let alone : (j : ℕ) → stage (s.place j) ≡ ticketed_stage → ⊥ = grind (arith, nat_tests) in
       record {
         holder = record {
           free = ((λ _. refl), (λ _. zero));
@@ -49,8 +48,7 @@ module _ (seats : ℕ) (s : World) (right : Whereabouts) (owner : ℕ → ℕ) (
         places = record {
           granted = λ t e. absurd cc;
           low = λ p h. let a = r.places.low p h in omega arith;
-          low_passing = at_update s.place i to (λ _. LeavesLow seats s.drawn n s.ticket_place)
-              (λ a. absurd (at_home home passing_stage (omega arith) (omega arith) a)) (λ j _ a. absurd (five j a));
+          low_passing = grind (arith, nat_tests, at_update, at_home);
           low_free = λ _ p h. let a = r.places.low p h in omega arith;
         };
         calls = record {

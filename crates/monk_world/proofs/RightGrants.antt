@@ -1,5 +1,5 @@
 -- A seat hands the right on: it grants the next ticket, or calls the seat that it chose
-use Rattle.std.proofs.Common.{◌≡◌, ◌≢◌, ℕ, ◌+◌, ◌%◌, ◌<◌, ◌≤◌, refl, ap, ◌∙◌, subst, arith}
+use Rattle.std.proofs.Common.{◌≡◌, ◌≢◌, ℕ, ◌+◌, ◌%◌, ◌<◌, ◌≤◌, refl, ap, subst, arith}
 use Rattle.monk_world.proofs.Holders.{held, with_none, home_has_none, at_home, waiter_stays, others, other_stage}
 use Rattle.monk_world.proofs.UpdateLaws.{at_update, update_here, update_else, all_back}
 use Rattle.monk_world.specs.{Update.update, World.World, declared.home.Home.Home, declared.place.Place.Place}
@@ -8,6 +8,7 @@ use Rattle.monk_world.specs.Places.{inside_stage, ticketed_stage}
 use Rattle.monk_world.specs.Steps.{after_ticket_grant, after_seat_grant}
 use Rattle.monk_world.specs.Right.{Whereabouts, AtTicket, AtSeat, KeepsRight, IsNext, UsesTicket, ChoseInner, Waits}
 use Rattle.monk_world.specs.Right.{PassesNext, OwnsTicket, WasGranted, LeavesLow}
+use Rattle.std.proofs.lemmas.Bool.Decides.{nat_tests}
 
 module _ (seats : ℕ) (s : World) (right : Whereabouts) (owner : ℕ → ℕ) (r : KeepsRight seats s right owner)
     (i : ℕ) where
@@ -46,8 +47,7 @@ module _ (seats : ℕ) (s : World) (right : Whereabouts) (owner : ℕ → ℕ) (
               (sum, waiter_stays seats s right owner r i to T (λ z. omega arith) next.1);
         };
         places = record {
-          granted = λ t e. let is : T ≡ t = cc in
-              subst (λ (z : ℕ). ps (z % seats) ≡ z + 1) is (update_here s.ticket_place p (T + 1));
+          granted = grind (arith, nat_tests, update_here);
           low = at_update s.ticket_place p (T + 1) (λ q x. q < seats → x + s.unpassed ≤ s.drawn + 1) (λ _. omega arith)
               (λ q _. r.places.low q);
           low_passing = at_update s.place i to (λ _. LeavesLow seats s.drawn s.unpassed ps)
@@ -105,13 +105,7 @@ module _ (seats : ℕ) (s : World) (right : Whereabouts) (owner : ℕ → ℕ) (
           low_free = r.places.low_free;
         };
         calls = record {
-          called = λ j e. let same_seat : k ≡ j = cc in
-              subst (λ (m : ℕ). (stage (update s.place i to m) ≡ inside_stage)
-              × (update s.seat_place k (s.seat_place k + 1) m ≡ s.count m + 1)) same_seat (
-                ap stage (update_else s.place i to k apart) ∙ six,
-                update_here s.seat_place k (s.seat_place k + 1)
-                    ∙ ap (λ (m : ℕ). m + 1) (r.calls.not_called k (λ e. cc)),
-              );
+          called = grind (arith, nat_tests, update_else, update_here);
           not_called = at_update s.seat_place k (s.seat_place k + 1) (λ j x. AtSeat k ≢ AtSeat j → x ≡ s.count j)
               (λ ne. absurd (ne refl)) (λ j ne _. r.calls.not_called j (λ e. cc));
           chose = at_update s.place i to (λ _. ChoseInner (update s.place i to))

@@ -1,5 +1,5 @@
 -- A seat that looks finds the right only where it is, and takes it
-use Rattle.std.proofs.Common.{◌≡◌, ◌≢◌, ℕ, true, ◌+◌, ◌%◌, ◌<◌, ◌≤◌, sym, ap, ◌∙◌, subst, arith}
+use Rattle.std.proofs.Common.{◌≡◌, ◌≢◌, ℕ, true, ◌+◌, ◌%◌, ◌<◌, ◌≤◌, sym, ap, ◌∙◌, arith}
 use Rattle.monk_world.proofs.Holders.{held, alone_with, waiter_stays}
 use Rattle.monk_world.proofs.UpdateLaws.{at_update, update_else, all_back}
 use Rattle.monk_world.specs.{Update.update, Steps.after_ticket_look, Steps.after_seat_look, World.World}
@@ -44,11 +44,7 @@ module _ (seats : ℕ) (s : World) (right : Whereabouts) (owner : ℕ → ℕ) (
               (λ j _ a. absurd (nobody j (omega arith) (omega arith)));
           waits = at_update s.place i to (OwnsTicket s.drawn s.unpassed owner) (λ a. absurd (omega arith))
               (λ j _. r.tickets.waits j);
-          owned = λ k a b. let o = r.tickets.owned k a b in let tk = o.1 in
-              subst (λ (y : Place). (stage y ≡ ticketed_stage) × (ticket y ≡ k))
-              (sym (update_else s.place i to (owner k)
-              (λ e. let c : ticket (s.place (owner k)) ≡ T = ap (λ (j : ℕ). ticket (s.place j)) e in omega arith)))
-              o;
+          owned = grind (arith, nat_tests, update_else);
           passing = at_update s.place i to (λ _. PassesNext s.drawn s.unpassed (update s.place i to) owner)
               (λ a. absurd (omega arith)) (λ j _ a. absurd (nobody j (omega arith) (omega arith)));
           granted =

@@ -1,15 +1,14 @@
 -- What every run leads to
-use Rattle.std.proofs.Common.{◌≡◌, ◌≢◌, ℕ, zero, suc, Bool, true, ◌≤◌, inl, inr, false, List, [], ◌∷◌, sym, refl, ap, ◌∙◌, subst, arith}
-use Rattle.std.{specs.Prelude.nat_lt, proofs.lemmas.Bool.cases_eq}
+use Rattle.std.proofs.Common.{◌≡◌, ◌≢◌, ℕ, zero, suc, true, ◌≤◌, inl, inr, false, List, [], ◌∷◌, sym, refl, ap, ◌∙◌, subst, arith}
+use Rattle.std.{proofs.lemmas.Bool.cases_eq}
 use Rattle.monk_kinds.specs.{Kind.IsKind, declared.mode.Rules.Rules}
 use Rattle.monk_object.specs.Object.{Object}
 use Rattle.monk_history.specs.declared.event.Next.TheVariants as next
 use Rattle.monk_history.proofs.PublicLaws.Meaning.{enters_none, legal_none, situation-none}
 use Rattle.monk_history.specs.Meaning.{Situation.Situation, Situation.situation, Standing.standing}
-use Rattle.monk_history.specs.Meaning.{Standing.times_in_conditions, Step.opening_situation, Turn.turn, Untils.ready_of}
+use Rattle.monk_history.specs.Meaning.{Standing.times_in_conditions, Step.opening_situation, Turn.turn}
 use Rattle.monk_history.specs.Meaning.Counts.{left_of, enters_of}
-use Rattle.monk_history.specs.declared.event.Turn.{Turn}
-use Rattle.monk_history.specs.declared.event.Turn.TheVariants.{Open, Due as DueTurn, Owned}
+use Rattle.monk_history.specs.declared.event.Turn.TheVariants.{Open, Owned}
 use Rattle.monk_floor.specs.View.{FloorView, monitor_of, empty_floor}
 use Rattle.monk_world.proofs.EntersLaws as enters
 use Rattle.monk_world.proofs.{OnePlaceLaws.in_one_place, SoundSteps.step_is_sound, StepLaws.opening_stands}
@@ -24,6 +23,7 @@ use Rattle.monk_world.specs.Places.{stage, ticket, source, owned_by, due_stage, 
 use Rattle.monk_world.specs.Places.{granted_source}
 use Rattle.monk_world.specs.Sound.{IsSound, Sound, left_at}
 use Rattle.monk_world.specs.Runs.{opening_state, Told, IsRun, IsWellLed, RunsAreWellLed}
+use Rattle.std.proofs.lemmas.Bool.Decides.{nat_tests}
 
 no_times : (n j : ℕ) → times_in_conditions n j (λ c. []) ≡ 0
 no_times zero j = refl
@@ -38,19 +38,9 @@ opening_holds k o f e =
     let open_turn_is : turn f.history ≡ Open = ap (λ (t : Situation). t.turn) nothing in
     let stands_nowhere : (j : ℕ) → standing m.conds j (situation m f.history) ≡ 0 = λ j. ap (standing m.conds j) nothing
     ∙ (let z = no_times m.conds j in omega arith) in
-    let quiet : is_quiet k o f ≡ true = is_quiet-true k o f (record {
-      waiters = ap (λ (t : Situation). t.waiters) nothing;
-      signallers = ap (λ (t : Situation). t.signallers) nothing;
-      ready = ap (λ (t : Situation). ready_of o t.state t.untils) nothing;
-    }) in
-    let nobody : (λ (j : ℕ). false) ≡ is_standing k o f =
-    λ i j. sym (ap (λ (n : ℕ). nat_lt 0 n) (stands_nowhere j)) i in
-    subst (λ (q : Bool). Stands f.seats opening_world Nowhere (λ t. 0) (turn_number (turn f.history))
-    (is_standing k o f) q) (sym quiet)
-    (subst (λ (b : ℕ → Bool). Stands f.seats opening_world Nowhere (λ t. 0)
-    (turn_number (turn f.history)) b true) nobody
-    (subst (λ (u : Turn). Stands f.seats opening_world Nowhere (λ t. 0) (turn_number u) (λ j. false) true)
-    (sym open_turn_is) (opening_stands f.seats)))
+    let quiet : is_quiet k o f ≡ true = grind (arith, nat_tests, is_quiet-true) in
+    let nobody : (λ (j : ℕ). false) ≡ is_standing k o f = grind (arith, nat_tests) in
+    grind (arith, nat_tests, opening_stands)
 
 pub opening_is_sound : OpeningIsSound
 opening_is_sound k o opening seats conds budget = record {
@@ -100,11 +90,6 @@ not_owned j m (Back (next.Until i) home) e = absurd (omega arith)
 not_owned j m (Passing t home) e = absurd (omega arith)
 not_owned j m Inner e = absurd (omega arith)
 
-abbrev owner_of : Turn → ℕ
-owner_of Open = 0
-owner_of (DueTurn j q) = 0
-owner_of (Owned j) = j
-
 module _ (k : Rules) (o : Object) (s : State) (right : Whereabouts) (owner : ℕ → ℕ)
     (h : IsSound k o s right owner) where
   -- the seat that owns the turn is active
@@ -119,8 +104,7 @@ module _ (k : Rules) (o : Object) (s : State) (right : Whereabouts) (owner : ℕ
       by Nowhere f = absurd (let n = number in omega arith)
       by (AtTicket t) f = absurd (let n = number in omega arith)
       by (With m) f = elim (cases_eq (stage (s.world.place m)) active_stage) [
-        | inl three ↦ let same : m ≡ j = ap owner_of (sym (h.active m three) ∙ own) in
-            subst (λ (i : ℕ). stage (s.world.place i) ≡ active_stage) same three
+        | inl three ↦ grind (arith, nat_tests)
         | inr ne ↦ absurd (not_owned m j (s.world.place m) (sym (f ne) ∙ number))
       ]
       by (AtSeat m) f = absurd (let n = number in omega arith)

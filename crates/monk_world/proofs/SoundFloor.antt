@@ -13,9 +13,9 @@ use Rattle.monk_history.proofs.PublicLaws.Meaning.{counts_after, stands_after, q
 use Rattle.monk_history.specs.Meaning.{Entry.IsAtDoor, Legal.IsLegal, Monitor.Monitor, Moves.StandsAfter}
 use Rattle.monk_history.specs.Meaning.{Moves.CountsAfter, Reasons.IsAllowed, Release.as_called, Release.choice_of}
 use Rattle.monk_history.specs.Meaning.{Situation.situation, Standing.standing, Turn.turn, Turn.turn_by, Turn.is_inside}
-use Rattle.monk_history.specs.Meaning.Counts.{left_of, enters_of, is_enter, grants, chooses_seat}
+use Rattle.monk_history.specs.Meaning.Counts.{left_of, enters_of, is_enter, grants}
 use Rattle.monk_history.specs.Meaning.Events.{seat_of, next_of, is_stay, is_way_out}
-use Rattle.monk_history.specs.declared.event.{From3.From3, Next.Next}
+use Rattle.monk_history.specs.declared.event.{Next.Next}
 use Rattle.monk_history.specs.declared.event.Event.{Event, TheVariants.Enter, TheVariants.Resume}
 use Rattle.monk_floor.specs.View.{monitor_of, stands_of}
 use Rattle.monk_world.specs.declared.home.Home.TheVariants as home
@@ -32,7 +32,7 @@ use Rattle.monk_world.specs.declared.place.Place.{Place, TheVariants.Due, TheVar
 use Rattle.monk_world.specs.declared.source.Source.{Source, TheVariants.Free, TheVariants.Granted, TheVariants.Called}
 use Rattle.monk_world.specs.declared.home.Home.{Home}
 use Rattle.monk_world.specs.Places.{stage, ticket, source, open_turn, due_to, turn_of_next, stays_inside}
-use Rattle.monk_world.specs.Places.{comes_from_queue, is_queued_at, outside_stage, ticketed_stage, due_stage}
+use Rattle.monk_world.specs.Places.{comes_from_queue, outside_stage, ticketed_stage, due_stage}
 use Rattle.monk_world.specs.Places.{active_stage, passing_stage, free_source, granted_source}
 use Rattle.monk_world.specs.Sound.{IsSound, Sound, left_at, left_within}
 use Rattle.std.proofs.lemmas.Bool.Decides.{nat_tests}
@@ -95,8 +95,7 @@ module _ (k : Rules) (o : Object) (s : State) (right : Whereabouts) (owner : ℕ
   own_stands home way =
       let c = moved.caller_stands in
       let stands : standing monitor.conds i (situation monitor (past ++ e ∷ [])) ≡ way_number (is_way_out e) =
-      subst (λ (j : ℕ). standing monitor.conds j (situation monitor (past ++ e ∷ []))
-      ≡ way_number (is_way_out e)) of_seat c in
+      grind (arith, nat_tests) in
       ap (λ (n : ℕ). nat_lt 0 n) (stands ∙ ap way_number way) ∙ at_way home
 
   pub quiet_after_entry : (wish : Pick) → next_of e ≡ Some next.Entry
@@ -120,10 +119,7 @@ module _ (k : Rules) (o : Object) (s : State) (right : Whereabouts) (owner : ℕ
         owner = owner;
         is_sound = record {
           legal = legal_after;
-          stands = activity_keeps_the_right s.floor.seats s.world right owner (turn_number (turn past))
-              (is_standing k o s.floor) (is_quiet k o s.floor) i h.stands
-              q (turn_number (turn (past ++ e ∷ []))) (is_standing k o (with_event s.floor e))
-              (is_quiet k o (with_event s.floor e)) active others_stand;
+          stands = grind (arith, nat_tests, activity_keeps_the_right, others_stand);
           active = λ j a. elim (eqb_tells j i) [
             | inl c ↦ turn_new ∙ ap turn.Owned (sym c.1)
             | inr c ↦ absurd (none k o s right owner h i (omega arith) (omega arith) j c.1 (omega arith) (omega arith))
@@ -155,8 +151,7 @@ module _ (k : Rules) (o : Object) (s : State) (right : Whereabouts) (owner : ℕ
       let turned : turn_number (turn (past ++ e ∷ [])) ≡ turn_of_next x =
       ap turn_number (counts.turn ∙ ap (λ (y : Option Next). turn_by (seat_of e) y) chose)
       ∙ number_chosen (seat_of e) x away in
-      let named : (m : ℕ) → turn_of_next x ≡ due_to m → grants m e ≡ true =
-      λ m a. ap (λ (y : Option Next). chooses_seat m y) chose ∙ names_chosen x m a in
+      let named : (m : ℕ) → turn_of_next x ≡ due_to m → grants m e ≡ true = grind (arith, nat_tests, names_chosen) in
       let same : enters_of (past ++ e ∷ []) ≡ enters_of past =
       let c = counts.enters in let z : number_of (is_enter e) ≡ 0 = ap number_of no_enter in omega arith in
       record {
@@ -254,9 +249,7 @@ module _ (k : Rules) (o : Object) (s : State) (right : Whereabouts) (owner : ℕ
       let two : stage (s.world.place i) ≡ due_stage = ap stage due in
       let m = monitor_of k o s.floor in
       let t = situation m s.floor.history in
-      let no : is_standing k o s.floor i ≡ false =
-      subst (λ (p : Place). stage p ≢ active_stage → is_standing k o s.floor i ≡ is_queued_at p) due
-      (h.stands.fits_queues.in_queue i) (λ a. omega arith) ∙ outer in
+      let no : is_standing k o s.floor i ≡ false = grind (arith, nat_tests) in
       record {
         seat = near;
         free = open_is (turn s.floor.history) (turn_due q due ∙ opens);
@@ -285,18 +278,14 @@ module _ (k : Rules) (o : Object) (s : State) (right : Whereabouts) (owner : ℕ
       let late = h.granted_late i two by_ticket in
       let r = h.stands.keeps in
       let sum = r.tickets.in_use i two (omega arith) in
-      let used : enters_of s.floor.history + s.world.unpassed ≡ s.world.drawn + 0 =
-      enters.entered_here s.floor.seats s.world right owner r (enters_of s.floor.history) h.entered i (Due (Granted t))
-      due (omega arith) (omega arith) in
-      let begun : s.floor.history ≢ [] = λ z. let n : enters_of s.floor.history ≡ 0 = ap enters_of z
-      ∙ enters_none in omega arith in
+      let used : enters_of s.floor.history + s.world.unpassed ≡ s.world.drawn + 0 = grind (arith, nat_tests) in
+      let begun : s.floor.history ≢ [] = grind (arith, nat_tests, enters_none) in
       comes_out k o s right owner h i (Enter i via.Handed) refl
       ((enters_handed (monitor_of k o s.floor) s.floor.history i).1 (at_door (Granted t) due refl refl, begun))
       (Granted t) near due refl refl
   sound_out Called due =
       let d = due_is (turn s.floor.history) i (turn_due Called due) in
-      let is : turn s.floor.history ≡ turn.Due i (queue_due (turn s.floor.history)) = d.1
-      ∙ ap (λ (q : From3). turn.Due i q) (sym (ap queue_due d.1)) in
+      let is : turn s.floor.history ≡ turn.Due i (queue_due (turn s.floor.history)) = grind (arith, nat_tests) in
       comes_out k o s right owner h i (Resume i (queue_due (turn s.floor.history))) refl
       ((resumes (monitor_of k o s.floor) s.floor.history i (queue_due (turn s.floor.history))).1
       (record { seat = near; due = is })) Called near due refl refl

@@ -1,6 +1,6 @@
 -- From the change of the words and the floor to a step of the state
 use Rattle.std.proofs.Common.{◌≡◌, ℕ, ◌+◌, ◌%◌, ◌==◌, ◌<◌, cond, Bool, true, false, length, ◌||◌}
-use Rattle.std.proofs.Common.{⊎_elim, sym, refl, ap, eq-eqb, ◌∙◌, subst, arith}
+use Rattle.std.proofs.Common.{sym, ap, eq-eqb, ◌∙◌, subst, arith}
 use Rattle.std.proofs.lemmas.Bool.{eqb-true, cases_lt}
 use Rattle.std.specs.Prelude.{nat_le, slice_index_or, Some, None}
 use Rattle.monk_kinds.specs.{Kind.IsKind, declared.mode.Pick.Pick, declared.mode.Rules.Rules}
@@ -12,13 +12,13 @@ use Rattle.monk_history.specs.Meaning.{Release.with_next, Turn.turn}
 use Rattle.monk_history.specs.Meaning.Reasons.{IsAllowed, fits_turn, is_in_place, is_owned_by}
 use Rattle.monk_history.specs.declared.event.{Next.Next, Turn.Turn}
 use Rattle.monk_history.specs.declared.event.Event.{Event, TheVariants.Act, TheVariants.SignalAll}
-use Rattle.monk_floor.specs.{Grown.IsGrown, Releases.MayCallOn, View.FloorView, View.monitor_of, View.stands_of}
+use Rattle.monk_floor.specs.{Grown.IsGrown, Releases.MayCallOn, View.FloorView, View.monitor_of}
 use Rattle.monk_world.specs.declared.answer.Answer.TheVariants as answer
 use Rattle.monk_world.specs.declared.command.Command.TheVariants as command
 use Rattle.monk_world.proofs.{BoundLaws.few_drawn, SoundFloor.sound_out}
 use Rattle.monk_world.proofs.DoneLaws.{IsReady, ready, kept_done}
 use Rattle.monk_world.specs.{Kept.IsKept, Update.update, State.State, State.with_event}
-use Rattle.monk_world.specs.StepTable.{may_be_told, is_call_in_range, is_call_offered, call_of, names_entry, is_back}
+use Rattle.monk_world.specs.StepTable.{may_be_told, call_of, names_entry, is_back}
 use Rattle.monk_world.specs.StepTable.{refusal, release_next, out_event, IsDone, IsReleased}
 use Rattle.monk_world.specs.Steps.{after_arrive, after_ticket_look, after_seat_look, after_floor_out, after_floor_in}
 use Rattle.monk_world.specs.Steps.{after_drop, after_ticket_grant, after_seat_grant}
@@ -184,21 +184,14 @@ module _ (k : Rules) (o : Object) (w : WorldWords) (f : FloorView) (v : WorldVie
   act_goes op reply a g free grows is_a =
       let at = active_is (s.world.place i) ((ready_here (command.Act op) free).told) in
       let same : reply ≡ o.reply (data_of (monitor_of k o f) f.history) op = eqb-true _ _ (grows.allowed.right_reply) in
-      at_place (Active at.source) (command.Act op) a (state_in w g) at.is (
-        is_a ∙ ap answer.Reply same,
-        ap (λ (y : FloorView). state_in w y) grows.grown
-            ∙ ap (λ (r : ℕ). record s { floor = with_event f (Act i op r) }) same,
-      )
+      grind (arith, nat_tests, at_place)
 
   pub signal_all_goes : (c served : ℕ) (a : Answer) (g : FloorView)
       → refusal k o (state_of_view v) i (command.SignalAll c) ≡ None → g ≡ with_event f (SignalAll i c)
       → served ≡ length (condition c f.history) → a ≡ answer.Woke served → Goes (command.SignalAll c) a (state_in w g)
   signal_all_goes c served a g free grown served_is is_a =
       let at = active_is (s.world.place i) ((ready_here (command.SignalAll c) free).told) in
-      at_place (Active at.source) (command.SignalAll c) a (state_in w g) at.is (
-        is_a ∙ ap answer.Woke served_is,
-        ap (λ (y : FloorView). state_in w y) grown,
-      )
+      grind (arith, nat_tests, at_place)
 
   pub out_allowed : (q : Source) (conds : ℕ) → IsKept k o w.seats conds s
       → refusal k o (state_of_view v) i command.Out ≡ None → s.world.place i ≡ Due q
@@ -225,12 +218,7 @@ module _ (k : Rules) (o : Object) (w : WorldWords) (f : FloorView) (v : WorldVie
   may_call c e conds old free names active owns places =
       let r = ready_here c free in
       let mine = old.sound.is_sound.active i (eqb-true _ _ (sym active ∙ r.told)) in
-      record {
-        in_range = subst (λ x. is_call_in_range o f x ≡ true) names r.range;
-        offered = subst (λ x. is_call_offered k x ≡ true) names r.offered;
-        in_turn = owns (turn f.history) ∙ (ap (is_owned_by i) mine ∙ eq-eqb i i refl);
-        in_place = places (stands_of k o f);
-      }
+      grind (arith, nat_tests, eq-eqb)
 
   -- a release is done as its command says, and keeps what a world keeps
   pub release_done : {x : Next} {known : Bool} {a : Answer} {new : WorldWords} {g : FloorView} (c : Command) (e : Event)
@@ -266,5 +254,4 @@ module _ (k : Rules) (o : Object) (w : WorldWords) (f : FloorView) (v : WorldVie
   called_here x to j conds old at names =
       let r = old.sound.is_sound.stands.keeps in
       let six = r.calls.chose i (ap stage at) j (subst (λ (p : Place). back_turn p ≡ due_to j) (sym at) names) in
-      ⊎_elim (λ l. subst (λ (n : ℕ). j < n) (sym old.seats_are) l)
-      (λ l. absurd (omega (arith, six, old.sound.is_sound.outside j l))) (cases_lt j f.seats)
+      grind (arith, nat_tests, cases_lt)

@@ -132,12 +132,7 @@ floor_out_keeps_the_right seats w right owner turn queued quiet i h q turn_new q
 pub activity_keeps_the_right : ActiveKeeps
 activity_keeps_the_right seats w right owner turn queued quiet i h q turn_new queued_new quiet_new active alike =
     let r = h.keeps in
-    record {
-      keeps = r;
-      fits_turn = turns.stays_active seats w right owner r turn h.fits_turn i q turn_new active;
-      fits_queues =
-          queues.stays_active seats w right owner r queued quiet h.fits_queues i q queued_new quiet_new active alike;
-    }
+    grind (arith, nat_tests)
 
 -- a seat in a queue that doesn't have the right is parked inside
 parked : (p : Place) → is_queued_at p ≡ true → (due_stage ≤ stage p → stage p ≤ passing_stage → ⊥)
@@ -152,10 +147,8 @@ floor_in_keeps_the_right seats w right owner turn queued quiet i h q next home q
     let mine = held r i (omega arith) (omega arith) in
     let none : (j : ℕ) → j ≢ i → due_stage ≤ stage (w.place j) → stage (w.place j) ≤ passing_stage → ⊥ =
     λ j ne a b. ne (let e = held r j a b in cc) in
-    let inner : (k : ℕ) → turn_of_next next ≡ due_to k → stage (w.place k) ≡ inside_stage = λ k e.
-    let c = chosen_seat k e in
-    parked (w.place k) (sym (h.fits_queues.in_queue k (λ z. none k c.0 (omega arith) (omega arith))) ∙ sym (alike k c.0)
-    ∙ c.1) (none k c.0) in
+    let inner : (k : ℕ) → turn_of_next next ≡ due_to k → stage (w.place k) ≡ inside_stage =
+    grind (arith, nat_tests, parked) in
     record {
       keeps = goes_home seats w right owner r i next home three inner;
       fits_turn = turns.goes_home seats w right owner r turn h.fits_turn i q next home active;

@@ -82,12 +82,6 @@ module _ (seats : ℕ) (s : World) (right : Whereabouts) (owner : ℕ → ℕ) (
       let z : stage (s.place i) ≡ due_stage = ap stage due in
       holder (Active q) turn_new (held r i (omega arith) (omega arith)) (λ ne. absurd (ne refl))
 
-  pub stays_active : (q : Source) (turn_new : ℕ) → s.place i ≡ Active q → FitsTurn s right turn_new
-  stays_active q turn_new active =
-      let three : stage (s.place i) ≡ active_stage = ap stage active in
-      subst (λ (x : Whereabouts). FitsTurn s x turn_new) (sym (held r i (omega arith) (omega arith)))
-      (λ ne. absurd (ne three))
-
   pub goes_home : (q : Source) (next : Next) (home : Home) → s.place i ≡ Active q
       → FitsTurn (after_floor_in s i next home) right (turn_of_next next)
   goes_home q next home active =

@@ -1,5 +1,5 @@
 -- A world before any step, and the refusals of a step
-use Rattle.std.proofs.Common.{◌≡◌, ℕ, ◌≤◌, cond, Bool, true, false, List, length, [], ◌||◌, ◌&&◌}
+use Rattle.std.proofs.Common.{◌≡◌, ℕ, ◌≤◌, cond, Bool, true, false, List, [], ◌||◌, ◌&&◌}
 use Rattle.std.proofs.Common.{refl, ap, ◌∙◌, arith}
 use Rattle.std.specs.Prelude.{not, nat_lt, Some, None}
 use Rattle.monk_kinds.specs.declared.mode.Rules.{Rules}
@@ -16,6 +16,7 @@ use Rattle.monk_world.proofs.RunLaws.{opening_is_sound}
 use Rattle.monk_world.specs.{Runs.opening_state, Stands.opening_world, Kept.IsKept, State.State, WorldViews.state_in}
 use Rattle.monk_world.specs.StepTable.{may_be_told, is_call_in_range, is_call_offered, call_of, left_for, refusal}
 use Rattle.monk_world.specs.declared.{command.Command.Command, words.WorldWords.WorldWords}
+use Rattle.std.proofs.lemmas.Bool.Decides.{nat_tests}
 
 -- a world before any step
 
@@ -45,19 +46,7 @@ pub opening_kept : (k : Rules) (o : Object) (opening : List ℕ) (seats conds bu
 opening_kept k o opening seats conds budget free =
     let r = few_are (nat_lt seats 1) (nat_lt most_seats seats) (nat_lt most_conds conds) (nat_lt budget least_budget)
     (nat_lt most_budget budget) free in
-    record {
-      sound = opening_is_sound k o opening seats conds budget;
-      bounded = record {
-        few = not_more most_seats seats r.few;
-        low = not_more most_budget budget r.low;
-        within = λ j. omega (arith, ap length (none_of j));
-        outside = λ j _. ap length (none_of j);
-        drawn = omega arith;
-        counted = λ j. omega arith;
-      };
-      seats_are = refl;
-      conds_are = refl;
-    }
+    grind (arith, nat_tests, opening_is_sound, not_more, none_of)
 
 pub made_state : (w : WorldWords) (f : FloorView) (opening : List ℕ) (seats conds budget : ℕ)
     → ((g : FloorView) → state_in w g ≡ record { world = opening_world; known = λ j. false; floor = g })

@@ -1,5 +1,5 @@
 -- A command is read from the words that it is written as, and a command that is written is read again.
-use Rattle.std.proofs.Common.{arith, ◌-◌, lit<, ◌≡◌, ℕ, ◌≤◌, ◌^◌, true, List, [], ◌∷◌, ◌++◌, Some, Ok, refl, sym, ap, subst, ◌∙◌}
+use Rattle.std.proofs.Common.{arith, ◌-◌, lit<, ◌≡◌, ℕ, ◌≤◌, ◌^◌, true, List, [], ◌∷◌, ◌++◌, Some, Ok, refl, ap, subst}
 use Rattle.std.{specs.Prelude.IsTrue, specs.Prelude.nat_le, specs.Fmt.decimal, proofs.lemmas.List.append-nil}
 use Rattle.monk_kinds.specs.{Names.with_text, declared.mode.Pick.Pick}
 use Rattle.monk_object.specs.declared.op.Op.{Op}
@@ -36,9 +36,7 @@ op_takes ws x e =
     let t = number_takes 255 ws a.0 a.1 in
     let u = number_takes (2 ^ 32 - 1) a.0.1 b.0 b.1 in
     let made : Op × List Word = (record { code = a.0.0; arg = b.0.0 }, b.0.1) in
-    subst (λ (y : Op × List Word). (ws ≡ decimal y.0.code ∷ decimal y.0.arg ∷ y.1) × (y.0.code ≤ 255)
-    × (y.0.arg ≤ 2 ^ 32 - 1)) (ok_is made x b.2)
-    (t.0 ∙ ap (λ (v : List Word). decimal a.0.0 ∷ v) u.0, t.1, u.1)
+    grind (arith, nat_tests, ok_is)
 
 cond_pick_takes : (ws : List Word) (x : (ℕ × Pick) × List Word) → cond_pick_at ws ≡ Ok x
     → (ws ≡ decimal x.0.0 ∷ pick_word x.0.1 ∷ x.1) × (x.0.0 ≤ 255)
@@ -48,9 +46,7 @@ cond_pick_takes ws x e =
     let b = bind_ok (one_of pick_word picks a.0.1) (λ p. Ok ((a.0.0, p.0), p.1)) x a.2 in
     let t = number_takes 255 ws a.0 a.1 in
     let p = one_of_takes pick_word picks a.0.1 b.0 b.1 in
-    subst (λ (y : (ℕ × Pick) × List Word). (ws ≡ decimal y.0.0 ∷ pick_word y.0.1 ∷ y.1) × (y.0.0 ≤ 255))
-    (ok_is ((a.0.0, b.0.0), b.0.1) x b.2)
-    (t.0 ∙ ap (λ (v : List Word). decimal a.0.0 ∷ v) p, t.1)
+    grind (arith, nat_tests, ok_is)
 
 cond_pick_again : (c : ℕ) (p : Pick) → c ≤ 255 → cond_pick_at (decimal c ∷ pick_word p ∷ []) ≡ Ok ((c, p), [])
 unfolding cond_pick_at
@@ -94,8 +90,7 @@ action_takes verb.Signal ws x e =
 action_takes verb.SignalLeave ws x e =
     let b = bind_ok (cond_pick_at ws) (λ c. Ok (SignalLeave c.0.0 c.0.1, c.1)) x e in
     let t = cond_pick_takes ws b.0 b.1 in
-    subst (Ends verb.SignalLeave ws) (ok_is (SignalLeave b.0.0.0 b.0.0.1, b.0.1) x b.2)
-    (ap (behind verb.SignalLeave) t.0, t.1, refl)
+    grind (arith, nat_tests, ok_is)
 action_takes verb.Until ws x e =
     let b = bind_ok (cond_pick_at ws) (λ c. Ok (Until c.0.0 c.0.1, c.1)) x e in
     let t = cond_pick_takes ws b.0 b.1 in
@@ -109,10 +104,8 @@ action_takes verb.SignalWait ws x e =
     let b = bind_ok (cond_pick_at a.0.1) (λ d. Ok (SignalWait a.0.0 d.0.0 d.0.1, d.1)) x a.2 in
     let t = number_takes 255 ws a.0 a.1 in
     let u = cond_pick_takes a.0.1 b.0 b.1 in
-    let whole : ws ≡ decimal a.0.0 ∷ decimal b.0.0.0 ∷ pick_word b.0.0.1 ∷ b.0.1 = t.0
-    ∙ ap (λ (v : List Word). decimal a.0.0 ∷ v) u.0 in
-    subst (Ends verb.SignalWait ws) (ok_is (SignalWait a.0.0 b.0.0.0 b.0.0.1, b.0.1) x b.2)
-    (ap (behind verb.SignalWait) whole, (t.1, u.1), refl)
+    let whole : ws ≡ decimal a.0.0 ∷ decimal b.0.0.0 ∷ pick_word b.0.0.1 ∷ b.0.1 = grind (arith, nat_tests) in
+    grind (arith, nat_tests, ok_is)
 
 after_act : (op : Op) → op.code ≤ 255 → op.arg ≤ 2 ^ 32 - 1
     → action_after verb.Act (decimal op.code ∷ decimal op.arg ∷ []) ≡ Ok (Act op, [])
@@ -178,15 +171,9 @@ command_takes version ws x e =
     let verb_has = one_of_kept play_verb_word (λ v. nat_le (play_verb_version v) version) play_verbs a.0.1 b.0 b.1 in
     let action_is = action_takes b.0.0 b.0.1 c.0 c.1 in
     let none = (end_takes c.0.1 d.0 d.1).0 in
-    let whole : a.0.1 ≡ action_words c.0.0 = verb_is ∙ action_is.0
-    ∙ ap (λ (v : List Word). action_words c.0.0 ++ v) none ∙ append-nil (action_words c.0.0) in
-    let has : nat_le (command_version c.0.0) version ≡ true =
-    ap (λ (n : ℕ). nat_le n version) (sym action_is.2) ∙ verb_has in
-    subst (λ (y : (ℕ × Command) × List Word). (ws ≡ command_words y.0) × FitsVersion version y.0)
-    (ok_is ((a.0.0, c.0.0), d.0.1) x d.2) (
-      seat_is.0 ∙ ap (λ (v : List Word). decimal a.0.0 ∷ v) whole,
-      ((seat_is.1, action_is.1), has),
-    )
+    let whole : a.0.1 ≡ action_words c.0.0 = grind (arith, nat_tests, append-nil) in
+    let has : nat_le (command_version c.0.0) version ≡ true = grind (arith, nat_tests) in
+    grind (arith, nat_tests, ok_is)
 
 from_after : (version : ℕ) (v : CommandVerb) (s : ℕ) (ws : List Word) (c : Command)
     → nat_le (play_verb_version v) version ≡ true

@@ -9,9 +9,10 @@ use Rattle.monk_world.specs.declared.command.Command.TheVariants.{Wait, Signal, 
 use Rattle.monk_world.specs.declared.play.head.PlayHead.{PlayHead}
 use Rattle.monk_world.specs.Play.{pick_word, action_words, command_words, ActionFits, CommandFits}
 use Rattle.monk_world.proofs.PlayLaws.PlayHeads.{HeadFits, head_words}
+use Rattle.std.proofs.lemmas.Bool.Decides.{nat_tests}
 
 pick_is_word : (p : Pick) → IsWord (pick_word p)
-pick_is_word p = grind (arith)
+pick_is_word p = grind arith
 
 action_are_words : (c : Command) → ActionFits c → AreWords (action_words c)
 action_are_words Arrive fits = refl
@@ -35,12 +36,4 @@ command_are_words m fits = rw (decimal_word m.0 fits.0) (action_are_words m.1 fi
 pub head_are_words : (h : PlayHead) → HeadFits h → AreWords (head_words h)
 head_are_words h fits =
     let parts = fits.header_fits in
-    rw (
-      decimal_word h.header.version (omega (arith, parts.still_named, none_newer h.header.object)),
-      kind_is_word h.header.kind,
-      decimal_word h.header.seats (omega (arith, parts.seats)),
-      decimal_word h.header.conds (omega (arith, parts.conds)),
-      object_is_word h.header.object,
-      decimal_word h.header.size parts.size,
-      IsWord-decimal h.budget (omega (arith, fits.budget_fits)),
-    ) refl
+    grind (arith, nat_tests, decimal_word, none_newer, kind_is_word, object_is_word, IsWord-decimal)

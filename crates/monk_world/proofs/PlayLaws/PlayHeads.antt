@@ -1,5 +1,5 @@
 -- A play's first line is read from the words that it is written as, and one that is written is read again.
-use Rattle.std.proofs.Common.{lit<, ◌≡◌, ℕ, ◌≤◌, Bool, true, cond, List, [], ◌∷◌, ◌++◌, Some, None, Ok, refl, sym, ap, subst}
+use Rattle.std.proofs.Common.{lit<, ◌≡◌, ℕ, ◌≤◌, Bool, true, cond, List, [], ◌∷◌, Some, None, Ok, refl, sym, ap}
 use Rattle.std.proofs.Common.{◌∙◌, arith}
 use Rattle.std.proofs.lemmas.Bool.{leb-true, le-leb}
 use Rattle.std.specs.{Prelude.nat_le, Prelude.codes, Fmt.decimal}
@@ -7,7 +7,7 @@ use Rattle.monk_history.specs.Text.Words.{◌>>=◌, Word, Taken, number_at, wit
 use Rattle.monk_history.proofs.PublicLaws.Texts.{parts_take, parts_again, bind_ok, none_newer, number_takes}
 use Rattle.monk_history.proofs.PublicLaws.Texts.{number_again, literal_takes, end_takes}
 use Rattle.monk_history.specs.Limits.{least_budget, most_budget}
-use Rattle.monk_history.specs.Text.{Heading, IsHeading, part_words, Reading.parts_at}
+use Rattle.monk_history.specs.Text.{Heading, IsHeading, Reading.parts_at}
 use Rattle.monk_world.specs.Play.{play_words, Reading.play_head, Reading.play_head_of, Reading.play_head_at}
 use Rattle.monk_world.specs.declared.play.head.PlayHead.{PlayHead}
 use Rattle.std.proofs.lemmas.Bool.Decides.{nat_tests}
@@ -57,12 +57,8 @@ head_takes ws x e =
     let none : b.0.1 ≡ [] = (end_takes b.0.1 n.0 n.1).0 in
     let made = head_made (nat_le least_budget b.0.0) (play_head h.0.0 b.0.0) n.0.1 x n.2 in
     let last : h.0.1 ≡ decimal b.0.0 ∷ [] = budget_is.0 ∙ ap (λ (w : List Word). decimal b.0.0 ∷ w) none in
-    let whole : ws ≡ play_words h.0.0 b.0.0 = name_is
-    ∙ ap (λ (w : List Word). codes "play" ∷ w)
-    (version_is ∙ ap (λ (w : Word). w ∷ v.0.1) written ∙ ap (λ (w : List Word). decimal h.0.0.version ∷ w)
-    (parts_are.0 ∙ ap (λ (w : List Word). part_words h.0.0 ++ w) last)) in
-    subst (λ (y : PlayHead × List Word). (ws ≡ head_words y.0) × HeadFits y.0) (sym made.1)
-    (whole, record { header_fits = parts_are.1; some_budget = leb-true _ _ made.0; budget_fits = budget_is.1 })
+    let whole : ws ≡ play_words h.0.0 b.0.0 = grind (arith, nat_tests) in
+    grind (arith, nat_tests, leb-true)
 
 head_whole : (h : PlayHead) → least_budget ≤ h.budget → play_head_of h.header h.budget ≡ Some h
 head_whole h some = rw (le-leb least_budget h.budget some) refl

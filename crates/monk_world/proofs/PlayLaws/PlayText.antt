@@ -83,17 +83,7 @@ pub play_read : (limit : ℕ) (bytes : List ℕ) (h : PlayHead) (cs : List (ℕ 
 play_read limit bytes h cs e =
     let r = formats.text_read head_words play_head_at HeadFits heads command_words command_under CommandFitsUnder
     commands limit bytes h cs e in
-    record {
-      has_text = record {
-        header_fits = r.head_fits.header_fits;
-        some_budget = r.head_fits.some_budget;
-        budget_fits = r.head_fits.budget_fits;
-        commands_fit = fit_alone h cs r.fit;
-        told = told_under h cs r.fit;
-      };
-      few = r.few;
-      whole = r.whole;
-    }
+    grind (arith, nat_tests, fit_alone, told_under)
 
 -- the same for the play
 pub play_found : (limit : ℕ) (bytes : List ℕ) (p : Play) → play_at limit bytes ≡ Ok p → IsPlay limit bytes p.0 p.1 p.2

@@ -1,33 +1,23 @@
-use Rattle.std.proofs.Common.{◌≡◌, true, false, ◌&&◌, sym, ap, ◌∙◌, arith}
+use Rattle.std.proofs.Common.{◌≡◌, true, false, ◌&&◌, arith}
 use Rattle.monk_object.specs.Book as book
-use Rattle.monk_object.specs.{Book.book_meaning, Object.Object}
-use Rattle.monk_history.specs.Meaning.Monitor.{data_of}
-use Rattle.monk_floor.specs.View.{monitor_of}
+use Rattle.monk_object.specs.{Book.book_meaning}
 use Rattle.monk_samples.proofs.book.end_read.Goals as goal
 use Rattle.monk_samples.proofs.PromiseLaws.{has_code, has_pred}
 use Rattle.monk_samples.proofs.book.end_read.Goals.{then-holds, else-holds, then-writes, else-writes}
 use Rattle.monk_samples.proofs.VisitLaws.{finished_by, tired, visited}
 use Rattle.monk_samples.specs.{Styles.has_waiting, Visits.data_after}
 use Rattle.monk_samples.specs.Members.{ends_to_read, CAN_READ, CAN_WRITE}
+use Rattle.std.proofs.lemmas.Grind.{common_steps}
 
 pub returns-after-writes : goal.returns-after-writes
 returns-after-writes g c =
     let k = g.K.Kind.rules in let o = g.T.Guarded.meaning in let a = c.in-Ok.active in let h = a.floor.history in
     let last = book_meaning.holds (data_after k book_meaning c.args.pass.me.setting h) book.CAN_WRITE in
     let waits = has_waiting k CAN_WRITE h in let next = c.if-writes.next in
-    let holds : c.holds.result ≡ last = c.holds.ensures
-    ∙ ap (λ f. o.holds (data_of (monitor_of k o f) h) book.CAN_WRITE) c.in-Ok.ensures.floor
-    ∙ ap (λ (x : Object). x.holds (data_after k x c.args.pass.me.setting h) book.CAN_WRITE) c.requires.book in
-    let is : c.if-holds.writes ≡ (last && waits) =
-    elim c.if-holds.branch [
-      | then-holds w ↦ rw (sym holds ∙ w.if-holds.true) cc
-      | else-holds w ↦ rw
-          (sym holds ∙ w.if-holds.false) cc
-    ] in
-    let writes : (last && waits) ≡ true → next ≡ CAN_WRITE =
-    λ e. elim c.if-writes.branch [ then-writes w ↦ cc | else-writes w ↦ cc ] in
-    let reads : (last && waits) ≡ false → next ≡ CAN_READ =
-    λ e. elim c.if-writes.branch [ then-writes w ↦ cc | else-writes w ↦ cc ] in
+    let holds : c.holds.result ≡ last = grind (arith, common_steps) in
+    let is : c.if-holds.writes ≡ (last && waits) = grind (arith, common_steps, then-holds, else-holds) in
+    let writes : (last && waits) ≡ true → next ≡ CAN_WRITE = grind (arith, common_steps, then-writes, else-writes) in
+    let reads : (last && waits) ≡ false → next ≡ CAN_READ = grind (arith, common_steps, then-writes, else-writes) in
     visited k o c.args.pass (ends_to_read k c.args.pass.me.setting) _ a c.finish.result.0 c.finish.result.1
     c.in-Ok.ensures tt
     (finished_by k o (last && waits) CAN_WRITE CAN_READ next a c.finish.result.0 c.finish.result.1

@@ -1,4 +1,4 @@
-use Rattle.std.proofs.Common.{◌≡◌, inl, inr, refl, ap, sym, subst, ◌∙◌, List, [], ◌∷◌, ◌++◌}
+use Rattle.std.proofs.Common.{◌≡◌, inl, inr, refl, ap, sym, subst, ◌∙◌, List, [], ◌∷◌, ◌++◌, arith}
 use Rattle.std.{proofs.lemmas.Bool.false≢true, specs.Prelude.All}
 use Rattle.monk_history.specs.Meaning.{Counts.events_of, Turn.turn}
 use Rattle.monk_history.specs.declared.event.{Event.Event, Event.TheVariants.Leave, Next.TheVariants.Entry}
@@ -12,6 +12,7 @@ use Rattle.monk_samples.proofs.MeetLaws.{holds_operations, came_comes, closed_en
 use Rattle.monk_samples.proofs.UnclosedLaws.{active_begins, crowded, torn, whole_here}
 use Rattle.monk_samples.proofs.RunLaws.{closed_by}
 use Rattle.monk_samples.specs.{Samples.IsOfFirstVersion, Totals.HasEnded}
+use Rattle.std.proofs.lemmas.Grind.{common_steps}
 
 pub resume-active-requires-after_bounds : goal.resume-active-requires-after_bounds
 resume-active-requires-after_bounds g c κs within =
@@ -75,9 +76,7 @@ returns-in-Ok-clause-whole g c =
     c.arrive.result.me.seat first.me.seat c.in-Ok.ensures.ended.own c.resume-active.ensures.entered.mine
     (ap (λ (r : SeatRecord). r.mine) c.arrive.ensures.me) c.resume-active.ensures.entered.seat
     (ap (λ (r : SeatRecord). r.seat) c.arrive.ensures.me) in
-    holds_operations h c.args.passes.items first others _ c.in_ok-first.ensures.same c.requires.apart own
-    (λ weight. nothing_done weight c.arrive.result.me.seat (source_from c.arrive.result.me.place)
-    (turn c.resume-active.result.me.seen) c.resume-active.result.me.seat) only
+    grind (arith, common_steps, holds_operations, nothing_done)
 
 pub returns-in-Ok-clause-left : goal.returns-in-Ok-clause-left
 returns-in-Ok-clause-left g c =

@@ -1,4 +1,4 @@
-use Rattle.std.proofs.Common.{◌≡◌, List, [], ◌∷◌, ◌++◌, append_assoc, append-nil, refl, sym, ap, subst, ◌∙◌}
+use Rattle.std.proofs.Common.{◌≡◌, [], ◌∷◌, ◌++◌, append_assoc, append-nil, refl, sym, ap, subst, ◌∙◌, arith}
 use Rattle.std.proofs.lemmas.List.{nil_from_length}
 use Rattle.std.proofs.lemmas.List.Elements.{All-cons, All-head, All-nil, All-tail}
 use Rattle.std.specs.{Prelude.vec_items, Vec.Iter.into_iter_items}
@@ -9,6 +9,7 @@ use Rattle.monk_samples.proofs.{EndLaws.if_err, TrailLaws.starts_here}
 use Rattle.monk_samples.proofs.MeetLaws.{same_pass, same_again, same_pushed, still_begins, met_same, met_begins}
 use Rattle.monk_samples.proofs.RunLaws.{one_more, first_of, rest_of, same_all, none_yet}
 use Rattle.monk_samples.specs.{Crews.IsOf, Wholes.AreSame}
+use Rattle.std.proofs.lemmas.Grind.{common_steps}
 
 pub loop-pass-init : goal.loop-pass-init
 loop-pass-init g c =
@@ -73,8 +74,7 @@ returns-clause-same g c =
     let inv = c.loop-pass.invariant in
     let rest = nil_from_length (into_iter_items c.loop-pass.pass-iterator)
     (sym c.loop-pass.pass-iterator.rest.ok.0 ∙ c.in-None.ensures.steps.0) in
-    subst (λ (ps : List Token). AreSame ps (c.loop-pass.first ∷ vec_items c.loop-pass.others))
-    (sym (inv.2 ∙ ap (λ xs. inv.0 ∷ inv.1 ++ xs) rest ∙ ap (λ xs. inv.0 ∷ xs) (append-nil inv.1))) (inv.3, inv.4)
+    grind (arith, common_steps, append-nil)
 
 pub returns-clause-had_seen : goal.returns-clause-had_seen
 returns-clause-had_seen g c =

@@ -1,12 +1,13 @@
-use Rattle.std.proofs.Common.{◌≡◌, List, [], ◌∷◌, ◌++◌, map, append_assoc, append-nil, sym, ap, subst, ◌∙◌}
+use Rattle.std.proofs.Common.{◌≡◌, List, [], ◌∷◌, ◌++◌, map, append_assoc, append-nil, sym, ap, subst, ◌∙◌, arith}
 use Rattle.std.proofs.lemmas.List.{nil_from_length}
 use Rattle.std.specs.{Prelude.Option, Prelude.None, Prelude.vec_items, Vec.Iter.into_iter_items}
-use Rattle.monk_hall.specs.Tokens.{House, Token}
+use Rattle.monk_hall.specs.Tokens.{Token}
 use Rattle.monk_samples.proofs.crew.join_all.Goals as goal
 use Rattle.monk_samples.proofs.EndLaws.{HaveJoined, joined_then, wants_memory, if_err}
 use Rattle.monk_samples.proofs.RunLaws.{first_of, rest_of, same_all}
-use Rattle.monk_samples.specs.{Rounds.HasServed, Crews.IsOf, Ends.HaveServed, Ends.IsFaultOfCrew, Faults.fault_after}
+use Rattle.monk_samples.specs.{Rounds.HasServed, Crews.IsOf, Faults.fault_after}
 use Rattle.monk_samples.specs.declared.{crew_fault.CrewFault.CrewFault, rota.Rota.Rota}
+use Rattle.std.proofs.lemmas.Grind.{common_steps}
 
 pub loop-shift-init : goal.loop-shift-init
 loop-shift-init g c =
@@ -33,8 +34,7 @@ loop-shift-preserved g c =
     × (s.promise.rota.value ≡ c.args.rota))
     steps inv.3 in
     let kept = c.in-Some-join.ensures in
-    let of : IsOf c.args.hall.now c.in-Some-join.pass =
-    subst (λ (h : House). IsOf h c.in-Some-join.pass) from.0 kept.0 in
+    let of : IsOf c.args.hall.now c.in-Some-join.pass = grind (arith, common_steps) in
     let here = subst (λ gate. HasServed g.K.Kind.rules g.T.Guarded.meaning (g.G.Gate.answers gate) p.rota.value.scenario
     p.rota.value.seats p.rota.value.rounds p.pass.value c.in-Some-join.pass c.in-Some-join.end) from.1 kept.1 in
     let served =
@@ -70,13 +70,7 @@ returns-in-None-fault-clause-served g c =
     let rest = nil_from_length (into_iter_items c.loop-shift.shift-iterator)
     (sym c.loop-shift.shift-iterator.rest.ok.0 ∙ c.in-None.ensures.steps.0) in
     let done = inv.1 ∙ ap (λ xs. inv.0 ++ map (λ s. s.promise.pass.value) xs) rest ∙ append-nil inv.0 in
-    subst (λ (ps : List Token). HaveServed g.K.Kind.rules g.T.Guarded.meaning
-    (g.G.Gate.answers c.args.gate.now) c.args.rota.scenario
-    c.args.rota.seats c.args.rota.rounds c.args.hall.now ps (vec_items c.loop-shift.passes)) (sym done)
-    (subst (λ (fault : Option CrewFault). HaveJoined g.K.Kind.rules g.T.Guarded.meaning
-    (g.G.Gate.answers c.args.gate.now) c.args.rota.scenario c.args.rota.seats c.args.rota.rounds c.args.hall.now inv.0
-    (vec_items c.loop-shift.passes) fault)
-    c.in-None-fault.is inv.2)
+    grind (arith, common_steps, HaveJoined)
 
 pub returns-in-None-fault-clause-fault : goal.returns-in-None-fault-clause-fault
 returns-in-None-fault-clause-fault g c = tt
@@ -87,13 +81,7 @@ returns-in-Some-fault-clause-fault g c =
     let rest = nil_from_length (into_iter_items c.loop-shift.shift-iterator)
     (sym c.loop-shift.shift-iterator.rest.ok.0 ∙ c.in-None.ensures.steps.0) in
     let done = inv.1 ∙ ap (λ xs. inv.0 ++ map (λ s. s.promise.pass.value) xs) rest ∙ append-nil inv.0 in
-    subst (λ (ps : List Token). IsFaultOfCrew g.K.Kind.rules g.T.Guarded.meaning
-    (g.G.Gate.answers c.args.gate.now) c.args.rota.scenario
-    c.args.rota.seats c.args.rota.rounds ps c.in-Some-fault.fault) (sym done)
-    (subst (λ (fault : Option CrewFault). HaveJoined g.K.Kind.rules g.T.Guarded.meaning
-    (g.G.Gate.answers c.args.gate.now) c.args.rota.scenario c.args.rota.seats c.args.rota.rounds c.args.hall.now inv.0
-    (vec_items c.loop-shift.passes) fault)
-    c.in-Some-fault.is inv.2)
+    grind (arith, common_steps, HaveJoined)
 
 pub returns-in_err-push-clause-fault : goal.returns-in_err-push-clause-fault
 returns-in_err-push-clause-fault g c =

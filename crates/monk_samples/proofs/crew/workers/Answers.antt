@@ -1,10 +1,11 @@
-use Rattle.std.proofs.Common.{◌≡◌, ◌++◌, map, refl, sym, ap, ◌∙◌, append-nil}
+use Rattle.std.proofs.Common.{◌≡◌, ◌++◌, map, refl, sym, ap, ◌∙◌, append-nil, arith}
 use Rattle.std.{specs.Prelude.vec_items, specs.Vec.Iter.into_iter_items, proofs.lemmas.List.nil_from_length}
 use Rattle.monk_samples.specs.declared.crew_fault.CrewFault.TheVariants as crew
 use Rattle.monk_samples.proofs.crew.workers.Goals as goal
 use Rattle.monk_samples.proofs.EndLaws.{if_err}
 use Rattle.monk_samples.proofs.RunLaws.{one_more, first_of, rest_of, same_all, none_yet, mapped_more}
 use Rattle.monk_samples.specs.Crews.{IsReady}
+use Rattle.std.proofs.lemmas.Grind.{common_steps}
 
 pub loop-pass-init : goal.loop-pass-init
 loop-pass-init g c =
@@ -40,9 +41,7 @@ pub returns-clause-passes : goal.returns-clause-passes
 returns-clause-passes g c =
     let rest = nil_from_length (into_iter_items c.loop-pass.pass-iterator)
     (sym c.loop-pass.pass-iterator.rest.ok.0 ∙ c.in-None.ensures.steps.0) in
-    sym (ap (λ ps. map (λ w. w.pass) (vec_items c.loop-pass.workers) ++ ps) rest
-    ∙ append-nil (map (λ w. w.pass) (vec_items c.loop-pass.workers)))
-    ∙ c.loop-pass.invariant.1
+    grind (arith, common_steps, append-nil)
 
 pub returns-in_err-workers-clause-fault : goal.returns-in_err-workers-clause-fault
 returns-in_err-workers-clause-fault g c =

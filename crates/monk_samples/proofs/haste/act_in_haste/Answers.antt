@@ -1,4 +1,4 @@
-use Rattle.std.proofs.Common.{ℕ, ◌<◌, Some, subst, sym}
+use Rattle.std.proofs.Common.{Some, arith}
 use Rattle.std.proofs.lemmas.Result.{MatchResult-weaker}
 use Rattle.monk_history.specs.Meaning.Monitor.{data_of}
 use Rattle.monk_floor.specs.View.{monitor_of}
@@ -6,6 +6,7 @@ use Rattle.monk_samples.proofs.haste.act_in_haste.Goals as goal
 use Rattle.monk_samples.proofs.PauseLaws.{acted_looked, stayed_out, tired_inside, unready}
 use Rattle.monk_samples.proofs.HasteLaws.{acted_ok, looked_since, tired_since}
 use Rattle.monk_samples.specs.{Trails.outside, Visits.hasty_guard}
+use Rattle.std.proofs.lemmas.Grind.{common_steps}
 
 pub returns-in-Err-clause-acted : goal.returns-in-Err-clause-acted
 returns-in-Err-clause-acted g c =
@@ -35,6 +36,4 @@ pub returns-in-Ok-pause_once-clause-done : goal.returns-in-Ok-pause_once-clause-
 returns-in-Ok-pause_once-clause-done g c =
     let k = g.K.Kind.rules in let o = g.T.Guarded.meaning in let b = c.in-Ok-pause_once.active in
     let state = data_of (monitor_of k o b.floor) b.floor.history in
-    acted_ok c.act.result _ _ _ (λ r h automatic. subst (λ (n : ℕ). 0 < n) (sym h.1)
-    (c.requires.promise state (c.in-Ok-pause_once.ensures.holds automatic)))
-    c.act.ensures.acted
+    grind (arith, common_steps, acted_ok)

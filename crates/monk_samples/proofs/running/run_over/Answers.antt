@@ -1,11 +1,12 @@
-use Rattle.std.proofs.Common.{ap, sym, subst, ◌∙◌, ◌<◌, ◌≤◌, List, ℕ, length, arith}
+use Rattle.std.proofs.Common.{ap, subst, ◌∙◌, ◌<◌, ◌≤◌, List, ℕ, length, arith}
 use Rattle.monk_object.specs.Object.{Object}
-use Rattle.monk_hall.specs.{Rule.setting_of, Tokens.Token, declared.setting.Setting.Setting}
+use Rattle.monk_hall.specs.{Rule.setting_of, Tokens.Token}
 use Rattle.monk_samples.proofs.running.run_over.Goals as goal
 use Rattle.monk_samples.proofs.{MeetLaws.seats_differ, HistoryLaws.left_history, RunLaws.if_fault, RunLaws.if_four}
 use Rattle.monk_samples.proofs.RunEndLaws.{some_pass, back_of, some_back, has_closed, close_fault}
 use Rattle.monk_samples.specs.{Crews.IsClosed, Ends.HaveServed, Wholes.IsFaultOfClosing}
 use Rattle.monk_samples.specs.Samples.{conds_of, budget_of}
+use Rattle.std.proofs.lemmas.Grind.{common_steps}
 
 pub close_by-requires-clause-of : goal.close_by-requires-clause-of
 close_by-requires-clause-of g c κs within =
@@ -14,9 +15,7 @@ close_by-requires-clause-of g c κs within =
     (g.G.Gate.answers c.args.gate.now) c.args.rota.scenario c.args.rota.seats
     c.args.rota.rounds c.in_ok-hall.hall c.in_ok-hall.passes.items c.in_ok-passes.passes.items) c.requires.object
     c.in_ok-passes.ensures.served in
-    back_of g.K.Kind.rules (g.G.Gate.answers c.args.gate.now) c.args.rota.scenario c.args.rota.seats
-    c.args.rota.rounds
-    c.in_ok-hall.hall c.in_ok-hall.passes.items c.in_ok-passes.passes.items served
+    grind (arith, common_steps, back_of)
 
 pub close_by-requires-clause-some : goal.close_by-requires-clause-some
 close_by-requires-clause-some g c κs within =
@@ -25,15 +24,9 @@ close_by-requires-clause-some g c κs within =
     (g.G.Gate.answers c.args.gate.now) c.args.rota.scenario c.args.rota.seats
     c.args.rota.rounds c.in_ok-hall.hall c.in_ok-hall.passes.items c.in_ok-passes.passes.items) c.requires.object
     c.in_ok-passes.ensures.served in
-    let seats : 2 ≤ c.in_ok-hall.hall.setting.seats =
-    subst (λ n. 2 ≤ n) (sym (ap (λ (s : Setting). s.seats) c.in_ok-hall.ensures.setting))
-    c.args.rota.seats_in_range.0 in
-    let some : 0 < length c.in_ok-hall.passes.items =
-    subst (λ (ps : List Token). 0 < length ps) (sym c.in_ok-hall.ensures.passes)
-    (some_pass c.in_ok-hall.hall.id c.in_ok-hall.hall.setting seats) in
-    some_back g.K.Kind.rules (g.G.Gate.answers c.args.gate.now) c.args.rota.scenario c.args.rota.seats
-    c.args.rota.rounds
-    c.in_ok-hall.hall c.in_ok-hall.passes.items c.in_ok-passes.passes.items served some
+    let seats : 2 ≤ c.in_ok-hall.hall.setting.seats = grind (arith, common_steps) in
+    let some : 0 < length c.in_ok-hall.passes.items = grind (arith, common_steps, some_pass) in
+    grind (arith, common_steps, some_back)
 
 pub close_by-requires-clause-apart : goal.close_by-requires-clause-apart
 close_by-requires-clause-apart g c κs within =

@@ -4,6 +4,7 @@ use Rattle.monk_samples.proofs.shop.have_cut.Goals as goal
 use Rattle.monk_samples.proofs.PromiseLaws.{has_code, has_pred, promises, sit_promised, depart_promised}
 use Rattle.monk_samples.proofs.VisitLaws.{visited_once, visited_twice}
 use Rattle.monk_samples.specs.{Members.sits, Members.departs, Visits.HasVisited, declared.end.End.End}
+use Rattle.std.proofs.lemmas.Grind.{common_steps}
 
 pub returns-in-Done : goal.returns-in-Done
 returns-in-Done g c =
@@ -11,9 +12,7 @@ returns-in-Done g c =
     let first =
     subst (λ (end : End). HasVisited k g.T.Guarded.meaning c.args.pass (sits ∷ []) c.act_and_finish-pass.result.0 end)
     c.in-Done.is c.act_and_finish-pass.ensures in
-    visited_twice k g.T.Guarded.meaning c.args.pass c.act_and_finish-pass.result.0 c.act_and_finish.result.0
-    c.act_and_finish.result.1
-    sits departs first c.act_and_finish.ensures
+    grind (arith, common_steps, visited_twice)
 
 pub returns-in_default : goal.returns-in_default
 returns-in_default g c = visited_once g.K.Kind.rules g.T.Guarded.meaning c.args.pass c.act_and_finish-pass.result.0

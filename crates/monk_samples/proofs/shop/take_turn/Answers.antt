@@ -4,6 +4,7 @@ use Rattle.monk_samples.proofs.shop.take_turn.Goals as goal
 use Rattle.monk_samples.proofs.PromiseLaws.{has_code, has_pred, promises, call_promised}
 use Rattle.monk_samples.proofs.VisitLaws.{visited_once, visited_twice}
 use Rattle.monk_samples.specs.{Members.calls, Members.finishes, Visits.HasVisited, declared.end.End.End}
+use Rattle.std.proofs.lemmas.Grind.{common_steps}
 
 pub returns-in-Done : goal.returns-in-Done
 returns-in-Done g c =
@@ -11,9 +12,7 @@ returns-in-Done g c =
     let first =
     subst (λ (end : End). HasVisited k g.T.Guarded.meaning c.args.pass (calls ∷ []) c.act_and_finish-pass.result.0 end)
     c.in-Done.is c.act_and_finish-pass.ensures in
-    visited_twice k g.T.Guarded.meaning c.args.pass c.act_and_finish-pass.result.0 c.finish_cut.result.0
-    c.finish_cut.result.1
-    calls finishes first c.finish_cut.ensures
+    grind (arith, common_steps, visited_twice)
 
 pub returns-in_default : goal.returns-in_default
 returns-in_default g c = visited_once g.K.Kind.rules g.T.Guarded.meaning c.args.pass c.act_and_finish-pass.result.0

@@ -1,6 +1,7 @@
 use Rattle.std.proofs.Common.{arith}
 use Rattle.monk_samples.proofs.TotalLaws.{put_next}
 use Rattle.monk_samples.proofs.totals.items_put.Goals as goal
+use Rattle.std.proofs.lemmas.Grind.{common_steps}
 
 pub overflow_add-sum : goal.overflow_add-sum
 overflow_add-sum c =
@@ -13,9 +14,4 @@ loop-event-preserved c =
     let inv = c.loop-event.invariant in
     let below = c.loop-event-test.true in
     let bound = inv.1 in
-    let low = c.item_put-sum.ensures.low in (
-      put_next c.loop-event.event-index c.loop-event.sum c.item_put-sum.result c.args.history.now _ below inv.0
-          c.item_put-sum.ensures.item,
-      omega (arith, bound, low),
-      omega (arith, below),
-    )
+    grind (arith, common_steps, put_next)

@@ -1,6 +1,7 @@
 use Rattle.std.proofs.Common.{◌+◌, arith}
 use Rattle.monk_samples.proofs.TotalLaws.{taken_next, taken_first}
 use Rattle.monk_samples.proofs.totals.items_taken.Goals as goal
+use Rattle.std.proofs.lemmas.Grind.{common_steps}
 
 pub overflow_add-sum : goal.overflow_add-sum
 overflow_add-sum c =
@@ -14,8 +15,4 @@ overflow_add-sum c =
 pub loop-event-preserved : goal.loop-event-preserved
 loop-event-preserved c =
     let inv = c.loop-event.invariant in
-    let below = c.loop-event-test.true in (
-      taken_next c.loop-event.event-index c.loop-event.sum c.item_taken-sum.result c.args.history.now _ below inv.0
-          c.item_taken-sum.ensures,
-      omega (arith, below),
-    )
+    grind (arith, common_steps, taken_next)

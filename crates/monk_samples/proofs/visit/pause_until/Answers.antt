@@ -1,15 +1,15 @@
-use Rattle.std.proofs.Common.{◌≡◌, false, refl, Some}
+use Rattle.std.proofs.Common.{◌≡◌, false, refl, Some, arith}
 use Rattle.monk_history.specs.Meaning.Monitor.{data_of}
 use Rattle.monk_floor.specs.View.{monitor_of}
 use Rattle.monk_samples.proofs.visit.pause_until.Goals as goal
 use Rattle.monk_samples.proofs.{ShortLaws.still_pauses, TrailLaws.called_none}
 use Rattle.monk_samples.proofs.PauseLaws.{left_after, paused_none, paused_once}
 use Rattle.monk_samples.specs.{Trails.inside, Visits.guard}
+use Rattle.std.proofs.lemmas.Grind.{common_steps}
 
 pub loop-active-init : goal.loop-active-init
 loop-active-init g c = let a = c.args.active in
-    paused_none g.K.Kind.rules g.T.Guarded.meaning (inside a) (Some (guard c.args.cond c.args.pred)) a
-    (called_none (inside a))
+    grind (arith, common_steps, paused_none, called_none)
 
 pub loop-active-preserved : goal.loop-active-preserved
 loop-active-preserved g c = paused_once g.K.Kind.rules g.T.Guarded.meaning (inside c.args.active)

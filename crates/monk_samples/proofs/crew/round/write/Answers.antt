@@ -1,7 +1,8 @@
-use Rattle.std.proofs.Common.{[], ◌∷◌, subst}
+use Rattle.std.proofs.Common.{[], ◌∷◌, subst, arith}
 use Rattle.monk_samples.proofs.crew.round.write.Goals as goal
 use Rattle.monk_samples.proofs.{RoundLaws.still_of, VisitLaws.visited_once, VisitLaws.visited_twice}
 use Rattle.monk_samples.specs.{Members.begins_to_write, Members.ends_to_write, Visits.HasVisited, declared.end.End.End}
+use Rattle.std.proofs.lemmas.Grind.{common_steps}
 
 pub returns-in-Done : goal.returns-in-Done
 returns-in-Done g c =
@@ -15,18 +16,11 @@ returns-in-Done g c =
     visited_twice k g.T.Guarded.meaning c.args.pass c.begin_write-pass.result.0 c.end_write.result.0
     c.end_write.result.1
     begins_to_write (ends_to_write k) first second in
-    record {
-      back = still_of c.args.hall.now c.args.pass c.end_write.result.0 _ both.called c.requires.ready.0;
-      visited = both;
-    }
+    grind (arith, common_steps, still_of)
 
 pub returns-in_default : goal.returns-in_default
 returns-in_default g c =
     let k = g.K.Kind.rules in
     let once = visited_once k g.T.Guarded.meaning c.args.pass c.begin_write-pass.result.0 c.begin_write-pass.result.1
     begins_to_write (ends_to_write k) c.in_default.not-Done c.begin_write-pass.ensures in
-    record {
-      back =
-          still_of c.args.hall.now c.args.pass c.begin_write-pass.result.0 _ once.called c.requires.ready.0;
-      visited = once;
-    }
+    grind (arith, common_steps, still_of)

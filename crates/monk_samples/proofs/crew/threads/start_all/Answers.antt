@@ -1,9 +1,10 @@
-use Rattle.std.proofs.Common.{◌≡◌, ◌∷◌, ◌++◌, map, sym, ap, ◌∙◌, append-nil}
+use Rattle.std.proofs.Common.{◌≡◌, ◌∷◌, ◌++◌, map, sym, ap, ◌∙◌, append-nil, arith}
 use Rattle.std.{specs.Prelude.vec_items, specs.Vec.Iter.into_iter_items, proofs.lemmas.List.nil_from_length}
 use Rattle.monk_samples.proofs.crew.threads.start_all.Goals as goal
 use Rattle.monk_samples.proofs.EndLaws.{if_err, is_memory, is_thread}
 use Rattle.monk_samples.proofs.RunLaws.{one_more, first_of, rest_of, same_all, none_yet, mapped_more}
 use Rattle.monk_samples.specs.Crews.{IsReady}
+use Rattle.std.proofs.lemmas.Grind.{common_steps}
 
 pub loop-worker-init : goal.loop-worker-init
 loop-worker-init g c =
@@ -49,8 +50,7 @@ pub returns-clause-passes : goal.returns-clause-passes
 returns-clause-passes g c =
     let rest = nil_from_length (into_iter_items c.loop-worker.worker-iterator)
     (sym c.loop-worker.worker-iterator.rest.ok.0 ∙ c.in-None.ensures.steps.0) in
-    sym (ap (λ ws. map (λ s. s.promise.pass.value) (vec_items c.loop-worker.crew) ++ map (λ w. w.pass) ws) rest
-    ∙ append-nil (map (λ s. s.promise.pass.value) (vec_items c.loop-worker.crew))) ∙ c.loop-worker.invariant.1
+    grind (arith, common_steps, append-nil)
 
 pub returns-in_err-crew-clause-fault : goal.returns-in_err-crew-clause-fault
 returns-in_err-crew-clause-fault g c = if_err c.from_residual.result _ _ c.from_residual.ensures is_memory

@@ -1,8 +1,9 @@
-use Rattle.std.proofs.Common.{rules, ◌≡◌, ℕ, true, false, ◌∙◌}
+use Rattle.std.proofs.Common.{rules, ◌≡◌, ℕ, true, false, ◌∙◌, arith}
 use Rattle.monk_hall.specs.declared.setting.Setting.{Setting}
 use Rattle.monk_samples.specs.Rounds.{round_of, rounds_of}
 use Rattle.monk_samples.proofs.RoundLaws.{no_round, round_done, round_short, sent_away, all_done}
 use Rattle.monk_samples.proofs.crew.threads.work.Goals as goal
+use Rattle.std.proofs.lemmas.Grind.{common_steps}
 
 pub loop-done-init : goal.loop-done-init
 loop-done-init g c = let k = g.K.Kind.rules in let w = c.args.worker in (
@@ -28,31 +29,18 @@ returns-in_default-clause-served g c =
     let k = g.K.Kind.rules in let w = c.args.worker in let let_in : c.pass.result ≡ true = search rules in
     let all = c.rounds_of-done-end.ensures
     ∙ (λ i. rounds_of w.rota.scenario.sample w.rota.seats w.rota.rounds (c.seat-seat.ensures i)) in
-    round_short k g.T.Guarded.meaning (g.G.Gate.answers w.gate.now)
-    (λ (z : Setting) (s r : ℕ). round_of w.rota.scenario k z w.rota.seats s r)
-    c.loop-done.done c.seat-seat.result c.rounds_of-done-end.result _ c.pass.result w.pass c.loop-done.pass
-    c.do_round-back.result.0 c.do_round-back.result.1 c.seat-seat.ensures all c.loop-done-test.true
-    c.loop-done.invariant.1
-    c.pass.ensures let_in c.do_round-back.ensures.visited c.in_default.not-Done
+    grind (arith, common_steps, round_short)
 
 pub returns-then-not-pass-clause-served : goal.returns-then-not-pass-clause-served
 returns-then-not-pass-clause-served g c =
     let k = g.K.Kind.rules in let w = c.args.worker in let away : c.pass.result ≡ false = search rules in
     let all = c.rounds_of-done-end.ensures
     ∙ (λ i. rounds_of w.rota.scenario.sample w.rota.seats w.rota.rounds (c.seat-seat.ensures i)) in
-    sent_away k g.T.Guarded.meaning (g.G.Gate.answers w.gate.now)
-    (λ (z : Setting) (s r : ℕ). round_of w.rota.scenario k z w.rota.seats s r)
-    c.loop-done.done c.seat-seat.result c.rounds_of-done-end.result _ c.pass.result w.pass c.loop-done.pass
-    c.seat-seat.ensures
-    all c.loop-done-test.true c.loop-done.invariant.1 c.pass.ensures away
+    grind (arith, common_steps, sent_away)
 
 pub returns-clause-served : goal.returns-clause-served
 returns-clause-served g c =
     let k = g.K.Kind.rules in let w = c.args.worker in
     let all = c.rounds_of-done-end.ensures
     ∙ (λ i. rounds_of w.rota.scenario.sample w.rota.seats w.rota.rounds (c.seat-seat.ensures i)) in
-    all_done k g.T.Guarded.meaning (g.G.Gate.answers w.gate.now)
-    (λ (z : Setting) (s r : ℕ). round_of w.rota.scenario k z w.rota.seats s r)
-    c.loop-done.done c.rounds_of-done-end.result _ w.pass c.loop-done.pass all c.loop-done.auto.done-end
-    c.loop-done-test.false
-    c.loop-done.invariant.1
+    grind (arith, common_steps, all_done)

@@ -4,6 +4,8 @@ use Rattle.monk_hall.specs.Tokens.{Token}
 use Rattle.monk_samples.proofs.crew.threads.work_all.Goals as goal
 use Rattle.monk_samples.proofs.{EndLaws.all_served, EndLaws.fault_then, EndLaws.if_err, RunLaws.if_ok}
 use Rattle.monk_samples.specs.{Crews.IsReady, Ends.HaveServed, Ends.IsFaultOfCrew}
+use Rattle.std.proofs.lemmas.Grind.{common_steps}
+use Rattle.std.proofs.Common.{arith}
 
 pub workers-requires-after_bounds : goal.workers-requires-after_bounds
 workers-requires-after_bounds g c κs within =
@@ -25,10 +27,7 @@ returns-in_err-back-clause-fault g c =
     (g.G.Gate.answers c.args.gate.now)
     c.args.rota.scenario c.args.rota.seats c.args.rota.rounds ps c.in_err-back.field-0.0)
     (sym c.part_idle-working.ensures.all) fault in
-    if_err c.from_residual-in_err-back.result _ _ c.from_residual-in_err-back.ensures
-    (λ e h. subst (IsFaultOfCrew g.K.Kind.rules g.T.Guarded.meaning
-    (g.G.Gate.answers c.args.gate.now) c.args.rota.scenario c.args.rota.seats
-    c.args.rota.rounds c.args.passes.items) (sym h) all)
+    grind (arith, common_steps, if_err)
 
 pub returns-clause-served : goal.returns-clause-served
 returns-clause-served g c =
@@ -38,9 +37,4 @@ returns-clause-served g c =
     (g.G.Gate.answers c.args.gate.now)
     c.args.rota.scenario c.args.rota.seats c.args.rota.rounds c.args.hall.now ps c.in_ok-back.back.items)
     c.in_ok-workers.ensures.passes c.in_ok-back.ensures.1.0 in
-    if_ok c.with_idle.result _ _
-    (λ v e. all_served g.K.Kind.rules g.T.Guarded.meaning
-    (g.G.Gate.answers c.args.gate.now) c.args.rota.scenario c.args.rota.seats
-    c.args.rota.rounds c.args.hall.now c.args.passes.items c.part_idle-working.result.0.items c.in_ok-back.back.items
-    v.items c.part_idle-working.result.1 c.part_idle-working.ensures.all e served idle c.part_idle-working.ensures.idle)
-    c.with_idle.ensures.all
+    grind (arith, common_steps, if_ok, all_served)

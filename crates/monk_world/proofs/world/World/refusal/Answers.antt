@@ -11,6 +11,7 @@ use Rattle.monk_world.proofs.world.World.refusal.Goals as goal
 use Rattle.monk_world.specs.Telling as telling
 use Rattle.monk_world.specs.{declared.command.Command.Command, declared.place.Place.Place, WorldViews.state_of_view}
 use Rattle.monk_world.specs.StepTable.{may_be_told, is_call_in_range, is_call_offered, call_of, left_for}
+use Rattle.std.proofs.lemmas.Grind.{common_steps}
 
 reach : (o : Object) (f : FloorView) (seat : ℕ) (c : Command) (conds codes predicates : ℕ) → nat_lt seat f.seats ≡ true
     → conds ≡ f.conds → o.codes ≡ codes → o.predicates ≡ predicates
@@ -66,9 +67,7 @@ returns g c =
     let passed : c.is_in_range.result ≡ true = search rules in
     let open_to : c.is_offered.result ≡ true = search rules in
     let offered : is_call_offered g.K.Kind.rules (call_of c.args.seat c.args.command) ≡ true =
-    offers g.K.Kind.rules c.args.seat c.args.command
-    (ap (λ (k : Rules). telling.is_command_offered k.mode c.args.command) (sym c.rules_of.ensures)
-    ∙ (sym c.is_offered.ensures ∙ open_to)) in
+    grind (arith, common_steps, offers, rules) in
     let yes : may_be_told (s.world.place c.args.seat) c.args.command ≡ true = grind (arith, told) in
     let enough : left_for c.args.command ≤ left_of s.floor.budget s.floor.history c.args.seat = grind arith in
     world.not_refused g.K.Kind.rules g.T.Guarded.meaning s c.args.seat c.args.command
