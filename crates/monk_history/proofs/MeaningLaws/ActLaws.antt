@@ -1,5 +1,5 @@
 -- The acts of a legal history are a run of its object, so the laws of the object hold for them
-use Rattle.std.proofs.Common.{◌≡◌, ℕ, true, List, [], ◌∷◌, ◌++◌, map, refl, sym, ap, subst, ◌∙◌}
+use Rattle.std.proofs.Common.{◌≡◌, ℕ, true, List, [], ◌∷◌, ◌++◌, map, refl, sym, ap, ◌∙◌}
 use Rattle.std.proofs.lemmas.{Grind.flat_map-append, List.map-append, List.Sums.fold-append}
 use Rattle.monk_kinds.specs.declared.mode.Rules.{Rules}
 use Rattle.monk_object.proofs.PublicLaws.{first_in_first_out, exclusive, customers, last_set}
@@ -80,14 +80,7 @@ pub in_order : (rules : Rules) (seats conds size : ℕ) (h : List Event)
 in_order rules seats conds size h l =
     let run = acts_are_run (over rules seats conds Buffer size) h l in
     let law = first_in_first_out size (ops_in h) in
-    subst (λ (acts : List Answered). IsInOrder size (data_of (over rules seats conds Buffer size) h) acts) run.replies
-    (record {
-      items = law.items;
-      state_is = sym run.leads_to ∙ law.state;
-      in_order = law.in_order;
-      within =
-          law.within;
-    })
+    grind (arith, nat_tests)
 
 pub excludes : (rules : Rules) (seats conds size : ℕ) (h : List Event)
     → IsLegal (monitor rules seats conds (meaning_named Book) (opening_named Book size)) h
@@ -96,19 +89,7 @@ pub excludes : (rules : Rules) (seats conds size : ℕ) (h : List Event)
 excludes rules seats conds size h l =
     let run = acts_are_run (over rules seats conds Book size) h l in
     let law = exclusive size (ops_in h) in
-    subst (λ (acts : List Answered). ExcludesEachOther size
-    (data_of (over rules seats conds Book size) h) acts) run.replies
-    (record {
-      readers = law.readers;
-      writers = law.writers;
-      state_is = sym run.leads_to ∙ law.state;
-      within =
-          law.within;
-      one_writer = law.one_writer;
-      alone = law.alone;
-      reads = law.reads;
-      writes = law.writes;
-    })
+    grind (arith, nat_tests)
 
 pub serves_each : (rules : Rules) (seats conds size : ℕ) (h : List Event)
     → IsLegal (monitor rules seats conds (meaning_named Shop) (opening_named Shop size)) h
@@ -117,17 +98,7 @@ pub serves_each : (rules : Rules) (seats conds size : ℕ) (h : List Event)
 serves_each rules seats conds size h l =
     let run = acts_are_run (over rules seats conds Shop size) h l in
     let law = customers size (ops_in h) in
-    subst (λ (acts : List Answered). ServesEachOne size (data_of (over rules seats conds Shop size) h) acts) run.replies
-    (record {
-      sitting = law.sitting;
-      chair = law.chair;
-      state_is = sym run.leads_to ∙ law.state;
-      within =
-          law.within;
-      sat = law.sat;
-      called = law.called;
-      finished = law.finished;
-    })
+    grind (arith, nat_tests)
 
 pub holds_last : (rules : Rules) (seats conds size : ℕ) (h : List Event)
     → IsLegal (monitor rules seats conds (meaning_named Flags) (opening_named Flags size)) h
@@ -136,12 +107,4 @@ pub holds_last : (rules : Rules) (seats conds size : ℕ) (h : List Event)
 holds_last rules seats conds size h l =
     let run = acts_are_run (over rules seats conds Flags size) h l in
     let law = last_set size (ops_in h) in
-    subst (λ (acts : List Answered). HoldsLastSet size (data_of (over rules seats conds Flags size) h) acts) run.replies
-    (record {
-      bits = law.bits;
-      earlier = law.earlier;
-      state_is = sym run.leads_to ∙ law.state;
-      in_order = law.in_order;
-      within =
-          law.within;
-    })
+    grind (arith, nat_tests, in_order)

@@ -79,11 +79,7 @@ awaits_what_holds m h i s e l here there =
     (λ p. absurd (false≢true (sym (ap is_stay chosen) ∙ p)))
     (λ p. until_chosen m.kind (queues_at m.object (situation m past) e) (seat_of e) (is_some (steps_back e))
     (next_of e) s chosen p)) in
-    let same : data_of m (take (i + 1) h) ≡ data_of m past =
-    ap (data_of m) one
-    ∙ (data-push m past e
-    ∙ ap (λ a. option_map_or (λ act. m.object.after (data_of m past) act.op) a (data_of m past))
-    (choice_without_act e (UntilSeat s) chosen)) in
+    let same : data_of m (take (i + 1) h) ≡ data_of m past = grind (arith, nat_tests, data-push, choice_without_act) in
     (found.0, (found.1, ap (λ d. m.object.holds d found.0) same ∙ found.2))
 
 pub the_predicate_holds : (m : Monitor) (h : List Event) → IsLegal m h → ThePredicateHolds m h

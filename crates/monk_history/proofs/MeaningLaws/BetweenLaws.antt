@@ -53,8 +53,7 @@ way_from m h i w (suc n) e l k here g r =
     let at = i + 1 + n in
     let x = get_or h at e in
     let there : slice_get h at ≡ Some x = slice_get-get_or h at e (omega (arith, r)) in
-    let more : take (i + 1 + suc n) h ≡ take at h ++ x ∷ [] =
-    (let p : i + 1 + suc n ≡ at + 1 = omega arith in ap (λ z. take z h) p) ∙ take_more_by_one h at x there in
+    let more : take (i + 1 + suc n) h ≡ take at h ++ x ∷ [] = grind (arith, nat_tests, take_more_by_one) in
     ⊎_elim
     (λ done. inl (done.0, done.1, omega (arith, done.2), done.3))
     (λ way. ⊎_elim

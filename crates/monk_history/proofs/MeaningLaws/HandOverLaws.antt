@@ -3,7 +3,7 @@ use Rattle.std.proofs.Common.{◌≡◌, ℕ, ◌+◌, ◌<◌, Bool, true, fals
 use Rattle.std.proofs.Common.{List, [], ◌∷◌, ◌++◌}
 use Rattle.std.proofs.Common.{◌-◌, take, drop, refl, sym, ap, subst, ◌∙◌, arith, zero, suc, ◌⊎◌}
 use Rattle.std.proofs.Common.{take-append-drop}
-use Rattle.std.specs.{Prelude.nat_lt, Prelude.slice_get, Option.option_map_or}
+use Rattle.std.specs.{Prelude.nat_lt, Prelude.slice_get}
 use Rattle.monk_kinds.specs.{Kind.IsKind, Names.rules_named}
 use Rattle.monk_kinds.specs.declared.name.KindName.{KindName}
 use Rattle.monk_kinds.specs.declared.mode.{Rules.Rules, Mode.Mode}
@@ -13,10 +13,10 @@ use Rattle.monk_history.proofs.MeaningLaws.StepLaws.{situation-none, legal_situa
 use Rattle.monk_history.proofs.MeaningLaws.LegalLaws.{legal_front, legal_last}
 use Rattle.monk_history.specs.Meaning.{Situation.Situation, Situation.situation, Step.after}
 use Rattle.monk_history.specs.Meaning.{Waiters.serves}
-use Rattle.monk_history.specs.Meaning.{Conditions.condition, Turn.turn, Turn.turn_by, Legal.IsLegal}
-use Rattle.monk_history.specs.Meaning.Events.{seat_of, next_of, has_conditions, has_signaller_queue}
+use Rattle.monk_history.specs.Meaning.{Conditions.condition, Turn.turn, Legal.IsLegal}
+use Rattle.monk_history.specs.Meaning.Events.{next_of, has_conditions, has_signaller_queue}
 use Rattle.monk_history.specs.Meaning.Events.{returns_at_once, is_non_blocking, answered_act}
-use Rattle.monk_history.specs.Meaning.Monitor.{Monitor, data_of, data_after}
+use Rattle.monk_history.specs.Meaning.Monitor.{Monitor}
 use Rattle.monk_history.specs.Meaning.Reasons.{IsAllowed, IsAllowedIn, fits_turn}
 use Rattle.monk_history.specs.Meaning.Promises.{is_blocking, hands_over, has_hoares_rule, is_among, IsHandedTo}
 use Rattle.monk_history.specs.Meaning.Promises.{HoaresRule}
@@ -83,22 +83,11 @@ handed : (m : Monitor) (h : List Event) (i w : ℕ) (e next : Event) → IsLegal
 handed m h i w e next l here there chosen quiet =
     let past = take i h in
     let one : take (i + 1) h ≡ past ++ e ∷ [] = take_more_by_one h i e here in
-    let two : take (i + 2) h ≡ take (i + 1) h ++ next ∷ [] =
-    (let n : i + 2 ≡ (i + 1) + 1 = omega arith in ap (λ z. take z h) n) ∙ take_more_by_one h (i + 1) next there in
-    let due : turn (take (i + 1) h) ≡ Due w FromWaiter = ap turn one
-    ∙ (turn-push past e ∙ ap (turn_by (seat_of e)) chosen) in
+    let two : take (i + 2) h ≡ take (i + 1) h ++ next ∷ [] = grind (arith, nat_tests, take_more_by_one) in
+    let due : turn (take (i + 1) h) ≡ Due w FromWaiter = grind (arith, nat_tests, turn-push) in
     let resume : next ≡ Resume w FromWaiter =
     due_resumes w FromWaiter next (subst (λ t. fits_turn t next ≡ true) due ((l (i + 1) next there).in_turn)) in
-    record {
-      resumes = resume;
-      same_data =
-          ap (data_of m) two
-          ∙ (data-push m (take (i + 1) h) next
-          ∙ (ap (data_after m.object (data_of m (take (i + 1) h))) resume
-          ∙ (ap (data_of m) one
-          ∙ (data-push m past e
-          ∙ ap (λ a. option_map_or (λ act. m.object.after (data_of m past) act.op) a (data_of m past)) quiet))));
-    }
+    grind (arith, nat_tests, data-push)
 
 by_mode : (k : Rules) (d : Mode) → IsKind k → k.mode ≡ d
     → (is_blocking d || (returns_at_once d && nat_lt k.entry k.waiter)) ≡ true

@@ -1,6 +1,6 @@
 -- If entry is chosen, nobody could be chosen from a queue, unless somebody is known to wait for entry
 use Rattle.std.proofs.Common.{◌≡◌, ◌≢◌, ℕ, Bool, true, false, cond, not, Option, Some, None, List, [], ◌∷◌, ◌++◌}
-use Rattle.std.proofs.Common.{drop, map, refl, sym, ap, ◌∙◌, arith}
+use Rattle.std.proofs.Common.{drop, map, refl, ap, ◌∙◌, arith}
 use Rattle.std.{specs.Prelude.filter, proofs.lemmas.Bool.false≢true}
 use Rattle.monk_kinds.specs.declared.mode.Pick.{Pick}
 use Rattle.monk_kinds.specs.declared.mode.Rules.{Rules}
@@ -10,9 +10,9 @@ use Rattle.monk_history.proofs.MeaningLaws.QueueSeats.{legal_sorted, sorted_queu
 use Rattle.monk_history.specs.Meaning.{Monitor.Monitor, Monitor.data_after, Situation.Situation, Situation.situation}
 use Rattle.monk_history.specs.Meaning.{Choice.Queues, Choice.queues_at, Choice.must_stay, Reasons.IsAllowed}
 use Rattle.monk_history.specs.Meaning.{Legal.IsLegal, Release.as_called, Entry.IsQuiet, Entry.AdmitsUnknown}
-use Rattle.monk_history.specs.Meaning.Signallers.{is_empty, takes_signaller}
+use Rattle.monk_history.specs.Meaning.Signallers.{is_empty}
 use Rattle.monk_history.specs.Meaning.Wish.{inner_waiters, choice_by}
-use Rattle.monk_history.specs.Meaning.Events.{next_of, is_waiter, is_until, is_stay, has_conditions}
+use Rattle.monk_history.specs.Meaning.Events.{next_of, is_until, is_stay}
 use Rattle.monk_history.specs.Meaning.Untils.{waits_until, chooses, ready_of}
 use Rattle.monk_history.specs.declared.event.Next.{Next}
 use Rattle.monk_history.specs.declared.event.Next.TheVariants.{Stay, Entry}
@@ -111,13 +111,4 @@ quiet_after m h e wish l a u =
     let sorted = sorted_queues m.kind m.object t e (legal_sorted m h l) a.offered in
     let goes = must_choose (must_stay m.object t (as_called e)) _ u.choice in
     let inner = empty_is (inner_waiters m.kind q) alone_here.waiters in
-    record {
-      waiters = ap (λ v. v.waiters) step ∙ drop_empty (is_waiter (next_of e)) q.waiters
-          (by_conditions (has_conditions m.kind.mode) (q.waiters ≡ []) (λ c. ap (λ b. cond b q.waiters q.ready) (sym c)
-          ∙ inner) sorted.waiters);
-      signallers = ap (λ v. v.signallers) step
-          ∙ drop_empty (takes_signaller t.condition e) q.signallers (empty_is q.signallers alone_here.signallers);
-      ready = ap (λ v. ready_of m.object v.state v.untils) step ∙ ready_after m.object t e u.entry goes
-          (by_conditions (has_conditions m.kind.mode) (q.ready ≡ []) sorted.ready
-          (λ c. ap (λ b. cond b q.waiters q.ready) (sym c) ∙ inner));
-    }
+    grind (arith, nat_tests, drop_empty, by_conditions, empty_is, ready_after)

@@ -240,6 +240,5 @@ chosen_allowed m t (Signal s d y) known wish i c r = record {
   in_turn = c.in_turn;
   in_place = c.in_place;
   right_reply = refl;
-  permitted = stay_or (may_signal m.kind (queues_at m.object t (Signal s d y)) s) (is_empty (t.condition d)) _
-      (λ z. served_choice m t s d y known wish i c z);
+  permitted = grind (arith, nat_tests, stay_or, served_choice);
 }

@@ -7,8 +7,8 @@ use Rattle.monk_history.proofs.MeaningLaws.{HistoryLaws.history_induction, Legal
 use Rattle.monk_history.proofs.MeaningLaws.{StandingLaws.legal_placed, StepLaws.situation-none, TurnLaws.turn-push}
 use Rattle.monk_history.proofs.MeaningLaws.CallLaws.{may_enter_free, may_enter_handed, queued_is}
 use Rattle.monk_history.specs.Meaning.{Legal.IsLegal, Monitor.Monitor, Release.MayCall, Signallers.is_empty}
-use Rattle.monk_history.specs.Meaning.{Situation.Situation, Situation.situation, Standing.is_queued}
-use Rattle.monk_history.specs.Meaning.{Turn.turn, Turn.turn_after, Turn.is_inside, Untils.ready_of}
+use Rattle.monk_history.specs.Meaning.{Situation.situation, Standing.is_queued}
+use Rattle.monk_history.specs.Meaning.{Turn.turn, Turn.turn_after, Turn.is_inside}
 use Rattle.monk_history.specs.declared.event.{Event.Event, Event.TheVariants.Enter, Turn.TheVariants.Open}
 use Rattle.monk_history.specs.declared.event.Via.TheVariants.{Free, Handed}
 use Rattle.std.proofs.lemmas.Bool.Decides.{nat_tests}
@@ -34,10 +34,7 @@ pub may_enter_first : (m : Monitor) (h : List Event) (s : ℕ) → IsLegal m h �
     → is_queued m.conds s (situation m h) ≡ false → not (is_empty h) ≡ false → MayCall m h (Enter s Free)
 may_enter_first m h s l t lt q b =
     let none : situation m h ≡ situation m [] = ap (λ x. situation m x) (none_is h b) in
-    may_enter_free m h s t lt (outside m h s l t q)
-    (ap (λ (x : Situation). x.waiters) (none ∙ situation-none m))
-    (ap (λ (x : Situation). x.signallers) (none ∙ situation-none m))
-    (ap (λ (x : Situation). ready_of m.object x.state x.untils) (none ∙ situation-none m))
+    grind (arith, nat_tests, may_enter_free, outside, situation-none)
 
 turn_at_none : turn_after (slice_get [] (length {A = Event} [] - 1)) ≡ turn []
 unfolding turn

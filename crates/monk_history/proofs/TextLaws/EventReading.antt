@@ -46,18 +46,15 @@ next_after_takes word.Entry ws x e =
 next_after_takes word.Waiter ws x e =
     let b = bind_ok (number_at 255 ws) (λ j. Ok (Waiter j.0, j.1)) x e in
     let t = number_takes 255 ws b.0 b.1 in
-    subst (λ (y : Next × List Word). (next_word word.Waiter ∷ ws ≡ next_words y.0 ++ y.1) × NextFits y.0)
-    (ok_is (Waiter b.0.0, b.0.1) x b.2) (ap (λ (v : List Word). next_word word.Waiter ∷ v) t.0, t.1)
+    grind (arith, nat_tests, ok_is)
 next_after_takes word.Signaller ws x e =
     let b = bind_ok (number_at 255 ws) (λ j. Ok (Signaller j.0, j.1)) x e in
     let t = number_takes 255 ws b.0 b.1 in
-    subst (λ (y : Next × List Word). (next_word word.Signaller ∷ ws ≡ next_words y.0 ++ y.1) × NextFits y.0)
-    (ok_is (Signaller b.0.0, b.0.1) x b.2) (ap (λ (v : List Word). next_word word.Signaller ∷ v) t.0, t.1)
+    grind (arith, nat_tests, ok_is)
 next_after_takes word.Until ws x e =
     let b = bind_ok (number_at 255 ws) (λ j. Ok (next.Until j.0, j.1)) x e in
     let t = number_takes 255 ws b.0 b.1 in
-    subst (λ (y : Next × List Word). (next_word word.Until ∷ ws ≡ next_words y.0 ++ y.1) × NextFits y.0)
-    (ok_is (next.Until b.0.0, b.0.1) x b.2) (ap (λ (v : List Word). next_word word.Until ∷ v) t.0, t.1)
+    grind (arith, nat_tests, ok_is)
 
 next_takes : (ws : List Word) (x : Next × List Word) → next_at ws ≡ Ok x → (ws ≡ next_words x.0 ++ x.1) × NextFits x.0
 unfolding next_at
@@ -91,9 +88,7 @@ cond_next_takes ws x e =
     let b = bind_ok (next_at a.0.1) (λ n. Ok ((a.0.0, n.0), n.1)) x a.2 in
     let t = number_takes 255 ws a.0 a.1 in
     let n = next_takes a.0.1 b.0 b.1 in
-    subst (λ (y : (ℕ × Next) × List Word). (ws ≡ decimal y.0.0 ∷ (next_words y.0.1 ++ y.1)) × (y.0.0 ≤ 255)
-    × NextFits y.0.1) (ok_is ((a.0.0, b.0.0), b.0.1) x b.2)
-    (t.0 ∙ ap (λ (v : List Word). decimal a.0.0 ∷ v) n.0, t.1, n.1)
+    grind (arith, nat_tests, ok_is)
 
 cond_next_again : (c : ℕ) (n : Next) (ws : List Word) → c ≤ 255 → NextFits n
     → cond_next_at (decimal c ∷ (next_words n ++ ws)) ≡ Ok ((c, n), ws)
@@ -124,9 +119,7 @@ act_takes ws x e =
     let u = number_takes (2 ^ 32 - 1) a.0.1 b.0 b.1 in
     let v = number_takes (2 ^ 64 - 1) b.0.1 c.0 c.1 in
     let made : (Op × ℕ) × List Word = ((record { code = a.0.0; arg = b.0.0 }, c.0.0), c.0.1) in
-    subst (λ (y : (Op × ℕ) × List Word). (ws ≡ act_words y.0 y.1) × (y.0.0.code ≤ 255) × (y.0.0.arg ≤ 2 ^ 32 - 1)
-    × (y.0.1 ≤ 2 ^ 64 - 1)) (ok_is made x c.2)
-    (three_words ws a.0.1 b.0.1 c.0.1 _ _ _ t.0 u.0 v.0, t.1, u.1, v.1)
+    grind (arith, nat_tests, ok_is, three_words)
 
 pub act_again : (op : Op) (reply : ℕ) → op.code ≤ 255 → op.arg ≤ 2 ^ 32 - 1 → reply ≤ 2 ^ 64 - 1
     → act_at (decimal op.code ∷ decimal op.arg ∷ decimal reply ∷ []) ≡ Ok ((op, reply), [])
@@ -162,28 +155,23 @@ event_after_takes verb.Leave s ws x le e =
 event_after_takes verb.Wait s ws x le e =
     let b = bind_ok (cond_next_at ws) (λ n. Ok (Wait s n.0.0 n.0.1, n.1)) x e in
     let t = cond_next_takes ws b.0 b.1 in
-    subst (Ends verb.Wait s ws) (ok_is (Wait s b.0.0.0 b.0.0.1, b.0.1) x b.2)
-    (ap (behind verb.Wait s) t.0, (le, t.1, t.2), refl)
+    grind (arith, nat_tests, ok_is)
 event_after_takes verb.Signal s ws x le e =
     let b = bind_ok (cond_next_at ws) (λ n. Ok (Signal s n.0.0 n.0.1, n.1)) x e in
     let t = cond_next_takes ws b.0 b.1 in
-    subst (Ends verb.Signal s ws) (ok_is (Signal s b.0.0.0 b.0.0.1, b.0.1) x b.2)
-    (ap (behind verb.Signal s) t.0, (le, t.1, t.2), refl)
+    grind (arith, nat_tests, ok_is)
 event_after_takes verb.SignalLeave s ws x le e =
     let b = bind_ok (cond_next_at ws) (λ n. Ok (SignalLeave s n.0.0 n.0.1, n.1)) x e in
     let t = cond_next_takes ws b.0 b.1 in
-    subst (Ends verb.SignalLeave s ws) (ok_is (SignalLeave s b.0.0.0 b.0.0.1, b.0.1) x b.2)
-    (ap (behind verb.SignalLeave s) t.0, (le, t.1, t.2), refl)
+    grind (arith, nat_tests, ok_is)
 event_after_takes verb.Until s ws x le e =
     let b = bind_ok (cond_next_at ws) (λ n. Ok (Until s n.0.0 n.0.1, n.1)) x e in
     let t = cond_next_takes ws b.0 b.1 in
-    subst (Ends verb.Until s ws) (ok_is (Until s b.0.0.0 b.0.0.1, b.0.1) x b.2)
-    (ap (behind verb.Until s) t.0, (le, t.1, t.2), refl)
+    grind (arith, nat_tests, ok_is)
 event_after_takes verb.Act s ws x le e =
     let b = bind_ok (act_at ws) (λ a. Ok (Act s a.0.0 a.0.1, a.1)) x e in
     let t = act_takes ws b.0 b.1 in
-    subst (Ends verb.Act s ws) (ok_is (Act s b.0.0.0 b.0.0.1, b.0.1) x b.2)
-    (ap (behind verb.Act s) t.0, (le, t.1, t.2, t.3), refl)
+    grind (arith, nat_tests, ok_is)
 event_after_takes verb.Resume s ws x le e =
     let b = bind_ok (one_of from_word froms ws) (λ q. Ok (Resume s q.0, q.1)) x e in
     let t = one_of_takes from_word froms ws b.0 b.1 in
@@ -191,17 +179,14 @@ event_after_takes verb.Resume s ws x le e =
 event_after_takes verb.SignalAll s ws x le e =
     let b = bind_ok (number_at 255 ws) (λ c. Ok (SignalAll s c.0, c.1)) x e in
     let t = number_takes 255 ws b.0 b.1 in
-    subst (Ends verb.SignalAll s ws) (ok_is (SignalAll s b.0.0, b.0.1) x b.2)
-    (ap (behind verb.SignalAll s) t.0, (le, t.1), refl)
+    grind (arith, nat_tests, ok_is)
 event_after_takes verb.SignalWait s ws x le e =
     let a = bind_ok (number_at 255 ws) (λ c. cond_next_at c.1 >>= λ n. Ok (SignalWait s c.0 n.0.0 n.0.1, n.1)) x e in
     let b = bind_ok (cond_next_at a.0.1) (λ n. Ok (SignalWait s a.0.0 n.0.0 n.0.1, n.1)) x a.2 in
     let t = number_takes 255 ws a.0 a.1 in
     let u = cond_next_takes a.0.1 b.0 b.1 in
-    let whole : ws ≡ decimal a.0.0 ∷ decimal b.0.0.0 ∷ (next_words b.0.0.1 ++ b.0.1) = t.0
-    ∙ ap (λ (v : List Word). decimal a.0.0 ∷ v) u.0 in
-    subst (Ends verb.SignalWait s ws) (ok_is (SignalWait s a.0.0 b.0.0.0 b.0.0.1, b.0.1) x b.2)
-    (ap (behind verb.SignalWait s) whole, (le, t.1, u.1, u.2), refl)
+    let whole : ws ≡ decimal a.0.0 ∷ decimal b.0.0.0 ∷ (next_words b.0.0.1 ++ b.0.1) = grind (arith, nat_tests) in
+    grind (arith, nat_tests, ok_is)
 
 -- each number of the event is in its range, and the version has a line for it
 abbrev pub FitsVersion : ℕ → Event → Type 0
@@ -222,12 +207,9 @@ event_takes version ws x e =
     let seat_is = number_takes 255 a.0.1 b.0 b.1 in
     let event_is = event_after_takes a.0.0 b.0.0 b.0.1 c.0 seat_is.1 c.1 in
     let none = (end_takes c.0.1 d.0 d.1).0 in
-    let whole : ws ≡ event_words c.0.0 = verb_is ∙ ap (λ (v : List Word). verb_word a.0.0 ∷ v) seat_is.0 ∙ event_is.0
-    ∙ ap (λ (v : List Word). event_words c.0.0 ++ v) none ∙ append-nil (event_words c.0.0) in
-    let has : nat_le (first_version c.0.0) version ≡ true = ap (λ (n : ℕ). nat_le n version) (sym event_is.2)
-    ∙ verb_has in
-    subst (λ (y : Event × List Word). (ws ≡ event_words y.0) × FitsVersion version y.0) (ok_is (c.0.0, d.0.1) x d.2)
-    (whole, (event_is.1, has))
+    let whole : ws ≡ event_words c.0.0 = grind (arith, nat_tests, append-nil) in
+    let has : nat_le (first_version c.0.0) version ≡ true = grind (arith, nat_tests) in
+    grind (arith, nat_tests, ok_is)
 
 next_again_last : (n : Next) → NextFits n → next_at (next_words n) ≡ Ok (n, [])
 next_again_last n fits = ap next_at (sym (append-nil (next_words n))) ∙ next_again n [] fits

@@ -10,7 +10,7 @@ use Rattle.monk_history.specs.Text.{heading, text, Laws.BeginsText, Laws.IsFirst
 use Rattle.monk_history.specs.Text.Lines.{lines_of, is_unended, items_at, item_line, after_header, header_line}
 use Rattle.monk_history.specs.Text.Lines.{lines_at, with_line_number}
 use Rattle.monk_history.specs.Text.Faults.{end_fault, header_fault, long_fault, number_fault, word_fault}
-use Rattle.monk_history.specs.Text.Reading.{event_under, header_at, history, text_at}
+use Rattle.monk_history.specs.Text.Reading.{event_under, header_at, text_at}
 use Rattle.monk_history.specs.declared.text.fault.ReadFault.{ReadFault}
 use Rattle.monk_kinds.specs.declared.name.KindName.TheVariants.{Pb}
 use Rattle.monk_object.specs.declared.name.ObjectName.TheVariants.{Buffer}
@@ -47,8 +47,7 @@ lines_behind : (ls : List (List ℕ)) (rest : List ℕ) → Unended ls
 lines_behind [] rest all = refl
 lines_behind (l ∷ ls) rest all =
     let regrouped : (flat_map ended (l ∷ ls)) ++ rest ≡ l ++ 10 ∷ (flat_map ended ls ++ rest) = simp append_assoc in
-    ap lines_of regrouped ∙ (cut_at (λ b. b == 10) l 10 (flat_map ended ls ++ rest) all.0 refl
-    ∙ ap (λ (x : List (List ℕ)). l ∷ x) (lines_behind ls rest all.1))
+    grind (arith, nat_tests, cut_at, lines_behind ls rest all.1)
 
 pub lines_of_first : (n : ℕ) (bytes rest : List ℕ)
     → lines_of (first_lines n bytes ++ rest) ≡ take n (lines_of bytes) ++ lines_of rest
@@ -360,8 +359,7 @@ never_with limit bytes f i again (h, es, rest, has, few, same) =
     let wrong : text_at limit (first_lines (suc i) bytes ++ rest) ≡ Err f =
     ap (lines_at header_at event_under limit) (lines_of_first (suc i) bytes rest
     ∙ ap (λ (zs : List (List ℕ)). take (suc i) (lines_of bytes) ++ zs) part.2) ∙ again part.0 part.1 in
-    let right : text_at limit (first_lines (suc i) bytes ++ rest) ≡ Ok (history h es) =
-    ap (text_at limit) (sym same) ∙ text_again limit h es has few in cc
+    grind (arith, nat_tests, Ok, text_again)
 
 pub fault_is_first : (limit : ℕ) (bytes : List ℕ) (f : ReadFault) → text_at limit bytes ≡ Err f
     → IsFirstFaulty limit bytes f.line

@@ -1,5 +1,5 @@
 -- A header is read from the words that it is written as, and a header that is written is read again.
-use Rattle.std.proofs.Common.{lit<, ◌≡◌, ℕ, ◌≤◌, List, [], ◌∷◌, ◌++◌, Some, Ok, refl, sym, ap, subst, ◌∙◌, arith}
+use Rattle.std.proofs.Common.{lit<, ◌≡◌, ℕ, ◌≤◌, List, [], ◌∷◌, ◌++◌, Some, Ok, refl, sym, ap, subst, arith}
 use Rattle.std.specs.Prelude.{codes}
 use Rattle.std.{specs.Fmt.decimal}
 use Rattle.monk_kinds.proofs.PublicLaws.{kind_again}
@@ -70,8 +70,7 @@ parts_take v ws x e =
     let e2 : s.0.1 ≡ decimal c.0.0 ∷ c.0.1 = (number_takes 255 s.0.1 c.0 c.1).0 in
     let e3 : c.0.1 ≡ object_word o.0.0 ∷ o.0.1 = one_of_takes object_word objects c.0.1 o.0 o.1 in
     let e4 : o.0.1 ≡ decimal z.0.0 ∷ z.0.1 = size_is.0 in
-    subst (λ (y : Heading × List Word). (ws ≡ part_words y.0 ++ y.1) × IsHeading y.0 × (y.0.version ≡ v)) (sym h.0)
-    (five_words ws k.0.1 s.0.1 c.0.1 o.0.1 z.0.1 _ _ _ _ _ e0 e1 e2 e3 e4, h.1, refl)
+    grind (arith, nat_tests, five_words)
 
 heading_again : (h : Heading) → IsHeading h → heading_of h.version h.kind h.seats h.conds h.object h.size ≡ Some h
 heading_again h fits = grind (arith, nat_tests)
@@ -118,12 +117,8 @@ header_takes ws x e =
     let parts_are = parts_take v.0.0 v.0.1 h.0 h.1 in
     let written : decimal v.0.0 ≡ decimal h.0.0.version = ap decimal (sym parts_are.2) in
     let none : h.0.1 ≡ [] = (end_takes h.0.1 n.0 n.1).0 in
-    let whole : ws ≡ header_words h.0.0 = name_is
-    ∙ ap (λ (w : List Word). codes "monk" ∷ w)
-    (version_is ∙ ap (λ (w : Word). w ∷ v.0.1) written ∙ ap (λ (w : List Word). decimal h.0.0.version ∷ w)
-    (parts_are.0 ∙ ap (λ (w : List Word). part_words h.0.0 ++ w) none)) in
-    subst (λ (y : Heading × List Word). (ws ≡ header_words y.0) × IsHeading y.0) (ok_is (h.0.0, n.0.1) x n.2)
-    (whole, parts_are.1)
+    let whole : ws ≡ header_words h.0.0 = grind (arith, nat_tests) in
+    grind (arith, nat_tests, ok_is)
 
 pub header_again : (h : Heading) → IsHeading h → header_at (header_words h) ≡ Ok (h, [])
 unfolding header_at

@@ -10,6 +10,7 @@ use Rattle.monk_history.specs.Text.{Heading, text, header_words, event_words, fi
 use Rattle.monk_history.specs.Text.{EventFits, HasText, Lines.Gives}
 use Rattle.monk_history.specs.Text.Reading.{History, history, view, header_at, event_under, text_at}
 use Rattle.monk_history.specs.declared.{event.Event.Event, text.fault.ReadFault.ReadFault}
+use Rattle.std.proofs.lemmas.Bool.Decides.{nat_tests}
 
 headers : IsFormat header_words header_at IsHeading
 headers = record { takes = header_takes; again = header_again; plain = header_are_words; some = λ h. omega arith }
@@ -57,15 +58,7 @@ pub text_read : (limit : ℕ) (bytes : List ℕ) (x : History) → text_at limit
 text_read limit bytes x e =
     let h = formats.text_read header_words header_at IsHeading headers event_words event_under EventFitsUnder events
     limit bytes x.0 x.1 e in
-    record {
-      has_text = record {
-        header_fits = h.head_fits;
-        events_fit = fit_alone x.0 x.1 h.fit;
-        writable = writable_under x.0 x.1 h.fit;
-      };
-      few = h.few;
-      whole = h.whole;
-    }
+    grind (arith, nat_tests, fit_alone, writable_under)
 
 pub text_one : (h g : Heading) (es fs : List Event) → HasText h es → HasText g fs → text h es ≡ text g fs
     → history h es ≡ history g fs

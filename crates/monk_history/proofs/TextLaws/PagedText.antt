@@ -1,5 +1,5 @@
 -- A text that goes out page by page.
-use Rattle.std.proofs.Common.{◌≡◌, ℕ, ◌+◌, ◌<◌, take, get_or, List, [], ◌∷◌, ◌++◌, Option, sym, ap, subst, ◌∙◌, length, append_assoc}
+use Rattle.std.proofs.Common.{◌≡◌, ℕ, ◌+◌, ◌<◌, take, get_or, List, [], ◌∷◌, ◌++◌, Option, sym, ap, ◌∙◌, length, append_assoc}
 use Rattle.std.proofs.KnownBytes.{Appends-trans}
 use Rattle.std.proofs.lemmas.{List.append-nil, List.take_more, Grind.flat_map-append}
 use Rattle.std.specs.{List.AllByRecursion, List.flat_map, Io.KnownBytes.Appends}
@@ -54,9 +54,7 @@ written_sent before now later page h left all w appends = grind (arith, nat_test
 text-push : (h : Heading) (es : List Event) (e : Event) → text h (es ++ e ∷ []) ≡ text h es ++ line (event_words e)
 text-push h es e =
     let f : Event → List ℕ = λ e. line (event_words e) in
-    ap (λ (y : List ℕ). line (header_words h) ++ y)
-    (flat_map-append f es (e ∷ []) ∙ ap (λ (y : List ℕ). flat_map f es ++ y) (append-nil (f e)))
-    ∙ sym (append_assoc (line (header_words h)) (flat_map f es) (f e))
+    grind (arith, nat_tests, flat_map-append, append-nil, append_assoc)
 
 fit-push : (es : List Event) (e : Event) → AllByRecursion EventFits es → EventFits e
     → AllByRecursion EventFits (es ++ e ∷ [])
@@ -76,8 +74,7 @@ pub written_all : (before now : Option (List ℕ)) (page : List ℕ) (h : Headin
     → IsOnItsWay before now page (text h all) × AllByRecursion EventFits all
 written_all before now page h left all none w =
     let done : w.done ≡ all = sym (append-nil w.done) ∙ (ap (λ es. w.done ++ es) (sym none) ∙ w.whole) in
-    subst (λ (es : List Event). IsOnItsWay before now page (text h es) × AllByRecursion EventFits es) done
-    (w.on_its_way, w.fit)
+    grind (arith, nat_tests)
 
 -- the whole text, with the last page
 pub written_out : (before now later : Option (List ℕ)) (page : List ℕ) (h : Heading) (left all : List Event) → left ≡ []

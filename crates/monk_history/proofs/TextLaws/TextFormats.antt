@@ -65,8 +65,7 @@ module _ {A : Type 0} (words : A → List Word) (parse : List Word → Taken A) 
   items_again (e ∷ es) (suc room) n fits le =
       let p = some_part (λ b. b == 10) (flat_map line_with es) in
       let cut : lines_of (flat_map line_with (e ∷ es)) ≡ join_with_byte 32 (words e) ∷ p.0 ∷ p.1 =
-      lines_of-line (words e) (flat_map line_with es) (format.plain e fits.0)
-      ∙ ap (λ (x : List (List ℕ)). join_with_byte 32 (words e) ∷ x) p.2 in
+      grind (arith, nat_tests, lines_of-line) in
       let rest : items_at parse room (suc n) (p.0 ∷ p.1) ≡ Ok es = ap (items_at parse room (suc n)) (sym p.2)
       ∙ items_again es room (suc n) fits.1 (omega arith) in
       rw cut (one_line parse room n (join_with_byte 32 (words e)) p.0 p.1 ∙ rw (line_again e n fits.0, rest) refl)
@@ -88,11 +87,9 @@ module _ {A : Type 0} (words : A → List Word) (parse : List Word → Taken A) 
   one_more room l next more x xs es t h e =
       let regrouped : l ++ (10 ∷ join_with_byte 10 (next ∷ more)) ≡ (l ++ 10 ∷ []) ++ join_with_byte 10 (next ∷ more) =
       sym (append_assoc l (10 ∷ []) (join_with_byte 10 (next ∷ more))) in
-      let whole : l ++ (10 ∷ join_with_byte 10 (next ∷ more)) ≡ line_with x ++ flat_map line_with xs = regrouped
-      ∙ ap (λ (y : List ℕ). y ++ join_with_byte 10 (next ∷ more)) t.0
-      ∙ ap (λ (y : List ℕ). line_with x ++ y) h.whole in
-      subst (Found (suc room) (l ∷ next ∷ more)) (items_are (x ∷ xs) es e)
-      (record { whole = whole; fit = (t.1, h.fit); few = omega (arith, h.few) })
+      let whole : l ++ (10 ∷ join_with_byte 10 (next ∷ more)) ≡ line_with x ++ flat_map line_with xs =
+      grind (arith, nat_tests) in
+      grind (arith, nat_tests, items_are)
 
   pub items_found : (room n : ℕ) (part : List ℕ) (parts : List (List ℕ)) (es : List A)
       → items_at parse room n (part ∷ parts) ≡ Ok es → Found room (part ∷ parts) es
@@ -168,9 +165,7 @@ module _ {H A : Type 0} (head_words : H → List Word) (head : List Word → Tak
   first_and_rest limit bytes l next more h es g fs same t found e =
       let regrouped : l ++ (10 ∷ join_with_byte 10 (next ∷ more)) ≡ (l ++ 10 ∷ []) ++ join_with_byte 10 (next ∷ more) =
       sym (append_assoc l (10 ∷ []) (join_with_byte 10 (next ∷ more))) in
-      let whole : bytes ≡ text_with h es = sym same ∙ regrouped
-      ∙ ap (λ (y : List ℕ). y ++ join_with_byte 10 (next ∷ more)) t.0
-      ∙ ap (λ (y : List ℕ). line (head_words h) ++ y) found.whole in
+      let whole : bytes ≡ text_with h es = grind (arith, nat_tests) in
       let one : IsRead limit bytes h es = record { head_fits = t.1; fit = found.fit; few = found.few; whole = whole } in
       let is = pair_is h g es fs e in
       subst (λ (y : H). IsRead limit bytes y fs) is.0 (subst (λ (y : List A). IsRead limit bytes h y) is.1 one)

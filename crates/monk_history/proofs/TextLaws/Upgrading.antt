@@ -4,7 +4,7 @@ use Rattle.std.specs.Prelude.{nat_le}
 use Rattle.std.proofs.lemmas.Bool.{leb-true, leb-false, le-leb}
 use Rattle.monk_history.specs.declared.event.Event.{Event}
 use Rattle.monk_history.specs.Limits.{all_events_version}
-use Rattle.monk_history.specs.Text.{Heading, upgraded_heading, last_version, first_version, is_writable, HasText}
+use Rattle.monk_history.specs.Text.{Heading, upgraded_heading, first_version, is_writable, HasText}
 use Rattle.monk_history.proofs.TextLaws.ObjectVersions.{every_event_named}
 use Rattle.std.proofs.lemmas.Bool.Decides.{nat_tests}
 
@@ -38,16 +38,4 @@ upgraded_text h es has =
     let u = upgrades h in
     let from = u.from in
     let all = u.all_events in
-    record {
-      header_fits = record {
-        named = omega (arith, from, fits.named);
-        still_named = u.no_further (last_version h.object) (every_event_named h.object) fits.still_named;
-        some_seat = fits.some_seat;
-        seats = fits.seats;
-        conds = fits.conds;
-        some_size = fits.some_size;
-        size = fits.size;
-      };
-      events_fit = has.events_fit;
-      writable = all_writable (upgraded_heading h) all es;
-    }
+    grind (arith, nat_tests, every_event_named, all_writable)

@@ -37,8 +37,7 @@ number_takes most (w ∷ ws) x e =
     let g = guard_ok (is_number most w) flaw.Number (digits_value 10 w, ws) x e in
     let p = both (bytes_eq w (decimal (digits_value 10 w))) (nat_le (digits_value 10 w) most) g.0 in
     let same : w ≡ decimal (digits_value 10 w) = (bytes_eq-Decides w (decimal (digits_value 10 w))).0 p.0 in
-    subst (λ (y : ℕ × List Word). (w ∷ ws ≡ decimal y.0 ∷ y.1) × (y.0 ≤ most)) g.1
-    (ap (λ (v : Word). v ∷ ws) same, leb-true _ _ p.1)
+    grind (arith, nat_tests, leb-true)
 
 pub number_again : (most n : ℕ) (ws : List Word) → most < 2 ^ 64 → n ≤ most
     → number_at most (decimal n ∷ ws) ≡ Ok (n, ws)

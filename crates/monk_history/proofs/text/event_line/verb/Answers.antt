@@ -1,9 +1,8 @@
-use Rattle.std.proofs.Common.{ap, sym, ◌∙◌, arith}
-use Rattle.std.specs.Prelude.{codes}
-use Rattle.monk_history.specs.Text.Words.{is_next}
+use Rattle.std.proofs.Common.{◌∙◌, arith}
 use Rattle.monk_history.specs.declared.text.verb.Verb.TheVariants as verb
 use Rattle.monk_history.proofs.TextLaws.EventWords.{verb-next, verb-none}
 use Rattle.monk_history.proofs.text.event_line.verb.Goals as goal
+use Rattle.std.proofs.lemmas.Grind.{common_steps}
 
 pub returns-then-takes : goal.returns-then-takes
 returns-then-takes c =
@@ -102,18 +101,7 @@ returns-then-version-lt-ALL_EVENTS_VERSION c =
     let same6 = same5 ∙ c.takes-else-takes-4.ensures.left c.if-takes-5.false in
     let same7 = same6 ∙ c.takes-else-takes-5.ensures.left c.if-takes-6.false in
     let same8 = same7 ∙ c.takes-else-takes-6.ensures.left c.if-takes-7.false in
-    verb-none c.args.version c.args.words.now
-    record {
-      enter = sym c.takes.ensures.is ∙ c.if-takes.false;
-      act = ap (is_next (codes "act")) same2 ∙ sym c.takes-else-takes.ensures.is ∙ c.if-takes-2.false;
-      leave = ap (is_next (codes "leave")) same3 ∙ sym c.takes-else-takes-2.ensures.is ∙ c.if-takes-3.false;
-      wait = ap (is_next (codes "wait")) same4 ∙ sym c.takes-else-takes-3.ensures.is ∙ c.if-takes-4.false;
-      signal = ap (is_next (codes "signal")) same5 ∙ sym c.takes-else-takes-4.ensures.is ∙ c.if-takes-5.false;
-      signal_leave = ap (is_next (codes "signal-leave")) same6 ∙ sym c.takes-else-takes-5.ensures.is
-          ∙ c.if-takes-6.false;
-      until = ap (is_next (codes "until")) same7 ∙ sym c.takes-else-takes-6.ensures.is ∙ c.if-takes-7.false;
-      resume = ap (is_next (codes "resume")) same8 ∙ sym c.takes-else-takes-7.ensures.is ∙ c.if-takes-8.false;
-    } (λ has. absurd (omega (arith, has, c.if-version-lt-ALL_EVENTS_VERSION.true)))
+    grind (arith, common_steps, verb-none)
 
 pub returns-else-takes-10 : goal.returns-else-takes-10
 returns-else-takes-10 c =
@@ -126,19 +114,4 @@ returns-else-takes-10 c =
     let same8 = same7 ∙ c.takes-else-takes-6.ensures.left c.if-takes-7.false in
     let same9 = same8 ∙ c.takes-else-takes-7.ensures.left c.if-takes-8.false in
     let same10 = same9 ∙ c.takes-else-version-lt-ALL_EVENTS_VERSION.ensures.left c.if-takes-9.false in
-    verb-none c.args.version c.args.words.now
-    record {
-      enter = sym c.takes.ensures.is ∙ c.if-takes.false;
-      act = ap (is_next (codes "act")) same2 ∙ sym c.takes-else-takes.ensures.is ∙ c.if-takes-2.false;
-      leave = ap (is_next (codes "leave")) same3 ∙ sym c.takes-else-takes-2.ensures.is ∙ c.if-takes-3.false;
-      wait = ap (is_next (codes "wait")) same4 ∙ sym c.takes-else-takes-3.ensures.is ∙ c.if-takes-4.false;
-      signal = ap (is_next (codes "signal")) same5 ∙ sym c.takes-else-takes-4.ensures.is ∙ c.if-takes-5.false;
-      signal_leave = ap (is_next (codes "signal-leave")) same6 ∙ sym c.takes-else-takes-5.ensures.is
-          ∙ c.if-takes-6.false;
-      until = ap (is_next (codes "until")) same7 ∙ sym c.takes-else-takes-6.ensures.is ∙ c.if-takes-7.false;
-      resume = ap (is_next (codes "resume")) same8 ∙ sym c.takes-else-takes-7.ensures.is ∙ c.if-takes-8.false;
-    } (λ has. (
-      ap (is_next (codes "signal-all")) same9
-          ∙ sym c.takes-else-version-lt-ALL_EVENTS_VERSION.ensures.is ∙ c.if-takes-9.false,
-      ap (is_next (codes "signal-wait")) same10 ∙ sym c.takes-else-takes-9.ensures.is ∙ c.if-takes-10.false,
-    ))
+    grind (arith, common_steps, verb-none)

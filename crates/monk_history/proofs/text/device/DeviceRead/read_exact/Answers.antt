@@ -1,9 +1,10 @@
-use Rattle.std.proofs.Common.{◌≡◌, ℕ, ◌+◌, ◌-◌, ◌≤◌, List, ◌++◌, rules, arith, length, take, slice_range, sym, ap, ◌∙◌, subst, le_refl}
+use Rattle.std.proofs.Common.{◌≡◌, ℕ, ◌+◌, ◌-◌, ◌≤◌, List, ◌++◌, rules, arith, length, take, slice_range, sym, ap, ◌∙◌, le_refl}
 use Rattle.std.{proofs.Common.drop_at, proofs.Common.length-take-le, proofs.lemmas.Slice.take-put_mid_below}
-use Rattle.std.{proofs.KnownBytes.Consumes-trans, specs.Io.KnownBytes.Consumes}
+use Rattle.std.{proofs.KnownBytes.Consumes-trans}
 use borrow.Rule.Slice.PartMut.{put_mid, post_of}
 use lib.Seq.{take-add, take-append-le}
 use Rattle.monk_history.proofs.text.device.DeviceRead.read_exact.Goals as goal
+use Rattle.std.proofs.lemmas.Grind.{common_steps}
 
 -- the old front, and after it what is new up to b
 take_split : (a b : ℕ) (old new : List ℕ) → a ≤ b → take a new ≡ take a old
@@ -33,10 +34,4 @@ loop-at-preserved g c =
     let joined =
     take_split from (from + taken) c.loop-at.buf (put_mid from room c.loop-at.buf c.read.new.buf)
     (omega arith) below in
-    record {
-      as_long = search rules;
-      within = search rules;
-      unchanged = search rules;
-      filled = subst (Consumes _ _) (ap (λ l. take from c.loop-at.buf ++ l) (sym part) ∙ joined)
-          (Consumes-trans _ _ _ _ _ c.loop-at.invariant.filled c.in-Ok.ensures.bytes.0);
-    }
+    grind (arith, common_steps, rules, Consumes-trans)

@@ -1,8 +1,9 @@
-use Rattle.std.proofs.Common.{◌≡◌, List, ℕ, [], ◌∷◌, ◌++◌, ap, ◌∙◌}
+use Rattle.std.proofs.Common.{◌≡◌, List, ℕ, [], ◌∷◌, ◌++◌, ap, ◌∙◌, arith}
 use Rattle.std.proofs.lemmas.List.{nil_from_length}
 use Rattle.monk_history.specs.Text.Words.{words_of, is_next}
 use Rattle.monk_history.proofs.TextLaws.NextWords.{words-last, words-more, is_next-longer}
 use Rattle.monk_history.proofs.text.lines.front.left_behind.Goals as goal
+use Rattle.std.proofs.lemmas.Grind.{common_steps}
 
 pub returns-in_default : goal.returns-in_default
 returns-in_default c =
@@ -11,8 +12,7 @@ returns-in_default c =
 
 pub returns-then-next-eq32 : goal.returns-then-next-eq32
 returns-then-next-eq32 c =
-    let space : c.args.bytes.now ≡ 32 ∷ c.in-Some.rest.now = c.in-Some.ensures.cases.0
-    ∙ ap (λ (n : ℕ). n ∷ c.in-Some.rest.now) c.if-next-eq32.true in
+    let space : c.args.bytes.now ≡ 32 ∷ c.in-Some.rest.now = grind (arith, common_steps) in
     λ w plain. ap (λ (x : List ℕ). words_of (w ++ x)) space ∙ words-more w c.in-Some.rest.now plain
 
 pub returns-else-next-eq32 : goal.returns-else-next-eq32

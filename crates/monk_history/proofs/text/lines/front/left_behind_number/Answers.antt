@@ -2,16 +2,12 @@ use Rattle.std.proofs.Common.{◌<◌, ◌^◌, arith}
 use Rattle.std.proofs.lemmas.List.{nil_from_length}
 use Rattle.monk_history.proofs.TextLaws.NextWords.{digit-first, digit-more, number-last, number-ends}
 use Rattle.monk_history.proofs.text.lines.front.left_behind_number.Goals as goal
+use Rattle.std.proofs.lemmas.Grind.{common_steps}
 
 pub loop-next-init : goal.loop-next-init
 loop-next-init c =
     let digit = c.if-not-is_ascii_digit.ensures.cases in
-    record {
-      so_far = rw c.from-number.ensures
-          (digit-first c.in_ok-first.first.now c.args.line.now c.in_ok-first.behind.now c.in_ok-first.ensures.cases.0
-          digit);
-      within = omega (arith, c.from-number.ensures, digit);
-    }
+    grind (arith, common_steps, digit-first)
 
 pub loop-next-preserved : goal.loop-next-preserved
 loop-next-preserved c =

@@ -1,7 +1,7 @@
-use Rattle.std.proofs.Common.{ap, ◌∙◌}
-use Rattle.monk_history.specs.Text.Lines.{taken_alone}
+use Rattle.std.proofs.Common.{arith}
 use Rattle.monk_history.proofs.TextLaws.FrontLaws.{cut_begins, cut_unended, read_is}
 use Rattle.monk_history.proofs.text.lines.next.item_of_words.Goals as goal
+use Rattle.std.proofs.lemmas.Grind.{common_steps}
 
 pub returns-in_err-line : goal.returns-in_err-line
 returns-in_err-line g c = rw c.from_residual.ensures (cut_unended c.args.bytes.now c.in_err-line.ensures.parts)
@@ -10,6 +10,5 @@ pub returns : goal.returns
 returns g c = record {
   line = c.in_ok-line.line.now;
   begins = cut_begins c.args.bytes.now c.in_ok-line.line.now c.in_ok-line.rest.now c.in_ok-line.ensures.parts;
-  read = read_is c.parse.result c.parse.new.words _ c.parse.ensures
-      ∙ ap (λ ws. taken_alone (g.A.Record.parse c.args.header.now ws)) c.of-words.ensures;
+  read = grind (arith, common_steps, read_is);
 }

@@ -1,15 +1,12 @@
 use Rattle.std.proofs.Common.{refl, arith, ◌+◌}
 use Rattle.monk_history.proofs.TextLaws.PlaceLaws.{number_begins, number_goes_on, digits_grow, digits_few}
 use Rattle.monk_history.proofs.text.lines.places.number_at.Goals as goal
+use Rattle.std.proofs.lemmas.Grind.{common_steps}
 
 pub loop-count-init : goal.loop-count-init
 loop-count-init c =
     let digit = c.if-not-is_ascii_digit.ensures.cases in
-    record {
-      so_far = number_begins c.args.bytes.now c.args.place (c.args.place + 1) _ _ (omega arith) refl digit (omega arith)
-          c.from-number.ensures;
-      within = omega (arith, c.from-number.ensures, digit);
-    }
+    grind (arith, common_steps, number_begins)
 
 pub overflow_mul-number : goal.overflow_mul-number
 overflow_mul-number c =

@@ -1,6 +1,7 @@
 use Rattle.std.proofs.Common.{◌+◌, refl, arith}
 use Rattle.monk_history.proofs.TextLaws.PlaceLaws.{number_begins, number_goes_on, number_stands}
 use Rattle.monk_history.proofs.text.lines.places.short_number_at.Goals as goal
+use Rattle.std.proofs.lemmas.Grind.{common_steps}
 
 pub returns-then-second-end-clause-stands : goal.returns-then-second-end-clause-stands
 returns-then-second-end-clause-stands c =
@@ -11,9 +12,4 @@ returns-then-second-end-clause-stands c =
 pub returns-clause-stands : goal.returns-clause-stands
 returns-clause-stands c =
     let digit = c.if-not-is_ascii_digit.ensures.cases in
-    number_stands c.args.bytes.now c.args.place (c.args.place + 2) _ _ c.args.end
-    (number_goes_on c.args.bytes.now c.args.place (c.args.place + 1) (c.args.place + 2) _ _ _
-    (number_begins c.args.bytes.now c.args.place (c.args.place + 1) _ _ (omega arith) refl digit refl refl)
-    (omega arith)
-    refl c.if-not-is_ascii_digit-2.ensures.cases (omega (arith, digit, c.if-first-eq48.false)) (omega (arith, digit))
-    (omega arith) refl) (omega arith) c.if-bytes-place.false (omega arith)
+    grind (arith, common_steps, number_stands, number_goes_on, number_begins)

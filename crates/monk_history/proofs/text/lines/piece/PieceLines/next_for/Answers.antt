@@ -2,6 +2,7 @@ use Rattle.std.proofs.Common.{◌≡◌, ◌-◌, ◌+◌, sym, ◌∙◌, arith
 use Rattle.monk_history.proofs.TextLaws.FrontLaws.{read_flaw, read_ok}
 use Rattle.monk_history.proofs.TextLaws.PieceLaws.{piece_goes_on, piece_has_fault, piece_too_long}
 use Rattle.monk_history.proofs.text.lines.piece.PieceLines.next_for.Goals as goal
+use Rattle.std.proofs.lemmas.Grind.{common_steps}
 
 pub returns-then-self-eq0-clause-item : goal.returns-then-self-eq0-clause-item
 returns-then-self-eq0-clause-item g c =
@@ -22,8 +23,7 @@ returns-in-Err-clause-item g c =
 pub returns-clause-item : goal.returns-clause-item
 returns-clause-item g c =
     let number = c.self.inside.end - c.self.inside.room in
-    let more : c.self.inside.end - (c.self.inside.room - 1) ≡ number + 1 =
-    omega (arith, c.self.invariant.0, c.if-self-eq0.false) in
+    let more : c.self.inside.end - (c.self.inside.room - 1) ≡ number + 1 = grind (arith, common_steps) in
     rw more
     (piece_goes_on (g.A.Record.parse c.args.header.now) c.args.self.now c.self.inside.rest.now c.in-Some.ensures.line
     c.in-Some.after.now number c.self.inside.room c.in-Ok.item (sym c.self.view_is) c.in-Some.ensures.begins
