@@ -24,8 +24,7 @@ ops acts = map (λ act. act.op) acts
 answered-append : (o : Object) (d : List ℕ) (xs ys : List Op) → answers_of o d (xs ++ ys) ≡ answers_of o d xs
     ++ answers_of o (state_after o d xs) ys
 answered-append o d [] ys = refl
-answered-append o d (x ∷ xs) ys =
-    ap (λ acts. record { op = x; reply = o.reply d x } ∷ acts) (answered-append o (o.after d x) xs ys)
+answered-append o d (x ∷ xs) ys = grind (arith, nat_tests, answered-append o (o.after d x) xs ys)
 
 acts-push : (h : List Event) (e : Event) → acts_in (h ++ e ∷ []) ≡ acts_in h ++ acts_in (e ∷ [])
 acts-push h e = flat_map-append act_of h (e ∷ [])

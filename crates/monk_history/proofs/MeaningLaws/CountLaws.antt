@@ -67,8 +67,7 @@ filter_one b e es ds = grind (arith, nat_tests)
 filter-push : (p : Event → Bool) (h : List Event) (e : Event)
     → filter p (h ++ e ∷ []) ≡ filter p h ++ cond (p e) (e ∷ []) []
 filter-push p [] e = refl
-filter-push p (x ∷ xs) e = ap (λ es. cond (p x) (x ∷ es) es) (filter-push p xs e)
-    ∙ filter_one (p x) x (filter p xs) (cond (p e) (e ∷ []) [])
+filter-push p (x ∷ xs) e = grind (arith, nat_tests, filter_one, filter-push p xs e)
 
 pub events_of-push : (h : List Event) (e : Event) (s : ℕ)
     → events_of (h ++ e ∷ []) s ≡ events_of h s ++ cond (seat_of e == s) (e ∷ []) []
@@ -98,8 +97,7 @@ one_more b e es = grind (arith, nat_tests)
 pub length-events_of : (h : List Event) (s : ℕ) → length (events_of h s) ≡ times s (map seat_of h)
 unfolding events_of
 length-events_of [] s = refl
-length-events_of (e ∷ es) s = one_more (seat_of e == s) e (filter (λ x. seat_of x == s) es)
-    ∙ ap (λ n. cond (seat_of e == s) 1 0 + n) (length-events_of es s)
+length-events_of (e ∷ es) s = omega (arith, one_more, length-events_of es s)
 
 length_map : (h : List Event) → length (map seat_of h) ≡ length h
 length_map [] = refl

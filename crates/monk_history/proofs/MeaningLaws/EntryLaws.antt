@@ -109,8 +109,7 @@ inside_more j e own es b h k i = grind (arith, nat_tests)
 
 inside_own : (j : ℕ) (h : List Event) → inside_of j (filter (λ e. seat_of e == j) h) ≡ inside_of j h
 inside_own j [] = refl
-inside_own j (e ∷ es) =
-    inside_more j e (filter (λ x. seat_of x == j) es) es (seat_of e == j) refl (leaves_own j es) (inside_own j es)
+inside_own j (e ∷ es) = grind (arith, nat_tests, inside_more, leaves_own, inside_own j es)
 
 -- a seat knows from its own events whether it is inside
 pub inside_by_own : (s : ℕ) (h : List Event) → is_inside s (events_of h s) ≡ is_inside s h

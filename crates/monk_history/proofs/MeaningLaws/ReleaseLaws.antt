@@ -150,36 +150,9 @@ named_or seats b x g = grind (arith, nat_tests)
 pub chosen_allowed : (m : Monitor) (t : Situation) (e : Event) (known : Bool) (wish : Pick) → IsInOrder m t
     → MayCallIn m t e → is_right_reply m.object t.state e ≡ true
     → IsAllowedIn m t (with_next (choice_of m.kind m.object t e known wish) e)
-chosen_allowed m t (Enter s via) known wish i c r =
-    record {
-      in_range = c.in_range;
-      offered = c.offered;
-      in_turn = c.in_turn;
-      in_place = c.in_place;
-      right_reply =
-          refl;
-      permitted = refl;
-    }
-chosen_allowed m t (Act s op y) known wish i c r =
-    record {
-      in_range = c.in_range;
-      offered = c.offered;
-      in_turn = c.in_turn;
-      in_place = c.in_place;
-      right_reply =
-          r;
-      permitted = refl;
-    }
-chosen_allowed m t (Resume s q) known wish i c r =
-    record {
-      in_range = c.in_range;
-      offered = c.offered;
-      in_turn = c.in_turn;
-      in_place = c.in_place;
-      right_reply =
-          refl;
-      permitted = refl;
-    }
+chosen_allowed m t (Enter s via) known wish i c r = grind (arith, nat_tests)
+chosen_allowed m t (Act s op y) known wish i c r = grind (arith, nat_tests)
+chosen_allowed m t (Resume s q) known wish i c r = grind (arith, nat_tests)
 chosen_allowed m t (Leave s y) known wish i c r = record {
   in_range = and_named (nat_lt s m.seats) _ _ _ _ _ c.in_range (must_name m t (Leave s y) known wish i c refl);
   offered = c.offered;
@@ -212,16 +185,7 @@ chosen_allowed m t (SignalWait s d v y) known wish i c r = record {
   right_reply = refl;
   permitted = must_choose m t (SignalWait s d v y) known wish i c refl;
 }
-chosen_allowed m t (SignalAll s d) known wish i c r =
-    record {
-      in_range = c.in_range;
-      offered = c.offered;
-      in_turn = c.in_turn;
-      in_place = c.in_place;
-      right_reply =
-          refl;
-      permitted = refl;
-    }
+chosen_allowed m t (SignalAll s d) known wish i c r = grind (arith, nat_tests)
 chosen_allowed m t (Until s p y) known wish i c r = record {
   in_range = and_named (nat_lt s m.seats) _ _ _ _ _ c.in_range
       (named_or m.seats (m.object.holds t.state p) _ (λ z. must_name m t (Until s p y) known wish i c refl));

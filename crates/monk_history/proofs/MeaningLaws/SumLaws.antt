@@ -23,10 +23,7 @@ sum_split : (w : Event → ℕ) (s : ℕ) (h : List Event)
     → sum_by w h ≡ sum_by w (events_of h s) + sum_by w (others_than s h)
 unfolding events_of others_than
 sum_split w s [] = refl
-sum_split w s (e ∷ es) = sum_by-cons w e es
-    ∙ either_side w (seat_of e == s) e (filter (λ x. seat_of x == s) es)
-    (filter (λ x. not (seat_of x == s)) es) (sum_by w es)
-    (sum_split w s es)
+sum_split w s (e ∷ es) = grind (arith, nat_tests, sum_by-cons, either_side, sum_split w s es)
 
 keeps_one : (p : Event → Bool) (b : Bool) (e : Event) (xs ys : List Event) → (b ≡ true → p e ≡ false) → filter p xs ≡ ys
     → filter p (cond (not b) (e ∷ xs) xs) ≡ cond (p e) (e ∷ ys) ys
@@ -52,8 +49,7 @@ drops_one p b e xs tells none = grind (arith, nat_tests)
 others_none : (s : ℕ) (h : List Event) → events_of (others_than s h) s ≡ []
 unfolding events_of others_than
 others_none s [] = refl
-others_none s (e ∷ es) =
-    drops_one (λ x. seat_of x == s) (seat_of e == s) e (filter (λ x. not (seat_of x == s)) es) refl (others_none s es)
+others_none s (e ∷ es) = grind (arith, nat_tests, drops_one, others_none s es)
 
 -- numbers that are the same one by one have the same sum
 pub same_sums : {X : Type 0} (f g : X → ℕ) (xs : List X) → All (λ x. f x ≡ g x) xs → sum_by f xs ≡ sum_by g xs

@@ -37,12 +37,8 @@ verb_again v = grind arith
 
 next_after_takes : (c : NextWord) (ws : List Word) (x : Next × List Word) → next_after c ws ≡ Ok x
     → (next_word c ∷ ws ≡ next_words x.0 ++ x.1) × NextFits x.0
-next_after_takes word.Stay ws x e =
-    subst (λ (y : Next × List Word). (next_word word.Stay ∷ ws ≡ next_words y.0 ++ y.1) × NextFits y.0)
-    (ok_is (Stay, ws) x e) (refl, tt)
-next_after_takes word.Entry ws x e =
-    subst (λ (y : Next × List Word). (next_word word.Entry ∷ ws ≡ next_words y.0 ++ y.1) × NextFits y.0)
-    (ok_is (Entry, ws) x e) (refl, tt)
+next_after_takes word.Stay ws x e = grind (arith, nat_tests, ok_is)
+next_after_takes word.Entry ws x e = grind (arith, nat_tests, ok_is)
 next_after_takes word.Waiter ws x e =
     let b = bind_ok (number_at 255 ws) (λ j. Ok (Waiter j.0, j.1)) x e in
     let t = number_takes 255 ws b.0 b.1 in

@@ -45,9 +45,7 @@ ended l = l ++ 10 ∷ []
 lines_behind : (ls : List (List ℕ)) (rest : List ℕ) → Unended ls
     → lines_of (flat_map ended ls ++ rest) ≡ ls ++ lines_of rest
 lines_behind [] rest all = refl
-lines_behind (l ∷ ls) rest all =
-    let regrouped : (flat_map ended (l ∷ ls)) ++ rest ≡ l ++ 10 ∷ (flat_map ended ls ++ rest) = simp append_assoc in
-    grind (arith, nat_tests, cut_at, lines_behind ls rest all.1)
+lines_behind (l ∷ ls) rest all = grind (arith, nat_tests, append_assoc, cut_at, lines_behind ls rest all.1)
 
 pub lines_of_first : (n : ℕ) (bytes rest : List ℕ)
     → lines_of (first_lines n bytes ++ rest) ≡ take n (lines_of bytes) ++ lines_of rest

@@ -18,9 +18,7 @@ use Rattle.std.proofs.lemmas.Bool.Decides.{nat_tests}
 
 pub lines_begin : {bytes line rest : List ℕ} (more : List ℕ) → BeginsWith bytes line rest
     → lines_of (bytes ++ more) ≡ line ∷ lines_of (rest ++ more)
-lines_begin {bytes = bytes} {line = line} {rest = rest} more b =
-    ap (λ (x : List ℕ). lines_of (x ++ more)) b.whole
-    ∙ (ap lines_of (append_assoc line (10 ∷ rest) more) ∙ cut_at (λ c. c == 10) line 10 (rest ++ more) b.one refl)
+lines_begin more h = grind (arith, nat_tests, append_assoc, cut_at)
 
 pub lines_first : {bytes line rest : List ℕ} → BeginsWith bytes line rest → lines_of bytes ≡ line ∷ lines_of rest
 lines_first {line = line} {rest = rest} b = ap lines_of b.whole ∙ cut_at (λ c. c == 10) line 10 rest b.one refl

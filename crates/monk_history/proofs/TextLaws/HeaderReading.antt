@@ -9,8 +9,8 @@ use Rattle.monk_history.specs.Text.Words.{◌>>=◌, Word, Taken, number_at, wit
 use Rattle.monk_history.proofs.TextLaws.{ObjectVersions.none_newer}
 use Rattle.monk_history.proofs.TextLaws.WordReaders.{bind_ok, ok_is, number_takes, number_again, one_of_takes}
 use Rattle.monk_history.proofs.TextLaws.WordReaders.{one_of_again, literal_takes, end_takes}
-use Rattle.monk_history.specs.Text.{Heading, heading, object_version, part_words, header_words, IsHeading}
-use Rattle.monk_history.specs.Text.Reading.{first_heading_of, heading_of, parts_at, header_at}
+use Rattle.monk_history.specs.Text.{Heading, heading, part_words, header_words, IsHeading}
+use Rattle.monk_history.specs.Text.Reading.{heading_of, parts_at, header_at}
 use Rattle.std.proofs.lemmas.Bool.Decides.{nat_tests}
 
 pub object_again : (o : ObjectName) → with_text object_word objects (object_word o) ≡ Some o
@@ -20,10 +20,6 @@ heading_fits : (v : ℕ) (k : KindName) (s c : ℕ) (o : ObjectName) (z : ℕ) (
     (x : Heading × List Word) → z ≤ 255
     → with_rest ws (heading_of v k s c o z) ≡ Ok x → (x ≡ (heading v k s c o z, ws)) × IsHeading (heading v k s c o z)
 heading_fits v k s c o z ws x le e = grind (arith, nat_tests)
-
-pub first_is : (k : KindName) (s c : ℕ) (o : ObjectName) (z : ℕ)
-    → heading_of (object_version o) k s c o z ≡ first_heading_of k s c o z
-first_is k s c o z = grind arith
 
 -- the steps of the parts, each with those after it
 abbrev Numbered : Type 0

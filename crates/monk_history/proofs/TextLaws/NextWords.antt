@@ -22,16 +22,7 @@ not_true b h = grind (arith, nat_tests)
 begins : (word : Word) (parts : List Word) (bytes : List ℕ) → join_with_byte 32 parts ≡ bytes
     → is_next word parts ≡ true → (rest : List ℕ) × (bytes ≡ word ++ rest)
     × (rest ≢ [] → (after : List ℕ) × (rest ≡ 32 ∷ after))
-begins word [] bytes same is = absurd cc
-begins word (v ∷ []) bytes same is =
-    let e : v ≡ word = (bytes_eq-Decides v word).0 is in
-    ([], sym same ∙ e ∙ sym (append-nil word), λ some. absurd (some refl))
-begins word (v ∷ w ∷ ws) bytes same is =
-    let e : v ≡ word = (bytes_eq-Decides v word).0 is in (
-      32 ∷ join_with_byte 32 (w ∷ ws),
-      sym same ∙ ap (λ (x : List ℕ). x ++ 32 ∷ join_with_byte 32 (w ∷ ws)) e,
-      λ some. (join_with_byte 32 (w ∷ ws), refl),
-    )
+begins word parts bytes same is = grind (arith, nat_tests, bytes_eq-Decides, append-nil)
 
 begins_with : (word bytes : List ℕ) → is_next word (words_of bytes) ≡ true → (rest : List ℕ) × (bytes ≡ word ++ rest)
     × (rest ≢ [] → (after : List ℕ) × (rest ≡ 32 ∷ after))
@@ -58,29 +49,22 @@ decimal-byte d low high = decimal_digit (d - 48) (omega arith) ∙ ap (λ n. n �
 
 pub digit-first : (d : ℕ) (line behind : List ℕ) → line ≡ d ∷ behind → IsAsciiDigit d
     → line ≡ decimal (d - 48) ++ behind
-digit-first d line behind is digit = is
-    ∙ ap (λ (w : List ℕ). w ++ behind) (sym (decimal-byte d (omega arith) (omega arith)))
+digit-first d line behind is digit = grind (arith, nat_tests, decimal-byte)
 
 last-digit : (n d : ℕ) → 48 ≤ d → d ≤ 57 → 0 < n → n < 2 ^ 59 → decimal (n * 10 + (d - 48)) ≡ decimal n ++ d ∷ []
 last-digit n d low high some lt = grind (arith, nat_tests, decimal_step)
 
 pub digit-more : (n d : ℕ) (line rest behind : List ℕ) → line ≡ decimal n ++ rest → rest ≡ d ∷ behind → IsAsciiDigit d
     → n ≢ 0 → n < 2 ^ 59 → line ≡ decimal (n * 10 + (d - 48)) ++ behind
-digit-more n d line rest behind so_far is digit some lt =
-    so_far ∙ (ap (λ (r : List ℕ). decimal n ++ r) is
-    ∙ (sym (append_assoc (decimal n) (d ∷ []) behind)
-    ∙ ap (λ (w : List ℕ). w ++ behind) (sym (last-digit n d (omega arith) (omega arith) (omega arith) lt))))
+digit-more n d line rest behind so_far is digit some lt = grind (arith, nat_tests, append_assoc, last-digit)
 
 number-unbroken : (n : ℕ) → n < 2 ^ 64 → is_unbroken (decimal n) ≡ true
 number-unbroken n lt = no_space (decimal n) (IsWord-decimal n lt)
 
 pub number-last : (n : ℕ) (line rest : List ℕ) → line ≡ decimal n ++ rest → rest ≡ [] → n < 2 ^ 64
     → words_of line ≡ decimal n ∷ []
-number-last n line rest so_far none lt = ap words_of (so_far ∙ ap (λ (r : List ℕ). decimal n ++ r) none)
-    ∙ words-last (decimal n) (number-unbroken n lt)
+number-last n line rest so_far none lt = grind (arith, nat_tests, words-last, number-unbroken)
 
 pub number-ends : (n d : ℕ) (line rest behind : List ℕ) → line ≡ decimal n ++ rest → rest ≡ d ∷ behind → d ≡ 32
     → n < 2 ^ 64 → words_of line ≡ decimal n ∷ words_of behind
-number-ends n d line rest behind so_far is space lt =
-    ap words_of (so_far ∙ (ap (λ (r : List ℕ). decimal n ++ r) is ∙ ap (λ k. decimal n ++ k ∷ behind) space))
-    ∙ words-more (decimal n) behind (number-unbroken n lt)
+number-ends n d line rest behind so_far is space lt = grind (arith, nat_tests, words-more, number-unbroken)

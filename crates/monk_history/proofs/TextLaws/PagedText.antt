@@ -52,9 +52,7 @@ pub written_sent : (before now later : Option (List ℕ)) (page : List ℕ) (h :
 written_sent before now later page h left all w appends = grind (arith, nat_tests, sends)
 
 text-push : (h : Heading) (es : List Event) (e : Event) → text h (es ++ e ∷ []) ≡ text h es ++ line (event_words e)
-text-push h es e =
-    let f : Event → List ℕ = λ e. line (event_words e) in
-    grind (arith, nat_tests, flat_map-append, append-nil, append_assoc)
+text-push h es e = grind (arith, nat_tests, flat_map-append, append-nil, append_assoc)
 
 fit-push : (es : List Event) (e : Event) → AllByRecursion EventFits es → EventFits e
     → AllByRecursion EventFits (es ++ e ∷ [])
@@ -67,18 +65,3 @@ pub written_more : (before now : Option (List ℕ)) (page page_after : List ℕ)
     → IsWritten before now page_after h new all
 written_more before now page page_after h old new all e is on_page fits w =
     grind (arith, nat_tests, append_assoc, grows, text-push, fit-push)
-
--- the same if none is left
-pub written_all : (before now : Option (List ℕ)) (page : List ℕ) (h : Heading) (left all : List Event) → left ≡ []
-    → IsWritten before now page h left all
-    → IsOnItsWay before now page (text h all) × AllByRecursion EventFits all
-written_all before now page h left all none w =
-    let done : w.done ≡ all = sym (append-nil w.done) ∙ (ap (λ es. w.done ++ es) (sym none) ∙ w.whole) in
-    grind (arith, nat_tests)
-
--- the whole text, with the last page
-pub written_out : (before now later : Option (List ℕ)) (page : List ℕ) (h : Heading) (left all : List Event) → left ≡ []
-    → IsWritten before now page h left all → Appends now later page → Appends before later (text h all)
-written_out before now later page h left all none w appends =
-    let way = (written_all before now page h left all none w).0 in
-    rw way.whole (Appends-trans before now later way.sent page way.got appends)

@@ -162,13 +162,7 @@ module _ {H A : Type 0} (head_words : H → List Word) (head : List Word → Tak
       × HeadFits h
       → Found words (parse h) (Fits h) (formats h) limit (next ∷ more) es → pair_made h es ≡ Ok (g, fs)
       → IsRead limit bytes g fs
-  first_and_rest limit bytes l next more h es g fs same t found e =
-      let regrouped : l ++ (10 ∷ join_with_byte 10 (next ∷ more)) ≡ (l ++ 10 ∷ []) ++ join_with_byte 10 (next ∷ more) =
-      sym (append_assoc l (10 ∷ []) (join_with_byte 10 (next ∷ more))) in
-      let whole : bytes ≡ text_with h es = grind (arith, nat_tests) in
-      let one : IsRead limit bytes h es = record { head_fits = t.1; fit = found.fit; few = found.few; whole = whole } in
-      let is = pair_is h g es fs e in
-      subst (λ (y : H). IsRead limit bytes y fs) is.0 (subst (λ (y : List A). IsRead limit bytes h y) is.1 one)
+  first_and_rest limit bytes l next more h es g fs same t found e = grind (arith, nat_tests, append_assoc, pair_is)
 
   lines_read : (limit : ℕ) (bytes : List ℕ) (parts : List (List ℕ)) (g : H) (fs : List A)
       → join_with_byte 10 parts ≡ bytes → lines_at head parse limit parts ≡ Ok (g, fs) → IsRead limit bytes g fs

@@ -2,9 +2,9 @@
 use Rattle.std.proofs.Common.{◌≡◌, ℕ, ◌≤◌, ◌<◌, ◌^◌, Bool, true, false, cond, List, [], ◌∷◌, Option, Some, None, Result}
 use Rattle.std.proofs.Common.{Ok, Err, refl, sym, ap, subst, ◌∙◌, arith}
 use Rattle.std.proofs.lemmas.{Bool.leb-true, Slice.Eq.bytes_eq-Decides}
-use Rattle.std.specs.{Prelude.nat_le, Prelude.filter, Fmt.decimal, Str.bytes_eq, Str.Parse.digits_value}
+use Rattle.std.specs.{Prelude.filter, Fmt.decimal, Str.bytes_eq}
 use Rattle.monk_history.specs.declared.text.fault.Flaw.TheVariants as flaw
-use Rattle.monk_history.specs.Text.Words.{◌>>=◌, Word, is_number, number_at, with_rest, one_of, literal_at, end_at}
+use Rattle.monk_history.specs.Text.Words.{◌>>=◌, Word, number_at, with_rest, one_of, literal_at, end_at}
 use Rattle.monk_history.proofs.TextLaws.{NumberWords.is_number_decimal, NumberWords.is_number_too_great, LineCuts.both}
 use Rattle.monk_history.specs.declared.text.fault.Flaw.{Flaw}
 use Rattle.monk_kinds.{specs.Names.with_text, proofs.PublicLaws.found_is, proofs.PublicLaws.some_is}
@@ -32,12 +32,7 @@ ok_is x y e = cc
 pub number_takes : (most : ℕ) (ws : List Word) (x : ℕ × List Word) → number_at most ws ≡ Ok x
     → (ws ≡ decimal x.0 ∷ x.1) × (x.0 ≤ most)
 unfolding number_at
-number_takes most [] x e = absurd cc
-number_takes most (w ∷ ws) x e =
-    let g = guard_ok (is_number most w) flaw.Number (digits_value 10 w, ws) x e in
-    let p = both (bytes_eq w (decimal (digits_value 10 w))) (nat_le (digits_value 10 w) most) g.0 in
-    let same : w ≡ decimal (digits_value 10 w) = (bytes_eq-Decides w (decimal (digits_value 10 w))).0 p.0 in
-    grind (arith, nat_tests, leb-true)
+number_takes most ws x e = grind (arith, nat_tests, guard_ok, both, bytes_eq-Decides, leb-true)
 
 pub number_again : (most n : ℕ) (ws : List Word) → most < 2 ^ 64 → n ≤ most
     → number_at most (decimal n ∷ ws) ≡ Ok (n, ws)
@@ -133,11 +128,7 @@ one_of_kept word keeps values (w ∷ ws) x e =
     rest_kept (with_text word (filter keeps values) w) keeps ws x (found_kept word keeps values w) e
 
 pub literal_takes : (l : Word) (ws : List Word) (x : Unit {0} × List Word) → literal_at l ws ≡ Ok x → ws ≡ l ∷ x.1
-literal_takes l [] x e = absurd cc
-literal_takes l (w ∷ ws) x e =
-    let g = guard_ok (bytes_eq w l) flaw.Word (tt {0}, ws) x e in
-    let same : w ≡ l = (bytes_eq-Decides w l).0 g.0 in
-    subst (λ (y : Unit {0} × List Word). w ∷ ws ≡ l ∷ y.1) g.1 (ap (λ (v : Word). v ∷ ws) same)
+literal_takes l ws x e = grind (arith, nat_tests, guard_ok, bytes_eq-Decides)
 
 pub end_takes : (ws : List Word) (x : Unit {0} × List Word) → end_at ws ≡ Ok x → (ws ≡ []) × (x.1 ≡ [])
 end_takes ws x e = grind (arith, nat_tests)

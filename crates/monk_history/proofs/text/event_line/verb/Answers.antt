@@ -93,25 +93,7 @@ returns-then-takes-10 c =
     ∙ c.takes-else-takes-9.ensures.taken c.if-takes-10.true)
 
 pub returns-then-version-lt-ALL_EVENTS_VERSION : goal.returns-then-version-lt-ALL_EVENTS_VERSION
-returns-then-version-lt-ALL_EVENTS_VERSION c =
-    let same2 = c.takes.ensures.left c.if-takes.false in
-    let same3 = same2 ∙ c.takes-else-takes.ensures.left c.if-takes-2.false in
-    let same4 = same3 ∙ c.takes-else-takes-2.ensures.left c.if-takes-3.false in
-    let same5 = same4 ∙ c.takes-else-takes-3.ensures.left c.if-takes-4.false in
-    let same6 = same5 ∙ c.takes-else-takes-4.ensures.left c.if-takes-5.false in
-    let same7 = same6 ∙ c.takes-else-takes-5.ensures.left c.if-takes-6.false in
-    let same8 = same7 ∙ c.takes-else-takes-6.ensures.left c.if-takes-7.false in
-    grind (arith, common_steps, verb-none)
+returns-then-version-lt-ALL_EVENTS_VERSION c = grind (arith, common_steps, verb-none)
 
 pub returns-else-takes-10 : goal.returns-else-takes-10
-returns-else-takes-10 c =
-    let same2 = c.takes.ensures.left c.if-takes.false in
-    let same3 = same2 ∙ c.takes-else-takes.ensures.left c.if-takes-2.false in
-    let same4 = same3 ∙ c.takes-else-takes-2.ensures.left c.if-takes-3.false in
-    let same5 = same4 ∙ c.takes-else-takes-3.ensures.left c.if-takes-4.false in
-    let same6 = same5 ∙ c.takes-else-takes-4.ensures.left c.if-takes-5.false in
-    let same7 = same6 ∙ c.takes-else-takes-5.ensures.left c.if-takes-6.false in
-    let same8 = same7 ∙ c.takes-else-takes-6.ensures.left c.if-takes-7.false in
-    let same9 = same8 ∙ c.takes-else-takes-7.ensures.left c.if-takes-8.false in
-    let same10 = same9 ∙ c.takes-else-version-lt-ALL_EVENTS_VERSION.ensures.left c.if-takes-9.false in
-    grind (arith, common_steps, verb-none)
+returns-else-takes-10 c = grind (arith, common_steps, verb-none)

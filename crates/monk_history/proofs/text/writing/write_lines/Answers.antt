@@ -1,7 +1,6 @@
 use Rattle.std.proofs.Common.{◌≡◌, false, arith}
-use Rattle.std.proofs.lemmas.Result.{on_ok_weaker}
 use Rattle.monk_history.specs.Text.Device.{inner_of, has_failed}
-use Rattle.monk_history.proofs.TextLaws.PagedText.{IsWritten, written_more, written_out, written_sent}
+use Rattle.monk_history.proofs.TextLaws.PagedText.{IsWritten, written_more, written_sent}
 use Rattle.monk_history.proofs.text.writing.write_lines.Goals.{then-room-lt-LONGEST_LINE+in_ok-send, else-room-lt-LONGEST_LINE}
 use Rattle.monk_history.proofs.text.writing.write_lines.Goals as goal
 use Rattle.std.proofs.lemmas.Grind.{common_steps}
@@ -26,6 +25,4 @@ loop-event-preserved g c =
     }
 
 pub returns-clause-ok : goal.returns-clause-ok
-returns-clause-ok g c =
-    let k = g.W.Write.contents in
-    grind (arith, common_steps, on_ok_weaker, written_out)
+returns-clause-ok g c = grind (arith, common_steps)

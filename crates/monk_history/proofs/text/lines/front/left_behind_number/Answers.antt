@@ -5,9 +5,7 @@ use Rattle.monk_history.proofs.text.lines.front.left_behind_number.Goals as goal
 use Rattle.std.proofs.lemmas.Grind.{common_steps}
 
 pub loop-next-init : goal.loop-next-init
-loop-next-init c =
-    let digit = c.if-not-is_ascii_digit.ensures.cases in
-    grind (arith, common_steps, digit-first)
+loop-next-init c = grind (arith, common_steps, digit-first)
 
 pub loop-next-preserved : goal.loop-next-preserved
 loop-next-preserved c =
@@ -21,12 +19,7 @@ loop-next-preserved c =
     }
 
 pub returns-then-next-eq32 : goal.returns-then-next-eq32
-returns-then-next-eq32 c =
-    number-ends c.loop-next.number c.in-Some.next.now c.args.line.now c.loop-next.rest.now c.in-Some.behind.now
-    c.loop-next.invariant.so_far c.in-Some.ensures.cases.0 c.if-next-eq32.true
-    (omega (arith, c.loop-next.invariant.within))
+returns-then-next-eq32 c = grind (arith, common_steps, number-ends)
 
 pub returns : goal.returns
-returns c =
-    number-last c.loop-next.number c.args.line.now c.loop-next.rest.now c.loop-next.invariant.so_far
-    (nil_from_length _ c.in_default.ensures.cases) (omega (arith, c.loop-next.invariant.within))
+returns c = grind (arith, common_steps, number-last, nil_from_length)

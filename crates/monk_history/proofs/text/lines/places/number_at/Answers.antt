@@ -4,9 +4,7 @@ use Rattle.monk_history.proofs.text.lines.places.number_at.Goals as goal
 use Rattle.std.proofs.lemmas.Grind.{common_steps}
 
 pub loop-count-init : goal.loop-count-init
-loop-count-init c =
-    let digit = c.if-not-is_ascii_digit.ensures.cases in
-    grind (arith, common_steps, number_begins)
+loop-count-init c = grind (arith, common_steps, number_begins)
 
 pub overflow_mul-number : goal.overflow_mul-number
 overflow_mul-number c =

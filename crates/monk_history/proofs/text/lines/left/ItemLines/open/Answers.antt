@@ -1,6 +1,8 @@
 use Rattle.std.proofs.lemmas.Result.{err_from_is_err_and}
 use Rattle.monk_history.proofs.TextLaws.LineSteps.{no_header, some_header}
 use Rattle.monk_history.proofs.text.lines.left.ItemLines.open.Goals as goal
+use Rattle.std.proofs.lemmas.Grind.{common_steps}
+use Rattle.std.proofs.Common.{arith}
 
 pub returns-in_err-header : goal.returns-in_err-header
 returns-in_err-header g c =
@@ -9,5 +11,4 @@ returns-in_err-header g c =
     c.in_err-header.field-0.0 c.in-Some.ensures.parts c.in_err-header.ensures)
 
 pub returns : goal.returns
-returns g c = some_header g.H.Head.parse c.args.limit c.args.bytes.now c.in-Some.first.now c.in-Some.rest.now
-    c.in_ok-header.header c.in-Some.ensures.parts c.in_ok-header.ensures
+returns g c = grind (arith, common_steps, some_header)
