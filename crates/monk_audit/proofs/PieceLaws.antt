@@ -12,7 +12,7 @@ use Rattle.monk_history.specs.Meaning.{Monitor.Monitor, Monitor.monitor, Situati
 use Rattle.monk_history.specs.Meaning.{Step.opening_situation, Named.named_monitor, Reasons.reason_in}
 use Rattle.monk_history.specs.declared.{event.Event.Event, text.fault.ReadFault.ReadFault}
 use Rattle.monk_history.specs.Text.{Heading, Faults.end_fault, Faults.header_fault, Faults.memory}
-use Rattle.monk_history.specs.Text.Lines.{Gives, LinesLeft, is_unended, lines_of, opened_at}
+use Rattle.monk_history.specs.Text.Lines.{Gives, LinesLeft, is_unended, lines_of}
 use Rattle.monk_history.specs.Text.Pieces.{IsHeadOf, IsNextOfPiece, PieceLeft, items_with}
 use Rattle.monk_history.specs.Text.Reading.{event_under, header_at}
 use Rattle.monk_audit.specs.declared.stage.Stage.TheVariants as stage
@@ -155,9 +155,7 @@ pub no_object : (bytes rest : List ℕ) (h : Heading) → IsHeadOf header_at byt
 no_object bytes rest h is none =
     let left : LinesLeft = record { lines = lines_of (rest ++ []); number = 2; room = 2 ^ 25 } in
     let opened = head_opens header_at (2 ^ 25) bytes rest h is [] in
-    subst (λ (r : Result (Heading × LinesLeft) ReadFault). IfOk r (λ o. most o.0.object < o.0.size))
-    (sym (subst (λ (x : List ℕ). Ok (h, left) ≡ opened_at header_at (2 ^ 25) (lines_of x))
-    (append-nil bytes) opened)) none
+    grind (arith, nat_tests, Result, Ok, append-nil)
 
 -- ---- the end of the text
 

@@ -55,8 +55,7 @@ led_to k o opening h budget commands events seats conds s t seats_are conds_are 
     let opening_is : t.floor.opening ≡ opening = kept.opening ∙ ap (λ (u : State). u.floor.opening) opens in
     let seats_is : t.floor.seats ≡ h.seats = kept.seats ∙ (ap (λ (u : State). u.floor.seats) opens ∙ seats_are) in
     let conds_is : t.floor.conds ≡ h.conds = kept.conds ∙ (ap (λ (u : State). u.floor.conds) opens ∙ conds_are) in
-    let monitor_is : monitor_of k o t.floor ≡ monitor k h.seats h.conds o opening =
-    rw (opening_is, seats_is, conds_is) refl in
+    let monitor_is : monitor_of k o t.floor ≡ monitor k h.seats h.conds o opening = grind (arith, nat_tests) in
     let opened : opening_state opening seats conds budget ≡ opening_state opening h.seats h.conds budget =
     rw (seats_are, conds_are) refl in
     record {

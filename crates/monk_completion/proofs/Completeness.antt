@@ -9,8 +9,8 @@ use Rattle.monk_history.specs.Meaning.{Choice.queues_at, Legal.IsLegal, Monitor.
 use Rattle.monk_history.specs.Meaning.Situation.{Situation, situation}
 use Rattle.monk_history.specs.Meaning.Reasons.{IsAllowed, IsAllowedIn, fits_turn}
 use Rattle.monk_history.specs.Meaning.Events.{next_of, seat_of, has_signaller_queue, returns_at_once}
-use Rattle.monk_history.specs.Meaning.Release.{MayCallIn, as_called, with_next}
-use Rattle.monk_history.specs.declared.event.{Event.Event, From3.From3, Turn.Turn, Via.Via}
+use Rattle.monk_history.specs.Meaning.Release.{MayCallIn, as_called}
+use Rattle.monk_history.specs.declared.event.{Event.Event, From3.From3, Via.Via}
 use Rattle.monk_history.specs.declared.event.Next.{Next, TheVariants.Stay}
 use Rattle.monk_logs.specs.declared.text.line.LogLine.{LogLine}
 use Rattle.monk_logs.specs.declared.text.line.LogLine.TheVariants.{Enter, Resume, Leave, Wait, Signal, Broadcast, Until}
@@ -161,14 +161,9 @@ release_told : (m : Monitor) (g : List Event) (t : Situation) (e f : Event) (x :
     → told_release m.object t (as_called e) (first_line f) ≡ e
 release_told m g t e f x chose legal allowed same =
     let u = situation m g in
-    let turned : fits_turn (turn_by (seat_of e) (Some x)) f ≡ true =
-    subst (λ n. fits_turn (turn_by (seat_of e) n) f ≡ true) chose
-    (subst (λ (v : Turn). fits_turn v f ≡ true) (turn-push g e) allowed.in_turn) in
-    let told : told_next (queues_at m.object u e) (first_line f) ≡ x =
-    line_tells (queues_at m.object u e) (seat_of e) x f turned (chosen m g e x chose legal) in
-    ap (λ (v : Situation). told_release m.object v (as_called e) (first_line f)) same
-    ∙ ap (λ q. with_next (told_next q (first_line f)) (as_called e)) (called_queues m.object u e)
-    ∙ ap (λ (y : Next). with_next y (as_called e)) told ∙ named_again e x chose
+    let turned : fits_turn (turn_by (seat_of e) (Some x)) f ≡ true = grind (arith, nat_tests, turn-push) in
+    let told : told_next (queues_at m.object u e) (first_line f) ≡ x = grind (arith, nat_tests, line_tells, chosen) in
+    grind (arith, nat_tests, first_line, called_queues, named_again)
 
 no_lapse : (f : Event) → not (is_lapse (first_line f)) ≡ true
 no_lapse f = grind arith
@@ -207,11 +202,7 @@ follows_on m h s (Release held) f is legal a k =
     ∙ release_told m g t e f k.choice k.chose whole (subst (λ (x : List Event). IsAllowed m x f) k.is a) k.same in
     let leads = event_leads m h (after m.object t e) f legal same
     (subst (λ (u : Situation). IsAllowedIn m u f) (sym same) a) in
-    record {
-      to = leads.to;
-      judged = release_lines m t held e f told may ∙ leads.judged;
-      at = leads.at;
-    }
+    grind (arith, nat_tests, release_lines)
 
 history_leads : (m : Monitor) (h : List Event) → IsLegal m h → Leads m (opening_stand m) (erasure h) h
 history_leads m h = history_induction (λ x. IsLegal m x → Leads m (opening_stand m) (erasure x) x)
@@ -225,9 +216,7 @@ history_leads m h = history_induction (λ x. IsLegal m x → Leads m (opening_st
     let v = follows_on m x w.to w.to.pending e refl (legal_front m x (e ∷ []) l) (legal_last m x e l) w.at in
     record {
       to = v.to;
-      judged = ap (lead m (Ok (opening_stand m))) (erasure-push x e)
-          ∙ lead-append m (Ok (opening_stand m)) (erasure x) (erasure_of e)
-          ∙ ap (λ (r : Result Stand Blame). lead m r (erasure_of e)) w.judged ∙ v.judged;
+      judged = grind (arith, nat_tests, lead, erasure-push, lead-append);
       at = v.at;
     }) h
 
@@ -238,7 +227,4 @@ not_both r why to h h2 = grind arith
 pub open_judged : (m : Monitor) (log : List LogLine) (why : Blame) → IsOpen m log → lead_all m log ≡ Err why → ⊥
 open_judged m log why o is =
     let w = history_leads m o.history o.legal in
-    not_both (lead m (lead_all m log) o.more) why w.to
-    (ap (λ (r : Result Stand Blame). lead m r o.more) is ∙ lead_err m why o.more)
-    (sym (lead-append m (Ok (opening_stand m)) log o.more)
-    ∙ ap (lead m (Ok (opening_stand m))) (sym o.erases) ∙ w.judged)
+    grind (arith, nat_tests, not_both, lead, lead_all, lead_err, lead-append)

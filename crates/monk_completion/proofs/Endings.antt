@@ -49,10 +49,7 @@ last_chosen : (m : Monitor) (past before : List Event) (e last : Event) (y : Nex
 last_chosen m past before e last y stays is chose =
     let x = unwished_next m.kind m.object (situation m past) e in
     let p = same_from_push past before (with_next x e) last is in
-    chosen_is x y e stays (ap next_of p.1 ∙ chose)
-    ∙ sym (unwished_again m.kind m.object (situation m past) x e)
-    ∙ ap (unwished_next m.kind m.object (situation m past)) p.1
-    ∙ ap (λ (h : List Event). unwished_next m.kind m.object (situation m h) last) p.0
+    grind (arith, nat_tests, chosen_is, unwished_again)
 
 release_completes : (m : Monitor) (past : List Event) (e : Event) (log : List LogLine) → IsKind m.kind → IsLegal m past
     → MayCall m past e → next_of e ≡ Some Stay → erasure past ++ erasure_of e ≡ log ++ other_half m.kind.mode log
@@ -65,8 +62,7 @@ release_completes m past e log kind legal may stays told few all =
     (release_right m past e stays) in
     record {
       legal = legal-push m past (with_next x e) legal allowed;
-      erases = erasure-push past (with_next x e)
-          ∙ ap (λ (y : List LogLine). erasure past ++ y) (erased_with_next x e) ∙ told;
+      erases = grind (arith, nat_tests, erasure-push, erased_with_next);
       few = few (with_next x e);
       handed = handed-push past (with_next x e) all (λ some. no_enter (with_next x e) (release_is_no_enter x e stays));
       last_choice = λ before last y is chose. last_chosen m past before e last y stays is chose;

@@ -76,8 +76,7 @@ settled_tells m past e log s h none one legal all told =
     subst (TellsAt m (log ++ erasure_of e) (past ++ e ∷ [])) p.1 (record {
       tells = record {
         legal = legal-push m past e legal (allowed_from_reason m t e p.0);
-        told = append-nil (erasure (past ++ e ∷ [])) ∙ erasure-push past e
-            ∙ ap (λ (x : List LogLine). x ++ erasure_of e) told;
+        told = grind (arith, nat_tests, append-nil, erasure-push);
         still = ends_with past e none;
         handed = handed-push past e all one;
       };
@@ -183,9 +182,7 @@ release_line_tells m past e log l d h stays legal all told =
     (legal-push m past f legal (allowed_from_reason m t f zero))
     (handed-push past f all (λ some. no_enter f (release_is_no_enter x e stays)))
     (erasure-push past f ∙ ap (λ (y : List LogLine). erasure past ++ y) (erased_with_next x e) ∙ told) in
-    subst (λ (x : List Event). TellsAt m (log ++ l ∷ []) x d)
-    (append_assoc past (f ∷ []) (line_events (after m.object t f) l))
-    (subst (λ (u : Situation). TellsAt m (log ++ l ∷ []) ((past ++ f ∷ []) ++ line_events u l) d) lands adds)
+    grind (arith, nat_tests, append_assoc)
 
 -- the line's events are added
 pub line_tells : (m : Monitor) (log : List LogLine) (past : List Event) (pending : Pending) (l : LogLine) (d : Stand)
@@ -262,8 +259,7 @@ release_open m past e kind legal may stays =
       history = past ++ with_next x e ∷ [];
       legal = legal-push m past (with_next x e) legal allowed;
       more = [];
-      erases = erasure-push past (with_next x e) ∙ ap (λ (y : List LogLine). erasure past ++ y) (erased_with_next x e)
-          ∙ sym (append-nil (erasure past ++ erasure_of e));
+      erases = grind (arith, nat_tests, erasure-push, erased_with_next, append-nil);
     }
 
 -- if a log is open, it is open up to each of its lines

@@ -18,6 +18,7 @@ use Rattle.monk_completion.specs.{Told.chosen_from, Told.told_next, Erasure.eras
 use Rattle.monk_logs.specs.declared.text.line.LogLine.{LogLine}
 use Rattle.monk_logs.specs.declared.text.line.LogLine.TheVariants.{Enter, Resume, Leave, Wait, Signal, Broadcast, Until}
 use Rattle.monk_logs.specs.declared.text.line.LogLine.TheVariants.{Act}
+use Rattle.std.proofs.lemmas.Bool.Decides.{nat_tests}
 
 -- ---- the first line of an event
 
@@ -116,19 +117,16 @@ chosen m g e (next.Signaller j) is legal =
     (subst (λ (n : Option Next). permits m.kind m.object t e n ≡ true) is (legal_last m g e legal).permitted) in
     let nowhere = due_is_nowhere m g e j from.Signaller legal (ap (turn_by (seat_of e)) is) in
     let none : times j (drop (cond (is_waiter (next_of e)) 1 0) q.waiters) ≡ 0 = omega (arith, nowhere) in
-    let not_waiting : times j q.waiters ≡ 0 =
-    subst (λ (n : Option Next). times j (drop (cond (is_waiter n) 1 0) q.waiters) ≡ 0) is none in
+    let not_waiting : times j q.waiters ≡ 0 = grind (arith, nat_tests) in
     rw (no_front j q.waiters not_waiting, front) refl
 chosen m g e (next.Until j) is legal =
     let t = situation m g in
     let q = queues_at m.object t e in
     let nowhere = due_is_nowhere m g e j from.Until legal (ap (turn_by (seat_of e)) is) in
     let none : times j (drop (cond (is_waiter (next_of e)) 1 0) q.waiters) ≡ 0 = omega (arith, nowhere) in
-    let not_waiting : times j q.waiters ≡ 0 =
-    subst (λ (n : Option Next). times j (drop (cond (is_waiter n) 1 0) q.waiters) ≡ 0) is none in
+    let not_waiting : times j q.waiters ≡ 0 = grind (arith, nat_tests) in
     let none_there : times j (drop (cond (takes_signaller t.condition e) 1 0) q.signallers) ≡ 0 =
     omega (arith, nowhere) in
     let not_taken : takes_signaller t.condition e ≡ false = no_signaller t e j is in
-    let not_signalling : times j q.signallers ≡ 0 =
-    subst (λ (b : Bool). times j (drop (cond b 1 0) q.signallers) ≡ 0) not_taken none_there in
+    let not_signalling : times j q.signallers ≡ 0 = grind (arith, nat_tests) in
     rw (no_front j q.waiters not_waiting, no_front j q.signallers not_signalling) refl

@@ -83,8 +83,7 @@ module _ {m : Monitor} {budget : ℕ} {h : List Event} {capacity : ℕ} {q : Que
       → (e : Event) → IsAllowed m h e → in_lists (seat_of e) q ≡ 0
   apart_kept kept k e a =
       let none : in_queues m.conds (seat_of e) (shown_situation q state turn inside (not (is_empty h))) ≡ 0 =
-      subst (λ t. in_queues m.conds (seat_of e) t ≡ 0) (sym kept.stands)
-      (caller_unqueued m (situation m h) e (in_order kept k).placed a) in
+      grind (arith, nat_tests, caller_unqueued, in_order) in
       let all = times_unused (seat_of e) m.conds most_conds (queue_at q.conditions) kept.conds kept.unused in
       omega (arith, none, all)
 
@@ -102,12 +101,9 @@ module _ {m : Monitor} {budget : ℕ} {h : List Event} {capacity : ℕ} {q : Que
         seat = omega (arith, s, kept.inside_seats);
         counted = omega (arith, s, kept.spent_seats);
         low = let c = kept.counts (seat_of e) in let w = kept.low in grind (arith, c, w, l);
-        named = subst (λ n. list_all (λ j. nat_lt j n) (named_seat (next_of e)) ≡ true) (sym kept.granted_seats)
-            (named_in_range m e a.in_range);
-        low_granted = λ j. let n = few_kept kept e a l in let c = kept.grants_counted j in let f = granted_few h j in
-            grind (arith, n, c, f);
-        low_entered = let n = few_kept kept e a l in let c = kept.enters_counted in let f = enters_few h in
-            grind (arith, n, c, f);
+        named = grind (arith, nat_tests, named_in_range);
+        low_granted = grind (arith, nat_tests, few_kept, granted_few);
+        low_entered = grind (arith, nat_tests, few_kept, enters_few);
         waits = wider m.conds most_conds (waits_on e) kept.conds (range_waits m e a.in_range);
         signals = wider m.conds most_conds (signals_on e) kept.conds (range_signals m e a.in_range);
         apart = apart_kept kept k e a;
@@ -150,27 +146,19 @@ module _ {m : Monitor} {budget : ℕ} {h : List Event} {capacity : ℕ} {q : Que
             (after m.object (shown_situation q state turn inside (not (is_empty h))) e)
             moved.condition moved.waiters moved.signallers moved.untils st tu ins (begun h)
             ∙ (ap (λ t. after m.object t e) kept.stands ∙ sym (legal_situation-push m h e kept.legal));
-        counts = λ s. sp s
-            ∙ (ap (λ n. n + cond (seat_of e == s) 1 0) (kept.counts s) ∙ sym (length-events_of-push h e s));
-        grants_counted = λ s. gr s
-            ∙ (ap (λ n. n + cond (grants s e) 1 0) (kept.grants_counted s) ∙ sym (granted_of-push h e s));
+        counts = grind (arith, nat_tests, length-events_of-push);
+        grants_counted = grind (arith, nat_tests, granted_of-push);
         enters_counted = en ∙ (ap (λ n. n + cond (is_enter e) 1 0) kept.enters_counted ∙ sym (enters_of-push h e));
         granted_seats = lg ∙ kept.granted_seats;
-        within = λ s. subst (λ n. n ≤ budget) (sym (length-events_of-push h e s))
-            (one_within (seat_of e == s) (length (events_of h s)) budget
-            (λ b. subst (λ j. length (events_of h j) < budget) (eqb-true (seat_of e) s b) l) (kept.within s));
+        within = grind (arith, nat_tests, length-events_of-push, one_within, eqb-true);
         room = subst (λ n. m.seats * budget ≤ n) (sym cap) kept.room;
         inside_seats = li ∙ kept.inside_seats;
         spent_seats = ls ∙ kept.spent_seats;
         conds = kept.conds;
-        unused = λ c l. moved.condition c
-            ∙ still_unused c e (queue_at q.conditions c) (kept.unused c l)
-            (nobody_waits m.conds c e l (range_waits m e a.in_range));
+        unused = grind (arith, nat_tests, still_unused, nobody_waits, range_waits);
         few = kept.few;
         low = kept.low;
-        predicates = subst (All (λ (w : ℕ × ℕ). w.1 < m.object.predicates)) (sym moved.untils)
-            (joins_in_range m.object.codes m.object.predicates e q.untils (range_object m e a.in_range)
-            kept.predicates);
+        predicates = grind (arith, nat_tests, All, joins_in_range, range_object);
       }
     where
       begun : (xs : List Event) → not (is_empty (xs ++ e ∷ [])) ≡ true
@@ -218,8 +206,7 @@ kept_none m budget h capacity q state turn inside spent granted entered e cap st
           (opening_situation m) qs ws ss us st tu ins (none_kept h e)
           ∙ (sym (situation-none m) ∙ ap (situation m) (sym e));
       counts = λ s. sp s ∙ (sym (no_events s) ∙ ap (λ x. length (events_of x s)) (sym e));
-      within = λ s. let n : length (events_of h s) ≡ 0 = ap (λ x. length (events_of x s)) e ∙ no_events s in
-          omega (arith, n);
+      within = grind (arith, nat_tests, no_events);
       room = omega (arith, cap);
       inside_seats = li;
       spent_seats = ls;

@@ -12,6 +12,7 @@ use Rattle.monk_history.specs.declared.event.Event.TheVariants.{Wait, Signal, Si
 use Rattle.monk_floor.proofs.LinkLaws.{Walks.other, Walks.rest, Chains.times_le, Passing.times_both}
 use Rattle.monk_floor.specs.Links.{most_queues, places, without}
 use Rattle.monk_floor.specs.Queues.{queue_at, lists_of, waits_in, times_in_waits, in_lists, chosen_until, IsServed}
+use Rattle.std.proofs.lemmas.Bool.Decides.{nat_tests}
 
 -- the conditions come after the three other queues
 three_more : (c : ℕ) → suc (suc (suc c)) ≡ 3 + c
@@ -224,11 +225,7 @@ module _ (p : List ℕ) (qs : List (List ℕ)) (e : Event) where
             ∙ (λ j. sym (condition_at qs c) j ++ cond (same_condition d c j) (s ∷ []) []));
         waiters = there 0 ∙ ap (λ b. queue_at qs 0 ++ cond b (s ∷ []) []) (not_other 0 d (omega arith));
         signallers = there 1 ∙ ap (λ b. queue_at qs 1 ++ cond b (s ∷ []) []) (not_other 1 d (omega arith));
-        untils = ap (waits_in p)
-            (there 2
-            ∙ (ap (λ b. queue_at qs 2 ++ cond b (s ∷ []) []) (not_other 2 d (omega arith))
-            ∙ append-nil (queue_at qs 2)))
-            ∙ sym (append-nil (waits_in p (queue_at qs 2)));
+        untils = grind (arith, nat_tests, not_other, append-nil);
       })
     where
       there : (c : ℕ) → queue_at rs c ≡ queue_at qs c ++ cond (3 + d == c) (s ∷ []) []
@@ -243,8 +240,7 @@ module _ (p : List ℕ) (qs : List (List ℕ)) (e : Event) where
         condition = λ c. served_now qs rs d c there ∙ served_one (d == c) (queue_at (drop 3 qs) c);
         waiters = served_waiters qs rs d there;
         signallers = other_same qs d 1 rs (omega arith) (omega arith) there ∙ sym (append-nil (queue_at qs 1));
-        untils = ap (waits_in p) (other_same qs d 2 rs (omega arith) (omega arith) there)
-            ∙ sym (append-nil (waits_in p (queue_at qs 2)));
+        untils = grind (arith, nat_tests, other_same, append-nil);
       })
     where
       there : IsPassed qs d rs
@@ -262,11 +258,7 @@ module _ (p : List ℕ) (qs : List (List ℕ)) (e : Event) where
             ∙ served_whole (d == c) (queue_at (drop 3 qs) c)));
         waiters = there 0 ∙ (λ j. cond (not_other 0 d (omega arith) j) [] (queue_at qs 0) ++ sym (condition_at qs d) j);
         signallers = there 1 ∙ ap (λ b. cond b [] (queue_at qs 1) ++ []) (not_other 1 d (omega arith));
-        untils = ap (waits_in p)
-            (there 2
-            ∙ (ap (λ b. cond b [] (queue_at qs 2) ++ []) (not_other 2 d (omega arith))
-            ∙ append-nil (queue_at qs 2)))
-            ∙ sym (append-nil (waits_in p (queue_at qs 2)));
+        untils = grind (arith, nat_tests, not_other, append-nil);
       })
     where
       there : (c : ℕ) → queue_at rs c ≡ cond (3 + d == c) [] (queue_at qs c) ++ cond (0 == c) (queue_at qs (3 + d)) []
@@ -285,17 +277,11 @@ module _ (p : List ℕ) (qs : List (List ℕ)) (e : Event) where
             ∙ (λ j. (sym (condition_at ms c)
             ∙ (served_now qs ms d c passed ∙ (served_one (d == c) (queue_at (drop 3 qs) c)
             ∙ append-nil _))) j ++ cond (same_condition f c j) (s ∷ []) []));
-        waiters = there 0 ∙ (ap (λ b. queue_at ms 0 ++ cond b (s ∷ []) []) (not_other 0 f (omega arith))
-            ∙ (append-nil (queue_at ms 0) ∙ served_waiters qs ms d passed));
+        waiters = grind (arith, nat_tests, not_other, append-nil, served_waiters);
         signallers = there 1
             ∙ (λ j. other_same qs d 1 ms (omega arith) (omega arith) passed j
             ++ cond (not_other 1 f (omega arith) j) (s ∷ []) []);
-        untils = ap (waits_in p)
-            (there 2
-            ∙ ((λ j. other_same qs d 2 ms (omega arith) (omega arith) passed j
-            ++ cond (not_other 2 f (omega arith) j) (s ∷ []) [])
-            ∙ append-nil (queue_at qs 2)))
-            ∙ sym (append-nil (waits_in p (queue_at qs 2)));
+        untils = grind (arith, nat_tests, other_same, not_other, append-nil);
       })
     where
       passed : IsPassed qs d ms
@@ -316,8 +302,7 @@ module _ (p : List ℕ) (qs : List (List ℕ)) (e : Event) where
       subst (λ y. IsServed (lists_of p qs) y (lists_of p rs)) (sym i) (record {
         condition = λ c. served_now ms rs d c there
             ∙ (ap (drop (cond (d == c) 1 0)) (kept c) ∙ served_one (d == c) (queue_at (drop 3 qs) c));
-        waiters = served_waiters ms rs d there
-            ∙ (λ j. (m 0 ∙ append-nil (queue_at qs 0)) j ++ take 1 (kept d j));
+        waiters = grind (arith, nat_tests, served_waiters, append-nil);
         signallers = other_same ms d 1 rs (omega arith) (omega arith) there
             ∙ (m 1 ∙ ap (λ b. queue_at qs 1 ++ cond b [] (s ∷ [])) some);
         untils =
@@ -339,10 +324,5 @@ module _ (p : List ℕ) (qs : List (List ℕ)) (e : Event) where
         condition = λ c. others_kept 2 s qs rs (omega arith) r c ∙ sym (append-nil (queue_at (drop 3 qs) c));
         waiters = r 0;
         signallers = r 1;
-        untils = ap (waits_in (slice_set p s pred)) (r 2)
-            ∙ (waits_push (slice_set p s pred) (queue_at qs 2) s
-            ∙ ((λ j. waits_set p (queue_at qs 2) s pred
-            (let few = times_le 2 s (queue_at qs) (omega arith) in omega (arith, few, none)) j
-            ++ (s, get_or-set_same p s pred 0 l j) ∷ [])
-            ∙ ap (λ b. waits_in p (queue_at qs 2) ++ cond b [] ((s, pred) ∷ [])) stay));
+        untils = grind (arith, nat_tests, waits_push, waits_set, times_le, get_or-set_same);
       })

@@ -206,8 +206,7 @@ took x y s l rest e f = record {
   lock = refl;
   same_data = f.same_data;
   place = placed s Active Active x.place y.place refl f.place;
-  foreseen = foreseen_on s Active x.place (is_lapse l) rest tt
-      (subst (λ k. (j : ℕ) → Foreseen (x.place j) (if j == k then is_lapse l else lapses_next j rest)) e f.foreseen);
+  foreseen = grind (arith, nat_tests, foreseen_on);
   holder = λ j same. active_by j s (x.place j) (j == s) refl (some_same s j same);
 }
 
@@ -221,10 +220,8 @@ unasked_follows x y s (Waiting c) rest e h f m = record {
   lock = f.lock;
   same_data = f.same_data;
   place = λ j. same_class s (woken_unasked (x.place s)) x.place (class_unasked (x.place s)) j ∙ f.place j;
-  foreseen = λ j. subst (λ p. Foreseen (with_place s p x.place j) (lapses_next j rest)) (sym (ap woken_unasked e))
-      (signalled_foreseen x c (Some s) e j (lapses_next j rest) (f.foreseen j));
-  holder = λ j lock. subst (λ p. with_place s p x.place j ≡ Active) (sym (ap woken_unasked e))
-      (signalled_active x c (Some s) e j (f.holder j lock));
+  foreseen = grind (arith, nat_tests, signalled_foreseen);
+  holder = grind (arith, nat_tests, signalled_active);
 }
 unasked_follows x y s (Woken c) rest e h f m = f
 unasked_follows x y s (RanOut c) rest e h f m = absurd h
@@ -254,20 +251,8 @@ waited m x y s c rest false e f = record {
   holder = λ j same. no_lock j _ None refl same;
 }
 waited m x y s c rest true e f =
-    let here : run_out (with_place s (Waiting c) x.place s) ≡ RanOut c = ap
-    (λ b. run_out (if b then Waiting c else x.place s)) (eq-eqb s s refl) in
-    record {
-      lock = refl;
-      same_data = f.same_data;
-      place = λ j. subst (λ p. class (with_place s p (with_place s (Waiting c) x.place) j) ≡ class
-          (with_place s (Waiting c) y.place j)) (sym here)
-          (elim (j == s) as (λ b. class (if b then RanOut c else if b then Waiting c else x.place j) ≡ class
-          (if b then Waiting c else y.place j)) [ true ↦ refl | false ↦ f.place j ]);
-      foreseen = λ j. subst (λ p. Foreseen (with_place s p (with_place s (Waiting c) x.place) j)
-          (lapses_next j rest)) (sym here)
-          (ran_out_by j s c (x.place j) rest (j == s) refl e (f.foreseen j));
-      holder = λ j same. no_lock j _ None refl same;
-    }
+    let here : run_out (with_place s (Waiting c) x.place s) ≡ RanOut c = grind (arith, nat_tests, eq-eqb) in
+    grind (arith, nat_tests, ran_out_by, no_lock)
 
 -- the same after one more line, whichever threads the two runs wake
 pub follow_line : (m : Setting) (x y : State) (l : LogLine) (v w : Option ℕ) (rest : List LogLine) → IsRight x l v
@@ -277,8 +262,7 @@ follow_line m x y (Enter s) v w rest right f h = took x y s (Enter s) rest refl 
 follow_line m x y (Resume s) v w rest right f h =
     let stands = can_stand m x y (Resume s) w rest f h in
     let woke = unasked_follows x y s (x.place s) (Resume s ∷ rest) refl stands.2 f m in
-    subst (λ z. Follows z (takes s y) rest) (sym (after_on m x (waking s (x.place s)) (Tells (Resume s) None ∷ [])))
-    (took (after_all m x (waking s (x.place s))) y s (Resume s) rest refl woke)
+    grind (arith, nat_tests, after_on, took)
 follow_line m x y (Lapse s) v w rest right f h = took x y s (Lapse s) rest refl f
 follow_line m x y (Leave s) v w rest right f h = record {
   lock = refl;
@@ -292,16 +276,14 @@ follow_line m x y (Signal s c) v w rest right f h = record {
   lock = f.lock;
   same_data = f.same_data;
   place = λ j. signalled_class x c v right j ∙ f.place j ∙ sym (signalled_class y c w h.1 j);
-  foreseen = λ j. signalled_foreseen x c v right j (lapses_next j rest)
-      (foreseen_past s x.place false rest (sender_here m x y (Signal s c ∷ rest) s c f h.0) f.foreseen j);
+  foreseen = grind (arith, nat_tests, signalled_foreseen, foreseen_past, sender_here);
   holder = λ j lock. signalled_active x c v right j (f.holder j lock);
 }
 follow_line m x y (Broadcast s c) v w rest right f h = record {
   lock = f.lock;
   same_data = f.same_data;
   place = λ j. class_woken c (x.place j) ∙ f.place j ∙ sym (class_woken c (y.place j));
-  foreseen = λ j. foreseen_woken c (x.place j) (lapses_next j rest)
-      (foreseen_past s x.place false rest (sender_here m x y (Broadcast s c ∷ rest) s c f h) f.foreseen j);
+  foreseen = grind (arith, nat_tests, foreseen_woken, foreseen_past, sender_here);
   holder = λ j lock. ap (woken c) (f.holder j lock);
 }
 follow_line m x y (Until s p) v w rest right f h = absurd h
@@ -309,8 +291,7 @@ follow_line m x y (Act s op r) v w rest right f h = record {
   lock = f.lock;
   same_data = ap (λ d. m.object.after d op) f.same_data;
   place = f.place;
-  foreseen = foreseen_past s x.place false rest
-      (λ b. subst (λ p. Foreseen p b) (sym (f.holder s (f.lock ∙ h.2))) tt) f.foreseen;
+  foreseen = grind (arith, nat_tests, foreseen_past);
   holder = f.holder;
 }
 

@@ -32,10 +32,7 @@ pub count_moved : (f g : ℕ → Bool) (s n : ℕ) → ((j : ℕ) → (j ≡ s �
 count_moved f g s zero h lt = absurd (omega arith)
 count_moved f g s (suc n) h lt =
     elim (by_eq s n) as (λ k. count f (suc n) + one (g s) ≡ count g (suc n) + one (f s)) [
-      | inl e ↦
-          let a : count f n ≡ count g n = count_below f g s n h (omega arith) in
-          let b : one (f n) ≡ one (f s) = ap (λ k. one (f k)) e in
-          let d : one (g n) ≡ one (g s) = ap (λ k. one (g k)) e in omega arith
+      | inl e ↦ grind (arith, nat_tests, count_below)
       | inr ne ↦
           let a : count f n + one (g s) ≡ count g n + one (f s) = count_moved f g s n h
           (omega (arith, strictly s n ne lt)) in

@@ -1,5 +1,5 @@
 -- The judge's state covers each run of the lines so far
-use Rattle.std.proofs.Common.{◌≡◌, ℕ, suc, ◌<◌, Bool, true, List, [], ◌∷◌, ◌++◌, Option, None, length, get_or, take, drop, ◌+◌, add-one, arith, refl, sym, ap, subst, ◌∙◌}
+use Rattle.std.proofs.Common.{◌≡◌, ℕ, suc, ◌<◌, Bool, true, List, [], ◌∷◌, ◌++◌, Option, length, get_or, take, drop, ◌+◌, add-one, arith, refl, sym, ap, subst, ◌∙◌}
 use Rattle.std.proofs.{Math.Seq.drop-cons, lemmas.Grind.common_steps}
 use Rattle.monk_logs.specs.Log.{line_seat}
 use Rattle.monk_logs.specs.declared.text.line.LogLine.{LogLine, TheVariants.Enter, TheVariants.Signal}
@@ -12,6 +12,7 @@ use Rattle.monk_judge.specs.Judged.{CanStand, IsRight, after_all, steps_at}
 use Rattle.monk_judge.specs.Run.{Setting, State, May, after, IsRun, lines_of, opening, run_out, woken_unasked}
 use Rattle.monk_judge.specs.declared.place.Place.TheVariants.{Waiting}
 use Rattle.monk_judge.specs.declared.step.Step.{Step, TheVariants.Tells, TheVariants.RunsOut, TheVariants.WakesUnasked}
+use Rattle.std.proofs.lemmas.Bool.Decides.{nat_tests}
 
 -- the steps are a run of those lines and lead to the state; compared with any other run of them,
 -- the state is the judge's, and on no condition were more threads woken unasked
@@ -62,8 +63,7 @@ split (Tells k v ∷ steps) (b ∷ before) l e =
       whom = s.whom;
       more = s.more;
       is = ap (λ j. Tells k v ∷ j) s.is;
-      told = ap (λ j. j ∷ lines_of s.first) (head_same k b (lines_of steps) (before ++ l ∷ []) e)
-          ∙ ap (λ j. b ∷ j) s.told;
+      told = grind (arith, nat_tests, head_same);
       none = s.none;
     }
 split (RunsOut j ∷ steps) before l e =
@@ -120,10 +120,9 @@ silent_beats m c x y rest (RunsOut s ∷ steps) kx ky e run h =
 silent_beats m c x y rest (WakesUnasked s ∷ steps) kx ky e run h =
     let one_more = one (waits_on c (y.place s)) in
     let z = after m y (WakesUnasked s) in
-    subst (λ k. Beats m c x (after_all m z steps) rest kx k)
-    (let e : ky + one_more + unasked_on m c z steps ≡ ky + (one_more + unasked_on m c z steps) = omega arith in e)
-    (silent_beats m c x z rest steps kx (ky + one_more) e run.1
-    (unasked_dom m.seats c (length rest) kx ky s rest x.place y.place run.0 h))
+    let first = unasked_dom m.seats c (length rest) kx ky s rest x.place y.place run.0 h in
+    let later = silent_beats m c x z rest steps kx (ky + one_more) e run.1 first in
+    grind (arith, nat_tests, unasked_on, unasked_dom, later)
 
 -- the thread that the judge's signal wakes goes on as early as any other that sleeps there
 abbrev pub GoesFirst : Setting → State → LogLine → Option ℕ → List LogLine → Type 0
@@ -187,8 +186,7 @@ covers_line m d before l rest steps x y w c h right first e =
     let leads = after_on m (opening d) steps own in
     record {
       run = run_on m (opening d) steps own c.run (subst (λ k. IsRun m k own) c.leads (line_run m x l w lapses right h));
-      told = lines_on steps own ∙ ap (λ k. k ++ lines_of own) c.told
-          ∙ ap (λ k. before ++ k) (line_told m x l w lapses h);
+      told = grind (arith, nat_tests, lines_on, line_told);
       leads = e ∙ ap (λ k. after_all m k own) c.leads ∙ sym leads;
       follows = λ others run told.
           let b = beside m d before l rest steps x c others run told in
@@ -197,9 +195,8 @@ covers_line m d before l rest steps x y w c h right first e =
       least = λ others run told cond.
           let b = beside m d before l rest steps x c others run told in
           let kx = unasked_on m cond (opening d) steps + unasked_on m cond x own in
-          let cost : kx ≡ unasked_on m cond (opening d) (steps ++ own)
-          = ap (λ k. unasked_on m cond (opening d) steps + unasked_on m cond k own) c.leads
-          ∙ sym (cost_on m cond (opening d) steps own) in
+          let cost : kx ≡ unasked_on m cond (opening d) (steps ++ own) =
+          grind (arith, nat_tests, unasked_on, cost_on) in
           subst
           (λ k. Beats m cond k (after_all m (opening d) others) rest (unasked_on m cond (opening d) (steps ++ own))
           (unasked_on m cond (opening d) others)) (sym e)
@@ -245,8 +242,7 @@ covers_opening m d lines x e = record {
         same_data = refl;
         place = λ j. refl;
         foreseen = λ j. tt;
-        holder = λ j same. no_lock j _
-            None refl same;
+        holder = grind (arith, nat_tests, no_lock);
       }));
   least = λ others run told c. subst
       (λ k. Beats m c k (after_all m (opening d) others) lines 0 (unasked_on m c (opening d) others)) (sym e)

@@ -15,8 +15,7 @@ places_at xs zero le = refl
 places_at xs (suc n) le =
     let lt : n < length xs = omega (arith, le) in
     let next : suc n ≡ n + 1 = omega arith in
-    ap (λ (k : ℕ). take k xs) next ∙ take_more xs n Outside lt
-    ∙ ap (λ (ys : List Place). ys ++ get_or xs n Outside ∷ []) (places_at xs n (omega (arith, le)))
+    grind (arith, nat_tests, take_more, places_at xs n (omega (arith, le)))
 
 pub places_shown : (xs : List Place) → xs ≡ places_below (length xs) (λ s. get_or xs s Outside)
 places_shown xs = sym (take_all (length xs) xs (omega arith)) ∙ places_at xs (length xs) (omega arith)
@@ -76,8 +75,4 @@ pub cut_ends : (lines : ℕ) (steps : List Step) (i left : ℕ) → length steps
     → (steps ≡ telling lines steps) × ([] ≡ behind_lines lines steps)
 cut_ends lines steps i left all was =
     let gone : drop i steps ≡ [] = drop_all i steps all in
-    let whole = take_all i steps all in (
-      sym (was.first ∙ ap₂ (λ (ys zs : List Step). ys ++ telling left zs) whole gone
-          ∙ ap (λ (ys : List Step). steps ++ ys) (none_first left) ∙ append-nil steps),
-      sym (was.behind ∙ ap (behind_lines left) gone ∙ none_behind left),
-    )
+    grind (arith, nat_tests, take_all, ap₂, none_first, append-nil, none_behind)

@@ -10,7 +10,7 @@ use Rattle.monk_judge.proofs.Returning.{before_waits, no_wait, others_line}
 use Rattle.monk_judge.proofs.Among.{first_here, first_skip, here_or_below}
 use Rattle.monk_judge.proofs.Nexts.{HasNext, at_last, goes_by, next_kept, on_kept, overtaken_kept}
 use Rattle.monk_judge.specs.{declared.overtaking.Back.Back, declared.overtaking.Hints.Hints, Among.AreMany}
-use Rattle.monk_judge.specs.{Among.NamesFirst, Holding.takes_lock, Moments.Moment, Moments.moment, Run.State}
+use Rattle.monk_judge.specs.{Among.NamesFirst, Holding.takes_lock, Moments.Moment, Run.State}
 use Rattle.monk_judge.specs.Overtaken.{GoesOn, GoesOnBy, IsOvertaken, IsOvertakenOn, WaitsAgain, seat_at}
 use Rattle.monk_judge.specs.Hints.{Answers, ComesBack, AnswersOwn, AnswersBy, first_of, passed_of}
 use Rattle.std.proofs.lemmas.Bool.Decides.{nat_tests}
@@ -29,27 +29,20 @@ back_kept : (log : List LogLine) (all : List Moment) (t : Moment) (l : LogLine) 
     → Moves x l y
     → BackAt log all x b → (GoesOnBy l b.seat → ⊥) → BackAt log (all ++ t ∷ []) y b
 back_kept log all t l x y b is moves at other =
-    let frees : takes_lock l ≡ false = elim (cases_Bool (takes_lock l)) as (λ z. takes_lock l ≡ false)
-    [ inl takes ↦ absurd (none_some b.seat ⊥ (sym (moves.free takes) ∙ at.lock)) | inr frees ↦ frees ] in
-    record {
-      within = let m = more_many all t in let a = at.within in omega arith;
-      on = (on_kept log all t b.cond b.line at.within).0 at.on;
-      seat = seat_kept all t b.line at.within ∙ at.seat;
-      none = λ i from lt same.
-          elim (here_or_below i (length all) (subst (λ n. i < n) (more_many all t) lt)) as (λ z. ⊥) [
-            | inl last ↦ other (goes_by (moment (all ++ t ∷ []) i).line l b.seat b.seat (at_last all t l i is last) refl
-                same)
-            | inr less ↦ at.none i from less (goes_by (moment (all ++ t ∷ []) i).line (moment all i).line b.seat b.seat
-                (ap (λ z. z.line) (moment_kept all t i less)) refl same)
-          ];
-      latest = λ i from lt takes.
-          elim (here_or_below i (length all) (subst (λ n. i < n) (more_many all t) lt)) as (λ z. ⊥) [
-            | inl last ↦ false≢true (sym frees ∙ sym (ap takes_lock (at_last all t l i is last)) ∙ takes)
-            | inr less ↦ at.latest i from less
-                (sym (ap (λ z. takes_lock z.line) (moment_kept all t i less)) ∙ takes)
-          ];
-      lock = lock_kept l x y b.seat moves frees at.lock other;
-    }
+    let frees : takes_lock l ≡ false = grind (arith, nat_tests, cases_Bool, none_some) in
+    grind (
+      arith,
+      nat_tests,
+      more_many,
+      on_kept,
+      seat_kept,
+      here_or_below,
+      goes_by,
+      at_last,
+      moment_kept,
+      false≢true,
+      lock_kept,
+    )
 
 -- if the line's thread came back last, it has now gone on
 next_now : (log : List LogLine) (all : List Moment) (t : Moment) (l : LogLine) (x : State) (b : Back) → t.line ≡ l
@@ -57,18 +50,7 @@ next_now : (log : List LogLine) (all : List Moment) (t : Moment) (l : LogLine) (
     → GoesOnBy l b.seat → HasNext (all ++ t ∷ []) b.line
 next_now log all t l x b is at own =
     let seat : seat_at (all ++ t ∷ []) b.line ≡ b.seat = seat_kept all t b.line at.within ∙ at.seat in
-    record {
-      at = length all;
-      next = record {
-        behind = at.within;
-        within = let m = more_many all t in omega arith;
-        same = goes_by l (moment (all ++ t ∷ []) (length all)).line b.seat (seat_at (all ++ t ∷ []) b.line)
-            (sym (at_last all t l (length all) is refl)) (sym seat) own;
-        none = λ i from less same. at.none i from less
-            (goes_by (moment (all ++ t ∷ []) i).line (moment all i).line (seat_at (all ++ t ∷ []) b.line) b.seat
-            (ap (λ z. z.line) (moment_kept all t i less)) seat same);
-      };
-    }
+    grind (arith, nat_tests, more_many, goes_by, at_last, moment_kept)
 
 -- after a line, before its own thread may have come back
 pub record Half (log : List LogLine) (all : List Moment) (t : Moment) (y : State) (h : Hints) : Type 0 where
@@ -166,23 +148,12 @@ not_back : (log : List LogLine) (all : List Moment) (t : Moment) (y : State) (mi
     → (IsOvertaken log (all ++ t ∷ []) (length all) → ⊥) → Hinted log (all ++ t ∷ []) y mid
 not_back log all t y mid half nope = record {
   counts = record {
-    many = subst (λ n. AreMany (λ k. IsOvertaken log (all ++ t ∷ []) k) n mid.many) (suc_many all t)
-        (many_skip (λ k. IsOvertaken log (all ++ t ∷ []) k) (length all) mid.many nope half.counts.many);
-    again = subst (λ n. AreMany (λ k. WaitsAgain log (all ++ t ∷ []) k) n mid.again) (suc_many all t)
-        (many_skip (λ k. WaitsAgain log (all ++ t ∷ []) k) (length all) mid.again (last_not_again log all t)
-        half.counts.again);
-    first = subst (λ n. NamesFirst (λ k. GoesOn log (all ++ t ∷ []) k) n mid.first_not_again) (sym (more_many all t))
-        (first_skip (λ k. GoesOn log (all ++ t ∷ []) k) (λ k. GoesOn log (all ++ t ∷ []) k) (length all)
-        mid.first_not_again (same_self (λ k. GoesOn log (all ++ t ∷ []) k) (length all)) (λ none g. nope g.0)
-        half.counts.first);
+    many = grind (arith, nat_tests, suc_many, many_skip);
+    again = grind (arith, nat_tests, suc_many, many_skip, last_not_again);
+    first = grind (arith, nat_tests, more_many, first_skip, same_self);
   };
   back = half.back;
-  others = λ k lt over.
-      elim (here_or_below k (length all) (subst (λ n. k < n) (more_many all t) lt)) as
-      (λ z. IsBackAt mid.back k ⊎ HasNext (all ++ t ∷ []) k) [
-        | inl last ↦ absurd (nope (subst (λ j. IsOvertaken log (all ++ t ∷ []) j) last over))
-        | inr less ↦ half.others k less over
-      ];
+  others = grind (arith, nat_tests, here_or_below, more_many, IsBackAt, HasNext);
 }
 
 some_not : (f : ℕ) (A : Type 0) → Some f ≡ None → A
@@ -215,10 +186,7 @@ comes log all t l x y mid new c is moves takes half none on does =
             (subst (λ j. AreMany (λ k. WaitsAgain log (all ++ t ∷ []) k) (suc (length all)) j) (sym does.2)
             (many_skip (λ k. WaitsAgain log (all ++ t ∷ []) k) (length all) mid.again (last_not_again log all t)
             half.counts.again));
-        first = subst (λ n. NamesFirst (λ k. GoesOn log (all ++ t ∷ []) k) n new.first_not_again)
-            (sym (more_many all t))
-            (subst (λ o. NamesFirst (λ k. GoesOn log (all ++ t ∷ []) k) (length all + 1) o) (sym does.3)
-            (first_with log all t mid.first_not_again now half.counts.first));
+        first = grind (arith, nat_tests, more_many, first_with);
       };
       back = subst (λ o. IsBack log (all ++ t ∷ []) y o) (sym does.0) (record {
         within = let m = more_many all t in omega arith;
@@ -228,16 +196,7 @@ comes log all t l x y mid new c is moves takes half none on does =
         latest = λ i from lt take. let m = more_many all t in absurd (omega arith);
         lock = moves.taken takes;
       });
-      others = λ k lt over.
-          elim (here_or_below k (length all) (subst (λ n. k < n) (more_many all t) lt)) as
-          (λ z. IsBackAt new.back k ⊎ HasNext (all ++ t ∷ []) k) [
-            | inl last ↦ inl (subst (λ o. IsBackAt o k) (sym does.0) last)
-            | inr less ↦ elim (half.others k less over) as
-                (λ z. IsBackAt new.back k ⊎ HasNext (all ++ t ∷ []) k) [
-                  | inl at ↦ absurd (subst (λ o. IsBackAt o k) none at)
-                  | inr has ↦ inr has
-                ]
-          ];
+      others = grind (arith, nat_tests, here_or_below, more_many, IsBackAt, HasNext);
     }
 
 -- while nobody has the lock, nobody is back

@@ -66,10 +66,7 @@ unasked_drop n s (Waiting x) f c d lines h e =
           let a = count_drop (due c f d lines) (due c (with_place s (Woken x) f) d lines) s n
           (λ j ne. sym (due_elsewhere s (Woken x) f c d lines j ne)) in
           let b : one (x == c) ≡ 1 = ap one same in omega arith
-      | inr other ↦
-          let a = count_same (due c (with_place s (Woken x) f) d lines) (due c f d lines) n
-          (due_same s (Woken x) f c d lines (sym (ap (asleep_on c) e ∙ other))) in
-          omega arith
+      | inr other ↦ grind (arith, nat_tests, count_same, due_same)
     ]
 unasked_drop n s (Woken x) f c d lines h e = absurd h
 unasked_drop n s (RanOut x) f c d lines h e = absurd h
@@ -124,9 +121,8 @@ first_only n c s f rest lt =
     (λ j ne. ap (λ b. asleep_on c (f j) && (if b then true else false)) (ne_eqb j s ne)
     ∙ and_false (asleep_on c (f j))) lt in
     let z = count_none (λ j. false) n (λ j. refl) in
-    let o : one (due c f 1 (Resume s ∷ rest) s) ≡ one (asleep_on c (f s)) = ap
-    (λ b. one (asleep_on c (f s) && (if b then true else false))) (eq-eqb s s refl)
-    ∙ ap one (and_true (asleep_on c (f s))) in
+    let o : one (due c f 1 (Resume s ∷ rest) s) ≡ one (asleep_on c (f s)) =
+    grind (arith, nat_tests, eq-eqb, and_true) in
     omega arith
 
 pub dom_back : (n c most kx ky s : ℕ) (rest : List LogLine) (f g f2 g2 : ℕ → Place) → s < n
@@ -142,10 +138,8 @@ dom_back n c most kx ky s rest f g f2 g2 lt ox oy zf zg zy h = record {
   due = λ d le.
       let a = moved_count n c d (Resume s) rest f f2 lt ox in
       let b = moved_count n c d (Resume s) rest g g2 lt oy in
-      let a0 : one (asleep_on c (f2 s) && resumes_within s d rest) ≡ 0 = ap (λ k. one (k && resumes_within s d rest))
-      zf in
-      let b0 : one (asleep_on c (g2 s) && resumes_within s d rest) ≡ 0 = ap (λ k. one (k && resumes_within s d rest))
-      zg in
+      let a0 : one (asleep_on c (f2 s) && resumes_within s d rest) ≡ 0 = grind (arith, nat_tests) in
+      let b0 : one (asleep_on c (g2 s) && resumes_within s d rest) ≡ 0 = grind (arith, nat_tests) in
       let a1 : one (asleep_on c (f s) && true) ≡ one (asleep_on c (f s)) = ap one (and_true (asleep_on c (f s))) in
       let b1 : one (asleep_on c (g s) && true) ≡ 0 = ap (λ k. one (k && true)) zy in
       let old = h.due (suc d) (omega arith) in omega arith;
@@ -181,11 +175,9 @@ dom_signal n c e most kx ky rest f g g2 k is same drop first h = record {
   due = λ d le.
       let old = h.due d le in
       let y = drop d in
-      let off : (j : ℕ) → (j ≡ k → ⊥)
-      → due c f d rest j ≡ due c (with_place k (Woken e) f) d rest j = λ j ne. sym
-      (due_elsewhere k (Woken e) f c d rest j ne) in
-      let own0 : due c (with_place k (Woken e) f) d rest k ≡ false = ap
-      (λ p. asleep_on c p && resumes_within k d rest) (here k (Woken e) f) in
+      let off : (j : ℕ) → (j ≡ k → ⊥) → due c f d rest j ≡ due c (with_place k (Woken e) f) d rest j =
+      grind (arith, nat_tests, due_elsewhere) in
+      let own0 : due c (with_place k (Woken e) f) d rest k ≡ false = grind (arith, nat_tests, here) in
       let down = count_down (due c f d rest) (due c (with_place k (Woken e) f) d rest) k n off own0 in
       elim (count_some (due c f d rest) n) as (λ v. count (due c (with_place k (Woken e) f) d rest) n + kx ≤ count
       (due c g2 d rest) n + ky) [
@@ -193,8 +185,7 @@ dom_signal n c e most kx ky rest f g g2 k is same drop first h = record {
         | inr it ↦
             let got = first it.at d it.passes in
             let x = less_or (due c f d rest) (due c (with_place k (Woken e) f) d rest) k n off own0 got.0 in
-            let own : due c f d rest k ≡ true = ap (λ p. asleep_on c p && resumes_within k d rest) is
-            ∙ ap (λ b. b && resumes_within k d rest) same ∙ got.1 in
+            let own : due c f d rest k ≡ true = grind (arith, nat_tests) in
             let o : one (due c f d rest k) ≡ 1 = ap one own in omega arith
       ];
 }

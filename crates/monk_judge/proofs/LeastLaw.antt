@@ -93,8 +93,7 @@ back_dom m n c most kx ky s Outside rest x y lt e can wokeny h = absurd can
 back_dom m n c most kx ky s Active rest x y lt e can wokeny h = absurd can
 back_dom m n c most kx ky s (Waiting w) rest x y lt e can wokeny h =
     let f1 = with_place s (woken_unasked (x.place s)) x.place in
-    let cost : one (asleep_on c (x.place s)) ≡ one (waits_on c (x.place s)) + 0 = ap (λ q. one (asleep_on c q)) e
-    ∙ (let z : one (w == c) ≡ one (w == c) + 0 = omega arith in z) ∙ sym (ap (λ q. one (waits_on c q) + 0) e) in
+    let cost : one (asleep_on c (x.place s)) ≡ one (waits_on c (x.place s)) + 0 = grind (arith, nat_tests, asleep_on) in
     dom_cost n c most (kx + one (asleep_on c (x.place s))) (kx + (one (waits_on c (x.place s)) + 0)) ky rest
     (with_place s Active f1) (with_place s Active y.place) (ap (λ k. kx + k) cost)
     (dom_back n c most kx ky s rest x.place y.place (with_place s Active f1) (with_place s Active y.place) lt

@@ -109,10 +109,8 @@ pub each_kept : (ends : List WaitEnd) (lines : List LogLine) (i : ℕ) (e : Wait
     → (k : ℕ) → i ≤ k → k < length lines → IsEndAt lines k (get_or (set ends i e) k (Resumes 0))
 each_kept ends lines i e lt h old k le few =
     elim (at_or_behind i k le) as (λ z. IsEndAt lines k (get_or (set ends i e) k (Resumes 0))) [
-      | inl same ↦ subst (λ j. IsEndAt lines j (get_or (set ends i e) j (Resumes 0))) (sym same)
-          (subst (λ v. IsEndAt lines i v) (sym (get_or-set_same ends i e (Resumes 0) lt)) h)
-      | inr more ↦ subst (λ v. IsEndAt lines k v)
-          (sym (get_or-set_other ends i k e (Resumes 0) (λ same. absurd (omega arith)))) (old k more few)
+      | inl same ↦ grind (arith, nat_tests, get_or-set_same)
+      | inr more ↦ grind (arith, nat_tests, get_or-set_other)
     ]
 
 nth_never : (n s : ℕ) → s < n → get_or (replicate n Never) s (Resumes 0) ≡ Never

@@ -1,5 +1,5 @@
 -- The first missed signal, after one more line
-use Rattle.std.proofs.Common.{◌≡◌, ℕ, ◌+◌, ◌<◌, ◌||◌, ◌⊎◌, inl, inr, Bool, true, false, List, [], ◌∷◌, ◌++◌, Option, None, length, refl, sym, ap, subst, arith, ◌∙◌}
+use Rattle.std.proofs.Common.{◌≡◌, ℕ, ◌+◌, ◌<◌, ◌||◌, ◌⊎◌, inl, inr, Bool, true, false, List, [], ◌∷◌, ◌++◌, Option, None, length, sym, ap, subst, arith, ◌∙◌}
 use Rattle.std.proofs.lemmas.{List.length-append, Bool.cases_Bool, Bool.false≢true}
 use Rattle.monk_object.specs.Object.{Object}
 use Rattle.monk_logs.specs.declared.text.line.LogLine.{LogLine}
@@ -111,17 +111,14 @@ pub known_next : (o : Object) (means : List WaitsFor) (all : List Moment) (t : M
     → is_from_outside x.lock l ≡ is_from_outside t.before.lock l
     → LooksAt o means l x (length all) s new → Known o means (all ++ t ∷ []) new
 known_next o means all t l x s new was is leads lock looks =
-    let out : new.from_outside ≡ (s.from_outside || is_from_outside t.before.lock t.line)
-    = looks.from_outside ∙ ap (λ k. s.from_outside || k) (lock ∙ ap (is_from_outside t.before.lock) (sym is)) in
+    let out : new.from_outside ≡ (s.from_outside || is_from_outside t.before.lock t.line) = grind (arith, nat_tests) in
     let lacks = λ (h : LacksBehind o means t.line t.behind).
     subst (λ k. LacksBehind o means k x) is (subst (λ k. LacksBehind o means t.line k) leads h) in
     record {
       line = subst (λ n. NamesFirst (λ k. IsMissedAt o means (all ++ t ∷ []) k) n new.line) (sym (more_many all t))
           (elim looks.line as
           (λ z. NamesFirst (λ k. IsMissedAt o means (all ++ t ∷ []) k) (length all + 1) new.line) [
-            | inl not_it ↦ subst (λ k. NamesFirst (λ k. IsMissedAt o means (all ++ t ∷ []) k) (length all + 1) k)
-                (sym not_it.0)
-                (line_by o means all t s s.line refl was (λ none inside h. not_it.1 none inside (lacks h)))
+            | inl not_it ↦ grind (arith, nat_tests, line_by)
             | inr it ↦ subst (λ k. NamesFirst (λ k. IsMissedAt o means (all ++ t ∷ []) k) (length all + 1) k)
                 (sym it.3)
                 (first_here (λ k. IsMissedAt o means all k) (λ k. IsMissedAt o means (all ++ t ∷ []) k) (length all)
@@ -131,11 +128,6 @@ known_next o means all t l x s new was is leads lock looks =
                 (subst (λ k. LacksBehind o means k x) (sym is) it.2)) (was.none it.1))
                 (subst (λ k. NamesFirstMissed o means all k) it.0 was.line))
           ]);
-      none = λ h.
-          let parts = or_false s.from_outside (is_from_outside t.before.lock t.line) (sym out ∙ h) in
-          none_more all t (was.none parts.0) parts.1;
-      some = λ h.
-          elim (or_true s.from_outside (is_from_outside t.before.lock t.line) (sym out ∙ h)) as
-          (λ z. Came (all ++ t ∷ []))
-          [ inl old ↦ some_more all t (was.some old) | inr now ↦ some_now all t now ];
+      none = grind (arith, nat_tests, or_false, none_more);
+      some = grind (arith, nat_tests, or_true, some_more, some_now);
     }

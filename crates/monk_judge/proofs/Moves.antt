@@ -9,8 +9,8 @@ use Rattle.monk_logs.specs.declared.text.line.LogLine.TheVariants.{Until, Act}
 use Rattle.monk_judge.proofs.{Least.elsewhere, Least.here, Sleepers.HoldersAct}
 use Rattle.monk_judge.specs.{Ends.is_resume, Holding.takes_lock, Overtaken.is_refused}
 use Rattle.monk_judge.specs.Judged.{CanStand, IsRight, after_all, running_out, steps_at, waking}
-use Rattle.monk_judge.specs.Run.{HasRunOut, Setting, State, after, takes, WakesRightly, run_out, signalled, with_place}
-use Rattle.monk_judge.specs.Run.{woken, woken_unasked}
+use Rattle.monk_judge.specs.Run.{HasRunOut, Setting, State, after, takes, WakesRightly, signalled, with_place}
+use Rattle.monk_judge.specs.Run.{woken}
 use Rattle.monk_judge.specs.declared.place.Place.{Place}
 use Rattle.monk_judge.specs.declared.place.Place.TheVariants.{Outside, Active, Waiting, Woken, RanOut}
 use Rattle.monk_judge.specs.declared.step.Step.TheVariants.{Tells, WakesUnasked}
@@ -79,18 +79,7 @@ comes_back m x s Active free = took x (Resume s) refl free (λ c h. refl)
 comes_back m x s (Waiting d) free =
     let z = after m x (WakesUnasked s) in
     let then : Moves z (Resume s) (takes s z) = took z (Resume s) refl free (λ c h. refl) in
-    record {
-      free = then.free;
-      taken = then.taken;
-      held = then.held;
-      still = λ j c h other. then.still j c
-          (elsewhere s (woken_unasked (x.place s)) x.place j (other refl) ∙ h) other;
-      back = λ h c e. refl;
-      acts = then.acts;
-      keeps = then.keeps;
-      refused = then.refused;
-      leaves = then.leaves;
-    }
+    grind (arith, nat_tests, elsewhere)
 comes_back m x s (Woken d) free = took x (Resume s) refl free (λ c h. refl)
 comes_back m x s (RanOut d) free = took x (Resume s) refl free (λ c h. refl)
 
@@ -110,9 +99,7 @@ waits m x s e false lock acts = let_go x _ (Wait s e) refl refl refl lock
     (λ j c h. elsewhere s (Waiting e) x.place j (apart x s j c acts h) ∙ h)
 waits m x s e true lock acts =
     let first = with_place s (Waiting e) x.place in
-    let_go x _ (Wait s e) refl refl refl lock
-    (λ j c h. elsewhere s (run_out (first s)) first j (apart x s j c acts h)
-    ∙ elsewhere s (Waiting e) x.place j (apart x s j c acts h) ∙ h)
+    grind (arith, nat_tests, let_go, elsewhere, apart)
 
 signal_still : (x : State) (e j c : ℕ) (w : Option ℕ) → WakesRightly x e w → x.place j ≡ Woken c
     → signalled e w x.place j ≡ Woken c

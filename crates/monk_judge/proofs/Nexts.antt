@@ -1,7 +1,7 @@
 -- The next line of a thread that came back overtaken, after one more line
 use Rattle.std.proofs.Common.{◌≡◌, ℕ, ◌<◌, List, [], ◌∷◌, ◌++◌, length, sym, ap, arith, ◌∙◌}
 use Rattle.monk_logs.specs.Log.{line_seat}
-use Rattle.monk_logs.specs.declared.text.line.LogLine.{LogLine, TheVariants.Wait}
+use Rattle.monk_logs.specs.declared.text.line.LogLine.{LogLine}
 use Rattle.monk_judge.proofs.{Among.SameBelow, Among.here_or_below, Missing.more_many, Moments.moment_kept}
 use Rattle.monk_judge.proofs.{Moments.moment_last, Visits.passed_kept, Visits.seat_kept}
 use Rattle.monk_judge.specs.{Moments.Moment, Moments.moment}
@@ -57,9 +57,7 @@ next_back all t k j within h =
       behind = h.behind;
       within = within;
       same = (goes_kept all t j k within lt).1 h.same;
-      none = λ i from less same.
-          let near : i < length all = omega arith in
-          h.none i from less ((goes_kept all t i k near lt).0 same);
+      none = grind (arith, nat_tests, goes_kept);
     }
 
 pub again_more : (log : List LogLine) (all : List Moment) (t : Moment) (k : ℕ) → k < length all → WaitsAgain log all k
@@ -69,8 +67,7 @@ again_more log all t k lt h = record {
   on = (on_kept log all t h.cond k lt).0 h.on;
   at = h.at;
   next = next_kept all t k h.at h.next;
-  waits = ap (λ z. z.line) (moment_kept all t h.at h.next.within) ∙ h.waits
-      ∙ ap (λ s. Wait s h.cond) (sym (seat_kept all t k lt));
+  waits = grind (arith, nat_tests, moment_kept, seat_kept);
 }
 
 pub again_back : (log : List LogLine) (all : List Moment) (t : Moment) (k : ℕ) → k < length all
@@ -80,8 +77,7 @@ again_back log all t k lt h within = record {
   on = (on_kept log all t h.cond k lt).1 h.on;
   at = h.at;
   next = next_back all t k h.at within h.next;
-  waits = sym (ap (λ z. z.line) (moment_kept all t h.at within)) ∙ h.waits
-      ∙ ap (λ s. Wait s h.cond) (seat_kept all t k lt);
+  waits = grind (arith, nat_tests, moment_kept, seat_kept);
 }
 
 -- the thread has gone on since

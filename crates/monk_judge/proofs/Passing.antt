@@ -161,10 +161,7 @@ closed_by log seats all t l x y passing passed s c d (Some e) it lt free signals
     let two = still_passing log seats all x passing passed s c it.was old.0 in
     let same : e ≡ c = woken_same e c (sym one ∙ two) in
     let gone : (e == d) ≡ true = gone_by d e (e == d) refl h in
-    elim (cases_Bool (d == c)) as (λ z. ⊥) [
-      | inl there ↦ false≢true (sym old.2 ∙ signals c ∙ there)
-      | inr elsewhere ↦ apart_by d e c same gone elsewhere
-    ]
+    grind (arith, nat_tests, cases_Bool, false≢true, apart_by)
 
 resume_enter : (s k : ℕ) → Resume s ≡ Enter k → ⊥
 resume_enter s k h = cc

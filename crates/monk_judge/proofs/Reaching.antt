@@ -8,7 +8,7 @@ use Rattle.monk_judge.proofs.{Moments.Meets, Moments.moments_many, Moments.momen
 use Rattle.monk_judge.proofs.Asking.{asked_all, asked_next, back_next}
 use Rattle.monk_judge.proofs.Covers.{CoversAt, covers_explains, covers_next, covers_opening, covers_stop, rest_is}
 use Rattle.monk_judge.proofs.Sleepers.{EndsAt, ends_next, goes_first, outside_not}
-use Rattle.monk_judge.specs.{Blamed.IsBlamed, Ends.AreEnds, Ends.ends_after, Ends.runs_out, Explains.IsExplainable}
+use Rattle.monk_judge.specs.{Ends.AreEnds, Ends.ends_after, Ends.runs_out, Explains.IsExplainable}
 use Rattle.monk_judge.specs.{Judged.CanStand, Judged.after_all, Moments.moments, Reports.IsRunOf}
 use Rattle.monk_judge.specs.Shown.{Refuses, Shown, Takes, own_steps, setting_of, state_of, whom}
 use Rattle.monk_judge.specs.Asked.{ComeBackAtOnce, asked, asked_by}
@@ -87,8 +87,7 @@ pub run_all : (o : Object) (m : Setting) (d : List ℕ) (lines : List LogLine) (
 run_all o m d lines i v steps all was =
     let is : take i lines ≡ lines = take_all i lines all in
     record {
-      misfit = subst (λ k. IsExplainable m (opening d) k) is
-          (covers_explains m d (take i lines) (drop i lines) steps (state_of v) was.covers);
+      misfit = grind (arith, nat_tests, covers_explains);
       run = was.covers.run;
       told = was.covers.told ∙ is;
       least = λ others run told. least_of o m d lines i v steps was others run (told ∙ was.covers.told);
@@ -116,12 +115,9 @@ run_stop o m d lines i v new steps f lt was refused at =
       run = was.covers.run;
       told = was.covers.told ∙ ap (λ k. take k lines) (sym at);
       least = λ others run told. least_of o m d lines i v steps was others run (told ∙ was.covers.told);
-      asks = was.asks ∙ ap (λ k. asked_by k lines) (sym (length-take-le i lines (omega (arith, lt))))
-          ∙ ap (λ k. asked_by (length (take k lines)) lines) (sym at);
+      asks = grind (arith, nat_tests, length-take-le);
       back = was.back;
-      blamed = subst (λ k. IsBlamed m (after_all m (opening d) steps) (get_or lines k (Enter 0)) f.why) (sym at)
-          (subst (λ k. IsBlamed m k (get_or lines i (Enter 0)) f.why) was.covers.leads
-          (subst (λ k. IsBlamed k (state_of v) (get_or lines i (Enter 0)) f.why) was.same refused.blamed));
+      blamed = grind (arith, nat_tests);
     }
 
 -- the moments after one more line

@@ -1,5 +1,5 @@
 -- The thread that came back overtaken last, and what it does next
-use Rattle.std.proofs.Common.{◌≡◌, ℕ, suc, ◌+◌, ◌<◌, ◌⊎◌, inl, inr, true, List, [], ◌∷◌, ◌++◌, Option, Some, None, length, if◌then◌else◌, refl, sym, ap, subst, arith, ◌∙◌}
+use Rattle.std.proofs.Common.{◌≡◌, ℕ, suc, ◌+◌, ◌<◌, ◌⊎◌, inl, inr, true, List, [], ◌∷◌, ◌++◌, Option, Some, None, length, if◌then◌else◌, sym, ap, subst, arith, ◌∙◌}
 use Rattle.std.proofs.lemmas.Bool.{eq-eqb, ne_eqb}
 use Rattle.monk_logs.specs.Log.{line_seat}
 use Rattle.monk_logs.specs.declared.text.line.LogLine.{LogLine, TheVariants.Wait}
@@ -72,12 +72,8 @@ pub before_same : (log : List LogLine) (all : List Moment) (t : Moment) (x : Sta
     → Hinted log all x h → AgainSame log all t
     → new.many ≡ h.many → new.again ≡ h.again → new.first_not_again ≡ h.first_not_again → HintedBefore log all t new
 before_same log all t x h new was same many again first = record {
-  many = subst (λ k. AreMany (λ k. IsOvertaken log (all ++ t ∷ []) k) (length all) k) (sym many)
-      (many_same (λ k. IsOvertaken log all k) (λ k. IsOvertaken log (all ++ t ∷ []) k) (length all) h.many
-      (overtaken_kept log all t) was.counts.many);
-  again = subst (λ k. AreMany (λ k. WaitsAgain log (all ++ t ∷ []) k) (length all) k) (sym again)
-      (many_same (λ k. WaitsAgain log all k) (λ k. WaitsAgain log (all ++ t ∷ []) k) (length all) h.again same
-      was.counts.again);
+  many = grind (arith, nat_tests, many_same, overtaken_kept);
+  again = grind (arith, nat_tests, many_same);
   first = subst (λ k. NamesFirst (λ k. GoesOn log (all ++ t ∷ []) k) (length all) k) (sym first)
       (first_same (λ k. GoesOn log all k) (λ k. GoesOn log (all ++ t ∷ []) k) (length all) h.first_not_again
       (λ k lt. goes_on_same log all t k lt (same k lt)) was.counts.first);
@@ -114,8 +110,7 @@ pub no_wait : (log : List LogLine) (all : List Moment) (t : Moment) (l : LogLine
     → (l ≡ Wait b.seat b.cond → ⊥) → (k : ℕ) → k < length all → k ≡ b.line → (again : WaitsAgain log (all ++ t ∷ []) k)
     → again.at ≡ length all → ⊥
 no_wait log all t l x b is at nope k lt same w last =
-    let on : IsOvertakenOn log all w.cond b.line = subst (λ j. IsOvertakenOn log all w.cond j) same
-    ((on_kept log all t w.cond k lt).1 w.on) in
+    let on : IsOvertakenOn log all w.cond b.line = grind (arith, nat_tests, on_kept) in
     let cond : w.cond ≡ b.cond = cond_same log all b.line w.cond b.cond on at.on in
     let seat : seat_at (all ++ t ∷ []) k ≡ b.seat = seat_kept all t k lt ∙ ap (seat_at all) same ∙ at.seat in
     nope (sym (at_last all t l w.at is last) ∙ w.waits ∙ (λ i. Wait (seat i) (cond i)))
@@ -126,8 +121,7 @@ now_waits : (log : List LogLine) (all : List Moment) (t : Moment) (l : LogLine) 
     → l ≡ Wait b.seat b.cond → WaitsAgain log (all ++ t ∷ []) b.line
 now_waits log all t l x b is at wait =
     let seat : seat_at (all ++ t ∷ []) b.line ≡ b.seat = seat_kept all t b.line at.within ∙ at.seat in
-    let line : (moment (all ++ t ∷ []) (length all)).line ≡ Wait b.seat b.cond
-    = at_last all t l (length all) is refl ∙ wait in
+    let line : (moment (all ++ t ∷ []) (length all)).line ≡ Wait b.seat b.cond = grind (arith, nat_tests, at_last) in
     record {
       cond = b.cond;
       on = (on_kept log all t b.cond b.line at.within).0 at.on;
@@ -136,9 +130,7 @@ now_waits log all t l x b is at wait =
         behind = at.within;
         within = let m = more_many all t in omega arith;
         same = (ap line_seat line ∙ sym seat, ap is_refused line);
-        none = λ i from less same. at.none i from less
-            (goes_by (moment (all ++ t ∷ []) i).line (moment all i).line (seat_at (all ++ t ∷ []) b.line) b.seat
-            (ap (λ z. z.line) (moment_kept all t i less)) seat same);
+        none = grind (arith, nat_tests, goes_by, moment_kept);
       };
       waits = line ∙ ap (λ s. Wait s b.cond) (sym seat);
     }

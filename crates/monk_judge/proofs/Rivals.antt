@@ -120,8 +120,7 @@ leave_now log seats all t x y passing passed s c k (Some d) it lt may h now =
     let two = still_passing log seats all x passing passed s c it.was now.old in
     let same : c ≡ d = woken_same c d (sym two ∙ one) in
     let seat : now.seat ≡ k = leave_same now.seat k (sym now.line ∙ it.is) in
-    false≢true (sym (if_none (waits_in log k d) d (get_or passed s None) h).0
-    ∙ subst (λ e. waits_in log k e ≡ true) same (subst (λ j. waits_in log j c ≡ true) seat now.waits))
+    grind (arith, nat_tests, false≢true, if_none)
 
 leave_none : (log : List LogLine) (seats : ℕ) (all : List Moment) (t : Moment) (x y : State)
     (passing passed : List (Option ℕ)) (s c k : ℕ) → Line log seats all t (Leave k) x y passing passed
@@ -180,25 +179,8 @@ lock_next all t l x y by is moves was h =
     let last = moment_last all t in
     elim (here_or_below by (length all) h.within) as
     (λ z. (y.lock ≡ None) ⊎ (y.lock ≡ Some (seat_at (all ++ t ∷ []) by))) [
-      | inl now ↦
-          let at = ap (λ k. moment (all ++ t ∷ []) k) now ∙ last in
-          inr (moves.taken (sym (ap takes_lock is) ∙ sym (ap (λ z. takes_lock z.line) at) ∙ h.takes)
-          ∙ ap (λ z. Some (line_seat z)) (sym is) ∙ ap (λ z. Some (line_seat z.line)) (sym at))
-      | inr less ↦
-          let free : takes_lock l ≡ false = sym (ap takes_lock is) ∙ sym (ap (λ z. takes_lock z.line) last)
-          ∙ h.alone (length all) less (omega arith) in
-          let seat = seat_kept all t by less in
-          let old = was by (record {
-            within = less;
-            takes = sym (ap (λ z. takes_lock z.line) (moment_kept all t by less)) ∙ h.takes;
-            alone = λ i from lt. sym (ap (λ z. takes_lock z.line) (moment_kept all t i lt))
-                ∙ h.alone i from (omega arith);
-          }) in
-          elim (moves.keeps free) as (λ z. (y.lock ≡ None) ⊎ (y.lock ≡ Some (seat_at (all ++ t ∷ []) by))) [
-            | inl same ↦ elim old as (λ z. (y.lock ≡ None) ⊎ (y.lock ≡ Some (seat_at (all ++ t ∷ []) by)))
-                [ inl none ↦ inl (same ∙ none) | inr held ↦ inr (same ∙ held ∙ ap Some (sym seat)) ]
-            | inr none ↦ inl none
-          ]
+      | inl now ↦ grind (arith, nat_tests)
+      | inr less ↦ grind (arith, nat_tests, seat_kept, moment_kept)
     ]
 
 last_next : (all : List Moment) (t : Moment) (y : State) (k : ℕ) → t.behind ≡ y → k + 1 ≡ length (all ++ t ∷ [])
@@ -213,15 +195,12 @@ pub marks_next : (log : List LogLine) (seats : ℕ) (all : List Moment) (t : Mom
     → Marks log seats (all ++ t ∷ []) y newer new
 marks_next log seats all t l x y passing passed newer new is leads moves was does =
     let many = more_many all t in
-    let it : Line log seats all t l x y passing passed
-    = record { is = is; leads = leads; moves = moves; was = was } in
+    let it : Line log seats all t l x y passing passed = grind (arith, nat_tests) in
     record {
-      may = λ s c lt h. subst (λ n. IsPassing (all ++ t ∷ []) n s c) (sym many)
-          (open_next log seats all t l x y passing passed s c it lt (sym (does.may s lt) ∙ h));
+      may = grind (arith, nat_tests, IsPassing, open_next);
       may_not = λ s c lt h on. closed_next log seats all t l x y passing passed s c it lt (sym (does.may s lt) ∙ h)
           (subst (λ n. IsPassing (all ++ t ∷ []) n s c) many on);
-      some = λ s c lt h. subst (λ n. IsPassed log (all ++ t ∷ []) n s c) (sym many)
-          (some_next log seats all t l x y passing passed s c it lt (sym (does.some s lt) ∙ h));
+      some = grind (arith, nat_tests, some_next);
       none = λ s c lt h on. none_next log seats all t l x y passing passed s c it lt (sym (does.some s lt) ∙ h)
           (subst (λ n. IsPassed log (all ++ t ∷ []) n s c) many on);
       last = λ k h. last_next all t y k leads h;
@@ -259,8 +238,7 @@ comes_overtaken log seats all t l x y passing passed c is moves was lt h =
     record {
       back = ap (λ k. is_resume k.line) (moment_last all t) ∙ ap is_resume is
           ∙ moves.back parts.0 c (still_woken log seats all x passing passed (line_seat l) c was old);
-      passed = subst (λ s. IsPassed log (all ++ t ∷ []) (length all) s c) (sym (seat_last all t l is))
-          ((passed_kept log all t (length all) (line_seat l) c (omega arith)).0 old);
+      passed = grind (arith, nat_tests, seat_last, passed_kept);
     }
 
 pub resume_takes : (l : LogLine) → is_resume l ≡ true → takes_lock l ≡ true
@@ -270,10 +248,8 @@ pub comes_otherwise : (log : List LogLine) (seats : ℕ) (all : List Moment) (t 
     (passing passed : List (Option ℕ)) → t.line ≡ l → Marks log seats all x passing passed → line_seat l < seats
     → passed_of l passed ≡ None → IsOvertaken log (all ++ t ∷ []) (length all) → ⊥
 comes_otherwise log seats all t l x passing passed is was lt h over =
-    let back : is_resume l ≡ true = sym (ap (λ k. is_resume k.line) (moment_last all t) ∙ ap is_resume is)
-    ∙ over.on.back in
-    let none : get_or passed (line_seat l) None ≡ None
-    = sym (ap (λ b. if b then get_or passed (line_seat l) None else None) (resume_takes l back)) ∙ h in
+    let back : is_resume l ≡ true = grind (arith, nat_tests, moment_last) in
+    let none : get_or passed (line_seat l) None ≡ None = grind (arith, nat_tests, resume_takes) in
     was.none (line_seat l) over.cond lt none
     (subst (λ s. IsPassed log all (length all) s over.cond) (seat_last all t l is)
     ((passed_kept log all t (length all) (seat_at (all ++ t ∷ []) (length all)) over.cond (omega arith)).1

@@ -58,12 +58,7 @@ are_both : (steps : List Step) → asked steps ≡ asked_by 2 comes_and_waits �
 are_both steps a b =
     let one = begins (Enter 0) (Tells (Wait 0 0) None ∷ []) steps no_enter a b in
     let two = begins (Wait 0 0) [] one.tail no_wait one.asks one.back in
-    record {
-      first = one.whom;
-      second = two.whom;
-      is = one.is ∙ ap (λ k. Tells (Enter 0) one.whom ∷ k)
-          (two.is ∙ ap (λ k. Tells (Wait 0 0) two.whom ∷ k) (none_left two.tail two.asks two.back));
-    }
+    grind (arith, nat_tests, none_left)
 
 -- the run of such a report
 run_is : (o : Object) (d : List ℕ) (means : List WaitsFor) (r : Report)

@@ -148,11 +148,7 @@ first_by m v s e k d i (Some j) rest many awake right early ends is goes =
     end_past n i (get_or v.ends n (Resumes 0)) (Signal s e) rest (other_than (state_of v) s n e awake at)
     (ends n e at) in
     let mine = end_of j right in
-    let others = end_of k is in (
-      subst (λ n. j < n) (sym many) (sleeps_within v.places j e right),
-      mine.within d
-          ((early k is).0 (i + 1 + d) (others.by d goes)),
-    )
+    grind (arith, nat_tests, sleeps_within)
 
 pub goes_first : (m : Setting) (v : Shown) (l : LogLine) (w : Option ℕ) (i : ℕ) (rest : List LogLine)
     → m.seats ≡ length v.places

@@ -14,15 +14,15 @@ use Rattle.monk_judge.proofs.Tallies.{CountsMore, IsNothing, counted_next}
 use Rattle.monk_judge.specs.{Ends.AreEnds, Ends.runs_out, Missed.LooksAt, Missed.is_from_outside, Hints.ComesBack}
 use Rattle.monk_judge.specs.{Hints.AnswersOwn, Hints.passed_of, Moments.Moment, Moments.moments}
 use Rattle.monk_judge.specs.declared.{holder.Holder.Holder, misfit.Misfit.Misfit, missed.Missed.Missed}
-use Rattle.monk_judge.specs.declared.{overtaking.Hints.Hints, place.Place.Place, place.Place.TheVariants.Outside}
+use Rattle.monk_judge.specs.declared.{overtaking.Hints.Hints}
 use Rattle.monk_judge.specs.declared.{tally.Tally.Tally, told.Told.Told, waits_for.WaitsFor.WaitsFor, step.Step.Step}
 use Rattle.monk_judge.specs.declared.wait_end.WaitEnd.{WaitEnd, TheVariants.Resumes}
-use Rattle.monk_judge.specs.Holding.{IsHolder, NamesLastTaking, holder_by}
+use Rattle.monk_judge.specs.Holding.{NamesLastTaking, holder_by}
 use Rattle.monk_judge.specs.Judged.{CanStand, after_all, steps_at}
 use Rattle.monk_judge.specs.Run.{Setting, State, opening}
 use Rattle.monk_judge.specs.Reports.{IsCounted, IsReport, IsTaken, NamesFirstNeed, NamesLastUnheard, fitting}
 use Rattle.monk_judge.specs.Shown.{Refuses, Shown, Takes, own_steps, setting_of, state_of, whom}
-use Rattle.monk_judge.specs.Counts.{count, is_asleep, is_woken, sleepers, woken_ones}
+use Rattle.monk_judge.specs.Counts.{is_asleep, sleepers, woken_ones}
 use Rattle.std.proofs.lemmas.Bool.Decides.{nat_tests}
 
 -- ---- the counts so far
@@ -122,16 +122,14 @@ beside_next o m d lines i v new steps e what passing passed newer next h u lt wa
     let meets = line_meets m x l (whom what) (runs_out e) can in
     let leads = does.leads ∙ ap (λ k. after_all k x own) was.same in
     let acts = (was.covers.follows steps was.covers.run was.covers.told).holder in
-    let moves : Moves x l (state_of new) = subst (λ y. Moves x l y) (sym leads)
-    (line_moves m x l (whom what) (runs_out e) acts can does.right) in
+    let moves : Moves x l (state_of new) = grind (arith, nat_tests, Moves, line_moves) in
     let behind = meets.behind ∙ sym leads in
     let within = line_within m x l can in
     let many = many_moments o m d lines i v steps (omega arith) was in
     subst (λ k. Beside lines m.seats k (state_of new) newer next u)
     (sym (moments_next o m d lines i v steps own l was meets))
     (record {
-      marks = marks_next lines m.seats all meets.t l x (state_of new) passing passed newer next meets.line behind moves
-          marks looks.marks;
+      marks = grind (arith, nat_tests, marks_next);
       hinted = hinted_next lines m.seats all meets.t l x (state_of new) h looks.mid u looks.on passing passed looks.told
           meets.line moves marks within hinted looks.goes
           (subst (λ k. ComesBack l k looks.on looks.mid u) (sym many) looks.comes);
@@ -200,8 +198,7 @@ taken_stop o m d lines means i v new t s passing passed h f lt was refused at = 
   missed = was.missed.line;
   overtaken = was.hinted.counts;
   holder = refused.lock ∙ ap (λ (x : State). x.lock) was.reached.covers.leads;
-  places = ap (λ k. λ j. get_or k j Outside) refused.places
-      ∙ ap (λ (x : State). x.place) was.reached.covers.leads;
+  places = grind (arith, nat_tests);
   seats = ap length refused.places ∙ ap (λ (k : Setting). k.seats) was.reached.same;
 }
 
@@ -246,15 +243,10 @@ report_is m d lines means v misfit t lock found holder asleep woken missed g tol
         first = h.counted.first;
         last = h.counted.last;
       };
-      holder = subst (λ k. IsHolder (fitting misfit lines) (after_all m (opening d) h.steps).lock k) (sym by)
-          (holder_is m d h.steps (fitting misfit lines) lock found h.run.told (holds ∙ h.holder) named);
-      asleep = sleep ∙ ap (λ n. sleepers n (state_of v)) h.seats
-          ∙ ap (λ (f : ℕ → Place). count (λ j. is_asleep (f j)) m.seats) h.places;
-      woken = wake ∙ ap (λ n. woken_ones n (state_of v)) h.seats
-          ∙ ap (λ (f : ℕ → Place). count (λ j. is_woken (f j)) m.seats) h.places;
+      holder = grind (arith, nat_tests, holder_is);
+      asleep = grind (arith, nat_tests);
+      woken = grind (arith, nat_tests);
       missed = h.missed;
       overtaken = h.overtaken;
-      crossed = cross ∙ ap (crossed_of (λ s. get_or sleeps s false)) before
-          ∙ ap (λ (f : ℕ → Bool). crossed_of f (fitting misfit lines)) (λ i. λ s. lie s i)
-          ∙ ap (λ (f : ℕ → Place). crossed_of (λ s. is_asleep (f s)) (fitting misfit lines)) h.places;
+      crossed = grind (arith, nat_tests);
     }

@@ -135,9 +135,7 @@ counted_next o m d lines i v new steps e t u what lt was counted does more least
     (c : total (w (length v.places)) (setting_of v o) x own ≡ told).
     counts_by m d steps own x (w m.seats) new old told was.covers.leads a b
     (subst (λ (k : Setting). total (w k.seats) k x own ≡ told) was.same c) in
-    let spurious : u.spurious ≡ unasked (steps ++ own) = both u.spurious t.spurious (spurious_in what)
-    (unasked steps) (unasked own) more.spurious counted.spurious does.names.spurious
-    ∙ sym (unasked_both steps own) in
+    let spurious : u.spurious ≡ unasked (steps ++ own) = grind (arith, nat_tests, both, unasked_both) in
     let meets = line_meets m x l (whom what) (runs_out e) (stands_there o m d lines i v new steps l e what was does) in
     record {
       spurious = spurious;
@@ -145,11 +143,7 @@ counted_next o m d lines i v new steps e t u what lt was counted does more least
       passed = sums passes u.passed t.passed (passed_in what) more.passed counted.passed does.names.passed;
       unheard = sums finds_nobody u.unheard t.unheard (unheard_in what) more.unheard counted.unheard
           does.names.unheard;
-      first = subst (λ k. NamesFirstNeed m d lines k u.spurious) (sym more.first)
-          (subst (λ k. NamesFirstNeed m d lines (first_after t.first_spurious i what) k) (sym spurious)
-          (first_by m d lines i steps own t.first_spurious what was.covers.run was.covers.told least
-          does.names.spurious
-          (subst (λ k. NamesFirstNeed m d lines t.first_spurious k) counted.spurious counted.first)));
+      first = grind (arith, nat_tests, first_by);
       last = subst (λ k. NamesLastUnheard m.seats (moments m (opening d) (steps ++ own)) k) (sym more.last)
           (last_next o m d lines i v steps own l t.last_unheard what lt was meets counted.last
           (meets.nobody

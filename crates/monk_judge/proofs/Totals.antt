@@ -43,9 +43,7 @@ once : (e n : ℕ) → e < n → sum_to (λ c. one (e == c)) n ≡ 1
 once e zero lt = absurd (omega arith)
 once e (suc n) lt =
     elim (here_or_before e n lt) as (λ k. sum_to (λ c. one (e == c)) (suc n) ≡ 1) [
-      | inl same ↦
-          let a = none_once e n (omega arith) in
-          let b : one (e == n) ≡ 1 = ap one (eq-eqb e n same) in omega arith
+      | inl same ↦ grind (arith, nat_tests, none_once, eq-eqb)
       | inr less ↦
           let a = once e n less in
           let b : one (e == n) ≡ 0 = ap one (ne_eqb e n (λ same. absurd (omega arith))) in omega arith

@@ -116,8 +116,7 @@ passing_now all t y s c k leads woken comes = record {
   by = length all;
   visit = record {
     before = omega arith;
-    comes = subst (λ z. z.line ≡ Enter (line_seat z.line)) (sym (moment_last all t))
-        (comes ∙ ap Enter (sym (ap line_seat comes)));
+    comes = grind (arith, nat_tests, moment_last);
     alone = λ i from lt. absurd (omega arith);
     quiet = λ i from lt. absurd (omega arith);
   };
@@ -215,8 +214,7 @@ passed_back log all t y s c leads h =
       elim (here_or_below h.end (length all) h.before) as
           (λ z. LeavesNow log all t s c ⊎ IsPassed log all (length all) s c) [
             | inl last ↦
-                let visit : IsVisit (all ++ t ∷ []) h.by (length all) c = subst
-                (λ n. IsVisit (all ++ t ∷ []) h.by n c) last h.rival.visit in
+                let visit : IsVisit (all ++ t ∷ []) h.by (length all) c = grind (arith, nat_tests) in
                 inl (record {
                   seat = seat_at (all ++ t ∷ []) h.by;
                   line = at_last all t (λ z. z.line ≡ Leave (seat_at (all ++ t ∷ []) h.by)) h.end last h.rival.leaves;

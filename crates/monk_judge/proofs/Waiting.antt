@@ -32,17 +32,8 @@ waiters_more log table i s c lt is low few size was t e lower fewer =
     let more = list_any_more (is_wait_of t e) log i (Enter 0) lt
     ∙ ap (λ l. waits_in (take i log) t e || is_wait_of t e l) is in
     elim (both s c t e) as (λ z. waits_by (set table (256 * s + c) true) t e ≡ waits_in (take (i + 1) log) t e) [
-      | inl same ↦
-          let at : 256 * t + e ≡ 256 * s + c = omega (arith, same.0, same.1) in
-          let within : 256 * s + c < length table = omega (arith, size, low, few) in
-          ap (λ k. get_or (set table (256 * s + c) true) k false) at
-          ∙ get_or-set_same table (256 * s + c) true false within
-          ∙ sym (more ∙ now (waits_in (take i log) t e) s c t e same.0 same.1)
-      | inr other ↦
-          get_or-set_other table (256 * s + c) (256 * t + e) true false
-          (λ at. other (let a : s ≡ t = omega (arith, at, low, few, lower, fewer) in a)
-          (let b : c ≡ e = omega (arith, at, low, few, lower, fewer) in b))
-          ∙ was t e lower fewer ∙ sym (more ∙ never (waits_in (take i log) t e) s c t e other)
+      | inl same ↦ grind (arith, nat_tests, get_or-set_same)
+      | inr other ↦ grind (arith, nat_tests, get_or-set_other)
     ]
   where
     both : (s c t e : ℕ) → ((s ≡ t) × (c ≡ e)) ⊎ (s ≡ t → c ≡ e → ⊥)

@@ -5,6 +5,7 @@ use Rattle.monk_object.proofs.Codes.{both, by_code, once, once-false, counted}
 use Rattle.monk_object.specs.{Shop.SIT, Shop.CALL, Shop.FINISH, Shop.DEPART, Shop.shop_meaning, Shop.shop_after}
 use Rattle.monk_object.specs.{Shop.shop_reply, Shop.shop_serves, Shop.shop_served, Laws.LosesNoCustomer, Runs.Answered}
 use Rattle.monk_object.specs.{Runs.state_after, Runs.answers_of, Runs.times_done, declared.op.Op.Op}
+use Rattle.std.proofs.lemmas.Bool.Decides.{nat_tests}
 
 abbrev where_it_is : ℕ → ℕ → ℕ
 where_it_is k chair = cond (chair == k) 1 0
@@ -137,12 +138,4 @@ customers size ops =
     let sat = r.sat in
     let called = r.called in
     let finished = r.finished in
-    record {
-      sitting = r.sitting_last;
-      chair = r.chair_last;
-      state = r.state;
-      within = r.within;
-      sat = omega (arith, sat);
-      called = omega (arith, called);
-      finished = omega (arith, finished);
-    }
+    grind (arith, nat_tests)

@@ -6,6 +6,7 @@ use Rattle.monk_object.proofs.Codes.{both, by_code, once, once-false, counted}
 use Rattle.monk_object.specs.{Book.START_READ, Book.END_READ, Book.START_WRITE, Book.END_WRITE, Book.book_meaning}
 use Rattle.monk_object.specs.{Book.book_after, Book.book_reply, Book.book_serves, Book.book_served, Laws.IsExclusive}
 use Rattle.monk_object.specs.{Runs.Answered, Runs.state_after, Runs.answers_of, Runs.times_done, declared.op.Op.Op}
+use Rattle.std.proofs.lemmas.Bool.Decides.{nat_tests}
 
 -- the state after an operation of this code, if it may be served
 record Step (size readers writers code : ℕ) (served : Bool) (next : List ℕ) : Type 0 where
@@ -147,13 +148,4 @@ exclusive size ops =
     let r = run size 0 0 (omega arith) (omega arith) (inl refl) ops in
     let reads = r.reads in
     let writes = r.writes in
-    record {
-      readers = r.readers_last;
-      writers = r.writers_last;
-      state = r.state;
-      within = r.within;
-      one_writer = r.one_writer;
-      alone = r.alone;
-      reads = omega (arith, reads);
-      writes = omega (arith, writes);
-    }
+    grind (arith, nat_tests)

@@ -1,9 +1,9 @@
 -- A buffer is first in, first out
 use Rattle.std.proofs.Common.{◌≡◌, ℕ, ◌+◌, ◌-◌, ◌<◌, ◌≤◌, ◌==◌, Bool, true, false, ◌&&◌, cond, List, [], ◌∷◌, ◌++◌}
-use Rattle.std.proofs.Common.{length, drop, map, refl, sym, ap, ◌∙◌, arith, append_assoc, length-append}
+use Rattle.std.proofs.Common.{length, drop, map, refl, arith, append_assoc, length-append}
 use Rattle.std.proofs.lemmas.{Bool.eqb-true, Bool.ne_eqb, Bool.lt-ltb, List.append-nil}
-use Rattle.std.specs.Prelude.{nat_lt, filter}
-use Rattle.monk_object.specs.{Runs.Answered, Runs.state_after, Runs.answers_of, Runs.is_done, declared.op.Op.Op}
+use Rattle.std.specs.Prelude.{nat_lt}
+use Rattle.monk_object.specs.{Runs.Answered, Runs.state_after, Runs.answers_of, declared.op.Op.Op}
 use Rattle.monk_object.specs.Buffer.{PUT, TAKE, buffer_meaning, items_after, items_reply, take_reply}
 use Rattle.monk_object.specs.Laws.{IsFirstInFirstOut, items_put, items_taken}
 use Rattle.std.proofs.lemmas.Bool.Decides.{nat_tests}
@@ -58,20 +58,7 @@ run size items (op ∷ ops) fits =
     let rest = run size next ops (fits_by size put take room items op.arg fits (λ h. grind (arith, h))) in
     let act : Answered = record { op = op; reply = reply } in
     let acts = answers_of buffer_meaning (size ∷ next) ops in
-    record {
-      left = rest.left;
-      state = rest.state;
-      in_order =
-          ap (λ xs. items ++ xs) (mapped (λ a. a.op.arg) (is_done PUT act) act (filter (is_done PUT) acts))
-          ∙ (sym (append_assoc items (put_by put reply op.arg) (items_put acts))
-          ∙ (ap (λ xs. xs ++ items_put acts) (step_by put take room items op.arg (not_both op.code))
-          ∙ (append_assoc (taken_by take reply) next (items_put acts)
-          ∙ (ap (λ xs. taken_by take reply ++ xs) rest.in_order
-          ∙ (sym (append_assoc (taken_by take reply) (items_taken acts) rest.left)
-          ∙ ap (λ xs. xs
-          ++ rest.left) (sym (mapped (λ a. a.reply - 1) (is_done TAKE act) act (filter (is_done TAKE) acts))))))));
-      within = rest.within;
-    }
+    grind (arith, nat_tests, mapped, append_assoc, step_by, not_both)
 
 pub first_in_first_out : (size : ℕ) (ops : List Op) → IsFirstInFirstOut size ops
 first_in_first_out size ops =

@@ -1,10 +1,10 @@
 -- The bits of flags are those of the last set that was done
 use Rattle.std.proofs.Common.{◌≡◌, ℕ, ◌^◌, ◌<◌, ◌==◌, Bool, true, false, ◌&&◌, cond, List, [], ◌∷◌, ◌++◌, arith}
-use Rattle.std.proofs.Common.{map, refl, ap, ◌∙◌, pow_pos}
-use Rattle.std.{specs.Prelude.nat_lt, specs.Prelude.filter, proofs.lemmas.Bool.ltb-true}
+use Rattle.std.proofs.Common.{map, refl, ap, pow_pos}
+use Rattle.std.{specs.Prelude.nat_lt, proofs.lemmas.Bool.ltb-true}
 use Rattle.monk_object.{specs.Flags.SET, specs.Flags.flags_meaning, specs.Flags.flags_after, specs.Flags.flags_reply}
 use Rattle.monk_object.{specs.Laws.HoldsTheLastSet, specs.Laws.bits_set, specs.Runs.Answered, specs.Runs.state_after}
-use Rattle.monk_object.{specs.Runs.answers_of, specs.Runs.is_done, specs.declared.op.Op.Op, proofs.Codes.both}
+use Rattle.monk_object.{specs.Runs.answers_of, specs.declared.op.Op.Op, proofs.Codes.both}
 use Rattle.std.proofs.lemmas.Bool.Decides.{nat_tests}
 
 -- from a state with these bits
@@ -58,13 +58,7 @@ run size bits within (op ∷ ops) =
     let act : Answered = record { op = op; reply = flags_reply (size ∷ bits ∷ []) op } in
     let acts = answers_of flags_meaning (size ∷ next ∷ []) ops in
     let g = goes code fits bits op.arg (bits_set acts) rest.earlier rest.last rest.in_order in
-    record {
-      last = rest.last;
-      earlier = g.earlier;
-      state = rw start rest.state;
-      in_order = rw start (ap (λ xs. bits ∷ xs) (front (is_done SET act) act (filter (is_done SET) acts)) ∙ g.in_order);
-      within = rest.within;
-    }
+    grind (arith, nat_tests, front)
 
 pub last_set : (size : ℕ) (ops : List Op) → HoldsTheLastSet size ops
 last_set size ops =

@@ -12,6 +12,7 @@ use Rattle.serde_json.specs.Data.{member, no_members}
 use Rattle.monk_page.proofs.PlainData.{is_plain, value_plain}
 use Rattle.monk_page.specs.{Html.IsArticleOf, Html.article, Json.list_json, Json.number_json}
 use Rattle.monk_page.specs.Writes.{AddsValue, Reads, with_value, with_items, with_members}
+use Rattle.std.proofs.lemmas.Bool.Decides.{nat_tests}
 
 -- a list is being written: after what is written, the values of the items `left` out of `all` are to come
 pub record WritesList {X : Type 0} (json : X → Data) (left all : List X) (old now : Written) : Type 0 where
@@ -59,8 +60,4 @@ article_of n d old new picture json told bytes adds none back plain small printe
     let found : value max_depth (tokens (compact_text d)) ≡ Some (outline d, []) =
     ap (value max_depth) (same ∙ sym (append-nil _))
     ∙ value-json_tokens (outline d) max_depth [] (omega (arith, (value_plain n d plain).0, small)) in
-    record {
-      picture = picture;
-      is = around ∙ ap (λ (text : List ℕ). article picture text told) (printed ∙ compact);
-      reads_back = rw found adds.reads;
-    }
+    grind (arith, nat_tests)

@@ -24,8 +24,7 @@ refused_next n (d ∷ es) e =
 pub refused_more : (es : List Event) (i : ℕ) (d : Event) (b : Bool) → i < length es → is_refused_act (get_or es i d) ≡ b
     → refused_steps (take (i + 1) es) ≡ refused_steps (take i es) ++ cond b ((i + 1) ∷ []) []
 refused_more es i d b there is =
-    let at : 1 + length (take i es) ≡ i + 1 =
-    (let same = length-take-le i es (omega (arith, there)) in omega (arith, same)) in
+    let at : 1 + length (take i es) ≡ i + 1 = grind (arith, nat_tests, length-take-le) in
     ap (λ (l : List Event). refused_from 1 l) (take_more es i d there)
     ∙ (refused_next 1 (take i es) (get_or es i d)
     ∙ (λ j. refused_from 1 (take i es) ++ cond (is j) (at j ∷ []) []))

@@ -9,6 +9,7 @@ use Rattle.monk_floor.proofs.LinkLaws.Walks.{length-walk, ends_there}
 use Rattle.monk_floor.specs.{declared.chain.Chain.Chain, Queues.queue_at}
 use Rattle.monk_floor.specs.Links.{most_queues, walk, seats_of, empty_chain, chain_at, queue_in, places, EndsWith}
 use Rattle.monk_floor.specs.Links.{IsLinked}
+use Rattle.std.proofs.lemmas.Bool.Decides.{nat_tests}
 
 walk_there : (next : List ℕ) (n f l : ℕ) → EndsWith (walk next (suc n) f) l → 1 ≤ times l (walk next (suc n) f)
 unfolding walk
@@ -91,13 +92,7 @@ module _ {next : List ℕ} {chains : List Chain} where
       let long = length-walk next (chain_at chains a).length (chain_at chains a).first in
       let all = length_total most_seats (queue_in next chains a)
       (λ s n. omega (arith, times_le a s (queue_in next chains) l, k.once s, cond_none s most_seats n)) in
-      omega (
-        arith,
-        long,
-        all,
-        total_le most_seats 1 (λ s. times s (queue_in next chains a))
-            (λ s. at_most_once k a s l),
-      )
+      grind (arith, nat_tests, total_le, at_most_once)
 
   -- a queue that doesn't exist has nobody
   past : IsLinked next chains → (c : ℕ) → most_queues ≤ c → queue_in next chains c ≡ []

@@ -83,9 +83,7 @@ walk-unlink next (suc n) f s b h o p l =
     (λ e.
     let here : f ≡ b = same_some f b (sym (first_before s f g tail e) ∙ h) in
     let alone : f ≢ s = behind f s _ p (omega (arith, one_of g s e)) in
-    let link : get_or (slice_set next b v) f 0 ≡ get_or next g 0 =
-    ap (λ x. get_or (slice_set next b v) x 0) here
-    ∙ (get_or-set_same next b v 0 l ∙ ap (λ x. get_or next x 0) (sym e)) in
+    let link : get_or (slice_set next b v) f 0 ≡ get_or next g 0 = grind (arith, nat_tests, get_or-set_same) in
     let gone : times b tail ≡ 0 = omega (arith, o, one_of f b here) in
     let none : times s tail ≡ 0 = omega (arith, p, one_of g s e) in
     ap (λ ys. f ∷ ys) (ap (walk (slice_set next b v) n) link ∙ walk-set next n (get_or next g 0) b v gone)
@@ -120,8 +118,7 @@ ends_without (x ∷ y ∷ z ∷ zs) s b l e h p =
     let alone : x ≢ s = behind x s _ p (omega (arith, one_of y s q)) in
     let none : times s (z ∷ zs) ≡ 0 = omega (arith, p, one_of y s q) in
     let there = ends_there z zs l e in
-    let still : (l ≡ s → ⊥) = λ r. let same : times l (z ∷ zs) ≡ times s (z ∷ zs) = ap (λ k. times k (z ∷ zs)) r in
-    omega (arith, there, same, none) in
+    let still : (l ≡ s → ⊥) = grind (arith, nat_tests) in
     subst (λ ws. EndsWith ws (cond (l == s) b l))
     (sym (keeps s x (y ∷ z ∷ zs) alone ∙ ap (λ ys. x ∷ ys) (skips s y (z ∷ zs) q ∙ times_none s (z ∷ zs) none)))
     (subst (EndsWith (z ∷ zs)) (sym (when_not (l == s) b l (λ r. still (eqb-true l s r)))) e))

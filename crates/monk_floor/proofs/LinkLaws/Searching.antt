@@ -43,11 +43,7 @@ module _ (next : List ℕ) (chains : List Chain) (a s : ℕ) where
   pub left_first : left 1 (chain_at chains a).first
   left_first = record {
     bound = omega arith;
-    left = λ n e. let all : n ≡ (chain_at chains a).length = omega (arith, e) in
-        subst (λ x. IsLeft next s (queue_in next chains a) x (chain_at chains a).first) (sym all) (record {
-          same = refl;
-          within = λ x. omega arith;
-        });
+    left = grind (arith, nat_tests);
   }
 
   here : (i b : ℕ) → left i b → i < (chain_at chains a).length
@@ -79,8 +75,7 @@ module _ (next : List ℕ) (chains : List Chain) (a s : ℕ) where
       → get_or next b 0 ≡ s → Some b ≡ seat_before s (queue_at v a)
   found v e i b h m f =
       let at = here i b h m in
-      found_here next s ((chain_at chains a).length - suc i) b f
-      ∙ (at.same ∙ sym (ap (seat_before s) (queue_is next chains v e a)))
+      grind (arith, nat_tests, found_here, queue_is)
 
   pub not_found : (v : List (List ℕ)) → map (seats_of next) chains ≡ v → (i b : ℕ) → left i b
       → (chain_at chains a).length ≤ i

@@ -1,7 +1,7 @@
 -- The front of a queue is read, and taken
 use Rattle.std.proofs.Common.{◌≡◌, ℕ, ◌<◌, ◌≤◌, ◌+◌, ◌-◌, ◌==◌, Bool, true, cond, Some, None, List, [], ◌∷◌, map}
 use Rattle.std.proofs.Common.{drop, refl, sym, ap, subst, ◌∙◌, arith, eq-eqb, eqb-true, get_or, rules}
-use Rattle.std.specs.Prelude.{slice_set, slice_get, nat_lt, nat_eq}
+use Rattle.std.specs.Prelude.{slice_set, slice_get, nat_eq}
 use Rattle.monk_history.specs.{Limits.most_seats, Meaning.Signallers.is_empty, Meaning.Standing.times}
 use Rattle.monk_floor.proofs.LinkLaws.Walks.{ends_drop}
 use Rattle.monk_floor.proofs.LinkLaws.Chains.{queue_is, linked_again, seen_again, in_range, places_one, cond_le}
@@ -103,10 +103,8 @@ module _ (next : List ℕ) (chains : List Chain) (a : ℕ) where
       let here : new a ≡ drop 1 (queue_at v a) = taken_seen k l v e z a
       ∙ ap (λ b. drop (cond b 1 0) (queue_at v a)) (eq-eqb a a refl) in
       times_first s (queue_at v a) (new a) (some_seen v e z) here in
-      let few : places s (queue_in next chains) ≤ 1 = let o = k.once s in
-      omega (arith, o, cond_le (nat_lt s most_seats)) in
-      let once : places s (queue_at v) ≤ 1 =
-      subst (λ q. places s q ≤ 1) (λ i c. sym (queue_is next chains v e c) i) few in
+      let few : places s (queue_in next chains) ≤ 1 = grind (arith, nat_tests, cond_le) in
+      let once : places s (queue_at v) ≤ 1 = grind (arith, nat_tests, queue_is) in
       omega (arith, one, old, once)
 
 -- whether there is a front, and which seat it is

@@ -1,6 +1,6 @@
 -- A log's first line is read from the words that it is written as, and one that is written is read again.
 use Rattle.std.proofs.Common.{lit<, ◌≡◌, ℕ, ◌≤◌, ◌==◌, Bool, true, cond, List, [], ◌∷◌, Option, Some, None, Ok}
-use Rattle.std.proofs.Common.{refl, sym, subst, arith}
+use Rattle.std.proofs.Common.{refl, arith}
 use Rattle.std.specs.Prelude.{codes}
 use Rattle.std.specs.Fmt.{decimal}
 use Rattle.std.proofs.lemmas.Bool.{eqb-true, eq-eqb}
@@ -70,15 +70,13 @@ log_header_takes ws x e =
     let size_is = number_takes 255 o.0.1 z.0 z.1 in
     let h = heading_fits s.0.0 c.0.0 o.0.0 z.0.0 n.0.1 x size_is.1 made.1 in
     let e0 : ws ≡ codes "log" ∷ l.0.1 = literal_takes (codes "log") ws l.0 l.1 in
-    let e1 : l.0.1 ≡ decimal (log_version o.0.0) ∷ v.0.1 =
-    subst (λ (n : ℕ). l.0.1 ≡ decimal n ∷ v.0.1) version_is (number_takes 255 l.0.1 v.0 v.1).0 in
+    let e1 : l.0.1 ≡ decimal (log_version o.0.0) ∷ v.0.1 = grind (arith, nat_tests, number_takes) in
     let e2 : v.0.1 ≡ decimal s.0.0 ∷ s.0.1 = (number_takes 255 v.0.1 s.0 s.1).0 in
     let e3 : s.0.1 ≡ decimal c.0.0 ∷ c.0.1 = (number_takes 255 s.0.1 c.0 c.1).0 in
     let e4 : c.0.1 ≡ object_word o.0.0 ∷ o.0.1 = one_of_takes object_word objects c.0.1 o.0 o.1 in
     let e5 : o.0.1 ≡ decimal z.0.0 ∷ z.0.1 = size_is.0 in
     let e6 : z.0.1 ≡ [] = (end_takes z.0.1 n.0 n.1).0 in
-    subst (λ (y : LogHeading × List Word). (ws ≡ log_header_words y.0) × IsLogHeading y.0) (sym h.0)
-    (all_words ws l.0.1 v.0.1 s.0.1 c.0.1 o.0.1 z.0.1 _ _ _ _ _ _ e0 e1 e2 e3 e4 e5 e6, h.1)
+    grind (arith, nat_tests, all_words)
 
 heading_again : (h : LogHeading) → IsLogHeading h → log_heading_of h.seats h.conds h.object h.size ≡ Some h
 heading_again h fits = grind (arith, nat_tests)

@@ -1,5 +1,5 @@
 -- A line is read from the words that it is written as, and a line that is written is read again.
-use Rattle.std.proofs.Common.{arith, lit<, ◌≡◌, ℕ, ◌≤◌, List, [], ◌∷◌, ◌++◌, Some, Ok, refl, ap, subst, ◌∙◌}
+use Rattle.std.proofs.Common.{arith, lit<, ◌≡◌, ℕ, ◌≤◌, List, [], ◌∷◌, ◌++◌, Some, Ok, refl, ap, subst}
 use Rattle.std.specs.Fmt.{decimal}
 use Rattle.std.proofs.lemmas.List.{append-nil}
 use Rattle.monk_kinds.specs.Names.{with_text}
@@ -13,9 +13,10 @@ use Rattle.monk_logs.specs.declared.text.line.LogLine.{LogLine}
 use Rattle.monk_logs.specs.declared.text.line.LogLine.TheVariants.{Enter, Resume, Lapse, Leave, Wait, Signal, Broadcast, Until, Act}
 use Rattle.monk_logs.specs.declared.text.verb.LineVerb.{LineVerb}
 use Rattle.monk_logs.specs.declared.text.verb.LineVerb.TheVariants as verb
+use Rattle.std.proofs.lemmas.Bool.Decides.{nat_tests}
 
 verb_again : (v : LineVerb) → with_text log_verb_word log_verbs (log_verb_word v) ≡ Some v
-verb_again v = grind (arith)
+verb_again v = grind arith
 
 -- ---- after verb and seat
 
@@ -44,8 +45,7 @@ line_takes verb.Signal s ws x le e =
 line_takes verb.Broadcast s ws x le e =
     let b = bind_ok (number_at 255 ws) (λ c. Ok (Broadcast s c.0, c.1)) x e in
     let t = number_takes 255 ws b.0 b.1 in
-    subst (Ends verb.Broadcast s ws) (ok_is (Broadcast s b.0.0, b.0.1) x b.2)
-    (ap (behind verb.Broadcast s) t.0, (le, t.1))
+    grind (arith, nat_tests, ok_is)
 line_takes verb.Until s ws x le e =
     let b = bind_ok (number_at 255 ws) (λ c. Ok (Until s c.0, c.1)) x e in
     let t = number_takes 255 ws b.0 b.1 in
@@ -53,8 +53,7 @@ line_takes verb.Until s ws x le e =
 line_takes verb.Act s ws x le e =
     let b = bind_ok (act_at ws) (λ a. Ok (Act s a.0.0 a.0.1, a.1)) x e in
     let t = act_takes ws b.0 b.1 in
-    subst (Ends verb.Act s ws) (ok_is (Act s b.0.0.0 b.0.0.1, b.0.1) x b.2)
-    (ap (behind verb.Act s) t.0, (le, t.1, t.2, t.3))
+    grind (arith, nat_tests, ok_is)
 
 -- ---- a line
 
@@ -79,10 +78,8 @@ log_line_takes ws x e =
     let seat_is = number_takes 255 v.0.1 s.0 s.1 in
     let line_is = line_takes v.0.0 s.0.0 s.0.1 l.0 seat_is.1 l.1 in
     let none = (end_takes l.0.1 n.0 n.1).0 in
-    let whole : ws ≡ log_words l.0.0 = verb_is ∙ ap (λ (w : List Word). log_verb_word v.0.0 ∷ w) seat_is.0 ∙ line_is.0
-    ∙ ap (λ (w : List Word). log_words l.0.0 ++ w) none ∙ append-nil (log_words l.0.0) in
-    subst (λ (y : LogLine × List Word). (ws ≡ log_words y.0) × LineFits y.0) (ok_is (l.0.0, n.0.1) x n.2)
-    (whole, line_is.1)
+    let whole : ws ≡ log_words l.0.0 = grind (arith, nat_tests, append-nil) in
+    grind (arith, nat_tests, ok_is)
 
 from_after : (v : LineVerb) (s : ℕ) (ws : List Word) (l : LogLine) → s ≤ 255 → line_after v s ws ≡ Ok (l, [])
     → log_line_at (log_verb_word v ∷ decimal s ∷ ws) ≡ Ok (l, [])

@@ -1,19 +1,16 @@
 use Rattle.std.proofs.{Common.Result, Common.Ok, Common.subst, lemmas.Result.err_from_is_err_and}
-use Rattle.monk_object.specs.Names.{most}
 use Rattle.monk_history.specs.declared.text.fault.ReadFault.{ReadFault}
 use Rattle.monk_history.specs.Text.{Heading, Pieces.IsHeadOf, Reading.header_at}
 use Rattle.monk_audit.proofs.stage.open.Goals as goal
 use Rattle.monk_audit.proofs.PieceLaws.{never_both, no_object, opened_from, refused_from}
 use Rattle.monk_audit.proofs.stage.open.Goals.{In_ok-header}
-use Rattle.monk_audit.specs.Reading.{MakesNoObject}
+use Rattle.std.proofs.lemmas.Grind.{common_steps}
+use Rattle.std.proofs.Common.{arith}
 
 pub returns-in_err-header-clause-fault : goal.returns-in_err-header-clause-fault
 returns-in_err-header-clause-fault c =
     let p = err_from_is_err_and c.from_residual.result c.from_residual.ensures.1 in
-    rw (p.1, p.2) (λ _. refused_from c.args.bytes.now c.in-Some.rest.now c.in_err-header.field-0.0
-    (subst (λ (r : Result Heading ReadFault). IsHeadOf header_at c.args.bytes.now r c.in-Some.rest.now)
-    c.in_err-header.was
-    c.in-Some.ensures))
+    grind (arith, common_steps, refused_from, Result)
 
 head_is : (c : In_ok-header) → IsHeadOf header_at c.args.bytes.now (Ok c.in_ok-header.field-0) c.in-Some.rest.now
 head_is c =
@@ -24,11 +21,7 @@ head_is c =
 pub returns-in_err-stage-clause-fault : goal.returns-in_err-stage-clause-fault
 returns-in_err-stage-clause-fault c =
     let p = err_from_is_err_and c.from_residual-in_err-stage.result c.from_residual-in_err-stage.ensures.1 in
-    rw (p.1, p.2) (never_both c.in_err-stage.field-0.0 (MakesNoObject c.args.bytes.now)
-    (most c.in_ok-header.field-0.object)
-    c.in_ok-header.field-0.size c.in_err-stage.ensures.fault.0 c.in_err-stage.ensures.fault.1
-    (no_object c.args.bytes.now c.in-Some.rest.now c.in_ok-header.field-0
-    (head_is (goal.at.returns-in_err-stage-clause-fault c).In_ok-header)))
+    grind (arith, common_steps, never_both, no_object, head_is, In_ok-header)
 
 pub returns-clause-step : goal.returns-clause-step
 returns-clause-step c =

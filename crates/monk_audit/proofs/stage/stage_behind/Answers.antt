@@ -1,4 +1,4 @@
-use Rattle.std.proofs.Common.{◌<◌, ◌≤◌, ap, arith}
+use Rattle.std.proofs.Common.{◌<◌, ◌≤◌, arith}
 use Rattle.std.proofs.Common.{◌∙◌}
 use Rattle.monk_object.specs.declared.name.ObjectName.TheVariants as name
 use Rattle.monk_object.specs.{Buffer.buffer_meaning, Book.book_meaning, Shop.shop_meaning, Flags.flags_meaning}
@@ -7,29 +7,16 @@ use Rattle.monk_audit.proofs.stage.stage_behind.Goals as goal
 use Rattle.monk_audit.proofs.PieceLaws.{begun, owed_book, owed_buffer, owed_flags, owed_found, owed_shop}
 use Rattle.monk_audit.proofs.PieceLaws.{too_big_verdict}
 use Rattle.monk_audit.specs.{Pieces.events_from, declared.text_verdict.TextVerdict.TheVariants.TooBig}
+use Rattle.std.proofs.lemmas.Grind.{common_steps}
 
 pub returns-then-size-greatest_size-clause-verdict : goal.returns-then-size-greatest_size-clause-verdict
 returns-then-size-greatest_size-clause-verdict c =
-    let big : most c.args.header.object < c.args.header.size =
-    omega (
-      arith,
-      c.if-size-greatest_size.true,
-      c.greatest_size.ensures,
-      ap most c.object.ensures,
-      c.size-size.ensures.value,
-    ) in
+    let big : most c.args.header.object < c.args.header.size = grind (arith, common_steps) in
     λ x. owed_found c.args.header 0 TooBig x ∙ too_big_verdict c.args.header (events_from c.args.header 0 x) big
 
 pub returns-in-Ok-clause-verdict : goal.returns-in-Ok-clause-verdict
 returns-in-Ok-clause-verdict c =
-    let fits : c.args.header.size ≤ most c.args.header.object =
-    omega (
-      arith,
-      c.if-size-greatest_size.false,
-      c.greatest_size.ensures,
-      ap most c.object.ensures,
-      c.size-size.ensures.value,
-    ) in
+    let fits : c.args.header.size ≤ most c.args.header.object = grind (arith, common_steps) in
     let made = c.in_ok-course.ensures in
     λ x. owed_buffer c.in_ok-course.course c.in-Ok.buffer x
     ∙ begun c.args.header c.in_ok-course.course name.Buffer c.in-Ok.buffer x made.header made.rules made.count
@@ -41,14 +28,7 @@ returns-in-Ok-clause-sound c = c.in_ok-course.ensures.sound 2
 
 pub returns-in-Ok-make-clause-verdict : goal.returns-in-Ok-make-clause-verdict
 returns-in-Ok-make-clause-verdict c =
-    let fits : c.args.header.size ≤ most c.args.header.object =
-    omega (
-      arith,
-      c.if-size-greatest_size.false,
-      c.greatest_size.ensures,
-      ap most c.object.ensures,
-      c.size-size.ensures.value,
-    ) in
+    let fits : c.args.header.size ≤ most c.args.header.object = grind (arith, common_steps) in
     let made = c.in_ok-course.ensures in
     λ x. owed_book c.in_ok-course.course c.in-Ok-make.book x
     ∙ begun c.args.header c.in_ok-course.course name.Book c.in-Ok-make.book x made.header made.rules made.count
@@ -60,14 +40,7 @@ returns-in-Ok-make-clause-sound c = c.in_ok-course.ensures.sound 2
 
 pub returns-in-Ok-make-2-clause-verdict : goal.returns-in-Ok-make-2-clause-verdict
 returns-in-Ok-make-2-clause-verdict c =
-    let fits : c.args.header.size ≤ most c.args.header.object =
-    omega (
-      arith,
-      c.if-size-greatest_size.false,
-      c.greatest_size.ensures,
-      ap most c.object.ensures,
-      c.size-size.ensures.value,
-    ) in
+    let fits : c.args.header.size ≤ most c.args.header.object = grind (arith, common_steps) in
     let made = c.in_ok-course.ensures in
     λ x. owed_shop c.in_ok-course.course c.in-Ok-make-2.shop x
     ∙ begun c.args.header c.in_ok-course.course name.Shop c.in-Ok-make-2.shop x made.header made.rules made.count
@@ -79,14 +52,7 @@ returns-in-Ok-make-2-clause-sound c = c.in_ok-course.ensures.sound 3
 
 pub returns-in-Ok-make-3-clause-verdict : goal.returns-in-Ok-make-3-clause-verdict
 returns-in-Ok-make-3-clause-verdict c =
-    let fits : c.args.header.size ≤ most c.args.header.object =
-    omega (
-      arith,
-      c.if-size-greatest_size.false,
-      c.greatest_size.ensures,
-      ap most c.object.ensures,
-      c.size-size.ensures.value,
-    ) in
+    let fits : c.args.header.size ≤ most c.args.header.object = grind (arith, common_steps) in
     let made = c.in_ok-course.ensures in
     λ x. owed_flags c.in_ok-course.course c.in-Ok-make-3.flags x
     ∙ begun c.args.header c.in_ok-course.course name.Flags c.in-Ok-make-3.flags x made.header made.rules made.count

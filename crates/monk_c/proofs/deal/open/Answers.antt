@@ -1,14 +1,13 @@
-use Rattle.std.proofs.Common.{subst, sym}
+use Rattle.std.proofs.Common.{subst, sym, arith}
 use Rattle.monk_c.proofs.deal.open.Goals as goal
 use Rattle.monk_c.proofs.Dealing.{are_passes, as_many, is_made}
-use Rattle.monk_c.specs.{Dealing.ArePasses, Dealing.IsMadeOf, Stands.RoomView}
+use Rattle.monk_c.specs.{Dealing.ArePasses, Stands.RoomView}
+use Rattle.std.proofs.lemmas.Grind.{common_steps}
 
 pub returns-in-Some-clause-made : goal.returns-in-Some-clause-made
 returns-in-Some-clause-made g c =
     let made = c.in-Ok-make.ensures.made in
-    subst (λ (r : RoomView). IsMadeOf c.args.numbers r) (sym c.in-Some.ensures)
-    (is_made c.args.numbers c.in-Ok-make.hall c.in-Ok.object c.max.result c.max.ensures c.in-Ok.ensures.within.1
-    c.in-Ok.ensures.made made.0 made.1)
+    grind (arith, common_steps, is_made)
 
 pub returns-in-Some-clause-count : goal.returns-in-Some-clause-count
 returns-in-Some-clause-count g c =

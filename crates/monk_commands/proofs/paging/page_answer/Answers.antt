@@ -1,7 +1,8 @@
-use Rattle.std.proofs.Common.{◌≡◌, ◌∙◌, ◌+◌, ◌++◌, ℕ, List, Option, suc, ap, arith, rules, subst, sym}
+use Rattle.std.proofs.Common.{◌≡◌, ◌+◌, ℕ, suc, arith, rules, subst}
 use Rattle.std.{specs.Prelude.string_bytes, proofs.lemmas.Option.slice_get-get_or}
 use Rattle.monk_commands.proofs.paging.page_answer.Goals as goal
-use Rattle.monk_commands.specs.{Paged.ArePaged, Paged.IsPartOf, declared.paging.Paged.Paged}
+use Rattle.monk_commands.specs.{Paged.ArePaged}
+use Rattle.std.proofs.lemmas.Grind.{common_steps}
 
 pub loop-history-init : goal.loop-history-init
 loop-history-init c = record { articles = c.new-articles.ensures.bytes; status = omega arith }
@@ -18,11 +19,8 @@ loop-history-preserved c =
             before = string_bytes c.loop-history.articles;
             part = part;
             are = c.loop-history.invariant.articles;
-            is_part = subst (λ (o : Option Paged). IsPartOf c.args.window o part)
-                (sym (slice_get-get_or histories at _ c.loop-history-test.true))
-                (c.in_ok-answer.ensures (omega (arith, c.if-answer-gt1.false)));
-            is = c.in_ok-push_str.ensures.bytes
-                ∙ ap (λ (more : List ℕ). string_bytes c.loop-history.articles ++ more) c.as_str.ensures.value;
+            is_part = grind (arith, common_steps, slice_get-get_or);
+            is = grind (arith, common_steps);
           });
       status = search rules;
     }

@@ -1,19 +1,21 @@
 -- After the release gets the choice that the line shows, the line is judged as one with all known before it
-use Rattle.std.proofs.Common.{◌≡◌, ◌∙◌, Bool, true, false, cond, not, ◌&&◌, List, Some, None, refl, sym, ap, subst}
+use Rattle.std.proofs.Common.{◌≡◌, ◌∙◌, Bool, true, false, cond, not, ◌&&◌, Some, None, refl, sym, ap}
 use Rattle.std.specs.Prelude.{◌==◌, Result, Ok, Err, IfOk, OnOk}
 use Rattle.monk_history.specs.declared.event.Event.TheVariants as event
-use Rattle.monk_history.specs.Meaning.{Choice.queues_at, Events.answered_act, Events.next_of, Monitor.Monitor}
+use Rattle.monk_history.specs.Meaning.{Events.answered_act, Events.next_of, Monitor.Monitor}
 use Rattle.monk_history.specs.Meaning.{Reasons.reason_in, Release.with_next, Situation.Situation, Step.after}
 use Rattle.monk_history.specs.declared.event.{Event.Event, Next.Next, Next.TheVariants.Stay}
 use Rattle.monk_logs.specs.declared.text.line.LogLine.{LogLine}
-use Rattle.monk_audit.specs.Replay.{IsReplayOf, replay_situation}
+use Rattle.monk_audit.specs.Replay.{replay_situation}
 use Rattle.monk_completion.proofs.judging.line_told.Goals as goal
 use Rattle.monk_completion.proofs.judging.line_told.Goals.{then-is_lapse-via-then-is_lapse}
 use Rattle.monk_completion.proofs.judging.line_told.Goals.{then-is_lapse-via-else-is_lapse+then-refuses}
 use Rattle.monk_completion.proofs.ToldLaws.{told_goes, told_more}
-use Rattle.monk_completion.specs.{Blame.release_blame, declared.blame.Blame.Blame, declared.pending.Pending.Pending}
-use Rattle.monk_completion.specs.Stand.{Stand, line_settled, line_told, monitor_in, stand_or}
-use Rattle.monk_completion.specs.Told.{is_lapse, told_next, told_release}
+use Rattle.monk_completion.specs.{Blame.release_blame, declared.blame.Blame.Blame}
+use Rattle.monk_completion.specs.Stand.{Stand, line_settled, line_told, monitor_in}
+use Rattle.monk_completion.specs.Told.{is_lapse, told_release}
+use Rattle.std.proofs.lemmas.Grind.{common_steps}
+use Rattle.std.proofs.Common.{arith}
 
 -- a release is no act, whatever it chooses
 no_act : (x : Next) (e : Event) → next_of e ≡ Some Stay → answered_act (with_next x e) ≡ None
@@ -32,8 +34,7 @@ pub refuses-requires-clause-no_act : goal.refuses-requires-clause-no_act
 refuses-requires-clause-no_act g c κs within =
     let o = g.T.Guarded.meaning in
     let t = replay_situation c.args.replay.now (g.T.Guarded.state c.args.object.now) in
-    ap answered_act c.told_release-told.ensures
-    ∙ no_act (told_next (queues_at o t c.args.event) c.args.line) c.args.event c.requires.release
+    grind (arith, common_steps, no_act)
 
 -- ---- the line doesn't fit
 
@@ -70,17 +71,15 @@ pub returns-then-is_lapse : goal.returns-then-is_lapse
 returns-then-is_lapse g c =
     let m = monitor_in c.args.setting g.T.Guarded.meaning in
     let t = replay_situation c.args.replay.now (g.T.Guarded.state c.args.object.now) in
-    record {
-      judged = sym (misfits m t c.args.event c.args.line (elim c.then-is_lapse.branch [
-        | then-is_lapse-via-then-is_lapse w ↦ lapses m t c.args.event c.args.line c.is_lapse.result c.is_lapse.ensures
-            w.if-is_lapse.true
-        | then-is_lapse-via-else-is_lapse+then-refuses w ↦ fails m t c.args.event c.args.line c.is_lapse.result
-            c.is_lapse.ensures w.if-is_lapse.false c.told_release-told.result c.told_release-told.ensures
-            w.refuses.result w.refuses.ensures w.if-refuses.true
-      ]) c.in_ok-blame.blame c.in_ok-blame.ensures);
-      sound = tt;
-      events = tt;
-    }
+    grind (
+      arith,
+      common_steps,
+      misfits,
+      then-is_lapse-via-then-is_lapse,
+      lapses,
+      then-is_lapse-via-else-is_lapse+then-refuses,
+      fails,
+    )
 
 -- ---- it fits so far, and is judged with all known before it
 
@@ -96,19 +95,4 @@ returns g c =
     let t = replay_situation c.args.replay.now (g.T.Guarded.state c.args.object.now) in
     let u = replay_situation c.settle.new.replay (g.T.Guarded.state c.settle.new.object) in
     let v = replay_situation c.line_settled.new.replay (g.T.Guarded.state c.line_settled.new.object) in
-    record {
-      judged = subst
-          (λ (x : Result Stand Blame). IfOk c.line_settled.result (λ (r : Result Pending Blame). stand_or v r ≡ x))
-          (told_goes m t u c.args.event c.told_release-told.result c.args.line c.in_ok-_settled._settled
-          c.refuses.result c.told_release-told.ensures c.in_ok-_settled.ensures.judged c.refuses.ensures
-          c.if-refuses.false (sym c.is_lapse.ensures ∙ c.if-is_lapse.false)) c.line_settled.ensures.judged;
-      sound = if_on_ok c.line_settled.result
-          (IsReplayOf k.seats k.conds g.T.Guarded.PREDICATES c.line_settled.new.replay) c.line_settled.ensures.sound;
-      events = subst
-          (λ (x : List Event). IfOk c.line_settled.result
-          (λ (r : Result Pending Blame). OnOk r (c.line_settled.new.events.items ≡ x)))
-          (told_more m t u c.args.event c.told_release-told.result c.args.line c.in_ok-_settled._settled
-          c.refuses.result c.told_release-told.ensures c.in_ok-_settled.ensures.judged c.refuses.ensures
-          c.if-refuses.false c.args.events.now.items c.settle.new.events.items c.in_ok-_settled.ensures.events)
-          c.line_settled.ensures.events;
-    }
+    grind (arith, common_steps, told_goes, if_on_ok, told_more)

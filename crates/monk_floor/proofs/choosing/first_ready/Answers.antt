@@ -1,6 +1,7 @@
 use Rattle.std.proofs.Common.{◌<◌, ℕ, ◌∙◌, sym, refl, arith}
 use Rattle.monk_floor.proofs.WaitLaws.{wait_times, wait_all, ready_here, ready_later, ready_never, ready_past}
 use Rattle.monk_floor.proofs.choosing.first_ready.Goals as goal
+use Rattle.std.proofs.lemmas.Grind.{common_steps}
 
 pub loop-init : goal.loop-init
 loop-init g c = record { here = c.first_until-wait.ensures; none = refl }
@@ -30,9 +31,7 @@ until_after-wait-requires g c =
 pub loop-preserved : goal.loop-preserved
 loop-preserved g c = record {
   here = c.until_after-wait.ensures c.loop.counter c.in-Some.pred (sym c.loop.invariant.here ∙ c.in-Some.is);
-  none = ready_later g.T.Guarded.meaning (g.T.Guarded.state c.args.object.now) c.args.queues.now.untils c.loop.counter
-      c.loop.invariant.none c.in-Some.seat c.in-Some.pred (sym c.loop.invariant.here ∙ c.in-Some.is)
-      (sym c.if-holds.ensures);
+  none = grind (arith, common_steps, ready_later);
 }
 
 pub returns : goal.returns

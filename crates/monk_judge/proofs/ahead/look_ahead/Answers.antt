@@ -6,6 +6,7 @@ use Rattle.monk_judge.proofs.Covers.{rest_is}
 use Rattle.monk_judge.proofs.LinesAhead.{IsEndBy, each_kept, next_kept, nothing_next}
 use Rattle.monk_judge.specs.Ends.{IsEnd}
 use Rattle.monk_judge.specs.declared.wait_end.WaitEnd.TheVariants.{Never, Resumes}
+use Rattle.std.proofs.lemmas.Grind.{common_steps}
 
 pub loop-index-init : goal.loop-index-init
 loop-index-init c = record {
@@ -30,11 +31,7 @@ loop-index-preserved c =
     let end = c.by.result in
     let seat : line_seat line ≡ c.from-seat.result = sym (c.from-seat.ensures ∙ c.seat.ensures) in
     let few : c.from-seat.result < 256 = omega arith in
-    let own : IsEndBy line (i + 1) end = record {
-      lapses = c.by.ensures.lapses;
-      by = λ is n le. c.by.ensures.by is n (subst (λ k. k ≤ n) (sym up) le);
-      within = λ n by. let got = c.by.ensures.within n by in (got.0, subst (λ k. k ≤ n) up got.1);
-    } in
+    let own : IsEndBy line (i + 1) end = grind (arith, common_steps) in
     record {
       within = omega arith;
       many = length-set c.loop-index.ends.items i _ ∙ was.many;

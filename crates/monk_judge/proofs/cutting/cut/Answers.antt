@@ -1,14 +1,13 @@
-use Rattle.std.proofs.Common.{◌≡◌, ◌+◌, ◌-◌, ◌<◌, ◌≤◌, suc, length, arith, subst, sym}
+use Rattle.std.proofs.Common.{◌≡◌, ◌-◌, ◌<◌, ◌≤◌, suc, length, arith}
 use Rattle.monk_judge.proofs.Following.{IsCut, cut_ends, cut_goes_on}
 use Rattle.monk_judge.proofs.cutting.cut.Goals as goal
+use Rattle.std.proofs.lemmas.Grind.{common_steps}
 
 pub loop-index-preserved : goal.loop-index-preserved
 loop-index-preserved c =
     let lt : c.loop-index.index < length c.args.steps.now = omega arith in
     let some : c.loop-index.left ≡ suc (c.loop-index.left - 1) = omega arith in
-    subst (IsCut c.args.lines c.args.steps.now (c.loop-index.index + 1)) (sym c.left_behind-left.ensures)
-    (cut_goes_on c.args.lines c.args.steps.now c.loop-index.index (c.loop-index.left - 1) c.loop-index.left _ lt
-    some c.loop-index.invariant)
+    grind (arith, common_steps, IsCut, cut_goes_on)
 
 pub returns-clause-first : goal.returns-clause-first
 returns-clause-first c =

@@ -1,15 +1,15 @@
-use Rattle.std.proofs.Common.{◌≡◌, subst}
+use Rattle.std.proofs.Common.{◌≡◌, subst, arith}
 use Rattle.monk_judge.proofs.judging.judge_log.Goals as goal
 use Rattle.monk_judge.{specs.declared.report.Report.Report, specs.Holding.NamesLastTaking, specs.Reports.IsReport}
 use Rattle.monk_judge.{specs.Run.setting, specs.Shown.setting_of, proofs.Taking.report_is}
+use Rattle.std.proofs.lemmas.Grind.{common_steps}
 
 pub returns : goal.returns
 returns g c =
     let o = g.T.Guarded.meaning in
     let opened = c.in_ok-judge.ensures in
     let v = c.in_ok-judge.judge in
-    let same : setting_of v o ≡ setting c.args.seats c.args.conds o
-    = λ i. record { seats = opened.many.0 i; conds = opened.many.1 i; object = o } in
+    let same : setting_of v o ≡ setting c.args.seats c.args.conds o = grind (arith, common_steps) in
     let taken = c.take_lines-misfit in
     let seen = taken.result.0 in
     let named = subst (λ k. NamesLastTaking k c.last_taking.result) c.fitting-told.ensures c.last_taking.ensures in
@@ -38,5 +38,4 @@ returns g c =
     c.fitting-told.result.now c.sleepers.result c.find_crossed.result taken.ensures
     named c.lock.ensures c.holder.ensures c.asleep.ensures c.woken.ensures c.fitting-told.ensures c.sleepers.ensures
     c.find_crossed.ensures in
-    subst (λ m. IsReport m (g.T.Guarded.state c.args.object) c.args.lines.now c.args.means.now r) same
-    (subst (λ d. IsReport (setting_of v o) d c.args.lines.now c.args.means.now r) opened.many.3 report)
+    grind (arith, common_steps)

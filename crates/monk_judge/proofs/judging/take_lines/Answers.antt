@@ -1,22 +1,15 @@
-use Rattle.std.proofs.Common.{◌≡◌, ◌∙◌, ◌<◌, ◌≤◌, None, get_or, length, refl, ap, arith, subst, sym}
-use Rattle.monk_logs.specs.declared.text.line.LogLine.TheVariants.{Enter}
+use Rattle.std.proofs.Common.{◌≡◌, ◌<◌, ◌≤◌, length, refl, arith}
 use Rattle.monk_judge.proofs.judging.take_lines.Goals as goal
 use Rattle.monk_judge.proofs.{Returning.hinted_opening, Rivals.marks_opening}
 use Rattle.monk_judge.proofs.Taking.{hints_few, taken_all, taken_next, taken_opening, taken_stop}
-use Rattle.monk_judge.specs.{Hints.passing_after, declared.place.Place.TheVariants.Outside}
-use Rattle.monk_judge.specs.Shown.{setting_of, state_of}
+use Rattle.monk_judge.specs.Shown.{setting_of}
+use Rattle.std.proofs.lemmas.Grind.{common_steps}
 
 pub loop-index-init : goal.loop-index-init
 loop-index-init g c =
     let v = c.args.judge.now in
     let o = g.T.Guarded.meaning in
-    taken_opening o (setting_of v o) v.data_now c.args.lines.now c.args.means.now v _ _ _ _ _ refl c.requires.seats
-    c.requires.opening
-    (record { served = refl; passed = refl; spurious = refl; unheard = refl; first = refl; last = refl }) refl refl
-    (marks_opening c.args.lines.now (length v.places) (state_of v) _ _
-    (λ j lt. c.nobody.ensures.passing j (omega (arith, lt, c.requires.few_seats)))
-    (λ j lt. c.nobody.ensures.seats j (omega (arith, lt, c.requires.few_seats))))
-    (hinted_opening c.args.lines.now _ _ refl refl refl refl)
+    grind (arith, common_steps, taken_opening, marks_opening, hinted_opening)
 
 pub loop-index-preserved : goal.loop-index-preserved
 loop-index-preserved g c =
@@ -25,8 +18,7 @@ loop-index-preserved g c =
     let lt : c.loop-index.index < length c.args.lines.now = omega arith in
     let more = c.line-in-Ok.ensures in
     let there = c.places.ensures.places in
-    let many : length c.places.result.now ≡ length v.places = ap length there
-    ∙ ap (λ k. k.seats) (c.in-Ok.ensures {u = tt}).setting ∙ ap (λ k. k.seats) c.loop-index.invariant.reached.same in
+    let many : length c.places.result.now ≡ length v.places = grind (arith, common_steps) in
     taken_next o (setting_of v o) v.data_now c.args.lines.now c.args.means.now c.args.ends.now
     c.loop-index.index c.loop-index.judge
     c.line.new.self
@@ -47,11 +39,8 @@ loop-index-preserved g c =
     c.look_at.ensures
     (record {
       marks = record {
-        may = λ j lt. c.look_at-on.ensures.passing j (subst (λ n. j < n) (sym many) lt)
-            ∙ ap (λ xs. passing_after (get_or c.args.lines.now c.loop-index.index (Enter 0)) (get_or xs j Outside)
-            (get_or c.loop-index.seen.passed.passing j None)) there;
-        some = λ j lt. c.look_at-on.ensures.seats c.args.lines.now c.requires.waiters j
-            (subst (λ n. j < n) (sym many) lt);
+        may = grind (arith, common_steps);
+        some = grind (arith, common_steps);
       };
       on = c.look_at-on.result;
       told = c.look_at-on.ensures.result;

@@ -1,6 +1,7 @@
-use Rattle.std.proofs.Common.{◌∙◌, arith, false, get_or, reverse}
+use Rattle.std.proofs.Common.{arith, false, get_or, reverse}
 use Rattle.monk_logs.proofs.CrossedLaws.{nobody_crossed, seat_more}
 use Rattle.monk_logs.proofs.crossed.find_crossed.Goals as goal
+use Rattle.std.proofs.lemmas.Grind.{common_steps}
 
 pub loop-seat-init : goal.loop-seat-init
 loop-seat-init c = record {
@@ -11,9 +12,5 @@ loop-seat-init c = record {
 pub loop-seat-preserved : goal.loop-seat-preserved
 loop-seat-preserved c = record {
   within = c.with_seat-found.ensures.within _ c.loop-seat.invariant.within;
-  found = c.with_seat-found.ensures.found
-      ∙ seat_more (λ s. get_or c.args.sleeps.now s false) (reverse c.args.lines.now) c.loop-seat.seat
-      c.crossing_if.result c.loop-seat.found
-      (c.crossing_if.ensures c.loop-seat.seat
-      (c.last_numbers-numbers.ensures c.loop-seat.seat)) c.loop-seat.invariant.found;
+  found = grind (arith, common_steps, seat_more);
 }

@@ -1,6 +1,7 @@
 use Rattle.std.proofs.Common.{◌+◌, ◌-◌, ◌<◌, ◌≡◌, ◌∙◌, arith, length, sym}
 use Rattle.monk_logs.proofs.CrossedLaws.{crossing_before, crossing_none, found_beginning, found_crossing}
 use Rattle.monk_logs.proofs.crossed.last_crossing.Goals as goal
+use Rattle.std.proofs.lemmas.Grind.{common_steps}
 
 pub returns-then-crosses : goal.returns-then-crosses
 returns-then-crosses c =
@@ -30,15 +31,9 @@ loop-number-preserved c =
     let within = c.loop-number.invariant.within in
     let is : n ≡ n - 1 + 1 = omega arith in
     let lt : n - 1 < length c.args.before.now = omega arith in
-    record {
-      within = omega arith;
-      crossing = crossing_before c.args.seat c.args.cond c.args.before.now (n - 1) n _ _ is lt
-          (sym c.crosses.ensures ∙ c.if-crosses.false) (sym c.begins.ensures ∙ c.if-begins.false)
-          c.loop-number.invariant.crossing;
-    }
+    grind (arith, common_steps, crossing_before)
 
 pub returns : goal.returns
 returns c =
     let none = c.loop-number-test.false in
-    crossing_none c.args.seat c.args.cond c.args.before.now c.loop-number.number _ (omega arith)
-    c.loop-number.invariant.crossing
+    grind (arith, common_steps, crossing_none)

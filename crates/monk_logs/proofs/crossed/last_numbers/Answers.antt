@@ -2,6 +2,7 @@ use Rattle.std.proofs.Common.{◌+◌, ◌∙◌, ap, arith, refl, rules}
 use Rattle.std.proofs.lemmas.List.{length-set}
 use Rattle.monk_logs.proofs.CrossedLaws.{nothing_last, numbers_more}
 use Rattle.monk_logs.proofs.crossed.last_numbers.Goals as goal
+use Rattle.std.proofs.lemmas.Grind.{common_steps}
 
 pub loop-line-init : goal.loop-line-init
 loop-line-init c = record { number = refl; sized = refl; last = nothing_last 256 }
@@ -10,7 +11,5 @@ pub loop-line-preserved : goal.loop-line-preserved
 loop-line-preserved c = record {
   number = ap (λ n. n + 1) c.loop-line.invariant.number;
   sized = length-set c.loop-line.numbers c.from.result _ ∙ c.loop-line.invariant.sized;
-  last = numbers_more c.loop-line.numbers c.args.lines.now c.loop-line.line-index c.from.result _ _
-      c.loop-line-test.true (c.from.ensures ∙ c.seat.ensures)
-      (ap (λ n. n + 1) c.loop-line.invariant.number) (search (rules, arith)) c.loop-line.invariant.last;
+  last = grind (arith, common_steps, numbers_more, rules);
 }

@@ -3,6 +3,7 @@ use Rattle.std.proofs.lemmas.Result.{IfOk-weaker}
 use Rattle.monk_page.proofs.log.log_page.Goals as goal
 use Rattle.monk_page.proofs.{LogPlain.log_plain, WriteLaws.article_of}
 use Rattle.monk_page.specs.{Html.log_end, Html.nothing_told, Log.log_json}
+use Rattle.std.proofs.lemmas.Grind.{common_steps}
 
 pub returns : goal.returns
 unfolding log_end
@@ -16,8 +17,4 @@ returns g c =
     c.in_ok-write_log.ensures c.new-out.ensures.tokens c.text.ensures.reads_back
     (log_plain c.args.header.now o d shown.run.now shown.lines.now span.before span.last) (omega arith)
     (c.as_str.ensures.value ∙ c.in_ok-data.ensures.text) (c.as_str-2.ensures.value ∙ c.in_ok-article.ensures) in
-    IfOk-weaker c.page_with.result _ _ (λ page is. record {
-      article = c.as_str-2.result.now;
-      one = one;
-      is = is;
-    }) c.page_with.ensures
+    grind (arith, common_steps, IfOk-weaker)

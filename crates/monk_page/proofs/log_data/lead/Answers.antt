@@ -1,8 +1,10 @@
-use Rattle.std.proofs.Common.{◌≡◌, ◌∙◌, ℕ, List, ap, subst, sym}
+use Rattle.std.proofs.Common.{◌≡◌, ℕ, List, subst, sym, arith}
 use Rattle.monk_judge.proofs.PublicLaws.{run_cut}
 use Rattle.monk_judge.specs.{Followed.behind_lines, Followed.telling, Judged.after_all, Run.IsRun, Run.Setting}
 use Rattle.monk_judge.specs.{Run.State, Shown.setting_of, Shown.state_of, declared.step.Step.Step}
 use Rattle.monk_page.proofs.log_data.lead.Goals as goal
+use Rattle.std.proofs.lemmas.Bool.Decides.{nat_tests}
+use Rattle.std.proofs.lemmas.Grind.{common_steps}
 
 -- the steps that are shown are a run from the state after the steps before them
 shown_run : (m k : Setting) (x y : State) (steps early rest shown : List Step) (before many : ℕ)
@@ -12,9 +14,7 @@ shown_run m k x y steps early rest shown before many run first behind then same 
     let parts = run_cut m x before steps run in
     let from = after_all m x (telling before steps) in
     let part = run_cut m from many (behind_lines before steps) parts.1 in
-    subst (λ (a : Setting). IsRun a y shown) (sym same)
-    (subst (λ (z : State). IsRun m z shown) (sym (leads ∙ ap (after_all m x) first))
-    (subst (IsRun m from) (sym (then ∙ ap (telling many) behind)) part.0))
+    grind (arith, nat_tests)
 
 pub follow_all-requires-after_bounds : goal.follow_all-requires-after_bounds
 follow_all-requires-after_bounds g c = λ κs within.
@@ -25,7 +25,4 @@ follow_all-requires-after_bounds g c = λ κs within.
 pub returns-clause-run : goal.returns-clause-run
 returns-clause-run g c =
     let o = g.T.Guarded.meaning in
-    shown_run (setting_of c.args.judge.now o) (setting_of c.follow_all.new.self o) (state_of c.args.judge.now)
-    (state_of c.follow_all.new.self) c.args.steps.now c.cut.result.0.now c.cut.result.1.now c.cut-2.result.0.now
-    c.args.span.before c.saturating_sub.result c.requires c.cut.ensures.first
-    c.cut.ensures.behind c.cut-2.ensures.first c.follow_all.ensures.setting c.follow_all.ensures.state
+    grind (arith, common_steps, shown_run)

@@ -1,10 +1,10 @@
-use Rattle.std.proofs.Common.{◌∙◌, ap, min, sym}
+use Rattle.std.proofs.Common.{◌∙◌, sym, arith}
 use Rattle.monk_kinds.specs.Names.{rules_named}
 use Rattle.monk_object.specs.Names.{meaning_named}
 use Rattle.monk_history.proofs.PublicLaws.Meaning.{situation-none}
 use Rattle.monk_history.specs.Meaning.{Monitor.monitor, Named.named_monitor, Step.opening_situation}
 use Rattle.monk_tell.proofs.told.tell_over.Goals as goal
-use Rattle.monk_tell.specs.{Steps.steps_of, Told.allowed_events}
+use Rattle.std.proofs.lemmas.Grind.{common_steps}
 
 pub follow-requires-clause-begins : goal.follow-requires-clause-begins
 follow-requires-clause-begins g c κs within =
@@ -22,7 +22,4 @@ pub returns-clause-steps : goal.returns-clause-steps
 returns-clause-steps g c =
     let h = c.args.history.header.now in
     let es = c.args.history.events.now in
-    c.in_ok-steps.ensures.told
-    ∙ ap (steps_of (named_monitor h) es c.args.before)
-    (c.min-end.ensures
-    ∙ ap (min c.args.last) (c.allowed_events-allowed.ensures ∙ ap allowed_events c.args.history.judged))
+    grind (arith, common_steps)

@@ -1,10 +1,11 @@
 use Rattle.std.proofs.Common.{◌∙◌, ℕ, ap, arith, sym, take}
 use Rattle.std.proofs.lemmas.List.{length-take-le}
 use Rattle.monk_kinds.specs.Names.{rules_named}
-use Rattle.monk_history.specs.Meaning.{Acts.refused_steps, Named.named_monitor}
+use Rattle.monk_history.specs.Meaning.{Acts.refused_steps}
 use Rattle.monk_tell.proofs.told.telling.Goals as goal
 use Rattle.monk_tell.proofs.StepLaws.{judged_there}
-use Rattle.monk_tell.specs.Told.{account_by, shown_standing, told_steps}
+use Rattle.monk_tell.specs.Told.{shown_standing, told_steps}
+use Rattle.std.proofs.lemmas.Grind.{common_steps}
 
 pub slice_bounds-past-end : goal.slice_bounds-past-end
 slice_bounds-past-end g c =
@@ -21,12 +22,4 @@ returns g c =
     ∙ (λ i. shown_standing (rules i).mode h.seats h.conds (c.requires.named i) (c.requires.stands.stands i)) in
     let refused = c.in_ok-refused.ensures
     ∙ ap (λ (n : ℕ). told_steps (refused_steps (take n es))) c.allowed_events.ensures in
-    (λ i. record {
-      kind = c.kind-2.ensures i;
-      object = c.object.ensures i;
-      verdict = c.args.history.verdict;
-      standing = stands i;
-      refused = refused i;
-      blame = c.in_ok-blame.ensures i;
-    })
-    ∙ ap (account_by h.kind h.object (named_monitor h) es) c.args.history.judged
+    grind (arith, common_steps)

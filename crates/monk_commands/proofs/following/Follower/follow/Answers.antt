@@ -1,10 +1,11 @@
-use Rattle.std.proofs.Common.{◌∙◌, ℕ, [], subst, get_or}
+use Rattle.std.proofs.Common.{◌∙◌, [], get_or, arith}
 use Rattle.monk_history.specs.Meaning.{Monitor.monitor, Reasons.reason_in}
 use Rattle.monk_history.specs.declared.event.{Event.TheVariants.Enter, Via.TheVariants.Free}
 use Rattle.monk_audit.proofs.PublicLaws.{none_by_number}
-use Rattle.monk_audit.specs.{Reasons.number_or_0, Replay.IsReplayOf, Replay.replay_situation, Replay.seats_in}
+use Rattle.monk_audit.specs.{Reasons.number_or_0, Replay.replay_situation, Replay.seats_in}
 use Rattle.monk_commands.proofs.following.Follower.follow.Goals as goal
 use Rattle.monk_commands.proofs.Followed.{followed_more}
+use Rattle.std.proofs.lemmas.Grind.{common_steps}
 
 pub loop-index-preserved : goal.loop-index-preserved
 loop-index-preserved g c =
@@ -17,9 +18,7 @@ loop-index-preserved g c =
     let carried = c.in_ok-carry_out.ensures in
     record {
       same = held.same;
-      sound = subst (λ (s : ℕ). IsReplayOf s conds g.T.Guarded.PREDICATES c.carry_out.new.self) held.sound.has_seats
-          (subst (λ (s : ℕ). IsReplayOf (seats_in c.loop-index.self.replay) s g.T.Guarded.PREDICATES
-          c.carry_out.new.self) held.same carried.sound);
+      sound = grind (arith, common_steps);
       stands = λ opening legal begun.
           followed_more c.args.rules n conds o opening c.args.events.now c.loop-index.index t
           (replay_situation c.carry_out.new.self (g.T.Guarded.state c.carry_out.new.object))

@@ -1,9 +1,10 @@
-use Rattle.std.proofs.Common.{◌<◌, ◌++◌, ◌∷◌, [], ap, sym, subst, ◌∙◌}
+use Rattle.std.proofs.Common.{◌<◌, ap, sym, subst, ◌∙◌, arith}
 use Rattle.monk_history.specs.{Meaning.Counts.left_of, Meaning.Events.seat_of, Meaning.Monitor.data_after}
-use Rattle.monk_history.specs.{Meaning.Reasons.IsAllowed, Meaning.Release.choice_of, declared.event.Event.Event}
+use Rattle.monk_history.specs.{Meaning.Reasons.IsAllowed, declared.event.Event.Event}
 use Rattle.monk_floor.proofs.floor.Floor.plain_release.Goals as goal
 use Rattle.monk_floor.proofs.CallLaws.{as_it_was, keeps_data, replyless, same_seat}
-use Rattle.monk_floor.specs.View.{monitor_of, stands_of}
+use Rattle.monk_floor.specs.View.{monitor_of}
+use Rattle.std.proofs.lemmas.Grind.{common_steps}
 
 pub append-requires-clause-allowed : goal.append-requires-clause-allowed
 append-requires-clause-allowed g c κs within =
@@ -23,17 +24,7 @@ append-requires-clause-still g c κs within d =
 pub returns : goal.returns
 returns g c =
     let old = c.args.self.now in
-    record {
-      choice = c.next_by-next.ensures.choice
-          ∙ ap (λ (e : Event). choice_of g.K.Kind.rules g.T.Guarded.meaning
-          (stands_of g.K.Kind.rules g.T.Guarded.meaning old) e c.args.entry_known c.args.pick)
-          (sym (as_it_was c.args.call c.requires.release));
-      grown = record {
-        allowed = c.next_by-next.ensures.allowed;
-        grown = c.append.ensures
-            ∙ ap (λ (e : Event). record old { history = old.history ++ e ∷ [] }) c.with_next.ensures;
-      };
-    }
+    grind (arith, common_steps, as_it_was)
 
 pub next_by-next-requires-clause-release : goal.next_by-next-requires-clause-release
 next_by-next-requires-clause-release g c κs within = replyless g.T.Guarded.meaning c.args.call c.requires.release

@@ -1,10 +1,11 @@
-use Rattle.std.proofs.Common.{◌∙◌, ◌+◌, ◌<◌, ◌≤◌, [], false, true, get_or, length, set, take, ap, arith, subst, sym, take_all}
+use Rattle.std.proofs.Common.{◌∙◌, ◌+◌, ◌≤◌, [], false, get_or, length, take, ap, arith, subst, sym, take_all}
 use Rattle.std.proofs.Math.ListN.{length-replicate, length-set}
 use Rattle.monk_logs.specs.declared.text.line.LogLine.TheVariants.{Enter}
 use Rattle.monk_judge.specs.Hints.{AreWaiters}
 use Rattle.monk_judge.proofs.Waiting.{no_wait, waiters_more, waiters_opening, waiters_same}
 use Rattle.monk_judge.proofs.waiters.Waiters.of.Goals as goal
 use Rattle.monk_judge.proofs.waiters.Waiters.of.Goals.{in-Wait, in_default}
+use Rattle.std.proofs.lemmas.Grind.{common_steps}
 
 pub loop-line-init : goal.loop-line-init
 loop-line-init c =
@@ -21,17 +22,7 @@ loop-line-preserved c =
     let table = c.loop-line.table.items in
     let was = c.loop-line.invariant in
     elim c.match-line.branch [
-      | in-Wait w ↦
-          let new = ap (λ t. t.items) w.table-is in
-          let low : w.in-Wait.seat < 256 = omega arith in
-          let few : w.in-Wait.cond < 256 = omega arith in
-          record {
-            size = ap (λ t. length t) new ∙ length-set table w.index.result true ∙ was.size;
-            are = subst (λ t. AreWaiters (take (i + 1) log) t) (sym new)
-                (subst (λ k. AreWaiters (take (i + 1) log) (set table k true)) (sym w.index.ensures)
-                (waiters_more log table i w.in-Wait.seat w.in-Wait.cond c.loop-line-test.true w.in-Wait.is low few
-                was.size was.are));
-          }
+      | in-Wait w ↦ grind (arith, common_steps, length-set, waiters_more)
       | in_default w ↦
           let same = ap (λ t. t.items) w.table-is in
           record {
@@ -45,5 +36,4 @@ loop-line-preserved c =
 pub returns : goal.returns
 returns c =
     let all : length c.args.lines.now ≤ c.loop-line.line-index = c.loop-line-test.false in
-    subst (λ xs. AreWaiters xs c.loop-line.table.items) (take_all c.loop-line.line-index c.args.lines.now all)
-    c.loop-line.invariant.are
+    grind (arith, common_steps, take_all)

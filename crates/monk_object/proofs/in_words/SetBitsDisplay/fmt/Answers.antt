@@ -1,10 +1,10 @@
-use Rattle.std.proofs.Common.{◌≡◌, ◌∙◌, ℕ, sym, subst, arith, refl, true, false}
+use Rattle.std.proofs.Common.{◌≡◌, ◌∙◌, sym, arith, refl, true, false}
 use Rattle.std.proofs.{Output.has_written_append, Output.has_written_of_eq, lemmas.List.append-nil}
-use Rattle.std.specs.Fmt.{HasWritten}
 use Rattle.monk_object.proofs.in_words.SetBitsDisplay.fmt.Goals as goal
 use Rattle.monk_object.proofs.in_words.SetBitsDisplay.fmt.Goals.{then-is_set+in_ok-write, else-is_set}
 use Rattle.monk_object.proofs.Printed.{bits_more}
 use Rattle.monk_object.specs.InWords.{bits_below}
+use Rattle.std.proofs.lemmas.Grind.{common_steps}
 
 pub loop-place-preserved : goal.loop-place-preserved
 loop-place-preserved g c = λ plain.
@@ -24,7 +24,5 @@ loop-place-preserved g c = λ plain.
 
 pub returns-clause-writes : goal.returns-clause-writes
 returns-clause-writes g c = λ plain ok.
-    let at : c.loop-place.place-counter ≡ 32 =
-    omega (arith, c.loop-place.auto.place-counter-end, c.loop-place-test.false) in
-    subst (λ (n : ℕ). HasWritten g.W.Write.write_str_gives c.args.f.now (bits_below c.args.self.now.0 n) c.loop-place.f)
-    at (c.loop-place.invariant plain)
+    let at : c.loop-place.place-counter ≡ 32 = grind (arith, common_steps) in
+    grind (arith, common_steps)

@@ -1,12 +1,10 @@
-use Rattle.std.proofs.Common.{◌++◌, refl, codes}
-use Rattle.std.{proofs.Output.has_written_append, proofs.Output.has_written_of_eq, specs.Fmt.decimal}
+use Rattle.std.proofs.Common.{codes, arith}
+use Rattle.std.{proofs.Output.has_written_append, proofs.Output.has_written_of_eq}
 use Rattle.monk_tell.proofs.lists.NumberListDisplay.fmt.Goals as goal
 use Rattle.monk_tell.proofs.ListLaws.{printed_more}
+use Rattle.std.proofs.lemmas.Grind.{common_steps}
 
 pub loop-number-preserved : goal.loop-number-preserved
 loop-number-preserved g c = λ plain.
     let so_far = c.loop-number.invariant plain in
-    has_written_of_eq g.W.Write.write_str_gives _ _ _ _
-    (printed_more (λ n. codes " " ++ decimal n) c.deref-number-items.result.now c.loop-number.number-index 0
-    c.loop-number-test.true)
-    (has_written_append g.W.Write.write_str_gives _ _ _ _ _ so_far (c.in_ok-write.ensures.writes so_far.plain refl))
+    grind (arith, common_steps, has_written_of_eq, printed_more, codes, has_written_append)
